@@ -1,0 +1,17 @@
+-- Reading the bytes that are kept. `at` gives the kept byte at a position.
+use Rattle.std.specs.Prelude.{ℕ, zero, suc, ◌+◌, List, [], ◌∷◌, Option, Some, None, nat_eq, if◌then◌else◌}
+
+-- the run of kept bytes from p on, at most n of them
+abbrev pub bytes_from : (ℕ → Option ℕ) → ℕ → ℕ → List ℕ
+bytes_from at p zero = []
+bytes_from at p (suc n) = elim (at p) [ Some b ↦ b ∷ bytes_from at (p + 1) n | None ↦ [] ]
+
+-- the place and length of each longest run, put before those that follow: a position joins a run that begins behind it
+abbrev pub join_run : ℕ → List (ℕ × ℕ) → List (ℕ × ℕ)
+join_run p [] = (p, 1) ∷ []
+join_run p (run ∷ runs) = if nat_eq run.0 (p + 1) then (p, run.1 + 1) ∷ runs else (p, 1) ∷ run ∷ runs
+
+-- the longest runs of kept positions among the n from p on, in order
+abbrev pub runs_from : (ℕ → Option ℕ) → ℕ → ℕ → List (ℕ × ℕ)
+runs_from at p zero = []
+runs_from at p (suc n) = elim (at p) [ Some b ↦ join_run p (runs_from at (p + 1) n) | None ↦ runs_from at (p + 1) n ]

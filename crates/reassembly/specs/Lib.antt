@@ -1,0 +1,6 @@
+pub mod Position
+pub mod Receiver
+pub mod Segment
+pub mod Fin
+pub mod Kept
+pub mod Known
