@@ -1,0 +1,4 @@
+pub mod Frame
+pub mod Packet
+pub mod Layout
+pub mod View

@@ -1,0 +1,172 @@
+//! The class of a frame: the tests of its headers, in their order.
+
+ghost use Rattle.std.specs.Prelude.{◌≡◌, ◌≢◌, ◌+◌, ◌*◌, ◌^◌, ◌<◌, ◌≤◌, ◌↔◌, IsTrue, IsNone, true, IfSome, IfOk, IfErr, length, slice_index, false};
+ghost use Rattle.packet_views.specs.Frame.{field, ip_start, ip_words, total_length, tcp_start, payload_start, ip_end};
+ghost use Rattle.packet_views.specs.Packet.{lacks_ipv4, is_ip_header_bad, is_fragment, class_of, segment_class, head_of, payload_of, packet_of, Segment, NoSegment};
+ghost use Rattle.packet_views.specs.Layout.{IsLayoutOf};
+ghost use Rattle.packet_views.specs.View.{IfTcp, IfOther};
+
+use crate::fields::u16_at;
+use crate::layout::Layout;
+use crate::packet::Class;
+use crate::view::{TcpView, View};
+use std::ops::Range;
+
+/// The type of a frame that carries an IPv4 packet (IEEE 802.3).
+const TYPE_IPV4: u16 = 0x0800;
+
+/// The type of a frame with an 802.1Q tag.
+const TYPE_TAGGED: u16 = 0x8100;
+
+/// The number of TCP in the protocol field of IPv4 (RFC 791, section 3.1).
+const PROTOCOL_TCP: u8 = 6;
+
+/// The More Fragments flag and the fragment offset in their field of the IPv4 header (RFC 791,
+/// section 3.1). The bit above them is Don't Fragment.
+const FRAGMENT_BITS: u16 = 0x3fff;
+
+/// What a captured frame is, by its first bytes alone: a TCP segment borrowed in place, or the
+/// class of what it is instead.
+pub fn view_of(frame: &[u8]) -> View<'_>
+    ensures frame { IfTcp result (λ segment. segment ≡ frame.now) }
+    ensures tcp { IfTcp result (λ _. class_of frame.now ≡ Class.Tcp) }
+    ensures other { IfOther result (λ class. class ≡ class_of frame.now) }
+    ensures not_tcp { IfOther result (λ class. class ≢ Class.Tcp) }
+{
+    match layout_of(frame) {
+        Ok(layout) => View::Tcp(TcpView::new(frame, layout)),
+        Err(class) => View::Other(class),
+    }
+}
+
+// The layout of a TCP segment, or the class of what is none.
+#[tactic(auto, unfolding(crate::specs::Packet::class_of))]
+fn layout_of(frame: &[u8]) -> Result<Layout, Class>
+    ensures layout { IfOk result (λ layout. IsLayoutOf frame.now layout) }
+    ensures tcp { IfOk result (λ _. class_of frame.now ≡ Class.Tcp) }
+    ensures other { IfErr result (λ class. class ≡ class_of frame.now) }
+    ensures not_tcp { IfErr result (λ class. class ≢ Class.Tcp) }
+{
+    let ip = ip_start(frame).ok_or(Class::Other)?;
+    let segment = segment_of(frame, ip)?;
+    let payload = payload_start(frame, segment.start, segment.end)?;
+    Ok(Layout {
+        ip,
+        tcp: segment.start,
+        payload,
+        end: segment.end,
+    })
+}
+
+// The bytes of the TCP segment in the IPv4 packet that begins at `ip`, or the class of what is none.
+#[tactic(auto, unfolding(crate::specs::Packet::class_of))]
+fn segment_of(frame: &[u8], ip: usize) -> Result<Range<usize>, Class>
+    requires start { ip ≡ ip_start frame.now }
+    requires within { ip ≤ 18 }
+    requires carried { lacks_ipv4 frame.now ≡ false }
+    ensures start { IfOk result (λ segment. segment.start ≡ tcp_start frame.now) }
+    ensures end { IfOk result (λ segment. segment.end ≡ ip_end frame.now) }
+    ensures class { IfOk result (λ _. class_of frame.now ≡ segment_class frame.now) }
+    ensures header { IfOk result (λ segment. ip + 20 ≤ segment.start) }
+    ensures room { IfOk result (λ segment. segment.start ≤ segment.end) }
+    ensures captured { IfOk result (λ segment. segment.end ≤ length frame.now) }
+    ensures packet { IfOk result (λ segment. segment.end < ip + 2 ^ 16) }
+    ensures other { IfErr result (λ class. class ≡ class_of frame.now) }
+    ensures not_tcp { IfErr result (λ class. class ≢ Class.Tcp) }
+{
+    if frame.len() < ip + 20 {
+        return Err(Class::Cut);
+    }
+    let header = 4 * usize::from(frame[ip] & 0x0f);
+    let total = usize::from(u16_at(frame, ip + 2));
+    if is_ip_header_bad(frame, ip) {
+        return Err(Class::Bad);
+    }
+    if frame[ip + 9] != PROTOCOL_TCP {
+        return Err(Class::Other);
+    }
+    if is_fragment(frame, ip) {
+        return Err(Class::Fragment);
+    }
+    if frame.len() < ip + total {
+        return Err(Class::Cut);
+    }
+    Ok(ip + header..ip + total)
+}
+
+// Whether the fields of the IPv4 header contradict each other.
+#[tactic(auto, unfolding(crate::specs::Packet::is_ip_header_bad))]
+fn is_ip_header_bad(frame: &[u8], ip: usize) -> bool
+    requires start { ip ≡ ip_start frame.now }
+    requires within { ip ≤ 18 }
+    requires captured { ip + 20 ≤ length frame.now }
+    ensures bad { result ≡ is_ip_header_bad frame.now }
+    ensures header { result ≡ false → 5 ≤ ip_words frame.now }
+    ensures total { result ≡ false → 4 * ip_words frame.now ≤ total_length frame.now }
+{
+    let version = frame[ip] >> 4;
+    let words = frame[ip] & 0x0f;
+    version != 4 || words < 5 || u16_at(frame, ip + 2) < 4 * u16::from(words)
+}
+
+// Whether the IPv4 packet is one of several fragments.
+#[tactic(auto, unfolding(crate::specs::Packet::is_fragment))]
+fn is_fragment(frame: &[u8], ip: usize) -> bool
+    requires start { ip ≡ ip_start frame.now }
+    requires within { ip ≤ 18 }
+    requires captured { ip + 20 ≤ length frame.now }
+    ensures { result ≡ is_fragment frame.now }
+{
+    u16_at(frame, ip + 6) & FRAGMENT_BITS != 0
+}
+
+// Where the payload of a TCP segment begins, or the class of what is none.
+#[tactic(auto, unfolding(crate::specs::Packet::segment_class, crate::specs::Packet::is_tcp_header_bad))]
+fn payload_start(frame: &[u8], tcp: usize, end: usize) -> Result<usize, Class>
+    requires start { tcp ≡ tcp_start frame.now }
+    requires end { end ≡ ip_end frame.now }
+    requires room { tcp ≤ end }
+    requires captured { end ≤ length frame.now }
+    ensures start { IfOk result (λ start. start ≡ payload_start frame.now) }
+    ensures header { IfOk result (λ start. tcp + 20 ≤ start) }
+    ensures room { IfOk result (λ start. start ≤ end) }
+    ensures tcp { IfOk result (λ _. segment_class frame.now ≡ Class.Tcp) }
+    ensures other { IfErr result (λ class. class ≡ segment_class frame.now) }
+    ensures not_tcp { IfErr result (λ class. class ≢ Class.Tcp) }
+{
+    let segment = end - tcp;
+    if segment < 20 {
+        return Err(Class::Bad);
+    }
+    let words = frame[tcp + 12] >> 4;
+    let header = 4 * usize::from(words);
+    if words < 5 || segment < header {
+        return Err(Class::Bad);
+    }
+    Ok(tcp + header)
+}
+
+// Where the IPv4 header begins, in a frame whose link header says that it carries one.
+#[tactic(auto, unfolding(crate::specs::Packet::lacks_ipv4))]
+fn ip_start(frame: &[u8]) -> Option<usize>
+    ensures start { IfSome result (λ start. start ≡ ip_start frame.now) }
+    ensures within { IfSome result (λ start. start ≤ 18) }
+    ensures carried { IfSome result (λ _. lacks_ipv4 frame.now ≡ false) }
+    ensures lacking { IsNone result → lacks_ipv4 frame.now ≡ true }
+{
+    if frame.len() < 14 {
+        return None;
+    }
+    let start = if u16_at(frame, 12) != TYPE_TAGGED {
+        14
+    } else if frame.len() < 18 {
+        return None;
+    } else {
+        18
+    };
+    if u16_at(frame, start - 2) == TYPE_IPV4 {
+        Some(start)
+    } else {
+        None
+    }
+}

@@ -1,0 +1,13 @@
+//! Views of captured Ethernet frames: the class of a packet, its header fields and its payload,
+//! read in place. No call copies bytes or takes memory.
+#![tactic(auto)]
+
+mod classify;
+mod fields;
+mod layout;
+pub mod packet;
+pub mod view;
+
+pub use classify::view_of;
+pub use packet::{Class, Head};
+pub use view::{TcpView, View};
