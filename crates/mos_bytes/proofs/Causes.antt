@@ -1,0 +1,17 @@
+-- How faults of one call after another add up.
+use Rattle.std.proofs.Common.{ℕ, ◌^◌, ◌<◌, ◌≤◌, inl, inr, arith}
+use Rattle.mos_bytes.specs.Causes.{Rose, risen}
+
+-- a count that rose later rose since before
+pub Rose-earlier : (before middle now : ℕ) → before ≤ middle → Rose middle now → Rose before now
+Rose-earlier before middle now le (inl less) = inl (omega arith)
+Rose-earlier before middle now le (inr end) = inr end
+
+-- a count that rose earlier rose until now
+pub Rose-later : (before middle now : ℕ) → Rose before middle → middle ≤ now → Rose before now
+Rose-later before middle now (inl less) le = inl (omega arith)
+Rose-later before middle now (inr end) le = inr (omega arith)
+
+-- one fault more is a rise
+pub Rose-risen : (count : ℕ) → count < 2 ^ 64 → Rose count (risen count)
+Rose-risen count fits = grind arith

@@ -1,0 +1,4 @@
+pub mod Causes
+pub mod Memory
+pub mod Reads
+pub mod Writes

@@ -1,0 +1,21 @@
+-- What `fill` does to the bytes that are left in a source, where it tells them.
+use Rattle.std.specs.Prelude.{ℕ, ◌<◌, ◌≤◌, List, length, take, Result, MatchResult}
+use Rattle.std.specs.declared.option.Option.{Option}
+use Rattle.std.specs.Io.KnownBytes.{Consumes, IsAtEnd}
+use Rattle.mos_bytes.specs.declared.failed.Failed.{Failed}
+
+-- n bytes were consumed, those at the front of buf, and fewer than buf has room for only where none is left
+pub record Fills (old new : Option (List ℕ)) (n : ℕ) (buf : List ℕ) : Type 0 where
+  pub within : n ≤ length buf
+  pub consumed : Consumes old new (take n buf)
+  pub short : n < length buf → IsAtEnd new
+
+-- some bytes were consumed, those at the front of buf
+pub record FillsPart (old new : Option (List ℕ)) (buf : List ℕ) : Type 0 where
+  pub count : ℕ
+  pub within : count ≤ length buf
+  pub consumed : Consumes old new (take count buf)
+
+-- `fill(buf)` consumed what it answers at `Ok`, and part of it at `Failed`
+abbrev pub FillConsumes : Option (List ℕ) → Option (List ℕ) → Result ℕ Failed → List ℕ → Type 0
+FillConsumes old new result buf = MatchResult result (λ n. Fills old new n buf) (λ _. FillsPart old new buf)

@@ -1,0 +1,22 @@
+//! The outside world as a program sees it: sources of bytes, sinks of bytes, and what their faults mean.
+//!
+//! A source tells, where it can, the bytes that are left in it, and a sink those that it has taken.
+//! Each keeps a count of faults that never falls, and answers `Failed` only where that count rose.
+#![tactic(auto)]
+
+mod copy;
+mod failed;
+mod memory_sink;
+mod memory_source;
+mod read_source;
+mod sink;
+mod source;
+mod write_sink;
+
+pub use failed::Failed;
+pub use memory_sink::MemSink;
+pub use memory_source::MemSource;
+pub use read_source::ReadSource;
+pub use sink::Sink;
+pub use source::{Source, fill};
+pub use write_sink::WriteSink;

@@ -1,0 +1,77 @@
+// A source over bytes in memory, for tests.
+ghost use Rattle.std.specs.Prelude.{◌≡◌, ◌≤◌, ◌↔◌, ℕ, List, length, take, drop, min, Some, IfOk, IsErr, OnOk, OnErr, Contains};
+ghost use Rattle.std.specs.Io.{ReadsAtMost};
+ghost use Rattle.std.specs.Io.KnownBytes.{ReadConsumes};
+ghost use Rattle.mos_bytes.specs.Causes.{HasCause, risen};
+ghost use Rattle.mos_bytes.specs.Memory.{SourceState};
+
+use crate::copy::copy_front;
+use crate::{Failed, Source};
+use std::marker::Model;
+
+/// A source that gives bytes from memory, and fails at the listed calls.
+#[derive(Drop)]
+pub struct MemSource {
+    bytes: Vec<u8>,
+    place: usize,
+    fails: Vec<u64>,
+    calls: u64,
+    faults: u64,
+}
+
+impl Model for MemSource {
+    ghost Value = { SourceState };
+
+    ghost view = { λ s. record {
+      left = drop s.place s.bytes.items;
+      fails = s.fails.items;
+      calls = s.calls;
+      faults = s.faults;
+    } };
+
+    ghost invariant = { λ s. s.place ≤ length s.bytes.items };
+}
+
+impl MemSource {
+    /// A source of these bytes, whose calls fail that `fails` lists by their numbers from 0.
+    pub fn new(bytes: Vec<u8>, fails: Vec<u64>) -> Self
+        ensures { result ≡ record { left = bytes.items; fails = fails.items; calls = 0; faults = 0 } }
+    {
+        MemSource {
+            bytes,
+            place: 0,
+            fails,
+            calls: 0,
+            faults: 0,
+        }
+    }
+}
+
+impl Source for MemSource {
+    ghost left = { λ s. Some s.left };
+
+    ghost faults = { λ s. s.faults };
+
+    /// Gives as many bytes as `buf` has room for and are left. A listed call fails and gives none.
+    fn read(&mut self, buf: &mut [u8]) -> Result<usize, Failed>
+        ensures bound { ReadsAtMost result buf.new }
+        ensures bytes { ReadConsumes (Some self.old.left) (Some self.new.left) result buf.new }
+        ensures cause { HasCause self.old.faults self.new.faults result }
+        ensures listed { IsErr result ↔ Contains self.old.fails self.old.calls }
+        ensures count { IfOk result (λ n. n ≡ min (length buf.old) (length self.old.left)) }
+        ensures ok { OnOk result (self.new.faults ≡ self.old.faults) }
+        ensures err { OnErr result (self.new.faults ≡ risen self.old.faults) }
+        ensures calls { self.new.calls ≡ risen self.old.calls }
+        ensures fails { self.new.fails ≡ self.old.fails }
+    {
+        let call = self.calls;
+        self.calls = call.saturating_add(1);
+        if self.fails.contains(&call) {
+            self.faults = self.faults.saturating_add(1);
+            return Err(Failed);
+        }
+        let count = copy_front(&self.bytes[self.place..], buf);
+        self.place += count;
+        Ok(count)
+    }
+}

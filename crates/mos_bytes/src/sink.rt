@@ -1,0 +1,21 @@
+// Where bytes go.
+ghost use Rattle.std.specs.Prelude.{ℕ, List};
+ghost use Rattle.std.specs.declared.option.Option.{Option};
+ghost use Rattle.mos_bytes.specs.Causes.{HasCause};
+ghost use Rattle.mos_bytes.specs.Writes.{WriteAdds};
+
+use crate::Failed;
+
+/// A sink of bytes.
+pub trait Sink {
+    // The bytes that were taken so far, where the sink tells them.
+    ghost taken: { Self → Option (List ℕ) };
+
+    // How often the sink has failed. It never falls.
+    ghost faults: { Self → ℕ };
+
+    /// Takes all of `bytes`, or at `Failed` a front of them.
+    fn write_all(&mut self, bytes: &[u8]) -> Result<(), Failed>
+        ensures bytes { WriteAdds (taken self.old) (taken self.new) result bytes.now }
+        ensures cause { HasCause (faults self.old) (faults self.new) result };
+}

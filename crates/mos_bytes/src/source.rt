@@ -1,0 +1,43 @@
+// Where bytes come from.
+ghost use Rattle.std.specs.Prelude.{◌≡◌, ◌+◌, ◌<◌, ◌≤◌, ℕ, List, length, take};
+ghost use Rattle.std.specs.declared.option.Option.{Option};
+ghost use Rattle.std.specs.Io.{ReadsAtMost};
+ghost use Rattle.std.specs.Io.KnownBytes.{ReadConsumes};
+ghost use Rattle.mos_bytes.specs.Causes.{HasCause};
+ghost use Rattle.mos_bytes.specs.Reads.{FillConsumes};
+
+use crate::Failed;
+
+/// A source of bytes.
+pub trait Source {
+    // The bytes that are left, where the source tells them.
+    ghost left: { Self → Option (List ℕ) };
+
+    // How often the source has failed. It never falls.
+    ghost faults: { Self → ℕ };
+
+    /// Puts some of the bytes that are left into the front of `buf`, and answers how many.
+    /// It answers 0 only where none is left or `buf` is empty. A call that fails consumes nothing.
+    fn read(&mut self, buf: &mut [u8]) -> Result<usize, Failed>
+        ensures bound { ReadsAtMost result buf.new }
+        ensures bytes { ReadConsumes (left self.old) (left self.new) result buf.new }
+        ensures cause { HasCause (faults self.old) (faults self.new) result };
+}
+
+/// Reads until `buf` is full or the source ends, and answers how many bytes stand in the front of `buf`:
+/// all of them, or fewer where none is left. At `Failed` some bytes may have been consumed.
+pub fn fill<S: Source>(source: &mut S, buf: &mut [u8]) -> Result<usize, Failed>
+    ensures bound { ReadsAtMost result buf.new }
+    ensures bytes { FillConsumes (S.left source.old) (S.left source.new) result buf.new }
+    ensures cause { HasCause (S.faults source.old) (S.faults source.new) result }
+{
+    let mut filled = 0;
+    while filled < buf.len() {
+        let count = source.read(&mut buf[filled..])?;
+        if count == 0 {
+            break;
+        }
+        filled += count;
+    }
+    Ok(filled)
+}
