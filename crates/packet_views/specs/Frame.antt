@@ -1,5 +1,5 @@
 -- Fields of a captured Ethernet frame, as numbers, by their places. All numbers are in network order, the highest byte first.
-use Rattle.std.specs.Prelude.{◌==◌, ℕ, ◌+◌, ◌*◌, ◌-◌, ◌/◌, ◌%◌, ◌^◌, Bool, cond, List, length, drop, slice_index, slice_range}
+use Rattle.std.specs.Prelude.{◌==◌, ℕ, ◌+◌, ◌*◌, ◌-◌, ◌/◌, ◌%◌, ◌^◌, Bool, cond, List, drop, slice_index, slice_range}
 use Rattle.byteorder.specs.Endian.{big_number}
 
 -- the number in `count` bytes from place `at`

@@ -2,3 +2,4 @@ pub mod Frame
 pub mod Packet
 pub mod Layout
 pub mod View
+pub mod Options

@@ -1,5 +1,5 @@
 -- What a frame is as a packet: its class and, for a TCP segment, the header fields and the payload.
-use Rattle.std.specs.Prelude.{◌==◌, ◌||◌, ◌&&◌, not, ℕ, ◌+◌, ◌*◌, ◌-◌, Bool, nat_lt, if◌then◌else◌, List, length, slice_index, slice_range}
+use Rattle.std.specs.Prelude.{◌==◌, ◌||◌, ◌&&◌, not, ℕ, ◌+◌, ◌*◌, Bool, nat_lt, if◌then◌else◌, List, length, slice_index, slice_range}
 use Rattle.packet_views.specs.declared.packet.Class.{Class}
 use Rattle.packet_views.specs.declared.packet.Class.TheVariants.{Tcp, Other, Fragment, Cut, Bad}
 use Rattle.packet_views.specs.declared.packet.Head.{Head}

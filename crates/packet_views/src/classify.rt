@@ -32,6 +32,8 @@ pub fn view_of(frame: &[u8]) -> View<'_>
     ensures tcp { IfTcp result (λ _. class_of frame.now ≡ Class.Tcp) }
     ensures other { IfOther result (λ class. class ≡ class_of frame.now) }
     ensures not_tcp { IfOther result (λ class. class ≢ Class.Tcp) }
+    ensures segment { IfTcp result (λ _. packet_of frame.now ≡ Segment (head_of frame.now) (payload_of frame.now)) }
+    ensures no_segment { IfOther result (λ class. packet_of frame.now ≡ NoSegment class) }
 {
     match layout_of(frame) {
         Ok(layout) => View::Tcp(TcpView::new(frame, layout)),

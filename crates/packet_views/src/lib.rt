@@ -5,9 +5,11 @@
 mod classify;
 mod fields;
 mod layout;
+mod options;
 pub mod packet;
 pub mod view;
 
 pub use classify::view_of;
+pub use options::window_scale;
 pub use packet::{Class, Head};
 pub use view::{TcpView, View};

@@ -28,6 +28,7 @@ impl<'a> Model for TcpView<'a> {
 }
 
 impl<'a> TcpView<'a> {
+    ghost use Rattle.packet_views.specs.Frame.{options_of};
     ghost use Rattle.packet_views.specs.Packet.{class_of, head_of, payload_of};
     ghost use Rattle.packet_views.specs.Layout.{IsLayoutOf};
 
@@ -71,6 +72,13 @@ impl<'a> TcpView<'a> {
         ensures bound { length result.now ≤ 65535 }
     {
         &self.frame[self.layout.payload..self.layout.end]
+    }
+
+    // The TCP options: what stands between the fixed part of the TCP header and the payload.
+    pub(crate) fn options(&self) -> &[u8]
+        ensures { result.now ≡ options_of self.now }
+    {
+        &self.frame[self.layout.tcp + 20..self.layout.payload]
     }
 }
 
