@@ -1,0 +1,10 @@
+//! The filters in which authors say which packets matter: their grammar, meaning and printed text.
+#![tactic(auto)]
+
+pub mod error;
+pub mod expr;
+pub mod term;
+
+pub use error::FilterError;
+pub use expr::Expr;
+pub use term::{Atom, Join, Op, Step, StepList, Sum, Term, TermList};
