@@ -1,1 +1,3 @@
 pub mod Shape
+pub mod ShapeCode
+pub mod Meaning

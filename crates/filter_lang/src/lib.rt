@@ -2,9 +2,11 @@
 #![tactic(auto)]
 
 pub mod error;
+pub mod evaluation;
 pub mod expr;
 pub mod term;
 
 pub use error::FilterError;
+pub use evaluation::eval;
 pub use expr::Expr;
 pub use term::{Atom, Join, Op, Step, StepList, Sum, Term, TermList};
