@@ -1,5 +1,5 @@
 -- The two ends of a connection, stepped by the tables of `States`.
-use Rattle.std.specs.Prelude.{Bool, true, false, ◌&&◌, ◌||◌, not, if◌then◌else◌}
+use Rattle.std.specs.Prelude.{Bool, false, ◌&&◌, ◌||◌, not, if◌then◌else◌}
 use Rattle.tcp_emulation.specs.declared.state.State.{State}
 use Rattle.tcp_emulation.specs.declared.state.State.TheVariants.{Closed, Listen}
 use Rattle.tcp_emulation.specs.declared.segment.Side.{Side}
@@ -8,7 +8,7 @@ use Rattle.tcp_emulation.specs.declared.segment.SegFacts.{SegFacts}
 use Rattle.tcp_emulation.specs.declared.segment.Change.{Change}
 use Rattle.tcp_emulation.specs.declared.ends.End.{End}
 use Rattle.tcp_emulation.specs.declared.ends.Ends.{Ends}
-use Rattle.tcp_emulation.specs.States.{other, opening_syn_sent, syn_ack_sent, fin_sent, syn_received, syn_ack_received, syn_acknowledged, fin_acknowledged, fin_reached, is_done}
+use Rattle.tcp_emulation.specs.States.{opening_syn_sent, syn_ack_sent, fin_sent, syn_received, syn_ack_received, syn_acknowledged, fin_acknowledged, fin_reached, is_done}
 
 -- the state after a rule, which is read where its condition holds
 abbrev pub after_rule : Bool → (State → State) → State → State

@@ -6,9 +6,13 @@
 #![tactic(auto)]
 
 mod ends;
+pub mod laws;
 mod segment;
 mod state;
 
 pub use ends::{End, Ends, is_over, recv_step, send_step};
 pub use segment::{Change, SegFacts, Side};
 pub use state::State;
+
+#[cfg(test)]
+mod tests;
