@@ -2,18 +2,22 @@
 //! trait by which an application is asked.
 #![tactic(auto)]
 
+mod app;
 mod changes;
 mod entry;
 mod events;
 mod lists;
+mod log;
 mod reaction;
 mod registration;
 mod rule;
 
+pub use app::{App, Call, Tally};
 pub use changes::{Change1, Changes};
 pub use entry::{Entry, Seen};
 pub use events::{END, ERROR, NEW_DATA, ORPHAN, PKT_IN, REXMIT, START, STATE, allows_hook};
 pub use lists::{ActiveList, Bytes, DropList, EntryList, FieldList, PieceList, RegList};
+pub use log::LogApp;
 pub use reaction::{Reaction, Reason, Verdict};
 pub use registration::{Action, PeekSpec, Reg};
 pub use rule::Rule;

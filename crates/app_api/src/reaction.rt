@@ -1,5 +1,7 @@
 //! What a callback asks, and what becomes of its packet.
 
+ghost use Rattle.std.specs.Prelude.{◌≡◌};
+
 use crate::changes::Changes;
 
 /// Who asked for a drop.
@@ -27,4 +29,18 @@ pub enum Verdict {
     Pass,
     /// It is dropped, for the first reason that was asked.
     Drop(Reason),
+}
+
+impl Reaction {
+    ghost use Rattle.app_api.specs.Reaction.{asks_nothing};
+
+    /// A reaction that asks nothing.
+    pub fn nothing() -> Reaction
+        ensures { result ≡ asks_nothing }
+    {
+        Reaction {
+            drop: None,
+            changes: Changes::new(),
+        }
+    }
 }

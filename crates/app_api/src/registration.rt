@@ -1,5 +1,7 @@
 //! Registrations: which raise calls whom, what is peeked at first, and what is done.
 
+ghost use Rattle.std.specs.Prelude.{◌≡◌};
+
 use crate::changes::Changes;
 use native_filters::Hook;
 
@@ -38,4 +40,25 @@ pub struct Reg {
     pub peek: PeekSpec,
     /// What it does. A preset runs its application instead.
     pub action: Action,
+}
+
+impl Reg {
+    ghost use Rattle.app_api.specs.Reg.{preset_reg};
+
+    /// A preset without a peek.
+    pub fn preset(number: u8, event: u16, hook: Hook, on: bool) -> Reg
+        ensures { result ≡ preset_reg number event hook on }
+    {
+        Reg {
+            number,
+            event,
+            hook,
+            on,
+            peek: PeekSpec::Nothing,
+            action: Action {
+                drop: false,
+                changes: Changes::new(),
+            },
+        }
+    }
 }
