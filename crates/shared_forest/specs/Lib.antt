@@ -1,0 +1,5 @@
+pub mod Layout
+pub mod Lists
+pub mod Listing
+pub mod Store
+pub mod Rows

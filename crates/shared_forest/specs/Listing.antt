@@ -1,0 +1,32 @@
+-- What a tree says, with every path written out.
+use Rattle.std.specs.Prelude.{ℕ, ◌-◌, List, [], ◌∷◌, ◌++◌, take, drop}
+use Rattle.shared_forest.specs.declared.node.Node.{Node}
+use Rattle.shared_forest.specs.declared.node.Slot.{Slot}
+use Rattle.shared_forest.specs.Lists.{TreeLists}
+
+-- a path from below the top node to a node, and the node's registrations
+pub record Shown : Type 0 where
+  pub path : List ℕ
+  pub slots : List Slot
+
+-- the registrations of a node
+abbrev pub slots_of : Node → List Slot → List Slot
+slots_of n slots = take n.count (drop n.first slots)
+
+-- the path of a node that stands after a node with this path
+abbrev pub path_after : List ℕ → Node → List ℕ
+path_after before n = take (n.depth - 1) before ++ n.event ∷ []
+
+-- the nodes after a node with this path
+abbrev pub listing_after : List ℕ → List Node → List Slot → List Shown
+listing_after before [] slots = []
+listing_after before (n ∷ ns) slots =
+    record { path = path_after before n; slots = slots_of n slots } ∷ listing_after (path_after before n) ns slots
+
+abbrev pub listing_of : List Node → List Slot → List Shown
+listing_of [] slots = []
+listing_of (top ∷ ns) slots = record { path = []; slots = slots_of top slots } ∷ listing_after [] ns slots
+
+-- one pair for each node, in the order of the nodes
+abbrev pub listing : TreeLists → List Shown
+listing tree = listing_of tree.nodes tree.slots
