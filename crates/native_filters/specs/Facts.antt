@@ -2,7 +2,7 @@ use Rattle.std.specs.Prelude.{ℕ, ◌==◌, if◌then◌else◌}
 use Rattle.native_filters.specs.declared.facts.Facts.{Facts}
 
 -- the fact at place i, in the order in which the fields stand
-abbrev pub fact : ℕ → Facts → ℕ
+unfoldable pub fact : ℕ → Facts → ℕ
 fact i f =
     if i == 0 then f.dir else
     if i == 1 then f.nth else
@@ -26,7 +26,7 @@ fact i f =
     f.class
 
 -- the facts of nothing
-abbrev pub no_facts : Facts
+unfoldable pub no_facts : Facts
 no_facts = record {
   dir = 0;
   nth = 0;

@@ -32,7 +32,7 @@ is_private addr =
     in_net addr (quad 10 0 0 0) 8 || in_net addr (quad 172 16 0 0) 12 || in_net addr (quad 192 168 0 0) 16
 
 -- the native filter of a number from 0 to 5
-abbrev pub native : ℕ → Facts → Bool
+unfoldable pub native : ℕ → Facts → Bool
 native which f =
     -- a SYN without ACK
     if which == 0 then has_bits f.flags syn && not (has_bits f.flags ack) else

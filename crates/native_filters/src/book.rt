@@ -30,6 +30,7 @@ impl NativeBook {
     }
 
     /// Whether the native filter of a number is true of the facts.
+    #[tactic(auto, unfolding(crate::specs::Native::native))]
     pub fn call(&self, which: u8, facts: &Facts) -> bool
         requires { which ≤ 5 }
         ensures { result ≡ native which facts.now }

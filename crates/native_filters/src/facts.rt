@@ -62,6 +62,7 @@ impl Facts {
     ghost use Rattle.native_filters.specs.Facts.{fact, no_facts};
 
     /// The facts of nothing: each is 0.
+    #[tactic(auto, unfolding(crate::specs::Facts::no_facts))]
     pub fn none() -> Facts
         ensures { result ≡ no_facts }
     {
@@ -90,6 +91,7 @@ impl Facts {
     }
 
     /// The fact at a place, in the order of the fields from 0.
+    #[tactic(auto, unfolding(crate::specs::Facts::fact))]
     pub fn get(&self, place: u8) -> u64
         requires { place < 20 }
         ensures { result ≡ fact place self.now }
