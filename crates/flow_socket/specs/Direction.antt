@@ -1,0 +1,135 @@
+-- One direction of a connection, as its emulated receiver accepts it (RFC 9293, sections 3.4 and 3.10.7.4).
+use Rattle.std.specs.Prelude.{ℕ, ◌+◌, ◌-◌, ◌%◌, ◌^◌, ℤ, pos, negsuc, ◌+ℤ◌, Bool, true, false, not, ◌&&◌, nat_lt, List, length, Option, Some, None, unwrap_or, if◌then◌else◌}
+use Rattle.packet_views.specs.declared.packet.Head.{Head}
+use Rattle.reassembly.specs.declared.answers.Policy.{Policy}
+use Rattle.reassembly.specs.declared.answers.Placed.{Placed}
+use Rattle.reassembly.specs.declared.answers.FinNote.{FinNote}
+use Rattle.reassembly.specs.declared.answers.FinNote.TheVariants.{Noted, Same, Refused}
+use Rattle.reassembly.specs.Position.{distance_of, position_of}
+use Rattle.reassembly.specs.Receiver.{Receiver, no_bytes, next_of}
+use Rattle.reassembly.specs.Segment.{accept, counts}
+use Rattle.reassembly.specs.Fin.{note_of, noted, is_fin_reached}
+use Rattle.flow_socket.specs.declared.answers.Origin.{Origin}
+use Rattle.flow_socket.specs.Flags.{has_syn, has_fin, has_rst}
+
+-- what the receiver accepted, where its positions begin (none before the first packet), and how far user code has read it
+pub record Direction : Type 0 where
+  pub origin : Option Origin
+  pub receiver : Receiver
+  pub mark : ℕ
+
+-- a direction from which nothing was received
+abbrev pub untouched : Direction
+untouched = record { origin = None; receiver = no_bytes; mark = 0 }
+
+-- the least position that wasn't accepted, 0 before the first packet
+abbrev pub next_in : Direction → ℕ
+next_in d = next_of d.receiver.cells
+
+-- a SYN takes one sequence number, before the payload
+abbrev pub first_number : Head → ℕ
+first_number h = if has_syn h then (h.seq + 1) % 2 ^ 32 else h.seq
+
+-- the origin that the first packet sets: its SYN, or the number before its first byte
+abbrev pub origin_from : Head → Origin
+origin_from h = record {
+  irs = if has_syn h then h.seq else (h.seq + (2 ^ 32 - 1)) % 2 ^ 32;
+  knows_syn = has_syn h;
+}
+
+-- the origin by which a packet is read: once set, it stays
+abbrev pub origin_for : Head → Direction → Origin
+origin_for h d = unwrap_or d.origin (origin_from h)
+
+-- how far the packet's first payload byte lies from next, signed
+abbrev pub distance_in : Head → Direction → ℤ
+distance_in h d = distance_of (next_in d) (origin_for h d).irs (first_number h)
+
+-- the position of the packet's first payload byte
+abbrev pub start_in : Head → Direction → ℤ
+start_in h d = pos (next_in d) +ℤ distance_in h d
+
+-- the number is one of 0 to n - 1
+abbrev pub is_below : ℕ → ℤ → Bool
+is_below n (pos z) = nat_lt z n
+is_below n (negsuc z) = false
+
+abbrev pub is_in_window : ℕ → Head → Direction → Bool
+is_in_window rbuf h d = is_below rbuf (distance_in h d)
+
+-- the receiver after the payload
+abbrev pub with_payload : ℕ → Policy → Head → List ℕ → Direction → Receiver
+with_payload rbuf policy h payload d = accept d.receiver (start_in h d) payload policy rbuf
+
+-- the FIN stands after the payload; it may stand at most rbuf above the next from before the packet
+abbrev pub fin_position : Head → List ℕ → Direction → ℤ
+fin_position h payload d = start_in h d +ℤ pos (length payload)
+
+abbrev pub fin_edge : ℕ → Direction → ℕ
+fin_edge rbuf d = next_in d + rbuf
+
+-- what becomes of the packet's FIN, judged after the payload
+abbrev pub note_in : ℕ → Policy → Head → List ℕ → Direction → FinNote
+note_in rbuf policy h payload d =
+    note_of (with_payload rbuf policy h payload d) (fin_position h payload d) (fin_edge rbuf d)
+
+-- the receiver after the packet: neither payload nor FIN of a packet with RST is read
+abbrev pub receiver_after : ℕ → Policy → Head → List ℕ → Direction → Receiver
+receiver_after rbuf policy h payload d =
+    if has_rst h then d.receiver
+    else if has_fin h then noted (with_payload rbuf policy h payload d) (fin_position h payload d) (fin_edge rbuf d)
+    else with_payload rbuf policy h payload d
+
+-- the direction after the packet
+abbrev pub direction_after : ℕ → Policy → Head → List ℕ → Direction → Direction
+direction_after rbuf policy h payload d = record {
+  origin = Some (origin_for h d);
+  receiver = receiver_after rbuf policy h payload d;
+  mark = d.mark;
+}
+
+-- how the packet's bytes were judged
+abbrev pub nothing_placed : Placed
+nothing_placed = record { new = 0; old = 0; differ = 0; over = 0 }
+
+abbrev pub placed_in : ℕ → Head → List ℕ → Direction → Placed
+placed_in rbuf h payload d = if has_rst h then nothing_placed else counts d.receiver (start_in h d) payload rbuf
+
+-- the FIN of a packet was refused
+abbrev pub is_refused : FinNote → Bool
+is_refused Noted = false
+is_refused Same = false
+is_refused Refused = true
+
+abbrev pub is_fin_refused : ℕ → Policy → Head → List ℕ → Direction → Bool
+is_fin_refused rbuf policy h payload d = not (has_rst h) && (has_fin h && is_refused (note_in rbuf policy h payload d))
+
+-- all bytes of the sender and its FIN were accepted
+abbrev pub is_finished : Direction → Bool
+is_finished d = is_fin_reached (next_in d) d.receiver.fin
+
+-- An acknowledgement number is judged in the direction of the end that it acknowledges, by its position there.
+abbrev pub is_natural : ℤ → Bool
+is_natural (pos z) = true
+is_natural (negsuc z) = false
+
+abbrev pub is_above : ℕ → ℤ → Bool
+is_above n (pos z) = nat_lt n z
+is_above n (negsuc z) = false
+
+-- it acknowledges a SYN that the capture has
+abbrev pub acks_syn_at : ℕ → ℕ → Option Origin → Bool
+acks_syn_at ack next None = false
+acks_syn_at ack next (Some origin) = origin.knows_syn && is_natural (position_of next origin.irs ack)
+
+abbrev pub acks_syn : ℕ → Direction → Bool
+acks_syn ack d = acks_syn_at ack (next_in d) d.origin
+
+-- it acknowledges the noted FIN
+abbrev pub acks_fin_at : ℕ → ℕ → Option Origin → Option ℕ → Bool
+acks_fin_at ack next None fin = false
+acks_fin_at ack next (Some origin) None = false
+acks_fin_at ack next (Some origin) (Some fin) = is_above fin (position_of next origin.irs ack)
+
+abbrev pub acks_fin : ℕ → Direction → Bool
+acks_fin ack d = acks_fin_at ack (next_in d) d.origin d.receiver.fin

@@ -1,0 +1,10 @@
+//! The monitoring socket of one TCP connection.
+//!
+//! It emulates both ends and what each of them accepted of the other's bytes. A packet has two
+//! phases: `send` is its step at the sender, `receive` its step at the receiver. `peek` and
+//! `ppeek` show what a receiver holds. Start with `specs/Emulation.antt`, the two phases.
+#![tactic(auto)]
+
+mod answers;
+
+pub use answers::{Got, Origin, Peeked, Sent};
