@@ -14,3 +14,8 @@ Rose before now = (before < now) ⊎ (2 ^ 64 - 1 ≤ now)
 pub record HasCause {T : Type 0} (before now : ℕ) (result : Result T Failed) : Type 0 where
   pub later : before ≤ now
   pub failed : IsErr result → Rose before now
+
+-- a fault is told only where the count rose, and the count never falls; `fault` says that it is told
+pub record HasCauseOf (before now : ℕ) (fault : Type 0) : Type 0 where
+  pub later : before ≤ now
+  pub cause : fault → Rose before now

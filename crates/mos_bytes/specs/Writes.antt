@@ -2,7 +2,6 @@
 use Rattle.std.specs.Prelude.{◌≡◌, ℕ, List, ◌++◌, Result, MatchResult}
 use Rattle.std.specs.declared.option.Option.{Option}
 use Rattle.std.specs.Io.KnownBytes.{Appends}
-use Rattle.mos_bytes.specs.declared.failed.Failed.{Failed}
 
 -- the taken bytes grew by a front of bytes
 pub record AppendsFront (old new : Option (List ℕ)) (bytes : List ℕ) : Type 0 where
@@ -11,6 +10,6 @@ pub record AppendsFront (old new : Option (List ℕ)) (bytes : List ℕ) : Type 
   pub added : Appends old new front
   pub whole : bytes ≡ front ++ rest
 
--- the taken bytes grew by all of bytes at `Ok`, and by a front of them at `Failed`
-abbrev pub WriteAdds : {T : Type 0} → Option (List ℕ) → Option (List ℕ) → Result T Failed → List ℕ → Type 0
+-- the taken bytes grew by all of bytes at `Ok`, and by a front of them at an error
+abbrev pub WriteAdds : {T E : Type 0} → Option (List ℕ) → Option (List ℕ) → Result T E → List ℕ → Type 0
 WriteAdds old new result bytes = MatchResult result (λ _. Appends old new bytes) (λ _. AppendsFront old new bytes)
