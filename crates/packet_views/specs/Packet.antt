@@ -81,5 +81,5 @@ packet_with Tcp frame = Segment (head_of frame) (payload_of frame)
 packet_with class frame = NoSegment class
 
 -- what a frame is
-abbrev pub packet_of : List ℕ → Packet
+unfoldable pub packet_of : List ℕ → Packet
 packet_of frame = packet_with (class_of frame) frame

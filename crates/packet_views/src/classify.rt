@@ -27,6 +27,7 @@ const FRAGMENT_BITS: u16 = 0x3fff;
 
 /// What a captured frame is, by its first bytes alone: a TCP segment borrowed in place, or the
 /// class of what it is instead.
+#[tactic(auto, unfolding(crate::specs::Packet::packet_of))]
 pub fn view_of(frame: &[u8]) -> View<'_>
     ensures frame { IfTcp result (λ segment. segment ≡ frame.now) }
     ensures tcp { IfTcp result (λ _. class_of frame.now ≡ Class.Tcp) }

@@ -11,5 +11,8 @@ pub mod view;
 
 pub use classify::view_of;
 pub use options::window_scale;
-pub use packet::{Class, Head};
+pub use packet::{ACK, Class, FIN, Head, RST, SYN};
 pub use view::{TcpView, View};
+
+#[cfg(test)]
+mod tests;
