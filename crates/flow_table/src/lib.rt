@@ -1,0 +1,7 @@
+//! Which connection a packet belongs to: endpoints, the key of a pair of endpoints, the lane that
+//! a key goes to, and the table of what is kept for each key.
+#![tactic(auto)]
+
+pub mod endpoint;
+
+pub use endpoint::Endpoint;
