@@ -1,1 +1,4 @@
 pub mod Vectors
+pub mod Counts
+pub mod Cells
+pub mod Laws
