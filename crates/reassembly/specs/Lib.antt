@@ -4,3 +4,4 @@ pub mod Segment
 pub mod Fin
 pub mod Kept
 pub mod Known
+pub mod Runs

@@ -6,5 +6,6 @@
 #![tactic(auto)]
 
 mod answers;
+mod runs;
 
 pub use answers::{FinNote, Placed, Policy};

@@ -1,0 +1,36 @@
+-- The accepted positions above next, as runs: private to the crate.
+use Rattle.std.specs.Prelude.{ℕ, ◌<◌, ◌≤◌, Bool, ◌&&◌, ◌||◌, nat_le, nat_lt, List, length, slice_index_or}
+use Rattle.std.specs.List.{list_any}
+use Rattle.reassembly.specs.declared.runs.Run.{Run}
+
+-- the run at an index
+abbrev pub run_at : List Run → ℕ → Run
+run_at runs k = slice_index_or runs k (record { start = 0; end = 0 })
+
+abbrev pub covers : ℕ → Run → Bool
+covers p run = nat_le run.start p && nat_lt p run.end
+
+-- some run has the position
+abbrev pub is_covered : List Run → ℕ → Bool
+is_covered runs p = list_any (covers p) runs
+
+-- below next, or in a run
+abbrev pub is_accepted : ℕ → List Run → ℕ → Bool
+is_accepted next runs p = nat_lt p next || is_covered runs p
+
+-- no run is empty, and each begins above the end of those before it
+pub record AreOrdered (runs : List Run) : Type 0 where
+  pub filled : (k : ℕ) → k < length runs → (run_at runs k).start < (run_at runs k).end
+  pub apart : (j k : ℕ) → j < k → k < length runs → (run_at runs j).end < (run_at runs k).start
+
+-- the first k runs end at p or below, the others above
+pub record IsCursor (runs : List Run) (k p : ℕ) : Type 0 where
+  pub within : k ≤ length runs
+  pub before : (j : ℕ) → j < k → (run_at runs j).end ≤ p
+  pub after : (j : ℕ) → k ≤ j → j < length runs → p < (run_at runs j).end
+
+-- the first k runs begin at p or below, the others above
+pub record IsBegun (runs : List Run) (k p : ℕ) : Type 0 where
+  pub within : k ≤ length runs
+  pub before : (j : ℕ) → j < k → (run_at runs j).start ≤ p
+  pub after : (j : ℕ) → k ≤ j → j < length runs → p < (run_at runs j).start
