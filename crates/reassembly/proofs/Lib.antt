@@ -2,3 +2,4 @@ pub mod Vectors
 pub mod Counts
 pub mod Cells
 pub mod Laws
+pub mod Covered

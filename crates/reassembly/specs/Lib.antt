@@ -5,3 +5,4 @@ pub mod Fin
 pub mod Kept
 pub mod Known
 pub mod Runs
+pub mod Laying

@@ -6,6 +6,7 @@
 #![tactic(auto)]
 
 mod answers;
+mod laying;
 mod runs;
 
 pub use answers::{FinNote, Placed, Policy};
