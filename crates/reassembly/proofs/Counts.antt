@@ -40,3 +40,9 @@ count_below-stretch f g m n k e h =
     let parts : count_below f (m + n) ≡ count_below f m + count_below (λ i. f (m + i)) n = count_below-add f m n in
     let same : count_below (λ i. f (m + i)) n ≡ count_below g n = count_below-same (λ i. f (m + i)) g n h in
     rw (← e) (omega (arith, parts, same))
+
+pub count_below-more : (f : ℕ → Bool) (m n k : ℕ) → m + n ≡ k → ((i : ℕ) → i < n → f (m + i) ≡ true) → count_below f k ≡ count_below f m + n
+count_below-more f m n k e h = count_below-stretch f (λ i. true) m n k e h ∙ ap (λ x. count_below f m + x) (count_below-all (λ i. true) n (λ i l. refl))
+
+pub count_below-stays : (f : ℕ → Bool) (m n k : ℕ) → m + n ≡ k → ((i : ℕ) → i < n → f (m + i) ≡ false) → count_below f k ≡ count_below f m
+count_below-stays f m n k e h = count_below-stretch f (λ i. false) m n k e h ∙ ap (λ x. count_below f m + x) (count_below-none (λ i. false) n (λ i l. refl)) ∙ add-zero (count_below f m)

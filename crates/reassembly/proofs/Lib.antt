@@ -3,3 +3,5 @@ pub mod Counts
 pub mod Cells
 pub mod Laws
 pub mod Covered
+pub mod Parts
+pub mod Laid
