@@ -5,3 +5,4 @@ pub mod Laws
 pub mod Covered
 pub mod Parts
 pub mod Laid
+pub mod Joined

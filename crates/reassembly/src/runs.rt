@@ -1,6 +1,6 @@
 // The accepted positions above `next`, as runs in order.
-ghost use Rattle.std.specs.Prelude.{◌≡◌, ◌+◌, ◌<◌, ◌≤◌, ◌++◌, ◌∷◌, length, take, drop, vec_len, vec_capacity};
-ghost use Rattle.reassembly.specs.Runs.{AreOrdered, IsCursor, IsBegun};
+ghost use Rattle.std.specs.Prelude.{◌≡◌, ℕ, ◌+◌, ◌<◌, ◌≤◌, ◌++◌, ◌∷◌, ◌&&◌, ◌||◌, length, take, drop, vec_len, vec_capacity, nat_le, nat_lt};
+ghost use Rattle.reassembly.specs.Runs.{AreOrdered, AreAbove, AreWithin, IsCursor, IsBegun, IsJoined, is_covered};
 
 /// The positions from `start` to below `end`, all of them accepted.
 #[derive(Clone, Copy, Debug, PartialEq, Eq)]
@@ -72,4 +72,57 @@ pub fn replace(runs: &mut Vec<Run>, first: usize, past: usize, run: Run)
         runs[first] = run;
         cut_out(runs, first + 1, past);
     }
+}
+
+/// The run from `low` to `high`, joined with the runs from `first` to below `past`, which touch it.
+fn joined(runs: &[Run], first: usize, past: usize, low: u64, high: u64) -> Run
+    requires order { first ≤ past }
+    requires within { past ≤ length runs.now }
+    ensures { IsJoined runs.now first past low high result }
+{
+    if first == past {
+        return Run {
+            start: low,
+            end: high,
+        };
+    }
+    Run {
+        start: low.min(runs[first].start),
+        end: high.max(runs[past - 1].end),
+    }
+}
+
+/// Adds the positions from `low` to below `high`: runs that touch them become one with them. It asks room for a run.
+pub fn add(runs: &mut Vec<Run>, low: u64, high: u64)
+    requires ordered { AreOrdered runs.old.items }
+    requires some { low < high }
+    requires positive { 0 < low }
+    requires room { vec_len runs.old < vec_capacity runs.old }
+    ensures ordered { AreOrdered runs.new.items }
+    ensures covered { (p : ℕ) → is_covered runs.new.items p ≡ (is_covered runs.old.items p || (nat_le low p && nat_lt p high)) }
+    ensures above { (m : ℕ) → m < low → AreAbove runs.old.items m → AreAbove runs.new.items m }
+    ensures within { (m : ℕ) → high ≤ m → AreWithin runs.old.items m → AreWithin runs.new.items m }
+{
+    let first = ended_by(runs, low - 1);
+    let past = begun_by(runs, high);
+    let run = joined(runs, first, past, low, high);
+    replace(runs, first, past, run);
+}
+
+/// Takes the runs away that touch the positions below `high`, and answers where the last of them ends, or `high`.
+pub fn absorb(runs: &mut Vec<Run>, high: u64) -> u64
+    requires { AreOrdered runs.old.items }
+    ensures rises { high ≤ result }
+    ensures ordered { AreOrdered runs.new.items }
+    ensures above { AreAbove runs.new.items result }
+    ensures accepted { (p : ℕ) → (nat_lt p result || is_covered runs.new.items p) ≡ (nat_lt p high || is_covered runs.old.items p) }
+    ensures within { (m : ℕ) → high ≤ m → AreWithin runs.old.items m → (result ≤ m) × AreWithin runs.new.items m }
+{
+    let past = begun_by(runs, high);
+    if past == 0 {
+        return high;
+    }
+    let end = high.max(runs[past - 1].end);
+    cut_out(runs, 0, past);
+    end
 }
