@@ -1,0 +1,43 @@
+-- Which events are raised, in which order.
+use Rattle.std.specs.Prelude.{ℕ, Bool, true, not, ◌==◌, nat_lt, List, [], ◌∷◌, ◌++◌, if◌then◌else◌, Option}
+use Rattle.native_filters.specs.declared.facts.Facts.{Facts}
+use Rattle.native_filters.specs.declared.facts.Hook.TheVariants.{Snd, Rcv}
+use Rattle.packet_views.specs.declared.packet.Class.{Class}
+use Rattle.packet_views.specs.declared.packet.Head.{Head}
+use Rattle.tcp_emulation.specs.declared.segment.Side.{Side}
+use Rattle.app_api.specs.declared.events.TheConstants.{START, PKT_IN, REXMIT, NEW_DATA, ERROR, STATE, END, ORPHAN}
+use Rattle.flow_socket.specs.declared.answers.Sent.{Sent}
+use Rattle.flow_socket.specs.declared.answers.Got.{Got}
+use Rattle.builtin_events.specs.declared.raise.Raise.{Raise}
+use Rattle.builtin_events.specs.Facts.{sender_facts, receiver_facts, orphan_facts}
+
+-- a raise where a condition holds
+abbrev pub raise_if : Bool → Raise → List Raise
+raise_if holds raise = if holds then raise ∷ [] else []
+
+-- whether the stepped end has another state after its step
+abbrev pub is_changed : Facts → Bool
+is_changed f = not (f.old == f.new)
+
+-- at a packet's sender
+unfoldable pub sender_raises : Head → Side → ℕ → Bool → Sent → List Raise
+sender_raises h from nth first s =
+    let facts = sender_facts h from nth s in
+    let at : ℕ → Raise = λ event. record { hook = Snd; event = event; facts = facts } in
+    raise_if first (at START) ++ raise_if true (at PKT_IN) ++ raise_if (is_changed facts) (at STATE)
+
+-- at its receiver, if the packet wasn't dropped before
+unfoldable pub receiver_raises : Head → Side → ℕ → Got → List Raise
+receiver_raises h from nth g =
+    let facts = receiver_facts h from nth g in
+    let at : ℕ → Raise = λ event. record { hook = Rcv; event = event; facts = facts } in
+    raise_if true (at PKT_IN)
+    ++ raise_if (nat_lt 0 facts.rexlen) (at REXMIT)
+    ++ raise_if g.rose (at NEW_DATA)
+    ++ raise_if (not (facts.fault == 0)) (at ERROR)
+    ++ raise_if (is_changed facts) (at STATE)
+    ++ raise_if g.over (at END)
+
+-- of a packet that belongs to no connection
+unfoldable pub orphan_raises : Class → Option Head → List Raise
+orphan_raises class h = record { hook = Snd; event = ORPHAN; facts = orphan_facts class h } ∷ []

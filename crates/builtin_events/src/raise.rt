@@ -1,0 +1,76 @@
+//! Raises, and the short list of them that one phase gives.
+
+ghost use Rattle.std.specs.Prelude.{◌≡◌, ◌+◌, ◌<◌, ◌≤◌, [], ◌++◌, length};
+ghost use Rattle.builtin_events.specs.Raises.{raise_if};
+
+use native_filters::{Facts, Hook};
+use std::marker::Model;
+
+/// A built-in event that is raised.
+#[derive(Clone, Copy, Debug, PartialEq, Eq)]
+pub struct Raise {
+    /// The side at which it is raised.
+    pub hook: Hook,
+    /// The event's number.
+    pub event: u16,
+    /// The facts, the same for all raises of one phase.
+    pub facts: Facts,
+}
+
+/// How many events one phase may raise.
+const MOST: usize = 6;
+
+/// The raises of one phase in order, at most six. Contracts see the list of them.
+#[derive(Debug, Drop)]
+pub struct RaiseList {
+    items: [Raise; MOST],
+    count: usize,
+}
+
+impl Model for RaiseList {
+    ghost use Rattle.std.specs.Prelude.{◌≡◌, ◌≤◌, List, take, length};
+    ghost use Rattle.builtin_events.specs.declared.raise.Raise.{Raise};
+
+    ghost Value = { List Raise };
+
+    ghost view = { λ l. take l.count l.items };
+
+    ghost invariant = { λ l. (l.count ≤ 6) × (length l.items ≡ 6) };
+}
+
+impl RaiseList {
+    /// No raise.
+    pub(crate) fn new() -> RaiseList
+        ensures { result ≡ [] }
+    {
+        let blank = Raise {
+            hook: Hook::Snd,
+            event: 0,
+            facts: Facts::none(),
+        };
+        RaiseList {
+            items: [blank; MOST],
+            count: 0,
+        }
+    }
+
+    /// Adds a raise at the end where a condition holds.
+    pub(crate) fn add_if(&mut self, holds: bool, raise: Raise)
+        requires { length self.old < 6 }
+        ensures items { self.new ≡ self.old ++ raise_if holds raise }
+        ensures more { length self.new ≤ length self.old + 1 }
+    {
+        if holds {
+            self.items[self.count] = raise;
+            self.count += 1;
+        }
+    }
+
+    /// The raises in order.
+    pub fn as_slice(&self) -> &[Raise]
+        ensures items { result.now ≡ self.now }
+        ensures within { length self.now ≤ 6 }
+    {
+        &self.items[..self.count]
+    }
+}
