@@ -1,0 +1,36 @@
+-- Each answer is what the definition has at this place.
+use Rattle.std.proofs.Common.{◌≡◌, ◌≤◌, ◌<◌, ◌∙◌, length, drop, arith, rules}
+use Rattle.pcap_source.specs.Order.{number_in}
+use Rattle.pcap_source.proofs.Steps.{gives-End, gives-Tail, gives-TooMany, gives-TooLong, gives-cut, gives-Frame}
+use Rattle.pcap_source.proofs.capture.read_record.Goals as goal
+
+pub returns-then-filled-eq0-clause-gives : goal.returns-then-filled-eq0-clause-gives
+returns-then-filled-eq0-clause-gives g c = gives-End _ _ _ _ _ _ _ _ _ c.in_ok-filled.ensures.bytes (search rules) c.if-filled-eq0.true
+
+pub returns-then-filled-lt-HEAD-clause-gives : goal.returns-then-filled-lt-HEAD-clause-gives
+returns-then-filled-lt-HEAD-clause-gives g c =
+    gives-Tail _ _ _ _ _ _ _ _ _ c.in_ok-filled.ensures.bytes (search rules) (omega arith) c.if-filled-lt-HEAD.true
+
+pub returns-then-count-eq-RECORD_LIMIT-clause-gives :
+    goal.returns-then-count-eq-RECORD_LIMIT-clause-gives
+returns-then-count-eq-RECORD_LIMIT-clause-gives g c =
+    gives-TooMany _ _ _ _ _ _ _ _ _ c.in_ok-filled.ensures.bytes (search rules) (omega arith) (omega arith)
+
+pub returns-then-captured-gt-CAPTURED_LIMIT-clause-gives :
+    goal.returns-then-captured-gt-CAPTURED_LIMIT-clause-gives
+returns-then-captured-gt-CAPTURED_LIMIT-clause-gives g c =
+    gives-TooLong _ _ _ _ _ _ _ _ _ c.in_ok-filled.ensures.bytes (search rules) (omega arith) (omega arith) (search rules)
+
+pub returns-then-filled-len-clause-gives : goal.returns-then-filled-len-clause-gives
+returns-then-filled-len-clause-gives g c =
+    let sized : length c.read_bytes.new.bytes.items ≡ number_in c.args.order 4 (drop 8 c.fill.new.buf) = c.in_ok-filled-2.ensures.length ∙ c.u32_at-captured.ensures in
+    let short : c.in_ok-filled-2.filled < length c.read_bytes.new.bytes.items = omega (arith, c.len.ensures) in
+    gives-cut _ _ _ _ _ _ _ _ _ _ _ _ c.in_ok-filled.ensures.bytes (search rules) (omega arith) (omega arith) sized (search rules)
+    c.in_ok-filled-2.ensures.ok short
+
+pub returns-clause-gives : goal.returns-clause-gives
+returns-clause-gives g c =
+    let sized : length c.read_bytes.new.bytes.items ≡ number_in c.args.order 4 (drop 8 c.fill.new.buf) = c.in_ok-filled-2.ensures.length ∙ c.u32_at-captured.ensures in
+    let all : length c.read_bytes.new.bytes.items ≤ c.in_ok-filled-2.filled = omega (arith, c.len.ensures) in
+    rw (c.u32_at-frame-inside.ensures, c.u32_at-frame-inside-2.ensures, c.u32_at-frame-inside-3.ensures)
+    (gives-Frame _ _ _ _ _ _ _ _ _ _ c.in_ok-filled.ensures.bytes (search rules) (omega arith) (omega arith) sized (search rules) c.in_ok-filled-2.ensures.ok all)

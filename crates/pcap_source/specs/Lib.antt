@@ -1,0 +1,4 @@
+pub mod Captured
+pub mod Capture
+pub mod Order
+pub mod Reading

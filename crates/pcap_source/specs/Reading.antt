@@ -1,0 +1,83 @@
+-- What a capture that is read front to back gives, where its source tells the bytes that are left.
+use Rattle.std.specs.Prelude.{◌≡◌, ℕ, ◌+◌, ◌-◌, ◌<◌, ◌≤◌, Bool, true, List, [], length, drop, ⊤, Option, Some, None, Result, Ok, Err}
+use Rattle.pcap_source.specs.Captured.{Captured}
+use Rattle.pcap_source.specs.Capture.{Frames, ended, with_frame, frames_from, header_of, record_of, tail, too_long, too_many}
+use Rattle.pcap_source.specs.Order.{number_in}
+use Rattle.pcap_source.specs.declared.capture.TheConstants.{CAPTURED_LIMIT, RECORD_LIMIT}
+use Rattle.pcap_source.specs.declared.order.Order.{Order}
+use Rattle.pcap_source.specs.declared.capture.Step.{Step}
+use Rattle.pcap_source.specs.declared.capture.Step.TheVariants.{Frame, Tail, End}
+use Rattle.pcap_source.specs.declared.errors.NextError.{NextError}
+use Rattle.pcap_source.specs.declared.errors.NextError.TheVariants.{TooLong, TooMany, ReadFault, NoMemory}
+use Rattle.pcap_source.specs.declared.errors.OpenError.{OpenError}
+use Rattle.pcap_source.specs.declared.errors.OpenError.TheVariants.{ReadFault as OpenFault}
+
+-- an opened capture: its order of bytes, how many records were read, how many bytes were read up to here, and whether
+-- the next record may be read
+pub record CaptureState : Type 0 where
+  pub order : Order
+  pub count : ℕ
+  pub offset : ℕ
+  pub is_live : Bool
+
+-- a capture from which the next record may be read
+abbrev pub reading : Order → ℕ → ℕ → CaptureState
+reading order count offset = record { order = order; count = count; offset = offset; is_live = true }
+
+-- `next` left a capture behind the record in the frame
+pub record Moves (old new : CaptureState) (frame : Captured) : Type 0 where
+  pub order : new.order ≡ old.order
+  pub count : new.count ≡ old.count + 1
+  pub offset : new.offset ≡ old.offset + 16 + length frame.bytes
+  pub within : new.count ≤ RECORD_LIMIT
+
+-- the frame is what its head and its bytes say, and has as many bytes as its head tells
+pub record IsRecord (order : Order) (frame : Captured) : Type 0 where
+  pub head : length frame.head ≡ 16
+  pub whole : frame ≡ record_of order frame.head frame.bytes
+  pub told : length frame.bytes ≡ number_in order 4 (drop 8 frame.head)
+  pub bounded : length frame.bytes ≤ CAPTURED_LIMIT
+
+-- what holds where `next` took no record
+abbrev pub OnNoFrame : Result Step NextError → Type 0 → Type 0
+OnNoFrame (Ok Frame) P = ⊤
+OnNoFrame (Ok (Tail n)) P = P
+OnNoFrame (Ok End) P = P
+OnNoFrame (Err e) P = P
+
+-- what these bytes say from here on
+abbrev pub frames_at : CaptureState → List ℕ → Frames
+frames_at capture bytes = frames_from capture.order (RECORD_LIMIT - capture.count) capture.offset bytes
+
+-- `open` on these bytes, of which it leaves others
+abbrev pub OpensAs : List ℕ → List ℕ → Result CaptureState OpenError → Type 0
+OpensAs bytes after (Ok capture) = (header_of bytes ≡ Ok capture.order) × (after ≡ drop 24 bytes)
+OpensAs bytes after (Err OpenFault) = ⊤
+OpensAs bytes after (Err e) = header_of bytes ≡ Err e
+
+-- the same where the source tells its bytes
+abbrev pub OpenGives : Option (List ℕ) → Option (List ℕ) → Result CaptureState OpenError → Type 0
+OpenGives None new result = ⊤
+OpenGives (Some bytes) None result = ⊥
+OpenGives (Some bytes) (Some after) result = OpensAs bytes after result
+
+-- `next` where the bytes said `before`, then say `others`, and these are left
+abbrev pub StepsAs : Frames → Frames → List ℕ → Captured → Result Step NextError → Type 0
+StepsAs before others left frame (Ok Frame) = before ≡ with_frame frame others
+StepsAs before others left frame (Ok (Tail n)) = (before ≡ ended (tail n)) × (0 < n) × (left ≡ [])
+StepsAs before others left frame (Ok End) = (before ≡ ended (tail 0)) × (left ≡ [])
+StepsAs before others left frame (Err (TooLong offset)) = before ≡ ended (too_long offset)
+StepsAs before others left frame (Err (TooMany offset)) = before ≡ ended (too_many offset)
+StepsAs before others left frame (Err ReadFault) = ⊤
+StepsAs before others left frame (Err NoMemory) = ⊤
+
+-- the same where the source tells its bytes
+abbrev pub NextGives : CaptureState → CaptureState → Option (List ℕ) → Option (List ℕ) → Captured → Result Step NextError → Type 0
+NextGives old new None after frame result = ⊤
+NextGives old new (Some bytes) None frame result = ⊥
+NextGives old new (Some bytes) (Some after) frame result = StepsAs (frames_at old bytes) (frames_at new after) after frame result
+
+-- a source tells what is left in it
+abbrev pub IsTold : Option (List ℕ) → Type 0
+IsTold None = ⊥
+IsTold (Some bytes) = ⊤

@@ -1,0 +1,172 @@
+// Reading a capture front to back.
+ghost use Rattle.std.specs.Prelude.{◌≡◌, ◌+◌, ◌*◌, ◌<◌, ◌≤◌, ◌⊎◌, ◌↔◌, ◌++◌, ℕ, List, length, IsTrue, IfOk, OnOk, IfErr, IsErrOf, true, false};
+ghost use Rattle.std.specs.Io.KnownBytes.{Consumes};
+ghost use Rattle.mos_bytes.specs.Causes.{Rose};
+ghost use Rattle.mos_bytes.specs.Reads.{Fills};
+ghost use Rattle.pcap_source.specs.Reading.{CaptureState, IsRecord, IsTold, NextGives, reading};
+
+use crate::header::{HEADER, judge_header};
+use crate::{Frame, NextError, OpenError, Order};
+use mos_bytes::{Source, fill};
+use std::marker::Model;
+
+/// How many records a capture may have.
+pub const RECORD_LIMIT: u32 = 1_048_576;
+
+/// How many bytes of one packet may have been captured.
+pub const CAPTURED_LIMIT: u32 = 262_144;
+
+// How many bytes the head of a record has.
+const HEAD: usize = 16;
+
+/// What stands at the present place of a capture.
+#[derive(Clone, Copy, Debug, PartialEq, Eq)]
+pub enum Step {
+    /// A whole record, which is now in the frame.
+    Frame,
+    /// So many bytes, at least one, that are no whole record. They are ignored: a capture tool that was stopped leaves them.
+    Tail(u32),
+    /// Nothing: the capture ends with a whole record, or has none.
+    End,
+}
+
+/// A capture whose global header was read and accepted.
+#[derive(Debug, Drop)]
+pub struct Capture {
+    order: Order,
+    count: u32,
+    offset: u64,
+    is_live: bool,
+}
+
+impl Model for Capture {
+    ghost Value = { CaptureState };
+
+    ghost view = { λ c. record {
+      order = c.order;
+      count = c.count;
+      offset = c.offset;
+      is_live = c.is_live;
+    } };
+
+    ghost invariant = { λ c. (c.count ≤ 1048576) × (c.offset ≤ 24 + c.count * 262160) };
+}
+
+// Reads as many bytes as the source has left, at most `length` of them, and answers how many.
+fn read_bytes<S: Source>(
+    source: &mut S,
+    bytes: &mut Vec<u8>,
+    count: usize,
+) -> Result<usize, NextError>
+    ensures length { OnOk result (length bytes.new.items ≡ count) }
+    ensures ok { IfOk result (λ n. Fills (S.left source.old) (S.left source.new) n bytes.new.items) }
+    ensures told { IsTold (S.left source.old) → IsTold (S.left source.new) }
+    ensures fault { IsErrOf result NextError.ReadFault → Rose (S.faults source.old) (S.faults source.new) }
+    ensures faults { S.faults source.old ≤ S.faults source.new }
+    ensures only { IfErr result (λ e. (e ≡ NextError.ReadFault) ⊎ (e ≡ NextError.NoMemory)) }
+{
+    bytes.resize(count, 0)?;
+    Ok(fill(source, bytes)?)
+}
+
+// Reads the record at this offset into the frame.
+fn read_record<S: Source>(
+    order: Order,
+    count: u32,
+    offset: u64,
+    source: &mut S,
+    frame: &mut Frame,
+) -> Result<Step, NextError>
+    requires { count ≤ RECORD_LIMIT }
+    ensures gives { NextGives (reading order count offset) (reading order (count + 1) (offset + 16 + length frame.new.bytes))
+        (S.left source.old) (S.left source.new) frame.new result }
+    ensures few { result ≡ Ok Step.Frame → count < RECORD_LIMIT }
+    ensures whole { result ≡ Ok Step.Frame → IsRecord order frame.new }
+    ensures consumed { result ≡ Ok Step.Frame → Consumes (S.left source.old) (S.left source.new) (frame.new.head ++ frame.new.bytes) }
+    ensures fault { IsErrOf result NextError.ReadFault → Rose (S.faults source.old) (S.faults source.new) }
+    ensures faults { S.faults source.old ≤ S.faults source.new }
+{
+    let filled = fill(source, &mut frame.head)?;
+    if filled == 0 {
+        return Ok(Step::End);
+    }
+    if filled < HEAD {
+        return Ok(Step::Tail(filled as u32));
+    }
+    if count == RECORD_LIMIT {
+        return Err(NextError::TooMany(offset));
+    }
+    let captured = order.u32_at(&frame.head, 8);
+    if captured > CAPTURED_LIMIT {
+        return Err(NextError::TooLong(offset));
+    }
+    let filled = read_bytes(source, &mut frame.bytes, captured as usize)?;
+    if filled < frame.bytes.len() {
+        return Ok(Step::Tail((HEAD + filled) as u32));
+    }
+    frame.seconds = order.u32_at(&frame.head, 0);
+    frame.fraction = order.u32_at(&frame.head, 4);
+    frame.original = order.u32_at(&frame.head, 12);
+    Ok(Step::Frame)
+}
+
+impl Capture {
+    ghost use Rattle.pcap_source.specs.Reading.{Moves, OnNoFrame, OpenGives};
+
+    /// Reads the global header: at most 24 bytes. It takes no memory.
+    pub fn open<S: Source>(source: &mut S) -> Result<Capture, OpenError>
+        ensures gives { OpenGives (S.left source.old) (S.left source.new) result }
+        ensures start { IfOk result (λ c. (c.count ≡ 0) × (c.offset ≡ 24) × IsTrue c.is_live) }
+        ensures fault { IsErrOf result OpenError.ReadFault → Rose (S.faults source.old) (S.faults source.new) }
+        ensures faults { S.faults source.old ≤ S.faults source.new }
+        ensures at_most { (read : List ℕ) × Consumes (S.left source.old) (S.left source.new) read × (length read ≤ 24) }
+    {
+        let mut header = [0; HEADER];
+        let filled = fill(source, &mut header)?;
+        if filled < HEADER {
+            return Err(OpenError::ShortHeader(filled as u64));
+        }
+        Ok(Capture {
+            order: judge_header(&header)?,
+            count: 0,
+            offset: HEADER as u64,
+            is_live: true,
+        })
+    }
+
+    /// Reads the next record into the frame, whose memory it uses again. After any answer but `Step::Frame` the capture
+    /// is no longer live, and the frame holds nothing that counts.
+    pub fn next<S: Source>(&mut self, source: &mut S, frame: &mut Frame) -> Result<Step, NextError>
+        requires live { IsTrue self.old.is_live }
+        ensures gives { NextGives self.old self.new (S.left source.old) (S.left source.new) frame.new result }
+
+        // Only a whole record leaves the capture live.
+        ensures live { IsTrue self.new.is_live ↔ (result ≡ Ok Step.Frame) }
+        ensures moved { result ≡ Ok Step.Frame → Moves self.old self.new frame.new }
+        ensures stopped { OnNoFrame result (self.new ≡ record self.old { is_live = false }) }
+
+        // The frame holds what was read.
+        ensures whole { result ≡ Ok Step.Frame → IsRecord self.old.order frame.new }
+        ensures consumed { result ≡ Ok Step.Frame
+            → Consumes (S.left source.old) (S.left source.new) (frame.new.head ++ frame.new.bytes) }
+
+        ensures fault { IsErrOf result NextError.ReadFault → Rose (S.faults source.old) (S.faults source.new) }
+        ensures faults { S.faults source.old ≤ S.faults source.new }
+    {
+        self.is_live = false;
+        let step = read_record(self.order, self.count, self.offset, source, frame)?;
+        if step == Step::Frame {
+            self.count += 1;
+            self.offset += (HEAD + frame.bytes.len()) as u64;
+            self.is_live = true;
+        }
+        Ok(step)
+    }
+
+    /// Whether the next record may be read.
+    pub fn is_live(&self) -> bool
+        ensures { result ≡ self.now.is_live }
+    {
+        self.is_live
+    }
+}

@@ -1,0 +1,16 @@
+//! Captures in the classic pcap form: a global header of 24 bytes, then records one after another.
+//!
+//! The definitions in `specs/Capture.antt` cut the whole list of bytes. `Capture` reads the same front to back
+//! from a source, one record at a time, into one frame that is used again.
+#![tactic(auto)]
+
+mod capture;
+mod errors;
+mod frame;
+mod header;
+mod order;
+
+pub use capture::{CAPTURED_LIMIT, Capture, RECORD_LIMIT, Step};
+pub use errors::{CaptureFault, NextError, OpenError};
+pub use frame::Frame;
+pub use order::Order;
