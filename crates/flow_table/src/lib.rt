@@ -3,5 +3,9 @@
 #![tactic(auto)]
 
 pub mod endpoint;
+pub mod key;
+pub mod lane;
 
 pub use endpoint::Endpoint;
+pub use key::{Key, key_of};
+pub use lane::{lane_of, mix};

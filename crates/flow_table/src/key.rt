@@ -1,0 +1,77 @@
+//! The key of a connection.
+
+ghost use Rattle.std.specs.Prelude.{◌≡◌};
+ghost use Rattle.packet_views.specs.Packet.{head_of};
+ghost use Rattle.flow_table.specs.Endpoint.{source_of, destination_of};
+ghost use Rattle.flow_table.specs.Key.{key_between, key_of_head};
+
+use crate::endpoint::Endpoint;
+use packet_views::TcpView;
+use std::marker::Model;
+
+/// The two endpoints of a connection without an order, so that both directions have one key.
+/// Contracts see it as the pair of the lower and the higher endpoint.
+#[derive(Clone, Copy, Debug, PartialEq, Eq, Hash)]
+pub struct Key {
+    lo: Endpoint,
+    hi: Endpoint,
+}
+
+impl Model for Key {
+    ghost use Rattle.std.specs.Prelude.{◌≡◌, true};
+    ghost use Rattle.std.specs.Ordering.{is_le};
+    ghost use Rattle.flow_table.specs.Endpoint.{endpoint_cmp};
+    ghost use Rattle.flow_table.specs.Key.{Ends};
+
+    ghost Value = { Ends };
+
+    ghost view = { λ key. (key.lo, key.hi) };
+
+    ghost invariant = { λ key. is_le (endpoint_cmp key.lo key.hi) ≡ true };
+
+    ghost inverse = { λ ends. record { lo = ends.0; hi = ends.1 } };
+}
+
+impl Key {
+    ghost use Rattle.flow_table.specs.Key.{key_between};
+
+    /// The key of two endpoints, in either order.
+    #[tactic(auto, unfolding(crate::specs::Key::key_between))]
+    pub fn between(a: Endpoint, b: Endpoint) -> Key
+        ensures ends { result ≡ key_between a b }
+        ensures either { result ≡ key_between b a }
+    {
+        if a <= b {
+            Key { lo: a, hi: b }
+        } else {
+            Key { lo: b, hi: a }
+        }
+    }
+
+    /// The lower endpoint.
+    pub fn lo(&self) -> Endpoint
+        ensures { result ≡ self.now.0 }
+    {
+        self.lo
+    }
+
+    /// The higher endpoint.
+    pub fn hi(&self) -> Endpoint
+        ensures { result ≡ self.now.1 }
+    {
+        self.hi
+    }
+}
+
+/// The key of the connection that a segment belongs to, whichever direction it goes.
+#[tactic(auto, unfolding(crate::specs::Key::key_of_head))]
+pub fn key_of(segment: &TcpView<'_>) -> Key
+    ensures key { result ≡ key_of_head (head_of segment.now) }
+    ensures either { result ≡ key_between (destination_of (head_of segment.now)) (source_of (head_of segment.now)) }
+{
+    let head = segment.head();
+    Key::between(
+        Endpoint::source_of(&head),
+        Endpoint::destination_of(&head),
+    )
+}
