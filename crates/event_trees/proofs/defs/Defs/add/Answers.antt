@@ -1,0 +1,21 @@
+use Rattle.std.proofs.Common.{ap, ◌≡◌, ◌∙◌, ◌++◌, [], ◌∷◌, ℕ, List}
+use Rattle.event_trees.specs.declared.defs.Row.{Row}
+use Rattle.event_trees.specs.Defs.{IsAddable, found}
+use Rattle.event_trees.proofs.Rows.{rows-push_at, defs_of-push}
+use Rattle.event_trees.proofs.Paths.{found-push}
+use Rattle.event_trees.specs.Rows.{defs_of}
+use Rattle.event_trees.specs.declared.defs.EventDef.{EventDef}
+use Rattle.event_trees.proofs.defs.Defs.add.Goals as goal
+
+pub invariant_of-self-2 : goal.invariant_of-self-2
+invariant_of-self-2 c =
+    let row : Row = record { def = c.args.d; path = c.with-path.result } in
+    let addable : IsAddable c.args.self.now c.args.d = record { low = c.requires.low; high = c.requires.high; absent = c.requires.absent; parent = c.requires.parent; depth = c.requires.depth } in
+    rw c.in_ok-push.ensures.items (rows-push_at c.self.inside.rows.items c.args.self.now row c.self.view_is c.self.invariant addable (c.with-path.ensures ∙ ap (λ (p : List ℕ). p ++ c.args.d.number ∷ []) c.path_of.ensures.path))
+
+pub returns-clause-map : goal.returns-clause-map
+returns-clause-map c =
+    let row : Row = record { def = c.args.d; path = c.with-path.result } in
+    let new : defs_of c.push.new.self.items ≡ c.args.self.now ++ c.args.d ∷ [] =
+    ap defs_of c.in_ok-push.ensures.items ∙ (defs_of-push c.self.inside.rows.items row ∙ ap (λ (l : List EventDef). l ++ c.args.d ∷ []) c.self.view_is) in
+    λ event. ap (λ (l : List EventDef). found l event) new ∙ found-push c.args.self.now c.args.d event c.requires.absent

@@ -1,0 +1,149 @@
+//! The user-defined events.
+
+ghost use Rattle.std.specs.Prelude.{◌≡◌, ◌≤◌, ◌++◌, [], ◌∷◌, ◌↔◌, length, slice_index, IsTrue, IsSome, IfSome, OnOk, OnErr, None, Some, ℕ, ◌==◌, if◌then◌else◌};
+ghost use Rattle.std.specs.Option.{option_copied};
+ghost use Rattle.event_trees.specs.Defs.{found, is_root, is_event, path};
+ghost use Rattle.event_trees.specs.Rows.{row_of};
+
+use crate::path::EventPath;
+use filter_lang::Expr;
+use std::alloc::{AllocError, Global};
+use std::marker::Model;
+
+/// The first built-in event.
+const FIRST_ROOT: u16 = 256;
+
+/// The last built-in event.
+const LAST_ROOT: u16 = 264;
+
+/// A user-defined event: it is raised where its parent is raised and its filter is true.
+#[derive(Drop)]
+pub struct EventDef {
+    /// Its number, 1 to 255.
+    pub number: u16,
+    /// The number of the event above it: a built-in event, 256 to 264, or a user-defined one.
+    pub parent: u16,
+    /// What has to be true of the facts of a raise.
+    pub filter: Expr,
+}
+
+/// A definition, and the path of its event.
+#[derive(Drop)]
+struct Row {
+    def: EventDef,
+    path: EventPath,
+}
+
+/// The user-defined events by their numbers. Contracts see them in the order in which they were added.
+#[derive(Drop)]
+pub struct Defs {
+    rows: Vec<Row>,
+}
+
+impl Model for Defs {
+    ghost use Rattle.std.specs.Prelude.{List};
+    ghost use Rattle.event_trees.specs.declared.defs.EventDef.{EventDef};
+    ghost use Rattle.event_trees.specs.contracts.defs.EventDef as event_def;
+    ghost use Rattle.std.specs.Coded.{coded_list};
+
+    ghost Value = { List EventDef };
+
+    ghost coded = { coded_list event_def.the_row.coded };
+
+    ghost use Rattle.event_trees.specs.Rows.{defs_of, AreRows};
+
+    ghost view = { λ d. defs_of d.rows.items };
+
+    ghost invariant = { λ d. AreRows d.rows.items };
+}
+
+impl Defs {
+    ghost use Rattle.event_trees.specs.declared.defs.EventDef.{EventDef};
+    ghost use Rattle.event_trees.specs.EventPath.{path_of};
+
+    /// No user-defined events.
+    pub fn new(alloc: Global) -> Defs
+        ensures { result ≡ [] }
+    {
+        Defs {
+            rows: Vec::new(alloc),
+        }
+    }
+
+    /// Adds an event. An error is want of memory, and changes nothing.
+    pub fn add(&mut self, d: EventDef) -> Result<(), AllocError>
+        requires low { 1 ≤ d.number }
+        requires high { d.number ≤ 255 }
+        requires absent { found self.old d.number ≡ None }
+        requires parent { IsTrue (is_event self.old d.parent) }
+        requires depth { length (path self.old d.parent) ≤ 7 }
+        ensures ok { OnOk result (self.new ≡ self.old ++ d ∷ []) }
+        ensures map { OnOk result ((event : ℕ) → found self.new event
+            ≡ (if d.number == event then Some d else found self.old event)) }
+        ensures err { OnErr result (self.new ≡ self.old) }
+    {
+        let path = self.path_of(d.parent).with(d.number);
+        self.rows.push(Row { def: d, path })?;
+        Ok(())
+    }
+
+    /// The definition of an event.
+    pub fn find(&self, number: u16) -> Option<&EventDef>
+        ensures { option_copied result ≡ found self.now number }
+    {
+        match find_row(&self.rows, number) {
+            Some(row) => Some(&row.def),
+            None => None,
+        }
+    }
+
+    /// The root of an event and the length of its path. None where the event is neither a root nor there.
+    pub fn root_of(&self, event: u16) -> Option<(u16, u8)>
+        ensures none { IsSome result ↔ IsTrue (is_event self.now event) }
+        ensures root { IfSome result (λ r. r.0 ≡ slice_index (path self.now event) 0) }
+        ensures len { IfSome result (λ r. r.1 ≡ length (path self.now event)) }
+    {
+        if !self.is_event(event) {
+            return None;
+        }
+        let path = self.path_of(event);
+        Some((path.events()[0], path.len()))
+    }
+
+    /// What the paths are: a built-in event is its own root, and a defined one stands under its parent.
+    pub fn paths(&self)
+        ensures root { (event : ℕ) → found self.now event ≡ None → path self.now event ≡ event ∷ [] }
+        ensures defined { (event : ℕ) (d : EventDef) → found self.now event ≡ Some d →
+            path self.now event ≡ path self.now d.parent ++ event ∷ [] }
+        ensures len { (event : ℕ) → IsTrue (is_event self.now event) → length (path self.now event) ≤ 8 }
+    {
+        let _rows = &self.rows;
+    }
+
+    /// Whether a number is a built-in event or a defined one.
+    pub(crate) fn is_event(&self, event: u16) -> bool
+        ensures { result ≡ is_event self.now event }
+    {
+        (FIRST_ROOT..=LAST_ROOT).contains(&event) || self.find(event).is_some()
+    }
+
+    /// The path of an event.
+    pub(crate) fn path_of(&self, event: u16) -> EventPath
+        requires { IsTrue (is_event self.now event) }
+        ensures path { path_of result ≡ path self.now event }
+        ensures short { length (path self.now event) ≤ 8 }
+        ensures long { 1 ≤ length (path self.now event) }
+    {
+        match find_row(&self.rows, event) {
+            Some(row) => row.path,
+            None => EventPath::empty().with(event),
+        }
+    }
+}
+
+/// The row of an event.
+fn find_row(rows: &[Row], number: u16) -> Option<&Row>
+    ensures { option_copied result ≡ row_of rows.now number }
+{
+    rows.iter().find(|row| row.def.number == number)
+}

@@ -1,0 +1,7 @@
+//! User-defined events, the tree of a connection's registrations, and the walk that gives those that fire.
+#![tactic(auto)]
+
+mod defs;
+mod path;
+
+pub use defs::{Defs, EventDef};
