@@ -1,7 +1,7 @@
 // Reading a capture front to back.
 ghost use Rattle.std.specs.Prelude.{◌≡◌, ◌+◌, ◌*◌, ◌<◌, ◌≤◌, ◌⊎◌, ◌↔◌, ◌++◌, ℕ, List, length, IsTrue, IfOk, OnOk, IfErr, IsErrOf, true, false};
 ghost use Rattle.std.specs.Io.KnownBytes.{Consumes};
-ghost use Rattle.mos_bytes.specs.Causes.{Rose};
+ghost use Rattle.mos_bytes.specs.Causes.{HasCauseOf};
 ghost use Rattle.mos_bytes.specs.Reads.{Fills};
 ghost use Rattle.pcap_source.specs.Reading.{CaptureState, IsRecord, IsTold, NextGives, reading};
 
@@ -61,8 +61,7 @@ fn read_bytes<S: Source>(
     ensures length { OnOk result (length bytes.new.items ≡ count) }
     ensures ok { IfOk result (λ n. Fills (S.left source.old) (S.left source.new) n bytes.new.items) }
     ensures told { IsTold (S.left source.old) → IsTold (S.left source.new) }
-    ensures fault { IsErrOf result NextError.ReadFault → Rose (S.faults source.old) (S.faults source.new) }
-    ensures faults { S.faults source.old ≤ S.faults source.new }
+    ensures cause { HasCauseOf (S.faults source.old) (S.faults source.new) (IsErrOf result NextError.ReadFault) }
     ensures only { IfErr result (λ e. (e ≡ NextError.ReadFault) ⊎ (e ≡ NextError.NoMemory)) }
 {
     bytes.resize(count, 0)?;
@@ -83,8 +82,7 @@ fn read_record<S: Source>(
     ensures few { result ≡ Ok Step.Frame → count < RECORD_LIMIT }
     ensures whole { result ≡ Ok Step.Frame → IsRecord order frame.new }
     ensures consumed { result ≡ Ok Step.Frame → Consumes (S.left source.old) (S.left source.new) (frame.new.head ++ frame.new.bytes) }
-    ensures fault { IsErrOf result NextError.ReadFault → Rose (S.faults source.old) (S.faults source.new) }
-    ensures faults { S.faults source.old ≤ S.faults source.new }
+    ensures cause { HasCauseOf (S.faults source.old) (S.faults source.new) (IsErrOf result NextError.ReadFault) }
 {
     let filled = fill(source, &mut frame.head)?;
     if filled == 0 {
@@ -117,8 +115,7 @@ impl Capture {
     pub fn open<S: Source>(source: &mut S) -> Result<Capture, OpenError>
         ensures gives { OpenGives (S.left source.old) (S.left source.new) result }
         ensures start { IfOk result (λ c. (c.count ≡ 0) × (c.offset ≡ 24) × IsTrue c.is_live) }
-        ensures fault { IsErrOf result OpenError.ReadFault → Rose (S.faults source.old) (S.faults source.new) }
-        ensures faults { S.faults source.old ≤ S.faults source.new }
+        ensures cause { HasCauseOf (S.faults source.old) (S.faults source.new) (IsErrOf result OpenError.ReadFault) }
         ensures at_most { (read : List ℕ) × Consumes (S.left source.old) (S.left source.new) read × (length read ≤ 24) }
     {
         let mut header = [0; HEADER];
@@ -150,8 +147,7 @@ impl Capture {
         ensures consumed { result ≡ Ok Step.Frame
             → Consumes (S.left source.old) (S.left source.new) (frame.new.head ++ frame.new.bytes) }
 
-        ensures fault { IsErrOf result NextError.ReadFault → Rose (S.faults source.old) (S.faults source.new) }
-        ensures faults { S.faults source.old ≤ S.faults source.new }
+        ensures cause { HasCauseOf (S.faults source.old) (S.faults source.new) (IsErrOf result NextError.ReadFault) }
     {
         self.is_live = false;
         let step = read_record(self.order, self.count, self.offset, source, frame)?;
