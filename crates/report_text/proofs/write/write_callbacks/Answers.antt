@@ -1,0 +1,14 @@
+use Rattle.report_text.proofs.Pieces.{callbacks_text-drop}
+use Rattle.report_text.proofs.Writing.{Writing-more, Writing-failed, WriteAdds-err}
+use Rattle.report_text.proofs.write.write_callbacks.Goals as goal
+
+pub loop-entry-preserved : goal.loop-entry-preserved
+loop-entry-preserved g c =
+    let next = callbacks_text-drop c.args.entries.now c.loop-entry.entry-index c.entry-item.result c.loop-entry-test.true c.entry-item.is in
+    Writing-more g.O.Sink.taken g.O.Sink.faults _ _ _ _ _ _ _ c.loop-entry.invariant next c.in_ok-write_callback.ensures.text c.write_callback.ensures.cause.later
+
+pub returns-in_err-write_callback-clause-text : goal.returns-in_err-write_callback-clause-text
+returns-in_err-write_callback-clause-text g c =
+    let next = callbacks_text-drop c.args.entries.now c.loop-entry.entry-index c.entry-item.result c.loop-entry-test.true c.entry-item.is in
+    WriteAdds-err _ _ _ _ c.from_residual.ensures.0
+    (Writing-failed g.O.Sink.taken g.O.Sink.faults _ _ _ _ _ _ _ c.loop-entry.invariant next c.in_err-write_callback.ensures.text)

@@ -1,0 +1,13 @@
+use Rattle.mos_bytes.proofs.Writes.{AppendsFront-more}
+use Rattle.report_text.specs.Report.{report_text}
+use Rattle.report_text.proofs.Writing.{WriteAdds-err, WriteAdds-after}
+use Rattle.report_text.proofs.write.write_report.Goals as goal
+
+pub returns-in_err-write_records-clause-text : goal.returns-in_err-write_records-clause-text
+unfolding report_text
+returns-in_err-write_records-clause-text g c =
+    WriteAdds-err _ _ _ _ c.from_residual.ensures.0 (AppendsFront-more _ _ _ _ c.in_err-write_records.ensures.text)
+
+pub returns-clause-text : goal.returns-clause-text
+unfolding report_text
+returns-clause-text g c = WriteAdds-after _ _ _ _ _ _ c.in_ok-write_records.ensures.text c.write_totals.ensures.text

@@ -1,0 +1,10 @@
+//! The report of a run and its exact text: one line for each record, each callback and the totals.
+#![tactic(auto)]
+
+mod lines;
+pub mod record;
+mod words;
+pub mod write;
+
+pub use record::{Record, RecordKind, RecordList, Totals};
+pub use write::{TextError, write_report, write_totals};

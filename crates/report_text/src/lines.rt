@@ -1,0 +1,71 @@
+//! The lines of a report, each put behind what a text already holds.
+
+ghost use Rattle.std.specs.Prelude.{◌≡◌, ◌++◌, OnOk, string_bytes};
+ghost use Rattle.report_text.specs.Lines.{kind_text, first_line, callback_line, totals_line};
+
+use crate::record::{Record, RecordKind, Totals};
+use crate::words::{class_name, hook_name, push_endpoint, push_event, push_seen};
+use app_api::Entry;
+use std::alloc::{AllocError, Global};
+use std::fmt::Write;
+
+fn push_kind(line: &mut String, name: u64, kind: &RecordKind) -> Result<(), AllocError>
+    ensures { OnOk result (string_bytes line.new ≡ string_bytes line.old ++ kind_text name kind.now) }
+{
+    match kind {
+        RecordKind::Conn { client, server } => {
+            write!(line, "conn {name} ")?;
+            push_endpoint(line, client)?;
+            line.push_str(" > ")?;
+            push_endpoint(line, server)
+        }
+        RecordKind::Orphan { class } => {
+            let class = class_name(*class);
+            write!(line, "orphan {name} {class}")
+        }
+    }
+}
+
+#[tactic(auto, unfolding(crate::specs::Lines::first_line))]
+pub(crate) fn push_first_line(line: &mut String, of: &Record) -> Result<(), AllocError>
+    ensures { OnOk result (string_bytes line.new ≡ string_bytes line.old ++ first_line of.now) }
+{
+    push_kind(line, of.name, &of.kind)?;
+    let version = of.version;
+    writeln!(line, " v {version}")
+}
+
+#[tactic(auto, unfolding(crate::specs::Lines::callback_line))]
+pub(crate) fn push_callback(
+    alloc: Global,
+    line: &mut String,
+    entry: &Entry,
+) -> Result<(), AllocError>
+    ensures { OnOk result (string_bytes line.new ≡ string_bytes line.old ++ callback_line entry.now) }
+{
+    let index = entry.index;
+    let hook = hook_name(entry.hook);
+    let reg = entry.reg;
+    write!(line, "cb {index} {hook} ")?;
+    push_event(line, entry.event)?;
+    write!(line, " {reg}")?;
+    push_seen(alloc, line, &entry.seen)?;
+    line.push_str("\n")
+}
+
+#[tactic(auto, unfolding(crate::specs::Lines::totals_line))]
+pub(crate) fn push_totals(line: &mut String, totals: &Totals) -> Result<(), AllocError>
+    ensures { OnOk result (string_bytes line.new ≡ string_bytes line.old ++ totals_line totals.now) }
+{
+    let Totals {
+        packets,
+        records,
+        callbacks,
+        drops,
+        tail,
+    } = *totals;
+    writeln!(
+        line,
+        "end packets {packets} records {records} callbacks {callbacks} drops {drops} tail {tail}"
+    )
+}

@@ -1,0 +1,149 @@
+//! Writes a report to a sink, each line by one call.
+
+ghost use Rattle.std.specs.Prelude.{◌≡◌, IsErrOf};
+ghost use Rattle.mos_bytes.specs.Causes.{HasCauseOf};
+ghost use Rattle.mos_bytes.specs.Writes.{WriteAdds};
+ghost use Rattle.report_text.specs.Lines.{first_line, callback_line, totals_line};
+ghost use Rattle.report_text.specs.Report.{callbacks_text, record_text, records_text, report_text};
+
+use crate::lines::{push_callback, push_first_line, push_totals};
+use crate::record::{Record, Totals};
+use app_api::Entry;
+use mos_bytes::{Failed, Sink};
+use std::alloc::{AllocError, Global};
+use thiserror::Error;
+
+/// Why a text was not written to its end. The sink then holds a front of it.
+#[derive(Clone, Copy, Debug, PartialEq, Eq, Error)]
+pub enum TextError {
+    /// The sink failed, and has counted it.
+    #[error("write fault")]
+    WriteFault,
+    /// Memory for a line was refused.
+    #[error("no memory")]
+    NoMemory,
+}
+
+impl From<Failed> for TextError {
+    ghost use Rattle.report_text.specs.declared.write.TextError.TheVariants.{WriteFault};
+
+    ghost from_gives = { λ _ e. e ≡ WriteFault };
+
+    fn from(_: Failed) -> Self {
+        TextError::WriteFault
+    }
+}
+
+impl From<AllocError> for TextError {
+    ghost use Rattle.report_text.specs.declared.write.TextError.TheVariants.{NoMemory};
+
+    ghost from_gives = { λ _ e. e ≡ NoMemory };
+
+    fn from(_: AllocError) -> Self {
+        TextError::NoMemory
+    }
+}
+
+// Writes one callback's line. `line` is room that is used again.
+fn write_callback<O: Sink>(
+    alloc: Global,
+    out: &mut O,
+    line: &mut String,
+    entry: &Entry,
+) -> Result<(), TextError>
+    ensures text { WriteAdds (O.taken out.old) (O.taken out.new) result (callback_line entry.now) }
+    ensures cause { HasCauseOf (O.faults out.old) (O.faults out.new) (IsErrOf result TextError.WriteFault) }
+{
+    line.clear();
+    push_callback(alloc, line, entry)?;
+    out.write_all(line.as_bytes())?;
+    Ok(())
+}
+
+fn write_first_line<O: Sink>(
+    out: &mut O,
+    line: &mut String,
+    of: &Record,
+) -> Result<(), TextError>
+    ensures text { WriteAdds (O.taken out.old) (O.taken out.new) result (first_line of.now) }
+    ensures cause { HasCauseOf (O.faults out.old) (O.faults out.new) (IsErrOf result TextError.WriteFault) }
+{
+    line.clear();
+    push_first_line(line, of)?;
+    out.write_all(line.as_bytes())?;
+    Ok(())
+}
+
+fn write_callbacks<O: Sink>(
+    alloc: Global,
+    out: &mut O,
+    line: &mut String,
+    entries: &[Entry],
+) -> Result<(), TextError>
+    ensures text { WriteAdds (O.taken out.old) (O.taken out.new) result (callbacks_text entries.now) }
+    ensures cause { HasCauseOf (O.faults out.old) (O.faults out.new) (IsErrOf result TextError.WriteFault) }
+{
+    for entry in entries {
+        write_callback(alloc, out, line, entry)?;
+    }
+    Ok(())
+}
+
+fn write_record<O: Sink>(
+    alloc: Global,
+    out: &mut O,
+    line: &mut String,
+    of: &Record,
+) -> Result<(), TextError>
+    ensures text { WriteAdds (O.taken out.old) (O.taken out.new) result (record_text of.now) }
+    ensures cause { HasCauseOf (O.faults out.old) (O.faults out.new) (IsErrOf result TextError.WriteFault) }
+{
+    write_first_line(out, line, of)?;
+    write_callbacks(alloc, out, line, of.entries.as_slice())
+}
+
+fn write_records<O: Sink>(
+    alloc: Global,
+    out: &mut O,
+    line: &mut String,
+    records: &[Record],
+) -> Result<(), TextError>
+    ensures text { WriteAdds (O.taken out.old) (O.taken out.new) result (records_text records.now) }
+    ensures cause { HasCauseOf (O.faults out.old) (O.faults out.new) (IsErrOf result TextError.WriteFault) }
+{
+    for of in records {
+        write_record(alloc, out, line, of)?;
+    }
+    Ok(())
+}
+
+/// Writes the last line of a report. At an `Err` the sink holds a front of it.
+pub fn write_totals<O: Sink>(
+    alloc: Global,
+    out: &mut O,
+    totals: &Totals,
+) -> Result<(), TextError>
+    ensures text { WriteAdds (O.taken out.old) (O.taken out.new) result (totals_line totals.now) }
+    ensures cause { HasCauseOf (O.faults out.old) (O.faults out.new) (IsErrOf result TextError.WriteFault) }
+{
+    let mut line = String::new(alloc);
+    push_totals(&mut line, totals)?;
+    out.write_all(line.as_bytes())?;
+    Ok(())
+}
+
+/// Writes a report: each record with its callbacks, in order, and then the totals. At an `Err` the sink holds a front
+/// of the text.
+pub fn write_report<O: Sink>(
+    alloc: Global,
+    out: &mut O,
+    records: &[Record],
+    totals: &Totals,
+) -> Result<(), TextError>
+    ensures text { WriteAdds (O.taken out.old) (O.taken out.new) result (report_text records.now totals.now) }
+    ensures cause { HasCauseOf (O.faults out.old) (O.faults out.new) (IsErrOf result TextError.WriteFault) }
+{
+    let mut line = String::new(alloc);
+    write_records(alloc, out, &mut line, records)?;
+    write_totals(alloc, out, totals)
+}
