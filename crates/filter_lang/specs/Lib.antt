@@ -1,3 +1,5 @@
 pub mod Shape
 pub mod ShapeCode
 pub mod Meaning
+pub mod Tokens
+pub mod Grammar

@@ -4,7 +4,9 @@
 pub mod error;
 pub mod evaluation;
 pub mod expr;
+pub mod lexeme;
 pub mod term;
+pub mod token;
 
 pub use error::FilterError;
 pub use evaluation::eval;

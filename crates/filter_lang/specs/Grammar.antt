@@ -1,0 +1,173 @@
+-- The grammar of filters, as what may stand at each place of a text:
+--
+--     expr = conj *( "||" conj )      conj = unit *( "&&" unit )
+--     unit = "!" unit | "(" expr ")" | "true" | "false" | "native" number | sum op sum
+--     sum = atom *( ( "+" | "-" | "%" ) atom )      atom = fact name | number | dotted address
+--
+-- A place is what stands before it. For each place and token, `next` says whether a filter goes on with
+-- that token, and what stands before the next one; else why not. The first token with which none goes on
+-- is refused, at its offset.
+use Rattle.std.specs.Prelude.{ℕ, zero, suc, ◌+◌, Bool, if◌then◌else◌, nat_lt, List, [], ◌∷◌, ◌++◌, Result, Ok, Err}
+use Rattle.filter_lang.specs.declared.error.FilterError.{FilterError}
+use Rattle.filter_lang.specs.declared.error.FilterError.TheVariants.{Syntax, UnknownName, BigNumber, TooDeep}
+use Rattle.filter_lang.specs.declared.term.Atom.{Atom}
+use Rattle.filter_lang.specs.declared.term.Atom.TheVariants.{Fact, Number}
+use Rattle.filter_lang.specs.declared.term.Join.{Join}
+use Rattle.filter_lang.specs.declared.term.Op.{Op}
+use Rattle.filter_lang.specs.declared.term.Sum.{Sum}
+use Rattle.filter_lang.specs.declared.token.Token.{Token}
+use Rattle.filter_lang.specs.declared.token.Token.TheVariants.{Bang, Open, Close, Both, Either, Joins, Compares, TrueWord, FalseWord, NativeWord, FactName, UnknownWord, Numeral, BigNumeral, Quad, Bad, End}
+use Rattle.filter_lang.specs.Shape.{Shape, Always, Never, Ask, Compare, Negate, AllOf, AnyOf, Shapes, none, more}
+use Rattle.filter_lang.specs.Tokens.{Placed, tokens}
+
+abbrev pub chain : List Shape → Shapes
+chain [] = none
+chain (s ∷ ss) = more s (chain ss)
+
+-- a chain is one node with all its members, and a single member is no chain
+abbrev pub all_of : List Shape → Shape
+all_of (s ∷ []) = s
+all_of ss = AllOf (chain ss)
+
+abbrev pub any_of : List Shape → Shape
+any_of (s ∷ []) = s
+any_of ss = AnyOf (chain ss)
+
+abbrev pub negated : ℕ → Shape → Shape
+negated zero s = s
+negated (suc n) s = negated n (Negate s)
+
+-- what stands before a place within its parentheses: the members of the `||` chain, those of the `&&`
+-- chain after them, and how many `!` stand open
+pub record Level : Type 0 where
+  pub conjs : List Shape
+  pub units : List Shape
+  pub bangs : ℕ
+
+abbrev pub behind_conjs : List Shape → Level
+behind_conjs cs = record { conjs = cs; units = []; bangs = 0 }
+
+abbrev pub fresh : Level
+fresh = behind_conjs []
+
+abbrev pub with_bang : Level → Level
+with_bang l = record { conjs = l.conjs; units = l.units; bangs = suc l.bangs }
+
+abbrev pub with_unit : Shape → Level → Level
+with_unit s l = record { conjs = l.conjs; units = l.units ++ negated l.bangs s ∷ []; bangs = 0 }
+
+abbrev pub with_conj : Level → List Shape
+with_conj l = l.conjs ++ all_of l.units ∷ []
+
+-- how many `!` and `(` stand open in the levels round a place
+abbrev pub opened : List Level → ℕ
+opened [] = 0
+opened (l ∷ ls) = l.bangs + 1 + opened ls
+
+-- the side of a comparison: on its right, with what stands on its left
+pub data Side : Type 0 where
+  left : Side
+  right : (sum : Sum) → (op : Op) → Side
+
+-- each place with its level and the levels round it, the innermost first
+pub data Place : Type 0 where
+  -- a unit begins
+  unit_place : Level → List Level → Place
+  -- the number of a native filter
+  native_place : Level → List Level → Place
+  -- an atom, which makes a sum with what stands before it
+  atom_place : Side → (Atom → Sum) → Level → List Level → Place
+  -- behind an atom
+  behind_atom : Side → Sum → Level → List Level → Place
+  -- behind a unit that goes no further
+  behind_unit : Level → List Level → Place
+
+-- what follows a token: a place, the end of the filter, or a refusal
+pub data Next : Type 0 where
+  go : Place → Next
+  done : Shape → Next
+  stop : (ℕ → FilterError) → Next
+
+-- the sum of one atom, and a sum with one more
+abbrev pub alone : Atom → Sum
+alone a = record { first = a; rest = [] }
+
+abbrev pub joined : Sum → Join → Atom → Sum
+joined s j a = record { first = s.first; rest = s.rest ++ record { join = j; atom = a } ∷ [] }
+
+-- at most 32 constructs are open at a place
+abbrev pub opening : ℕ → Place → Next
+opening count p = if nat_lt count 32 then go p else stop TooDeep
+
+-- where an atom may stand
+abbrev pub next_atom : Side → (Atom → Sum) → Level → List Level → Token → Next
+next_atom side f l os (FactName place) = go (behind_atom side (f (Fact place)) l os)
+next_atom side f l os (Numeral n) = go (behind_atom side (f (Number n)) l os)
+next_atom side f l os (Quad n) = go (behind_atom side (f (Number n)) l os)
+next_atom side f l os BigNumeral = stop BigNumber
+next_atom side f l os UnknownWord = stop UnknownName
+next_atom side f l os _ = stop Syntax
+
+-- where a unit may stand
+abbrev pub next_unit : Level → List Level → Token → Next
+next_unit l os Bang = opening (l.bangs + opened os) (unit_place (with_bang l) os)
+next_unit l os Open = opening (l.bangs + opened os) (unit_place fresh (l ∷ os))
+next_unit l os TrueWord = go (behind_unit (with_unit Always l) os)
+next_unit l os FalseWord = go (behind_unit (with_unit Never l) os)
+next_unit l os NativeWord = go (native_place l os)
+next_unit l os t = next_atom left alone l os t
+
+-- where the number of a native filter may stand
+abbrev pub next_native : Level → List Level → Token → Next
+next_native l os (Numeral n) = if nat_lt n 6 then go (behind_unit (with_unit (Ask n) l) os) else stop UnknownName
+next_native l os BigNumeral = stop BigNumber
+next_native l os _ = stop Syntax
+
+-- behind a whole expression, with the levels round it
+abbrev pub behind_expr : Shape → List Level → Token → Next
+behind_expr s (o ∷ os) Close = go (behind_unit (with_unit s o) os)
+behind_expr s [] End = done s
+behind_expr s os _ = stop Syntax
+
+-- behind the members of an `||` chain
+abbrev pub behind_conj : List Shape → List Level → Token → Next
+behind_conj cs os Either = go (unit_place (behind_conjs cs) os)
+behind_conj cs os t = behind_expr (any_of cs) os t
+
+-- behind a unit
+abbrev pub next_behind : Level → List Level → Token → Next
+next_behind l os Both = go (unit_place l os)
+next_behind l os t = behind_conj (with_conj l) os t
+
+-- behind a sum that goes no further
+abbrev pub behind_sum : Side → Sum → Level → List Level → Token → Next
+behind_sum left s l os (Compares op) = go (atom_place (right s op) alone l os)
+behind_sum left s l os _ = stop Syntax
+behind_sum (right r op) s l os t = next_behind (with_unit (Compare r op s) l) os t
+
+-- behind an atom
+abbrev pub next_in_sum : Side → Sum → Level → List Level → Token → Next
+next_in_sum side s l os (Joins j) = go (atom_place side (joined s j) l os)
+next_in_sum side s l os t = behind_sum side s l os t
+
+abbrev pub next : Place → Token → Next
+next (unit_place l os) t = next_unit l os t
+next (native_place l os) t = next_native l os t
+next (atom_place side f l os) t = next_atom side f l os t
+next (behind_atom side s l os) t = next_in_sum side s l os t
+next (behind_unit l os) t = next_behind l os t
+
+-- goes on at a place, or ends; a refusal is made at the token's offset
+abbrev pub steps : (Place → Result Shape FilterError) → ℕ → Next → Result Shape FilterError
+steps k at (go p) = k p
+steps k at (done s) = Ok s
+steps k at (stop refusal) = Err (refusal at)
+
+-- the filter of the tokens from a place on; nothing follows the end
+abbrev pub read : List Placed → Place → Result Shape FilterError
+read [] p = Err (Syntax 0)
+read (t ∷ ts) p = steps (read ts) t.at (next p t.token)
+
+-- the filter that a text is, or why it is none
+abbrev pub filter : List ℕ → Result Shape FilterError
+filter text = read (tokens text) (unit_place fresh [])

@@ -1,0 +1,342 @@
+//! The token at the front of a text.
+
+ghost use Rattle.std.specs.Prelude.{◌≡◌, ◌≤◌, ◌<◌, ◌&&◌, ◌^◌, ◌==◌, slice_index, take, true, false, length, IsTrue, MatchOption};
+ghost use Rattle.std.specs.Char.{digit_value, is_ascii_digit, is_ascii_hexdigit, is_ascii_lowercase};
+ghost use Rattle.std.specs.List.{prefix_len};
+ghost use Rattle.std.specs.Str.{bytes_eq};
+ghost use Rattle.std.specs.Str.Parse.{digits_value};
+ghost use Rattle.filter_lang.specs.Tokens.{is_blank, lexeme, fact_token, fact_names, word_token, name_at, numeral_token, begins_hex, hex_at, is_part, last_part_len, is_dotted, IsPart, IsDottedPart, IsLastPart, quad_from, decimal_at, number_at, short_sign_at, sign_at, token_at};
+
+use crate::term::{Join, Op};
+use crate::token::Token;
+
+/// A token at the front of a text.
+#[derive(Clone, Copy, PartialEq, Eq, Debug)]
+pub struct Lexeme {
+    /// The token.
+    pub token: Token,
+    /// How many bytes it has.
+    pub len: usize,
+}
+
+impl Lexeme {
+    ghost use Rattle.filter_lang.specs.Tokens.{lexeme};
+
+    /// A token of so many bytes.
+    fn new(token: Token, len: usize) -> Lexeme
+        ensures { result ≡ lexeme token len }
+    {
+        Lexeme { token, len }
+    }
+}
+
+/// The token at the front of a text that begins with no blank, the longest that fits.
+pub(crate) fn token_at(bytes: &[u8]) -> Lexeme
+    requires { 0 < length bytes.now }
+    ensures value { result ≡ token_at bytes.now }
+    ensures some { 0 < result.len }
+    ensures within { result.len ≤ length bytes.now }
+{
+    if bytes[0].is_ascii_digit() {
+        number_at(bytes)
+    } else if bytes[0].is_ascii_lowercase() {
+        name_at(bytes)
+    } else {
+        sign_at(bytes)
+    }
+}
+
+/// How many blanks and tabs the text begins with.
+pub(crate) fn blanks(bytes: &[u8]) -> usize
+    ensures { result ≡ prefix_len is_blank bytes.now }
+{
+    bytes.iter().take_while(|b| **b == b' ' || **b == b'\t').count()
+}
+
+/// How many decimal digits the text begins with.
+fn digits(bytes: &[u8]) -> usize
+    ensures { result ≡ prefix_len is_ascii_digit bytes.now }
+{
+    bytes.iter().take_while(|b| b.is_ascii_digit()).count()
+}
+
+/// How many hexadecimal digits the text begins with.
+fn hex_digits(bytes: &[u8]) -> usize
+    ensures { result ≡ prefix_len is_ascii_hexdigit bytes.now }
+{
+    bytes.iter().take_while(|b| b.is_ascii_hexdigit()).count()
+}
+
+/// How many lower-case letters the text begins with.
+fn letters(bytes: &[u8]) -> usize
+    ensures { result ≡ prefix_len is_ascii_lowercase bytes.now }
+{
+    bytes.iter().take_while(|b| b.is_ascii_lowercase()).count()
+}
+
+/// The name at the front of the text.
+fn name_at(bytes: &[u8]) -> Lexeme
+    requires { 0 < prefix_len is_ascii_lowercase bytes.now }
+    ensures value { result ≡ name_at bytes.now }
+    ensures some { 0 < result.len }
+    ensures within { result.len ≤ length bytes.now }
+{
+    let len = letters(bytes);
+    Lexeme::new(word_token(&bytes[..len]), len)
+}
+
+/// The token that a name is.
+fn word_token(name: &[u8]) -> Token
+    ensures { result ≡ word_token name.now }
+{
+    if is(name, "true") {
+        return Token::TrueWord;
+    }
+    if is(name, "false") {
+        return Token::FalseWord;
+    }
+    if is(name, "native") {
+        return Token::NativeWord;
+    }
+    if is(name, "has") {
+        return Token::Compares(Op::Has);
+    }
+    fact_token(name)
+}
+
+/// Whether the name is this word.
+fn is(name: &[u8], word: &str) -> bool
+    ensures { result ≡ bytes_eq name.now word.now }
+{
+    name == word.as_bytes()
+}
+
+/// The names of the facts, in the order of their places.
+pub(crate) const FACTS: [&str; 20] = [
+    "dir", "nth", "src", "dst", "sport", "dport", "seq", "ack", "flags", "win", "len", "ttl", "old",
+    "new", "fresh", "rexlen", "rexdiff", "fault", "next", "class",
+];
+
+/// The token of a name that is no word of the grammar.
+fn fact_token(name: &[u8]) -> Token
+    ensures { result ≡ fact_token 0 fact_names name.now }
+{
+    for place in 0..FACTS.len() {
+        if is(name, FACTS[place]) {
+            return Token::FactName(place as u8);
+        }
+    }
+    Token::UnknownWord
+}
+
+/// The number, or the dotted address, at the front of the text.
+fn number_at(bytes: &[u8]) -> Lexeme
+    requires { 0 < prefix_len is_ascii_digit bytes.now }
+    ensures value { result ≡ number_at bytes.now }
+    ensures some { 0 < result.len }
+    ensures within { result.len ≤ length bytes.now }
+{
+    if begins_hex(bytes) {
+        hex_at(bytes)
+    } else {
+        decimal_at(bytes)
+    }
+}
+
+/// Whether the text begins with `0x` and a hexadecimal digit.
+fn begins_hex(bytes: &[u8]) -> bool
+    ensures value { result ≡ begins_hex bytes.now }
+    ensures within { IsTrue result → 3 ≤ length bytes.now }
+{
+    bytes.len() > 2 && bytes[0] == b'0' && bytes[1] == b'x' && bytes[2].is_ascii_hexdigit()
+}
+
+/// The hexadecimal number at the front of the text.
+fn hex_at(bytes: &[u8]) -> Lexeme
+    requires { 3 ≤ length bytes.now }
+    ensures value { result ≡ hex_at bytes.now }
+    ensures some { 0 < result.len }
+    ensures within { result.len ≤ length bytes.now }
+{
+    let rest = &bytes[2..];
+    let len = hex_digits(rest);
+    Lexeme::new(numeral_token(&rest[..len], 16), len + 2)
+}
+
+/// The decimal number, or the dotted address, at the front of the text.
+fn decimal_at(bytes: &[u8]) -> Lexeme
+    requires { 0 < prefix_len is_ascii_digit bytes.now }
+    ensures value { result ≡ decimal_at bytes.now }
+    ensures some { 0 < result.len }
+    ensures within { result.len ≤ length bytes.now }
+{
+    let len = digits(bytes);
+    if is_dot(bytes, len) {
+        return quad_at(bytes);
+    }
+    Lexeme::new(numeral_token(&bytes[..len], 10), len)
+}
+
+/// Whether a dot stands at this offset.
+fn is_dot(bytes: &[u8], at: usize) -> bool
+    ensures value { result ≡ (slice_index bytes.now at == 46) }
+    ensures within { IsTrue result → at < length bytes.now }
+{
+    at < bytes.len() && bytes[at] == b'.'
+}
+
+/// The token of a number with these digits.
+fn numeral_token(digits: &[u8], radix: u64) -> Token
+    requires low { 2 ≤ radix }
+    requires high { radix ≤ 16 }
+    ensures { result ≡ numeral_token (digits_value radix digits.now) }
+{
+    match value(digits, radix) {
+        Some(n) => Token::Numeral(n),
+        None => Token::BigNumeral,
+    }
+}
+
+/// The number that the digits write, where it is below 2^64.
+fn value(digits: &[u8], radix: u64) -> Option<u64>
+    requires low { 2 ≤ radix }
+    requires high { radix ≤ 16 }
+    ensures { MatchOption result (2 ^ 64 ≤ digits_value radix digits.now)
+        (λ n. n ≡ digits_value radix digits.now) }
+{
+    let mut value = 0u64;
+    for byte in digits {
+        value = value.checked_mul(radix)?.checked_add(digit(*byte))?;
+    }
+    Some(value)
+}
+
+/// What a digit stands for, in any radix up to 36, and 36 for any other byte.
+fn digit(byte: u8) -> u64
+    ensures { result ≡ digit_value byte }
+{
+    char::from(byte).to_digit(36).map_or(36, u64::from)
+}
+
+/// The dotted address at the front of the text, or a bad token of one byte where there is none.
+fn quad_at(bytes: &[u8]) -> Lexeme
+    requires { 0 < length bytes.now }
+    ensures value { result ≡ quad_from 3 0 0 bytes.now }
+    ensures some { 0 < result.len }
+    ensures within { result.len ≤ length bytes.now }
+{
+    let mut address = 0u32;
+    let mut len = 0;
+    for _part in 0u8..3 {
+        let Some((number, more)) = dotted_part(&bytes[len..]) else {
+            return Lexeme::new(Token::Bad, 1);
+        };
+        address = address * 256 + number;
+        len += more;
+    }
+    match last_part(&bytes[len..]) {
+        Some((number, more)) => Lexeme::new(Token::Quad(address * 256 + number), len + more),
+        None => Lexeme::new(Token::Bad, 1),
+    }
+}
+
+/// A part of a dotted address with the dot behind it: its number, and the length of both.
+fn dotted_part(bytes: &[u8]) -> Option<(u32, usize)>
+    ensures { MatchOption result (is_dotted bytes.now ≡ false)
+        (λ found. IsDottedPart bytes.now found.0 found.1) }
+{
+    let len = digits(bytes);
+    let number = part(&bytes[..len])?;
+    is_dot(bytes, len).then_some((number, len + 1))
+}
+
+/// The last part of a dotted address: its number and its length, the longest that fits.
+fn last_part(bytes: &[u8]) -> Option<(u32, usize)>
+    ensures { MatchOption result (is_part (take (last_part_len bytes.now) bytes.now) ≡ false)
+        (λ found. IsLastPart bytes.now found.0 found.1) }
+{
+    let len = last_part_len(bytes);
+    let number = part(&bytes[..len])?;
+    Some((number, len))
+}
+
+/// The number of one part of a dotted address: one to three digits of at most 255.
+fn part(digits: &[u8]) -> Option<u32>
+    ensures { MatchOption result (is_part digits.now ≡ false) (λ n. IsPart digits.now n) }
+{
+    match value(digits, 10) {
+        Some(n) if !digits.is_empty() && digits.len() < 4 && n < 256 => Some(n as u32),
+        _ => None,
+    }
+}
+
+/// How many digits the last part of a dotted address has: the most that fit.
+fn last_part_len(bytes: &[u8]) -> usize
+    ensures value { result ≡ last_part_len bytes.now }
+    ensures within { result ≤ length bytes.now }
+{
+    let n = digits(bytes).min(3);
+    match value(&bytes[..n], 10) {
+        Some(number) if number < 256 => n,
+        _ => 2,
+    }
+}
+
+/// The sign at the front of the text.
+fn sign_at(bytes: &[u8]) -> Lexeme
+    requires { 0 < length bytes.now }
+    ensures value { result ≡ sign_at bytes.now }
+    ensures some { 0 < result.len }
+    ensures within { result.len ≤ length bytes.now }
+{
+    if bytes.starts_with(b"!=") {
+        return Lexeme::new(Token::Compares(Op::Ne), 2);
+    }
+    if bytes.starts_with(b"<=") {
+        return Lexeme::new(Token::Compares(Op::Le), 2);
+    }
+    if bytes.starts_with(b">=") {
+        return Lexeme::new(Token::Compares(Op::Ge), 2);
+    }
+    if bytes.starts_with(b"&&") {
+        return Lexeme::new(Token::Both, 2);
+    }
+    if bytes.starts_with(b"||") {
+        return Lexeme::new(Token::Either, 2);
+    }
+    Lexeme::new(short_sign(bytes), 1)
+}
+
+/// The sign of one byte at the front of the text.
+fn short_sign(bytes: &[u8]) -> Token
+    ensures { lexeme result 1 ≡ short_sign_at bytes.now }
+{
+    if bytes.starts_with(b"=") {
+        return Token::Compares(Op::Eq);
+    }
+    if bytes.starts_with(b"<") {
+        return Token::Compares(Op::Lt);
+    }
+    if bytes.starts_with(b">") {
+        return Token::Compares(Op::Gt);
+    }
+    if bytes.starts_with(b"!") {
+        return Token::Bang;
+    }
+    if bytes.starts_with(b"(") {
+        return Token::Open;
+    }
+    if bytes.starts_with(b")") {
+        return Token::Close;
+    }
+    if bytes.starts_with(b"+") {
+        return Token::Joins(Join::Plus);
+    }
+    if bytes.starts_with(b"-") {
+        return Token::Joins(Join::Minus);
+    }
+    if bytes.starts_with(b"%") {
+        return Token::Joins(Join::Rem);
+    }
+    Token::Bad
+}
