@@ -1,1 +1,3 @@
+pub mod ByNumber
 pub mod Padded
+pub mod Taken

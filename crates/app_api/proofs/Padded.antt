@@ -1,5 +1,5 @@
 -- What an array of changes keeps behind its last one.
-use Rattle.std.proofs.Common.{◌≡◌, ℕ, ◌+◌, ◌-◌, ◌<◌, ◌≤◌, List, length, take, drop, set, replicate, sym, ap, ◌∙◌, arith, length-set, length-take-le}
+use Rattle.std.proofs.Common.{◌≡◌, ℕ, ◌+◌, ◌-◌, ◌<◌, List, length, take, drop, set, replicate, sym, ap, ◌∙◌, arith, length-set, length-take-le}
 use Rattle.std.proofs.lemmas.List.{drop-set-lt, drop-drop, drop-replicate}
 use Rattle.app_api.specs.declared.changes.Change1.{Change1}
 use Rattle.app_api.specs.Changes.{blank, IsPadded}

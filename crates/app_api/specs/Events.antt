@@ -14,7 +14,7 @@ is_rcv Snd = false
 is_rcv Rcv = true
 
 -- whether a built-in event is raised at a hook; no other number is
-abbrev pub allows_hook : ℕ → Hook → Bool
+unfoldable pub allows_hook : ℕ → Hook → Bool
 allows_hook event hook =
     if event == PKT_IN || event == STATE then true else
     if event == START || event == ORPHAN then is_snd hook else

@@ -4,6 +4,7 @@ use Rattle.native_filters.specs.declared.facts.Hook.TheVariants.{Snd, Rcv}
 use Rattle.app_api.specs.declared.registration.Reg.{Reg}
 use Rattle.app_api.specs.declared.events.TheConstants.{PKT_IN, ORPHAN}
 use Rattle.app_api.specs.App.{Meaning, IsLawful}
+use Rattle.app_api.specs.Events.{allows_hook}
 use Rattle.app_api.specs.Reg.{preset_reg}
 use Rattle.app_api.specs.Reaction.{asks_nothing}
 use Rattle.app_api.specs.Tally.{zeros}
@@ -12,7 +13,7 @@ abbrev pub log_presets : List Reg
 log_presets = preset_reg 1 PKT_IN Snd true ∷ preset_reg 2 PKT_IN Rcv true ∷ preset_reg 3 ORPHAN Snd true ∷ []
 
 -- the application that only logs: it sees every packet at both sides and every orphan, and asks nothing
-abbrev pub log : Meaning
+unfoldable pub log : Meaning
 log = record {
   presets = log_presets;
   fresh = zeros;
@@ -21,6 +22,7 @@ log = record {
 }
 
 pub log-lawful : IsLawful log
+unfolding log allows_hook
 log-lawful = record {
   presets = refl;
   by_number = refl;

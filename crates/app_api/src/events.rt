@@ -23,6 +23,7 @@ pub const END: u16 = 262;
 pub const ORPHAN: u16 = 263;
 
 /// Whether a built-in event is raised at a side. No other number is.
+#[tactic(auto, unfolding(crate::specs::Events::allows_hook))]
 pub fn allows_hook(event: u16, hook: Hook) -> bool
     ensures { result ≡ allows_hook event hook }
 {

@@ -2,6 +2,7 @@
 //! trait by which an application is asked.
 #![tactic(auto)]
 
+mod answers;
 mod app;
 mod changes;
 mod entry;
@@ -12,6 +13,7 @@ mod reaction;
 mod registration;
 mod rule;
 
+pub use answers::{fields_of, presets_of};
 pub use app::{App, Call, Tally};
 pub use changes::{Change1, Changes};
 pub use entry::{Entry, Seen};

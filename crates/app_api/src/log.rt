@@ -13,6 +13,7 @@ use native_filters::Hook;
 #[derive(Clone, Copy, Debug, PartialEq, Eq)]
 pub struct LogApp;
 
+#[tactic(auto, unfolding(crate::specs::Log::log))]
 impl App for LogApp {
     ghost meaning = { λ _. log };
 
