@@ -11,6 +11,8 @@ mod memory_source;
 mod read_source;
 mod sink;
 mod source;
+#[cfg(test)]
+mod tests;
 mod write_sink;
 
 pub use failed::Failed;

@@ -1,0 +1,93 @@
+// What a caller sees of each source and sink.
+use crate::{Failed, MemSink, MemSource, ReadSource, Sink, Source, WriteSink, fill};
+use std::io::{Error, ErrorKind, Read, Result, Write};
+use std::test::Fail;
+
+// A call that fails leaves the bytes for the next call.
+#[test]
+fn a_memory_source_fails_at_listed_calls(rt: HostRuntime) -> std::result::Result<(), Fail> {
+    let alloc = rt.alloc();
+    let mut source = MemSource::new([1, 2, 3, 4, 5].to_vec(alloc)?, [1].to_vec(alloc)?);
+    let mut buf = [0; 3];
+    assert_eq!(rt; source.read(&mut buf), Ok(3));
+    assert_eq!(rt; buf, [1, 2, 3]);
+    assert_eq!(rt; source.read(&mut buf), Err(Failed));
+    assert_eq!(rt; source.read(&mut buf), Ok(2));
+    assert_eq!(rt; buf, [4, 5, 3]);
+    assert_eq!(rt; source.read(&mut buf), Ok(0));
+    Ok(())
+}
+
+// One of three pieces of 3 bytes fails, or the last has no room.
+#[test]
+fn a_memory_sink_takes_half_or_nothing(rt: HostRuntime) -> std::result::Result<(), Fail> {
+    let alloc = rt.alloc();
+    let cases = [
+        (9, 0, b"adefghi".as_slice()),
+        (9, 1, b"abcdghi".as_slice()),
+        (9, 2, b"abcdefg".as_slice()),
+        (9, 3, b"abcdefghi".as_slice()),
+        (7, 3, b"abcdef".as_slice()),
+        (7, 2, b"abcdef".as_slice()),
+    ];
+    for (room, fails, want) in cases {
+        let mut sink = MemSink::new(vec![in alloc; 0; room]?, [fails].to_vec(alloc)?);
+        for piece in [b"abc", b"def", b"ghi"] {
+            let _ = sink.write_all(piece);
+        }
+        assert_eq!(rt; sink.bytes(), want, "room {room}, failing {fails}");
+    }
+    Ok(())
+}
+
+#[test]
+fn fill_reads_to_the_end(rt: HostRuntime) -> std::result::Result<(), Fail> {
+    let alloc = rt.alloc();
+    let mut source = MemSource::new([1, 2, 3].to_vec(alloc)?, [1].to_vec(alloc)?);
+    let mut buf = [0; 5];
+    assert_eq!(rt; fill(&mut source, &mut buf), Err(Failed));
+    assert_eq!(rt; fill(&mut source, &mut buf), Ok(0));
+    assert_eq!(rt; buf, [1, 2, 3, 0, 0]);
+    Ok(())
+}
+
+#[derive(Drop)]
+struct Broken;
+
+impl Read for Broken {
+    fn read(&mut self, _: &mut [u8]) -> Result<usize> {
+        Err(Error::from(ErrorKind::Other))
+    }
+}
+
+impl Write for Broken {
+    fn write(&mut self, buf: &[u8]) -> Result<usize> {
+        Ok(buf.len())
+    }
+
+    fn flush(&mut self) -> Result<()> {
+        Err(Error::from(ErrorKind::Other))
+    }
+}
+
+#[test]
+fn a_reader_as_a_source(rt: HostRuntime) {
+    let mut source = ReadSource::new([1, 2, 3, 4, 5].as_slice());
+    let mut buf = [0; 3];
+    assert_eq!(rt; source.read(&mut buf), Ok(3));
+    assert_eq!(rt; fill(&mut source, &mut buf), Ok(2));
+    assert_eq!(rt; buf, [4, 5, 3]);
+    assert_eq!(rt; ReadSource::new(Broken).read(&mut buf), Err(Failed));
+}
+
+// A writer that has no room takes nothing of a piece that isn't empty.
+#[test]
+fn a_writer_as_a_sink(rt: HostRuntime) {
+    let mut room = [0; 4];
+    let mut sink = WriteSink::new(room.as_mut_slice());
+    assert_eq!(rt; sink.write_all(b"abc"), Ok(()));
+    assert_eq!(rt; sink.write_all(b""), Ok(()));
+    assert_eq!(rt; sink.write_all(b"de"), Err(Failed));
+    assert_eq!(rt; WriteSink::new(Broken).write_all(b"abc"), Err(Failed));
+    assert_eq!(rt; room, *b"abcd");
+}
