@@ -18,24 +18,34 @@ abbrev pub listed : Option Reg → List Reg
 listed None = []
 listed (Some r) = r ∷ []
 
+rise_from-least : (low n : ℕ) (ns : List ℕ) → rise_from low (n ∷ ns) ≡ true → low ≤ n
+rise_from-least low n ns rise = leb-true low n (and_parts _ _ rise).0
+
+rise_from-rest : (low n : ℕ) (ns : List ℕ) → rise_from low (n ∷ ns) ≡ true → rise_from (n + 1) ns ≡ true
+rise_from-rest low n ns rise = (and_parts _ _ rise).1
+
+is_preset-greatest : (r : Reg) → is_preset r ≡ true → r.number ≤ 15
+is_preset-greatest r here =
+    leb-true r.number 15 (and_parts _ _ (and_parts _ _ (and_parts _ _ (and_parts _ _ here).0).0).0).1
+
 pub front-none : (low n : ℕ) (rs : List Reg) → rise_from low (numbers rs) ≡ true → n ≤ low → front n rs ≡ []
 front-none low n [] rise few = refl
 front-none low n (r ∷ rs) rise few =
-    let least = leb-true low r.number (and_parts _ _ rise).0 in
+    let least = rise_from-least low r.number (numbers rs) rise in
     rw (le-ltb r.number n (omega arith)) refl
 
 pub reg_of-none : (low n : ℕ) (rs : List Reg) → rise_from low (numbers rs) ≡ true → n < low → reg_of rs n ≡ None
 reg_of-none low n [] rise below = refl
 reg_of-none low n (r ∷ rs) rise below =
-    let least = leb-true low r.number (and_parts _ _ rise).0 in
+    let least = rise_from-least low r.number (numbers rs) rise in
     rw (ne_eqb r.number n (λ e. absurd (omega arith)))
-    (reg_of-none (r.number + 1) n rs (and_parts _ _ rise).1 (omega arith))
+    (reg_of-none (r.number + 1) n rs (rise_from-rest low r.number (numbers rs) rise) (omega arith))
 
 -- one number more adds its registration
 pub front-add : (low n : ℕ) (rs : List Reg) → rise_from low (numbers rs) ≡ true → front (n + 1) rs ≡ front n rs ++ listed (reg_of rs n)
 front-add low n [] rise = refl
 front-add low n (r ∷ rs) rise =
-    let rest : rise_from (r.number + 1) (numbers rs) ≡ true = (and_parts _ _ rise).1 in
+    let rest = rise_from-rest low r.number (numbers rs) rise in
     elim (cases_order r.number n) [
       | inl e ↦
           rw (lt-ltb r.number (n + 1) (omega arith)) (rw (le-ltb r.number n (omega arith)) (rw (eq-eqb r.number n e)
@@ -54,6 +64,5 @@ front-add low n (r ∷ rs) rise =
 pub front-all : (rs : List Reg) → list_all is_preset rs ≡ true → front 16 rs ≡ rs
 front-all [] each = refl
 front-all (r ∷ rs) each =
-    let here : is_preset r ≡ true = (and_parts _ _ each).0 in
-    let greatest : r.number ≤ 15 = leb-true r.number 15 (and_parts _ _ (and_parts _ _ (and_parts _ _ (and_parts _ _ here).0).0).0).1 in
+    let greatest = is_preset-greatest r (and_parts _ _ each).0 in
     rw (lt-ltb r.number 16 (omega arith)) (ap (λ regs. r ∷ regs) (front-all rs (and_parts _ _ each).1))
