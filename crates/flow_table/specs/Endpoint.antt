@@ -29,7 +29,7 @@ same_endpoint (V6 a p) (V6 b q) = a == b && p == q
 abbrev pub endpoint_cmp : Endpoint → Endpoint → Ordering
 endpoint_cmp a b =
     ordering_then (nat_cmp (version_of a) (version_of b))
-      (ordering_then (nat_cmp (addr_of a) (addr_of b)) (nat_cmp (port_of a) (port_of b)))
+    (ordering_then (nat_cmp (addr_of a) (addr_of b)) (nat_cmp (port_of a) (port_of b)))
 
 -- who sent a segment
 unfoldable pub source_of : Head → Endpoint

@@ -1,4 +1,6 @@
 pub mod Endpoint
 pub mod Key
 pub mod Lane
+pub mod Table
+pub mod Lends
 pub use Rattle.packet_views.specs.Packet

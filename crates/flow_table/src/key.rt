@@ -70,8 +70,5 @@ pub fn key_of(segment: &TcpView<'_>) -> Key
     ensures either { result ≡ key_between (destination_of (head_of segment.now)) (source_of (head_of segment.now)) }
 {
     let head = segment.head();
-    Key::between(
-        Endpoint::source_of(&head),
-        Endpoint::destination_of(&head),
-    )
+    Key::between(Endpoint::source_of(&head), Endpoint::destination_of(&head))
 }

@@ -5,7 +5,9 @@
 pub mod endpoint;
 pub mod key;
 pub mod lane;
+pub mod table;
 
 pub use endpoint::Endpoint;
 pub use key::{Key, key_of};
 pub use lane::{lane_of, mix};
+pub use table::FlowTable;

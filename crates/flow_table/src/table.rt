@@ -1,0 +1,97 @@
+//! The table of open connections.
+
+ghost use Rattle.std.specs.Prelude.{◌≡◌, ◌+◌, ◌↔◌, None, Some, if◌then◌else◌, IsNone, IfSome, IfNone, OnOk, OnErr, IfErr};
+ghost use Rattle.std.specs.Borrow.{sem};
+ghost use Rattle.std.specs.Option.{option_copied_mut};
+ghost use Rattle.std.specs.FinMap as map;
+ghost use Rattle.flow_table.specs.Key.{Ends, same_key};
+ghost use Rattle.flow_table.specs.Table.{found};
+
+use crate::key::Key;
+use indexmap::IndexMap;
+use std::alloc::Global;
+use std::marker::Model;
+
+/// What is kept for each open connection, by its key. Contracts see it as a finite map. Every call
+/// takes constant time on average.
+#[derive(Drop)]
+pub struct FlowTable<T> {
+    flows: IndexMap<Key, T>,
+}
+
+impl<T> Model for FlowTable<T> {
+    ghost use Rattle.std.specs.FinMap as map;
+    ghost use Rattle.flow_table.specs.Table.{key_cmp, Flows, coded_ends};
+
+    ghost Value = { Flows T };
+
+    ghost coded = { map.code coded_ends T.code };
+
+    ghost view = { λ table. map.from_entries table.flows.entries };
+}
+
+impl<T> FlowTable<T> {
+    ghost use Rattle.flow_table.specs.Lends.{LendsFlow};
+
+    /// An empty table. It takes no memory.
+    pub fn new(alloc: Global) -> FlowTable<T>
+        ensures { result ≡ map.empty }
+    {
+        FlowTable {
+            flows: IndexMap::new(alloc),
+        }
+    }
+
+    /// Adds a connection whose key isn't there. Without memory the value comes back, and the table
+    /// stays as it was.
+    pub fn open(&mut self, key: Key, value: T) -> Result<(), T>
+    where
+        T: Drop,
+        requires absent { found self.old key ≡ None }
+        ensures ok { OnOk result (self.new ≡ map.insert self.old key value) }
+        ensures found { OnOk result ((other : Ends) → found self.new other ≡ (if same_key key other then Some value else found self.old other)) }
+        ensures len { OnOk result (map.len self.new ≡ map.len self.old + 1) }
+        ensures err { OnErr result (self.new ≡ self.old) }
+        ensures returned { IfErr result (λ back. back ≡ value) }
+    {
+        match self.flows.insert(key, value) {
+            Ok(_) => Ok(()),
+            Err(failed) => {
+                let (_, value) = failed.value;
+                Err(value)
+            }
+        }
+    }
+
+    /// The value of a key, to write, where the key is there.
+    pub fn get_mut(&mut self, key: &Key) -> Option<&mut T>
+        ensures* writes_back { sem 𝓛 (LendsFlow T.row self.entry key.now result) }
+        ensures value { option_copied_mut result ≡ found self.old key.now }
+    {
+        self.flows.get_mut(key)
+    }
+
+    /// Removes a key with its value, where the key is there. The other connections are not moved
+    /// but for one, which takes the free place.
+    pub fn close(&mut self, key: &Key) -> Option<T>
+        ensures value { result ≡ found self.old key.now }
+        ensures removed { self.new ≡ map.remove self.old key.now }
+        ensures found { (other : Ends) → found self.new other ≡ (if same_key key.now other then None else found self.old other) }
+        ensures none { IfNone result (self.new ≡ self.old) }
+        ensures len { IfSome result (λ _. map.len self.new + 1 ≡ map.len self.old) }
+    {
+        self.flows.swap_remove(key)
+    }
+
+    /// Removes some connection, where there is one.
+    pub fn take_any(&mut self) -> Option<(Key, T)>
+        ensures empty { IsNone result ↔ (self.old ≡ map.empty) }
+        ensures value { IfSome result (λ flow. found self.old flow.0 ≡ Some flow.1) }
+        ensures removed { IfSome result (λ flow. self.new ≡ map.remove self.old flow.0) }
+        ensures found { IfSome result (λ flow. (other : Ends) → found self.new other ≡ (if same_key flow.0 other then None else found self.old other)) }
+        ensures none { IfNone result (self.new ≡ self.old) }
+        ensures len { IfSome result (λ _. map.len self.new + 1 ≡ map.len self.old) }
+    {
+        self.flows.pop()
+    }
+}
