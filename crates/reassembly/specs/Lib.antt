@@ -6,3 +6,4 @@ pub mod Kept
 pub mod Known
 pub mod Runs
 pub mod Laying
+pub mod Window

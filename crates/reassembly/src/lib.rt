@@ -8,5 +8,6 @@
 mod answers;
 mod laying;
 mod runs;
+mod window;
 
 pub use answers::{FinNote, Placed, Policy};

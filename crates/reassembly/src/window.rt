@@ -1,0 +1,79 @@
+// The buffer of a stream: the bytes from `base` on, of which those below `next` and those in a run are accepted.
+ghost use Rattle.std.specs.Prelude.{◌≡◌, ℕ, ◌+◌, ◌-◌, ◌<◌, ◌≤◌, ◌^◌, ◌||◌, ◌&&◌, [], length, min, max, vec_len, vec_capacity, nat_le, nat_lt, slice_index, OnOk, OnErr, IfOk};
+ghost use Rattle.reassembly.specs.Runs.{AreOrdered, AreAbove, AreWithin, is_accepted};
+ghost use Rattle.reassembly.specs.Laying.{laid_byte, tally_of};
+
+use crate::laying::{Tally, differing, lay};
+use crate::runs::{Run, absorb, add, cut_out};
+use crate::{Placed, Policy};
+use std::alloc::{AllocError, Global};
+
+#[derive(Drop)]
+pub struct Window {
+    pub base: u64,
+    pub next: u64,
+    pub bytes: Vec<u8>,
+    pub runs: Vec<Run>,
+}
+
+/// How many of `len` positions from `start` on lie below `position`.
+fn count_under(position: u64, start: u64, len: usize) -> usize
+    ensures { result ≡ min (position - start) len }
+{
+    position.saturating_sub(start).min(len as u64) as usize
+}
+
+impl Window {
+    ghost use Rattle.reassembly.specs.Window.{end_of, byte_at, cell_at, IsLaid, IsSized, IsBounded, IsSameWindow, taken_cell, taken_tally, differing_below};
+
+    /// A buffer with nothing in it. It takes no memory.
+    pub fn new(alloc: Global) -> Self
+        ensures laid { IsLaid result }
+        ensures empty { (result.base ≡ 0) × (result.next ≡ 0) × (result.bytes.items ≡ []) × (result.runs.items ≡ []) }
+    {
+        Window {
+            base: 0,
+            next: 0,
+            bytes: Vec::new(alloc),
+            runs: Vec::new(alloc),
+        }
+    }
+
+    /// Makes room for one run more, and lets the buffer reach up to `end`. What was there stays.
+    fn reserve(&mut self, end: u64) -> Result<(), AllocError>
+        requires { self.old.base ≤ end }
+        ensures place { (self.new.base ≡ self.old.base) × (self.new.next ≡ self.old.next) }
+        ensures runs { self.new.runs.items ≡ self.old.runs.items }
+        ensures err { OnErr result (self.new.bytes.items ≡ self.old.bytes.items) }
+        ensures room { OnOk result (vec_len self.new.runs < vec_capacity self.new.runs) }
+        ensures len { OnOk result (vec_len self.new.bytes ≡ max (vec_len self.old.bytes) (end - self.old.base)) }
+        ensures bytes { (i : ℕ) → i < vec_len self.old.bytes → slice_index self.new.bytes.items i ≡ slice_index self.old.bytes.items i }
+    {
+        self.runs.reserve(1)?;
+        let len = (end - self.base) as usize;
+        if len > self.bytes.len() {
+            self.bytes.resize(len, 0)?;
+        }
+        Ok(())
+    }
+
+    /// Accepts the positions from `low` to below `high`, which the buffer has.
+    fn accept(&mut self, low: u64, high: u64)
+        requires laid { IsLaid self.old }
+        requires from { self.old.next ≤ low }
+        requires some { low < high }
+        requires within { high ≤ end_of self.old }
+        requires room { vec_len self.old.runs < vec_capacity self.old.runs }
+        ensures laid { IsLaid self.new }
+        ensures rises { self.old.next ≤ self.new.next }
+        ensures same { (self.new.base ≡ self.old.base) × (self.new.bytes ≡ self.old.bytes) }
+        ensures accepted { (p : ℕ) → is_accepted self.new.next self.new.runs.items p ≡ (is_accepted self.old.next self.old.runs.items p || (nat_le low p && nat_lt p high)) }
+        ensures bounded { (limit : ℕ) → high ≤ limit → IsBounded self.old limit → IsBounded self.new limit }
+    {
+        if low == self.next {
+            self.next = absorb(&mut self.runs, high);
+        } else {
+            add(&mut self.runs, low, high);
+        }
+    }
+}
