@@ -1,16 +1,16 @@
 -- One stretch more is laid and judged.
 use Rattle.std.proofs.Common.{◌≡◌, ℕ, ◌+◌, ◌-◌, ◌<◌, ◌≤◌, Bool, true, false, cond, not, ◌&&◌, refl, ap, ap₂, ◌∙◌, sym, arith, List, length, get_or, take, drop, eqb, ⊎_elim, nat_eq}
 use Rattle.std.specs.Prelude.{slice_index}
-use Rattle.std.proofs.lemmas.Bool.{cases_lt, cond_both}
+use Rattle.std.proofs.lemmas.Bool.{cases_lt, cond_both, lt-leb, and_right}
 use Rattle.reassembly.specs.declared.answers.Policy.{Policy}
 use Rattle.reassembly.specs.declared.runs.Run.{Run}
 use Rattle.reassembly.specs.declared.laying.Tally.{Tally}
-use Rattle.reassembly.specs.Segment.{is_last, count_below}
+use Rattle.reassembly.specs.Segment.{is_last, count_below, has_byte}
 use Rattle.reassembly.specs.Runs.{is_covered}
 use Rattle.reassembly.specs.Laying.{differing_of, laid_byte, tally_of, tally_of_stretch, tally_sum}
-use Rattle.reassembly.proofs.Counts.{count_below-le, count_below-stretch, count_below-more, count_below-stays}
+use Rattle.reassembly.proofs.Counts.{count_below-le, count_below-stretch, count_below-more, count_below-stays, count_below-same, count_below-none}
 use Rattle.std.proofs.lemmas.List.{length-take-le}
-use Rattle.std.proofs.Common.{length-drop}
+use Rattle.std.proofs.Common.{length-drop, get_or-take, get_or-drop, leb, ltb, le-leb, lt-ltb, le-ltb}
 use borrow.Rule.Slice.PartMut.{put_mid}
 use Rattle.reassembly.proofs.Parts.{part_at, mid_below, mid_in, mid_above}
 
@@ -102,3 +102,76 @@ laid_part runs start a b policy before segment cells part is_old order within sa
           mid_in a (b - a) cells part i 0 (omega arith) from (omega arith) ∙ byte ∙ laid_more runs start i policy before segment is_old here)
         (cases_lt i a);
       rest = λ i l. mid_above a (b - a) cells part i 0 (omega arith) len (omega arith) ∙ h.rest i (omega arith) }
+
+swapped : {X : Type 0} (b : Bool) (x y : X) → cond (not b) x y ≡ cond b y x
+swapped true x y = refl
+swapped false x y = refl
+
+-- the buffer from base on, after bytes that stand from low on were laid into its part
+pub laid_window : (runs : List Run) (base low k : ℕ) (policy : Policy) (xs bytes cells : List ℕ)
+    → base ≤ low → k ≡ length bytes → (low - base) + length bytes ≤ length xs → length cells ≡ length bytes
+    → ((i : ℕ) → i < length bytes → slice_index cells i ≡ laid_byte runs low policy (take k (drop (low - base) xs)) bytes i)
+    → (p : ℕ) → base ≤ p
+    → slice_index (put_mid (low - base) k xs cells) (p - base) ≡ cond (has_byte low bytes p && not (is_covered runs p && not (is_last policy))) (slice_index bytes (p - low)) (slice_index xs (p - base))
+laid_window runs base low k policy xs bytes cells from same within len laid p l =
+    let a = low - base in
+    let stays = is_covered runs p && not (is_last policy) in
+    ⊎_elim
+      (λ (under : p < low).
+        let no : leb low p ≡ false = lt-leb low p under in
+        rw no (mid_below a k xs cells (p - base) 0 (omega arith) (omega arith)))
+      (λ (over : low ≤ p). ⊎_elim
+        (λ (here : p < low + length bytes).
+          let yes : leb low p ≡ true = le-leb low p over in
+          let and : ltb p (low + length bytes) ≡ true = lt-ltb p (low + length bytes) here in
+          let back : low + (p - low) ≡ p = omega arith in
+          let place : p - base - a ≡ p - low = omega arith in
+          let again : a + (p - low) ≡ p - base = omega arith in
+          let byte : slice_index cells (p - low) ≡ cond stays (slice_index (take k (drop a xs)) (p - low)) (slice_index bytes (p - low)) = rw back at (laid (p - low) (omega arith)) in
+          let part : slice_index (take k (drop a xs)) (p - low) ≡ slice_index xs (p - base) = get_or-take k (drop a xs) (p - low) 0 (omega arith) ∙ get_or-drop a xs (p - low) 0 ∙ ap (slice_index xs) again in
+          rw (yes, and) (mid_in a k xs cells (p - base) 0 (omega arith) (omega arith) (omega arith)
+            ∙ ap (slice_index cells) place ∙ byte ∙ ap (λ x. cond stays x (slice_index bytes (p - low))) part
+            ∙ sym (swapped stays (slice_index bytes (p - low)) (slice_index xs (p - base)))))
+        (λ (past : low + length bytes ≤ p).
+          let no : ltb p (low + length bytes) ≡ false = le-ltb p (low + length bytes) past in
+          let never : has_byte low bytes p ≡ false = rw no (and_right (leb low p) false refl) in
+          rw never (mid_above a k xs cells (p - base) 0 (omega arith) (omega arith) (omega arith)))
+        (cases_lt p (low + length bytes)))
+      (cases_lt p low)
+
+-- the judgement of those bytes, by the buffer
+pub judged_window : (runs : List Run) (base low k : ℕ) (xs bytes : List ℕ) → base ≤ low → k ≡ length bytes
+    → tally_of runs low (take k (drop (low - base) xs)) bytes (length bytes) ≡ record {
+        new = count_below (λ i. not (is_covered runs (low + i))) (length bytes);
+        old = count_below (λ i. is_covered runs (low + i)) (length bytes);
+        differ = count_below (λ i. is_covered runs (low + i) && not (eqb (slice_index xs (low + i - base)) (slice_index bytes i))) (length bytes) }
+judged_window runs base low k xs bytes from same =
+    let made : ℕ → Tally = λ d. record { new = count_below (λ i. not (is_covered runs (low + i))) (length bytes); old = count_below (λ i. is_covered runs (low + i)) (length bytes); differ = d } in
+    ap made (count_below-same
+      (λ i. is_covered runs (low + i) && not (eqb (slice_index (take k (drop (low - base) xs)) i) (slice_index bytes i)))
+      (λ i. is_covered runs (low + i) && not (eqb (slice_index xs (low + i - base)) (slice_index bytes i)))
+      (length bytes)
+      (λ i l.
+        let again : (low - base) + i ≡ low + i - base = omega arith in
+        let part : slice_index (take k (drop (low - base) xs)) i ≡ slice_index xs (low + i - base) = get_or-take k (drop (low - base) xs) i 0 (omega arith) ∙ get_or-drop (low - base) xs i 0 ∙ ap (slice_index xs) again in
+        ap (λ x. is_covered runs (low + i) && not (eqb x (slice_index bytes i))) part))
+
+-- bytes below the kept ones are never compared
+pub none_compared : (low start n : ℕ) (test : ℕ → Bool) → n ≤ low - start → count_below (λ i. leb low (start + i) && test i) n ≡ 0
+none_compared low start n test l = count_below-none (λ i. leb low (start + i) && test i) n (λ i b. ap (λ x. x && test i) (lt-leb low (start + i) (omega arith)))
+
+-- and the others are: skip is how many lie below
+pub some_compared : (low start base skip n m k : ℕ) (xs bytes : List ℕ) → skip ≡ low - start → skip + m ≡ n → base ≤ start + skip → k ≡ m → length bytes ≡ n
+    → count_below (λ i. not (eqb (slice_index (take k (drop (start + skip - base) xs)) i) (slice_index (take (length bytes - skip) (drop skip bytes)) i))) m
+      ≡ count_below (λ i. leb low (start + i) && not (eqb (slice_index xs (start + i - base)) (slice_index bytes i))) n
+some_compared low start base skip n m k xs bytes e sum from same len =
+    let f : ℕ → Bool = λ i. leb low (start + i) && not (eqb (slice_index xs (start + i - base)) (slice_index bytes i)) in
+    let g : ℕ → Bool = λ i. not (eqb (slice_index (take k (drop (start + skip - base) xs)) i) (slice_index (take (length bytes - skip) (drop skip bytes)) i)) in
+    let none : count_below f skip ≡ 0 = none_compared low start skip (λ i. not (eqb (slice_index xs (start + i - base)) (slice_index bytes i))) (omega arith) in
+    let parts : count_below f n ≡ count_below f skip + count_below g m = count_below-stretch f g skip m n sum (λ i l.
+      let yes : leb low (start + (skip + i)) ≡ true = le-leb low (start + (skip + i)) (omega arith) in
+      let again : (start + skip - base) + i ≡ start + (skip + i) - base = omega arith in
+      let x : slice_index (take k (drop (start + skip - base) xs)) i ≡ slice_index xs (start + (skip + i) - base) = get_or-take k (drop (start + skip - base) xs) i 0 (omega arith) ∙ get_or-drop (start + skip - base) xs i 0 ∙ ap (slice_index xs) again in
+      let y : slice_index (take (length bytes - skip) (drop skip bytes)) i ≡ slice_index bytes (skip + i) = get_or-take (length bytes - skip) (drop skip bytes) i 0 (omega arith) ∙ get_or-drop skip bytes i 0 in
+      rw yes (ap not (ap₂ eqb (sym x) (sym y)))) in
+    omega (arith, none, parts)

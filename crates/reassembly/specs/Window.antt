@@ -56,6 +56,10 @@ pub record IsSameWindow (old new : Window) : Type 0 where
 abbrev pub taken_cell : Policy → ℕ → List ℕ → ℕ → Option ℕ → Option ℕ
 taken_cell policy low bytes p c = if has_byte low bytes p && not (is_some c && not (is_last policy)) then Some (slice_index bytes (p - low)) else c
 
+-- the byte in the buffer at p after they were laid
+abbrev pub laid_at : Window → ℕ → Policy → List ℕ → ℕ → ℕ
+laid_at w low policy bytes p = if has_byte low bytes p && not (is_covered w.runs.items p && not (is_last policy)) then slice_index bytes (p - low) else byte_at w p
+
 -- how those bytes are judged
 abbrev pub taken_tally : Window → ℕ → List ℕ → Tally
 taken_tally w low bytes = record {

@@ -1,5 +1,5 @@
 // The buffer of a stream: the bytes from `base` on, of which those below `next` and those in a run are accepted.
-ghost use Rattle.std.specs.Prelude.{◌≡◌, ℕ, ◌+◌, ◌-◌, ◌<◌, ◌≤◌, ◌^◌, ◌||◌, ◌&&◌, [], length, min, max, vec_len, vec_capacity, nat_le, nat_lt, slice_index, OnOk, OnErr, IfOk};
+ghost use Rattle.std.specs.Prelude.{◌≡◌, ℕ, ◌+◌, ◌-◌, ◌<◌, ◌≤◌, ◌^◌, ◌⊎◌, ◌||◌, ◌&&◌, [], length, min, max, vec_len, vec_capacity, nat_le, nat_lt, slice_index, OnOk, OnErr, IfOk};
 ghost use Rattle.reassembly.specs.Runs.{AreOrdered, AreAbove, AreWithin, is_accepted};
 ghost use Rattle.reassembly.specs.Laying.{laid_byte, tally_of};
 
@@ -24,7 +24,7 @@ fn count_under(position: u64, start: u64, len: usize) -> usize
 }
 
 impl Window {
-    ghost use Rattle.reassembly.specs.Window.{end_of, byte_at, cell_at, IsLaid, IsSized, IsBounded, IsSameWindow, taken_cell, taken_tally, differing_below};
+    ghost use Rattle.reassembly.specs.Window.{end_of, byte_at, cell_at, IsLaid, IsSized, IsBounded, IsSameWindow, laid_at, taken_cell, taken_tally, differing_below};
 
     /// A buffer with nothing in it. It takes no memory.
     pub fn new(alloc: Global) -> Self
@@ -74,6 +74,59 @@ impl Window {
             self.next = absorb(&mut self.runs, high);
         } else {
             add(&mut self.runs, low, high);
+        }
+    }
+
+    /// Lays bytes from `low` on into the buffer, which has their positions.
+    fn lay(&mut self, low: u64, bytes: &[u8], policy: Policy) -> Tally
+        requires ordered { AreOrdered self.old.runs.items }
+        requires from { self.old.base ≤ low }
+        requires within { low + length bytes.now ≤ end_of self.old }
+        requires short { length bytes.now ≤ 65535 }
+        requires reach { end_of self.old < 2 ^ 64 }
+        ensures place { (self.new.base ≡ self.old.base) × (self.new.next ≡ self.old.next) × (self.new.runs ≡ self.old.runs) }
+        ensures len { vec_len self.new.bytes ≡ vec_len self.old.bytes }
+        ensures bytes { (p : ℕ) → self.old.base ≤ p → byte_at self.new p ≡ laid_at self.old low policy bytes.now p }
+        ensures tally { result ≡ taken_tally self.old low bytes.now }
+    {
+        let from = (low - self.base) as usize;
+        let cells = &mut self.bytes[from..from + bytes.len()];
+        lay(cells, &self.runs, low, bytes, policy)
+    }
+
+    /// How many bytes of a segment from `start` on, which lie below `next`, differ from the kept ones.
+    fn compare(&self, start: u64, bytes: &[u8], rbuf: u32) -> u32
+        requires low { self.now.base ≤ self.now.next - rbuf }
+        requires filled { self.now.next ≤ end_of self.now }
+        requires below { (length bytes.now ≡ 0) ⊎ (start + length bytes.now ≤ self.now.next) }
+        requires short { length bytes.now ≤ 65535 }
+        ensures value { result ≡ differing_below self.now rbuf start bytes.now }
+        ensures bound { result ≤ length bytes.now }
+    {
+        let low = self.next.saturating_sub(u64::from(rbuf));
+        let skip = count_under(low, start, bytes.len());
+        if skip == bytes.len() {
+            return 0;
+        }
+        let from = (start + skip as u64 - self.base) as usize;
+        differing(&self.bytes[from..from + bytes.len() - skip], &bytes[skip..])
+    }
+
+    /// Drops the bytes that are no longer kept, once they are more than `rbuf`: each is moved over once at most.
+    fn forget(&mut self, rbuf: u32)
+        requires low { self.old.base ≤ self.old.next - rbuf }
+        requires filled { self.old.next ≤ end_of self.old }
+        ensures place { (self.new.next ≡ self.old.next) × (self.new.runs ≡ self.old.runs) }
+        ensures end { end_of self.new ≡ end_of self.old }
+        ensures low { self.new.base ≤ self.new.next - rbuf }
+        ensures stale { self.new.next - rbuf ≤ self.new.base + rbuf }
+        ensures bytes { (p : ℕ) → self.new.base ≤ p → byte_at self.new p ≡ byte_at self.old p }
+    {
+        let low = self.next.saturating_sub(u64::from(rbuf));
+        let stale = low - self.base;
+        if stale > u64::from(rbuf) {
+            cut_out(&mut self.bytes, 0, stale as usize);
+            self.base = low;
         }
     }
 }
