@@ -6,3 +6,4 @@ pub mod Covered
 pub mod Parts
 pub mod Laid
 pub mod Joined
+pub mod Taken

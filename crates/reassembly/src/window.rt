@@ -129,4 +129,34 @@ impl Window {
             self.base = low;
         }
     }
+
+    /// Takes bytes from `low` on, which lie at or above `next`. Memory comes first, and nothing fails after it.
+    fn take(&mut self, low: u64, bytes: &[u8], policy: Policy) -> Result<Tally, AllocError>
+        requires laid { IsLaid self.old }
+        requires base { self.old.base ≤ self.old.next }
+        requires from { (length bytes.now ≡ 0) ⊎ (self.old.next ≤ low) }
+        requires short { length bytes.now ≤ 65535 }
+        requires reach { (low + length bytes.now < 2 ^ 63) × (end_of self.old < 2 ^ 63) }
+        ensures err { OnErr result (IsSameWindow self.old self.new) }
+        ensures base { self.new.base ≡ self.old.base }
+        ensures laid { OnOk result (IsLaid self.new) }
+        ensures rises { OnOk result (self.old.next ≤ self.new.next) }
+        ensures end { OnOk result (end_of self.new ≤ max (end_of self.old) (low + length bytes.now)) }
+        ensures bounded { (limit : ℕ) → (length bytes.now ≡ 0) ⊎ (low + length bytes.now ≤ limit) → IsBounded self.old limit → OnOk result (IsBounded self.new limit) }
+        ensures cells { OnOk result ((p : ℕ) → self.old.base ≤ p → cell_at self.new p ≡ taken_cell policy low bytes.now p (cell_at self.old p)) }
+        ensures tally { IfOk result (λ tally. tally ≡ taken_tally self.old low bytes.now) }
+    {
+        if bytes.is_empty() {
+            return Ok(Tally {
+                new: 0,
+                old: 0,
+                differ: 0,
+            });
+        }
+        let high = low + bytes.len() as u64;
+        self.reserve(high)?;
+        let tally = self.lay(low, bytes, policy);
+        self.accept(low, high);
+        Ok(tally)
+    }
 }

@@ -1,0 +1,31 @@
+use Rattle.std.proofs.Common.{◌≡◌, ◌≤◌, arith, ap, ◌∙◌, sym, length}
+use Rattle.std.proofs.lemmas.Bool.{eqb-false}
+
+use Rattle.reassembly.proofs.Taken.{IsTaken, cells_taken, tally_taken}
+use Rattle.reassembly.proofs.window.Window.take.Goals as goal
+
+from_next : (c : goal.After-accept) → c.args.self.now.next ≤ c.args.low
+from_next c =
+    let some : length c.args.bytes.now ≡ 0 → ⊥ = eqb-false (length c.args.bytes.now) 0 (sym c.if-is_empty.ensures) in
+    omega arith
+
+pub returns-clause-cells : goal.returns-clause-cells
+returns-clause-cells c p l =
+    cells_taken c.args.self.now c.reserve.new.self c.lay-tally.new.self c.accept.new.self c.args.low c.args.bytes.now c.args.policy c.requires.laid (from_next c)
+      (record {
+        mid_base = c.in_ok-reserve.ensures.place.0;
+        mid_next = c.in_ok-reserve.ensures.place.1;
+        mid_runs = c.in_ok-reserve.ensures.runs;
+        mid_bytes = λ i b. c.in_ok-reserve.ensures.bytes i (omega arith);
+        laid_base = c.lay-tally.ensures.place.0;
+        laid_next = c.lay-tally.ensures.place.1;
+        laid_runs = ap (λ v. v.items) c.lay-tally.ensures.place.2;
+        laid_bytes = c.lay-tally.ensures.bytes;
+        new_base = c.accept.ensures.same.0;
+        new_bytes = ap (λ v. v.items) c.accept.ensures.same.1;
+        accepted = c.accept.ensures.accepted })
+      p l
+
+pub returns-clause-tally : goal.returns-clause-tally
+returns-clause-tally c = c.lay-tally.ensures.tally
+    ∙ tally_taken c.args.self.now c.reserve.new.self c.args.low c.args.bytes.now c.requires.laid (let from : c.args.self.now.next ≤ c.args.low = from_next c in omega arith) c.in_ok-reserve.ensures.place.0 c.in_ok-reserve.ensures.runs (λ i b. c.in_ok-reserve.ensures.bytes i (omega arith))
