@@ -107,7 +107,7 @@ differing_same s r h p b = ⊎_elim
     (λ (l : s.next - s.rbuf ≤ p). ap (λ c. is_differing s.next s.rbuf p c b) (known_cell s r h p l))
     (cases_lt p (s.next - s.rbuf))
 
-placed_is : (a b : Placed) → a.new ≡ b.new → a.old ≡ b.old → a.differ ≡ b.differ → a.over ≡ b.over → a ≡ b
+pub placed_is : (a b : Placed) → a.new ≡ b.new → a.old ≡ b.old → a.differ ≡ b.differ → a.over ≡ b.over → a ≡ b
 placed_is a b n o d v =
     let made : ℕ → ℕ → ℕ → ℕ → Placed = λ w x y z. record { new = w; old = x; differ = y; over = z } in
     ap (λ w. made w a.old a.differ a.over) n ∙ ap (λ x. made b.new x a.differ a.over) o ∙ ap (λ y. made b.new b.old y a.over) d ∙ ap (λ z. made b.new b.old b.differ z) v

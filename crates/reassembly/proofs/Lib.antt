@@ -7,3 +7,4 @@ pub mod Parts
 pub mod Laid
 pub mod Joined
 pub mod Taken
+pub mod Placing

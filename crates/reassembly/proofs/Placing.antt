@@ -1,0 +1,264 @@
+-- A whole segment over the buffer: its bytes below next, those that are taken, and those past the limit.
+use Rattle.std.proofs.Common.{◌≡◌, ℕ, ◌+◌, ◌-◌, ◌<◌, ◌≤◌, min, Bool, true, false, cond, not, ◌&&◌, ◌||◌, refl, ap, ap₂, ◌∙◌, sym, arith, List, Option, Some, None, is_some, length, slice_index, take, drop, leb, ltb, eqb, le-leb, lt-ltb, le-ltb, ltb-true, leb-true, ⊎_elim, get_or-take, get_or-drop, length-drop, length-take-le}
+use Rattle.std.proofs.lemmas.Bool.{cases_lt, lt-leb, and_right, and_left, and_from, and_parts, cases_Bool, cond-true, cond-false, false_from_ne_true, both_ways}
+use Rattle.reassembly.specs.declared.answers.Policy.{Policy}
+use Rattle.reassembly.specs.declared.answers.Placed.{Placed}
+use Rattle.reassembly.specs.declared.laying.Tally.{Tally}
+use Rattle.reassembly.specs.declared.runs.Run.{Run}
+use Rattle.reassembly.specs.declared.window.Window.{Window}
+use Rattle.reassembly.specs.Receiver.{held, limit_of}
+use Rattle.reassembly.specs.Segment.{is_old, is_new, is_over, is_differing, is_last, cell_after, has_byte, held_after, count_below}
+use Rattle.reassembly.specs.Known.{Known}
+use Rattle.reassembly.specs.Runs.{run_at, is_accepted, is_covered, AreAbove, AreWithin}
+use Rattle.reassembly.specs.Window.{end_of, byte_at, cell_at, kept_at, known_of, IsLaid, IsBounded, taken_cell, taken_tally, differing_below}
+use Rattle.reassembly.proofs.Cells.{held_made, held_made_past}
+use Rattle.reassembly.proofs.Counts.{count_below-same, count_below-stretch, count_below-all, count_below-none}
+use Rattle.reassembly.proofs.Covered.{HasRun, covering, uncovered}
+use Rattle.reassembly.proofs.Laws.{StepsTo, counts_known, placed_is}
+use Rattle.reassembly.proofs.Laid.{length-part}
+use Rattle.reassembly.proofs.Taken.{accepted_within, accepted_from_next, accepted_below}
+
+both : (o : Option ℕ) (b : Bool) → o ≡ cond b o o
+both o true = refl
+both o false = refl
+
+not_accepted : (w : Window) → IsLaid w → (p : ℕ) → end_of w ≤ p → is_accepted w.next w.runs.items p ≡ false
+not_accepted w laid p l = false_from_ne_true (is_accepted w.next w.runs.items p) (λ e. let b : p < end_of w = accepted_within w laid p e in omega arith)
+
+false_true : (b : Bool) → b ≡ false → b ≡ true → ⊥
+false_true b f t = both_ways b f t
+
+-- no byte stands where the bounds contradict each other
+no_byte : (low : ℕ) (bytes : List ℕ) (p : ℕ) → (low ≤ p → p < low + length bytes → ⊥) → has_byte low bytes p ≡ false
+no_byte low bytes p h = false_from_ne_true (has_byte low bytes p) (λ e.
+    let parts = and_parts (leb low p) (ltb p (low + length bytes)) e in
+    h (leb-true low p parts.0) (ltb-true p (low + length bytes) parts.1))
+
+-- a cell that isn't written stays, whether a byte stands there or not
+stays : (here write : Bool) (byte : ℕ) (c : Option ℕ) → write ≡ false → cond here (cond write (Some byte) c) c ≡ c
+stays true write byte c e = rw e refl
+stays false write byte c e = refl
+
+-- what contracts see of a window, read at a position
+pub held_known : (w : Window) (fin : Option ℕ) (rbuf : ℕ) → IsLaid w → (p : ℕ) → held (known_of w fin rbuf).kept p ≡ kept_at w rbuf p
+held_known w fin rbuf laid p = ⊎_elim
+    (λ (l : p < end_of w). held_made (kept_at w rbuf) (end_of w) p l)
+    (λ (l : end_of w ≤ p).
+      let none : is_accepted w.next w.runs.items p ≡ false = not_accepted w laid p l in
+      held_made_past (kept_at w rbuf) (end_of w) p l ∙ rw none (both None (leb (w.next - rbuf) p)))
+    (cases_lt p (end_of w))
+
+-- at the kept positions it is the cell
+pub kept_cell : (w : Window) (rbuf p : ℕ) → w.next - rbuf ≤ p → kept_at w rbuf p ≡ cell_at w p
+kept_cell w rbuf p l = cond-true (leb (w.next - rbuf) p) (cell_at w p) None (le-leb (w.next - rbuf) p l)
+
+-- past the limit nothing is accepted
+pub bounded_cell : (w : Window) (limit p : ℕ) → IsBounded w limit → limit ≤ p → is_accepted w.next w.runs.items p ≡ false
+bounded_cell w limit p bounded l =
+    let next : w.next ≤ limit = bounded.next in
+    accepted_from_next w.next w.runs.items p (omega arith) ∙ uncovered w.runs.items p (λ h.
+      let below : p < (run_at w.runs.items h.at).end = h.below in
+      let end : (run_at w.runs.items h.at).end ≤ limit = bounded.runs.each h.at h.within in
+      omega arith)
+
+-- next itself isn't accepted
+pub next_open : (w : Window) → AreAbove w.runs.items w.next → is_accepted w.next w.runs.items w.next ≡ false
+next_open w above = accepted_from_next w.next w.runs.items w.next (omega arith) ∙ uncovered w.runs.items w.next (λ h.
+    let from : (run_at w.runs.items h.at).start ≤ w.next = h.from in
+    let up : w.next < (run_at w.runs.items h.at).start = above.each h.at h.within in
+    omega arith)
+
+-- between next and the limit both ways of saying what becomes of a cell agree
+after_between : (c : Option ℕ) (last : Bool) (byte : ℕ) → cond ((not (is_some c) && true) || (last && (is_some c && true))) (Some byte) c ≡ cond (not (is_some c && not last)) (Some byte) c
+after_between None true byte = refl
+after_between None false byte = refl
+after_between (Some x) true byte = refl
+after_between (Some x) false byte = refl
+
+-- one byte of the segment: m of its n bytes lie below next, k below the limit
+pub record IsCut (next limit start n m k : ℕ) : Type 0 where
+  pub below : m ≡ min (next - start) n
+  pub within : k ≡ min (limit - start) n
+  pub order : next ≤ limit
+
+pub part_byte : (m k n : ℕ) (segment : List ℕ) (i : ℕ) → length segment ≡ n → m ≤ k → k ≤ n → i < k - m → slice_index (take (k - m) (drop m segment)) i ≡ slice_index segment (m + i)
+part_byte m k n segment i len a b l = get_or-take (k - m) (drop m segment) i 0 l ∙ get_or-drop m segment i 0
+
+pub after_is_taken : (next limit start m k p : ℕ) (policy : Policy) (segment : List ℕ) (c : Option ℕ) → IsCut next limit start (length segment) m k
+    → (p < next → is_some c ≡ true) → (limit ≤ p → c ≡ None)
+    → held_after next limit policy start segment p c ≡ taken_cell policy (start + m) (take (k - m) (drop m segment)) p c
+after_is_taken next limit start m k p policy segment c cut below past =
+    let n = length segment in
+    let cm : m ≡ min (next - start) n = cut.below in
+    let ck : k ≡ min (limit - start) n = cut.within in
+    let order : next ≤ limit = cut.order in
+    let middle = take (k - m) (drop m segment) in
+    let low = start + m in
+    let len : length middle ≡ k - m = length-part m k segment (omega arith) (omega arith) in
+    let last = is_last policy in
+    ⊎_elim
+      (λ (under : p < next).
+        let e1 : ltb p next ≡ true = lt-ltb p next under in
+        let e2 : leb next p ≡ false = lt-leb next p under in
+        let out : has_byte low middle p ≡ false = no_byte low middle p (λ f g. omega arith) in
+        rw (out, e1, e2) (stays (has_byte start segment p) (last && false) (slice_index segment (p - start)) c (and_right last false refl)))
+      (λ (over : next ≤ p). ⊎_elim
+        (λ (inside : p < limit).
+          let e1 : ltb p next ≡ false = le-ltb p next over in
+          let e2 : leb next p ≡ true = le-leb next p over in
+          let e3 : ltb p limit ≡ true = lt-ltb p limit inside in
+          ⊎_elim
+            (λ (here : has_byte start segment p ≡ true).
+              let parts = and_parts (leb start p) (ltb p (start + n)) here in
+              let from : start ≤ p = leb-true start p parts.0 in
+              let to : p < start + n = ltb-true p (start + n) parts.1 in
+              let in_middle : has_byte low middle p ≡ true = and_from (leb low p) (ltb p (low + length middle)) (le-leb low p (omega arith)) (lt-ltb p (low + length middle) (omega arith)) in
+              let again : m + (p - low) ≡ p - start = omega arith in
+              let byte : slice_index middle (p - low) ≡ slice_index segment (p - start) = part_byte m k n segment (p - low) refl (omega arith) (omega arith) (omega arith) ∙ ap (slice_index segment) again in
+              rw (here, in_middle, e1, e2, e3, byte) (after_between c last (slice_index segment (p - start))))
+            (λ (gone : has_byte start segment p ≡ false).
+              let out : has_byte low middle p ≡ false = no_byte low middle p (λ f g. false_true (has_byte start segment p) gone
+                (and_from (leb start p) (ltb p (start + n)) (le-leb start p (omega arith)) (lt-ltb p (start + n) (omega arith)))) in
+              rw (gone, out) refl)
+            (cases_Bool (has_byte start segment p)))
+        (λ (outside : limit ≤ p).
+          let none : c ≡ None = past outside in
+          let e1 : ltb p next ≡ false = le-ltb p next over in
+          let e3 : ltb p limit ≡ false = le-ltb p limit outside in
+          let out : has_byte low middle p ≡ false = no_byte low middle p (λ f g. omega arith) in
+          rw (none, out, e1, e3) (stays (has_byte start segment p) (last && false) (slice_index segment (p - start)) None (and_right last false refl)))
+        (cases_lt p limit))
+      (cases_lt p next)
+
+-- the counts of three stretches: below next, between, and past the limit
+count_three : (f g h : ℕ → Bool) (last : ℕ → Bool) (m k n : ℕ) → m ≤ k → k ≤ n
+    → ((i : ℕ) → i < m → f i ≡ g i) → ((i : ℕ) → i < k - m → f (m + i) ≡ h i) → ((i : ℕ) → i < n - k → f (k + i) ≡ last i)
+    → count_below f n ≡ count_below g m + count_below h (k - m) + count_below last (n - k)
+count_three f g h last m k n a b x y z =
+    let one : count_below f m ≡ count_below g m = count_below-same f g m x in
+    let two : count_below f k ≡ count_below f m + count_below h (k - m) = count_below-stretch f h m (k - m) k (omega arith) y in
+    let three : count_below f n ≡ count_below f k + count_below last (n - k) = count_below-stretch f last k (n - k) n (omega arith) z in
+    omega (arith, one, two, three)
+
+yes_all : (n : ℕ) → count_below (λ i. true) n ≡ n
+yes_all n = count_below-all (λ i. true) n (λ i l. refl)
+
+no_all : (n : ℕ) → count_below (λ i. false) n ≡ 0
+no_all n = count_below-none (λ i. false) n (λ i l. refl)
+
+kept_below : (w : Window) (rbuf p : ℕ) → p < w.next → kept_at w rbuf p ≡ cond (leb (w.next - rbuf) p) (Some (byte_at w p)) None
+kept_below w rbuf p l = rw (accepted_below w.next w.runs.items p l) refl
+
+differs_below : (next rbuf p byte b : ℕ) (k : Bool) → k ≡ leb (next - rbuf) p → is_differing next rbuf p (cond k (Some byte) None) b ≡ (k && not (eqb byte b))
+differs_below next rbuf p byte b true e = rw (← e) refl
+differs_below next rbuf p byte b false e = refl
+
+some_of_cond : (b : Bool) (x : ℕ) → is_some (cond b (Some x) None) ≡ b
+some_of_cond true x = refl
+some_of_cond false x = refl
+
+-- the judging words in each stretch
+old_below : (next p : ℕ) (c : Option ℕ) → p < next → is_old next p c ≡ true
+old_below next p c l = rw (lt-ltb p next l) refl
+
+new_below : (next limit p : ℕ) (c : Option ℕ) → p < next → is_new next limit p c ≡ false
+new_below next limit p c l = rw (lt-ltb p next l) refl
+
+over_below : (next limit p : ℕ) (c : Option ℕ) → p < next → is_over next limit p c ≡ false
+over_below next limit p c l = rw (lt-ltb p next l) refl
+
+old_above : (next p : ℕ) (c : Option ℕ) → next ≤ p → is_old next p c ≡ is_some c
+old_above next p c l = rw (le-ltb p next l) refl
+
+and_true : (b : Bool) → (b && true) ≡ b
+and_true true = refl
+and_true false = refl
+
+new_between : (next limit p : ℕ) (c : Option ℕ) → next ≤ p → p < limit → is_new next limit p c ≡ not (is_some c)
+new_between next limit p c a b = rw (le-ltb p next a, lt-ltb p limit b) (and_true (not (is_some c)))
+
+new_past : (next limit p : ℕ) (c : Option ℕ) → limit ≤ p → is_new next limit p c ≡ false
+new_past next limit p c b = rw (le-ltb p limit b) (and_right (not (is_old next p c)) false refl)
+
+over_between : (next limit p : ℕ) (c : Option ℕ) → p < limit → is_over next limit p c ≡ false
+over_between next limit p c b = rw (lt-leb limit p b) (and_right (not (is_old next p c)) false refl)
+
+over_past : (next limit p : ℕ) (c : Option ℕ) → next ≤ p → limit ≤ p → is_over next limit p c ≡ not (is_some c)
+over_past next limit p c a b = rw (le-ltb p next a, le-leb limit p b) (and_true (not (is_some c)))
+
+differs_above : (next rbuf p byte b : ℕ) (covered : Bool) → next ≤ p → is_differing next rbuf p (cond covered (Some byte) None) b ≡ (covered && not (eqb byte b))
+differs_above next rbuf p byte b true l = rw (le-leb (next - rbuf) p (omega arith)) refl
+differs_above next rbuf p byte b false l = refl
+
+-- the counts of the whole segment
+pub counts_placed : (w : Window) (fin : Option ℕ) (rbuf limit start m k : ℕ) (segment : List ℕ) → IsLaid w → IsBounded w limit → limit ≡ limit_of w.next fin rbuf → IsCut w.next limit start (length segment) m k
+    → (tally : Tally) (below : ℕ) → tally ≡ taken_tally w (start + m) (take (k - m) (drop m segment)) → below ≡ differing_below w rbuf start (take m segment)
+    → (placed : Placed) → placed ≡ record { new = tally.new; old = m + tally.old; differ = below + tally.differ; over = length segment - k }
+    → placed ≡ counts_known (known_of w fin rbuf) start segment
+counts_placed w fin rbuf limit start m k segment laid bounded is_limit cut tally below told_tally told_below placed told =
+    let n = length segment in
+    let next = w.next in
+    let low = start + m in
+    let middle = take (k - m) (drop m segment) in
+    let cm : m ≡ min (next - start) n = cut.below in
+    let ck : k ≡ min (limit - start) n = cut.within in
+    let order : next ≤ limit = cut.order in
+    let len : length middle ≡ k - m = length-part m k segment (omega arith) (omega arith) in
+    let front : length (take m segment) ≡ m = length-take-le m segment (omega arith) in
+    let cell : ℕ → Option ℕ = λ p. held (known_of w fin rbuf).kept p in
+    let seen : (p : ℕ) → cell p ≡ kept_at w rbuf p = held_known w fin rbuf laid in
+    let covered : ℕ → Bool = λ i. is_covered w.runs.items (low + i) in
+    let place : (i : ℕ) → start + (m + i) ≡ low + i = λ i. omega arith in
+    let cell1 : (i : ℕ) → i < m → cell (start + i) ≡ cond (leb (next - rbuf) (start + i)) (Some (byte_at w (start + i))) None = λ i l. seen (start + i) ∙ kept_below w rbuf (start + i) (omega arith) in
+    let cell2 : (i : ℕ) → i < k - m → cell (start + (m + i)) ≡ cond (covered i) (Some (byte_at w (low + i))) None = λ i l.
+      ap cell (place i) ∙ seen (low + i) ∙ kept_cell w rbuf (low + i) (omega arith) ∙ ap (λ b. cond b (Some (byte_at w (low + i))) None) (accepted_from_next next w.runs.items (low + i) (omega arith)) in
+    let some2 : (i : ℕ) → i < k - m → is_some (cell (start + (m + i))) ≡ covered i = λ i l. ap is_some (cell2 i l) ∙ some_of_cond (covered i) (byte_at w (low + i)) in
+    let cell3 : (i : ℕ) → i < n - k → cell (start + (k + i)) ≡ None = λ i l.
+      seen (start + (k + i)) ∙ kept_cell w rbuf (start + (k + i)) (omega arith) ∙ ap (λ b. cond b (Some (byte_at w (start + (k + i)))) None) (bounded_cell w limit (start + (k + i)) bounded (omega arith)) in
+    let new_ : ℕ → Bool = λ i. is_new next limit (start + i) (cell (start + i)) in
+    let old_ : ℕ → Bool = λ i. is_old next (start + i) (cell (start + i)) in
+    let over_ : ℕ → Bool = λ i. is_over next limit (start + i) (cell (start + i)) in
+    let differ_ : ℕ → Bool = λ i. is_differing next rbuf (start + i) (cell (start + i)) (slice_index segment i) in
+    let here : ℕ → Bool = λ i. leb (next - rbuf) (start + i) && not (eqb (byte_at w (start + i)) (slice_index segment i)) in
+    let there : ℕ → Bool = λ i. covered i && not (eqb (byte_at w (low + i)) (slice_index middle i)) in
+    let new : count_below new_ n ≡ count_below (λ i. false) m + count_below (λ i. not (covered i)) (k - m) + count_below (λ i. false) (n - k)
+      = count_three new_ (λ i. false) (λ i. not (covered i)) (λ i. false) m k n (omega arith) (omega arith)
+          (λ i l. new_below next limit (start + i) (cell (start + i)) (omega arith))
+          (λ i l. new_between next limit (start + (m + i)) (cell (start + (m + i))) (omega arith) (omega arith) ∙ ap not (some2 i l))
+          (λ i l. new_past next limit (start + (k + i)) (cell (start + (k + i))) (omega arith)) in
+    let old : count_below old_ n ≡ count_below (λ i. true) m + count_below covered (k - m) + count_below (λ i. false) (n - k)
+      = count_three old_ (λ i. true) covered (λ i. false) m k n (omega arith) (omega arith)
+          (λ i l. old_below next (start + i) (cell (start + i)) (omega arith))
+          (λ i l. old_above next (start + (m + i)) (cell (start + (m + i))) (omega arith) ∙ some2 i l)
+          (λ i l. old_above next (start + (k + i)) (cell (start + (k + i))) (omega arith) ∙ ap is_some (cell3 i l)) in
+    let over : count_below over_ n ≡ count_below (λ i. false) m + count_below (λ i. false) (k - m) + count_below (λ i. true) (n - k)
+      = count_three over_ (λ i. false) (λ i. false) (λ i. true) m k n (omega arith) (omega arith)
+          (λ i l. over_below next limit (start + i) (cell (start + i)) (omega arith))
+          (λ i l. over_between next limit (start + (m + i)) (cell (start + (m + i))) (omega arith))
+          (λ i l. over_past next limit (start + (k + i)) (cell (start + (k + i))) (omega arith) (omega arith) ∙ ap (λ c. not (is_some c)) (cell3 i l)) in
+    let differ : count_below differ_ n ≡ count_below here m + count_below there (k - m) + count_below (λ i. false) (n - k)
+      = count_three differ_ here there (λ i. false) m k n (omega arith) (omega arith)
+          (λ i l. ap (λ c. is_differing next rbuf (start + i) c (slice_index segment i)) (cell1 i l) ∙ differs_below next rbuf (start + i) (byte_at w (start + i)) (slice_index segment i) (leb (next - rbuf) (start + i)) refl)
+          (λ i l. ap (λ c. is_differing next rbuf (start + (m + i)) c (slice_index segment (m + i))) (cell2 i l)
+            ∙ differs_above next rbuf (start + (m + i)) (byte_at w (low + i)) (slice_index segment (m + i)) (covered i) (omega arith)
+            ∙ ap (λ b. covered i && not (eqb (byte_at w (low + i)) b)) (sym (part_byte m k n segment i refl (omega arith) (omega arith) l)))
+          (λ i l. ap (λ c. is_differing next rbuf (start + (k + i)) c (slice_index segment (k + i))) (cell3 i l)) in
+    let below_is : below ≡ count_below here m = told_below
+      ∙ ap (count_below (λ i. leb (next - rbuf) (start + i) && not (eqb (byte_at w (start + i)) (slice_index (take m segment) i)))) front
+      ∙ count_below-same (λ i. leb (next - rbuf) (start + i) && not (eqb (byte_at w (start + i)) (slice_index (take m segment) i))) here m
+          (λ i l. ap (λ b. leb (next - rbuf) (start + i) && not (eqb (byte_at w (start + i)) b)) (get_or-take m segment i 0 l)) in
+    let t_new : tally.new ≡ count_below (λ i. not (covered i)) (k - m) = ap (λ t. t.new) told_tally ∙ ap (count_below (λ i. not (covered i))) len in
+    let t_old : tally.old ≡ count_below covered (k - m) = ap (λ t. t.old) told_tally ∙ ap (count_below covered) len in
+    let t_differ : tally.differ ≡ count_below there (k - m) = ap (λ t. t.differ) told_tally ∙ ap (count_below there) len in
+    let none = no_all m in
+    let none2 = no_all (k - m) in
+    let none3 = no_all (n - k) in
+    let all = yes_all m in
+    let all3 = yes_all (n - k) in
+    let made : Placed = record { new = count_below new_ n; old = count_below old_ n; differ = count_below differ_ n; over = count_below over_ n } in
+    let same : record { new = tally.new; old = m + tally.old; differ = below + tally.differ; over = n - k } ≡ made = placed_is _ made
+      (omega (arith, new, t_new, none, none3)) (omega (arith, old, t_old, all, none3)) (omega (arith, differ, below_is, t_differ, none3)) (omega (arith, over, none, none2, all3)) in
+    let limit_same : made ≡ counts_known (known_of w fin rbuf) start segment = ap
+      (λ x. record { new = count_below (λ i. is_new next x (start + i) (cell (start + i))) n; old = count_below old_ n; differ = count_below differ_ n; over = count_below (λ i. is_over next x (start + i) (cell (start + i))) n })
+      is_limit in
+    told ∙ same ∙ limit_same
