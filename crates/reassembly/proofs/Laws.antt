@@ -8,6 +8,7 @@ use Rattle.reassembly.specs.declared.answers.Placed.{Placed}
 use Rattle.reassembly.specs.Receiver.{Receiver, held, next_of, kept, limit_of}
 use Rattle.reassembly.specs.Segment.{is_old, is_new, is_over, is_differing, is_last, cell_after, has_byte, held_after, accept_at, count_below, counts_at}
 use Rattle.reassembly.specs.Known.{Known, StandsFor}
+use Rattle.reassembly.specs.Steps.{StepsTo, counts_known}
 use Rattle.reassembly.proofs.Cells.{held_made, held_made_past, held_past, below_next, at_next, next_is}
 use Rattle.reassembly.proofs.Counts.{count_below-same}
 
@@ -38,16 +39,6 @@ held_accepted r q bytes policy rbuf p =
         let none : held r.cells p ≡ None = held_past r.cells p (omega arith) in
         held_made_past step end p l ∙ sym (after_past next limit policy q bytes p (held r.cells p) (omega arith) ∙ none))
       (cases_lt p end)
-
--- what a stream knows after a segment of bytes from q on, told from what it knew
-pub record StepsTo (q : ℕ) (bytes : List ℕ) (policy : Policy) (s n : Known) : Type 0 where
-  pub fin : n.fin ≡ s.fin
-  pub rbuf : n.rbuf ≡ s.rbuf
-  pub rises : s.next ≤ n.next
-  pub filled : (p : ℕ) → s.next ≤ p → p < n.next → is_some (held_after s.next (limit_of s.next s.fin s.rbuf) policy q bytes p (held s.kept p)) ≡ true
-  pub empty : is_some (held_after s.next (limit_of s.next s.fin s.rbuf) policy q bytes n.next (held s.kept n.next)) ≡ false
-  pub cells : (p : ℕ) → n.next - n.rbuf ≤ p → held n.kept p ≡ held_after s.next (limit_of s.next s.fin s.rbuf) policy q bytes p (held s.kept p)
-  pub forgotten : (p : ℕ) → p < n.next - n.rbuf → held n.kept p ≡ None
 
 -- the kept cell is the receiver's
 known_cell : (s : Known) (r : Receiver) → StandsFor s r → (p : ℕ) → s.next - s.rbuf ≤ p → held s.kept p ≡ held r.cells p
@@ -80,14 +71,6 @@ stands_after q bytes policy s n step r h =
         (λ (l : p < n.next - n.rbuf). step.forgotten p l ∙ sym (cond-false (leb (n.next - n.rbuf) p) (held acc.cells p) None (lt-leb (n.next - n.rbuf) p l)))
         (λ (l : n.next - n.rbuf ≤ p). step.cells p l ∙ known p (omega arith) ∙ sym (cell p) ∙ sym (cond-true (leb (n.next - n.rbuf) p) (held acc.cells p) None (le-leb (n.next - n.rbuf) p l)))
         (cases_lt p (n.next - n.rbuf))) }
-
--- how the segment's bytes are judged, told from what the stream knows
-abbrev pub counts_known : Known → ℕ → List ℕ → Placed
-counts_known s q bytes = record {
-  new = count_below (λ i. is_new s.next (limit_of s.next s.fin s.rbuf) (q + i) (held s.kept (q + i))) (length bytes);
-  old = count_below (λ i. is_old s.next (q + i) (held s.kept (q + i))) (length bytes);
-  differ = count_below (λ i. is_differing s.next s.rbuf (q + i) (held s.kept (q + i)) (slice_index bytes i)) (length bytes);
-  over = count_below (λ i. is_over s.next (limit_of s.next s.fin s.rbuf) (q + i) (held s.kept (q + i))) (length bytes) }
 
 -- a cell below next is old whatever it holds, and one that isn't kept is never compared
 old_same : (s : Known) (r : Receiver) → StandsFor s r → (p : ℕ) → is_old s.next p (held s.kept p) ≡ is_old s.next p (held r.cells p)

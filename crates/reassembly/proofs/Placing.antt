@@ -14,7 +14,8 @@ use Rattle.reassembly.specs.Window.{end_of, byte_at, cell_at, kept_at, known_of,
 use Rattle.reassembly.proofs.Cells.{held_made, held_made_past}
 use Rattle.reassembly.proofs.Counts.{count_below-same, count_below-stretch, count_below-all, count_below-none}
 use Rattle.reassembly.proofs.Covered.{HasRun, covering, uncovered}
-use Rattle.reassembly.proofs.Laws.{StepsTo, counts_known, placed_is}
+use Rattle.reassembly.specs.Steps.{StepsTo, counts_known}
+use Rattle.reassembly.proofs.Laws.{placed_is}
 use Rattle.reassembly.proofs.Laid.{length-part}
 use Rattle.reassembly.proofs.Taken.{accepted_within, accepted_from_next, accepted_below}
 
@@ -262,3 +263,45 @@ counts_placed w fin rbuf limit start m k segment laid bounded is_limit cut tally
       (λ x. record { new = count_below (λ i. is_new next x (start + i) (cell (start + i))) n; old = count_below old_ n; differ = count_below differ_ n; over = count_below (λ i. is_over next x (start + i) (cell (start + i))) n })
       is_limit in
     told ∙ same ∙ limit_same
+
+-- the buffer before, after bytes were taken, and after old ones were dropped
+pub record IsPlaced (old mid new : Window) (rbuf low : ℕ) (middle : List ℕ) (policy : Policy) : Type 0 where
+  pub old_laid : IsLaid old
+  pub old_kept : old.base ≤ old.next - rbuf
+  pub mid_laid : IsLaid mid
+  pub mid_base : mid.base ≡ old.base
+  pub rises : old.next ≤ mid.next
+  pub taken : (p : ℕ) → old.base ≤ p → cell_at mid p ≡ taken_cell policy low middle p (cell_at old p)
+  pub new_laid : IsLaid new
+  pub new_next : new.next ≡ mid.next
+  pub new_runs : new.runs.items ≡ mid.runs.items
+  pub new_kept : new.base ≤ new.next - rbuf
+  pub new_bytes : (p : ℕ) → new.base ≤ p → byte_at new p ≡ byte_at mid p
+
+pub steps_placed : (old mid new : Window) (fin : Option ℕ) (rbuf limit start m k : ℕ) (policy : Policy) (segment : List ℕ)
+    → IsPlaced old mid new rbuf (start + m) (take (k - m) (drop m segment)) policy → IsBounded old limit → limit ≡ limit_of old.next fin rbuf → IsCut old.next limit start (length segment) m k
+    → StepsTo start segment policy (known_of old fin rbuf) (known_of new fin rbuf)
+steps_placed old mid new fin rbuf limit start m k policy segment h bounded is_limit cut =
+    let after : ℕ → Option ℕ → Option ℕ = λ p c. held_after old.next (limit_of old.next fin rbuf) policy start segment p c in
+    let rises : old.next ≤ mid.next = h.rises in
+    let same_next : new.next ≡ mid.next = h.new_next in
+    let old_kept : old.base ≤ old.next - rbuf = h.old_kept in
+    let new_kept : new.base ≤ new.next - rbuf = h.new_kept in
+    let told : (p : ℕ) → old.next - rbuf ≤ p → after p (held (known_of old fin rbuf).kept p) ≡ cell_at mid p = λ p l.
+      ap (after p) (held_known old fin rbuf h.old_laid p ∙ kept_cell old rbuf p l)
+      ∙ ap (λ x. held_after old.next x policy start segment p (cell_at old p)) (sym is_limit)
+      ∙ after_is_taken old.next limit start m k p policy segment (cell_at old p) cut
+          (λ b. some_of_cond (is_accepted old.next old.runs.items p) (byte_at old p) ∙ accepted_below old.next old.runs.items p b)
+          (λ b. ap (λ x. cond x (Some (byte_at old p)) None) (bounded_cell old limit p bounded b))
+      ∙ sym (h.taken p (omega arith)) in
+    let some_mid : (p : ℕ) → is_some (cell_at mid p) ≡ is_accepted mid.next mid.runs.items p = λ p. some_of_cond (is_accepted mid.next mid.runs.items p) (byte_at mid p) in
+    let same_cell : (p : ℕ) → new.base ≤ p → cell_at new p ≡ cell_at mid p = λ p l.
+      ap₂ (λ b x. cond b (Some x) None) (ap₂ (λ n (rs : List Run). is_accepted n rs p) same_next h.new_runs) (h.new_bytes p l) in
+    record {
+      fin = refl;
+      rbuf = refl;
+      rises = omega arith;
+      filled = λ p l b. ap is_some (told p (omega arith)) ∙ some_mid p ∙ accepted_below mid.next mid.runs.items p (omega arith);
+      empty = ap is_some (told new.next (omega arith)) ∙ some_mid new.next ∙ ap (is_accepted mid.next mid.runs.items) same_next ∙ next_open mid h.mid_laid.above;
+      cells = λ p l. held_known new fin rbuf h.new_laid p ∙ kept_cell new rbuf p l ∙ same_cell p (omega arith) ∙ sym (told p (omega arith));
+      forgotten = λ p l. held_known new fin rbuf h.new_laid p ∙ cond-false (leb (new.next - rbuf) p) (cell_at new p) None (lt-leb (new.next - rbuf) p l) }

@@ -8,7 +8,7 @@ use Rattle.reassembly.specs.declared.window.Window.{Window}
 use Rattle.reassembly.specs.Runs.{run_at, is_accepted, is_covered, AreAbove}
 use Rattle.reassembly.specs.Segment.{is_last, has_byte, count_below}
 use Rattle.reassembly.specs.Window.{end_of, byte_at, cell_at, IsLaid, laid_at, taken_cell, taken_tally}
-use Rattle.reassembly.proofs.Counts.{count_below-same}
+use Rattle.reassembly.proofs.Counts.{count_below-same, count_below-le}
 use Rattle.reassembly.proofs.Covered.{covering}
 
 -- the buffer has every accepted position
@@ -100,3 +100,8 @@ tally_taken old mid low bytes laid from base runs same =
           (λ i. is_covered old.runs.items (low + i) && not (eqb (byte_at old (low + i)) (slice_index bytes i)))
           (length bytes)
           (λ i l. only_where (is_covered old.runs.items (low + i)) _ _ (λ e. ap (λ x. not (eqb x (slice_index bytes i))) (byte_same old mid base same (low + i) (omega arith) (covered_within old laid (low + i) e)))))
+
+pub taken_few : (w : Window) (low : ℕ) (bytes : List ℕ) (t : Tally) → t ≡ taken_tally w low bytes → (t.old ≤ length bytes) × (t.differ ≤ length bytes)
+taken_few w low bytes t e =
+    (rw (ap (λ (x : Tally). x.old) e) (count_below-le (λ i. is_covered w.runs.items (low + i)) (length bytes)),
+     rw (ap (λ (x : Tally). x.differ) e) (count_below-le (λ i. is_covered w.runs.items (low + i) && not (eqb (byte_at w (low + i)) (slice_index bytes i))) (length bytes)))

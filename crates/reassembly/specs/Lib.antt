@@ -7,3 +7,4 @@ pub mod Known
 pub mod Runs
 pub mod Laying
 pub mod Window
+pub mod Steps

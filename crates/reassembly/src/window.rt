@@ -1,5 +1,5 @@
 // The buffer of a stream: the bytes from `base` on, of which those below `next` and those in a run are accepted.
-ghost use Rattle.std.specs.Prelude.{◌≡◌, ℕ, ◌+◌, ◌-◌, ◌<◌, ◌≤◌, ◌^◌, ◌⊎◌, ◌||◌, ◌&&◌, [], length, min, max, vec_len, vec_capacity, nat_le, nat_lt, slice_index, OnOk, OnErr, IfOk};
+ghost use Rattle.std.specs.Prelude.{◌≡◌, ℕ, ◌+◌, ◌-◌, ◌<◌, ◌≤◌, ◌^◌, ◌⊎◌, ◌||◌, ◌&&◌, [], length, min, max, vec_len, vec_capacity, nat_le, nat_lt, slice_index, OnOk, OnErr, IfOk, Option};
 ghost use Rattle.reassembly.specs.Runs.{AreOrdered, AreAbove, AreWithin, is_accepted};
 ghost use Rattle.reassembly.specs.Laying.{laid_byte, tally_of};
 
@@ -24,7 +24,9 @@ fn count_under(position: u64, start: u64, len: usize) -> usize
 }
 
 impl Window {
-    ghost use Rattle.reassembly.specs.Window.{end_of, byte_at, cell_at, IsLaid, IsSized, IsBounded, IsSameWindow, laid_at, taken_cell, taken_tally, differing_below};
+    ghost use Rattle.reassembly.specs.Receiver.{limit_of};
+    ghost use Rattle.reassembly.specs.Steps.{StepsTo, counts_known};
+    ghost use Rattle.reassembly.specs.Window.{end_of, known_of, byte_at, cell_at, IsLaid, IsSized, IsBounded, IsSameWindow, laid_at, taken_cell, taken_tally, differing_below};
 
     /// A buffer with nothing in it. It takes no memory.
     pub fn new(alloc: Global) -> Self
@@ -114,8 +116,9 @@ impl Window {
 
     /// Drops the bytes that are no longer kept, once they are more than `rbuf`: each is moved over once at most.
     fn forget(&mut self, rbuf: u32)
+        requires laid { IsLaid self.old }
         requires low { self.old.base ≤ self.old.next - rbuf }
-        requires filled { self.old.next ≤ end_of self.old }
+        ensures laid { IsLaid self.new }
         ensures place { (self.new.next ≡ self.old.next) × (self.new.runs ≡ self.old.runs) }
         ensures end { end_of self.new ≡ end_of self.old }
         ensures low { self.new.base ≤ self.new.next - rbuf }
@@ -141,10 +144,11 @@ impl Window {
         ensures base { self.new.base ≡ self.old.base }
         ensures laid { OnOk result (IsLaid self.new) }
         ensures rises { OnOk result (self.old.next ≤ self.new.next) }
-        ensures end { OnOk result (end_of self.new ≤ max (end_of self.old) (low + length bytes.now)) }
+        ensures end { (m : ℕ) → (length bytes.now ≡ 0) ⊎ (low + length bytes.now ≤ m) → end_of self.old ≤ m → OnOk result (end_of self.new ≤ m) }
         ensures bounded { (limit : ℕ) → (length bytes.now ≡ 0) ⊎ (low + length bytes.now ≤ limit) → IsBounded self.old limit → OnOk result (IsBounded self.new limit) }
         ensures cells { OnOk result ((p : ℕ) → self.old.base ≤ p → cell_at self.new p ≡ taken_cell policy low bytes.now p (cell_at self.old p)) }
         ensures tally { IfOk result (λ tally. tally ≡ taken_tally self.old low bytes.now) }
+        ensures few { IfOk result (λ tally. (tally.old ≤ length bytes.now) × (tally.differ ≤ length bytes.now)) }
     {
         if bytes.is_empty() {
             return Ok(Tally {
@@ -158,5 +162,42 @@ impl Window {
         let tally = self.lay(low, bytes, policy);
         self.accept(low, high);
         Ok(tally)
+    }
+
+    /// Places a segment that begins at `start`, where bytes from `limit` on are not accepted, and answers how its bytes
+    /// were judged. Where memory is refused, nothing has changed.
+    pub fn place(
+        &mut self,
+        start: u64,
+        segment: &[u8],
+        policy: Policy,
+        limit: u64,
+        rbuf: u32,
+    ) -> Result<Placed, AllocError>
+        requires laid { IsLaid self.old }
+        requires sized { IsSized self.old rbuf }
+        requires bounded { IsBounded self.old limit }
+        requires window { limit ≤ self.old.next + rbuf }
+        requires short { length segment.now ≤ 65535 }
+        requires reach { (start + 65535 < 2 ^ 63) × (self.old.next + rbuf < 2 ^ 63) }
+        ensures err { OnErr result (IsSameWindow self.old self.new) }
+        ensures laid { OnOk result (IsLaid self.new) }
+        ensures sized { OnOk result (IsSized self.new rbuf) }
+        ensures bounded { OnOk result (IsBounded self.new limit) }
+        ensures steps { OnOk result ((fin : Option ℕ) → limit ≡ limit_of self.old.next fin rbuf → StepsTo start segment.now policy (known_of self.old fin rbuf) (known_of self.new fin rbuf)) }
+        ensures counts { IfOk result (λ placed. (fin : Option ℕ) → limit ≡ limit_of self.old.next fin rbuf → placed ≡ counts_known (known_of self.old fin rbuf) start segment.now) }
+        ensures bounds { IfOk result (λ placed. placed.old ≤ length segment.now) }
+    {
+        let below = count_under(self.next, start, segment.len());
+        let within = count_under(limit, start, segment.len());
+        let differ = self.compare(start, &segment[..below], rbuf);
+        let tally = self.take(start + below as u64, &segment[below..within], policy)?;
+        self.forget(rbuf);
+        Ok(Placed {
+            new: tally.new,
+            old: below as u32 + tally.old,
+            differ: differ + tally.differ,
+            over: (segment.len() - within) as u32,
+        })
     }
 }

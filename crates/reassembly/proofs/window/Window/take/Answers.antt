@@ -1,7 +1,8 @@
 use Rattle.std.proofs.Common.{◌≡◌, ◌≤◌, arith, ap, ◌∙◌, sym, length}
 use Rattle.std.proofs.lemmas.Bool.{eqb-false}
 
-use Rattle.reassembly.proofs.Taken.{IsTaken, cells_taken, tally_taken}
+use Rattle.reassembly.specs.Window.{taken_tally}
+use Rattle.reassembly.proofs.Taken.{IsTaken, cells_taken, tally_taken, taken_few}
 use Rattle.reassembly.proofs.window.Window.take.Goals as goal
 
 from_next : (c : goal.After-accept) → c.args.self.now.next ≤ c.args.low
@@ -26,6 +27,12 @@ returns-clause-cells c p l =
         accepted = c.accept.ensures.accepted })
       p l
 
-pub returns-clause-tally : goal.returns-clause-tally
-returns-clause-tally c = c.lay-tally.ensures.tally
+judged : (c : goal.After-accept) → c.lay-tally.result ≡ taken_tally c.args.self.now c.args.low c.args.bytes.now
+judged c = c.lay-tally.ensures.tally
     ∙ tally_taken c.args.self.now c.reserve.new.self c.args.low c.args.bytes.now c.requires.laid (let from : c.args.self.now.next ≤ c.args.low = from_next c in omega arith) c.in_ok-reserve.ensures.place.0 c.in_ok-reserve.ensures.runs (λ i b. c.in_ok-reserve.ensures.bytes i (omega arith))
+
+pub returns-clause-tally : goal.returns-clause-tally
+returns-clause-tally c = judged c
+
+pub returns-clause-few : goal.returns-clause-few
+returns-clause-few c = taken_few c.args.self.now c.args.low c.args.bytes.now c.lay-tally.result (judged c)
