@@ -7,3 +7,6 @@ mod raise;
 
 pub use phases::{orphan_raise, phase_r, phase_s};
 pub use raise::{Raise, RaiseList};
+
+#[cfg(test)]
+mod tests;
