@@ -1,2 +1,9 @@
+pub mod Firing
+pub mod Growth
+pub mod Order
 pub mod Paths
 pub mod Rows
+pub mod Sorted
+pub mod WalkLaw
+pub mod Walks
+pub mod Whole

@@ -35,3 +35,7 @@ pub record IsAddable (defs : List EventDef) (d : EventDef) : Type 0 where
 abbrev pub AreAddable : List EventDef → List EventDef → Type 0
 AreAddable before [] = ⊤
 AreAddable before (d ∷ ds) = IsAddable before d × AreAddable (before ++ d ∷ []) ds
+
+-- what `Defs` keeps of its events
+abbrev pub AreDefs : List EventDef → Type 0
+AreDefs defs = AreAddable [] defs

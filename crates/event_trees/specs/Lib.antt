@@ -1,6 +1,9 @@
 pub mod Defs
 pub mod EventPath
+pub mod ReadOff
 pub mod Rows
 pub mod Canon
 pub mod Fires
 pub mod Private
+pub mod Place
+pub mod Walk

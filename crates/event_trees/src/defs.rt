@@ -2,7 +2,7 @@
 
 ghost use Rattle.std.specs.Prelude.{◌≡◌, ◌≤◌, ◌++◌, [], ◌∷◌, ◌↔◌, length, slice_index, IsTrue, IsSome, IfSome, OnOk, OnErr, None, Some, ℕ, ◌==◌, if◌then◌else◌};
 ghost use Rattle.std.specs.Option.{option_copied};
-ghost use Rattle.event_trees.specs.Defs.{found, is_root, is_event, path};
+ghost use Rattle.event_trees.specs.Defs.{found, is_root, is_event, path, AreDefs};
 ghost use Rattle.event_trees.specs.Rows.{row_of};
 
 use crate::path::EventPath;
@@ -112,6 +112,7 @@ impl Defs {
 
     /// What the paths are: a built-in event is its own root, and a defined one stands under its parent.
     pub fn paths(&self)
+        ensures defs { AreDefs self.now }
         ensures root { (event : ℕ) → found self.now event ≡ None → path self.now event ≡ event ∷ [] }
         ensures defined { (event : ℕ) (d : EventDef) → found self.now event ≡ Some d →
             path self.now event ≡ path self.now d.parent ++ event ∷ [] }

@@ -3,5 +3,8 @@
 
 mod defs;
 mod path;
+mod place;
+mod walk;
 
 pub use defs::{Defs, EventDef};
+pub use walk::Walk;
