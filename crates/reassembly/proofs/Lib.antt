@@ -8,3 +8,4 @@ pub mod Laid
 pub mod Joined
 pub mod Taken
 pub mod Placing
+pub mod Streams

@@ -15,7 +15,7 @@ note_at cells p edge None = if nat_le p edge && is_free_from cells p then Noted 
 note_at cells p edge (Some fin) = if nat_eq p fin then Same else Refused
 
 -- a position below 0 is none of the stream, so a FIN there is refused
-abbrev pub note_of : Receiver → ℤ → ℕ → FinNote
+unfoldable pub note_of : Receiver → ℤ → ℕ → FinNote
 note_of r (pos p) edge = note_at r.cells p edge r.fin
 note_of r (negsuc n) edge = Refused
 
@@ -27,7 +27,7 @@ fin_after r q Same = r.fin
 fin_after r q Refused = r.fin
 
 -- the receiver after a FIN at q
-abbrev pub noted : Receiver → ℤ → ℕ → Receiver
+unfoldable pub noted : Receiver → ℤ → ℕ → Receiver
 noted r q edge = record { cells = r.cells; fin = fin_after r q (note_of r q edge) }
 
 -- all bytes up to the noted FIN were accepted

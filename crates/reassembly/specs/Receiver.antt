@@ -24,7 +24,7 @@ abbrev pub kept : List (Option ℕ) → ℕ → ℕ → Option ℕ
 kept cells rbuf p = if nat_le (next_of cells - rbuf) p then held cells p else None
 
 -- the lowest kept position below next, or next where none is kept there; what waits above next doesn't count
-abbrev pub low_of : List (Option ℕ) → ℕ → ℕ
+unfoldable pub low_of : List (Option ℕ) → ℕ → ℕ
 low_of cells rbuf = prefix_len is_none (map (kept cells rbuf) (range_with_len 0 (next_of cells)))
 
 -- the first position that isn't accepted now: the end of the receive window, or a noted FIN below it

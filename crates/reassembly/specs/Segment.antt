@@ -71,10 +71,10 @@ below_zero (pos q) = 0
 below_zero (negsuc n) = suc n
 
 -- the receiver after a segment that begins at q
-abbrev pub accept : Receiver → ℤ → List ℕ → Policy → ℕ → Receiver
+unfoldable pub accept : Receiver → ℤ → List ℕ → Policy → ℕ → Receiver
 accept r q bytes policy rbuf = accept_at r (from_zero q) (drop (below_zero q) bytes) policy rbuf
 
 -- how each of its bytes is judged
-abbrev pub counts : Receiver → ℤ → List ℕ → ℕ → Placed
+unfoldable pub counts : Receiver → ℤ → List ℕ → ℕ → Placed
 counts r q bytes rbuf = let c = counts_at r (from_zero q) (drop (below_zero q) bytes) rbuf in record {
   new = c.new; old = min (below_zero q) (length bytes) + c.old; differ = c.differ; over = c.over }

@@ -45,6 +45,14 @@ pub record IsBounded (w : Window) (limit : ℕ) : Type 0 where
   pub next : w.next ≤ limit
   pub runs : AreWithin w.runs.items limit
 
+-- what is true of every stream: nothing is accepted at a noted FIN or past it
+pub record IsWhole (w : Window) (noted : Option ℕ) (rbuf : ℕ) : Type 0 where
+  pub laid : IsLaid w
+  pub sized : IsSized w rbuf
+  pub least : 1 ≤ rbuf
+  pub most : rbuf ≤ 1048576
+  pub fin : (f : ℕ) → noted ≡ Some f → IsBounded w f
+
 -- the content is the same; what is reserved isn't told
 pub record IsSameWindow (old new : Window) : Type 0 where
   pub base : new.base ≡ old.base

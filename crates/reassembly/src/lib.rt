@@ -8,6 +8,8 @@
 mod answers;
 mod laying;
 mod runs;
+mod stream;
 mod window;
 
 pub use answers::{FinNote, Placed, Policy};
+pub use stream::Stream;

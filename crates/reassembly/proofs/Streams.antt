@@ -1,0 +1,122 @@
+-- A stream's calls, told over its window.
+use Rattle.std.proofs.Common.{◌≡◌, ℕ, ◌+◌, ◌-◌, ◌<◌, ◌≤◌, min, Bool, true, false, cond, refl, ap, ap₂, ◌∙◌, sym, subst, arith, ℤ, pos, ◌+ℤ◌, List, Option, Some, None, is_some, is_none, length, map, take, drop, leb, le-leb, ⊎_elim}
+use Rattle.std.specs.List.{range_with_len, prefix_len}
+use Rattle.std.proofs.lemmas.Bool.{cases_lt, lt-leb, cond-true, cond-false}
+use Rattle.std.proofs.lemmas.List.{drop_min, take_rest}
+use Rattle.std.proofs.lemmas.List.FromFn.{get_or-map-range_with_len, length-map-range_with_len}
+use Rattle.std.proofs.lemmas.List.Sums.{prefix_len_is}
+use Rattle.reassembly.specs.declared.answers.Policy.{Policy}
+use Rattle.reassembly.specs.declared.answers.Placed.{Placed}
+use Rattle.reassembly.specs.declared.window.Window.{Window}
+use Rattle.reassembly.specs.Receiver.{Receiver, held, next_of, kept, low_of, limit_of}
+use Rattle.reassembly.specs.Segment.{accept, accept_at, counts, counts_at, from_zero, below_zero}
+use Rattle.reassembly.specs.Known.{Known, StandsFor}
+use Rattle.reassembly.specs.Steps.{StepsTo, counts_known}
+use Rattle.reassembly.specs.Runs.{run_at, AreWithin}
+use Rattle.reassembly.specs.Window.{end_of, known_of, IsLaid, IsSized, IsBounded, IsWhole, IsSameWindow}
+use Rattle.reassembly.proofs.Cells.{below_next}
+use Rattle.reassembly.proofs.Laws.{stands_after, counts_stand}
+
+-- nothing is accepted at the limit or past it
+pub bounded_limit : (w : Window) (fin : Option ℕ) (rbuf : ℕ) → IsWhole w fin rbuf → IsBounded w (limit_of w.next fin rbuf)
+bounded_limit w None rbuf h =
+    let span : end_of w ≤ w.next + rbuf = h.sized.span in
+    record {
+      next = omega arith;
+      runs = record { each = λ k l. let e : (run_at w.runs.items k).end ≤ end_of w = h.laid.within.each k l in omega arith } }
+bounded_limit w (Some f) rbuf h =
+    let span : end_of w ≤ w.next + rbuf = h.sized.span in
+    let fin : IsBounded w f = h.fin f refl in
+    let next : w.next ≤ f = fin.next in
+    record {
+      next = omega arith;
+      runs = record { each = λ k l.
+        let e : (run_at w.runs.items k).end ≤ end_of w = h.laid.within.each k l in
+        let g : (run_at w.runs.items k).end ≤ f = fin.runs.each k l in
+        omega arith } }
+
+pub fin_bounded : (w : Window) (next f rbuf : ℕ) (fin : Option ℕ) → fin ≡ Some f → IsBounded w (limit_of next fin rbuf) → IsBounded w f
+fin_bounded w next f rbuf None e h = absurd (cc e)
+fin_bounded w next f rbuf (Some g) e h =
+    let same : g ≡ f = cc e in
+    let up : w.next ≤ min g (next + rbuf) = h.next in
+    record {
+      next = omega arith;
+      runs = record { each = λ k l. let b : (run_at w.runs.items k).end ≤ min g (next + rbuf) = h.runs.each k l in omega arith } }
+
+-- the same content has the same invariant
+pub whole_same : (old new : Window) (fin : Option ℕ) (rbuf : ℕ) → IsSameWindow old new → IsWhole old fin rbuf → IsWhole new fin rbuf
+whole_same old new fin rbuf same h =
+    let base : new.base ≡ old.base = same.base in
+    let next : new.next ≡ old.next = same.next in
+    let len : length new.bytes.items ≡ length old.bytes.items = ap length same.bytes in
+    let end : end_of new ≡ end_of old = omega arith in
+    record {
+      laid = record {
+        filled = let f : old.next ≤ end_of old = h.laid.filled in omega arith;
+        ordered = rw same.runs h.laid.ordered;
+        above = rw (same.runs, next) h.laid.above;
+        within = rw (same.runs, end) h.laid.within };
+      sized = record {
+        kept = rw (base, next) h.sized.kept;
+        span = rw (end, next) h.sized.span;
+        stale = rw (base, next) h.sized.stale };
+      least = h.least;
+      most = h.most;
+      fin = λ f e. let b = h.fin f e in record { next = rw next b.next; runs = rw same.runs b.runs } }
+
+-- the bytes from the cut on are those at or above position 0
+cut_bytes : (below cut : ℕ) (bytes : List ℕ) → cut ≡ min below (length bytes) → take (length bytes - cut) (drop cut bytes) ≡ drop below bytes
+cut_bytes below cut bytes e = take_rest bytes cut ∙ ap (λ n. drop n bytes) e ∙ drop_min below bytes
+
+pub stream_stands : (w n : Window) (fin : Option ℕ) (rbuf : ℕ) (d : ℤ) (bytes : List ℕ) (policy : Policy) (position below cut : ℕ)
+    → position ≡ from_zero (pos w.next +ℤ d) → below ≡ below_zero (pos w.next +ℤ d) → cut ≡ min below (length bytes)
+    → StepsTo position (take (length bytes - cut) (drop cut bytes)) policy (known_of w fin rbuf) (known_of n fin rbuf)
+    → (r : Receiver) → StandsFor (known_of w fin rbuf) r → StandsFor (known_of n fin rbuf) (accept r (pos (next_of r.cells) +ℤ d) bytes policy rbuf)
+unfolding accept
+stream_stands w n fin rbuf d bytes policy position below cut at under e step r h =
+    let stood = stands_after position (take (length bytes - cut) (drop cut bytes)) policy (known_of w fin rbuf) (known_of n fin rbuf) step r h in
+    let next : w.next ≡ next_of r.cells = h.next in
+    let q : from_zero (pos w.next +ℤ d) ≡ from_zero (pos (next_of r.cells) +ℤ d) = ap (λ x. from_zero (pos x +ℤ d)) next in
+    let b : below_zero (pos w.next +ℤ d) ≡ below_zero (pos (next_of r.cells) +ℤ d) = ap (λ x. below_zero (pos x +ℤ d)) next in
+    let same : drop below bytes ≡ drop (below_zero (pos (next_of r.cells) +ℤ d)) bytes = ap (λ k. drop k bytes) (under ∙ b) in
+    subst (λ (x : ℕ × List ℕ). StandsFor (known_of n fin rbuf) (accept_at r x.0 x.1 policy rbuf))
+      (ap₂ (λ x y. (x, y)) (at ∙ q) (cut_bytes below cut bytes e ∙ same)) stood
+
+pub stream_counts : (w : Window) (fin : Option ℕ) (rbuf : ℕ) (d : ℤ) (bytes : List ℕ) (position below cut : ℕ) (placed : Placed)
+    → position ≡ from_zero (pos w.next +ℤ d) → below ≡ below_zero (pos w.next +ℤ d) → cut ≡ min below (length bytes)
+    → placed ≡ counts_known (known_of w fin rbuf) position (take (length bytes - cut) (drop cut bytes))
+    → (r : Receiver) → StandsFor (known_of w fin rbuf) r
+    → record { new = placed.new; old = cut + placed.old; differ = placed.differ; over = placed.over } ≡ counts r (pos (next_of r.cells) +ℤ d) bytes rbuf
+unfolding counts
+stream_counts w fin rbuf d bytes position below cut placed at under e told r h =
+    let next : w.next ≡ next_of r.cells = h.next in
+    let q : from_zero (pos w.next +ℤ d) ≡ from_zero (pos (next_of r.cells) +ℤ d) = ap (λ x. from_zero (pos x +ℤ d)) next in
+    let b : below_zero (pos w.next +ℤ d) ≡ below_zero (pos (next_of r.cells) +ℤ d) = ap (λ x. below_zero (pos x +ℤ d)) next in
+    let same : drop below bytes ≡ drop (below_zero (pos (next_of r.cells) +ℤ d)) bytes = ap (λ k. drop k bytes) (under ∙ b) in
+    let all : placed ≡ counts_at r (from_zero (pos (next_of r.cells) +ℤ d)) (drop (below_zero (pos (next_of r.cells) +ℤ d)) bytes) rbuf
+      = told ∙ counts_stand position (take (length bytes - cut) (drop cut bytes)) (known_of w fin rbuf) r h
+        ∙ ap₂ (λ x y. counts_at r x y rbuf) (at ∙ q) (cut_bytes below cut bytes e ∙ same) in
+    let made : ℕ → Placed → Placed = λ k c. record { new = c.new; old = k + c.old; differ = c.differ; over = c.over } in
+    ap₂ made (e ∙ ap (λ k. min k (length bytes)) (under ∙ b)) all
+
+none_of_some : (c : Option ℕ) → is_some c ≡ true → is_none c ≡ false
+none_of_some None e = absurd (cc e)
+none_of_some (Some x) e = refl
+
+-- the lowest kept position is rbuf below next, or 0
+pub low_is : (w : Window) (fin : Option ℕ) (rbuf : ℕ) → 1 ≤ rbuf → (r : Receiver) → StandsFor (known_of w fin rbuf) r → w.next - rbuf ≡ low_of r.cells rbuf
+unfolding low_of
+low_is w fin rbuf some r h =
+    let next : w.next ≡ next_of r.cells = h.next in
+    let n = next_of r.cells in
+    let cell : ℕ → Option ℕ = kept r.cells rbuf in
+    let len : length (map cell (range_with_len 0 n)) ≡ n = length-map-range_with_len cell 0 n in
+    let at : (k : ℕ) → k < n → held (map cell (range_with_len 0 n)) k ≡ cell k = λ k l. get_or-map-range_with_len cell 0 n k k None l (omega arith) in
+    let none_below : (k : ℕ) → k < n - rbuf → is_none (held (map cell (range_with_len 0 n)) k) ≡ true = λ k l.
+      ap is_none (at k (omega arith) ∙ cond-false (leb (n - rbuf) k) (held r.cells k) None (lt-leb (n - rbuf) k l)) in
+    let some_at : n - rbuf < length (map cell (range_with_len 0 n)) → is_none (held (map cell (range_with_len 0 n)) (n - rbuf)) ≡ false = λ l.
+      ap is_none (at (n - rbuf) (omega arith) ∙ cond-true (leb (n - rbuf) (n - rbuf)) (held r.cells (n - rbuf)) None (le-leb (n - rbuf) (n - rbuf) (omega arith)))
+      ∙ none_of_some (held r.cells (n - rbuf)) (below_next r.cells (n - rbuf) (omega arith)) in
+    let found : prefix_len is_none (map cell (range_with_len 0 n)) ≡ n - rbuf = prefix_len_is is_none (map cell (range_with_len 0 n)) (n - rbuf) None (omega arith) none_below some_at in
+    omega (arith, found)

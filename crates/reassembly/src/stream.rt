@@ -1,0 +1,143 @@
+// A stream: its buffer, its FIN, and the size of its receive buffer.
+ghost use Rattle.std.specs.Prelude.{◌≡◌, ℕ, ◌+◌, ◌-◌, ◌<◌, ◌≤◌, ◌^◌, ℤ, pos, ◌+ℤ◌, neg_ℤ, ◌≤ℤ◌, ◌<ℤ◌, min, length, OnOk, OnErr, IfOk, Option, None};
+ghost use Rattle.reassembly.specs.Receiver.{Receiver, no_bytes, next_of, low_of, limit_of};
+ghost use Rattle.reassembly.specs.Segment.{accept, counts, from_zero, below_zero};
+ghost use Rattle.reassembly.specs.Fin.{note_of, noted};
+ghost use Rattle.reassembly.specs.Known.{StandsFor};
+
+use crate::window::Window;
+use crate::{FinNote, Placed, Policy};
+use std::alloc::{AllocError, Global};
+use std::marker::Model;
+
+/// The bytes that the receiver of one direction of a connection accepts and keeps.
+///
+/// Positions count the bytes of the stream from 0 on, the one after the SYN (RFC 9293, section 3.4). A contract sees
+/// a stream as its next position, its kept bytes, its FIN and the size `rbuf` of its receive buffer, and says for
+/// whichever receiver the stream stood for before a call, which one it stands for after.
+#[derive(Drop)]
+pub struct Stream {
+    window: Window,
+    fin: Option<u64>,
+    rbuf: u32,
+}
+
+impl Model for Stream {
+    ghost use Rattle.reassembly.specs.Known.{Known};
+    ghost use Rattle.reassembly.specs.Window.{known_of, IsWhole};
+
+    ghost Value = { Known };
+
+    ghost view = { λ s. known_of s.window s.fin s.rbuf };
+
+    ghost invariant = { λ s. IsWhole s.window s.fin s.rbuf };
+}
+
+/// Where a segment begins: its first position at or above 0, and how many positions it has below 0.
+#[derive(Clone, Copy)]
+struct Start {
+    position: u64,
+    below: u64,
+}
+
+fn start_of(next: u64, d: i64) -> Start
+    requires next { next ≤ 2 ^ 62 }
+    requires from { neg_ℤ (pos (2 ^ 31)) ≤ℤ d }
+    requires to { d <ℤ pos (2 ^ 31) }
+    ensures position { result.position ≡ from_zero (pos next +ℤ d) }
+    ensures below { result.below ≡ below_zero (pos next +ℤ d) }
+    ensures reach { result.position < 2 ^ 62 + 2 ^ 31 }
+{
+    let start = next as i64 + d;
+    if start < 0 {
+        return Start {
+            position: 0,
+            below: start.unsigned_abs(),
+        };
+    }
+    Start {
+        position: start as u64,
+        below: 0,
+    }
+}
+
+/// The first position that isn't accepted: the end of the receive window, or a FIN below it.
+fn limit(next: u64, fin: Option<u64>, rbuf: u32) -> u64
+    requires { next + rbuf < 2 ^ 63 }
+    ensures { result ≡ limit_of next fin rbuf }
+{
+    let end = next + u64::from(rbuf);
+    match fin {
+        Some(fin) => fin.min(end),
+        None => end,
+    }
+}
+
+impl Stream {
+    /// A stream with nothing accepted and a receive buffer of `rbuf` bytes. It takes no memory before the first byte.
+    pub fn new(alloc: Global, rbuf: u32) -> Self
+        requires least { 1 ≤ rbuf }
+        requires most { rbuf ≤ 1048576 }
+        ensures stands { StandsFor result no_bytes }
+        ensures rbuf { result.rbuf ≡ rbuf }
+        ensures next { result.next ≡ 0 }
+        ensures fin { result.fin ≡ None }
+    {
+        Stream {
+            window: Window::new(alloc),
+            fin: None,
+            rbuf,
+        }
+    }
+
+    /// The least position that wasn't accepted: RCV.NXT, as a position.
+    pub fn next(&self) -> u64
+        ensures { result ≡ self.now.next }
+    {
+        self.window.next
+    }
+
+    /// The position of the FIN, once it is noted.
+    pub fn fin(&self) -> Option<u64>
+        ensures { result ≡ self.now.fin }
+    {
+        self.fin
+    }
+
+    /// The lowest kept position below `next`, or `next` where none is kept there.
+    pub fn low(&self) -> u64
+        ensures { (r : Receiver) → StandsFor self.now r → result ≡ low_of r.cells self.now.rbuf }
+    {
+        self.window.next.saturating_sub(u64::from(self.rbuf))
+    }
+
+    /// Places the bytes of a segment whose first one stands `d` above `next`, and answers how they were judged.
+    /// Where memory is refused, the stream is as before.
+    pub fn place(
+        &mut self,
+        d: i64,
+        bytes: &[u8],
+        policy: Policy,
+    ) -> Result<Placed, AllocError>
+        requires from { neg_ℤ (pos (2 ^ 31)) ≤ℤ d }
+        requires to { d <ℤ pos (2 ^ 31) }
+        requires short { length bytes.now ≤ 65535 }
+        requires next { self.old.next ≤ 2 ^ 62 }
+        ensures err { OnErr result (self.new ≡ self.old) }
+        ensures rbuf { self.new.rbuf ≡ self.old.rbuf }
+        ensures rise { OnOk result (self.new.next ≤ self.old.next + self.old.rbuf) }
+        ensures stands { OnOk result ((r : Receiver) → StandsFor self.old r → StandsFor self.new (accept r (pos (next_of r.cells) +ℤ d) bytes.now policy self.old.rbuf)) }
+        ensures counts { IfOk result (λ placed. (r : Receiver) → StandsFor self.old r → placed ≡ counts r (pos (next_of r.cells) +ℤ d) bytes.now self.old.rbuf) }
+    {
+        let limit = limit(self.window.next, self.fin, self.rbuf);
+        let start = start_of(self.window.next, d);
+        let below = start.below.min(bytes.len() as u64) as usize;
+        let placed = self.window.place(start.position, &bytes[below..], policy, limit, self.rbuf)?;
+        Ok(Placed {
+            new: placed.new,
+            old: below as u32 + placed.old,
+            differ: placed.differ,
+            over: placed.over,
+        })
+    }
+}
