@@ -8,7 +8,7 @@ use Rattle.std.specs.Ordering.{eq_by_cmp}
 use Rattle.std.proofs.lemmas.Cmp.{eq_by_cmp_equiv}
 use Rattle.std.specs.Map.{lookup}
 use Rattle.flow_table.specs.Key.{Ends, same_key}
-use Rattle.flow_table.specs.Table.{key_cmp, Flows, found}
+use Rattle.flow_table.specs.Table.{key_cmp, Flows, found, Rewrites}
 use Rattle.flow_table.specs.contracts.key.KeyPartialEq.TheImpl.{ghosts as ends}
 use Rattle.flow_table.proofs.Keys.{keys_total, exact_keys, ties_key, eq_key}
 
@@ -81,9 +81,18 @@ module _ {T : Type 0} where
   pub written : (r : Option (MutBor T)) (es fs : List (Ends × T)) (key : Ends) (w : T)
       → option_copied_mut r ≡ lookup (ends.eq key) es
       → (IsSome (lookup (ends.eq key) es) → (q : Ends) → lookup (ends.eq q) fs ≡ cond (ends.eq key q) (Some w) (lookup (ends.eq q) es))
-      → OnSome r (map.from_entries {R = key_cmp} fs ≡ map.insert (map.from_entries es) key w)
+      → OnSome r (Rewrites (map.from_entries {R = key_cmp} es) (map.from_entries fs) key w)
   written None es fs key w value updates = tt
-  written (Some x) es fs key w value updates = inserted es fs key w (updates (ap is_some (sym value)))
+  written (Some x) es fs key w value updates =
+      let flows : map.from_entries {R = key_cmp} fs ≡ map.insert (map.from_entries es) key w =
+      inserted es fs key w (updates (ap is_some (sym value))) in
+      let there : found (map.from_entries es) key ≡ Some x.now = found_is es key ∙ sym value in
+      record {
+        flows = flows;
+        found = λ other. ap (λ m. found m other) flows ∙ found-insert (map.from_entries es) key w other;
+        len = ap (λ m. map.len m) flows ∙ len-insert keys_total (map.from_entries es) key w
+            ∙ ap (λ (o : Option T). cond (is_some o) (map.len {R = key_cmp} (map.from_entries es)) (map.len {R = key_cmp} (map.from_entries es) + 1)) there;
+      }
 
   lookup_last : (test : Ends → Bool) (es : List (Ends × T)) (e : Ends × T) → lookup test es ≡ None → test e.0 ≡ true → lookup test (es ++ e ∷ []) ≡ Some e.1
   lookup_last test [] e none last = ap (λ b. cond b (Some e.1) None) last

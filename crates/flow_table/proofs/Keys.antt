@@ -3,10 +3,10 @@ use Rattle.std.proofs.Common.{◌≡◌, ◌==◌, ◌&&◌, ℕ, Bool, true, fa
 use Rattle.std.specs.declared.cmp.Ordering.{Ordering}
 use Rattle.std.specs.declared.cmp.Ordering.TheVariants.{Less, Equal, Greater}
 use Rattle.std.specs.Ordering.{nat_cmp, ordering_then, eq_by_cmp, is_eq}
-use Rattle.std.specs.Cmp.{IsTotalOrder, nat_cmp_total, ranked}
+use Rattle.std.specs.Cmp.{IsTotalOrder, nat_cmp_total, ranked, Equal-is}
 use Rattle.std.proofs.Math.Dec.{T, eqb, eqb_refl}
 use Rattle.std.proofs.lemmas.Bool.{ne_eqb}
-use Rattle.std.proofs.lemmas.Cmp.{on_total, then_total}
+use Rattle.std.proofs.lemmas.Cmp.{eq_by_cmp_equiv, on_total, then_total}
 use Rattle.std.proofs.lemmas.Map.Lookups.{CmpEqualImpliesEq, exact_pairs, exact_unsigned}
 use Rattle.flow_table.specs.declared.endpoint.Endpoint.{Endpoint}
 use Rattle.flow_table.specs.declared.endpoint.Endpoint.TheVariants.{V4, V6}
@@ -69,3 +69,13 @@ eq_endpoint (V6 a p) (V6 b q) = refl
 pub eq_key : (a b : Ends) → ends.eq a b ≡ same_key a b
 unfolding same_key
 eq_key a b = λ i. eq_endpoint a.0 b.0 i && eq_endpoint a.1 b.1 i
+
+-- `same_key` is true exactly at equal keys
+pub same_key-reflexive : (key : Ends) → same_key key key ≡ true
+same_key-reflexive key = sym (ties_key key key) ∙ (eq_by_cmp_equiv keys_total).refl key
+
+pub same_key-equal : (a b : Ends) → same_key a b ≡ true → a ≡ b
+same_key-equal a b h = exact_keys a b ((Equal-is (key_cmp a b)).0 (ties_key a b ∙ h))
+
+pub same_key-symmetric : (a b : Ends) → same_key a b ≡ same_key b a
+same_key-symmetric a b = sym (ties_key a b) ∙ (eq_by_cmp_equiv keys_total).symm a b ∙ ties_key b a

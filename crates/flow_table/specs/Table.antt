@@ -1,5 +1,5 @@
 -- What a flow table holds: a finite map from keys to values.
-use Rattle.std.specs.Prelude.{◌≡◌, ◌==◌, ℕ, refl, Option, if◌then◌else◌}
+use Rattle.std.specs.Prelude.{◌≡◌, ◌==◌, ℕ, refl, Option, Some, if◌then◌else◌}
 use Rattle.std.specs.Coded.{Coded, code_by, coded×, coded_ℕ}
 use Rattle.std.specs.FinMap as map
 use Rattle.std.specs.declared.cmp.Ordering.{Ordering}
@@ -7,7 +7,7 @@ use Rattle.std.specs.Ordering.{ordering_then}
 use Rattle.flow_table.specs.declared.endpoint.Endpoint.{Endpoint}
 use Rattle.flow_table.specs.declared.endpoint.Endpoint.TheVariants.{V4, V6}
 use Rattle.flow_table.specs.Endpoint.{version_of, addr_of, port_of, endpoint_cmp}
-use Rattle.flow_table.specs.Key.{Ends}
+use Rattle.flow_table.specs.Key.{Ends, same_key}
 
 -- by the lower endpoint, and then by the higher one
 abbrev pub key_cmp : Ends → Ends → Ordering
@@ -19,6 +19,12 @@ Flows T = map.FinMap key_cmp T
 -- what is kept for a key
 abbrev pub found : {T : Type 0} → Flows T → Ends → Option T
 found flows key = map.get flows key
+
+-- the value of a key that was there is another one, and the rest stays
+pub record Rewrites {T : Type 0} (old new : Flows T) (key : Ends) (value : T) : Type 0 where
+  pub flows : new ≡ map.insert old key value
+  pub found : (other : Ends) → found new other ≡ (if same_key key other then Some value else found old other)
+  pub len : map.len new ≡ map.len old
 
 -- an endpoint as numbers
 abbrev pub numbers_of : Endpoint → ℕ × (ℕ × ℕ)

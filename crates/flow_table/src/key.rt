@@ -13,8 +13,10 @@ use std::marker::Model;
 /// Contracts see it as the pair of the lower and the higher endpoint.
 #[derive(Clone, Copy, Debug, PartialEq, Eq, Hash)]
 pub struct Key {
-    lo: Endpoint,
-    hi: Endpoint,
+    /// The lower endpoint.
+    pub lo: Endpoint,
+    /// The higher endpoint, or an equal one.
+    pub hi: Endpoint,
 }
 
 impl Model for Key {
@@ -46,20 +48,6 @@ impl Key {
         } else {
             Key { lo: b, hi: a }
         }
-    }
-
-    /// The lower endpoint.
-    pub fn lo(&self) -> Endpoint
-        ensures { result ≡ self.now.0 }
-    {
-        self.lo
-    }
-
-    /// The higher endpoint.
-    pub fn hi(&self) -> Endpoint
-        ensures { result ≡ self.now.1 }
-    {
-        self.hi
     }
 }
 

@@ -35,6 +35,6 @@ pub fn lane_of(key: &Key, lanes: usize) -> usize
     ensures lane { result ≡ lane_of_key key.now lanes }
     ensures within { result < lanes }
 {
-    let sum = mix(&key.lo()).wrapping_add(mix(&key.hi()));
+    let sum = mix(&key.lo).wrapping_add(mix(&key.hi));
     (sum % lanes as u64) as usize
 }

@@ -11,3 +11,6 @@ pub use endpoint::Endpoint;
 pub use key::{Key, key_of};
 pub use lane::{lane_of, mix};
 pub use table::FlowTable;
+
+#[cfg(test)]
+mod tests;

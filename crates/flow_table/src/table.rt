@@ -35,7 +35,8 @@ impl<T> FlowTable<T> {
 
     /// An empty table. It takes no memory.
     pub fn new(alloc: Global) -> FlowTable<T>
-        ensures { result ≡ map.empty }
+        ensures empty { result ≡ map.empty }
+        ensures none { (key : Ends) → found result key ≡ None }
     {
         FlowTable {
             flows: IndexMap::new(alloc),

@@ -1,6 +1,6 @@
-use Rattle.std.proofs.Common.{◌≡◌, refl, ap, sym, subst, ◌∙◌, OnSome}
+use Rattle.std.proofs.Common.{refl, ap, sym, subst, ◌∙◌, OnSome}
 use Rattle.std.specs.FinMap as map
-use Rattle.flow_table.specs.Table.{key_cmp, found}
+use Rattle.flow_table.specs.Table.{key_cmp, found, Rewrites}
 use Rattle.flow_table.proofs.Entries.{found_is, written}
 use Rattle.flow_table.proofs.table.FlowTable.get_mut.Goals as goal
 
@@ -8,7 +8,7 @@ pub returns : goal.returns
 returns g c = (
   (
     refl,
-    (λ w. subst (λ m. OnSome c.get_mut.result (map.from_entries {R = key_cmp} (c.get_mut.follows.lender w).entries ≡ map.insert m c.args.key.now w)) c.self.view_is
+    (λ w. subst (λ m. OnSome c.get_mut.result (Rewrites m (map.from_entries {R = key_cmp} (c.get_mut.follows.lender w).entries) c.args.key.now w)) c.self.view_is
         (written c.get_mut.result c.self.inside.flows.entries (c.get_mut.follows.lender w).entries c.args.key.now w c.get_mut.ensures.value
         (λ there. ((c.get_mut.follows.holds w).3 there).0))),
     ap (λ flows. map.from_entries {R = key_cmp} flows.entries) c.get_mut.follows.holds-at-none ∙ c.self.view_is,
