@@ -1,7 +1,11 @@
 -- The steps of a dotted address.
-use Rattle.std.proofs.Common.{◌≡◌, ℕ, zero, suc, ◌+◌, ◌-◌, ◌*◌, ◌^◌, ◌<◌, ◌≤◌, List, drop, take, length, false, refl, ap, ◌∙◌, sym, arith}
+use Rattle.std.proofs.Common.{◌≡◌, ℕ, zero, suc, ◌+◌, ◌-◌, ◌*◌, ◌^◌, ◌<◌, ◌≤◌, List, drop, take, take_all, length, length-drop, false, refl, ap, ◌∙◌, sym, arith}
 use Rattle.filter_lang.specs.declared.token.Token.TheVariants.{Quad, Bad}
 use Rattle.filter_lang.specs.Tokens.{lexeme, quad_from, is_dotted, is_part, last_part_len, IsDottedPart, IsLastPart}
+
+-- the slice from an offset on
+pub from_offset : (bs : List ℕ) (n : ℕ) → take (length bs - n) (drop n bs) ≡ drop n bs
+from_offset bs n = take_all (length bs - n) (drop n bs) (omega (arith, length-drop n bs))
 
 pub quad_from-dotted : (parts value len : ℕ) (bs : List ℕ) (number n : ℕ) → IsDottedPart bs number n → quad_from (suc parts) value len bs ≡ quad_from parts (value * 256 + number) (len + n) (drop n bs)
 unfolding quad_from

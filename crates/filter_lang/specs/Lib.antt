@@ -3,3 +3,6 @@ pub mod ShapeCode
 pub mod Meaning
 pub mod Tokens
 pub mod Grammar
+pub mod Words
+pub mod Lexer
+pub mod Parser

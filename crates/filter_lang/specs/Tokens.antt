@@ -141,7 +141,7 @@ sign_at bs =
     short_sign_at bs
 
 -- the token at the front of a text that begins with no blank
-abbrev pub token_at : List ℕ → Lexeme
+unfoldable pub token_at : List ℕ → Lexeme
 token_at bs =
     if is_ascii_digit (slice_index bs 0) then number_at bs else
     if is_ascii_lowercase (slice_index bs 0) then name_at bs else

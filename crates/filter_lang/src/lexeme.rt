@@ -31,6 +31,7 @@ impl Lexeme {
 }
 
 /// The token at the front of a text that begins with no blank, the longest that fits.
+#[tactic(auto, unfolding(crate::specs::Tokens::token_at))]
 pub(crate) fn token_at(bytes: &[u8]) -> Lexeme
     requires { 0 < length bytes.now }
     ensures value { result ≡ token_at bytes.now }
@@ -48,7 +49,8 @@ pub(crate) fn token_at(bytes: &[u8]) -> Lexeme
 
 /// How many blanks and tabs the text begins with.
 pub(crate) fn blanks(bytes: &[u8]) -> usize
-    ensures { result ≡ prefix_len is_blank bytes.now }
+    ensures value { result ≡ prefix_len is_blank bytes.now }
+    ensures within { result ≤ length bytes.now }
 {
     bytes.iter().take_while(|b| **b == b' ' || **b == b'\t').count()
 }

@@ -5,6 +5,8 @@ pub mod error;
 pub mod evaluation;
 pub mod expr;
 pub mod lexeme;
+mod lexer;
+mod parser;
 pub mod term;
 pub mod token;
 

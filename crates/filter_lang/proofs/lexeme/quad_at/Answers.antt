@@ -1,19 +1,15 @@
 use Rattle.std.proofs.Common.{◌≡◌, ◌<◌, ◌≤◌, ℕ, List, length, take, ◌+◌, ◌-◌, ◌*◌, ◌^◌, suc, drop, take_all, length-drop, false, ap, sym, ◌∙◌, subst, arith, rules}
 use Rattle.std.proofs.lemmas.List.{drop-drop}
 use Rattle.filter_lang.specs.Tokens.{quad_from, is_dotted, is_part, last_part_len, IsDottedPart, IsLastPart}
-use Rattle.filter_lang.proofs.Quads.{quad_from-dotted, quad_from-undotted, quad_from-last, quad_from-unended, fits_step}
+use Rattle.filter_lang.proofs.Quads.{quad_from-dotted, quad_from-undotted, quad_from-last, quad_from-unended, fits_step, from_offset}
 use Rattle.filter_lang.proofs.lexeme.quad_at.Goals as goal
-
--- the slice from an offset on
-from : (bs : List ℕ) (n : ℕ) → take (length bs - n) (drop n bs) ≡ drop n bs
-from bs n = take_all (length bs - n) (drop n bs) (omega (arith, length-drop n bs))
 
 pub returns-in_default-clause-value : goal.returns-in_default-clause-value
 returns-in_default-clause-value c =
     let l = c.loop-part in
     let bs = c.args.bytes.now in
     let left : 3 - l._part ≡ suc (3 - (l._part + 1)) = omega arith in
-    let plain : is_dotted (drop l.len bs) ≡ false = subst (λ xs. is_dotted xs ≡ false) (from bs l.len) c.in_default.ensures in
+    let plain : is_dotted (drop l.len bs) ≡ false = subst (λ xs. is_dotted xs ≡ false) (from_offset bs l.len) c.in_default.ensures in
     c.new.ensures ∙ sym (quad_from-undotted (3 - (l._part + 1)) l.address l.len _ plain) ∙ ap (λ k. quad_from k l.address l.len (drop l.len bs)) (sym left) ∙ l.invariant.same
 
 pub overflow_mul-address : goal.overflow_mul-address
@@ -33,7 +29,7 @@ loop-part-preserved c =
     let n = c.in-Some.number in
     let m = c.in-Some.more in
     let left : 3 - l._part ≡ suc (3 - (l._part + 1)) = omega arith in
-    let found : IsDottedPart (drop l.len bs) n m = subst (λ xs. IsDottedPart xs n m) (from bs l.len) c.in-Some.ensures in
+    let found : IsDottedPart (drop l.len bs) n m = subst (λ xs. IsDottedPart xs n m) (from_offset bs l.len) c.in-Some.ensures in
     record {
       same =
           ap (λ xs. quad_from (3 - (l._part + 1)) (l.address * 256 + n) (l.len + m) xs) (sym (drop-drop m l.len bs))
@@ -63,7 +59,7 @@ returns-in-Some-last_part-clause-value c =
     let n = c.in-Some-last_part.number in
     let m = c.in-Some-last_part.more in
     let left : 3 - l._part ≡ 0 = omega arith in
-    let found : IsLastPart (drop l.len bs) n m = subst (λ xs. IsLastPart xs n m) (from bs l.len) c.in-Some-last_part.ensures in
+    let found : IsLastPart (drop l.len bs) n m = subst (λ xs. IsLastPart xs n m) (from_offset bs l.len) c.in-Some-last_part.ensures in
     c.new-in-Some-last_part.ensures ∙ sym (quad_from-last l.address l.len _ n m found) ∙ ap (λ k. quad_from k l.address l.len (drop l.len bs)) (sym left) ∙ l.invariant.same
 
 pub returns-in-None-clause-value : goal.returns-in-None-clause-value
@@ -72,5 +68,5 @@ returns-in-None-clause-value c =
     let bs = c.args.bytes.now in
     let left : 3 - l._part ≡ 0 = omega arith in
     let unended : is_part (take (last_part_len (drop l.len bs)) (drop l.len bs)) ≡ false =
-    subst (λ xs. is_part (take (last_part_len xs) xs) ≡ false) (from bs l.len) c.in-None.ensures in
+    subst (λ xs. is_part (take (last_part_len xs) xs) ≡ false) (from_offset bs l.len) c.in-None.ensures in
     c.new-in-None.ensures ∙ sym (quad_from-unended l.address l.len _ unended) ∙ ap (λ k. quad_from k l.address l.len (drop l.len bs)) (sym left) ∙ l.invariant.same
