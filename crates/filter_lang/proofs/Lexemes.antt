@@ -1,5 +1,5 @@
 -- The tokens of a text are those that its lexemes make, one behind another.
-use Rattle.std.proofs.Common.{◌≡◌, ℕ, zero, suc, ◌+◌, ◌-◌, ◌*◌, ◌<◌, ◌≤◌, Bool, true, false, not, ◌&&◌, nat_lt, nat_eq, ◌==◌, ◌^◌, codes, slice_index, List, [], ◌∷◌, drop, take, length, length-drop, get_or, refl, cond, lt-ltb, ap, ◌∙◌, sym, subst, add-one, add-zero, arith}
+use Rattle.std.proofs.Common.{◌≡◌, ℕ, zero, suc, ◌+◌, ◌-◌, ◌<◌, ◌≤◌, Bool, true, false, nat_lt, nat_eq, ◌==◌, ◌^◌, codes, slice_index, List, [], ◌∷◌, drop, take, length, length-drop, get_or, refl, cond, lt-ltb, ap, ◌∙◌, sym, subst, add-zero, arith}
 use Rattle.std.proofs.lemmas.List.{drop-drop, drop_all, get_or-drop}
 use Rattle.std.proofs.lemmas.List.Sums.{prefix_len_stops}
 use Rattle.std.specs.Bool.{if◌then◌else◌}
@@ -8,8 +8,8 @@ use Rattle.std.specs.List.{prefix_len, starts_with}
 use Rattle.std.specs.Str.{bytes_eq}
 use Rattle.filter_lang.specs.declared.lexeme.Lexeme.{Lexeme}
 use Rattle.filter_lang.specs.declared.token.Token.{Token}
-use Rattle.filter_lang.specs.declared.token.Token.TheVariants.{FactName, UnknownWord, End}
-use Rattle.filter_lang.specs.Tokens.{Placed, lexeme, is_blank, fact_token, fact_names, word_token, name_at, numeral_token, begins_hex, is_part, is_dotted, last_part_len, hex_at, quad_from, decimal_at, number_at, short_sign_at, sign_at, token_at, tokens_behind}
+use Rattle.filter_lang.specs.declared.token.Token.TheVariants.{End}
+use Rattle.filter_lang.specs.Tokens.{is_blank, fact_token, fact_names, word_token, name_at, numeral_token, begins_hex, is_part, is_dotted, last_part_len, quad_from, number_at, short_sign_at, sign_at, token_at, tokens_behind}
 use Rattle.filter_lang.specs.Words.{is_end, has_fact_within}
 
 -- A token of the code is never the end, and its fact has a place.

@@ -1,5 +1,5 @@
 -- The steps of a dotted address.
-use Rattle.std.proofs.Common.{◌≡◌, ℕ, zero, suc, ◌+◌, ◌-◌, ◌*◌, ◌^◌, ◌<◌, ◌≤◌, List, drop, take, take_all, length, length-drop, false, refl, ap, ◌∙◌, sym, arith}
+use Rattle.std.proofs.Common.{◌≡◌, ℕ, zero, suc, ◌+◌, ◌-◌, ◌*◌, ◌^◌, ◌<◌, List, drop, take, take_all, length, length-drop, false, refl, arith}
 use Rattle.filter_lang.specs.declared.token.Token.TheVariants.{Quad, Bad}
 use Rattle.filter_lang.specs.Tokens.{lexeme, quad_from, is_dotted, is_part, last_part_len, IsDottedPart, IsLastPart}
 

@@ -7,7 +7,7 @@
 -- A place is what stands before it. For each place and token, `next` says whether a filter goes on with
 -- that token, and what stands before the next one; else why not. The first token with which none goes on
 -- is refused, at its offset.
-use Rattle.std.specs.Prelude.{ℕ, zero, suc, ◌+◌, Bool, if◌then◌else◌, nat_lt, List, [], ◌∷◌, ◌++◌, Result, Ok, Err}
+use Rattle.std.specs.Prelude.{ℕ, zero, suc, ◌+◌, if◌then◌else◌, nat_lt, List, [], ◌∷◌, ◌++◌, Result, Ok, Err}
 use Rattle.filter_lang.specs.declared.error.FilterError.{FilterError}
 use Rattle.filter_lang.specs.declared.error.FilterError.TheVariants.{Syntax, UnknownName, BigNumber, TooDeep}
 use Rattle.filter_lang.specs.declared.term.Atom.{Atom}
@@ -16,7 +16,7 @@ use Rattle.filter_lang.specs.declared.term.Join.{Join}
 use Rattle.filter_lang.specs.declared.term.Op.{Op}
 use Rattle.filter_lang.specs.declared.term.Sum.{Sum}
 use Rattle.filter_lang.specs.declared.token.Token.{Token}
-use Rattle.filter_lang.specs.declared.token.Token.TheVariants.{Bang, Open, Close, Both, Either, Joins, Compares, TrueWord, FalseWord, NativeWord, FactName, UnknownWord, Numeral, BigNumeral, Quad, Bad, End}
+use Rattle.filter_lang.specs.declared.token.Token.TheVariants.{Bang, Open, Close, Both, Either, Joins, Compares, TrueWord, FalseWord, NativeWord, FactName, UnknownWord, Numeral, BigNumeral, Quad, End}
 use Rattle.filter_lang.specs.Shape.{Shape, Always, Never, Ask, Compare, Negate, AllOf, AnyOf, Shapes, none, more}
 use Rattle.filter_lang.specs.Tokens.{Placed, tokens}
 

@@ -1,7 +1,6 @@
 -- What a lexer has still to give.
-use Rattle.std.specs.Prelude.{◌≡◌, ℕ, ◌+◌, Bool, true, false, nat_lt, List, [], ◌∷◌, drop}
+use Rattle.std.specs.Prelude.{Bool, true, false, List, [], ◌∷◌, drop}
 use Rattle.filter_lang.specs.declared.lexer.Lexer.{Lexer}
-use Rattle.filter_lang.specs.declared.token.Token.{Token}
 use Rattle.filter_lang.specs.Tokens.{Placed, tokens_behind}
 use Rattle.filter_lang.specs.Words.{is_end}
 

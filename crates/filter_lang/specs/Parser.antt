@@ -49,6 +49,13 @@ pub record ReadsNative (old new : Lexer) (s : Shape) : Type 0 where
 pub record RefusesNative (old : Lexer) (e : FilterError) : Type 0 where
   pub same : (l : Level) (os : List Level) → reads old (native_place l os) ≡ Err e
 
+-- behind an expression in parentheses
+pub record Closes (old new : Lexer) : Type 0 where
+  pub same : (s : Shape) (o : Level) (os : List Level) → takes old (behind_expr s (o ∷ os) old.token) ≡ reads new (behind_unit (with_unit s o) os)
+
+pub record RefusesClose (old : Lexer) (e : FilterError) : Type 0 where
+  pub same : (s : Shape) (o : Level) (os : List Level) → takes old (behind_expr s (o ∷ os) old.token) ≡ Err e
+
 -- so many constructs are open
 pub record ReadsUnit (depth : ℕ) (old new : Lexer) (s : Shape) : Type 0 where
   pub same : (l : Level) (os : List Level) → l.bangs + opened os ≡ depth → reads old (unit_place l os) ≡ reads new (behind_unit (with_unit s l) os)

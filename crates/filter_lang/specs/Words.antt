@@ -1,7 +1,7 @@
 -- What the code keeps of the token that it has read.
-use Rattle.std.specs.Prelude.{ℕ, Bool, true, false, nat_lt}
+use Rattle.std.specs.Prelude.{Bool, true, false, nat_lt}
 use Rattle.filter_lang.specs.declared.token.Token.{Token}
-use Rattle.filter_lang.specs.declared.token.Token.TheVariants.{Bang, Open, Close, Both, Either, Joins, Compares, TrueWord, FalseWord, NativeWord, FactName, UnknownWord, Numeral, BigNumeral, Quad, Bad, End}
+use Rattle.filter_lang.specs.declared.token.Token.TheVariants.{FactName, End}
 
 abbrev pub is_end : Token → Bool
 is_end End = true

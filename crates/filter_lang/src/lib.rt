@@ -13,4 +13,5 @@ pub mod token;
 pub use error::FilterError;
 pub use evaluation::eval;
 pub use expr::Expr;
+pub use parser::parse;
 pub use term::{Atom, Join, Op, Step, StepList, Sum, Term, TermList};

@@ -1,9 +1,10 @@
 //! From a text to the filter that it is.
 
-ghost use Rattle.std.specs.Prelude.{◌≡◌, ◌≢◌, ◌≤◌, ◌<◌, length, IfOk, IfErr, OnOk};
+ghost use Rattle.std.specs.Prelude.{◌≡◌, ◌≢◌, ◌≤◌, ◌<◌, false, length, IfOk, IfErr, OnOk};
 ghost use Rattle.filter_lang.specs.Grammar.{filter};
-ghost use Rattle.filter_lang.specs.Lexer.{later};
-ghost use Rattle.filter_lang.specs.Parser.{ReadsAtom, RefusesAtom, ReadsSum, RefusesSum, ReadsOp, RefusesOp, ReadsComparison, RefusesComparison, ReadsNative, RefusesNative, ReadsUnit, RefusesUnit, ReadsConjunction, RefusesConjunction, ReadsExpr, RefusesExpr};
+ghost use Rattle.filter_lang.specs.Lexer.{ahead, later};
+ghost use Rattle.filter_lang.specs.Words.{is_end};
+ghost use Rattle.filter_lang.specs.Parser.{ReadsAtom, RefusesAtom, ReadsSum, RefusesSum, ReadsOp, RefusesOp, ReadsComparison, RefusesComparison, ReadsNative, RefusesNative, ReadsUnit, RefusesUnit, Closes, RefusesClose, ReadsConjunction, RefusesConjunction, ReadsExpr, RefusesExpr};
 ghost use Rattle.filter_lang.specs.Shape.{shape, AtomIsWithin, SumIsWithin, IsWithin};
 
 use crate::error::FilterError;
@@ -93,4 +94,132 @@ fn native(lexer: &mut Lexer) -> Result<Term, FilterError>
     };
     lexer.advance();
     Ok(Term::Native(which))
+}
+
+/// A unit of an `&&` chain, inside `depth` constructs that are open.
+#[cycle(parse)]
+fn unit(alloc: Global, lexer: &mut Lexer, depth: u32) -> Result<Term, FilterError>
+    requires { depth ≤ 32 }
+    ensures ok { IfOk result (λ t. ReadsUnit depth lexer.old lexer.new (shape t)) }
+    ensures within { IfOk result (λ t. IsWithin (shape t)) }
+    ensures err { IfErr result (λ e. RefusesUnit depth lexer.old e) }
+    ensures left { length (later lexer.new) ≤ length (later lexer.old) }
+{
+    match lexer.token {
+        Token::Bang => {
+            enter(lexer, depth)?;
+            let inner = unit(alloc, lexer, depth + 1)?;
+            Ok(Term::Not(Box::new(alloc, inner)?))
+        }
+        Token::Open => {
+            enter(lexer, depth)?;
+            let inner = expr(alloc, lexer, depth + 1)?;
+            close(lexer)?;
+            Ok(inner)
+        }
+        Token::TrueWord => {
+            lexer.advance();
+            Ok(Term::True)
+        }
+        Token::FalseWord => {
+            lexer.advance();
+            Ok(Term::False)
+        }
+        Token::NativeWord => {
+            lexer.advance();
+            native(lexer)
+        }
+        _ => comparison(alloc, lexer),
+    }
+}
+
+/// The `!` or `(` that opens one construct more.
+fn enter(lexer: &mut Lexer, depth: u32) -> Result<(), FilterError>
+    requires { is_end lexer.old.token ≡ false }
+    ensures ok { OnOk result ((depth ≢ 32) × (later lexer.old ≡ ahead lexer.new)) }
+    ensures err { IfErr result (λ e. (depth ≡ 32) × (e ≡ FilterError.TooDeep lexer.old.at)) }
+    ensures left { length (later lexer.new) ≤ length (later lexer.old) }
+{
+    if depth == MAX_OPEN {
+        return Err(FilterError::TooDeep(lexer.at));
+    }
+    lexer.advance();
+    Ok(())
+}
+
+/// The `)` behind an expression.
+fn close(lexer: &mut Lexer) -> Result<(), FilterError>
+    ensures ok { OnOk result (Closes lexer.old lexer.new) }
+    ensures err { IfErr result (λ e. RefusesClose lexer.old e) }
+    ensures left { length (later lexer.new) ≤ length (later lexer.old) }
+{
+    let Token::Close = lexer.token else {
+        return Err(FilterError::Syntax(lexer.at));
+    };
+    lexer.advance();
+    Ok(())
+}
+
+/// A chain of units joined by `&&`, inside `depth` constructs that are open.
+#[cycle(parse)]
+fn conjunction(alloc: Global, lexer: &mut Lexer, depth: u32) -> Result<Term, FilterError>
+    requires { depth ≤ 32 }
+    ensures ok { IfOk result (λ t. ReadsConjunction depth lexer.old lexer.new (shape t)) }
+    ensures within { IfOk result (λ t. IsWithin (shape t)) }
+    ensures err { IfErr result (λ e. RefusesConjunction depth lexer.old e) }
+    ensures left { length (later lexer.new) ≤ length (later lexer.old) }
+{
+    let first = unit(alloc, lexer, depth)?;
+    let Token::Both = lexer.token else {
+        return Ok(first);
+    };
+    let mut items = Vec::new(alloc);
+    items.push(first)?;
+    while let Token::Both = lexer.token {
+        lexer.advance();
+        let next = unit(alloc, lexer, depth)?;
+        items.push(next)?;
+    }
+    Ok(Term::And(TermList { items }))
+}
+
+/// A chain of conjunctions joined by `||`, inside `depth` constructs that are open.
+#[cycle(parse)]
+fn expr(alloc: Global, lexer: &mut Lexer, depth: u32) -> Result<Term, FilterError>
+    requires { depth ≤ 32 }
+    ensures ok { IfOk result (λ t. ReadsExpr depth lexer.old lexer.new (shape t)) }
+    ensures within { IfOk result (λ t. IsWithin (shape t)) }
+    ensures err { IfErr result (λ e. RefusesExpr depth lexer.old e) }
+    ensures left { length (later lexer.new) ≤ length (later lexer.old) }
+{
+    let first = conjunction(alloc, lexer, depth)?;
+    let Token::Either = lexer.token else {
+        return Ok(first);
+    };
+    let mut items = Vec::new(alloc);
+    items.push(first)?;
+    while let Token::Either = lexer.token {
+        lexer.advance();
+        let next = conjunction(alloc, lexer, depth)?;
+        items.push(next)?;
+    }
+    Ok(Term::Or(TermList { items }))
+}
+
+/// The filter that the text is.
+///
+/// # Errors
+///
+/// The first token, from the left, with which no filter goes on, at its offset in bytes, or at the
+/// text's length where the text ends too early; or `NoMemory`.
+pub fn parse(alloc: Global, text: &str) -> Result<Expr, FilterError>
+    ensures ok { IfOk result (λ e. filter text.now ≡ Ok e) }
+    ensures err { IfErr result (λ e. e ≢ FilterError.NoMemory → filter text.now ≡ Err e) }
+{
+    let mut lexer = Lexer::new(text.as_bytes());
+    let term = expr(alloc, &mut lexer, 0)?;
+    let Token::End = lexer.token else {
+        return Err(FilterError::Syntax(lexer.at));
+    };
+    Ok(Expr::new(term))
 }

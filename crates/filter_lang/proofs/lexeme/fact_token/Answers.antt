@@ -1,4 +1,4 @@
-use Rattle.std.proofs.Common.{◌≡◌, ℕ, zero, suc, add-one, ap, ◌+◌, ◌<◌, List, [], ◌∷◌, length, drop, get_or, false, refl, ◌∙◌, sym, arith, rules}
+use Rattle.std.proofs.Common.{◌≡◌, ℕ, zero, suc, add-one, ap, ◌+◌, ◌<◌, List, [], ◌∷◌, length, drop, get_or, false, refl, ◌∙◌, arith}
 use Rattle.std.proofs.lemmas.Grind.{common_steps}
 use Rattle.std.specs.Str.{bytes_eq}
 use Rattle.filter_lang.specs.Tokens.{fact_token, fact_names}

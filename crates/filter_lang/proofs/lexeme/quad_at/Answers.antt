@@ -1,4 +1,4 @@
-use Rattle.std.proofs.Common.{◌≡◌, ◌<◌, ◌≤◌, ℕ, List, length, take, ◌+◌, ◌-◌, ◌*◌, ◌^◌, suc, drop, take_all, length-drop, false, ap, sym, ◌∙◌, subst, arith, rules}
+use Rattle.std.proofs.Common.{◌≡◌, ◌<◌, take, ◌+◌, ◌-◌, ◌*◌, ◌^◌, suc, drop, length-drop, false, ap, sym, ◌∙◌, subst, arith}
 use Rattle.std.proofs.lemmas.List.{drop-drop}
 use Rattle.filter_lang.specs.Tokens.{quad_from, is_dotted, is_part, last_part_len, IsDottedPart, IsLastPart}
 use Rattle.filter_lang.proofs.Quads.{quad_from-dotted, quad_from-undotted, quad_from-last, quad_from-unended, fits_step, from_offset}

@@ -1,10 +1,9 @@
-use Rattle.std.proofs.Common.{◌≡◌, ◌∷◌, rules, ◌≤◌, length, length-drop, drop, take, true, false, ◌+◌, ◌-◌, ◌<◌, arith, ap, subst, sym, ◌∙◌}
+use Rattle.std.proofs.Common.{◌≡◌, ◌∷◌, ◌≤◌, length, length-drop, drop, true, false, ◌+◌, ◌<◌, arith, ap, subst, sym, ◌∙◌}
 use Rattle.std.proofs.lemmas.Bool.Decides.{nat_tests}
 use Rattle.std.specs.List.{prefix_len}
 use Rattle.filter_lang.specs.Words.{has_fact_within, is_end}
-use Rattle.filter_lang.specs.Lexer.{behind}
 use Rattle.filter_lang.specs.Tokens.{is_blank, token_at, tokens_behind}
-use Rattle.filter_lang.proofs.Lexemes.{IsSound, token_at-sound, tokens_behind-found, tokens_behind-ended}
+use Rattle.filter_lang.proofs.Lexemes.{token_at-sound, tokens_behind-found, tokens_behind-ended}
 use Rattle.filter_lang.proofs.Quads.{from_offset}
 use Rattle.filter_lang.proofs.lexer.Lexer.behind.Goals as goal
 
