@@ -1,7 +1,8 @@
 -- Which positions the runs cover, told by indices.
-use Rattle.std.proofs.Common.{◌≡◌, ◌≢◌, ℕ, ◌+◌, ◌-◌, ◌<◌, ◌≤◌, suc, zero, Bool, true, false, ◌&&◌, refl, ap, ◌∙◌, sym, arith, List, [], ◌∷◌, length, get_or, leb, ltb, le-leb, lt-ltb, leb-true, ltb-true, ⊎_elim, inl, inr, ◌⊎◌}
+use Rattle.std.proofs.Common.{◌≡◌, ◌≢◌, ℕ, ◌+◌, ◌-◌, ◌<◌, ◌≤◌, suc, zero, Bool, true, false, ◌&&◌, refl, ap, ◌∙◌, sym, arith, List, [], ◌∷◌, length, leb, ltb, le-leb, Some, lt-ltb, leb-true, ltb-true, ⊎_elim, inl, inr, ◌⊎◌}
 use Rattle.std.proofs.lemmas.Bool.{cases_lt, and_from, and_parts, or_cases, false_from_ne_true, cases_eq}
-use Rattle.std.specs.List.{list_any}
+use Rattle.std.specs.List.{list_any, slice_get}
+use Rattle.std.proofs.lemmas.Option.{slice_get_within, get_or_from_slice_get}
 use Rattle.std.proofs.lemmas.List.Folds.{list_any_at, Any-from_list_any}
 use Rattle.reassembly.specs.declared.runs.Run.{Run}
 use Rattle.reassembly.specs.declared.laying.Stretch.{Stretch}
@@ -90,3 +91,10 @@ cursor_next runs k from ordered cursor w l = record {
     let a : (run_at runs k).end < (run_at runs j).start = ordered.apart k j (omega arith) wj in
     let f : (run_at runs j).start < (run_at runs j).end = ordered.filled j wj in
     omega arith }
+
+-- the last run ends last, and its last position is covered
+pub last_run : (xs runs : List Run) (run : Run) → Some run ≡ slice_get xs (length xs - 1) → xs ≡ runs → (0 < length runs) × (run ≡ run_at runs (length runs - 1))
+last_run xs runs run e same =
+    let at : slice_get runs (length runs - 1) ≡ Some run = rw same at (sym e) in
+    let within : length runs - 1 < length runs = slice_get_within runs (length runs - 1) run at in
+    (omega arith, sym (get_or_from_slice_get runs (length runs - 1) run (record { start = 0; end = 0 }) at))

@@ -41,7 +41,7 @@ held_accepted r q bytes policy rbuf p =
       (cases_lt p end)
 
 -- the kept cell is the receiver's
-known_cell : (s : Known) (r : Receiver) → StandsFor s r → (p : ℕ) → s.next - s.rbuf ≤ p → held s.kept p ≡ held r.cells p
+pub known_cell : (s : Known) (r : Receiver) → StandsFor s r → (p : ℕ) → s.next - s.rbuf ≤ p → held s.kept p ≡ held r.cells p
 known_cell s r h p l =
     let e : s.next ≡ next_of r.cells = h.next in
     let low : next_of r.cells - s.rbuf ≤ p = rw (← e) l in

@@ -9,3 +9,4 @@ pub mod Joined
 pub mod Taken
 pub mod Placing
 pub mod Streams
+pub mod Fins

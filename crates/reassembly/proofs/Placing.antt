@@ -154,7 +154,7 @@ differs_below : (next rbuf p byte b : ℕ) (k : Bool) → k ≡ leb (next - rbuf
 differs_below next rbuf p byte b true e = rw (← e) refl
 differs_below next rbuf p byte b false e = refl
 
-some_of_cond : (b : Bool) (x : ℕ) → is_some (cond b (Some x) None) ≡ b
+pub some_of_cond : (b : Bool) (x : ℕ) → is_some (cond b (Some x) None) ≡ b
 some_of_cond true x = refl
 some_of_cond false x = refl
 

@@ -6,6 +6,7 @@
 #![tactic(auto)]
 
 mod answers;
+mod fin;
 mod laying;
 mod runs;
 mod stream;

@@ -5,6 +5,7 @@ ghost use Rattle.reassembly.specs.Segment.{accept, counts, from_zero, below_zero
 ghost use Rattle.reassembly.specs.Fin.{note_of, noted};
 ghost use Rattle.reassembly.specs.Known.{StandsFor};
 
+use crate::fin::{judge, natural, noted_after};
 use crate::window::Window;
 use crate::{FinNote, Placed, Policy};
 use std::alloc::{AllocError, Global};
@@ -139,5 +140,21 @@ impl Stream {
             differ: placed.differ,
             over: placed.over,
         })
+    }
+
+    /// Notes a FIN at `position`, the end of its segment, where `edge` is the greatest position that is allowed.
+    pub fn note_fin(&mut self, position: i64, edge: u64) -> FinNote
+        ensures answer { (r : Receiver) → StandsFor self.old r → result ≡ note_of r position edge }
+        ensures stands { (r : Receiver) → StandsFor self.old r → StandsFor self.new (noted r position edge) }
+        ensures same { (self.new.next ≡ self.old.next) × (self.new.kept ≡ self.old.kept) × (self.new.rbuf ≡ self.old.rbuf) }
+    {
+        let Some(position) = natural(position) else {
+            return FinNote::Refused;
+        };
+        let free = self.window.is_free_from(position);
+        let note = judge(self.fin, position, edge, free);
+        let fin = noted_after(self.fin, position, note);
+        self.fin = fin;
+        note
     }
 }

@@ -1,5 +1,5 @@
 // The buffer of a stream: the bytes from `base` on, of which those below `next` and those in a run are accepted.
-ghost use Rattle.std.specs.Prelude.{◌≡◌, ℕ, ◌+◌, ◌-◌, ◌<◌, ◌≤◌, ◌^◌, ◌⊎◌, ◌||◌, ◌&&◌, [], length, min, max, vec_len, vec_capacity, nat_le, nat_lt, slice_index, OnOk, OnErr, IfOk, Option};
+ghost use Rattle.std.specs.Prelude.{◌≡◌, ℕ, ◌+◌, ◌-◌, ◌<◌, ◌≤◌, ◌^◌, ◌⊎◌, ◌||◌, ◌&&◌, [], length, min, max, vec_len, vec_capacity, nat_le, nat_lt, slice_index, OnOk, OnErr, IfOk, Option, true, IsTrue, IsFalse};
 ghost use Rattle.reassembly.specs.Runs.{AreOrdered, AreAbove, AreWithin, is_accepted};
 ghost use Rattle.reassembly.specs.Laying.{laid_byte, tally_of};
 
@@ -199,5 +199,20 @@ impl Window {
             differ: differ + tally.differ,
             over: (segment.len() - within) as u32,
         })
+    }
+
+    /// Whether no byte at `position` or past it is accepted.
+    pub fn is_free_from(&self, position: u64) -> bool
+        requires { IsLaid self.now }
+        ensures free { IsTrue result → IsBounded self.now position }
+        ensures taken { IsFalse result → (p : ℕ) × (position ≤ p) × (is_accepted self.now.next self.now.runs.items p ≡ true) }
+    {
+        if position < self.next {
+            return false;
+        }
+        match self.runs.last() {
+            Some(run) => run.end <= position,
+            None => true,
+        }
     }
 }
