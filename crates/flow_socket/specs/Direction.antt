@@ -3,14 +3,12 @@ use Rattle.std.specs.Prelude.{ℕ, ◌+◌, ◌-◌, ◌%◌, ◌^◌, ℤ, pos,
 use Rattle.packet_views.specs.declared.packet.Head.{Head}
 use Rattle.reassembly.specs.declared.answers.Policy.{Policy}
 use Rattle.reassembly.specs.declared.answers.Placed.{Placed}
-use Rattle.reassembly.specs.declared.answers.FinNote.{FinNote}
-use Rattle.reassembly.specs.declared.answers.FinNote.TheVariants.{Noted, Same, Refused}
 use Rattle.reassembly.specs.Position.{distance_of, position_of}
 use Rattle.reassembly.specs.Receiver.{Receiver, no_bytes, next_of}
-use Rattle.reassembly.specs.Segment.{accept, counts}
-use Rattle.reassembly.specs.Fin.{note_of, noted, is_fin_reached}
+use Rattle.reassembly.specs.Fin.{is_fin_reached}
 use Rattle.flow_socket.specs.declared.answers.Origin.{Origin}
-use Rattle.flow_socket.specs.Flags.{has_syn, has_fin, has_rst}
+use Rattle.flow_socket.specs.Segment.{with_segment, placed_at, nothing_placed, is_refused}
+use Rattle.packet_views.specs.Flags.{has_syn, has_fin, has_rst}
 
 -- what the receiver accepted, where its positions begin (none before the first packet), and how far user code has read it
 pub record Direction : Type 0 where
@@ -45,10 +43,6 @@ origin_for h d = unwrap_or d.origin (origin_from h)
 abbrev pub distance_in : Head → Direction → ℤ
 distance_in h d = distance_of (next_in d) (origin_for h d).irs (first_number h)
 
--- the position of the packet's first payload byte
-abbrev pub start_in : Head → Direction → ℤ
-start_in h d = pos (next_in d) +ℤ distance_in h d
-
 -- the number is one of 0 to n - 1
 abbrev pub is_below : ℕ → ℤ → Bool
 is_below n (pos z) = nat_lt z n
@@ -57,28 +51,10 @@ is_below n (negsuc z) = false
 abbrev pub is_in_window : ℕ → Head → Direction → Bool
 is_in_window rbuf h d = is_below rbuf (distance_in h d)
 
--- the receiver after the payload
-abbrev pub with_payload : ℕ → Policy → Head → List ℕ → Direction → Receiver
-with_payload rbuf policy h payload d = accept d.receiver (start_in h d) payload policy rbuf
-
--- the FIN stands after the payload; it may stand at most rbuf above the next from before the packet
-abbrev pub fin_position : Head → List ℕ → Direction → ℤ
-fin_position h payload d = start_in h d +ℤ pos (length payload)
-
-abbrev pub fin_edge : ℕ → Direction → ℕ
-fin_edge rbuf d = next_in d + rbuf
-
--- what becomes of the packet's FIN, judged after the payload
-abbrev pub note_in : ℕ → Policy → Head → List ℕ → Direction → FinNote
-note_in rbuf policy h payload d =
-    note_of (with_payload rbuf policy h payload d) (fin_position h payload d) (fin_edge rbuf d)
-
 -- the receiver after the packet: neither payload nor FIN of a packet with RST is read
 abbrev pub receiver_after : ℕ → Policy → Head → List ℕ → Direction → Receiver
 receiver_after rbuf policy h payload d =
-    if has_rst h then d.receiver
-    else if has_fin h then noted (with_payload rbuf policy h payload d) (fin_position h payload d) (fin_edge rbuf d)
-    else with_payload rbuf policy h payload d
+    if has_rst h then d.receiver else with_segment rbuf policy (has_fin h) (distance_in h d) payload d.receiver
 
 -- the direction after the packet
 abbrev pub direction_after : ℕ → Policy → Head → List ℕ → Direction → Direction
@@ -89,20 +65,14 @@ direction_after rbuf policy h payload d = record {
 }
 
 -- how the packet's bytes were judged
-abbrev pub nothing_placed : Placed
-nothing_placed = record { new = 0; old = 0; differ = 0; over = 0 }
-
 abbrev pub placed_in : ℕ → Head → List ℕ → Direction → Placed
-placed_in rbuf h payload d = if has_rst h then nothing_placed else counts d.receiver (start_in h d) payload rbuf
+placed_in rbuf h payload d =
+    if has_rst h then nothing_placed else placed_at rbuf (distance_in h d) payload d.receiver
 
--- the FIN of a packet was refused
-abbrev pub is_refused : FinNote → Bool
-is_refused Noted = false
-is_refused Same = false
-is_refused Refused = true
-
+-- its FIN was refused
 abbrev pub is_fin_refused : ℕ → Policy → Head → List ℕ → Direction → Bool
-is_fin_refused rbuf policy h payload d = not (has_rst h) && (has_fin h && is_refused (note_in rbuf policy h payload d))
+is_fin_refused rbuf policy h payload d =
+    if has_rst h then false else is_refused rbuf policy (has_fin h) (distance_in h d) payload d.receiver
 
 -- all bytes of the sender and its FIN were accepted
 abbrev pub is_finished : Direction → Bool
@@ -125,11 +95,15 @@ acks_syn_at ack next (Some origin) = origin.knows_syn && is_natural (position_of
 abbrev pub acks_syn : ℕ → Direction → Bool
 acks_syn ack d = acks_syn_at ack (next_in d) d.origin
 
+-- the position lies above that of the FIN, where one is noted
+abbrev pub is_past_fin : ℤ → Option ℕ → Bool
+is_past_fin q None = false
+is_past_fin q (Some fin) = is_above fin q
+
 -- it acknowledges the noted FIN
 abbrev pub acks_fin_at : ℕ → ℕ → Option Origin → Option ℕ → Bool
 acks_fin_at ack next None fin = false
-acks_fin_at ack next (Some origin) None = false
-acks_fin_at ack next (Some origin) (Some fin) = is_above fin (position_of next origin.irs ack)
+acks_fin_at ack next (Some origin) fin = is_past_fin (position_of next origin.irs ack) fin
 
 abbrev pub acks_fin : ℕ → Direction → Bool
 acks_fin ack d = acks_fin_at ack (next_in d) d.origin d.receiver.fin

@@ -10,7 +10,7 @@ use Rattle.tcp_emulation.specs.Ends.{fresh_ends, end_at, ends_after_send, ends_a
 use Rattle.reassembly.specs.declared.answers.Policy.{Policy}
 use Rattle.flow_socket.specs.declared.answers.Sent.{Sent}
 use Rattle.flow_socket.specs.declared.answers.Got.{Got}
-use Rattle.flow_socket.specs.Flags.{has_syn, has_ack, has_fin, has_rst}
+use Rattle.packet_views.specs.Flags.{has_syn, has_ack, has_fin, has_rst}
 use Rattle.flow_socket.specs.Direction.{Direction, untouched, next_in, direction_after, is_in_window, is_finished, acks_syn, acks_fin, placed_in, is_fin_refused}
 
 -- a direction is named by its sender
@@ -41,24 +41,28 @@ abbrev pub with_direction : Side → Direction → Emulation → Emulation
 with_direction Client d e = record e { client = d }
 with_direction Server d e = record e { server = d }
 
--- Phase S: the sender's step. It reads the flags alone.
-abbrev pub sent_facts : Head → SegFacts
-sent_facts h = record {
+-- what a step of an end reads of a packet
+abbrev pub facts_of : Head → Bool → Bool → Bool → Bool → SegFacts
+facts_of h acks_syn acks_fin in_window fin_reached = record {
   syn = has_syn h;
   ack = has_ack h;
   fin = has_fin h;
   rst = has_rst h;
-  acks_syn = false;
-  acks_fin = false;
-  in_window = false;
-  fin_reached = false;
+  acks_syn = acks_syn;
+  acks_fin = acks_fin;
+  in_window = in_window;
+  fin_reached = fin_reached;
 }
 
-abbrev pub sent : Side → Head → Emulation → Emulation
+-- Phase S: the sender's step. It reads the flags alone.
+abbrev pub sent_facts : Head → SegFacts
+sent_facts h = facts_of h false false false false
+
+unfoldable pub sent : Side → Head → Emulation → Emulation
 sent from h e = record e { ends = ends_after_send from (sent_facts h) e.ends; last = Some h }
 
 -- what phase S answers: the sender's change, and next of the packet's direction
-abbrev pub sent_answer : Side → Head → Emulation → Sent
+unfoldable pub sent_answer : Side → Head → Emulation → Sent
 sent_answer from h e = record {
   change = change_of (end_at from e.ends) (end_at from (sent from h e).ends);
   next = next_in (direction_of from e);
@@ -69,23 +73,19 @@ abbrev pub taken_by : Side → Head → List ℕ → Emulation → Direction
 taken_by from h payload e = direction_after e.rbuf e.policy h payload (direction_of from e)
 
 abbrev pub received_facts : Side → Head → List ℕ → Emulation → SegFacts
-received_facts from h payload e = record {
-  syn = has_syn h;
-  ack = has_ack h;
-  fin = has_fin h;
-  rst = has_rst h;
-  acks_syn = acks_syn h.ack (direction_of (other from) e);
-  acks_fin = acks_fin h.ack (direction_of (other from) e);
-  in_window = is_in_window e.rbuf h (direction_of from e);
-  fin_reached = is_finished (taken_by from h payload e);
-}
+received_facts from h payload e =
+    facts_of h
+    (acks_syn h.ack (direction_of (other from) e))
+    (acks_fin h.ack (direction_of (other from) e))
+    (is_in_window e.rbuf h (direction_of from e))
+    (is_finished (taken_by from h payload e))
 
 abbrev pub ends_received : Side → Head → List ℕ → Emulation → Ends
 ends_received from h payload e = ends_after_receive (other from) (received_facts from h payload e) e.ends
 
-abbrev pub received : Side → Head → List ℕ → Emulation → Emulation
+unfoldable pub received : Side → Head → List ℕ → Emulation → Emulation
 received from h payload e =
-    with_direction from (taken_by from h payload e) (record e { ends = ends_received from h payload e })
+    record (with_direction from (taken_by from h payload e) e) { ends = ends_received from h payload e }
 
 -- 1: bytes beyond the window or at or past the FIN; 2: an RST out of the window; 4: a refused FIN
 abbrev pub fault_of : Bool → Bool → Bool → ℕ
@@ -94,7 +94,7 @@ fault_of is_over is_reset_out is_fin_refused =
 
 -- what phase R answers: the receiver's change, how the bytes were judged, the faults, next of the packet's direction after it and
 -- whether it rose, and whether the connection is over
-abbrev pub got_of : Side → Head → List ℕ → Emulation → Got
+unfoldable pub got_of : Side → Head → List ℕ → Emulation → Got
 got_of from h payload e =
     let d = direction_of from e in
     let placed = placed_in e.rbuf h payload d in record {

@@ -1,4 +1,4 @@
-pub mod Flags
+pub mod Segment
 pub mod Direction
 pub mod Emulation
 pub mod Peek

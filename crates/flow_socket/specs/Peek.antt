@@ -27,20 +27,20 @@ abbrev pub marked : ℕ → ℕ → Direction → Direction
 marked rbuf n d = record d { mark = peek_place rbuf d + length (peek_bytes rbuf n d) }
 
 -- the peek in the direction of one sender: what it answers, the bytes that it reads, and the connection after it
-abbrev pub peeked : Side → ℕ → Emulation → Peeked
+unfoldable pub peeked : Side → ℕ → Emulation → Peeked
 peeked from n e = peeked_in e.rbuf n (direction_of from e)
 
-abbrev pub bytes_peeked : Side → ℕ → Emulation → List ℕ
+unfoldable pub bytes_peeked : Side → ℕ → Emulation → List ℕ
 bytes_peeked from n e = peek_bytes e.rbuf n (direction_of from e)
 
-abbrev pub after_peek : Side → ℕ → Emulation → Emulation
+unfoldable pub after_peek : Side → ℕ → Emulation → Emulation
 after_peek from n e = with_direction from (marked e.rbuf n (direction_of from e)) e
 
 -- a peek at a place: the longest runs of kept positions among the n from it on, also above next; it moves no mark
-abbrev pub runs_at : Side → ℕ → ℕ → Emulation → List (ℕ × ℕ)
+unfoldable pub runs_at : Side → ℕ → ℕ → Emulation → List (ℕ × ℕ)
 runs_at from place n e = runs_from (kept (direction_of from e).receiver.cells e.rbuf) place n
 
 -- each run by its place and its bytes
-abbrev pub pieces_at : Side → ℕ → ℕ → Emulation → List (ℕ × List ℕ)
+unfoldable pub pieces_at : Side → ℕ → ℕ → Emulation → List (ℕ × List ℕ)
 pieces_at from place n e =
     map (λ run. (run.0, bytes_from (kept (direction_of from e).receiver.cells e.rbuf) run.0 run.1)) (runs_at from place n e)

@@ -6,5 +6,10 @@
 #![tactic(auto)]
 
 mod answers;
+mod direction;
+mod segment;
+mod sequence;
+mod socket;
 
 pub use answers::{Got, Origin, Peeked, Sent};
+pub use socket::FlowSocket;

@@ -1,0 +1,4 @@
+pub mod Taking
+pub mod Peeking
+pub mod Sides
+pub mod Phases

@@ -1,0 +1,32 @@
+-- How far a peek reaches.
+use Rattle.std.proofs.Common.{◌≡◌, ◌+◌, ◌-◌, ◌<◌, ◌≤◌, ℕ, suc, List, Option, None, Bool, true, false, is_none, arith, length, map, get_or, take, drop, ◌++◌, refl, ap, sym, ◌∙◌, min, cond, leb, subst, true≢false, ⊎_elim, zero-add}
+use Rattle.std.specs.List.{range_with_len, prefix_len}
+use Rattle.std.proofs.lemmas.Bool.{cases_lt}
+use Rattle.std.proofs.lemmas.List.{drop-append-le, take-append-drop}
+use Rattle.std.proofs.lemmas.List.FromFn.{get_or-map-range_with_len, length-map-range_with_len}
+use Rattle.std.proofs.lemmas.List.Sums.{prefix_len_stops}
+use Rattle.reassembly.specs.Receiver.{held, kept, next_of, low_of}
+
+-- what lies more than rbuf below next isn't kept
+not_kept : (cells : List (Option ℕ)) (rbuf p : ℕ) → p < next_of cells - rbuf → kept cells rbuf p ≡ None
+not_kept cells rbuf p far = grind arith
+
+-- the kept bytes below next are at most rbuf
+pub low_near : (cells : List (Option ℕ)) (rbuf : ℕ) → next_of cells ≤ low_of cells rbuf + rbuf
+unfolding low_of
+low_near cells rbuf = ⊎_elim far (λ (near : next_of cells - rbuf ≤ low_of cells rbuf). omega arith) (cases_lt (low_of cells rbuf) (next_of cells - rbuf))
+  where
+    below : List (Option ℕ)
+    below = map (kept cells rbuf) (range_with_len 0 (next_of cells))
+
+    far : low_of cells rbuf < next_of cells - rbuf → next_of cells ≤ low_of cells rbuf + rbuf
+    far l =
+        let inside : low_of cells rbuf < next_of cells = omega arith in
+        let here : get_or below (low_of cells rbuf) None ≡ kept cells rbuf (low_of cells rbuf) =
+        get_or-map-range_with_len (kept cells rbuf) 0 (next_of cells) (low_of cells rbuf) (low_of cells rbuf) None inside (zero-add (low_of cells rbuf)) in
+        let stops : is_none (get_or below (low_of cells rbuf) None) ≡ false = prefix_len_stops is_none below None (rw (length-map-range_with_len (kept cells rbuf) 0 (next_of cells)) inside) in
+        absurd (true≢false (sym (ap is_none (here ∙ not_kept cells rbuf (low_of cells rbuf) l)) ∙ stops))
+
+-- what a copy to the front of a front leaves of the whole
+pub rest_after : (buf : List ℕ) (len wanted : ℕ) → len ≤ length (take wanted buf) → drop len (take wanted buf) ++ drop wanted buf ≡ drop len buf
+rest_after buf len wanted within = sym (drop-append-le len (take wanted buf) (drop wanted buf) within) ∙ ap (drop len) (take-append-drop wanted buf)

@@ -1,0 +1,123 @@
+//! One direction of a connection as it is kept: where its positions begin, its stream, its mark.
+
+ghost use Rattle.std.specs.Prelude.{ℕ, ◌≡◌, ◌+◌, ◌^◌, ◌≤◌, ◌<◌, length, Option, Some, None, OnOk, OnErr, IfOk};
+
+use crate::answers::Origin;
+use crate::segment::{Judged, take_segment};
+use crate::sequence::{Acks, acks_of, distance, first_number, origin_from};
+use packet_views::Head;
+use reassembly::{Placed, Policy, Stream};
+use std::alloc::{AllocError, Global};
+use std::marker::Model;
+
+/// What is kept of one direction. Contracts see its origin, its stream and its mark.
+#[derive(Drop)]
+pub(crate) struct KeptDirection {
+    origin: Option<Origin>,
+    pub(crate) stream: Stream,
+    mark: u64,
+}
+
+impl Model for KeptDirection {
+    ghost use Rattle.flow_socket.specs.Known.{KnownDirection};
+
+    ghost Value = { KnownDirection };
+
+    ghost view = { λ k. record { origin = k.origin; stream = k.stream; mark = k.mark } };
+}
+
+/// How a packet was judged in its direction.
+#[derive(Clone, Copy)]
+pub(crate) struct Taken {
+    pub(crate) placed: Placed,
+    pub(crate) fin_refused: bool,
+    pub(crate) in_window: bool,
+}
+
+impl KeptDirection {
+    ghost use Rattle.reassembly.specs.Known.{StandsFor};
+    ghost use Rattle.reassembly.specs.Receiver.{Receiver};
+    ghost use Rattle.flow_socket.specs.Known.{DirectionStandsFor};
+    ghost use Rattle.flow_socket.specs.Direction.{Direction, untouched, direction_after, placed_in, is_fin_refused, is_in_window, is_finished, acks_syn, acks_fin, next_in};
+
+    /// A direction from which nothing was received.
+    pub(crate) fn new(alloc: Global, rbuf: u32) -> KeptDirection
+        requires low { 1 ≤ rbuf }
+        requires high { rbuf ≤ 1048576 }
+        ensures stands { DirectionStandsFor rbuf result untouched }
+    {
+        KeptDirection {
+            origin: None,
+            stream: Stream::new(alloc, rbuf),
+            mark: 0,
+        }
+    }
+
+    /// Which of the SYN and the FIN of this direction's sender a number acknowledges.
+    pub(crate) fn acks(&self, ack: u32) -> Acks
+        requires next { self.now.stream.next ≤ 2 ^ 62 }
+        ensures syn { (rbuf : ℕ) (d : Direction) → DirectionStandsFor rbuf self.now d → result.syn ≡ acks_syn ack d }
+        ensures fin { (rbuf : ℕ) (d : Direction) → DirectionStandsFor rbuf self.now d → result.fin ≡ acks_fin ack d }
+    {
+        acks_of(ack, self.stream.next(), self.origin, self.stream.fin())
+    }
+
+    /// Whether the FIN of this direction's sender is reached.
+    pub(crate) fn is_finished(&self) -> bool
+        ensures { (rbuf : ℕ) (d : Direction) → DirectionStandsFor rbuf self.now d → result ≡ is_finished d }
+    {
+        self.stream.fin() == Some(self.stream.next())
+    }
+
+    /// Takes a packet: its payload and its FIN, unless it has RST. The first packet sets the
+    /// origin. Nothing changes where memory is refused.
+    pub(crate) fn take(
+        &mut self,
+        h: &Head,
+        payload: &[u8],
+        rbuf: u32,
+        policy: Policy,
+    ) -> Result<Taken, AllocError>
+        requires bytes { length payload.now ≤ 65535 }
+        requires next { self.old.stream.next ≤ 2 ^ 62 }
+        ensures err { OnErr result (self.new ≡ self.old) }
+        ensures rbuf { self.new.stream.rbuf ≡ self.old.stream.rbuf }
+        ensures rise { OnOk result (self.new.stream.next ≤ self.old.stream.next + self.old.stream.rbuf) }
+        ensures stands { OnOk result ((d : Direction) → DirectionStandsFor rbuf self.old d → DirectionStandsFor rbuf self.new (direction_after rbuf policy h.now payload.now d)) }
+        ensures placed { IfOk result (λ taken. (d : Direction) → DirectionStandsFor rbuf self.old d → taken.placed ≡ placed_in rbuf h.now payload.now d) }
+        ensures refused { IfOk result (λ taken. (d : Direction) → DirectionStandsFor rbuf self.old d → taken.fin_refused ≡ is_fin_refused rbuf policy h.now payload.now d) }
+        ensures window { IfOk result (λ taken. (d : Direction) → DirectionStandsFor rbuf self.old d → taken.in_window ≡ is_in_window rbuf h.now d) }
+    {
+        let origin = self.origin.unwrap_or(origin_from(h));
+        let distance = distance(self.stream.next(), origin.irs, first_number(h));
+        let judged = if h.has_rst() {
+            NOTHING
+        } else {
+            take_segment(
+                &mut self.stream,
+                distance,
+                payload,
+                h.has_fin(),
+                rbuf,
+                policy,
+            )?
+        };
+        self.origin = Some(origin);
+        Ok(Taken {
+            placed: judged.placed,
+            fin_refused: judged.fin_refused,
+            in_window: 0 <= distance && distance < i64::from(rbuf),
+        })
+    }
+}
+
+/// What isn't read isn't judged.
+const NOTHING: Judged = Judged {
+    placed: Placed {
+        new: 0,
+        old: 0,
+        differ: 0,
+        over: 0,
+    },
+    fin_refused: false,
+};

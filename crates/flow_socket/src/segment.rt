@@ -1,0 +1,70 @@
+//! A segment at a stream: its payload, and then its FIN.
+
+ghost use Rattle.std.specs.Prelude.{◌≡◌, ◌+◌, ◌-◌, ◌^◌, ◌≤◌, ◌≤ℤ◌, ◌<ℤ◌, ◌-ℤ◌, ◌+ℤ◌, pos, length, OnOk, OnErr, IfOk};
+ghost use Rattle.reassembly.specs.Receiver.{Receiver};
+ghost use Rattle.reassembly.specs.Known.{StandsFor};
+ghost use Rattle.flow_socket.specs.Segment.{with_segment, placed_at, is_refused, is_refusal};
+
+use reassembly::{FinNote, Placed, Policy, Stream};
+use std::alloc::AllocError;
+
+/// How the payload and the FIN of a segment were judged.
+#[derive(Clone, Copy)]
+pub(crate) struct Judged {
+    pub(crate) placed: Placed,
+    pub(crate) fin_refused: bool,
+}
+
+/// Places the payload, and then notes the FIN. Nothing changes where memory is refused.
+#[tactic(auto, unfolding(crate::specs::Segment::with_payload, crate::specs::Segment::placed_at, crate::specs::Segment::note_at, crate::specs::Segment::with_fin))]
+pub(crate) fn take_segment(
+    stream: &mut Stream,
+    distance: i64,
+    payload: &[u8],
+    has_fin: bool,
+    rbuf: u32,
+    policy: Policy,
+) -> Result<Judged, AllocError>
+    requires low { (pos 0 -ℤ pos (2 ^ 31)) ≤ℤ distance }
+    requires high { distance <ℤ pos (2 ^ 31) }
+    requires bytes { length payload.now ≤ 65535 }
+    requires next { stream.old.next ≤ 2 ^ 62 }
+    ensures err { OnErr result (stream.new ≡ stream.old) }
+    ensures rbuf { stream.new.rbuf ≡ stream.old.rbuf }
+    ensures rise { OnOk result (stream.new.next ≤ stream.old.next + stream.old.rbuf) }
+    ensures stands { OnOk result ((r : Receiver) → stream.old.rbuf ≡ rbuf → StandsFor stream.old r → StandsFor stream.new (with_segment rbuf policy has_fin distance payload.now r)) }
+    ensures placed { IfOk result (λ judged. (r : Receiver) → stream.old.rbuf ≡ rbuf → StandsFor stream.old r → judged.placed ≡ placed_at rbuf distance payload.now r) }
+    ensures refused { IfOk result (λ judged. (r : Receiver) → stream.old.rbuf ≡ rbuf → StandsFor stream.old r → judged.fin_refused ≡ is_refused rbuf policy has_fin distance payload.now r) }
+{
+    let next = stream.next();
+    let placed = stream.place(distance, payload, policy)?;
+    if !has_fin {
+        return Ok(Judged {
+            placed,
+            fin_refused: false,
+        });
+    }
+    let end = end_position(next, distance, payload.len());
+    let note = stream.note_fin(end, next + u64::from(rbuf));
+    Ok(Judged {
+        placed,
+        fin_refused: is_refusal(note),
+    })
+}
+
+/// The position after `len` bytes that begin at a distance from `next`.
+fn end_position(next: u64, distance: i64, len: usize) -> i64
+    requires next { next ≤ 2 ^ 62 }
+    requires low { (pos 0 -ℤ pos (2 ^ 31)) ≤ℤ distance }
+    requires high { distance <ℤ pos (2 ^ 31) }
+    requires len { len ≤ 65535 }
+    ensures { result ≡ pos next +ℤ distance +ℤ pos len }
+{
+    next as i64 + distance + len as i64
+}
+
+fn is_refusal(note: FinNote) -> bool
+    ensures { result ≡ is_refusal note }
+{
+    matches!(note, FinNote::Refused)
+}

@@ -1,0 +1,222 @@
+//! The socket of one connection: both ends, both directions, the last packet.
+
+ghost use Rattle.std.specs.Prelude.{ℕ, ◌≡◌, ◌+◌, ◌^◌, ◌≤◌, ◌<◌, List, length, Option, Some, None, OnOk, OnErr, IfOk};
+ghost use Rattle.flow_socket.specs.Emulation.{facts_of, sent_facts, fault_of};
+ghost use Rattle.std.specs.Prelude.{nat_lt, not, ◌&&◌};
+ghost use Rattle.packet_views.specs.Flags.{has_rst};
+
+use crate::answers::{Got, Sent};
+use crate::direction::{KeptDirection, Taken};
+use crate::sequence::Acks;
+use packet_views::Head;
+use reassembly::{Policy, Stream};
+use std::alloc::{AllocError, Global};
+use std::marker::Model;
+use tcp_emulation::{Change, Ends, SegFacts, Side};
+
+/// The monitoring socket of one connection. It stands for the emulated connection of the
+/// definitions: its ends, its origins, marks and kept bytes, and the last packet that was sent.
+#[derive(Drop)]
+pub struct FlowSocket {
+    ends: Ends,
+    client: KeptDirection,
+    server: KeptDirection,
+    last: Option<Head>,
+    rbuf: u32,
+    policy: Policy,
+}
+
+impl Model for FlowSocket {
+    ghost use Rattle.std.specs.Prelude.{◌≡◌};
+    ghost use Rattle.flow_socket.specs.Known.{KnownSocket};
+
+    ghost Value = { KnownSocket };
+
+    ghost invariant = { λ s. (s.client.stream.rbuf ≡ s.rbuf) × (s.server.stream.rbuf ≡ s.rbuf) };
+
+    ghost view = { λ s. record { ends = s.ends; client = s.client; server = s.server; last = s.last; rbuf = s.rbuf; policy = s.policy } };
+}
+
+impl FlowSocket {
+    ghost use Rattle.tcp_emulation.specs.States.{other};
+    ghost use Rattle.tcp_emulation.specs.Ends.{end_at, ends_after_receive, change_of, is_over};
+    ghost use Rattle.flow_socket.specs.Known.{SocketStandsFor, known_at, next_at};
+    ghost use Rattle.flow_socket.specs.Emulation.{Emulation, fresh, sent, sent_answer, received, got_of, direction_of, with_direction, taken_by};
+    ghost use Rattle.tcp_emulation.specs.declared.segment.Side.{Side};
+    ghost use Rattle.flow_socket.specs.Direction.{acks_syn, acks_fin, is_finished, placed_in, is_fin_refused, is_in_window};
+
+    /// The socket of a connection before its first packet. Each receiver's buffer has `rbuf` bytes,
+    /// from 1 to 1,048,576; `policy` says which byte of an overlap stays.
+    pub fn new(alloc: Global, rbuf: u32, policy: Policy) -> FlowSocket
+        requires low { 1 ≤ rbuf }
+        requires high { rbuf ≤ 1048576 }
+        ensures { SocketStandsFor result (fresh rbuf policy) }
+    {
+        FlowSocket {
+            ends: Ends::new(),
+            client: KeptDirection::new(alloc, rbuf),
+            server: KeptDirection::new(alloc, rbuf),
+            last: None,
+            rbuf,
+            policy,
+        }
+    }
+
+    /// Makes phase S of a packet: the step of its sender, `from`.
+    #[tactic(auto, unfolding(crate::specs::Emulation::sent, crate::specs::Emulation::sent_answer))]
+    pub fn send(&mut self, from: Side, h: &Head) -> Sent
+        ensures stands { (e : Emulation) → SocketStandsFor self.old e → SocketStandsFor self.new (sent from h.now e) }
+        ensures answer { (e : Emulation) → SocketStandsFor self.old e → result ≡ sent_answer from h.now e }
+        ensures client { self.new.client ≡ self.old.client }
+        ensures server { self.new.server ≡ self.old.server }
+    {
+        self.last = Some(*h);
+        let change = tcp_emulation::send_step(&mut self.ends, from, &sent_facts(h));
+        Sent {
+            change,
+            next: self.stream(from).next(),
+        }
+    }
+
+    /// Makes phase R of a packet that `from` sent: the step of its receiver. The payload has `h.len`
+    /// bytes. Nothing changes where memory is refused.
+    pub fn receive(&mut self, from: Side, h: &Head, payload: &[u8]) -> Result<Got, AllocError>
+        requires len { h.now.len ≡ length payload.now }
+        requires bytes { length payload.now ≤ 65535 }
+        requires client { next_at Side.Client self.old ≤ 2 ^ 62 }
+        requires server { next_at Side.Server self.old ≤ 2 ^ 62 }
+        ensures err { OnErr result (self.new ≡ self.old) }
+        ensures stands { OnOk result ((e : Emulation) → SocketStandsFor self.old e → SocketStandsFor self.new (received from h.now payload.now e)) }
+        ensures answer { IfOk result (λ got. (e : Emulation) → SocketStandsFor self.old e → got ≡ got_of from h.now payload.now e) }
+        ensures rise { OnOk result (next_at from self.new ≤ next_at from self.old + self.old.rbuf) }
+        ensures peer { OnOk result (known_at (other from) self.new ≡ known_at (other from) self.old) }
+        ensures rbuf { self.new.rbuf ≡ self.old.rbuf }
+    {
+        let acks = self.acks(from.other(), h.ack);
+        let before = self.stream(from).next();
+        let taken = self.take(from, h, payload)?;
+        let facts = facts_of(h, acks, taken.in_window, self.is_finished(from));
+        let change = self.step_receiver(from.other(), &facts);
+        let next = self.stream(from).next();
+        Ok(Got {
+            change,
+            placed: taken.placed,
+            fault: fault_of(h, &taken),
+            rose: before < next,
+            next,
+            over: self.is_over(),
+        })
+    }
+
+    /// Steps the end that receives a packet.
+    fn step_receiver(&mut self, of: Side, facts: &SegFacts) -> Change
+        ensures stands { (e : Emulation) → SocketStandsFor self.old e → SocketStandsFor self.new (record e { ends = ends_after_receive of facts.now e.ends }) }
+        ensures change { (e : Emulation) → SocketStandsFor self.old e → result ≡ change_of (end_at of e.ends) (end_at of (ends_after_receive of facts.now e.ends)) }
+        ensures client { self.new.client ≡ self.old.client }
+        ensures server { self.new.server ≡ self.old.server }
+        ensures rbuf { self.new.rbuf ≡ self.old.rbuf }
+    {
+        tcp_emulation::recv_step(&mut self.ends, of, facts)
+    }
+
+    /// Which of the SYN and the FIN of `of` a number acknowledges.
+    fn acks(&self, of: Side, ack: u32) -> Acks
+        requires next { next_at of self.now ≤ 2 ^ 62 }
+        ensures syn { (e : Emulation) → SocketStandsFor self.now e → result.syn ≡ acks_syn ack (direction_of of e) }
+        ensures fin { (e : Emulation) → SocketStandsFor self.now e → result.fin ≡ acks_fin ack (direction_of of e) }
+    {
+        match of {
+            Side::Client => self.client.acks(ack),
+            Side::Server => self.server.acks(ack),
+        }
+    }
+
+    /// Whether the FIN of `from` is reached.
+    fn is_finished(&self, from: Side) -> bool
+        ensures { (e : Emulation) → SocketStandsFor self.now e → result ≡ is_finished (direction_of from e) }
+    {
+        match from {
+            Side::Client => self.client.is_finished(),
+            Side::Server => self.server.is_finished(),
+        }
+    }
+
+    /// The packet's direction takes it.
+    fn take(&mut self, from: Side, h: &Head, payload: &[u8]) -> Result<Taken, AllocError>
+        requires bytes { length payload.now ≤ 65535 }
+        requires next { next_at from self.old ≤ 2 ^ 62 }
+        ensures err { OnErr result (self.new ≡ self.old) }
+        ensures stands { OnOk result ((e : Emulation) → SocketStandsFor self.old e → SocketStandsFor self.new (with_direction from (taken_by from h.now payload.now e) e)) }
+        ensures placed { IfOk result (λ taken. (e : Emulation) → SocketStandsFor self.old e → taken.placed ≡ placed_in e.rbuf h.now payload.now (direction_of from e)) }
+        ensures refused { IfOk result (λ taken. (e : Emulation) → SocketStandsFor self.old e → taken.fin_refused ≡ is_fin_refused e.rbuf e.policy h.now payload.now (direction_of from e)) }
+        ensures window { IfOk result (λ taken. (e : Emulation) → SocketStandsFor self.old e → taken.in_window ≡ is_in_window e.rbuf h.now (direction_of from e)) }
+        ensures rise { OnOk result (next_at from self.new ≤ next_at from self.old + self.old.rbuf) }
+        ensures peer { OnOk result (known_at (other from) self.new ≡ known_at (other from) self.old) }
+        ensures rbuf { self.new.rbuf ≡ self.old.rbuf }
+    {
+        match from {
+            Side::Client => self.client.take(h, payload, self.rbuf, self.policy),
+            Side::Server => self.server.take(h, payload, self.rbuf, self.policy),
+        }
+    }
+
+    /// The stream of the bytes that `from` sends, as the other end accepts them.
+    pub fn stream(&self, from: Side) -> &Stream
+        ensures { result.now ≡ (known_at from self.now).stream }
+    {
+        match from {
+            Side::Client => &self.client.stream,
+            Side::Server => &self.server.stream,
+        }
+    }
+
+    /// Whether the connection is over: each end is in CLOSED or TIME_WAIT.
+    pub fn is_over(&self) -> bool
+        ensures { (e : Emulation) → SocketStandsFor self.now e → result ≡ is_over e.ends }
+    {
+        tcp_emulation::is_over(&self.ends)
+    }
+
+    /// The header of the packet that was sent last, None exactly before the first.
+    pub fn last(&self) -> Option<Head>
+        ensures { (e : Emulation) → SocketStandsFor self.now e → result ≡ e.last }
+    {
+        self.last
+    }
+}
+
+/// The sum of the faults of a packet: bytes that weren't accepted, an RST out of the window, a
+/// FIN that was refused.
+fn fault_of(h: &Head, taken: &Taken) -> u8
+    ensures { result ≡ fault_of (nat_lt 0 taken.now.placed.over) (has_rst h.now && not taken.now.in_window) taken.now.fin_refused }
+{
+    let is_reset_out = h.has_rst() && !taken.in_window;
+    u8::from(taken.placed.over > 0) + 2 * u8::from(is_reset_out) + 4 * u8::from(taken.fin_refused)
+}
+
+/// What a step of an end reads of a packet.
+fn facts_of(h: &Head, acks: Acks, in_window: bool, fin_reached: bool) -> SegFacts
+    ensures { result ≡ facts_of h.now acks.syn acks.fin in_window fin_reached }
+{
+    SegFacts {
+        syn: h.has_syn(),
+        ack: h.has_ack(),
+        fin: h.has_fin(),
+        rst: h.has_rst(),
+        acks_syn: acks.syn,
+        acks_fin: acks.fin,
+        in_window,
+        fin_reached,
+    }
+}
+
+/// The sender's step reads the flags alone.
+fn sent_facts(h: &Head) -> SegFacts
+    ensures { result ≡ sent_facts h.now }
+{
+    let none = Acks {
+        syn: false,
+        fin: false,
+    };
+    facts_of(h, none, false, false)
+}
