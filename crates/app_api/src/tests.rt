@@ -63,3 +63,30 @@ fn log_has_three_presets_and_asks_nothing(rt: HostRuntime) -> Result<(), Fail> {
     assert!(rt; fields.as_slice().is_empty());
     Ok(())
 }
+
+fn is_shared<T: Send + Sync>(_: &T) -> bool {
+    true
+}
+
+fn is_handed_over<T: Send>(_: &T) -> bool {
+    true
+}
+
+#[test]
+fn threads_share_registrations_and_hand_over_entries(rt: HostRuntime) {
+    let alloc = rt.alloc();
+    let entries = EntryList {
+        items: Vec::new(alloc),
+    };
+    let drops = DropList {
+        items: Vec::new(alloc),
+    };
+    let active = ActiveList {
+        items: Vec::new(alloc),
+    };
+    assert!(rt; is_shared(&LogApp) && is_shared(&Reg::preset(1, PKT_IN, Hook::Snd, true)));
+    assert!(rt; is_handed_over(&entries) && is_handed_over(&drops) && is_handed_over(&active));
+    assert!(rt;
+        entries.as_slice().is_empty() && drops.as_slice().is_empty() && active.as_slice().is_empty()
+    );
+}

@@ -179,4 +179,13 @@ mod tests {
         };
         assert_eq!(rt; (facts.get(0), facts.get(10), facts.get(19)), (1, 7, 4));
     }
+
+    fn is_shared<T: Send + Sync>(_: &T) -> bool {
+        true
+    }
+
+    #[test]
+    fn threads_share_a_book(rt: HostRuntime) {
+        assert!(rt; is_shared(&NativeBook::plain()) && is_shared(&Facts::none()));
+    }
 }

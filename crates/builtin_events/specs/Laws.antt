@@ -1,0 +1,44 @@
+-- What the lists of raises say, in the words of the subject.
+use Rattle.std.specs.Prelude.{◌≡◌, ℕ, Bool, true, List, map, IsTrue, nat_lt, not, ◌==◌}
+use Rattle.std.specs.List.{list_any, list_all}
+use Rattle.packet_views.specs.declared.packet.Head.{Head}
+use Rattle.tcp_emulation.specs.declared.segment.Side.{Side}
+use Rattle.app_api.specs.declared.events.TheConstants.{START, PKT_IN, REXMIT, NEW_DATA, ERROR, STATE, END}
+use Rattle.app_api.specs.Events.{allows_hook}
+use Rattle.app_api.specs.Numbers.{rise_from}
+use Rattle.flow_socket.specs.declared.answers.Sent.{Sent}
+use Rattle.flow_socket.specs.declared.answers.Got.{Got}
+use Rattle.builtin_events.specs.declared.raise.Raise.{Raise}
+use Rattle.builtin_events.specs.Facts.{sender_facts, receiver_facts}
+use Rattle.builtin_events.specs.Raises.{is_changed, sender_raises, receiver_raises}
+
+-- whether an event is among the raises
+abbrev pub is_raised : ℕ → List Raise → Bool
+is_raised event raises = list_any (λ r. r.event == event) raises
+
+-- the events stand by rising number, so none is raised twice: start, pkt_in, rexmit, new_data, error, state, end
+abbrev pub IsInOrder : List Raise → Type 0
+IsInOrder raises = IsTrue (rise_from START (map (λ r. r.event) raises))
+
+-- each event is raised at a side at which it may be
+abbrev pub IsAtItsSide : List Raise → Type 0
+IsAtItsSide raises = IsTrue (list_all (λ r. allows_hook r.event r.hook) raises)
+
+-- at the sender exactly these events are raised, each exactly where its condition holds
+pub record RaisesAtSender (h : Head) (from : Side) (nth : ℕ) (first : Bool) (s : Sent) : Type 0 where
+  pub order : IsInOrder (sender_raises h from nth first s)
+  pub side : IsAtItsSide (sender_raises h from nth first s)
+  pub start : is_raised START (sender_raises h from nth first s) ≡ first
+  pub pkt_in : is_raised PKT_IN (sender_raises h from nth first s) ≡ true
+  pub state : is_raised STATE (sender_raises h from nth first s) ≡ is_changed (sender_facts h from nth s)
+
+-- and at the receiver these
+pub record RaisesAtReceiver (h : Head) (from : Side) (nth : ℕ) (g : Got) : Type 0 where
+  pub order : IsInOrder (receiver_raises h from nth g)
+  pub side : IsAtItsSide (receiver_raises h from nth g)
+  pub pkt_in : is_raised PKT_IN (receiver_raises h from nth g) ≡ true
+  pub rexmit : is_raised REXMIT (receiver_raises h from nth g) ≡ nat_lt 0 (receiver_facts h from nth g).rexlen
+  pub new_data : is_raised NEW_DATA (receiver_raises h from nth g) ≡ g.rose
+  pub error : is_raised ERROR (receiver_raises h from nth g) ≡ not ((receiver_facts h from nth g).fault == 0)
+  pub state : is_raised STATE (receiver_raises h from nth g) ≡ is_changed (receiver_facts h from nth g)
+  pub over : is_raised END (receiver_raises h from nth g) ≡ g.over
