@@ -1,3 +1,4 @@
 pub mod Cuts
 pub mod Opened
+pub mod Plain
 pub mod Steps

@@ -9,6 +9,8 @@ mod errors;
 mod frame;
 mod header;
 mod order;
+#[cfg(test)]
+mod tests;
 
 pub use capture::{CAPTURED_LIMIT, Capture, RECORD_LIMIT, Step};
 pub use errors::{CaptureFault, NextError, OpenError};

@@ -1,0 +1,23 @@
+// A source that gives few bytes at a time.
+ghost use Rattle.std.specs.Prelude.{◌<◌, Some};
+
+use mos_bytes::{Failed, MemSource, Source};
+
+#[derive(Drop)]
+pub struct ShortSource {
+    pub inner: MemSource,
+    /// The most bytes that a read gives.
+    pub most: usize,
+    ghost some: { 0 < most },
+}
+
+impl Source for ShortSource {
+    ghost left = { λ s. Some s.inner.left };
+
+    ghost faults = { λ s. s.inner.faults };
+
+    fn read(&mut self, buf: &mut [u8]) -> Result<usize, Failed> {
+        let most = self.most.min(buf.len());
+        self.inner.read(&mut buf[..most])
+    }
+}
