@@ -12,6 +12,7 @@ use Rattle.std.proofs.lemmas.Bool.Decides.{nat_tests, eqb_tells}
 use Rattle.shared_forest.specs.declared.node.Slot.{Slot}
 use Rattle.shared_forest.specs.Listing.{Shown}
 use Rattle.event_trees.specs.Private.{path_cmp}
+use Rattle.event_trees.specs.Order.{IsUpTo}
 use Rattle.event_trees.specs.Canon.{Placed, longer, prefixes, put_path, put_paths, paths_with, slots_at, shown_at, canon_of}
 use Rattle.event_trees.proofs.Order.{Has, AllBelow, AllAbove, same_path, itself, by_order, less_trans, flip_less, has_below, has_above, below_trans, below_push, put-has, puts-above, sorted-puts, has-puts_old, has-puts_new, cmp-front, front_less}
 
@@ -56,10 +57,6 @@ below_next : (paths : List (List ℕ)) (q p : List ℕ) → EndsAt paths q → p
 below_next paths q p e less =
     let all : AllBelow (e.before ++ q ∷ []) p = below_push e.before q p (below_trans q p e.before less (sorted-before e.before q (subst (IsStrictlySortedBy path_cmp) e.ends e.sorted))) less in
     subst (λ (l : List (List ℕ)). AllBelow l p) (sym e.ends) all
-
--- this path is no later than that one
-abbrev pub IsUpTo : List ℕ → List ℕ → Type 0
-IsUpTo q p = is_gt (path_cmp q p) ≡ false
 
 first_less : (a b : ℕ) (q p : List ℕ) → a ≢ b → IsUpTo (a ∷ q) (b ∷ p) → nat_cmp a b ≡ Less
 first_less a b q p other le =

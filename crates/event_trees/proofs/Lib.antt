@@ -1,5 +1,7 @@
+pub mod Built
 pub mod Firing
 pub mod Growth
+pub mod NodeSteps
 pub mod Order
 pub mod Paths
 pub mod Rows

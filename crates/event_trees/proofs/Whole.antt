@@ -3,15 +3,10 @@ use Rattle.std.proofs.Common.{◌≡◌, ℕ, List, [], ◌∷◌, ◌++◌, map
 use Rattle.std.proofs.lemmas.List.{map-append}
 use Rattle.shared_forest.specs.declared.node.Slot.{Slot}
 use Rattle.shared_forest.specs.Listing.{Shown}
-use Rattle.std.specs.Prelude.{⊤}
+use Rattle.event_trees.specs.Order.{Rises}
 use Rattle.event_trees.specs.Canon.{Placed, canon_of}
 use Rattle.event_trees.specs.ReadOff.{read_off}
-use Rattle.event_trees.proofs.Growth.{IsUpTo, Grown, grown-none, grown-push, Step, step, bare, newer}
-
--- no path is before the one before it
-abbrev pub Rises : List ℕ → List Placed → Type 0
-Rises q [] = ⊤
-Rises q (r ∷ rest) = IsUpTo q r.path × Rises r.path rest
+use Rattle.event_trees.proofs.Growth.{Grown, grown-none, grown-push, Step, step, bare, newer}
 
 abbrev at : List ℕ → Slot → Placed
 at p slot = record { path = p; slot = slot }

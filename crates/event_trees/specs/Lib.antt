@@ -2,8 +2,10 @@ pub mod Defs
 pub mod EventPath
 pub mod ReadOff
 pub mod Rows
+pub mod Build
 pub mod Canon
 pub mod Fires
 pub mod Private
+pub mod Order
 pub mod Place
 pub mod Walk

@@ -2,9 +2,13 @@
 #![tactic(auto)]
 
 mod defs;
+mod forest;
+mod nodes;
 mod path;
 mod place;
+mod placed;
 mod walk;
 
 pub use defs::{Defs, EventDef};
+pub use forest::build;
 pub use walk::Walk;
