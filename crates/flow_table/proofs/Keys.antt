@@ -1,8 +1,8 @@
 -- The order of keys is total, and tells all keys apart.
-use Rattle.std.proofs.Common.{◌≡◌, ◌==◌, ◌&&◌, ℕ, Bool, true, false, refl, sym, ap, subst, ◌∙◌, arith}
+use Rattle.std.proofs.Common.{◌≡◌, ◌==◌, ◌&&◌, ℕ, Bool, true, false, if◌then◌else◌, refl, sym, ap, subst, ◌∙◌, arith}
 use Rattle.std.specs.declared.cmp.Ordering.{Ordering}
 use Rattle.std.specs.declared.cmp.Ordering.TheVariants.{Less, Equal, Greater}
-use Rattle.std.specs.Ordering.{nat_cmp, ordering_then, eq_by_cmp, is_eq}
+use Rattle.std.specs.Ordering.{nat_cmp, ordering_then, eq_by_cmp, is_eq, is_le}
 use Rattle.std.specs.Cmp.{IsTotalOrder, nat_cmp_total, ranked, Equal-is}
 use Rattle.std.proofs.Math.Dec.{T, eqb, eqb_refl}
 use Rattle.std.proofs.lemmas.Bool.{ne_eqb}
@@ -11,7 +11,7 @@ use Rattle.std.proofs.lemmas.Map.Lookups.{CmpEqualImpliesEq, exact_pairs, exact_
 use Rattle.flow_table.specs.declared.endpoint.Endpoint.{Endpoint}
 use Rattle.flow_table.specs.declared.endpoint.Endpoint.TheVariants.{V4, V6}
 use Rattle.flow_table.specs.Endpoint.{version_of, addr_of, port_of, same_endpoint, endpoint_cmp}
-use Rattle.flow_table.specs.Key.{Ends, same_key}
+use Rattle.flow_table.specs.Key.{Ends, same_key, key_between}
 use Rattle.flow_table.specs.Table.{key_cmp, numbers_of, from_numbers, from_numbers-numbers_of}
 use Rattle.flow_table.specs.contracts.key.KeyPartialEq.TheImpl.{ghosts as ends}
 use Rattle.flow_table.specs.contracts.endpoint.EndpointPartialEq.TheImpl.{ghosts as endpoint}
@@ -79,3 +79,18 @@ same_key-equal a b h = exact_keys a b ((Equal-is (key_cmp a b)).0 (ties_key a b 
 
 pub same_key-symmetric : (a b : Ends) → same_key a b ≡ same_key b a
 same_key-symmetric a b = sym (ties_key a b) ∙ (eq_by_cmp_equiv keys_total).symm a b ∙ ties_key b a
+
+abbrev in_order : Bool → Endpoint → Endpoint → Ends
+in_order le a b = if le then (a, b) else (b, a)
+
+-- both directions of a connection have one key
+pub key_between-swap : (a b : Endpoint) → key_between a b ≡ key_between b a
+unfolding key_between
+key_between-swap a b = by (endpoint_cmp b a) refl
+  where
+    by : (r : Ordering) → endpoint_cmp b a ≡ r → in_order (is_le (endpoint_cmp a b)) a b ≡ in_order (is_le (endpoint_cmp b a)) b a
+    by Less e = rw (endpoints_total.antisymm a b, e) refl
+    by Equal e =
+        let P : Endpoint → Type 0 = λ c. in_order (is_le (endpoint_cmp a c)) a c ≡ in_order (is_le (endpoint_cmp c a)) c a in
+        subst P (sym (exact_endpoints b a e)) refl
+    by Greater e = rw (endpoints_total.antisymm a b, e) refl
