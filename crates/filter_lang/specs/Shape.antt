@@ -1,6 +1,6 @@
 -- What an expression is, as plain data: the code's terms without their boxes. Two expressions are the
 -- same where their shapes are.
-use Rattle.std.specs.Prelude.{ℕ, ◌≤◌, List, [], ◌∷◌}
+use Rattle.std.specs.Prelude.{ℕ, ◌<◌, ◌≤◌, ◌^◌, List, [], ◌∷◌}
 use Rattle.std.specs.List.{All}
 use Rattle.filter_lang.specs.declared.term.Atom.{Atom}
 use Rattle.filter_lang.specs.declared.term.Atom.TheVariants.{Fact, Number}
@@ -43,10 +43,10 @@ abbrev pub shapes : List Term → Shapes
 shapes [] = none
 shapes (t ∷ ts) = more (shape t) (shapes ts)
 
--- a fact has a place from 0 to 19
+-- a fact has a place from 0 to 19, and a number 64 bits
 abbrev pub AtomIsWithin : Atom → Type 0
 AtomIsWithin (Fact place) = place ≤ 19
-AtomIsWithin (Number n) = Unit {0}
+AtomIsWithin (Number n) = n < 2 ^ 64
 
 abbrev pub SumIsWithin : Sum → Type 0
 SumIsWithin s = AtomIsWithin s.first × All (λ step. AtomIsWithin step.atom) s.rest

@@ -26,14 +26,22 @@ fn atom(lexer: &mut Lexer) -> Result<Atom, FilterError>
 {
     let atom = match lexer.token {
         Token::FactName(place) => Atom::Fact(place),
-        Token::Numeral(n) => Atom::Number(n),
-        Token::Quad(n) => Atom::Number(u64::from(n)),
+        Token::Numeral(n) => number(n),
+        Token::Quad(n) => number(u64::from(n)),
         Token::BigNumeral => return Err(FilterError::BigNumber(lexer.at)),
         Token::UnknownWord => return Err(FilterError::UnknownName(lexer.at)),
         _ => return Err(FilterError::Syntax(lexer.at)),
     };
     lexer.advance();
     Ok(atom)
+}
+
+/// The atom of a number.
+fn number(n: u64) -> Atom
+    ensures value { result ≡ Atom.Number n }
+    ensures within { AtomIsWithin result }
+{
+    Atom::Number(n)
 }
 
 /// The sign, or the word, of a comparison.
