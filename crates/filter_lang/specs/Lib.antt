@@ -6,3 +6,4 @@ pub mod Grammar
 pub mod Words
 pub mod Lexer
 pub mod Parser
+pub mod Printed

@@ -7,6 +7,7 @@ pub mod expr;
 pub mod lexeme;
 mod lexer;
 mod parser;
+mod printer;
 pub mod term;
 pub mod token;
 
@@ -14,4 +15,5 @@ pub use error::FilterError;
 pub use evaluation::eval;
 pub use expr::Expr;
 pub use parser::parse;
+pub use printer::print;
 pub use term::{Atom, Join, Op, Step, StepList, Sum, Term, TermList};
