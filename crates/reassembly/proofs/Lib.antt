@@ -10,3 +10,4 @@ pub mod Taken
 pub mod Placing
 pub mod Streams
 pub mod Fins
+pub mod KeptRuns

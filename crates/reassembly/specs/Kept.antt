@@ -1,5 +1,5 @@
 -- Reading the bytes that are kept. `at` gives the kept byte at a position.
-use Rattle.std.specs.Prelude.{ℕ, zero, suc, ◌+◌, List, [], ◌∷◌, Option, Some, None, nat_eq, if◌then◌else◌}
+use Rattle.std.specs.Prelude.{◌≡◌, ◌<◌, ◌≤◌, true, false, is_some, ℕ, zero, suc, ◌+◌, List, [], ◌∷◌, Option, Some, None, nat_eq, if◌then◌else◌}
 
 -- the run of kept bytes from p on, at most n of them
 abbrev pub bytes_from : (ℕ → Option ℕ) → ℕ → ℕ → List ℕ
@@ -15,3 +15,20 @@ join_run p (run ∷ runs) = if nat_eq run.0 (p + 1) then (p, run.1 + 1) ∷ runs
 abbrev pub runs_from : (ℕ → Option ℕ) → ℕ → ℕ → List (ℕ × ℕ)
 runs_from at p zero = []
 runs_from at p (suc n) = elim (at p) [ Some b ↦ join_run p (runs_from at (p + 1) n) | None ↦ runs_from at (p + 1) n ]
+
+-- the positions from p to below e are kept, and e isn't: e is p where p isn't kept
+pub record IsRunEnd (at : ℕ → Option ℕ) (p e : ℕ) : Type 0 where
+  pub order : p ≤ e
+  pub run : (x : ℕ) → p ≤ x → x < e → is_some (at x) ≡ true
+  pub stops : is_some (at e) ≡ false
+
+-- f is the first kept position from p on
+pub record IsFirst (at : ℕ → Option ℕ) (p f : ℕ) : Type 0 where
+  pub order : p ≤ f
+  pub gap : (x : ℕ) → p ≤ x → x < f → is_some (at x) ≡ false
+  pub here : is_some (at f) ≡ true
+
+-- the first kept position from p on, or None where none is
+abbrev pub IsFirstKept : (ℕ → Option ℕ) → ℕ → Option ℕ → Type 0
+IsFirstKept at p None = (x : ℕ) → p ≤ x → is_some (at x) ≡ false
+IsFirstKept at p (Some f) = IsFirst at p f

@@ -4,7 +4,7 @@ ghost use Rattle.reassembly.specs.Runs.{AreOrdered, AreAbove, AreWithin, is_acce
 ghost use Rattle.reassembly.specs.Laying.{laid_byte, tally_of};
 
 use crate::laying::{Tally, differing, lay};
-use crate::runs::{Run, absorb, add, cut_out};
+use crate::runs::{Run, absorb, add, cut_out, ended_by};
 use crate::{Placed, Policy};
 use std::alloc::{AllocError, Global};
 
@@ -26,7 +26,8 @@ fn count_under(position: u64, start: u64, len: usize) -> usize
 impl Window {
     ghost use Rattle.reassembly.specs.Receiver.{limit_of};
     ghost use Rattle.reassembly.specs.Steps.{StepsTo, counts_known};
-    ghost use Rattle.reassembly.specs.Window.{end_of, known_of, byte_at, cell_at, IsLaid, IsSized, IsBounded, IsSameWindow, laid_at, taken_cell, taken_tally, differing_below};
+    ghost use Rattle.reassembly.specs.Kept.{IsRunEnd, IsFirstKept};
+    ghost use Rattle.reassembly.specs.Window.{end_of, known_of, kept_at, byte_at, cell_at, IsLaid, IsSized, IsBounded, IsSameWindow, laid_at, taken_cell, taken_tally, differing_below};
 
     /// A buffer with nothing in it. It takes no memory.
     pub fn new(alloc: Global) -> Self
@@ -214,5 +215,52 @@ impl Window {
             Some(run) => run.end <= position,
             None => true,
         }
+    }
+
+    /// Where the run of kept positions ends that has `position`: `position` itself, where it isn't kept.
+    pub fn run_end(&self, position: u64, rbuf: u32) -> u64
+        requires { IsLaid self.now }
+        ensures { IsRunEnd (kept_at self.now rbuf) position result }
+    {
+        if position < self.next.saturating_sub(u64::from(rbuf)) {
+            return position;
+        }
+        if position < self.next {
+            return self.next;
+        }
+        let at = ended_by(&self.runs, position);
+        if at == self.runs.len() {
+            return position;
+        }
+        let run = self.runs[at];
+        if run.start <= position { run.end } else { position }
+    }
+
+    /// The first kept position at or above `position`, if there is one.
+    pub fn first_kept(&self, position: u64, rbuf: u32) -> Option<u64>
+        requires laid { IsLaid self.now }
+        requires least { 1 ≤ rbuf }
+        ensures { IsFirstKept (kept_at self.now rbuf) position result }
+    {
+        let low = self.next.saturating_sub(u64::from(rbuf));
+        if position < self.next {
+            return Some(position.max(low));
+        }
+        let at = ended_by(&self.runs, position);
+        if at == self.runs.len() {
+            return None;
+        }
+        let start = self.runs[at].start;
+        Some(position.max(start))
+    }
+
+    /// Copies the bytes from `position` on, which the buffer has, and fills `buf`.
+    pub fn copy(&self, position: u64, buf: &mut [u8])
+        requires from { self.now.base ≤ position }
+        requires within { position + length buf.old ≤ end_of self.now }
+        ensures { (i : ℕ) → i < length buf.old → slice_index buf.new i ≡ byte_at self.now (position + i) }
+    {
+        let from = (position - self.base) as usize;
+        buf.copy_from_slice(&self.bytes[from..from + buf.len()]);
     }
 }
