@@ -11,3 +11,4 @@ pub mod Placing
 pub mod Streams
 pub mod Fins
 pub mod KeptRuns
+pub mod KeptBytes

@@ -1,6 +1,7 @@
 // A stream: its buffer, its FIN, and the size of its receive buffer.
-ghost use Rattle.std.specs.Prelude.{◌≡◌, ℕ, ◌+◌, ◌-◌, ◌<◌, ◌≤◌, ◌^◌, ℤ, pos, ◌+ℤ◌, neg_ℤ, ◌≤ℤ◌, ◌<ℤ◌, min, length, OnOk, OnErr, IfOk, Option, None};
-ghost use Rattle.reassembly.specs.Receiver.{Receiver, no_bytes, next_of, low_of, limit_of};
+ghost use Rattle.std.specs.Prelude.{◌≡◌, ℕ, ◌+◌, ◌-◌, ◌<◌, ◌≤◌, ◌^◌, ℤ, pos, ◌+ℤ◌, neg_ℤ, ◌≤ℤ◌, ◌<ℤ◌, ◌++◌, min, length, drop, OnOk, OnErr, IfOk, Option, None};
+ghost use Rattle.reassembly.specs.Receiver.{Receiver, no_bytes, next_of, kept, low_of, limit_of};
+ghost use Rattle.reassembly.specs.Kept.{bytes_from};
 ghost use Rattle.reassembly.specs.Segment.{accept, counts, from_zero, below_zero};
 ghost use Rattle.reassembly.specs.Fin.{note_of, noted};
 ghost use Rattle.reassembly.specs.Known.{StandsFor};
@@ -156,5 +157,20 @@ impl Stream {
         let fin = noted_after(self.fin, position, note);
         self.fin = fin;
         note
+    }
+
+    /// Copies the run of kept bytes from `position` on, as far as `buf` reaches, and answers how many these are:
+    /// 0 exactly where `buf` is empty or `position` isn't kept. The rest of `buf` stays.
+    pub fn read_at(&self, position: u64, buf: &mut [u8]) -> usize
+        ensures len { (r : Receiver) → StandsFor self.now r → result ≡ length (bytes_from (kept r.cells self.now.rbuf) position (length buf.old)) }
+        ensures bytes { (r : Receiver) → StandsFor self.now r → buf.new ≡ bytes_from (kept r.cells self.now.rbuf) position (length buf.old) ++ drop result buf.old }
+    {
+        let end = self.window.run_end(position, self.rbuf);
+        let len = (end - position).min(buf.len() as u64) as usize;
+        if len == 0 {
+            return 0;
+        }
+        self.window.copy(position, &mut buf[..len]);
+        len
     }
 }
