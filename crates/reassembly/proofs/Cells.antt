@@ -1,9 +1,9 @@
 -- Lists of cells: read at any position, next as the first empty cell.
-use Rattle.std.proofs.Common.{◌≡◌, ℕ, ◌+◌, ◌-◌, ◌<◌, ◌≤◌, suc, zero, Bool, true, false, cond, refl, ap, ◌∙◌, sym, arith, List, Option, Some, None, length, map, get_or, is_some, max, subst, true≢false, ⊎_elim, inl, inr, zero-add}
-use Rattle.std.specs.List.{range_with_len, prefix_len}
+use Rattle.std.proofs.Common.{◌≡◌, ℕ, ◌<◌, ◌≤◌, true, false, ap, ◌∙◌, sym, arith, List, Option, None, length, map, is_some, true≢false, ⊎_elim, zero-add}
+use Rattle.std.specs.List.{range_with_len}
 use Rattle.std.proofs.lemmas.List.{get_or_past}
 use Rattle.std.proofs.lemmas.List.FromFn.{get_or-map-range_with_len, length-map-range_with_len}
-use Rattle.std.proofs.lemmas.List.Sums.{prefix_len_passes, prefix_len_stops, prefix_len_is, prefix_len-le-length}
+use Rattle.std.proofs.lemmas.List.Sums.{prefix_len_passes, prefix_len_stops, prefix_len_is}
 use Rattle.std.proofs.lemmas.Bool.{cases_lt}
 use Rattle.reassembly.specs.Receiver.{held, next_of}
 

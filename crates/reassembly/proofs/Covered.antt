@@ -1,13 +1,11 @@
 -- Which positions the runs cover, told by indices.
-use Rattle.std.proofs.Common.{◌≡◌, ◌≢◌, ℕ, ◌+◌, ◌-◌, ◌<◌, ◌≤◌, suc, zero, Bool, true, false, ◌&&◌, refl, ap, ◌∙◌, sym, arith, List, [], ◌∷◌, length, leb, ltb, le-leb, Some, lt-ltb, leb-true, ltb-true, ⊎_elim, inl, inr, ◌⊎◌}
+use Rattle.std.proofs.Common.{◌≡◌, ℕ, ◌+◌, ◌-◌, ◌<◌, ◌≤◌, suc, true, false, ap, sym, arith, List, [], ◌∷◌, length, leb, ltb, le-leb, Some, lt-ltb, leb-true, ltb-true, ⊎_elim}
 use Rattle.std.proofs.lemmas.Bool.{cases_lt, and_from, and_parts, or_cases, false_from_ne_true, cases_eq}
-use Rattle.std.specs.List.{list_any, slice_get}
+use Rattle.std.specs.List.{slice_get}
 use Rattle.std.proofs.lemmas.Option.{slice_get_within, get_or_from_slice_get}
-use Rattle.std.proofs.lemmas.List.Folds.{list_any_at, Any-from_list_any}
+use Rattle.std.proofs.lemmas.List.Folds.{list_any_at}
 use Rattle.reassembly.specs.declared.runs.Run.{Run}
-use Rattle.reassembly.specs.declared.laying.Stretch.{Stretch}
 use Rattle.reassembly.specs.Runs.{run_at, covers, is_covered, AreOrdered, IsCursor}
-use Rattle.reassembly.specs.Laying.{IsStretch}
 
 -- a run has the position
 pub covered_by : (runs : List Run) (k p : ℕ) → k < length runs → (run_at runs k).start ≤ p → p < (run_at runs k).end → is_covered runs p ≡ true

@@ -1,5 +1,5 @@
 -- A FIN, told over the window.
-use Rattle.std.proofs.Common.{◌≡◌, ◌≢◌, ℕ, ◌+◌, ◌-◌, ◌<◌, ◌≤◌, Bool, true, false, cond, not, ◌&&◌, refl, ap, ap₂, ◌∙◌, sym, arith, ℤ, pos, negsuc, List, [], ◌∷◌, suc, eqb, Option, Some, None, is_some, length, drop, get_or, leb, ⊎_elim, true≢false, length-drop, get_or-drop}
+use Rattle.std.proofs.Common.{◌≡◌, ℕ, ◌+◌, ◌-◌, ◌<◌, ◌≤◌, Bool, true, false, not, refl, ap, ◌∙◌, sym, arith, ℤ, pos, negsuc, List, [], ◌∷◌, suc, eqb, Option, Some, None, is_some, length, drop, get_or, leb, ⊎_elim, true≢false, length-drop, get_or-drop}
 use Rattle.std.specs.List.{list_any}
 use Rattle.std.proofs.lemmas.Bool.{cases_lt, cases_Bool, false_from_ne_true, or_cases, and_right}
 use Rattle.std.proofs.lemmas.List.Folds.{list_any_at}
@@ -10,7 +10,7 @@ use Rattle.reassembly.specs.Receiver.{Receiver, held, next_of, kept}
 use Rattle.reassembly.specs.Fin.{is_free_from, natural_of, note_with, note_of, fin_with, fin_after, noted}
 use Rattle.reassembly.specs.Known.{Known, StandsFor}
 use Rattle.reassembly.specs.Runs.{is_accepted}
-use Rattle.reassembly.specs.Window.{end_of, byte_at, cell_at, known_of, IsLaid, IsBounded}
+use Rattle.reassembly.specs.Window.{byte_at, cell_at, known_of, IsLaid, IsBounded}
 use Rattle.reassembly.proofs.Cells.{below_next, held_past}
 use Rattle.reassembly.proofs.Laws.{known_cell}
 use Rattle.reassembly.proofs.Placing.{held_known, kept_cell, bounded_cell, some_of_cond}

@@ -1,5 +1,5 @@
 -- The runs after positions from low to below high were added to them.
-use Rattle.std.proofs.Common.{◌≡◌, ◌≢◌, ℕ, ◌+◌, ◌-◌, ◌<◌, ◌≤◌, suc, zero, min, max, Bool, true, false, ◌&&◌, ◌||◌, refl, ap, ◌∙◌, sym, arith, List, [], ◌∷◌, ◌++◌, length, get_or, take, drop, leb, ltb, le-leb, lt-ltb, leb-true, ltb-true, ⊎_elim, inl, inr, ◌⊎◌, subst, length-append, length-drop, length-take-le, get_or-drop, get_or-take}
+use Rattle.std.proofs.Common.{◌≡◌, ℕ, ◌+◌, ◌-◌, ◌<◌, ◌≤◌, suc, min, max, Bool, true, false, ◌&&◌, ◌||◌, refl, ap, ◌∙◌, sym, arith, List, ◌∷◌, ◌++◌, length, take, drop, leb, ltb, le-leb, lt-ltb, leb-true, ltb-true, ⊎_elim, inl, inr, ◌⊎◌, subst, length-append, length-drop, length-take-le, get_or-drop, get_or-take}
 use Rattle.std.proofs.lemmas.Bool.{cases_lt, and_from, and_parts, or_cases, or_left, or_right, cases_eq}
 use Rattle.std.proofs.lemmas.List.{get_or_append_left, get_or-append_right, get_or_at}
 use Rattle.reassembly.specs.declared.runs.Run.{Run}

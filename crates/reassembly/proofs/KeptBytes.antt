@@ -1,12 +1,12 @@
 -- Runs of kept bytes, whoever keeps them.
-use Rattle.std.proofs.Common.{◌≡◌, ℕ, ◌+◌, ◌-◌, ◌<◌, ◌≤◌, zero, suc, Bool, true, false, cond, refl, ap, ap₂, ◌∙◌, sym, arith, List, [], ◌∷◌, Option, Some, None, is_some, length, slice_index, min, leb, add-zero, true≢false, eqb, ⊎_elim, eq-eqb}
-use Rattle.std.proofs.lemmas.Bool.{cases_lt, ne_eqb}
+use Rattle.std.proofs.Common.{◌≡◌, ℕ, ◌+◌, ◌-◌, ◌<◌, ◌≤◌, zero, suc, Bool, true, false, cond, refl, ap, ap₂, ◌∙◌, sym, arith, List, [], ◌∷◌, Option, Some, None, is_some, length, slice_index, min, leb, add-zero, true≢false, ⊎_elim}
+use Rattle.std.proofs.lemmas.Bool.{cases_lt}
 use Rattle.reassembly.specs.declared.window.Window.{Window}
-use Rattle.reassembly.specs.Receiver.{Receiver, held, kept}
-use Rattle.reassembly.specs.Kept.{byte_then, bytes_from, join_run, run_then, runs_from, IsRunEnd, IsFirst}
-use Rattle.reassembly.specs.Known.{Known, StandsFor}
+use Rattle.reassembly.specs.Receiver.{Receiver, kept}
+use Rattle.reassembly.specs.Kept.{byte_then, bytes_from, run_then, runs_from, IsRunEnd}
+use Rattle.reassembly.specs.Known.{StandsFor}
 use Rattle.reassembly.specs.Runs.{is_accepted}
-use Rattle.reassembly.specs.Window.{end_of, byte_at, cell_at, kept_at, known_of, IsLaid}
+use Rattle.reassembly.specs.Window.{end_of, byte_at, kept_at, known_of, IsLaid}
 use Rattle.reassembly.proofs.Placing.{held_known, some_of_cond, kept_cell}
 use Rattle.reassembly.proofs.Taken.{accepted_within}
 use Rattle.reassembly.proofs.KeptRuns.{kept_low}

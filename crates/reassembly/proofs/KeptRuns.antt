@@ -1,11 +1,10 @@
 -- Kept positions, told over the window and its runs.
-use Rattle.std.proofs.Common.{◌≡◌, ℕ, ◌+◌, ◌-◌, ◌<◌, ◌≤◌, max, Bool, true, false, cond, refl, ap, ◌∙◌, sym, arith, List, Option, Some, None, is_some, length, leb, le-leb, ⊎_elim}
-use Rattle.std.proofs.lemmas.Bool.{cases_lt, lt-leb}
-use Rattle.reassembly.specs.declared.runs.Run.{Run}
+use Rattle.std.proofs.Common.{◌≡◌, ℕ, ◌+◌, ◌-◌, ◌<◌, ◌≤◌, max, true, false, cond, refl, ap, ◌∙◌, arith, Option, Some, None, is_some, length, leb}
+use Rattle.std.proofs.lemmas.Bool.{lt-leb}
 use Rattle.reassembly.specs.declared.window.Window.{Window}
-use Rattle.reassembly.specs.Kept.{IsRunEnd, IsFirst, IsFirstKept}
-use Rattle.reassembly.specs.Runs.{run_at, is_accepted, is_covered, AreOrdered, AreAbove, IsCursor}
-use Rattle.reassembly.specs.Window.{byte_at, cell_at, kept_at, IsLaid}
+use Rattle.reassembly.specs.Kept.{IsRunEnd, IsFirst}
+use Rattle.reassembly.specs.Runs.{run_at, is_accepted, IsCursor}
+use Rattle.reassembly.specs.Window.{byte_at, kept_at, IsLaid}
 use Rattle.reassembly.proofs.Covered.{covered_by, in_gap, cursor_next}
 use Rattle.reassembly.proofs.Taken.{accepted_from_next, accepted_below}
 use Rattle.reassembly.proofs.Placing.{kept_cell, next_open, some_of_cond}

@@ -1,5 +1,5 @@
 -- One stretch more is laid and judged.
-use Rattle.std.proofs.Common.{◌≡◌, ℕ, ◌+◌, ◌-◌, ◌<◌, ◌≤◌, Bool, true, false, cond, not, ◌&&◌, refl, ap, ap₂, ◌∙◌, sym, arith, List, length, get_or, take, drop, eqb, ⊎_elim, nat_eq}
+use Rattle.std.proofs.Common.{◌≡◌, ℕ, ◌+◌, ◌-◌, ◌<◌, ◌≤◌, Bool, true, false, cond, not, ◌&&◌, refl, ap, ap₂, ◌∙◌, sym, arith, List, length, take, drop, eqb, ⊎_elim}
 use Rattle.std.specs.Prelude.{slice_index}
 use Rattle.std.proofs.lemmas.Bool.{cases_lt, cond_both, lt-leb, and_right}
 use Rattle.reassembly.specs.declared.answers.Policy.{Policy}

@@ -1,15 +1,14 @@
 -- One segment over the cells that a stream knows is the model's step for every receiver that the stream stands for.
-use Rattle.std.proofs.Common.{◌≡◌, ℕ, ◌+◌, ◌-◌, ◌<◌, ◌≤◌, suc, zero, Bool, true, false, cond, not, ◌&&◌, ◌||◌, refl, ap, ◌∙◌, sym, arith, List, Option, Some, None, length, map, get_or, is_some, max, min, subst, true≢false, ⊎_elim, inl, inr, leb, ltb, eqb, le-leb, lt-ltb, le-ltb, ltb-true, leb-true}
+use Rattle.std.proofs.Common.{◌≡◌, ℕ, ◌+◌, ◌-◌, ◌<◌, ◌≤◌, true, false, cond, not, ◌&&◌, ◌||◌, refl, ap, ◌∙◌, sym, arith, List, Option, Some, None, length, is_some, max, ⊎_elim, leb, ltb, le-leb, lt-ltb, le-ltb}
 use Rattle.std.proofs.lemmas.Bool.{cases_lt, lt-leb, cond-true, cond-false}
-use Rattle.std.specs.List.{range_with_len, prefix_len}
 use Rattle.std.specs.Prelude.{slice_index}
 use Rattle.reassembly.specs.declared.answers.Policy.{Policy}
 use Rattle.reassembly.specs.declared.answers.Placed.{Placed}
-use Rattle.reassembly.specs.Receiver.{Receiver, held, next_of, kept, limit_of}
+use Rattle.reassembly.specs.Receiver.{Receiver, held, next_of, limit_of}
 use Rattle.reassembly.specs.Segment.{is_old, is_new, is_over, is_differing, is_last, cell_after, has_byte, held_after, accept_at, count_below, counts_at}
 use Rattle.reassembly.specs.Known.{Known, StandsFor}
 use Rattle.reassembly.specs.Steps.{StepsTo, counts_known}
-use Rattle.reassembly.proofs.Cells.{held_made, held_made_past, held_past, below_next, at_next, next_is}
+use Rattle.reassembly.proofs.Cells.{held_made, held_made_past, held_past, below_next, next_is}
 use Rattle.reassembly.proofs.Counts.{count_below-same}
 
 -- a byte leaves no cell empty that was filled

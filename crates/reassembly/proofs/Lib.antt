@@ -12,3 +12,4 @@ pub mod Streams
 pub mod Fins
 pub mod KeptRuns
 pub mod KeptBytes
+pub mod KeptPieces

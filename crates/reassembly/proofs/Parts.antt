@@ -1,5 +1,5 @@
 -- A list after a write to its part from a on.
-use Rattle.std.proofs.Common.{◌≡◌, ℕ, ◌+◌, ◌-◌, ◌<◌, ◌≤◌, refl, ap, ◌∙◌, sym, arith, List, ◌++◌, length, get_or, take, drop, length-drop, length-append}
+use Rattle.std.proofs.Common.{◌≡◌, ℕ, ◌+◌, ◌-◌, ◌<◌, ◌≤◌, ap, ◌∙◌, arith, List, ◌++◌, length, get_or, take, drop, length-drop, length-append}
 use Rattle.std.proofs.lemmas.List.{get_or_append_left, get_or-append_right, length-take-le, get_or-take, get_or-drop}
 use borrow.Rule.Slice.PartMut.{put_mid, post_of}
 

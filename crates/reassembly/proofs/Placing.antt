@@ -1,19 +1,18 @@
 -- A whole segment over the buffer: its bytes below next, those that are taken, and those past the limit.
-use Rattle.std.proofs.Common.{◌≡◌, ℕ, ◌+◌, ◌-◌, ◌<◌, ◌≤◌, min, Bool, true, false, cond, not, ◌&&◌, ◌||◌, refl, ap, ap₂, ◌∙◌, sym, arith, List, Option, Some, None, is_some, length, slice_index, take, drop, leb, ltb, eqb, le-leb, lt-ltb, le-ltb, ltb-true, leb-true, ⊎_elim, get_or-take, get_or-drop, length-drop, length-take-le}
-use Rattle.std.proofs.lemmas.Bool.{cases_lt, lt-leb, and_right, and_left, and_from, and_parts, cases_Bool, cond-true, cond-false, false_from_ne_true, both_ways}
+use Rattle.std.proofs.Common.{◌≡◌, ℕ, ◌+◌, ◌-◌, ◌<◌, ◌≤◌, min, Bool, true, false, cond, not, ◌&&◌, ◌||◌, refl, ap, ap₂, ◌∙◌, sym, arith, List, Option, Some, None, is_some, length, slice_index, take, drop, leb, ltb, eqb, le-leb, lt-ltb, le-ltb, ltb-true, leb-true, ⊎_elim, get_or-take, get_or-drop, length-take-le}
+use Rattle.std.proofs.lemmas.Bool.{cases_lt, lt-leb, and_right, and_from, and_parts, cases_Bool, cond-true, cond-false, false_from_ne_true, both_ways}
 use Rattle.reassembly.specs.declared.answers.Policy.{Policy}
 use Rattle.reassembly.specs.declared.answers.Placed.{Placed}
 use Rattle.reassembly.specs.declared.laying.Tally.{Tally}
 use Rattle.reassembly.specs.declared.runs.Run.{Run}
 use Rattle.reassembly.specs.declared.window.Window.{Window}
 use Rattle.reassembly.specs.Receiver.{held, limit_of}
-use Rattle.reassembly.specs.Segment.{is_old, is_new, is_over, is_differing, is_last, cell_after, has_byte, held_after, count_below}
-use Rattle.reassembly.specs.Known.{Known}
-use Rattle.reassembly.specs.Runs.{run_at, is_accepted, is_covered, AreAbove, AreWithin}
+use Rattle.reassembly.specs.Segment.{is_old, is_new, is_over, is_differing, is_last, has_byte, held_after, count_below}
+use Rattle.reassembly.specs.Runs.{run_at, is_accepted, is_covered, AreAbove}
 use Rattle.reassembly.specs.Window.{end_of, byte_at, cell_at, kept_at, known_of, IsLaid, IsBounded, taken_cell, taken_tally, differing_below}
 use Rattle.reassembly.proofs.Cells.{held_made, held_made_past}
 use Rattle.reassembly.proofs.Counts.{count_below-same, count_below-stretch, count_below-all, count_below-none}
-use Rattle.reassembly.proofs.Covered.{HasRun, covering, uncovered}
+use Rattle.reassembly.proofs.Covered.{uncovered}
 use Rattle.reassembly.specs.Steps.{StepsTo, counts_known}
 use Rattle.reassembly.proofs.Laws.{placed_is}
 use Rattle.reassembly.proofs.Laid.{length-part}

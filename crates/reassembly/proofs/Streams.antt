@@ -1,7 +1,7 @@
 -- A stream's calls, told over its window.
-use Rattle.std.proofs.Common.{◌≡◌, ℕ, ◌+◌, ◌-◌, ◌<◌, ◌≤◌, min, Bool, true, false, cond, refl, ap, ap₂, ◌∙◌, sym, subst, arith, ℤ, pos, ◌+ℤ◌, List, Option, Some, None, is_some, is_none, length, map, take, drop, leb, le-leb, ⊎_elim}
+use Rattle.std.proofs.Common.{◌≡◌, ℕ, ◌+◌, ◌-◌, ◌<◌, ◌≤◌, min, true, false, refl, ap, ap₂, ◌∙◌, subst, arith, ℤ, pos, ◌+ℤ◌, List, Option, Some, None, is_some, is_none, length, map, take, drop, leb, le-leb}
 use Rattle.std.specs.List.{range_with_len, prefix_len}
-use Rattle.std.proofs.lemmas.Bool.{cases_lt, lt-leb, cond-true, cond-false}
+use Rattle.std.proofs.lemmas.Bool.{lt-leb, cond-true, cond-false}
 use Rattle.std.proofs.lemmas.List.{drop_min, take_rest}
 use Rattle.std.proofs.lemmas.List.FromFn.{get_or-map-range_with_len, length-map-range_with_len}
 use Rattle.std.proofs.lemmas.List.Sums.{prefix_len_is}
@@ -10,10 +10,10 @@ use Rattle.reassembly.specs.declared.answers.Placed.{Placed}
 use Rattle.reassembly.specs.declared.window.Window.{Window}
 use Rattle.reassembly.specs.Receiver.{Receiver, held, next_of, kept, low_of, limit_of}
 use Rattle.reassembly.specs.Segment.{accept, accept_at, counts, counts_at, from_zero, below_zero}
-use Rattle.reassembly.specs.Known.{Known, StandsFor}
+use Rattle.reassembly.specs.Known.{StandsFor}
 use Rattle.reassembly.specs.Steps.{StepsTo, counts_known}
-use Rattle.reassembly.specs.Runs.{run_at, AreWithin}
-use Rattle.reassembly.specs.Window.{end_of, known_of, IsLaid, IsSized, IsBounded, IsWhole, IsSameWindow}
+use Rattle.reassembly.specs.Runs.{run_at}
+use Rattle.reassembly.specs.Window.{end_of, known_of, IsBounded, IsWhole, IsSameWindow}
 use Rattle.reassembly.proofs.Cells.{below_next}
 use Rattle.reassembly.proofs.Laws.{stands_after, counts_stand}
 

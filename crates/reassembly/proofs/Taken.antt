@@ -1,11 +1,11 @@
 -- The cells after bytes were taken between next and the limit.
-use Rattle.std.proofs.Common.{◌≡◌, ℕ, ◌+◌, ◌-◌, ◌<◌, ◌≤◌, Bool, true, false, cond, not, ◌&&◌, ◌||◌, refl, ap, ap₂, ◌∙◌, sym, arith, List, Option, Some, None, is_some, length, leb, ltb, le-ltb, lt-ltb, ltb-true, leb-true, ⊎_elim, slice_index, eqb}
+use Rattle.std.proofs.Common.{◌≡◌, ℕ, ◌+◌, ◌-◌, ◌<◌, ◌≤◌, Bool, true, false, cond, not, ◌&&◌, ◌||◌, refl, ap, ap₂, ◌∙◌, arith, List, Some, None, is_some, length, leb, ltb, le-ltb, lt-ltb, ltb-true, leb-true, ⊎_elim, slice_index, eqb}
 use Rattle.std.proofs.lemmas.Bool.{or_cases, or_parts, and_parts}
 use Rattle.reassembly.specs.declared.answers.Policy.{Policy}
 use Rattle.reassembly.specs.declared.laying.Tally.{Tally}
 use Rattle.reassembly.specs.declared.runs.Run.{Run}
 use Rattle.reassembly.specs.declared.window.Window.{Window}
-use Rattle.reassembly.specs.Runs.{run_at, is_accepted, is_covered, AreAbove}
+use Rattle.reassembly.specs.Runs.{run_at, is_accepted, is_covered}
 use Rattle.reassembly.specs.Segment.{is_last, has_byte, count_below}
 use Rattle.reassembly.specs.Window.{end_of, byte_at, cell_at, IsLaid, laid_at, taken_cell, taken_tally}
 use Rattle.reassembly.proofs.Counts.{count_below-same, count_below-le}

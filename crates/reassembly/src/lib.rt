@@ -8,9 +8,11 @@
 mod answers;
 mod fin;
 mod laying;
+mod pieces;
 mod runs;
 mod stream;
 mod window;
 
 pub use answers::{FinNote, Placed, Policy};
+pub use pieces::Pieces;
 pub use stream::Stream;

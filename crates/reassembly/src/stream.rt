@@ -1,14 +1,14 @@
 // A stream: its buffer, its FIN, and the size of its receive buffer.
 ghost use Rattle.std.specs.Prelude.{◌≡◌, ℕ, ◌+◌, ◌-◌, ◌<◌, ◌≤◌, ◌^◌, ℤ, pos, ◌+ℤ◌, neg_ℤ, ◌≤ℤ◌, ◌<ℤ◌, ◌++◌, min, length, drop, OnOk, OnErr, IfOk, Option, None};
 ghost use Rattle.reassembly.specs.Receiver.{Receiver, no_bytes, next_of, kept, low_of, limit_of};
-ghost use Rattle.reassembly.specs.Kept.{bytes_from};
+ghost use Rattle.reassembly.specs.Kept.{bytes_from, runs_from};
 ghost use Rattle.reassembly.specs.Segment.{accept, counts, from_zero, below_zero};
 ghost use Rattle.reassembly.specs.Fin.{note_of, noted};
 ghost use Rattle.reassembly.specs.Known.{StandsFor};
 
 use crate::fin::{judge, natural, noted_after};
 use crate::window::Window;
-use crate::{FinNote, Placed, Policy};
+use crate::{FinNote, Pieces, Placed, Policy};
 use std::alloc::{AllocError, Global};
 use std::marker::Model;
 
@@ -172,5 +172,12 @@ impl Stream {
         }
         self.window.copy(position, &mut buf[..len]);
         len
+    }
+
+    /// The longest runs of kept positions among the `len` from `position` on, in order, also above `next`.
+    pub fn pieces(&self, position: u64, len: u32) -> Pieces<'_>
+        ensures { (r : Receiver) → StandsFor self.now r → result ≡ runs_from (kept r.cells self.now.rbuf) position len }
+    {
+        Pieces::new(&self.window, self.rbuf, position, len)
     }
 }

@@ -1,4 +1,4 @@
-use Rattle.std.proofs.Common.{◌≤◌, arith, length}
+use Rattle.std.proofs.Common.{◌≤◌, arith}
 use Rattle.reassembly.specs.Laying.{differing_of}
 use Rattle.reassembly.proofs.Counts.{count_below-le}
 use Rattle.reassembly.proofs.laying.differing.Goals as goal

@@ -1,9 +1,8 @@
-use Rattle.std.proofs.Common.{◌≡◌, ℕ, ◌+◌, ◌-◌, ◌<◌, ◌≤◌, ◌&&◌, not, cond, arith, List, length, take, drop, get_or, refl, ap₂, sym, ◌∙◌, ⊎_elim, slice_index}
-use Rattle.reassembly.specs.Segment.{is_last}
+use Rattle.std.proofs.Common.{◌≡◌, ℕ, ◌+◌, ◌-◌, ◌<◌, ◌≤◌, arith, length, take, drop, refl, ap₂, ◌∙◌}
 use Rattle.reassembly.specs.Runs.{is_covered}
-use Rattle.reassembly.specs.Laying.{laid_byte, tally_of, tally_of_stretch, tally_sum}
+use Rattle.reassembly.specs.Laying.{tally_sum}
 use Rattle.reassembly.proofs.Parts.{part_at}
-use Rattle.reassembly.proofs.Laid.{IsFew, tally_few, stretch_few, tally_more, laid_part, length-part}
+use Rattle.reassembly.proofs.Laid.{tally_few, stretch_few, tally_more, laid_part, length-part}
 use Rattle.reassembly.proofs.laying.lay.Goals as goal
 
 pub added-tally-requires-clause-new : goal.added-tally-requires-clause-new

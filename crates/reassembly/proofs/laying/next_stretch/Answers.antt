@@ -1,4 +1,4 @@
-use Rattle.std.proofs.Common.{◌≡◌, ◌<◌, ◌≤◌, arith}
+use Rattle.std.proofs.Common.{◌<◌, ◌≤◌, arith}
 use Rattle.reassembly.specs.Runs.{run_at}
 use Rattle.reassembly.proofs.Covered.{covered_by, in_gap, cursor_stays, cursor_next}
 use Rattle.reassembly.proofs.laying.next_stretch.Goals as goal

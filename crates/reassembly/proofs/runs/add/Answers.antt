@@ -1,4 +1,4 @@
-use Rattle.std.proofs.Common.{◌≡◌, ℕ, ◌-◌, ◌≤◌, List}
+use Rattle.std.proofs.Common.{ℕ, ◌-◌, ◌≤◌, List}
 use Rattle.reassembly.specs.declared.runs.Run.{Run}
 use Rattle.reassembly.specs.Runs.{IsCursor, IsBegun, IsJoined}
 use Rattle.reassembly.proofs.Joined.{first_before_past, IsSpan, span_of_joined, ordered_joined, covered_joined, above_joined, within_joined}

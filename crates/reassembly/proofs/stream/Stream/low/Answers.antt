@@ -1,5 +1,5 @@
 use Rattle.std.proofs.Common.{◌≡◌, ◌∙◌, ◌-◌, ap, subst}
-use Rattle.reassembly.specs.Receiver.{Receiver, low_of}
+use Rattle.reassembly.specs.Receiver.{low_of}
 use Rattle.reassembly.specs.Known.{StandsFor, Known}
 use Rattle.reassembly.proofs.Streams.{low_is}
 use Rattle.reassembly.proofs.stream.Stream.low.Goals as goal

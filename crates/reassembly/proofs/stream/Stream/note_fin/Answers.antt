@@ -1,8 +1,7 @@
-use Rattle.std.proofs.Common.{◌≡◌, ◌∙◌, ap, sym, refl, ⊎_elim, subst, Bool, true, false, Option, Some, None, ℤ, to_z-of_z}
+use Rattle.std.proofs.Common.{◌≡◌, ◌∙◌, ap, sym, refl, ⊎_elim, subst, true, false, Some, None, to_z-of_z}
 use Rattle.std.proofs.lemmas.Bool.{cases_Bool}
-use Rattle.reassembly.specs.declared.answers.FinNote.TheVariants.{Refused}
 use Rattle.reassembly.specs.Receiver.{Receiver}
-use Rattle.reassembly.specs.Fin.{is_free_from, natural_of, note_of, noted, fin_with, fin_after}
+use Rattle.reassembly.specs.Fin.{is_free_from, natural_of, note_of, noted, fin_after}
 use Rattle.reassembly.specs.Known.{Known, StandsFor}
 use Rattle.reassembly.specs.Window.{known_of}
 use Rattle.reassembly.proofs.Fins.{is_free, is_taken, note_is, refused_is, refused_fin, stands_noted, fin_is, fin_bound}

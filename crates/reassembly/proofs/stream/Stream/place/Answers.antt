@@ -1,6 +1,6 @@
 use Rattle.std.proofs.Common.{◌≡◌, ◌∙◌, ◌+◌, ◌+ℤ◌, ℤ, pos, ap, subst, to_z-of_z}
 use Rattle.reassembly.specs.declared.answers.Placed.{Placed}
-use Rattle.reassembly.specs.Receiver.{Receiver, next_of}
+use Rattle.reassembly.specs.Receiver.{next_of}
 use Rattle.reassembly.specs.Segment.{accept, counts, from_zero, below_zero}
 use Rattle.reassembly.specs.Known.{StandsFor, Known}
 use Rattle.reassembly.specs.Window.{known_of}

@@ -1,8 +1,7 @@
-use Rattle.std.proofs.Common.{◌≡◌, ℕ, ◌+◌, ◌-◌, ◌<◌, ◌≤◌, ◌++◌, List, [], min, arith, ap, sym, refl, subst, ◌∙◌, length, slice_index, take, drop, length-take}
+use Rattle.std.proofs.Common.{◌≡◌, ◌-◌, ◌≤◌, ◌++◌, [], min, arith, ap, subst, ◌∙◌, length, take, drop, length-take}
 use Rattle.reassembly.specs.Receiver.{Receiver, kept}
 use Rattle.reassembly.specs.Kept.{bytes_from}
 use Rattle.reassembly.specs.Known.{Known, StandsFor}
-use Rattle.reassembly.specs.Window.{known_of, byte_at}
 use Rattle.reassembly.proofs.KeptBytes.{IsReadable, readable, bytes_read}
 use Rattle.reassembly.proofs.stream.Stream.read_at.Goals as goal
 

@@ -1,6 +1,6 @@
-use Rattle.std.proofs.Common.{◌≡◌, ℕ, ◌+◌, ◌-◌, ◌<◌, ◌≤◌, arith, ap, ◌∙◌, sym, not, eqb, length, slice_index, take, drop, List, refl}
+use Rattle.std.proofs.Common.{◌≡◌, ℕ, ◌+◌, ◌-◌, arith, ap, ◌∙◌, sym, not, eqb, length, slice_index, take, drop, List, refl}
 use Rattle.reassembly.specs.Laying.{differing_of}
-use Rattle.reassembly.specs.Window.{differing_below, byte_at}
+use Rattle.reassembly.specs.Window.{byte_at}
 use Rattle.reassembly.proofs.Laid.{none_compared, some_compared}
 use Rattle.std.proofs.lemmas.List.{take_rest}
 use Rattle.std.proofs.Common.{length-drop}

@@ -1,4 +1,4 @@
-use Rattle.std.proofs.Common.{◌≡◌, ◌<◌, ◌≤◌, arith, ap, ◌∙◌, length, max}
+use Rattle.std.proofs.Common.{◌≡◌, arith, ap, ◌∙◌, max}
 use Rattle.std.proofs.lemmas.List.{get_or_read}
 use Rattle.reassembly.specs.declared.runs.Run.{Run}
 use Rattle.reassembly.specs.Runs.{run_at, IsCursor}

@@ -1,4 +1,4 @@
-use Rattle.std.proofs.Common.{◌≡◌, ℕ, ◌-◌, ◌<◌, ◌≤◌, arith, ap, length, true, ltb, leb-true, leb-false}
+use Rattle.std.proofs.Common.{◌≡◌, ◌-◌, ◌<◌, ◌≤◌, arith, ap, length, ltb, leb-true, leb-false}
 use Rattle.std.proofs.lemmas.Bool.{or_right}
 use Rattle.reassembly.specs.declared.runs.Run.{Run}
 use Rattle.reassembly.specs.Runs.{run_at, is_covered}

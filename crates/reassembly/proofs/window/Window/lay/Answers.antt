@@ -1,4 +1,4 @@
-use Rattle.std.proofs.Common.{◌≡◌, ℕ, ◌+◌, ◌-◌, ◌<◌, ◌≤◌, arith, ap, ◌∙◌, List, length, slice_index, take, drop, vec_len, cond, ◌&&◌, not, ap₂}
+use Rattle.std.proofs.Common.{◌≡◌, ℕ, ◌+◌, ◌-◌, ◌<◌, arith, ap, ◌∙◌, List, length, slice_index, take, drop, vec_len, cond, ◌&&◌, not, ap₂}
 use Rattle.reassembly.specs.declared.runs.Run.{Run}
 use Rattle.reassembly.specs.Segment.{has_byte, is_last}
 use Rattle.reassembly.specs.Runs.{is_covered}

@@ -1,8 +1,8 @@
-use Rattle.std.proofs.Common.{◌≡◌, ℕ, ◌+◌, ◌-◌, ◌<◌, ◌≤◌, min, ◌⊎◌, ⊎_elim, inl, inr, arith, ap, refl, Option, List, length, take, drop}
+use Rattle.std.proofs.Common.{◌≡◌, ◌+◌, ◌-◌, ◌<◌, ◌≤◌, min, ◌⊎◌, ⊎_elim, inl, inr, arith, ap, refl, length, take, drop}
 use Rattle.std.proofs.lemmas.Bool.{cases_lt}
 use Rattle.reassembly.specs.Window.{end_of}
 use Rattle.reassembly.proofs.Laid.{length-part}
-use Rattle.reassembly.proofs.Placing.{IsCut, IsPlaced, counts_placed, steps_placed}
+use Rattle.reassembly.proofs.Placing.{counts_placed, steps_placed}
 use Rattle.reassembly.proofs.window.Window.place.Goals as goal
 
 pub returns-clause-sized : goal.returns-clause-sized

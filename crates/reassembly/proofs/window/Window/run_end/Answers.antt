@@ -1,8 +1,8 @@
-use Rattle.std.proofs.Common.{◌≡◌, ◌<◌, ◌≤◌, arith, ap, length}
+use Rattle.std.proofs.Common.{◌≡◌, arith, ap}
 use Rattle.std.proofs.lemmas.List.{get_or_read}
 use Rattle.reassembly.specs.declared.runs.Run.{Run}
 use Rattle.reassembly.specs.Runs.{run_at, IsCursor}
-use Rattle.reassembly.proofs.KeptRuns.{kept_low, no_run, run_to_next, gap_open, run_to_end}
+use Rattle.reassembly.proofs.KeptRuns.{no_run, run_to_next, gap_open, run_to_end}
 use Rattle.reassembly.proofs.window.Window.run_end.Goals as goal
 
 pub returns-then-position-self : goal.returns-then-position-self

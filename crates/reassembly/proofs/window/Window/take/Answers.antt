@@ -2,7 +2,7 @@ use Rattle.std.proofs.Common.{◌≡◌, ◌≤◌, arith, ap, ◌∙◌, sym, l
 use Rattle.std.proofs.lemmas.Bool.{eqb-false}
 
 use Rattle.reassembly.specs.Window.{taken_tally}
-use Rattle.reassembly.proofs.Taken.{IsTaken, cells_taken, tally_taken, taken_few}
+use Rattle.reassembly.proofs.Taken.{cells_taken, tally_taken, taken_few}
 use Rattle.reassembly.proofs.window.Window.take.Goals as goal
 
 from_next : (c : goal.After-accept) → c.args.self.now.next ≤ c.args.low
