@@ -77,75 +77,57 @@ fn raises_at_the_sender(rt: HostRuntime) {
     }
 }
 
+fn changed(old: State, new: State) -> Got {
+    Got {
+        change: Change { old, new },
+        ..QUIET
+    }
+}
+
+/// Four bytes are new, of which some let `next` rise, or lie past the window.
+fn accepted(rose: bool, over: u32, fault: u8) -> Got {
+    let placed = Placed {
+        new: 4,
+        over,
+        ..NOTHING
+    };
+    Got {
+        placed,
+        fault,
+        rose,
+        ..QUIET
+    }
+}
+
+fn came_again(old: u32, differ: u32) -> Got {
+    let placed = Placed {
+        old,
+        differ,
+        ..NOTHING
+    };
+    Got { placed, ..QUIET }
+}
+
 #[test]
 fn raises_at_the_receiver(rt: HostRuntime) {
-    let change = |old, new| Change { old, new };
+    use State::{Closed, Established, Listen, SynRcvd, SynSent};
+
+    let reset = Got {
+        over: true,
+        ..changed(Established, Closed)
+    };
     let rows = [
         // The handshake.
-        (
-            Got {
-                change: change(State::Listen, State::SynRcvd),
-                ..QUIET
-            },
-            [PKT_IN, STATE].as_slice(),
-        ),
-        (
-            Got {
-                change: change(State::SynSent, State::Established),
-                ..QUIET
-            },
-            [PKT_IN, STATE].as_slice(),
-        ),
-        (
-            Got {
-                change: change(State::SynRcvd, State::Established),
-                ..QUIET
-            },
-            [PKT_IN, STATE].as_slice(),
-        ),
-        // A retransmission: four bytes came again, two of them with other values.
-        (
-            Got {
-                placed: Placed {
-                    old: 4,
-                    differ: 2,
-                    ..NOTHING
-                },
-                ..QUIET
-            },
-            [PKT_IN, REXMIT].as_slice(),
-        ),
-        // A segment past the window, of which four bytes fit.
-        (
-            Got {
-                placed: Placed {
-                    new: 4,
-                    over: 4,
-                    ..NOTHING
-                },
-                fault: 1,
-                rose: true,
-                ..QUIET
-            },
-            [PKT_IN, NEW_DATA, ERROR].as_slice(),
-        ),
-        // New bytes behind a hole.
-        (
-            Got {
-                placed: Placed { new: 4, ..NOTHING },
-                ..QUIET
-            },
-            [PKT_IN].as_slice(),
-        ),
+        (changed(Listen, SynRcvd), [PKT_IN, STATE].as_slice()),
+        (changed(SynSent, Established), [PKT_IN, STATE].as_slice()),
+        (changed(SynRcvd, Established), [PKT_IN, STATE].as_slice()),
+        // A retransmission, the next bytes, bytes behind a hole, and bytes past the window.
+        (came_again(4, 2), [PKT_IN, REXMIT].as_slice()),
+        (accepted(true, 0, 0), [PKT_IN, NEW_DATA].as_slice()),
+        (accepted(false, 0, 0), [PKT_IN].as_slice()),
+        (accepted(true, 4, 1), [PKT_IN, NEW_DATA, ERROR].as_slice()),
         // A reset, which ends the connection.
-        (
-            Got {
-                change: change(State::Established, State::Closed),
-                over: true,
-                ..QUIET
-            },
-            [PKT_IN, STATE, END].as_slice(),
-        ),
+        (reset, [PKT_IN, STATE, END].as_slice()),
     ];
     for (got, events) in rows {
         let raises = phase_r(&head(101, 0x18, 8), Side::Client, 3, &got);
@@ -155,14 +137,7 @@ fn raises_at_the_receiver(rt: HostRuntime) {
 
 #[test]
 fn facts_of_a_retransmission(rt: HostRuntime) {
-    let got = Got {
-        placed: Placed {
-            old: 4,
-            differ: 2,
-            ..NOTHING
-        },
-        ..QUIET
-    };
+    let got = came_again(4, 2);
     let facts = Facts {
         dir: 1,
         nth: 4,

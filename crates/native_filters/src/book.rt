@@ -66,100 +66,54 @@ mod tests {
 
     const PRIVATE: u64 = 0x0a00_0001;
 
+    const LAST_OF_172_16: u64 = 0xac1f_ffff;
+
     const PUBLIC: u64 = 0xc000_0201;
+
+    fn flags(flags: u64) -> Facts {
+        let none = Facts::none();
+        Facts { flags, ..none }
+    }
+
+    fn ports(sport: u64, dport: u64) -> Facts {
+        let none = Facts::none();
+        Facts {
+            sport,
+            dport,
+            ..none
+        }
+    }
+
+    fn addresses(src: u64, dst: u64) -> Facts {
+        let none = Facts::none();
+        Facts { src, dst, ..none }
+    }
+
+    fn again(len: u64, rexlen: u64, rexdiff: u64) -> Facts {
+        let none = Facts::none();
+        Facts {
+            len,
+            rexlen,
+            rexdiff,
+            ..none
+        }
+    }
 
     #[test]
     fn each_native_filter_is_true_and_false(rt: HostRuntime) {
-        let none = Facts::none();
         let rows = [
-            (
-                0,
-                Facts {
-                    flags: 0x02,
-                    ..none
-                },
-                true,
-            ),
-            (
-                0,
-                Facts {
-                    flags: 0x12,
-                    ..none
-                },
-                false,
-            ),
-            (
-                1,
-                Facts {
-                    sport: 1024,
-                    dport: 80,
-                    ..none
-                },
-                true,
-            ),
-            (
-                1,
-                Facts {
-                    sport: 1024,
-                    dport: 8080,
-                    ..none
-                },
-                false,
-            ),
-            (
-                2,
-                Facts {
-                    src: PRIVATE,
-                    dst: 0xac1f_ffff,
-                    ..none
-                },
-                true,
-            ),
-            (
-                2,
-                Facts {
-                    src: PRIVATE,
-                    dst: PUBLIC,
-                    ..none
-                },
-                false,
-            ),
-            (
-                3,
-                Facts {
-                    len: 1,
-                    rexlen: 1,
-                    ..none
-                },
-                true,
-            ),
-            (
-                3,
-                Facts {
-                    len: 2,
-                    rexlen: 1,
-                    ..none
-                },
-                false,
-            ),
-            (
-                4,
-                Facts {
-                    flags: 0x11,
-                    ..none
-                },
-                true,
-            ),
-            (
-                4,
-                Facts {
-                    flags: 0x18,
-                    ..none
-                },
-                false,
-            ),
-            (5, Facts { rexdiff: 1, ..none }, true),
-            (5, none, false),
+            (0, flags(0x02), true),
+            (0, flags(0x12), false),
+            (1, ports(1024, 80), true),
+            (1, ports(1024, 8080), false),
+            (2, addresses(PRIVATE, LAST_OF_172_16), true),
+            (2, addresses(PRIVATE, PUBLIC), false),
+            (3, again(1, 1, 0), true),
+            (3, again(2, 1, 0), false),
+            (4, flags(0x11), true),
+            (4, flags(0x18), false),
+            (5, again(4, 4, 2), true),
+            (5, again(4, 4, 0), false),
         ];
         let book = NativeBook::plain();
         for (which, facts, answer) in rows {
@@ -171,13 +125,11 @@ mod tests {
 
     #[test]
     fn facts_stand_in_order(rt: HostRuntime) {
-        let facts = Facts {
-            dir: 1,
-            len: 7,
-            class: 4,
-            ..Facts::none()
-        };
-        assert_eq!(rt; (facts.get(0), facts.get(10), facts.get(19)), (1, 7, 4));
+        let facts = addresses(PRIVATE, PUBLIC);
+        assert_eq!(rt;
+            (facts.get(0), facts.get(2), facts.get(3)),
+            (0, PRIVATE, PUBLIC)
+        );
     }
 
     fn is_shared<T: Send + Sync>(_: &T) -> bool {
