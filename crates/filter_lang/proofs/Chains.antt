@@ -42,11 +42,11 @@ any_of-many [] h = absurd (omega arith)
 any_of-many (t ∷ []) h = absurd (omega arith)
 any_of-many (t ∷ u ∷ ts) h = ap AnyOf (chain-shape_list (t ∷ u ∷ ts))
 
-next_behind-other : (t : Token) (l : Level) (os : List Level) → (t ≡ Both → ⊥) → next_behind l os t ≡ behind_conj (with_conj l) os t
+pub next_behind-other : (t : Token) (l : Level) (os : List Level) → (t ≡ Both → ⊥) → next_behind l os t ≡ behind_conj (with_conj l) os t
 next_behind-other Both l os h = absurd (h refl)
 next_behind-other _ l os h = refl
 
-behind_conj-other : (t : Token) (cs : List Shape) (os : List Level) → (t ≡ Either → ⊥) → behind_conj cs os t ≡ behind_expr (any_of cs) os t
+pub behind_conj-other : (t : Token) (cs : List Shape) (os : List Level) → (t ≡ Either → ⊥) → behind_conj cs os t ≡ behind_expr (any_of cs) os t
 behind_conj-other Either cs os h = absurd (h refl)
 behind_conj-other _ cs os h = refl
 

@@ -2,7 +2,8 @@
 
 ghost use Rattle.std.specs.Prelude.{◌≡◌, ◌≤◌, ◌++◌, codes, string_bytes, IfOk, OnOk};
 ghost use Rattle.std.specs.Fmt.{decimal};
-ghost use Rattle.filter_lang.specs.Printed.{atom_text, join_text, op_text, steps_text, sum_text, wrap, separator_text, joined_text, is_or, is_chain, is_wide, printed, and_texts, or_texts};
+ghost use Rattle.filter_lang.specs.Grammar.{filter};
+ghost use Rattle.filter_lang.specs.Printed.{atom_text, join_text, op_text, steps_text, sum_text, wrap, separator_text, joined_text, is_or, is_chain, is_wide, nesting, printed, and_texts, or_texts};
 ghost use Rattle.filter_lang.specs.Shape.{shape, shapes, IsWithin, AreWithin, AtomIsWithin, SumIsWithin};
 
 use crate::expr::Expr;
@@ -13,7 +14,11 @@ use std::alloc::{AllocError, Global};
 /// The one printed text of a filter: one blank between tokens, numbers in decimal, and parentheses only
 /// where they are needed or round a comparison under `!`.
 pub fn print(alloc: Global, e: &Expr) -> Result<String, AllocError>
-    ensures { IfOk result (λ text. string_bytes text ≡ printed e.now) }
+    ensures text { IfOk result (λ text. string_bytes text ≡ printed e.now) }
+
+    // The printed text is a filter again, and the same one.
+    ensures again { IfOk result
+        (λ text. nesting e.now ≤ 32 → filter (string_bytes text) ≡ Ok e.now) }
 {
     let mut out = String::new(alloc);
     write_term(&mut out, e.term())?;
