@@ -1,10 +1,11 @@
 -- How far a peek reaches.
-use Rattle.std.proofs.Common.{◌≡◌, ◌+◌, ◌-◌, ◌<◌, ◌≤◌, ℕ, suc, List, Option, None, Bool, true, false, is_none, arith, length, map, get_or, take, drop, ◌++◌, refl, ap, sym, ◌∙◌, min, cond, leb, subst, true≢false, ⊎_elim, zero-add}
+use Rattle.std.proofs.Common.{◌≡◌, ◌+◌, ◌-◌, ◌<◌, ◌≤◌, ℕ, zero, suc, List, Option, Some, None, Bool, true, false, is_none, arith, length, map, get_or, take, drop, ◌++◌, refl, ap, sym, ◌∙◌, min, cond, leb, subst, true≢false, ⊎_elim, zero-add}
 use Rattle.std.specs.List.{range_with_len, prefix_len}
 use Rattle.std.proofs.lemmas.Bool.{cases_lt}
 use Rattle.std.proofs.lemmas.List.{drop-append-le, take-append-drop}
 use Rattle.std.proofs.lemmas.List.FromFn.{get_or-map-range_with_len, length-map-range_with_len}
 use Rattle.std.proofs.lemmas.List.Sums.{prefix_len_stops}
+use Rattle.reassembly.specs.Kept.{bytes_from, byte_then}
 use Rattle.reassembly.specs.Receiver.{held, kept, next_of, low_of}
 
 -- what lies more than rbuf below next isn't kept
@@ -30,3 +31,8 @@ low_near cells rbuf = ⊎_elim far (λ (near : next_of cells - rbuf ≤ low_of c
 -- what a copy to the front of a front leaves of the whole
 pub rest_after : (buf : List ℕ) (len wanted : ℕ) → len ≤ length (take wanted buf) → drop len (take wanted buf) ++ drop wanted buf ≡ drop len buf
 rest_after buf len wanted within = sym (drop-append-le len (take wanted buf) (drop wanted buf) within) ∙ ap (drop len) (take-append-drop wanted buf)
+
+-- a run of at most n bytes
+pub read_within : (at : ℕ → Option ℕ) (p n : ℕ) → length (bytes_from at p n) ≤ n
+read_within at p zero = omega arith
+read_within at p (suc n) = elim (at p) as (λ o. length (byte_then o (bytes_from at (p + 1) n)) ≤ suc n) [ Some b ↦ (let rest : length (bytes_from at (p + 1) n) ≤ n = read_within at (p + 1) n in omega arith) | None ↦ omega arith ]

@@ -2,7 +2,7 @@
 
 ghost use Rattle.std.specs.Prelude.{ℕ, ◌≡◌, ◌+◌, ◌^◌, ◌≤◌, ◌<◌, length, Option, Some, None, OnOk, OnErr, IfOk};
 
-use crate::answers::Origin;
+use crate::answers::{Origin, Peeked};
 use crate::segment::{Judged, take_segment};
 use crate::sequence::{Acks, acks_of, distance, first_number, origin_from};
 use packet_views::Head;
@@ -108,6 +108,35 @@ impl KeptDirection {
             fin_refused: judged.fin_refused,
             in_window: 0 <= distance && distance < i64::from(rbuf),
         })
+    }
+}
+
+impl KeptDirection {
+    ghost use Rattle.std.specs.Prelude.{drop, ◌++◌};
+    ghost use Rattle.flow_socket.specs.Known.{DirectionStandsFor};
+    ghost use Rattle.flow_socket.specs.Direction.{Direction};
+    ghost use Rattle.flow_socket.specs.Peek.{peeked_in, peek_bytes, marked};
+
+    /// Reads on from the mark, at most as many bytes as the buffer has, and moves the mark behind them.
+    #[tactic(auto, using(crate::proofs::Peeking::low_near, crate::proofs::Peeking::read_within, crate::proofs::Peeking::rest_after, std::proofs::lemmas::Grind::common_steps))]
+    pub(crate) fn peek(&mut self, buf: &mut [u8], rbuf: u32) -> Peeked
+        ensures stream { self.new.stream ≡ self.old.stream }
+        ensures stands { (d : Direction) → DirectionStandsFor rbuf self.old d → DirectionStandsFor rbuf self.new (marked rbuf (length buf.old) d) }
+        ensures answer { (d : Direction) → DirectionStandsFor rbuf self.old d → result ≡ peeked_in rbuf (length buf.old) d }
+        ensures bytes { (d : Direction) → DirectionStandsFor rbuf self.old d → buf.new ≡ peek_bytes rbuf (length buf.old) d ++ drop result.len buf.old }
+    {
+        let at = self.mark.max(self.stream.low());
+        let missed = at - self.mark;
+        // At most `rbuf` bytes below `next` are kept.
+        let unread = self.stream.next().saturating_sub(at).min(u64::from(rbuf));
+        let wanted = unread.min(buf.len() as u64) as usize;
+        let len = self.stream.read_at(at, &mut buf[..wanted]).min(wanted);
+        self.mark = at + len as u64;
+        Peeked {
+            at,
+            len: len as u32,
+            missed,
+        }
     }
 }
 

@@ -13,3 +13,6 @@ mod socket;
 
 pub use answers::{Got, Origin, Peeked, Sent};
 pub use socket::FlowSocket;
+
+#[cfg(test)]
+mod tests;

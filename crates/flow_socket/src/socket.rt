@@ -5,7 +5,7 @@ ghost use Rattle.flow_socket.specs.Emulation.{facts_of, sent_facts, fault_of};
 ghost use Rattle.std.specs.Prelude.{nat_lt, not, ◌&&◌};
 ghost use Rattle.packet_views.specs.Flags.{has_rst};
 
-use crate::answers::{Got, Sent};
+use crate::answers::{Got, Peeked, Sent};
 use crate::direction::{KeptDirection, Taken};
 use crate::sequence::Acks;
 use packet_views::Head;
@@ -38,7 +38,9 @@ impl Model for FlowSocket {
 }
 
 impl FlowSocket {
+    ghost use Rattle.std.specs.Prelude.{drop, ◌++◌};
     ghost use Rattle.tcp_emulation.specs.States.{other};
+    ghost use Rattle.flow_socket.specs.Peek.{peeked, bytes_peeked, after_peek};
     ghost use Rattle.tcp_emulation.specs.Ends.{end_at, ends_after_receive, change_of, is_over};
     ghost use Rattle.flow_socket.specs.Known.{SocketStandsFor, known_at, next_at};
     ghost use Rattle.flow_socket.specs.Emulation.{Emulation, fresh, sent, sent_answer, received, got_of, direction_of, with_direction, taken_by};
@@ -157,6 +159,22 @@ impl FlowSocket {
         match from {
             Side::Client => self.client.take(h, payload, self.rbuf, self.policy),
             Side::Server => self.server.take(h, payload, self.rbuf, self.policy),
+        }
+    }
+
+    /// Reads on from the mark of the stream that `from` sends, at most as many bytes as the buffer
+    /// has and all below `next`, and moves that mark behind them. The other mark stays.
+    #[tactic(auto, unfolding(crate::specs::Peek::peeked, crate::specs::Peek::bytes_peeked, crate::specs::Peek::after_peek))]
+    pub fn peek(&mut self, from: Side, buf: &mut [u8]) -> Peeked
+        ensures stands { (e : Emulation) → SocketStandsFor self.old e → SocketStandsFor self.new (after_peek from (length buf.old) e) }
+        ensures answer { (e : Emulation) → SocketStandsFor self.old e → result ≡ peeked from (length buf.old) e }
+        ensures bytes { (e : Emulation) → SocketStandsFor self.old e → buf.new ≡ bytes_peeked from (length buf.old) e ++ drop result.len buf.old }
+        ensures stream { (known_at from self.new).stream ≡ (known_at from self.old).stream }
+        ensures peer { known_at (other from) self.new ≡ known_at (other from) self.old }
+    {
+        match from {
+            Side::Client => self.client.peek(buf, self.rbuf),
+            Side::Server => self.server.peek(buf, self.rbuf),
         }
     }
 
