@@ -1,8 +1,10 @@
 -- How the pieces that a sink takes one after another add up.
-use Rattle.std.proofs.Common.{List, ℕ, [], ◌++◌, refl, sym, ap, ◌∙◌, append_assoc}
+use Rattle.std.proofs.Common.{◌≡◌, List, ℕ, [], ◌+◌, ◌-◌, ◌++◌, length, take, drop, refl, sym, ap, subst, ◌∙◌, arith, append_assoc, append-nil, length-drop, take_all}
+use Rattle.std.proofs.lemmas.List.{take-append-drop}
+use Rattle.std.proofs.Math.Seq.{take-add}
 use Rattle.std.specs.declared.option.Option.{Option}
-use Rattle.std.specs.Io.KnownBytes.{Appends}
-use Rattle.std.proofs.KnownBytes.{Appends-nil, Appends-trans}
+use Rattle.std.specs.Io.KnownBytes.{Appends, Keeps}
+use Rattle.std.proofs.KnownBytes.{Appends-kept, Appends-nil, Appends-trans}
 use Rattle.mos_bytes.specs.Writes.{AppendsFront}
 
 -- nothing is a front of everything
@@ -30,3 +32,32 @@ AppendsFront-more a b bytes more part = record {
   added = part.added;
   whole = ap (λ l. l ++ more) part.whole ∙ append_assoc part.front part.rest more;
 }
+
+-- a piece that a writer took behind what it took of the same bytes before
+pub Appends-next : (a b d : Option (List ℕ)) (bytes : List ℕ) (done count : ℕ) → Appends a b (take done bytes)
+    → Appends b d (take count (take (length bytes - done) (drop done bytes))) → Appends a d (take (done + count) bytes)
+Appends-next a b d bytes done count before next =
+    let rest : take (length bytes - done) (drop done bytes) ≡ drop done bytes = take_all _ _ (omega (arith, length-drop done bytes)) in
+    subst (Appends a d) (ap (λ l. take done bytes ++ take count l) rest ∙ sym (take-add done count bytes))
+    (Appends-trans a b d (take done bytes) (take count (take (length bytes - done) (drop done bytes))) before next)
+
+-- what a writer took so far, where it took nothing more
+pub AppendsFront-kept : (a b d : Option (List ℕ)) (bytes : List ℕ) (done : ℕ) → Appends a b (take done bytes) → Keeps b d → AppendsFront a d bytes
+AppendsFront-kept a b d bytes done before kept = record {
+  front = take done bytes;
+  rest = drop done bytes;
+  added = Appends-kept a b d (take done bytes) before kept;
+  whole = sym (take-append-drop done bytes);
+}
+
+-- the same after a call that took none of a piece
+pub AppendsFront-none : (a b d : Option (List ℕ)) (bytes piece : List ℕ) (done count : ℕ) → Appends a b (take done bytes) → Appends b d (take count piece) → count ≡ 0
+    → AppendsFront a d bytes
+AppendsFront-none a b d bytes piece done count before next none =
+    let nothing : Appends b d [] = subst (λ k. Appends b d (take k piece)) none next in
+    record {
+      front = take done bytes ++ [];
+      rest = drop done bytes;
+      added = Appends-trans a b d (take done bytes) [] before nothing;
+      whole = sym (take-append-drop done bytes) ∙ ap (λ l. l ++ drop done bytes) (sym (append-nil (take done bytes)));
+    }

@@ -1,6 +1,7 @@
 // A source over any reader of std.
-ghost use Rattle.std.specs.Prelude.{◌≤◌, None};
+ghost use Rattle.std.specs.Prelude.{◌≡◌, ◌+◌, ◌-◌, ◌≤◌, length, take, min, OnOk};
 ghost use Rattle.std.specs.Io.{ReadsAtMost};
+ghost use Rattle.std.specs.Io.KnownBytes.{Consumes, IsAtEnd, Keeps, ReadConsumes};
 ghost use Rattle.mos_bytes.specs.Causes.{HasCause};
 
 use crate::copy::copy_front;
@@ -10,7 +11,8 @@ use std::io::Read;
 // One call of the system brings many small packets.
 const BUFFER: usize = 16384;
 
-/// A source over a reader. It tells nothing of content, and counts each error of the reader as a fault.
+/// A source over a reader. It tells what is left where the reader does: over files and standard streams it tells
+/// nothing. It counts each error of the reader as a fault.
 ///
 /// It reads ahead into a buffer of its own, so that many short reads cost one call of the reader.
 #[derive(Drop)]
@@ -24,22 +26,10 @@ pub struct ReadSource<R> {
     ghost within: { end ≤ 16384 },
 }
 
-impl<R: Read> ReadSource<R> {
-    /// A source over this reader, from which nothing was read yet. It takes no memory.
-    pub fn new(inner: R) -> Self {
-        ReadSource {
-            inner,
-            buffer: [0; BUFFER],
-            start: 0,
-            end: 0,
-            faults: 0,
-        }
-    }
-}
-
 // One call of the reader. An error is a fault, and so is a count longer than the buffer.
 fn read_once<R: Read>(inner: &mut R, buf: &mut [u8], faults: &mut u64) -> Result<usize, Failed>
     ensures bound { ReadsAtMost result buf.new }
+    ensures bytes { ReadConsumes (R.remaining inner.old) (R.remaining inner.new) result buf.new }
     ensures cause { HasCause faults.old faults.new result }
 {
     match inner.read(buf) {
@@ -51,8 +41,54 @@ fn read_once<R: Read>(inner: &mut R, buf: &mut [u8], faults: &mut u64) -> Result
     }
 }
 
+impl<R: Read> ReadSource<R> {
+    ghost use Rattle.mos_bytes.specs.Adapters.{ahead_of, source_left};
+
+    /// A source over this reader, from which nothing was read yet. It takes no memory.
+    pub fn new(inner: R) -> Self
+        ensures { source_left R.remaining result ≡ R.remaining inner }
+    {
+        ReadSource {
+            inner,
+            buffer: [0; BUFFER],
+            start: 0,
+            end: 0,
+            faults: 0,
+        }
+    }
+
+    // Reads into the buffer, of which nothing is left.
+    fn refill(&mut self) -> Result<(), Failed>
+        requires { self.old.start ≡ self.old.end }
+        ensures bytes { Keeps (source_left R.remaining self.old) (source_left R.remaining self.new) }
+        ensures end { OnOk result (length (ahead_of self.new) ≡ 0 → IsAtEnd (source_left R.remaining self.new)) }
+        ensures cause { HasCause self.old.faults self.new.faults result }
+    {
+        let count = read_once(&mut self.inner, &mut self.buffer, &mut self.faults)?;
+        self.start = 0;
+        self.end = count;
+        Ok(())
+    }
+
+    // Copies from the buffer, and answers how many bytes.
+    fn read_ahead(&mut self, buf: &mut [u8]) -> usize
+        ensures count { result ≡ min (length (ahead_of self.old)) (length buf.old) }
+        ensures bound { result ≤ length buf.new }
+        ensures bytes { Consumes (source_left R.remaining self.old) (source_left R.remaining self.new) (take result buf.new) }
+        ensures rest { length (ahead_of self.old) ≡ result + length (ahead_of self.new) }
+        ensures inner { self.new.inner ≡ self.old.inner }
+        ensures faults { self.new.faults ≡ self.old.faults }
+    {
+        let count = copy_front(&self.buffer[self.start..self.end], buf);
+        self.start += count;
+        count
+    }
+}
+
 impl<R: Read> Source for ReadSource<R> {
-    ghost left = { λ _. None };
+    ghost use Rattle.mos_bytes.specs.Adapters.{source_left};
+
+    ghost left = { source_left R.remaining };
 
     ghost faults = { λ s. s.faults };
 
@@ -62,12 +98,8 @@ impl<R: Read> Source for ReadSource<R> {
             if buf.len() >= BUFFER {
                 return read_once(&mut self.inner, buf, &mut self.faults);
             }
-            let count = read_once(&mut self.inner, &mut self.buffer, &mut self.faults)?;
-            self.start = 0;
-            self.end = count;
+            self.refill()?;
         }
-        let count = copy_front(&self.buffer[self.start..self.end], buf);
-        self.start += count;
-        Ok(count)
+        Ok(self.read_ahead(buf))
     }
 }

@@ -1,5 +1,10 @@
-use Rattle.std.proofs.Common.{length}
+-- What the writer took is the front of the piece.
+use Rattle.std.proofs.Common.{length, take, ◌-◌, ◌≤◌}
+use Rattle.std.specs.Io.KnownBytes.{Appends}
 use Rattle.mos_bytes.proofs.write_sink.write_pieces.Given as goal
 
-abbrev pub decreases-loop-rest : goal.decreases-loop-rest
-decreases-loop-rest g l = length l.rest
+abbrev pub invariant-loop-done : goal.invariant-loop-done
+invariant-loop-done g l = (l.done ≤ length l.bytes) × Appends (g.W.Write.contents l.initial.inner) (g.W.Write.contents l.inner) (take l.done l.bytes)
+
+abbrev pub decreases-loop-done : goal.decreases-loop-done
+decreases-loop-done g l = length l.bytes - l.done

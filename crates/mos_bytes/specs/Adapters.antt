@@ -1,0 +1,18 @@
+-- What the adapters over std tell: what their reader or writer tells.
+use Rattle.std.specs.Prelude.{ℕ, List, slice_range}
+use Rattle.std.specs.declared.option.Option.{Option}
+use Rattle.std.specs.Io.KnownBytes.{prepend_known}
+use Rattle.mos_bytes.specs.declared.read_source.ReadSource.{ReadSource}
+use Rattle.mos_bytes.specs.declared.write_sink.WriteSink.{WriteSink}
+
+-- the bytes that were read ahead
+abbrev pub ahead_of : {R : Type 0} → ReadSource R → List ℕ
+ahead_of s = slice_range s.buffer s.start s.end
+
+-- those, and then what the reader has left, where it tells that
+abbrev pub source_left : {R : Type 0} → (R → Option (List ℕ)) → ReadSource R → Option (List ℕ)
+source_left remaining s = prepend_known (ahead_of s) (remaining s.inner)
+
+-- what the writer holds, where it tells that
+abbrev pub sink_taken : {W : Type 0} → (W → Option (List ℕ)) → WriteSink W → Option (List ℕ)
+sink_taken contents s = contents s.inner
