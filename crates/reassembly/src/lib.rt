@@ -16,3 +16,6 @@ mod window;
 pub use answers::{FinNote, Placed, Policy};
 pub use pieces::Pieces;
 pub use stream::Stream;
+
+#[cfg(test)]
+mod tests;
