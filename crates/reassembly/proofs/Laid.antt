@@ -32,7 +32,7 @@ stretch_few is_old cells segment t e =
       true ↦ record { new = omega arith; old = omega arith; differ = few }
     | false ↦ record { new = omega arith; old = omega arith; differ = omega arith } ])
 
-tally_is : (a b : Tally) → a.new ≡ b.new → a.old ≡ b.old → a.differ ≡ b.differ → a ≡ b
+pub tally_is : (a b : Tally) → a.new ≡ b.new → a.old ≡ b.old → a.differ ≡ b.differ → a ≡ b
 tally_is a b n o d =
     let made : ℕ → ℕ → ℕ → Tally = λ x y z. record { new = x; old = y; differ = z } in
     ap (λ x. made x a.old a.differ) n ∙ ap (λ y. made b.new y a.differ) o ∙ ap (λ z. made b.new b.old z) d

@@ -1,5 +1,5 @@
 -- The cells after bytes were taken between next and the limit.
-use Rattle.std.proofs.Common.{◌≡◌, ℕ, ◌+◌, ◌-◌, ◌<◌, ◌≤◌, Bool, true, false, cond, not, ◌&&◌, ◌||◌, refl, ap, ap₂, ◌∙◌, arith, List, Some, None, is_some, length, leb, ltb, le-ltb, lt-ltb, ltb-true, leb-true, ⊎_elim, slice_index, eqb}
+use Rattle.std.proofs.Common.{◌≡◌, ℕ, ◌+◌, ◌-◌, ◌<◌, ◌≤◌, Bool, true, false, cond, not, ◌&&◌, ◌||◌, refl, ap, ap₂, sym, ◌∙◌, arith, List, [], Some, None, is_some, length, leb, ltb, le-ltb, lt-ltb, ltb-true, leb-true, ⊎_elim, slice_index, eqb}
 use Rattle.std.proofs.lemmas.Bool.{or_cases, or_parts, and_parts}
 use Rattle.reassembly.specs.declared.answers.Policy.{Policy}
 use Rattle.reassembly.specs.declared.laying.Tally.{Tally}
@@ -8,7 +8,8 @@ use Rattle.reassembly.specs.declared.window.Window.{Window}
 use Rattle.reassembly.specs.Runs.{run_at, is_accepted, is_covered}
 use Rattle.reassembly.specs.Segment.{is_last, has_byte, count_below}
 use Rattle.reassembly.specs.Window.{end_of, byte_at, cell_at, IsLaid, laid_at, taken_cell, taken_tally}
-use Rattle.reassembly.proofs.Counts.{count_below-same, count_below-le}
+use Rattle.reassembly.proofs.Counts.{count_below-same, count_below-le, count_below-all, count_below-none}
+use Rattle.reassembly.proofs.Laid.{tally_is}
 use Rattle.reassembly.proofs.Covered.{covering}
 
 -- the buffer has every accepted position
@@ -105,3 +106,12 @@ pub taken_few : (w : Window) (low : ℕ) (bytes : List ℕ) (t : Tally) → t �
 taken_few w low bytes t e =
     (rw (ap (λ (x : Tally). x.old) e) (count_below-le (λ i. is_covered w.runs.items (low + i)) (length bytes)),
      rw (ap (λ (x : Tally). x.differ) e) (count_below-le (λ i. is_covered w.runs.items (low + i) && not (eqb (byte_at w (low + i)) (slice_index bytes i))) (length bytes)))
+
+-- where nothing waits, all bytes are new
+pub taken_in_order : (w : Window) (low : ℕ) (bytes : List ℕ) → w.runs.items ≡ [] → record { new = length bytes; old = 0; differ = 0 } ≡ taken_tally w low bytes
+taken_in_order w low bytes e =
+    let none : (i : ℕ) → is_covered w.runs.items (low + i) ≡ false = λ i. ap (λ (rs : List Run). is_covered rs (low + i)) e in
+    sym (tally_is (taken_tally w low bytes) (record { new = length bytes; old = 0; differ = 0 })
+      (count_below-all (λ i. not (is_covered w.runs.items (low + i))) (length bytes) (λ i l. ap not (none i)))
+      (count_below-none (λ i. is_covered w.runs.items (low + i)) (length bytes) (λ i l. none i))
+      (count_below-none (λ i. is_covered w.runs.items (low + i) && not (eqb (byte_at w (low + i)) (slice_index bytes i))) (length bytes) (λ i l. ap (λ b. b && not (eqb (byte_at w (low + i)) (slice_index bytes i))) (none i))))

@@ -1,5 +1,5 @@
 // The buffer of a stream: the bytes from `base` on, of which those below `next` and those in a run are accepted.
-ghost use Rattle.std.specs.Prelude.{◌≡◌, ℕ, ◌+◌, ◌-◌, ◌<◌, ◌≤◌, ◌^◌, ◌⊎◌, ◌||◌, ◌&&◌, [], length, min, max, vec_len, vec_capacity, nat_le, nat_lt, slice_index, OnOk, OnErr, IfOk, Option, true, IsTrue, IsFalse};
+ghost use Rattle.std.specs.Prelude.{◌≡◌, ℕ, ◌+◌, ◌-◌, ◌<◌, ◌≤◌, ◌^◌, ◌⊎◌, ◌||◌, ◌&&◌, [], ◌++◌, length, min, max, vec_len, vec_capacity, nat_le, nat_lt, slice_index, OnOk, OnErr, IfOk, Option, true, IsTrue, IsFalse};
 ghost use Rattle.reassembly.specs.Runs.{AreOrdered, AreAbove, AreWithin, is_accepted};
 ghost use Rattle.reassembly.specs.Laying.{laid_byte, tally_of};
 
@@ -134,6 +134,30 @@ impl Window {
         }
     }
 
+    /// Takes bytes from `low` on, where the buffer and all that is accepted end there: one copy.
+    fn append(&mut self, low: u64, bytes: &[u8]) -> Result<Tally, AllocError>
+        requires laid { IsLaid self.old }
+        requires in_order { self.old.runs.items ≡ [] }
+        requires next { low ≡ self.old.next }
+        requires end { low ≡ end_of self.old }
+        requires short { length bytes.now ≤ 65535 }
+        requires reach { low + length bytes.now < 2 ^ 63 }
+        ensures err { OnErr result (IsSameWindow self.old self.new) }
+        ensures base { self.new.base ≡ self.old.base }
+        ensures runs { self.new.runs.items ≡ self.old.runs.items }
+        ensures next { OnOk result (self.new.next ≡ low + length bytes.now) }
+        ensures bytes { OnOk result (self.new.bytes.items ≡ self.old.bytes.items ++ bytes.now) }
+        ensures tally { IfOk result (λ tally. tally ≡ record { new = length bytes.now; old = 0; differ = 0 }) }
+    {
+        self.bytes.extend_from_slice(bytes)?;
+        self.next = low + bytes.len() as u64;
+        Ok(Tally {
+            new: bytes.len() as u32,
+            old: 0,
+            differ: 0,
+        })
+    }
+
     /// Takes bytes from `low` on, which lie at or above `next`. Memory comes first, and nothing fails after it.
     fn take(&mut self, low: u64, bytes: &[u8], policy: Policy) -> Result<Tally, AllocError>
         requires laid { IsLaid self.old }
@@ -157,6 +181,10 @@ impl Window {
                 old: 0,
                 differ: 0,
             });
+        }
+        let end = self.base + self.bytes.len() as u64;
+        if self.runs.is_empty() && low == self.next && low == end {
+            return self.append(low, bytes);
         }
         let high = low + bytes.len() as u64;
         self.reserve(high)?;

@@ -1,8 +1,10 @@
-use Rattle.std.proofs.Common.{◌≡◌, ◌≤◌, arith, ap, ◌∙◌, sym, length}
-use Rattle.std.proofs.lemmas.Bool.{eqb-false}
+use Rattle.std.proofs.Common.{◌≡◌, ◌≤◌, arith, ap, ◌∙◌, sym, length, vec_len, [], vec_len, []}
+use Rattle.std.proofs.lemmas.Bool.{eqb-false, eqb-true}
 
 use Rattle.reassembly.specs.Window.{taken_tally}
-use Rattle.reassembly.proofs.Taken.{cells_taken, tally_taken, taken_few}
+use Rattle.reassembly.proofs.Taken.{cells_taken, tally_taken, taken_few, taken_in_order}
+use Rattle.std.proofs.lemmas.List.{nil_from_length}
+use Rattle.std.proofs.lemmas.Result.{IfOk-weaker}
 use Rattle.reassembly.proofs.window.Window.take.Goals as goal
 
 from_next : (c : goal.After-accept) → c.args.self.now.next ≤ c.args.low
@@ -36,3 +38,10 @@ returns-clause-tally c = judged c
 
 pub returns-clause-few : goal.returns-clause-few
 returns-clause-few c = taken_few c.args.self.now c.args.low c.args.bytes.now c.lay-tally.result (judged c)
+
+pub returns-then-low-end-clause-tally : goal.returns-then-low-end-clause-tally
+returns-then-low-end-clause-tally c =
+    let w = c.args.self.now in
+    let none : vec_len w.runs ≡ 0 = eqb-true (vec_len w.runs) 0 (sym c.if-is_empty-2.ensures) in
+    let empty : w.runs.items ≡ [] = nil_from_length w.runs.items (omega arith) in
+    IfOk-weaker c.append.result _ _ (λ tally e. e ∙ taken_in_order w c.args.low c.args.bytes.now empty) c.append.ensures.tally
