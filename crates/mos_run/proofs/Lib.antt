@@ -1,0 +1,4 @@
+pub mod Places
+pub mod Onward
+pub mod Lanes
+pub mod Replaying

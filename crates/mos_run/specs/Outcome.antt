@@ -1,0 +1,52 @@
+-- How a run over the bytes of a capture ends.
+use Rattle.std.specs.Prelude.{ℕ, Bool, false, ◌||◌, List, length, map, Result, Ok, Err, if◌then◌else◌}
+use Rattle.std.specs.List.{list_any}
+use Rattle.packet_views.specs.Packet.{Packet, Segment, NoSegment, packet_of}
+use Rattle.packet_views.specs.Flags.{has_fin, has_rst}
+use Rattle.pcap_source.specs.Captured.{Captured}
+use Rattle.pcap_source.specs.Capture.{Frames, Ending, tail, too_long, too_many, capture_of}
+use Rattle.pcap_source.specs.declared.errors.OpenError.{OpenError}
+use Rattle.pcap_source.specs.declared.errors.OpenError.TheVariants as Open
+use Rattle.pcap_source.specs.declared.errors.CaptureFault.TheVariants as Fault
+use Rattle.mos_run.specs.declared.refusal.RunError.{RunError}
+use Rattle.mos_run.specs.declared.refusal.RunError.TheVariants.{NotBuilt, Capture, TooMany, ReadFault}
+use Rattle.mos_run.specs.declared.report.Report.{Report}
+use Rattle.mos_run.specs.Records.{Past}
+use Rattle.mos_run.specs.Report.{record_of, records_of, totals_of}
+
+-- the end of a connection isn't followed yet: a segment with FIN or RST
+unfoldable pub closes : Packet → Bool
+closes (Segment head payload) = has_fin head || has_rst head
+closes (NoSegment class) = false
+
+abbrev pub is_closing : Captured → Bool
+is_closing frame = closes (packet_of frame.bytes)
+
+abbrev pub report_of : List Past → ℕ → ℕ → Report
+report_of pasts packets rest = record { records = map record_of pasts; totals = totals_of pasts packets rest }
+
+-- whole records that were followed to the end of the capture, or to where it is refused
+abbrev pub followed_to : List Captured → Ending → Result Report RunError
+followed_to frames (tail n) = Ok (report_of (records_of (λ _. 0) frames) (length frames) n)
+followed_to frames (too_long offset) = Err (Capture Fault.TooLong offset)
+followed_to frames (too_many offset) = Err (TooMany offset)
+
+-- front to back: the first closing segment, or else the end of the capture
+unfoldable pub outcome_of_frames : Frames → Result Report RunError
+outcome_of_frames f = if list_any is_closing f.frames then Err NotBuilt else followed_to f.frames f.ending
+
+-- a refused global header, with the offset of what was refused
+abbrev pub header_refusal : OpenError → RunError
+header_refusal Open.BadMagic = Capture Fault.BadMagic 0
+header_refusal Open.BadVersion = Capture Fault.BadVersion 4
+header_refusal Open.BadLink = Capture Fault.BadLink 20
+header_refusal (Open.ShortHeader n) = Capture Fault.ShortHeader n
+header_refusal Open.ReadFault = ReadFault
+
+abbrev pub outcome_by : Result Frames OpenError → Result Report RunError
+outcome_by (Ok f) = outcome_of_frames f
+outcome_by (Err e) = Err (header_refusal e)
+
+-- how a run over these bytes ends: with this report, or refused
+unfoldable pub outcome : List ℕ → Result Report RunError
+outcome bytes = outcome_by (capture_of bytes)

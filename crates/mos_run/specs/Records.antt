@@ -1,0 +1,68 @@
+-- Which packets make a record. A connection is opened by a SYN with neither ACK nor RST (RFC 9293, section 3.5) while none
+-- of its key is open; each later packet between its two endpoints belongs to it. Every other packet is an orphan.
+use Rattle.std.specs.Prelude.{ℕ, ◌+◌, Bool, false, not, ◌&&◌, if◌then◌else◌, List, [], ◌∷◌, map}
+use Rattle.packet_views.specs.Packet.{Packet, Segment, NoSegment}
+use Rattle.packet_views.specs.Flags.{has_syn, has_ack, has_rst}
+use Rattle.flow_table.specs.Key.{Ends, key_of_head, same_key}
+use Rattle.mos_run.specs.History.{History, fresh, followed, orphaned}
+
+-- a packet of the capture, with its number from 0
+pub record Arrival : Type 0 where
+  pub number : ℕ
+  pub packet : Packet
+
+-- a packet with the version of the record that it would begin
+pub record Stamped : Type 0 where
+  pub version : ℕ
+  pub arrival : Arrival
+
+-- a connection or an orphan so far; the number of its first packet is its name
+pub record Past : Type 0 where
+  pub first : Arrival
+  pub version : ℕ
+  pub history : History
+
+unfoldable pub opens : Packet → Bool
+opens (Segment head payload) = has_syn head && not (has_ack head) && not (has_rst head)
+opens (NoSegment class) = false
+
+-- a segment between the two endpoints of a key
+unfoldable pub is_between : Ends → Packet → Bool
+is_between key (Segment head payload) = same_key (key_of_head head) key
+is_between key (NoSegment class) = false
+
+-- an open connection of this key
+abbrev pub holds : Ends → Past → Bool
+holds key past = opens past.first.packet && is_between key past.first.packet
+
+-- whether a record goes on with a packet
+abbrev pub takes : Packet → Past → Bool
+takes (Segment head payload) past = holds (key_of_head head) past
+takes (NoSegment class) past = false
+
+-- the history that a packet begins
+abbrev pub first_history : Arrival → History
+first_history a = if opens a.packet then followed a.number fresh else orphaned a.number
+
+abbrev pub begun : Stamped → Past
+begun s = record { first = s.arrival; version = s.version; history = first_history s.arrival }
+
+abbrev pub joined : Arrival → Past → Past
+joined a past = record { first = past.first; version = past.version; history = followed a.number past.history }
+
+-- one more packet: the open connection of its key goes on, else a record begins
+unfoldable pub added : Stamped → List Past → List Past
+added s [] = begun s ∷ []
+added s (past ∷ pasts) = if takes s.arrival.packet past then joined s.arrival past ∷ pasts else past ∷ added s pasts
+
+unfoldable pub records_from : List Past → List Stamped → List Past
+records_from pasts [] = pasts
+records_from pasts (s ∷ ss) = records_from (added s pasts) ss
+
+-- the records of packets, in order of their names
+abbrev pub records : List Stamped → List Past
+records ss = records_from [] ss
+
+-- packets with the versions that a rule gives to their numbers
+abbrev pub stamped : (ℕ → ℕ) → List Arrival → List Stamped
+stamped version arrivals = map (λ a. record { version = version a.number; arrival = a }) arrivals

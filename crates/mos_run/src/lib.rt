@@ -1,0 +1,10 @@
+//! The top of mos: a capture is replayed, its connections are followed, and their report is written.
+#![tactic(auto)]
+
+mod lane;
+mod replay;
+pub mod refusal;
+pub mod report;
+
+pub use refusal::RunError;
+pub use report::Report;
