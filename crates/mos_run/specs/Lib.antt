@@ -6,3 +6,4 @@ pub mod Lane
 pub mod Refusal
 pub mod Outcome
 pub mod Replay
+pub mod Run

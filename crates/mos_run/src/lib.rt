@@ -3,8 +3,13 @@
 
 mod lane;
 mod replay;
+pub mod run;
+pub mod versions;
+
 pub mod refusal;
 pub mod report;
 
 pub use refusal::RunError;
 pub use report::Report;
+pub use run::{Ended, run_mos};
+pub use versions::VersionList;

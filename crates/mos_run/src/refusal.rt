@@ -88,6 +88,9 @@ impl<T: Drop> From<AllocFailed<T>> for RunError {
     }
 }
 
+// What is told where memory is refused even for the text of another refusal.
+pub(crate) const NO_MEMORY: &str = "mos: no memory\n";
+
 impl RunError {
     /// The exit status of a run that ends so: 3 to 8.
     pub fn status(self) -> u8
@@ -119,7 +122,7 @@ impl RunError {
             }
             RunError::ReadFault => String::from_str(alloc, "mos: read fault\n"),
             RunError::WriteFault => String::from_str(alloc, "mos: write fault\n"),
-            RunError::NoMemory => String::from_str(alloc, "mos: no memory\n"),
+            RunError::NoMemory => String::from_str(alloc, NO_MEMORY),
         }
     }
 }

@@ -1,6 +1,6 @@
 //! Reads a capture front to back into the records of its packets.
 
-ghost use Rattle.std.specs.Prelude.{◌≡◌, ◌+◌, ◌*◌, ◌<◌, ◌≤◌, ◌^◌, ℕ, List, OnOk, IsErrOf, IfErr, true, false, ◌⊎◌, length};
+ghost use Rattle.std.specs.Prelude.{◌≡◌, ◌+◌, ◌*◌, ◌<◌, ◌≤◌, ◌^◌, ℕ, List, OnOk, IsErrOf, IfErr, true, false, ◌⊎◌, ◌≢◌, Err, length};
 ghost use Rattle.mos_bytes.specs.Causes.{HasCauseOf};
 ghost use Rattle.mos_run.specs.Lane.{StandsFor, stamp_of};
 ghost use Rattle.mos_run.specs.Records.{Past, added};
@@ -53,6 +53,7 @@ fn take(alloc: Global, lane: &mut Lane, number: u64, bytes: &[u8]) -> Result<(),
 pub(crate) fn replay<S: Source>(alloc: Global, source: &mut S) -> Result<Report, RunError>
     ensures gives { (bytes : List ℕ) → S.left source.old ≡ Some bytes → ReplaysAs bytes (S.left source.new) result }
     ensures cause { HasCauseOf (S.faults source.old) (S.faults source.new) (IsErrOf result RunError.ReadFault) }
+    ensures writes_nothing { result ≢ Err RunError.WriteFault }
 {
     let mut capture = Capture::open(source)?;
     let mut frame = Frame::new(alloc);
