@@ -11,5 +11,5 @@ pub mod report;
 
 pub use refusal::RunError;
 pub use report::Report;
-pub use run::{Ended, run_mos};
+pub use run::{Ended, refuse, run_mos};
 pub use versions::VersionList;

@@ -88,9 +88,6 @@ impl<T: Drop> From<AllocFailed<T>> for RunError {
     }
 }
 
-// What is told where memory is refused even for the text of another refusal.
-pub(crate) const NO_MEMORY: &str = "mos: no memory\n";
-
 impl RunError {
     /// The exit status of a run that ends so: 3 to 8.
     pub fn status(self) -> u8
@@ -105,26 +102,27 @@ impl RunError {
             RunError::NotBuilt => 8,
         }
     }
+}
 
-    /// The line that tells it on standard error.
-    #[tactic(auto, unfolding(crate::specs::Refusal::refusal_text))]
-    pub(crate) fn text(self, alloc: Global) -> Result<String, AllocError>
-        ensures { IfOk result (λ text. string_bytes text ≡ refusal_text self) }
-    {
-        match self {
-            RunError::NotBuilt => String::from_str(alloc, "mos: not built\n"),
-            RunError::Capture(fault, offset) => {
-                let fault = fault_name(fault);
-                format!(in alloc; "mos: capture: {fault} at {offset}\n")
-            }
-            RunError::TooMany(offset) => {
-                format!(in alloc; "mos: too many packets at {offset}\n")
-            }
-            RunError::ReadFault => String::from_str(alloc, "mos: read fault\n"),
-            RunError::WriteFault => String::from_str(alloc, "mos: write fault\n"),
-            RunError::NoMemory => String::from_str(alloc, NO_MEMORY),
-        }
-    }
+/// The line that tells a refused capture.
+#[tactic(auto, unfolding(crate::specs::Refusal::refusal_text))]
+pub(crate) fn capture_line(
+    alloc: Global,
+    fault: CaptureFault,
+    offset: u64,
+) -> Result<String, AllocError>
+    ensures { IfOk result (λ line. string_bytes line ≡ refusal_text (RunError.Capture fault offset)) }
+{
+    let fault = fault_name(fault);
+    format!(in alloc; "mos: capture: {fault} at {offset}\n")
+}
+
+/// The line that tells a capture of too many packets.
+#[tactic(auto, unfolding(crate::specs::Refusal::refusal_text))]
+pub(crate) fn too_many_line(alloc: Global, offset: u64) -> Result<String, AllocError>
+    ensures { IfOk result (λ line. string_bytes line ≡ refusal_text (RunError.TooMany offset)) }
+{
+    format!(in alloc; "mos: too many packets at {offset}\n")
 }
 
 fn fault_name(fault: CaptureFault) -> &'static str

@@ -1,14 +1,15 @@
 //! The top call: a capture comes in, the report or the reason why there is none goes out.
 
-ghost use Rattle.std.specs.Prelude.{◌≡◌, ◌≢◌, ◌⊎◌, ℕ, List, [], Some, Ok, Err, IfOk, IfErr, IsOk, IsErrOf};
+ghost use Rattle.std.specs.Prelude.{◌≡◌, ◌≢◌, ◌⊎◌, ℕ, List, [], Some, Ok, Err, IfOk, IfErr, IsOk, IsErrOf, string_bytes};
+ghost use Rattle.std.specs.Result.{ForOk};
 ghost use Rattle.mos_bytes.specs.Causes.{Rose, HasCauseOf};
 ghost use Rattle.mos_run.specs.Outcome.{outcome};
-ghost use Rattle.mos_run.specs.Refusal.{refusal_text};
+ghost use Rattle.mos_run.specs.Refusal.{refusal_text, status_of};
 ghost use Rattle.mos_run.specs.Run.{Reports, RefusedAs, EndsAs, WritesNothing, WritesFront, WritesText, Tells};
 
 use crate::replay::replay;
 use crate::versions::{VersionList, versions_of};
-use crate::refusal::{NO_MEMORY, RunError};
+use crate::refusal::{RunError, capture_line, too_many_line};
 use mos_bytes::{Sink, Source};
 use report_text::write_report;
 use std::alloc::{AllocError, Global};
@@ -55,22 +56,49 @@ fn write_text<E: Sink>(err: &mut E, text: &str)
     let _ = err.write_all(text.as_bytes());
 }
 
-// Tells the refusal on err, and answers what was told: the refusal itself, or want of memory for its text.
+// Tells a refusal by its line, or want of memory where there is none for the line. Answers what was told.
 #[tactic(auto, unfolding(crate::specs::Refusal::refusal_text))]
-fn tell<E: Sink>(alloc: Global, err: &mut E, error: RunError) -> RunError
+fn tell_line<E: Sink>(
+    err: &mut E,
+    line: Result<String, AllocError>,
+    error: RunError,
+) -> RunError
+    requires { ForOk line (λ line. string_bytes line ≡ refusal_text error) }
     ensures which { (result ≡ error) ⊎ (result ≡ RunError.NoMemory) }
     ensures text { WritesText (E.taken err.old) (E.taken err.new) (E.faults err.old) (E.faults err.new) (refusal_text result) }
 {
-    match error.text(alloc) {
-        Ok(text) => {
-            write_text(err, text.as_str());
+    match line {
+        Ok(line) => {
+            write_text(err, line.as_str());
             error
         }
         Err(AllocError) => {
-            write_text(err, NO_MEMORY);
+            write_text(err, "mos: no memory\n");
             RunError::NoMemory
         }
     }
+}
+
+// Tells a refusal. Answers what was told: the refusal itself, or want of memory for a line with an offset.
+#[tactic(auto, unfolding(crate::specs::Refusal::refusal_text))]
+fn tell<E: Sink>(alloc: Global, err: &mut E, error: RunError) -> RunError
+    ensures which { (result ≡ error) ⊎ (result ≡ RunError.NoMemory) }
+    ensures not_built { error ≡ RunError.NotBuilt → result ≡ error }
+    ensures text { WritesText (E.taken err.old) (E.taken err.new) (E.faults err.old) (E.faults err.new) (refusal_text result) }
+{
+    match error {
+        RunError::Capture(fault, offset) => {
+            return tell_line(err, capture_line(alloc, fault, offset), error);
+        }
+        RunError::TooMany(offset) => {
+            return tell_line(err, too_many_line(alloc, offset), error);
+        }
+        RunError::ReadFault => write_text(err, "mos: read fault\n"),
+        RunError::WriteFault => write_text(err, "mos: write fault\n"),
+        RunError::NoMemory => write_text(err, "mos: no memory\n"),
+        RunError::NotBuilt => write_text(err, "mos: not built\n"),
+    }
+    error
 }
 
 /// Replays a capture and writes the report of its connections and orphans to `out`, one line by one call.
@@ -100,7 +128,7 @@ pub fn run_mos<S: Source, O: Sink, E: Sink>(
 
     // Every other status has its cause; only want of memory has none.
     ensures refused { words.now ≡ [] → (bytes : List ℕ) → S.left capture.old ≡ Some bytes → EndsAs (outcome bytes) result.status }
-    ensures words { words.now ≢ [] → ((result.status ≡ 8) ⊎ (result.status ≡ 6)) × (capture.new ≡ capture.old) × (out.new ≡ out.old) }
+    ensures words { words.now ≢ [] → (result.status ≡ 8) × (capture.new ≡ capture.old) × (out.new ≡ out.old) }
     ensures read_fault { HasCauseOf (S.faults capture.old) (S.faults capture.new) (result.status ≡ 4) }
     ensures write_fault { HasCauseOf (O.faults out.old) (O.faults out.new) (result.status ≡ 5) }
 
@@ -128,6 +156,19 @@ pub fn run_mos<S: Source, O: Sink, E: Sink>(
             versions: VersionList {
                 items: Vec::new(alloc),
             },
+        },
+    }
+}
+
+/// Ends a run before it begins: tells the refusal on `err`. Where memory for its line is refused, that is told instead.
+pub fn refuse<E: Sink>(alloc: Global, err: &mut E, error: RunError) -> Ended
+    ensures status { (result.status ≡ status_of error) ⊎ (result.status ≡ 6) }
+    ensures versions { result.versions ≡ [] }
+{
+    Ended {
+        status: tell(alloc, err, error).status(),
+        versions: VersionList {
+            items: Vec::new(alloc),
         },
     }
 }
