@@ -3,7 +3,7 @@
 
 use mos_bytes::{ReadSource, WriteSink};
 use mos_run::{RunError, refuse, run_mos};
-use std::env;
+use std::env::{self, Env};
 use std::io;
 use std::process::ExitCode;
 
