@@ -1,11 +1,16 @@
 pub mod Built
+pub mod EditLaw
+pub mod EditSteps
 pub mod Firing
 pub mod Growth
 pub mod NodeSteps
 pub mod Order
 pub mod Paths
+pub mod ReadOffs
 pub mod Rows
+pub mod Short
 pub mod Sorted
+pub mod Switch
 pub mod WalkLaw
 pub mod Walks
 pub mod Whole

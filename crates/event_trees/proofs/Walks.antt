@@ -1,8 +1,9 @@
 -- Steps of a walk.
-use Rattle.std.proofs.Common.{◌≡◌, ℕ, zero, suc, ◌+◌, ◌-◌, ◌<◌, ◌≤◌, Bool, true, false, cond, List, [], ◌∷◌, ◌++◌, length, take, drop, get_or, min, refl, sym, ap, ◌∙◌, arith}
-use Rattle.std.proofs.lemmas.List.{drop_more, drop-drop, drop-take}
+use Rattle.std.proofs.Common.{◌≡◌, ℕ, zero, suc, ◌+◌, ◌-◌, ◌<◌, ◌≤◌, Bool, true, false, cond, List, [], ◌∷◌, ◌++◌, length, take, drop, get_or, min, refl, sym, ap, ◌∙◌, arith, ⊎_elim}
+use Rattle.std.proofs.lemmas.List.{drop_more, drop-drop, drop-take, get_or_past}
 use Rattle.std.specs.List.{AllByRecursion, Contains}
-use Rattle.std.proofs.lemmas.List.Elements.{All-contains, All-from_recursion}
+use Rattle.std.proofs.lemmas.List.Elements.{All-contains, All-from_recursion, Contains-get_or}
+use Rattle.std.proofs.lemmas.Bool.{cases_lt}
 use Rattle.shared_forest.specs.Layout.{ArePacked, IsTree}
 use Rattle.native_filters.specs.declared.facts.Hook.{Hook}
 use Rattle.shared_forest.specs.declared.node.Node.{Node}
@@ -49,3 +50,9 @@ pub come-step : (keep : ℕ → Bool) (hook : Hook) (tree : TreeLists) (p q : Pl
 come-step keep hook tree p q n none next at end =
     let pending : pending_at tree.slots q ≡ slots_of n tree.slots = ap (λ (k : ℕ). drop k (take q.end tree.slots)) at ∙ pending-node tree.slots n q.end end in
     ap (λ (l : List Slot). called hook l ++ walked keep hook 0 (drop q.node tree.nodes) tree.slots) pending ∙ (sym next ∙ sym (ap (λ (l : List ℕ). l ++ walked keep hook 0 (drop p.node tree.nodes) tree.slots) none))
+
+-- the same at a place; past the end there is a node without registrations
+pub node-at_within : (nodes : List Node) (slots : List Slot) (i : ℕ) (d : Node) → IsTree nodes slots → d.first + d.count ≡ 0 → (get_or nodes i d).first + (get_or nodes i d).count ≤ length slots
+node-at_within nodes slots i d tree none =
+    ⊎_elim (λ l. node-within nodes slots (get_or nodes i d) tree (Contains-get_or nodes i d l))
+    (λ g. let past : get_or nodes i d ≡ d = get_or_past nodes i d g in omega (arith, ap (λ (n : Node). n.first + n.count) past)) (cases_lt i (length nodes))

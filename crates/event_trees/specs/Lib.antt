@@ -1,4 +1,5 @@
 pub mod Defs
+pub mod Edit
 pub mod EventPath
 pub mod ReadOff
 pub mod Rows

@@ -1,8 +1,17 @@
 -- The registrations of a listing, each with its path.
-use Rattle.std.specs.Prelude.{List, [], ◌∷◌, ◌++◌, map}
+use Rattle.std.specs.Prelude.{ℕ, ◌≤◌, List, [], ◌∷◌, ◌++◌, map, length}
+use Rattle.std.specs.List.{AllByRecursion}
+use Rattle.shared_forest.specs.declared.node.Slot.{Slot}
 use Rattle.shared_forest.specs.Listing.{Shown}
 use Rattle.event_trees.specs.Canon.{Placed}
 
+abbrev pub all_at : List ℕ → List Slot → List Placed
+all_at path slots = map (λ slot. record { path = path; slot = slot }) slots
+
 abbrev pub read_off : List Shown → List Placed
 read_off [] = []
-read_off (s ∷ ss) = map (λ slot. record { path = s.path; slot = slot }) s.slots ++ read_off ss
+read_off (s ∷ ss) = all_at s.path s.slots ++ read_off ss
+
+-- each path has at most 8 events
+abbrev pub AreShort : List Shown → Type 0
+AreShort shown = AllByRecursion (λ s. length s.path ≤ 8) shown

@@ -132,6 +132,7 @@ impl Defs {
     pub(crate) fn path_of(&self, event: u16) -> EventPath
         requires { IsTrue (is_event self.now event) }
         ensures path { path_of result ≡ path self.now event }
+        ensures defs { AreDefs self.now }
         ensures short { length (path self.now event) ≤ 8 }
         ensures long { 1 ≤ length (path self.now event) }
     {

@@ -1,15 +1,19 @@
 //! Trees in a store: the tree of a private list, and the tree of an edited one.
 
-ghost use Rattle.std.specs.Prelude.{◌≡◌, IfOk, OnErr};
+ghost use Rattle.std.specs.Prelude.{◌≡◌, ◌≤◌, List, IsTrue, IfOk, OnErr};
 ghost use Rattle.shared_forest.specs.Listing.{listing};
 ghost use Rattle.shared_forest.specs.Store.{Keeps, CountsAtMost};
-ghost use Rattle.event_trees.specs.Private.{IsPrivate};
+ghost use Rattle.event_trees.specs.Private.{IsPrivate, edited};
+ghost use Rattle.app_api.specs.declared.registration.Reg.{Reg as RegOf};
+ghost use Rattle.event_trees.specs.Defs.{is_event};
+ghost use Rattle.event_trees.specs.Edit.{IsForestOf, IsSwitchable};
 ghost use Rattle.event_trees.specs.Canon.{canon};
 
 use crate::defs::Defs;
+use crate::edits::{regs_of, switched};
 use crate::nodes::tree_of;
-use crate::placed::place_all;
-use app_api::ActiveList;
+use crate::placed::{place, place_all};
+use app_api::{ActiveList, Reg};
 use shared_forest::{Forests, Shared};
 use std::alloc::{AllocError, Global};
 
@@ -28,6 +32,38 @@ pub fn build<F: Forests>(
     ensures err { OnErr result (f.new ≡ f.old) }
 {
     let regs = place_all(alloc, defs, active.as_slice())?;
+    let tree = tree_of(alloc, &regs)?;
+    f.intern(alloc, tree)
+}
+
+/// The tree of the private list of another tree after one registration is switched on or off: its number is absent
+/// before it is switched on, and it is there before it is switched off. The old tree stays as it was. An error is
+/// want of memory, and changes nothing.
+pub fn edit<F: Forests>(
+    alloc: Global,
+    f: &mut F,
+    tree: &Shared,
+    defs: &Defs,
+    reg: &Reg,
+    on: bool,
+) -> Result<Shared, AllocError>
+    requires answered { F.answered f.old tree.now }
+    requires low { 1 ≤ reg.now.number }
+    requires high { reg.now.number ≤ 255 }
+    requires event { IsTrue (is_event defs.now reg.now.event) }
+    requires forest { (list : List RegOf) × IsForestOf defs.now list (listing (F.content f.old tree.now)) × IsSwitchable list reg.now on }
+
+    ensures answered { IfOk result (λ s. F.answered f.new s) }
+    ensures listing { (list : List RegOf) → IsForestOf defs.now list (listing (F.content f.old tree.now)) → IsSwitchable list reg.now on
+        → IfOk result (λ s. IsForestOf defs.now (edited defs.now list reg.now on) (listing (F.content f.new s))) }
+
+    ensures kept { Keeps F.answered F.content f.old f.new }
+    ensures counted { CountsAtMost (F.interns f.old) (F.interns f.new) }
+    ensures err { OnErr result (f.new ≡ f.old) }
+{
+    let placed = place(defs, reg);
+    let regs = regs_of(alloc, f.tree_of(tree))?;
+    let regs = switched(alloc, regs, placed, on)?;
     let tree = tree_of(alloc, &regs)?;
     f.intern(alloc, tree)
 }

@@ -2,6 +2,7 @@
 #![tactic(auto)]
 
 mod defs;
+mod edits;
 mod forest;
 mod nodes;
 mod path;
@@ -10,5 +11,5 @@ mod placed;
 mod walk;
 
 pub use defs::{Defs, EventDef};
-pub use forest::build;
+pub use forest::{build, edit};
 pub use walk::Walk;

@@ -2,7 +2,7 @@
 
 ghost use Rattle.std.specs.Prelude.{◌≡◌, IsTrue, IfOk};
 ghost use Rattle.std.specs.List.{All};
-ghost use Rattle.event_trees.specs.Defs.{is_event};
+ghost use Rattle.event_trees.specs.Defs.{is_event, AreDefs};
 ghost use Rattle.event_trees.specs.Canon.{placed_of, placed};
 ghost use Rattle.event_trees.specs.Build.{seen, all_seen};
 
@@ -22,7 +22,8 @@ pub(crate) struct PlacedReg {
 /// A registration with its path.
 pub(crate) fn place(defs: &Defs, reg: &Reg) -> PlacedReg
     requires { IsTrue (is_event defs.now reg.now.event) }
-    ensures { seen result ≡ placed_of defs.now reg.now }
+    ensures placed { seen result ≡ placed_of defs.now reg.now }
+    ensures defs { AreDefs defs.now }
 {
     PlacedReg {
         path: defs.path_of(reg.event),
