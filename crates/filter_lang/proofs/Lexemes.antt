@@ -117,8 +117,8 @@ tokens_behind-found text place at len inside start some e long within =
     subst (λ xs. is_blank xs ≡ false) (ap (λ k. get_or (drop place text) k 0) (sym (add-zero n)) ∙ sym (get_or-drop n (drop place text) 0 0) ∙ ap (λ xs. get_or xs 0 0) same)
     (prefix_len_stops is_blank (drop place text) 0 short) in
     tokens_behind-blanks place (drop place text) n refl ∙ ap (λ xs. tokens_behind 0 (place + n) xs) same ∙ ap (λ k. tokens_behind 0 k (drop at text)) (sym start)
-        ∙ tokens_behind-front at (drop at text) len (omega (arith, length-drop at text)) blank e long (omega (arith, length-drop at text))
-        ∙ ap (λ xs. record { token = (token_at (drop at text)).token; at = at } ∷ tokens_behind 0 (at + len) xs) (drop-drop len at text)
+    ∙ tokens_behind-front at (drop at text) len (omega (arith, length-drop at text)) blank e long (omega (arith, length-drop at text))
+    ∙ ap (λ xs. record { token = (token_at (drop at text)).token; at = at } ∷ tokens_behind 0 (at + len) xs) (drop-drop len at text)
 
 pub tokens_behind-ended : (text : List ℕ) (place at : ℕ) → at ≡ place + prefix_len is_blank (drop place text) → length text ≤ at → tokens_behind 0 place (drop place text) ≡ record { token = End; at = at } ∷ []
 tokens_behind-ended text place at start ended =

@@ -104,7 +104,7 @@ decimal_is : (bs : List ℕ) (len : ℕ) (ds : List ℕ) (n : ℕ) → prefix_le
 decimal_is bs len ds n e plain whole value small =
     let made = λ (k : ℕ). if slice_index bs k == 46 then quad_from 3 0 0 bs else lexeme (numeral_token (digits_value 10 (take k bs))) k in
     ap made e
-        ∙ rw plain (ap (λ xs. lexeme (numeral_token (digits_value 10 xs)) len) whole ∙ ap (λ v. lexeme (numeral_token v) len) value ∙ rw small refl)
+    ∙ rw plain (ap (λ xs. lexeme (numeral_token (digits_value 10 xs)) len) whole ∙ ap (λ v. lexeme (numeral_token v) len) value ∙ rw small refl)
 
 digits_read : (ds rest : List ℕ) (n : ℕ) → AllDigits 10 ds → 0 < length ds → digits_value 10 ds ≡ n → n < 2 ^ 64 → IsStop rest → kinds 0 (ds ++ rest) ≡ Numeral n ∷ kinds 0 rest
 digits_read [] rest n all some value fits stop = absurd (omega arith)

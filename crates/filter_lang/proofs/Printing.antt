@@ -9,7 +9,7 @@ steps_text-push : (ss : List Step) (s : Step) → steps_text (ss ++ s ∷ []) �
 steps_text-push [] s = ap (λ xs. join_text s.join ++ xs) (append-nil (atom_text s.atom))
 steps_text-push (t ∷ ss) s =
     ap (λ xs. join_text t.join ++ (atom_text t.atom ++ xs)) (steps_text-push ss s)
-        ∙ simp append_assoc
+    ∙ simp append_assoc
 
 pub sum_push : (old first : List ℕ) (ss : List Step) (s : Step) → (old ++ (first ++ steps_text ss)) ++ (join_text s.join ++ atom_text s.atom) ≡ old ++ (first ++ steps_text (ss ++ s ∷ []))
 sum_push old first ss s = rw (steps_text-push ss s) (simp append_assoc)
@@ -42,12 +42,12 @@ pub all_more : (old : List ℕ) (sep : List ℕ) (ts : List Term) (t : Term) →
 all_more old sep ts t =
     let one = wrap (is_chain (shape t)) (printed (shape t)) in
     let more = ap (joined_text sep) (and_texts-push ts t) ∙ joined_text-push sep (and_texts (shapes ts)) one
-        ∙ ap (λ n. joined_text sep (and_texts (shapes ts)) ++ (separator_text n sep ++ one)) (length-and_texts ts) in
+    ∙ ap (λ n. joined_text sep (and_texts (shapes ts)) ++ (separator_text n sep ++ one)) (length-and_texts ts) in
     simp append_assoc (ap (λ xs. old ++ xs) (sym more))
 
 pub any_more : (old : List ℕ) (sep : List ℕ) (ts : List Term) (t : Term) → ((old ++ joined_text sep (or_texts (shapes ts))) ++ separator_text (length ts) sep) ++ wrap (is_or (shape t)) (printed (shape t)) ≡ old ++ joined_text sep (or_texts (shapes (ts ++ t ∷ [])))
 any_more old sep ts t =
     let one = wrap (is_or (shape t)) (printed (shape t)) in
     let more = ap (joined_text sep) (or_texts-push ts t) ∙ joined_text-push sep (or_texts (shapes ts)) one
-        ∙ ap (λ n. joined_text sep (or_texts (shapes ts)) ++ (separator_text n sep ++ one)) (length-or_texts ts) in
+    ∙ ap (λ n. joined_text sep (or_texts (shapes ts)) ++ (separator_text n sep ++ one)) (length-or_texts ts) in
     simp append_assoc (ap (λ xs. old ++ xs) (sym more))

@@ -79,7 +79,7 @@ conj_of_unit : (text : List ℕ) (depth : ℕ) (s : Shape) → ReadsAsUnit text 
 conj_of_unit text depth s unit = record {
   same = λ f cs os ends deep.
       unit.same f (behind_conjs cs) os (omega arith) ∙ run-follow f (behind_unit (with_unit s (behind_conjs cs)) os)
-          ∙ ap (taken f) (next_behind-other (follow_token f) (with_unit s (behind_conjs cs)) os ends);
+      ∙ ap (taken f) (next_behind-other (follow_token f) (with_unit s (behind_conjs cs)) os ends);
 }
 
 expr_of_conj : (text : List ℕ) (depth : ℕ) (s : Shape) → ReadsAsConj text depth s → ReadsAsExpr text depth s
@@ -105,9 +105,9 @@ unit_of_expr text depth s expr = record {
       let inner = closed rest in
       let small : l.bangs + opened os < 32 = omega arith in
       ap (λ xs. run (kinds 0 (codes "(" ++ xs)) (unit_place l os)) (append_assoc text (codes ")") rest)
-          ∙ ap (λ ts. run ts (unit_place l os)) (open_read (text ++ follow_text inner))
-          ∙ ap (on (run (kinds 0 (text ++ follow_text inner)))) (opening-go (l.bangs + opened os) (unit_place fresh (l ∷ os)) small)
-          ∙ expr.same inner (l ∷ os) (closed_ends_units rest) (closed_ends_conjs rest) (omega arith);
+      ∙ ap (λ ts. run ts (unit_place l os)) (open_read (text ++ follow_text inner))
+      ∙ ap (on (run (kinds 0 (text ++ follow_text inner)))) (opening-go (l.bangs + opened os) (unit_place fresh (l ∷ os)) small)
+      ∙ expr.same inner (l ∷ os) (closed_ends_units rest) (closed_ends_conjs rest) (omega arith);
 }
 
 -- what each shape's printed text reads as: as a member of an `&&` chain, as one of an `||` chain, alone
@@ -146,10 +146,10 @@ units_read (more s ss) all f cs us os deep =
     let text = wrap (is_chain s) (printed s) in
     let behind = behind_text (codes " && ") (and_texts ss) ++ follow_text f in
     ap (λ ts. run ts (behind_unit l os)) (both_read (text ++ behind))
-        ∙ ap (λ xs. run (kinds 0 (text ++ xs)) (unit_place l os)) (sym (and_follow-text ss f))
-        ∙ all.0.unit.same (and_follow ss f) l os (omega arith)
-        ∙ units_read ss all.1 f cs (us ++ s ∷ []) os (omega arith)
-        ∙ ap (λ xs. run (kinds 0 (follow_text f)) (behind_unit (record { conjs = cs; units = xs; bangs = 0 }) os)) (append_assoc us (s ∷ []) (list ss))
+    ∙ ap (λ xs. run (kinds 0 (text ++ xs)) (unit_place l os)) (sym (and_follow-text ss f))
+    ∙ all.0.unit.same (and_follow ss f) l os (omega arith)
+    ∙ units_read ss all.1 f cs (us ++ s ∷ []) os (omega arith)
+    ∙ ap (λ xs. run (kinds 0 (follow_text f)) (behind_unit (record { conjs = cs; units = xs; bangs = 0 }) os)) (append_assoc us (s ∷ []) (list ss))
 
 all_of-list : (ss : Shapes) → HasTwo ss → all_of (list ss) ≡ AllOf ss
 all_of-list none h = absurd h
@@ -169,10 +169,10 @@ conj_of_and (more s ss) two all = record {
       let behind = behind_text (codes " && ") (and_texts ss) in
       let l : Level = record { conjs = cs; units = s ∷ list ss; bangs = 0 } in
       ap (λ xs. run (kinds 0 xs) (unit_place (behind_conjs cs) os)) (append_assoc text behind (follow_text f) ∙ ap (λ xs. text ++ xs) (sym (and_follow-text ss f)))
-          ∙ all.0.unit.same (and_follow ss f) (behind_conjs cs) os (omega arith)
-          ∙ units_read ss all.1 f cs (s ∷ []) os (omega arith)
-          ∙ run-follow f (behind_unit l os)
-          ∙ ap (taken f) (next_behind-other (follow_token f) l os ends ∙ ap (λ x. behind_conj (cs ++ x ∷ []) os (follow_token f)) (all_of-list (more s ss) two));
+      ∙ all.0.unit.same (and_follow ss f) (behind_conjs cs) os (omega arith)
+      ∙ units_read ss all.1 f cs (s ∷ []) os (omega arith)
+      ∙ run-follow f (behind_unit l os)
+      ∙ ap (taken f) (next_behind-other (follow_token f) l os ends ∙ ap (λ x. behind_conj (cs ++ x ∷ []) os (follow_token f)) (all_of-list (more s ss) two));
 }
 
 -- the members of an `||` chain behind the first
@@ -194,9 +194,9 @@ conjs_read none all f cs os ends deep = ap (λ xs. taken f (behind_conj xs os (f
 conjs_read (more s ss) all f cs os ends deep =
     let text = wrap (is_or s) (printed s) in
     ap (λ xs. run (kinds 0 (text ++ xs)) (unit_place (behind_conjs cs) os)) (sym (or_follow-text ss f))
-        ∙ all.0.conj.same (or_follow ss f) cs os (or_follow-ends ss f ends) (omega arith)
-        ∙ conjs_read ss all.1 f (cs ++ s ∷ []) os ends (omega arith)
-        ∙ ap (λ xs. taken f (behind_conj xs os (follow_token f))) (append_assoc cs (s ∷ []) (list ss))
+    ∙ all.0.conj.same (or_follow ss f) cs os (or_follow-ends ss f ends) (omega arith)
+    ∙ conjs_read ss all.1 f (cs ++ s ∷ []) os ends (omega arith)
+    ∙ ap (λ xs. taken f (behind_conj xs os (follow_token f))) (append_assoc cs (s ∷ []) (list ss))
 
 expr_of_or : (ss : Shapes) → HasTwo ss → AllRead ss → ReadsAsExpr (printed (AnyOf ss)) (or_nesting ss) (AnyOf ss)
 expr_of_or none two all = absurd two
@@ -205,9 +205,9 @@ expr_of_or (more s ss) two all = record {
       let text = wrap (is_or s) (printed s) in
       let behind = behind_text (codes " || ") (or_texts ss) in
       ap (λ xs. run (kinds 0 xs) (unit_place fresh os)) (append_assoc text behind (follow_text f) ∙ ap (λ xs. text ++ xs) (sym (or_follow-text ss f)))
-          ∙ all.0.conj.same (or_follow ss f) [] os (or_follow-ends ss f units) (omega arith)
-          ∙ conjs_read ss all.1 f (s ∷ []) os units (omega arith)
-          ∙ ap (taken f) (behind_conj-other (follow_token f) (s ∷ list ss) os conjs ∙ ap (λ x. behind_expr x os (follow_token f)) (any_of-list (more s ss) two));
+      ∙ all.0.conj.same (or_follow ss f) [] os (or_follow-ends ss f units) (omega arith)
+      ∙ conjs_read ss all.1 f (s ∷ []) os units (omega arith)
+      ∙ ap (taken f) (behind_conj-other (follow_token f) (s ∷ list ss) os conjs ∙ ap (λ x. behind_expr x os (follow_token f)) (any_of-list (more s ss) two));
 }
 
 -- the units that are no chains
@@ -222,9 +222,9 @@ unit_of_native n h = record {
   same = λ f l os deep.
       let rest = follow_text f in
       ap (λ xs. run (kinds 0 xs) (unit_place l os)) (append_assoc (codes "native ") (decimal n) rest)
-          ∙ ap (λ ts. run ts (unit_place l os)) (native_read (decimal n ++ rest))
-          ∙ ap (λ ts. run ts (native_place l os)) (decimal_read n rest (omega arith) (stop_before f))
-          ∙ rw (lt-ltb n 6 (omega arith)) refl;
+      ∙ ap (λ ts. run ts (unit_place l os)) (native_read (decimal n ++ rest))
+      ∙ ap (λ ts. run ts (native_place l os)) (decimal_read n rest (omega arith) (stop_before f))
+      ∙ rw (lt-ltb n 6 (omega arith)) refl;
 }
 
 stop_before_op : (op : Op) (rest : List ℕ) → IsStop (op_text op ++ rest)
@@ -251,12 +251,12 @@ unit_of_comparison s op r first second = record {
       let text : printed (Compare s op r) ++ rest ≡ sum_text s ++ (op_text op ++ later) =
       append_assoc (sum_text s) (op_text op ++ sum_text r) rest ∙ ap (λ xs. sum_text s ++ xs) (append_assoc (op_text op) (sum_text r) rest) in
       ap (λ xs. run (kinds 0 xs) (unit_place l os)) text
-          ∙ sum_begun s first l os (op_text op ++ later) (stop_before_op op later)
-          ∙ ap (λ ts. run ts (behind_atom left s l os)) (op_read op later)
-          ∙ sum_read r second (right s op) l os rest (stop_before f)
-          ∙ run-follow f (behind_atom (right s op) r l os)
-          ∙ ap (taken f) (compared_follow f s op r l os)
-          ∙ sym (run-follow f (behind_unit (with_unit (Compare s op r) l) os));
+      ∙ sum_begun s first l os (op_text op ++ later) (stop_before_op op later)
+      ∙ ap (λ ts. run ts (behind_atom left s l os)) (op_read op later)
+      ∙ sum_read r second (right s op) l os rest (stop_before f)
+      ∙ run-follow f (behind_atom (right s op) r l os)
+      ∙ ap (taken f) (compared_follow f s op r l os)
+      ∙ sym (run-follow f (behind_unit (with_unit (Compare s op r) l) os));
 }
 
 -- a `!` before a unit
@@ -265,8 +265,8 @@ unit_of_bang b text depth s other unit = record {
   same = λ f l os deep.
       let rest = text ++ follow_text f in
       ap (λ ts. run ts (unit_place l os)) (bang_read b rest other)
-          ∙ ap (on (run (kinds 0 (b ∷ rest)))) (opening-go (l.bangs + opened os) (unit_place (with_bang l) os) (omega arith))
-          ∙ unit.same f (with_bang l) os (omega arith);
+      ∙ ap (on (run (kinds 0 (b ∷ rest)))) (opening-go (l.bangs + opened os) (unit_place (with_bang l) os) (omega arith))
+      ∙ unit.same f (with_bang l) os (omega arith);
 }
 
 unit_of_negation : (s : Shape) → Reads s → ReadsAsUnit (printed (Negate s)) (nesting (Negate s)) (Negate s)

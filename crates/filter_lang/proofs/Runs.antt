@@ -50,4 +50,4 @@ pub kinds-token : (b : ℕ) (ws rest : List ℕ) (t : Token) → is_blank b ≡ 
 kinds-token b ws rest t blank e =
     let len : (token_at (b ∷ (ws ++ rest))).len - 1 ≡ length ws = omega (arith, ap (λ x. x.len) e) in
     rw blank (ap (λ x. x ∷ kinds ((token_at (b ∷ (ws ++ rest))).len - 1) (ws ++ rest)) (ap (λ x. x.token) e)
-        ∙ ap (λ k. t ∷ kinds k (ws ++ rest)) len ∙ ap (λ ts. t ∷ ts) (kinds-behind ws rest))
+    ∙ ap (λ k. t ∷ kinds k (ws ++ rest)) len ∙ ap (λ ts. t ∷ ts) (kinds-behind ws rest))

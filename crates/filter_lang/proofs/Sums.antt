@@ -41,25 +41,25 @@ steps_read (s ∷ ss) within acc side l os rest stop =
     let text : (join_text s.join ++ (atom_text s.atom ++ steps_text ss)) ++ rest ≡ join_text s.join ++ (atom_text s.atom ++ later) = simp append_assoc in
     let one = All-head (λ x. AtomIsWithin x.atom) s ss within in
     ap (λ xs. run (kinds 0 xs) (behind_atom side acc l os)) text
-        ∙ ap (λ ts. run ts (behind_atom side acc l os)) (join_read s.join (atom_text s.atom ++ later))
-        ∙ ap (λ ts. run ts (atom_place side (joined acc s.join) l os)) (atom_read s.atom later one (stop_before_steps ss rest stop))
-        ∙ ap (on (run (kinds 0 later))) (next_atom-token s.atom side (joined acc s.join) l os)
-        ∙ steps_read ss (All-tail (λ x. AtomIsWithin x.atom) s ss within) more side l os rest stop
-        ∙ ap (λ ys. run (kinds 0 rest) (behind_atom side (record { first = acc.first; rest = ys }) l os)) (append_assoc acc.rest (s ∷ []) ss)
+    ∙ ap (λ ts. run ts (behind_atom side acc l os)) (join_read s.join (atom_text s.atom ++ later))
+    ∙ ap (λ ts. run ts (atom_place side (joined acc s.join) l os)) (atom_read s.atom later one (stop_before_steps ss rest stop))
+    ∙ ap (on (run (kinds 0 later))) (next_atom-token s.atom side (joined acc s.join) l os)
+    ∙ steps_read ss (All-tail (λ x. AtomIsWithin x.atom) s ss within) more side l os rest stop
+    ∙ ap (λ ys. run (kinds 0 rest) (behind_atom side (record { first = acc.first; rest = ys }) l os)) (append_assoc acc.rest (s ∷ []) ss)
 
 pub sum_read : (s : Sum) → SumIsWithin s → (side : Side) (l : Level) (os : List Level) (rest : List ℕ) → IsStop rest → run (kinds 0 (sum_text s ++ rest)) (atom_place side alone l os) ≡ run (kinds 0 rest) (behind_atom side s l os)
 sum_read s within side l os rest stop =
     let later = steps_text s.rest ++ rest in
     ap (λ xs. run (kinds 0 xs) (atom_place side alone l os)) (append_assoc (atom_text s.first) (steps_text s.rest) rest)
-        ∙ ap (λ ts. run ts (atom_place side alone l os)) (atom_read s.first later within.0 (stop_before_steps s.rest rest stop))
-        ∙ ap (on (run (kinds 0 later))) (next_atom-token s.first side alone l os)
-        ∙ steps_read s.rest within.1 (alone s.first) side l os rest stop
+    ∙ ap (λ ts. run ts (atom_place side alone l os)) (atom_read s.first later within.0 (stop_before_steps s.rest rest stop))
+    ∙ ap (on (run (kinds 0 later))) (next_atom-token s.first side alone l os)
+    ∙ steps_read s.rest within.1 (alone s.first) side l os rest stop
 
 -- the same where a unit begins
 pub sum_begun : (s : Sum) → SumIsWithin s → (l : Level) (os : List Level) (rest : List ℕ) → IsStop rest → run (kinds 0 (sum_text s ++ rest)) (unit_place l os) ≡ run (kinds 0 rest) (behind_atom left s l os)
 sum_begun s within l os rest stop =
     let later = steps_text s.rest ++ rest in
     ap (λ xs. run (kinds 0 xs) (unit_place l os)) (append_assoc (atom_text s.first) (steps_text s.rest) rest)
-        ∙ ap (λ ts. run ts (unit_place l os)) (atom_read s.first later within.0 (stop_before_steps s.rest rest stop))
-        ∙ ap (on (run (kinds 0 later))) (next_unit-token s.first l os)
-        ∙ steps_read s.rest within.1 (alone s.first) left l os rest stop
+    ∙ ap (λ ts. run ts (unit_place l os)) (atom_read s.first later within.0 (stop_before_steps s.rest rest stop))
+    ∙ ap (on (run (kinds 0 later))) (next_unit-token s.first l os)
+    ∙ steps_read s.rest within.1 (alone s.first) left l os rest stop

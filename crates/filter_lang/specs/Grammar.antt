@@ -7,7 +7,7 @@
 -- A place is what stands before it. For each place and token, `next` says whether a filter goes on with
 -- that token, and what stands before the next one; else why not. The first token with which none goes on
 -- is refused, at its offset.
-use Rattle.std.specs.Prelude.{ℕ, zero, suc, ◌+◌, if◌then◌else◌, nat_lt, List, [], ◌∷◌, ◌++◌, Result, Ok, Err}
+use Rattle.std.specs.Prelude.{ℕ, zero, suc, ◌+◌, if◌then◌else◌, nat_lt, List, [], ◌∷◌, ◌++◌, Option, Some, None, Result, Ok, Err}
 use Rattle.filter_lang.specs.declared.error.FilterError.{FilterError}
 use Rattle.filter_lang.specs.declared.error.FilterError.TheVariants.{Syntax, UnknownName, BigNumber, TooDeep}
 use Rattle.filter_lang.specs.declared.term.Atom.{Atom}
@@ -168,6 +168,20 @@ abbrev pub read : List Placed → Place → Result Shape FilterError
 read [] p = Err (Syntax 0)
 read (t ∷ ts) p = steps (read ts) t.at (next p t.token)
 
+-- where a filter begins
+abbrev pub start : Place
+start = unit_place fresh []
+
 -- the filter that a text is, or why it is none
 abbrev pub filter : List ℕ → Result Shape FilterError
-filter text = read (tokens text) (unit_place fresh [])
+filter text = read (tokens text) start
+
+-- the place behind tokens with which a filter goes on
+abbrev pub going : (Place → Option Place) → Next → Option Place
+going k (go p) = k p
+going k (done s) = None
+going k (stop refusal) = None
+
+abbrev pub place_behind : List Placed → Place → Option Place
+place_behind [] p = Some p
+place_behind (t ∷ ts) p = going (place_behind ts) (next p t.token)

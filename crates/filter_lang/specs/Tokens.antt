@@ -25,7 +25,7 @@ is_blank b = (b == 32) || (b == 9)
 abbrev pub fact_names : List (List ℕ)
 fact_names =
     codes "dir" ∷ codes "nth" ∷ codes "src" ∷ codes "dst" ∷ codes "sport" ∷ codes "dport" ∷ codes "seq" ∷ codes "ack" ∷ codes "flags" ∷ codes "win"
-        ∷ codes "len" ∷ codes "ttl" ∷ codes "old" ∷ codes "new" ∷ codes "fresh" ∷ codes "rexlen" ∷ codes "rexdiff" ∷ codes "fault" ∷ codes "next" ∷ codes "class" ∷ []
+    ∷ codes "len" ∷ codes "ttl" ∷ codes "old" ∷ codes "new" ∷ codes "fresh" ∷ codes "rexlen" ∷ codes "rexdiff" ∷ codes "fault" ∷ codes "next" ∷ codes "class" ∷ []
 
 -- the token of a name: a fact, from this place on, or no fact
 abbrev pub fact_token : ℕ → List (List ℕ) → List ℕ → Token
@@ -114,7 +114,6 @@ decimal_at bs =
 
 abbrev pub number_at : List ℕ → Lexeme
 number_at bs = if begins_hex bs then hex_at bs else decimal_at bs
-
 
 -- a sign of one byte
 abbrev pub short_sign_at : List ℕ → Lexeme

@@ -7,7 +7,7 @@ use thiserror::Error;
 ///
 /// Each offset is in bytes. It is that of the token's first byte, or the text's length where the
 /// text ends too early.
-#[derive(Debug, Drop, Error)]
+#[derive(Clone, Copy, PartialEq, Eq, Debug, Error)]
 pub enum FilterError {
     /// The token can't stand there, or the bytes there make no token.
     #[error("syntax error at byte {0}")]

@@ -52,7 +52,10 @@ pub(crate) fn blanks(bytes: &[u8]) -> usize
     ensures value { result ≡ prefix_len is_blank bytes.now }
     ensures within { result ≤ length bytes.now }
 {
-    bytes.iter().take_while(|b| **b == b' ' || **b == b'\t').count()
+    bytes
+        .iter()
+        .take_while(|b| **b == b' ' || **b == b'\t')
+        .count()
 }
 
 /// How many decimal digits the text begins with.
@@ -115,8 +118,8 @@ fn is(name: &[u8], word: &str) -> bool
 
 /// The names of the facts, in the order of their places.
 pub(crate) const FACTS: [&str; 20] = [
-    "dir", "nth", "src", "dst", "sport", "dport", "seq", "ack", "flags", "win", "len", "ttl", "old",
-    "new", "fresh", "rexlen", "rexdiff", "fault", "next", "class",
+    "dir", "nth", "src", "dst", "sport", "dport", "seq", "ack", "flags", "win", "len", "ttl",
+    "old", "new", "fresh", "rexlen", "rexdiff", "fault", "next", "class",
 ];
 
 /// The token of a name that is no word of the grammar.

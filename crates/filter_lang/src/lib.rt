@@ -4,16 +4,21 @@
 pub mod error;
 pub mod evaluation;
 pub mod expr;
-pub mod lexeme;
+mod law;
+mod lexeme;
 mod lexer;
 mod parser;
 mod printer;
 pub mod term;
-pub mod token;
+mod token;
 
 pub use error::FilterError;
 pub use evaluation::eval;
 pub use expr::Expr;
+pub use law::first_refusal;
 pub use parser::parse;
 pub use printer::print;
 pub use term::{Atom, Join, Op, Step, StepList, Sum, Term, TermList};
+
+#[cfg(test)]
+mod tests;

@@ -144,7 +144,7 @@ fn write_step(out: &mut String, step: &Step) -> Result<(), AllocError>
     requires { AtomIsWithin step.now.atom }
     ensures { OnOk result
         (string_bytes out.new
-            ≡ string_bytes out.old ++ (join_text step.now.join ++ atom_text step.now.atom)) }
+        ≡ string_bytes out.old ++ (join_text step.now.join ++ atom_text step.now.atom)) }
 {
     out.push_str(join_text(step.join))?;
     write_atom(out, &step.atom)

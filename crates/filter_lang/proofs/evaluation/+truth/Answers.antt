@@ -18,11 +18,11 @@ truth-any_true-requires t c =
 pub truth-returns-in-And : goal.truth-returns-in-And
 truth-returns-in-And t c =
     c.all_true.ensures
-        ∙ ap (λ ts. all_mean (shapes ts) c.args.facts.now) c.deref-in-And.ensures.value
-        ∙ sym (ap (λ s. meaning s c.args.facts.now) (shape_of_and _ c.in-And.members c.in-And.is))
+    ∙ ap (λ ts. all_mean (shapes ts) c.args.facts.now) c.deref-in-And.ensures.value
+    ∙ sym (ap (λ s. meaning s c.args.facts.now) (shape_of_and _ c.in-And.members c.in-And.is))
 
 pub truth-returns-in-Or : goal.truth-returns-in-Or
 truth-returns-in-Or t c =
     c.any_true.ensures
-        ∙ ap (λ ts. any_means (shapes ts) c.args.facts.now) c.deref-in-Or.ensures.value
-        ∙ sym (ap (λ s. meaning s c.args.facts.now) (shape_of_or _ c.in-Or.members c.in-Or.is))
+    ∙ ap (λ ts. any_means (shapes ts) c.args.facts.now) c.deref-in-Or.ensures.value
+    ∙ sym (ap (λ s. meaning s c.args.facts.now) (shape_of_or _ c.in-Or.members c.in-Or.is))

@@ -7,12 +7,12 @@ use Rattle.filter_lang.proofs.expr.+copied.Goals as goal
 pub copy_term-returns-in_ok-items-in-And : goal.copy_term-returns-in_ok-items-in-And
 copy_term-returns-in_ok-items-in-And t c =
     shape-And (record { items = c.in_ok-items-in-And.items })
-        ∙ cc (shape_of_and _ c.in-And.members c.in-And.is, c.deref-in-And.ensures.value, c.in_ok-items-in-And.ensures)
+    ∙ cc (shape_of_and _ c.in-And.members c.in-And.is, c.deref-in-And.ensures.value, c.in_ok-items-in-And.ensures)
 
 pub copy_term-returns-in_ok-items-in-Or : goal.copy_term-returns-in_ok-items-in-Or
 copy_term-returns-in_ok-items-in-Or t c =
     shape-Or (record { items = c.in_ok-items-in-Or.items })
-        ∙ cc (shape_of_or _ c.in-Or.members c.in-Or.is, c.deref-in-Or.ensures.value, c.in_ok-items-in-Or.ensures)
+    ∙ cc (shape_of_or _ c.in-Or.members c.in-Or.is, c.deref-in-Or.ensures.value, c.in_ok-items-in-Or.ensures)
 
 pub copy_terms-loop-term-preserved : goal.copy_terms-loop-term-preserved
 copy_terms-loop-term-preserved t c =

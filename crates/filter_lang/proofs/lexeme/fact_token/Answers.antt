@@ -15,4 +15,4 @@ loop-place-preserved c =
     let i = c.loop-place.place in
     let other : bytes_eq c.args.name.now (get_or fact_names i []) ≡ false = grind (arith, common_steps) in
     ap (λ k. fact_token (i + 1) (drop k fact_names) c.args.name.now) (add-one i)
-        ∙ fact_token_passes i i fact_names c.args.name.now (omega arith) other ∙ c.loop-place.invariant
+    ∙ fact_token_passes i i fact_names c.args.name.now (omega arith) other ∙ c.loop-place.invariant

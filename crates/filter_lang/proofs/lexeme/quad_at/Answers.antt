@@ -33,7 +33,7 @@ loop-part-preserved c =
     record {
       same =
           ap (λ xs. quad_from (3 - (l._part + 1)) (l.address * 256 + n) (l.len + m) xs) (sym (drop-drop m l.len bs))
-              ∙ sym (quad_from-dotted (3 - (l._part + 1)) l.address l.len _ n m found) ∙ ap (λ k. quad_from k l.address l.len (drop l.len bs)) (sym left) ∙ l.invariant.same;
+          ∙ sym (quad_from-dotted (3 - (l._part + 1)) l.address l.len _ n m found) ∙ ap (λ k. quad_from k l.address l.len (drop l.len bs)) (sym left) ∙ l.invariant.same;
       fits = (fits_step l._part l.address n (omega arith) l.invariant.fits found.small).0;
       within = omega (arith, found.within, length-drop l.len bs);
     }

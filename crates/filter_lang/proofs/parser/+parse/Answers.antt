@@ -31,8 +31,8 @@ conjunction-loop-lexer-preserved t c =
     record {
       same = λ cs os e.
           l.invariant.same cs os e
-              ∙ and_more l.lexer c.advance.new.self c.unit-in-Both-token.new.lexer c.args.depth (shape_list ts) (shape x) c.in-Both-token.is c.advance.ensures c.in_ok-next.ensures.ok cs os e
-              ∙ ap (λ us. reads c.unit-in-Both-token.new.lexer (behind_unit (record { conjs = cs; units = us; bangs = 0 }) os)) (sym (ap shape_list items ∙ shape_list-push ts x));
+          ∙ and_more l.lexer c.advance.new.self c.unit-in-Both-token.new.lexer c.args.depth (shape_list ts) (shape x) c.in-Both-token.is c.advance.ensures c.in_ok-next.ensures.ok cs os e
+          ∙ ap (λ us. reads c.unit-in-Both-token.new.lexer (behind_unit (record { conjs = cs; units = us; bangs = 0 }) os)) (sym (ap shape_list items ∙ shape_list-push ts x));
       within = subst (λ us. AreWithin (shapes us)) (sym items) (within-push ts x l.invariant.within c.in_ok-next.ensures.within);
       long = omega arith;
       many = λ _. omega (arith, l.invariant.long);
@@ -65,8 +65,8 @@ expr-loop-lexer-preserved t c =
     record {
       same = λ os e.
           l.invariant.same os e
-              ∙ or_more l.lexer c.advance.new.self last c.args.depth (shape_list ts) (shape x) c.in-Either-token.is c.advance.ensures c.in_ok-next.ensures.ok os e
-              ∙ ap (λ us. takes last (behind_conj us os last.token)) (sym (ap shape_list items ∙ shape_list-push ts x));
+          ∙ or_more l.lexer c.advance.new.self last c.args.depth (shape_list ts) (shape x) c.in-Either-token.is c.advance.ensures c.in_ok-next.ensures.ok os e
+          ∙ ap (λ us. takes last (behind_conj us os last.token)) (sym (ap shape_list items ∙ shape_list-push ts x));
       within = subst (λ us. AreWithin (shapes us)) (sym items) (within-push ts x l.invariant.within c.in_ok-next.ensures.within);
       long = omega arith;
       many = λ _. omega (arith, l.invariant.long);

@@ -41,9 +41,9 @@ write_all-loop-i-preserved t c =
     record {
       text =
           c.in_ok-write_wrapped.ensures ∙ ap (λ b. string_bytes c.separate.new.out ++ wrap b (printed (shape x))) c.is_chain.ensures
-              ∙ ap (λ b. b ++ wrap (is_chain (shape x)) (printed (shape x))) (c.in_ok-separate.ensures ∙ ap (λ b. b ++ separator_text l.i (codes " && ")) l.invariant.text
-              ∙ ap (λ n. (old ++ joined_text (codes " && ") (and_texts (shapes front))) ++ separator_text n (codes " && ")) count)
-              ∙ all_more old (codes " && ") front x ∙ ap (λ us. old ++ joined_text (codes " && ") (and_texts (shapes us))) (sym here);
+          ∙ ap (λ b. b ++ wrap (is_chain (shape x)) (printed (shape x))) (c.in_ok-separate.ensures ∙ ap (λ b. b ++ separator_text l.i (codes " && ")) l.invariant.text
+          ∙ ap (λ n. (old ++ joined_text (codes " && ") (and_texts (shapes front))) ++ separator_text n (codes " && ")) count)
+          ∙ all_more old (codes " && ") front x ∙ ap (λ us. old ++ joined_text (codes " && ") (and_texts (shapes us))) (sym here);
       within = (subst (λ us. AreWithin (shapes us)) rest l.invariant.within).1;
     }
 
@@ -60,8 +60,8 @@ write_any-loop-i-preserved t c =
     record {
       text =
           c.in_ok-write_wrapped.ensures ∙ ap (λ b. string_bytes c.separate.new.out ++ wrap b (printed (shape x))) c.is_or.ensures
-              ∙ ap (λ b. b ++ wrap (is_or (shape x)) (printed (shape x))) (c.in_ok-separate.ensures ∙ ap (λ b. b ++ separator_text l.i (codes " || ")) l.invariant.text
-              ∙ ap (λ n. (old ++ joined_text (codes " || ") (or_texts (shapes front))) ++ separator_text n (codes " || ")) count)
-              ∙ any_more old (codes " || ") front x ∙ ap (λ us. old ++ joined_text (codes " || ") (or_texts (shapes us))) (sym here);
+          ∙ ap (λ b. b ++ wrap (is_or (shape x)) (printed (shape x))) (c.in_ok-separate.ensures ∙ ap (λ b. b ++ separator_text l.i (codes " || ")) l.invariant.text
+          ∙ ap (λ n. (old ++ joined_text (codes " || ") (or_texts (shapes front))) ++ separator_text n (codes " || ")) count)
+          ∙ any_more old (codes " || ") front x ∙ ap (λ us. old ++ joined_text (codes " || ") (or_texts (shapes us))) (sym here);
       within = (subst (λ us. AreWithin (shapes us)) rest l.invariant.within).1;
     }

@@ -18,4 +18,4 @@ loop-step-preserved c =
     let none : Step = record { join = Plus; atom = Fact 0 } in
     let x = get_or xs i none in
     c.in_ok-write_step.ensures ∙ ap (λ b. b ++ (join_text x.join ++ atom_text x.atom)) l.invariant
-        ∙ sum_push old first (take i xs) x ∙ ap (λ ys. old ++ (first ++ steps_text ys)) (sym (take_more xs i none c.loop-step-test.true))
+    ∙ sum_push old first (take i xs) x ∙ ap (λ ys. old ++ (first ++ steps_text ys)) (sym (take_more xs i none c.loop-step-test.true))

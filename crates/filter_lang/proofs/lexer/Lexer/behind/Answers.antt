@@ -31,4 +31,4 @@ returns c =
     let long : 0 < x.len = c.token_at-found.ensures.some in
     let rest = length-drop at text in
     rw open_ended (ap (λ y. record { token = y.token; at = at } ∷ tokens_behind 0 (at + x.len) (drop (at + x.len) text)) found
-        ∙ sym (tokens_behind-found text c.args.place at x.len c.requires start (omega arith) (ap (λ y. y.len) found) long (omega arith)))
+    ∙ sym (tokens_behind-found text c.args.place at x.len c.requires start (omega arith) (ap (λ y. y.len) found) long (omega arith)))
