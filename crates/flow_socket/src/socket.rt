@@ -9,7 +9,7 @@ use crate::answers::{Got, Peeked, Sent};
 use crate::direction::{KeptDirection, Taken};
 use crate::sequence::Acks;
 use packet_views::Head;
-use reassembly::{Policy, Stream};
+use reassembly::{Pieces, Policy, Stream};
 use std::alloc::{AllocError, Global};
 use std::marker::Model;
 use tcp_emulation::{Change, Ends, SegFacts, Side};
@@ -40,7 +40,7 @@ impl Model for FlowSocket {
 impl FlowSocket {
     ghost use Rattle.std.specs.Prelude.{drop, ◌++◌};
     ghost use Rattle.tcp_emulation.specs.States.{other};
-    ghost use Rattle.flow_socket.specs.Peek.{peeked, bytes_peeked, after_peek};
+    ghost use Rattle.flow_socket.specs.Peek.{peeked, bytes_peeked, after_peek, runs_at};
     ghost use Rattle.tcp_emulation.specs.Ends.{end_at, ends_after_receive, change_of, is_over};
     ghost use Rattle.flow_socket.specs.Known.{SocketStandsFor, known_at, next_at};
     ghost use Rattle.flow_socket.specs.Emulation.{Emulation, fresh, sent, sent_answer, received, got_of, direction_of, with_direction, taken_by};
@@ -176,6 +176,16 @@ impl FlowSocket {
             Side::Client => self.client.peek(buf, self.rbuf),
             Side::Server => self.server.peek(buf, self.rbuf),
         }
+    }
+
+    /// The longest runs of positions that the receiver of the stream that `from` sends keeps, among
+    /// the `len` from `off` on, also above `next`: each by its place and length. It moves no mark;
+    /// `Stream::read_at` gives the bytes of a run.
+    #[tactic(auto, unfolding(crate::specs::Peek::runs_at))]
+    pub fn ppeek(&self, from: Side, off: u64, len: u32) -> Pieces<'_>
+        ensures { (e : Emulation) → SocketStandsFor self.now e → result ≡ runs_at from off len e }
+    {
+        self.stream(from).pieces(off, len)
     }
 
     /// The stream of the bytes that `from` sends, as the other end accepts them.
