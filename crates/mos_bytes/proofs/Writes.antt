@@ -1,11 +1,11 @@
 -- How the pieces that a sink takes one after another add up.
-use Rattle.std.proofs.Common.{◌≡◌, List, ℕ, [], ◌+◌, ◌-◌, ◌++◌, length, take, drop, refl, sym, ap, subst, ◌∙◌, arith, append_assoc, append-nil, length-drop, take_all}
+use Rattle.std.proofs.Common.{◌≡◌, List, ℕ, [], ◌+◌, ◌-◌, ◌++◌, length, take, drop, Result, Ok, Err, refl, sym, ap, subst, ◌∙◌, arith, append_assoc, append-nil, length-drop, take_all}
 use Rattle.std.proofs.lemmas.List.{take-append-drop}
 use Rattle.std.proofs.Math.Seq.{take-add}
 use Rattle.std.specs.declared.option.Option.{Option}
 use Rattle.std.specs.Io.KnownBytes.{Appends, Keeps}
 use Rattle.std.proofs.KnownBytes.{Appends-kept, Appends-nil, Appends-trans}
-use Rattle.mos_bytes.specs.Writes.{AppendsFront}
+use Rattle.mos_bytes.specs.Writes.{AppendsFront, WriteAdds}
 
 -- nothing is a front of everything
 pub AppendsFront-nil : (a : Option (List ℕ)) (bytes : List ℕ) → AppendsFront a a bytes
@@ -61,3 +61,9 @@ AppendsFront-none a b d bytes piece done count before next none =
       added = Appends-trans a b d (take done bytes) [] before nothing;
       whole = sym (take-append-drop done bytes) ∙ ap (λ l. l ++ drop done bytes) (sym (append-nil (take done bytes)));
     }
+
+-- a piece taken whole, and then what a call took of the next
+pub WriteAdds-after : {T E : Type 0} (a b c : Option (List ℕ)) (bytes next : List ℕ) (result : Result T E) → Appends a b bytes → WriteAdds b c result next
+    → WriteAdds a c result (bytes ++ next)
+WriteAdds-after a b c bytes next (Ok value) taken last = Appends-trans a b c bytes next taken last
+WriteAdds-after a b c bytes next (Err error) taken last = AppendsFront-after a b c bytes next taken last

@@ -1,12 +1,11 @@
 -- What `open` may answer after it has read the header.
-use Rattle.std.proofs.Common.{◌≡◌, ℕ, ◌<◌, ◌≤◌, List, ◌++◌, length, take, drop, true, false, nat_lt, None, Some, Ok, Err, refl, sym, ap, ◌∙◌, arith, length-append, length-take-le, take_all}
+use Rattle.std.proofs.Common.{◌≡◌, ℕ, ◌<◌, ◌≤◌, List, ◌++◌, length, take, true, false, nat_lt, None, Some, Err, refl, sym, ap, ◌∙◌, arith, length-append, length-take-le, take_all}
 use Rattle.std.proofs.lemmas.Bool.Decides.{nat_tests}
-use Rattle.std.proofs.Math.Seq.{take-append_seam, drop-append_seam}
+use Rattle.std.proofs.Math.Seq.{take-append_seam}
 use Rattle.std.specs.declared.option.Option.{Option}
 use Rattle.mos_bytes.specs.Reads.{Fills}
 use Rattle.pcap_source.specs.Capture.{header_of, header_by, order_of}
-use Rattle.pcap_source.specs.Reading.{OpenGives, reading}
-use Rattle.pcap_source.specs.declared.order.Order.{Order}
+use Rattle.pcap_source.specs.Reading.{OpenGives}
 use Rattle.pcap_source.specs.declared.errors.OpenError.{OpenError}
 use Rattle.pcap_source.specs.declared.errors.OpenError.TheVariants.{BadMagic, BadVersion, BadLink, ShortHeader, ReadFault}
 
@@ -47,12 +46,3 @@ gives-Err n None b header e fills is full judged = tt
 gives-Err n (Some before) None header e fills is full judged = absurd fills.consumed
 gives-Err n (Some before) (Some after) header e fills is full judged =
     refused before after e (ap header_of (whole n before after header fills (omega arith)) ∙ header_of-whole header after is ∙ judged)
-
-pub gives-Ok : (n : ℕ) (a b : Option (List ℕ)) (header : List ℕ) (order : Order) → Fills a b n header → length header ≡ 24 → 24 ≤ n
-    → header_by (order_of header) header ≡ Ok order → OpenGives a b (Ok (reading order 0 24))
-gives-Ok n None b header order fills is full judged = tt
-gives-Ok n (Some before) None header order fills is full judged = absurd fills.consumed
-gives-Ok n (Some before) (Some after) header order fills is full judged =
-    let parts = whole n before after header fills (omega arith) in
-    let gone : drop 24 (header ++ after) ≡ after = ap (λ k. drop k (header ++ after)) (sym is) ∙ drop-append_seam header after in
-    (ap header_of parts ∙ header_of-whole header after is ∙ judged, sym gone ∙ ap (drop 24) (sym parts))

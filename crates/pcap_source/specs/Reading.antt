@@ -1,5 +1,5 @@
 -- What a capture that is read front to back gives, where its source tells the bytes that are left.
-use Rattle.std.specs.Prelude.{◌≡◌, ℕ, zero, suc, ◌+◌, ◌-◌, ◌<◌, ◌≤◌, Bool, true, List, [], length, drop, ⊤, Option, Some, None, Result, Ok, Err}
+use Rattle.std.specs.Prelude.{◌≡◌, ℕ, zero, suc, ◌+◌, ◌-◌, ◌<◌, ◌≤◌, Bool, true, List, [], length, take, drop, ⊤, Option, Some, None, Result, Ok, Err}
 use Rattle.pcap_source.specs.Captured.{Captured}
 use Rattle.pcap_source.specs.Capture.{Ending, Frames, ended, with_frame, frames_from, header_of, record_of, tail, too_long, too_many}
 use Rattle.pcap_source.specs.Order.{number_in}
@@ -12,20 +12,22 @@ use Rattle.pcap_source.specs.declared.errors.NextError.TheVariants.{TooLong, Too
 use Rattle.pcap_source.specs.declared.errors.OpenError.{OpenError}
 use Rattle.pcap_source.specs.declared.errors.OpenError.TheVariants.{ReadFault as OpenFault}
 
--- an opened capture: its order of bytes, how many records were read, how many bytes were read up to here, and whether
--- the next record may be read
+-- an opened capture: its header of 24 bytes, its order of bytes, how many records were read, how many bytes were read up
+-- to here, and whether the next record may be read
 pub record CaptureState : Type 0 where
+  pub header : List ℕ
   pub order : Order
   pub count : ℕ
   pub offset : ℕ
   pub is_live : Bool
 
--- a capture from which the next record may be read
+-- a capture from which the next record may be read; its header plays no part in that
 abbrev pub reading : Order → ℕ → ℕ → CaptureState
-reading order count offset = record { order = order; count = count; offset = offset; is_live = true }
+reading order count offset = record { header = []; order = order; count = count; offset = offset; is_live = true }
 
 -- `next` left a capture behind the record in the frame
 pub record Moves (old new : CaptureState) (frame : Captured) : Type 0 where
+  pub header : new.header ≡ old.header
   pub order : new.order ≡ old.order
   pub count : new.count ≡ old.count + 1
   pub offset : new.offset ≡ old.offset + 16 + length frame.bytes
@@ -51,7 +53,7 @@ frames_at capture bytes = frames_from capture.order (RECORD_LIMIT - capture.coun
 
 -- `open` on these bytes, of which it leaves others
 abbrev pub OpensAs : List ℕ → List ℕ → Result CaptureState OpenError → Type 0
-OpensAs bytes after (Ok capture) = (header_of bytes ≡ Ok capture.order) × (after ≡ drop 24 bytes)
+OpensAs bytes after (Ok capture) = (header_of bytes ≡ Ok capture.order) × (capture.header ≡ take 24 bytes) × (after ≡ drop 24 bytes)
 OpensAs bytes after (Err OpenFault) = ⊤
 OpensAs bytes after (Err e) = header_of bytes ≡ Err e
 

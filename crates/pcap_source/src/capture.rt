@@ -33,6 +33,7 @@ pub enum Step {
 /// A capture whose global header was read and accepted.
 #[derive(Debug, Drop)]
 pub struct Capture {
+    header: [u8; HEADER],
     order: Order,
     count: u32,
     offset: u64,
@@ -43,6 +44,7 @@ impl Model for Capture {
     ghost Value = { CaptureState };
 
     ghost view = { λ c. record {
+      header = c.header;
       order = c.order;
       count = c.count;
       offset = c.offset;
@@ -125,6 +127,7 @@ impl Capture {
         }
         Ok(Capture {
             order: judge_header(&header)?,
+            header,
             count: 0,
             offset: HEADER as u64,
             is_live: true,
@@ -157,6 +160,13 @@ impl Capture {
             self.is_live = true;
         }
         Ok(step)
+    }
+
+    // The global header as it was read.
+    pub(crate) fn header(&self) -> &[u8]
+        ensures { result.now ≡ self.now.header }
+    {
+        &self.header
     }
 
     /// Whether the next record may be read.

@@ -11,6 +11,7 @@ mod header;
 mod order;
 #[cfg(test)]
 mod tests;
+mod write;
 
 pub use capture::{CAPTURED_LIMIT, Capture, RECORD_LIMIT, Step};
 pub use errors::{CaptureFault, NextError, OpenError};

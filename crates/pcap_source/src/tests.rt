@@ -5,3 +5,4 @@ mod forms;
 mod limits;
 mod plain;
 mod short_source;
+mod writing;
