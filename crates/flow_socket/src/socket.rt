@@ -71,6 +71,7 @@ impl FlowSocket {
         ensures answer { (e : Emulation) → SocketStandsFor self.old e → result ≡ sent_answer from h.now e }
         ensures client { self.new.client ≡ self.old.client }
         ensures server { self.new.server ≡ self.old.server }
+        ensures rbuf { self.new.rbuf ≡ self.old.rbuf }
     {
         self.last = Some(*h);
         let change = tcp_emulation::send_step(&mut self.ends, from, &sent_facts(h));
