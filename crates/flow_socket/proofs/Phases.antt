@@ -1,11 +1,10 @@
 -- The phase of the receiver, put together from its parts.
-use Rattle.std.proofs.Common.{◌≡◌, ◌∙◌, ap, refl, subst, sym, ℕ, List, Bool, nat_lt, not, ◌&&◌}
+use Rattle.std.proofs.Common.{◌≡◌, ◌∙◌, ap, refl, subst, ℕ, List, Bool, nat_lt, not, ◌&&◌}
 use Rattle.packet_views.specs.declared.packet.Head.{Head}
 use Rattle.tcp_emulation.specs.declared.segment.Side.{Side}
 use Rattle.tcp_emulation.specs.declared.segment.Side.TheVariants.{Client, Server}
 use Rattle.tcp_emulation.specs.declared.segment.SegFacts.{SegFacts}
 use Rattle.tcp_emulation.specs.declared.segment.Change.{Change}
-use Rattle.tcp_emulation.specs.declared.ends.Ends.{Ends}
 use Rattle.tcp_emulation.specs.States.{other}
 use Rattle.tcp_emulation.specs.Ends.{end_at, ends_after_receive, change_of}
 use Rattle.reassembly.specs.declared.answers.Placed.{Placed}

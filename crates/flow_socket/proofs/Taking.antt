@@ -1,5 +1,5 @@
 -- The parts of a segment at a receiver, by equal numbers.
-use Rattle.std.proofs.Common.{◌≡◌, ◌+◌, ◌∙◌, ap, subst, sym, ℕ, ℤ, pos, ◌+ℤ◌, length, List}
+use Rattle.std.proofs.Common.{◌≡◌, ◌∙◌, ap, subst, ℕ, ℤ, pos, ◌+ℤ◌, length, List}
 use Rattle.reassembly.specs.declared.answers.Policy.{Policy}
 use Rattle.reassembly.specs.declared.answers.FinNote.{FinNote}
 use Rattle.reassembly.specs.Receiver.{Receiver, next_of}

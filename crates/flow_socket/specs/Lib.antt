@@ -3,3 +3,4 @@ pub mod Direction
 pub mod Emulation
 pub mod Peek
 pub mod Known
+pub mod Laws

@@ -7,6 +7,7 @@
 
 mod answers;
 mod direction;
+pub mod laws;
 mod segment;
 mod sequence;
 mod socket;

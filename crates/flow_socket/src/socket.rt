@@ -1,9 +1,8 @@
 //! The socket of one connection: both ends, both directions, the last packet.
 
-ghost use Rattle.std.specs.Prelude.{ℕ, ◌≡◌, ◌+◌, ◌^◌, ◌≤◌, ◌<◌, List, length, Option, Some, None, OnOk, OnErr, IfOk};
-ghost use Rattle.flow_socket.specs.Emulation.{facts_of, sent_facts, fault_of};
-ghost use Rattle.std.specs.Prelude.{nat_lt, not, ◌&&◌};
+ghost use Rattle.std.specs.Prelude.{ℕ, ◌≡◌, ◌+◌, ◌^◌, ◌≤◌, ◌&&◌, not, nat_lt, length, OnOk, OnErr, IfOk};
 ghost use Rattle.packet_views.specs.Flags.{has_rst};
+ghost use Rattle.flow_socket.specs.Emulation.{facts_of, sent_facts, fault_of};
 
 use crate::answers::{Got, Peeked, Sent};
 use crate::direction::{KeptDirection, Taken};
@@ -39,13 +38,13 @@ impl Model for FlowSocket {
 
 impl FlowSocket {
     ghost use Rattle.std.specs.Prelude.{drop, ◌++◌};
-    ghost use Rattle.tcp_emulation.specs.States.{other};
-    ghost use Rattle.flow_socket.specs.Peek.{peeked, bytes_peeked, after_peek, runs_at};
-    ghost use Rattle.tcp_emulation.specs.Ends.{end_at, ends_after_receive, change_of, is_over};
-    ghost use Rattle.flow_socket.specs.Known.{SocketStandsFor, known_at, next_at};
-    ghost use Rattle.flow_socket.specs.Emulation.{Emulation, fresh, sent, sent_answer, received, got_of, direction_of, with_direction, taken_by};
     ghost use Rattle.tcp_emulation.specs.declared.segment.Side.{Side};
+    ghost use Rattle.tcp_emulation.specs.States.{other};
+    ghost use Rattle.tcp_emulation.specs.Ends.{end_at, ends_after_receive, change_of, is_over};
     ghost use Rattle.flow_socket.specs.Direction.{acks_syn, acks_fin, is_finished, placed_in, is_fin_refused, is_in_window};
+    ghost use Rattle.flow_socket.specs.Emulation.{Emulation, fresh, sent, sent_answer, received, got_of, direction_of, with_direction, taken_by};
+    ghost use Rattle.flow_socket.specs.Peek.{peeked, bytes_peeked, after_peek, runs_at};
+    ghost use Rattle.flow_socket.specs.Known.{SocketStandsFor, known_at, next_at};
 
     /// The socket of a connection before its first packet. Each receiver's buffer has `rbuf` bytes,
     /// from 1 to 1,048,576; `policy` says which byte of an overlap stays.

@@ -228,3 +228,30 @@ fn peeks_past_the_last_number(rt: HostRuntime) -> Result<(), Fail> {
     assert!(rt; peek(&mut socket, Client) == (all, *b"ABCDEFGH"));
     Ok(())
 }
+
+/// The runs that the server keeps of the client's first eight bytes.
+fn runs(socket: &FlowSocket) -> (Option<(u64, u32)>, Option<(u64, u32)>) {
+    let mut pieces = socket.ppeek(Client, 0, 8);
+    (pieces.next(), pieces.next())
+}
+
+#[test]
+fn peeks_over_gaps(rt: HostRuntime) -> Result<(), Fail> {
+    let late = Packet(Client, ACK, 105, 301, b"EFGH");
+    let (mut socket, seen) = after(rt.alloc(), 65536, &[late])?;
+    assert!(rt; seen == (State::Established, State::Established, 0, 0, false));
+    assert!(rt; runs(&socket) == (Some((4, 4)), None));
+    take(&mut socket, &Packet(Client, ACK, 101, 301, b"ABCD"))?;
+    assert!(rt; runs(&socket) == (Some((0, 8)), None));
+    Ok(())
+}
+
+fn handed_over<T: Send>(value: T) -> T {
+    value
+}
+
+#[test]
+fn moves_to_a_thread(rt: HostRuntime) {
+    let socket = handed_over(FlowSocket::new(rt.alloc(), 4, Policy::First));
+    assert!(rt; socket.last().is_none());
+}

@@ -1,11 +1,8 @@
 -- The packet's direction takes it, and then the receiver steps by facts that are those of the definition.
-use Rattle.std.proofs.Common.{◌≡◌, ◌∙◌, ap, subst, sym, ℕ, List, Bool, nat_lt, not, ◌&&◌}
-use Rattle.tcp_emulation.specs.Ends.{is_over}
-use Rattle.flow_socket.specs.Known.{SocketStandsFor, next_at}
+use Rattle.std.proofs.Common.{◌≡◌, ◌∙◌, ap, nat_lt}
+use Rattle.flow_socket.specs.Known.{SocketStandsFor}
 use Rattle.flow_socket.specs.Direction.{next_in, is_in_window, is_fin_refused}
-use Rattle.packet_views.specs.Flags.{has_rst}
-use Rattle.flow_socket.specs.Emulation.{fault_of, Emulation, received, got_of, received_facts, direction_of, taken_by}
-use Rattle.flow_socket.proofs.Sides.{direction_of-with_direction}
+use Rattle.flow_socket.specs.Emulation.{Emulation, received, got_of, received_facts, direction_of, taken_by}
 use Rattle.flow_socket.proofs.Phases.{facts_are, received_stands, change_is, next_is, direction_of-received, got_is, fault_is}
 use Rattle.flow_socket.proofs.socket.FlowSocket.receive.Goals as goal
 
