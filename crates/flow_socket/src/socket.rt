@@ -169,6 +169,7 @@ impl FlowSocket {
         ensures stands { (e : Emulation) → SocketStandsFor self.old e → SocketStandsFor self.new (after_peek from (length buf.old) e) }
         ensures answer { (e : Emulation) → SocketStandsFor self.old e → result ≡ peeked from (length buf.old) e }
         ensures bytes { (e : Emulation) → SocketStandsFor self.old e → buf.new ≡ bytes_peeked from (length buf.old) e ++ drop result.len buf.old }
+        ensures rbuf { self.new.rbuf ≡ self.old.rbuf }
         ensures stream { (known_at from self.new).stream ≡ (known_at from self.old).stream }
         ensures peer { known_at (other from) self.new ≡ known_at (other from) self.old }
     {
