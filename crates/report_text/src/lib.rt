@@ -8,3 +8,6 @@ pub mod write;
 
 pub use record::{Record, RecordKind, RecordList, Totals};
 pub use write::{TextError, write_report, write_totals};
+
+#[cfg(test)]
+mod tests;

@@ -103,23 +103,14 @@ fn push_bytes(alloc: Global, line: &mut String, bytes: &[u8]) -> Result<(), Allo
     line.push_str(digits.as_str())
 }
 
-fn push_piece(
-    alloc: Global,
-    line: &mut String,
-    at: u64,
-    bytes: &[u8],
-) -> Result<(), AllocError>
+fn push_piece(alloc: Global, line: &mut String, at: u64, bytes: &[u8]) -> Result<(), AllocError>
     ensures { OnOk result (string_bytes line.new ≡ string_bytes line.old ++ piece_text (at, bytes.now)) }
 {
     write!(line, " {at}:")?;
     push_bytes(alloc, line, bytes)
 }
 
-fn push_pieces(
-    alloc: Global,
-    line: &mut String,
-    pieces: &[(u64, Bytes)],
-) -> Result<(), AllocError>
+fn push_pieces(alloc: Global, line: &mut String, pieces: &[(u64, Bytes)]) -> Result<(), AllocError>
     ensures { OnOk result (string_bytes line.new ≡ string_bytes line.old ++ pieces_text pieces.now) }
 {
     for (at, bytes) in pieces {

@@ -60,11 +60,7 @@ fn write_callback<O: Sink>(
     Ok(())
 }
 
-fn write_first_line<O: Sink>(
-    out: &mut O,
-    line: &mut String,
-    of: &Record,
-) -> Result<(), TextError>
+fn write_first_line<O: Sink>(out: &mut O, line: &mut String, of: &Record) -> Result<(), TextError>
     ensures text { WriteAdds (O.taken out.old) (O.taken out.new) result (first_line of.now) }
     ensures cause { HasCauseOf (O.faults out.old) (O.faults out.new) (IsErrOf result TextError.WriteFault) }
 {
@@ -118,11 +114,7 @@ fn write_records<O: Sink>(
 }
 
 /// Writes the last line of a report. At an `Err` the sink holds a front of it.
-pub fn write_totals<O: Sink>(
-    alloc: Global,
-    out: &mut O,
-    totals: &Totals,
-) -> Result<(), TextError>
+pub fn write_totals<O: Sink>(alloc: Global, out: &mut O, totals: &Totals) -> Result<(), TextError>
     ensures text { WriteAdds (O.taken out.old) (O.taken out.new) result (totals_line totals.now) }
     ensures cause { HasCauseOf (O.faults out.old) (O.faults out.new) (IsErrOf result TextError.WriteFault) }
 {
