@@ -25,6 +25,7 @@ abbrev pub header_in : Order → List ℕ → Result Order OpenError
 header_in order header = if not (number_in order 2 (drop 4 header) == 2) then Err BadVersion
     else if not (number_in order 4 (drop 20 header) % 65536 == 1) then Err BadLink else Ok order
 
+-- the same where the order was found
 abbrev pub header_by : Option Order → List ℕ → Result Order OpenError
 header_by None header = Err BadMagic
 header_by (Some order) header = header_in order header
@@ -98,6 +99,7 @@ frames_from order (suc n) offset bytes = if is_whole order bytes
     then with_frame (record_at order bytes) (frames_from order n (offset + record_length order bytes) (drop (record_length order bytes) bytes))
     else ended (ending_of order (suc n) offset bytes)
 
+-- the records behind an accepted header
 abbrev pub frames_by : Result Order OpenError → List ℕ → Result Frames OpenError
 frames_by (Err e) bytes = Err e
 frames_by (Ok order) bytes = Ok (frames_from order RECORD_LIMIT 24 (drop 24 bytes))

@@ -1,8 +1,8 @@
 -- Each turn cuts one record more.
-use Rattle.std.proofs.Common.{◌≡◌, ◌<◌, ◌≤◌, ◌+◌, ◌-◌, ◌++◌, ◌∷◌, [], false, true, length, ap, sym, ◌∙◌, arith, rules}
-use Rattle.pcap_source.specs.Capture.{is_whole, record_at, record_of, record_length}
+use Rattle.std.proofs.Common.{◌≡◌, ◌<◌, false, true, ap, sym, ◌∙◌, arith}
+use Rattle.pcap_source.specs.Capture.{is_whole}
 use Rattle.pcap_source.specs.Reading.{answer_of}
-use Rattle.pcap_source.proofs.Plain.{Cutting, cut-all, cut_turn}
+use Rattle.pcap_source.proofs.Plain.{cut-all, cut_turn}
 use Rattle.pcap_source.proofs.tests.plain.cut.Goals.{then-loop-allowed-test+else-is_whole_record, else-loop-allowed-test}
 use Rattle.pcap_source.proofs.tests.plain.cut.Goals as goal
 
