@@ -30,16 +30,35 @@ filled_cell (c ∷ cells) e = ⊎_elim
     (λ (there : list_any is_some cells ≡ true). let h = filled_cell cells there in record { at = suc h.at; filled = h.filled })
     (or_cases (is_some c) (list_any is_some cells) e)
 
+filled_within : (cells : List (Option ℕ)) (q : ℕ) → is_some (held cells q) ≡ true → q < length cells
+filled_within cells q filled = ⊎_elim
+    (λ (b : q < length cells). b)
+    (λ (b : length cells ≤ q). absurd (true≢false (sym filled ∙ ap is_some (held_past cells q b))))
+    (cases_lt q (length cells))
+
+-- no filled cell from p on, by index
+pub free_cells : (cells : List (Option ℕ)) (p : ℕ) → ((k : ℕ) → p ≤ k → k < length cells → is_some (held cells k) ≡ false) → true ≡ is_free_from cells p
+free_cells cells p none = sym (ap not (false_from_ne_true (list_any is_some (drop p cells)) (λ e.
+    let some = filled_cell (drop p cells) e in
+    let q = p + some.at in
+    let filled : is_some (held cells q) ≡ true = ap is_some (sym (get_or-drop p cells some.at None)) ∙ some.filled in
+    let within : q < length cells = filled_within cells q filled in
+    true≢false (sym filled ∙ none q (omega arith) within))))
+
+pub taken_cell_at : (cells : List (Option ℕ)) (p q : ℕ) → p ≤ q → is_some (held cells q) ≡ true → false ≡ is_free_from cells p
+taken_cell_at cells p q l filled =
+    let within : q < length cells = filled_within cells q filled in
+    let len : length (drop p cells) ≡ length cells - p = length-drop p cells in
+    let back : p + (q - p) ≡ q = omega arith in
+    let there : is_some (get_or (drop p cells) (q - p) None) ≡ true = ap is_some (get_or-drop p cells (q - p) None ∙ ap (held cells) back) ∙ filled in
+    sym (ap not (list_any_at is_some (drop p cells) (q - p) None (omega arith) there))
+
 pub is_free : (w : Window) (fin : Option ℕ) (rbuf p : ℕ) → IsLaid w → IsBounded w p → (r : Receiver) → StandsFor (known_of w fin rbuf) r → true ≡ is_free_from r.cells p
 is_free w fin rbuf p laid bounded r h =
     let next : w.next ≤ p = bounded.next in
-    sym (ap not (false_from_ne_true (list_any is_some (drop p r.cells)) (λ e.
-      let some = filled_cell (drop p r.cells) e in
-      let q = p + some.at in
-      let filled : is_some (held r.cells q) ≡ true = ap is_some (sym (get_or-drop p r.cells some.at None)) ∙ some.filled in
-      let cell : held r.cells q ≡ cell_at w q = receiver_cell w fin rbuf laid r h q (omega arith) in
-      let empty : is_some (cell_at w q) ≡ false = some_of_cond (is_accepted w.next w.runs.items q) (byte_at w q) ∙ bounded_cell w p q bounded (omega arith) in
-      true≢false (sym filled ∙ ap is_some cell ∙ empty))))
+    free_cells r.cells p (λ k l within.
+      ap is_some (receiver_cell w fin rbuf laid r h k (omega arith))
+      ∙ some_of_cond (is_accepted w.next w.runs.items k) (byte_at w k) ∙ bounded_cell w p k bounded (omega arith))
 
 pub is_taken : (w : Window) (fin : Option ℕ) (rbuf p q : ℕ) → IsLaid w → p ≤ q → is_accepted w.next w.runs.items q ≡ true → (r : Receiver) → StandsFor (known_of w fin rbuf) r → false ≡ is_free_from r.cells p
 is_taken w fin rbuf p q laid l accepted r h =
@@ -48,14 +67,7 @@ is_taken w fin rbuf p q laid l accepted r h =
       (λ (b : q < w.next). below_next r.cells q (omega arith))
       (λ (b : w.next ≤ q). ap is_some (receiver_cell w fin rbuf laid r h q (omega arith)) ∙ some_of_cond (is_accepted w.next w.runs.items q) (byte_at w q) ∙ accepted)
       (cases_lt q w.next) in
-    let within : q < length r.cells = ⊎_elim
-      (λ (b : q < length r.cells). b)
-      (λ (b : length r.cells ≤ q). absurd (true≢false (sym filled ∙ ap is_some (held_past r.cells q b))))
-      (cases_lt q (length r.cells)) in
-    let len : length (drop p r.cells) ≡ length r.cells - p = length-drop p r.cells in
-    let back : p + (q - p) ≡ q = omega arith in
-    let there : is_some (get_or (drop p r.cells) (q - p) None) ≡ true = ap is_some (get_or-drop p r.cells (q - p) None ∙ ap (held r.cells) back) ∙ filled in
-    sym (ap not (list_any_at is_some (drop p r.cells) (q - p) None (omega arith) there))
+    taken_cell_at r.cells p q l filled
 
 -- the answer is the model's
 pub note_is : (r : Receiver) (q : ℤ) (p edge : ℕ) (fin : Option ℕ) (free : Bool) → natural_of q ≡ Some p → fin ≡ r.fin → free ≡ is_free_from r.cells p → note_with fin p edge free ≡ note_of r q edge

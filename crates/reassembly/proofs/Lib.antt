@@ -13,3 +13,4 @@ pub mod Fins
 pub mod KeptRuns
 pub mod KeptBytes
 pub mod KeptPieces
+pub mod Plains

@@ -66,7 +66,7 @@ whole_same old new fin rbuf same h =
       fin = λ f e. let b = h.fin f e in record { next = rw next b.next; runs = rw same.runs b.runs } }
 
 -- the bytes from the cut on are those at or above position 0
-cut_bytes : (below cut : ℕ) (bytes : List ℕ) → cut ≡ min below (length bytes) → take (length bytes - cut) (drop cut bytes) ≡ drop below bytes
+pub cut_bytes : (below cut : ℕ) (bytes : List ℕ) → cut ≡ min below (length bytes) → take (length bytes - cut) (drop cut bytes) ≡ drop below bytes
 cut_bytes below cut bytes e = take_rest bytes cut ∙ ap (λ n. drop n bytes) e ∙ drop_min below bytes
 
 pub stream_stands : (w n : Window) (fin : Option ℕ) (rbuf : ℕ) (d : ℤ) (bytes : List ℕ) (policy : Policy) (position below cut : ℕ)

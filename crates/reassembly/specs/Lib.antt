@@ -8,3 +8,4 @@ pub mod Runs
 pub mod Laying
 pub mod Window
 pub mod Steps
+pub mod Plain

@@ -9,12 +9,15 @@ mod answers;
 mod fin;
 mod laying;
 mod pieces;
+mod plain;
 mod runs;
+mod start;
 mod stream;
 mod window;
 
 pub use answers::{FinNote, Placed, Policy};
 pub use pieces::Pieces;
+pub use plain::PlainReceiver;
 pub use stream::Stream;
 
 #[cfg(test)]

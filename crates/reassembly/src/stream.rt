@@ -1,12 +1,13 @@
 // A stream: its buffer, its FIN, and the size of its receive buffer.
 ghost use Rattle.std.specs.Prelude.{◌≡◌, ℕ, ◌+◌, ◌-◌, ◌<◌, ◌≤◌, ◌^◌, ℤ, pos, ◌+ℤ◌, neg_ℤ, ◌≤ℤ◌, ◌<ℤ◌, ◌++◌, min, length, drop, OnOk, OnErr, IfOk, Option, None};
-ghost use Rattle.reassembly.specs.Receiver.{Receiver, no_bytes, next_of, kept, low_of, limit_of};
+ghost use Rattle.reassembly.specs.Receiver.{Receiver, no_bytes, next_of, kept, low_of};
 ghost use Rattle.reassembly.specs.Kept.{bytes_from, runs_from};
-ghost use Rattle.reassembly.specs.Segment.{accept, counts, from_zero, below_zero};
+ghost use Rattle.reassembly.specs.Segment.{accept, counts};
 ghost use Rattle.reassembly.specs.Fin.{note_of, noted};
 ghost use Rattle.reassembly.specs.Known.{StandsFor};
 
 use crate::fin::{judge, natural, noted_after};
+use crate::start::{limit, start_of};
 use crate::window::Window;
 use crate::{FinNote, Pieces, Placed, Policy};
 use std::alloc::{AllocError, Global};
@@ -33,46 +34,6 @@ impl Model for Stream {
     ghost view = { λ s. known_of s.window s.fin s.rbuf };
 
     ghost invariant = { λ s. IsWhole s.window s.fin s.rbuf };
-}
-
-/// Where a segment begins: its first position at or above 0, and how many positions it has below 0.
-#[derive(Clone, Copy)]
-struct Start {
-    position: u64,
-    below: u64,
-}
-
-fn start_of(next: u64, d: i64) -> Start
-    requires next { next ≤ 2 ^ 62 }
-    requires from { neg_ℤ (pos (2 ^ 31)) ≤ℤ d }
-    requires to { d <ℤ pos (2 ^ 31) }
-    ensures position { result.position ≡ from_zero (pos next +ℤ d) }
-    ensures below { result.below ≡ below_zero (pos next +ℤ d) }
-    ensures reach { result.position < 2 ^ 62 + 2 ^ 31 }
-{
-    let start = next as i64 + d;
-    if start < 0 {
-        return Start {
-            position: 0,
-            below: start.unsigned_abs(),
-        };
-    }
-    Start {
-        position: start as u64,
-        below: 0,
-    }
-}
-
-/// The first position that isn't accepted: the end of the receive window, or a FIN below it.
-fn limit(next: u64, fin: Option<u64>, rbuf: u32) -> u64
-    requires { next + rbuf < 2 ^ 63 }
-    ensures { result ≡ limit_of next fin rbuf }
-{
-    let end = next + u64::from(rbuf);
-    match fin {
-        Some(fin) => fin.min(end),
-        None => end,
-    }
 }
 
 impl Stream {
