@@ -24,7 +24,8 @@ pub struct Call {
     pub got: u32,
 }
 
-/// What an application keeps of one connection.
+/// What an application keeps of one connection: eight numbers, which mean what the application's
+/// fields say. Sums in them are modulo 2^64.
 #[derive(Clone, Copy, Debug, PartialEq, Eq)]
 pub struct Tally {
     pub t0: u64,
