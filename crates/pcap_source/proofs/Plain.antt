@@ -17,12 +17,12 @@ pub record Cutting (order : Order) (bytes : List ℕ) (frames : List Captured) (
   pub place : offset + length rest ≡ 24 + length bytes
   pub few : allowed ≤ 1048576
 
-frames_from-step : (order : Order) (n offset : ℕ) (bytes : List ℕ) → is_whole order bytes ≡ true
+pub frames_from-step : (order : Order) (n offset : ℕ) (bytes : List ℕ) → is_whole order bytes ≡ true
     → frames_from order (suc n) offset bytes ≡ with_frame (record_at order bytes) (frames_from order n (offset + record_length order bytes) (drop (record_length order bytes) bytes))
 unfolding frames_from
 frames_from-step order n offset bytes whole = rw whole refl
 
-frames_from-last : (order : Order) (n offset : ℕ) (bytes : List ℕ) → (0 < n → is_whole order bytes ≡ false)
+pub frames_from-last : (order : Order) (n offset : ℕ) (bytes : List ℕ) → (0 < n → is_whole order bytes ≡ false)
     → frames_from order n offset bytes ≡ ended (ending_of order n offset bytes)
 unfolding frames_from
 frames_from-last order zero offset bytes none = refl
@@ -59,7 +59,7 @@ split_record order rest whole head body fits is front back =
     ap (λ h. record_of order h body) (front ∙ ap (take 16) is ∙ front_is)
     ∙ ap (λ b. record_of order (take 16 rest) b) (back ∙ ap (drop 16) is ∙ drop-take 16 captured rest)
 
-whole_fits : (order : Order) (bytes : List ℕ) → is_whole order bytes ≡ true → record_length order bytes ≤ length bytes
+pub whole_fits : (order : Order) (bytes : List ℕ) → is_whole order bytes ≡ true → record_length order bytes ≤ length bytes
 whole_fits order bytes whole = grind (arith, nat_tests)
 
 -- one turn of the loop

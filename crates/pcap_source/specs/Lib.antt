@@ -1,4 +1,5 @@
 pub mod Captured
 pub mod Capture
+pub mod Laws
 pub mod Order
 pub mod Reading

@@ -8,6 +8,7 @@ mod capture;
 mod errors;
 mod frame;
 mod header;
+mod laws;
 mod order;
 #[cfg(test)]
 mod tests;
@@ -16,4 +17,5 @@ mod write;
 pub use capture::{CAPTURED_LIMIT, Capture, RECORD_LIMIT, Step};
 pub use errors::{CaptureFault, NextError, OpenError};
 pub use frame::Frame;
+pub use laws::records_are_the_longest_front;
 pub use order::Order;

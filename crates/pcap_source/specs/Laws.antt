@@ -1,0 +1,21 @@
+-- What the definition of a capture means, in the words of the subject.
+use Rattle.std.specs.Prelude.{◌≡◌, ℕ, ◌+◌, ◌-◌, ◌<◌, ◌≤◌, List, [], ◌∷◌, ◌++◌, length, false, All}
+use Rattle.pcap_source.specs.Captured.{Captured}
+use Rattle.pcap_source.specs.Capture.{Frames, ending_of, is_whole}
+use Rattle.pcap_source.specs.Reading.{IsRecord}
+use Rattle.pcap_source.specs.declared.order.Order.{Order}
+
+-- records as they stand in a capture, one after another
+abbrev pub written : List Captured → List ℕ
+written [] = []
+written (frame ∷ frames) = frame.head ++ (frame.bytes ++ written frames)
+
+-- these bytes, of which n records are allowed, are the records and a rest: each record is whole, no further one stands
+-- at the front of the rest where one more is allowed, and it is the rest that says how the capture ends
+pub record IsLongestFront (order : Order) (n offset : ℕ) (bytes : List ℕ) (cut : Frames) : Type 0 where
+  pub rest : List ℕ
+  pub parts : bytes ≡ written cut.frames ++ rest
+  pub whole : All (IsRecord order) cut.frames
+  pub few : length cut.frames ≤ n
+  pub longest : length cut.frames < n → is_whole order rest ≡ false
+  pub ending : cut.ending ≡ ending_of order (n - length cut.frames) (offset + length (written cut.frames)) rest
