@@ -44,6 +44,7 @@ impl FlowSocket {
     ghost use Rattle.flow_socket.specs.Direction.{acks_syn, acks_fin, is_finished, placed_in, is_fin_refused, is_in_window};
     ghost use Rattle.flow_socket.specs.Emulation.{Emulation, fresh, sent, sent_answer, received, got_of, direction_of, with_direction, taken_by};
     ghost use Rattle.flow_socket.specs.Peek.{peeked, bytes_peeked, after_peek, runs_at};
+    ghost use Rattle.reassembly.specs.Known.{StandsFor};
     ghost use Rattle.flow_socket.specs.Known.{SocketStandsFor, known_at, next_at};
 
     /// The socket of a connection before its first packet. Each receiver's buffer has `rbuf` bytes,
@@ -191,7 +192,9 @@ impl FlowSocket {
 
     /// The stream of the bytes that `from` sends, as the other end accepts them.
     pub fn stream(&self, from: Side) -> &Stream
-        ensures { result.now ≡ (known_at from self.now).stream }
+        ensures known { result.now ≡ (known_at from self.now).stream }
+        ensures stands { (e : Emulation) → SocketStandsFor self.now e → StandsFor result.now (direction_of from e).receiver }
+        ensures rbuf { (e : Emulation) → SocketStandsFor self.now e → result.now.rbuf ≡ e.rbuf }
     {
         match from {
             Side::Client => &self.client.stream,

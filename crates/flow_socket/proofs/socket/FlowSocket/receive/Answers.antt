@@ -19,13 +19,13 @@ returns-clause-stands c e s =
     (c.step_receiver-change.ensures.stands _ (c.in_ok-taken.ensures.stands e s))
 
 next_before : (c : goal.After-is_over) (e : Emulation) → SocketStandsFor c.args.self.now e → c.next-before.result ≡ next_in (direction_of c.args.from e)
-next_before c e s = c.next-before.ensures ∙ (ap (λ k. k.next) c.stream.ensures ∙ next_is c.args.from c.args.self.now e s)
+next_before c e s = c.next-before.ensures ∙ (ap (λ k. k.next) c.stream.ensures.known ∙ next_is c.args.from c.args.self.now e s)
 
 next_after : (c : goal.After-is_over) (e : Emulation) → SocketStandsFor c.args.self.now e →
     c.next-next.result ≡ next_in (taken_by c.args.from c.args.h.now c.args.payload.now e)
 next_after c e s =
     c.next-next.ensures
-    ∙ (ap (λ k. k.next) c.stream-2.ensures
+    ∙ (ap (λ k. k.next) c.stream-2.ensures.known
     ∙ (next_is c.args.from c.step_receiver-change.new.self (received c.args.from c.args.h.now c.args.payload.now e) (returns-clause-stands c e s)
     ∙ ap next_in (direction_of-received c.args.from c.args.h.now c.args.payload.now e)))
 
