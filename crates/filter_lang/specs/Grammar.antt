@@ -7,7 +7,7 @@
 -- A place is what stands before it. For each place and token, `next` says whether a filter goes on with
 -- that token, and what stands before the next one; else why not. The first token with which none goes on
 -- is refused, at its offset.
-use Rattle.std.specs.Prelude.{ℕ, zero, suc, ◌+◌, if◌then◌else◌, nat_lt, List, [], ◌∷◌, ◌++◌, Option, Some, None, Result, Ok, Err}
+use Rattle.std.specs.Prelude.{◌≡◌, ℕ, zero, suc, ◌+◌, if◌then◌else◌, nat_lt, List, [], ◌∷◌, ◌++◌, Option, Some, None, Result, Ok, Err}
 use Rattle.filter_lang.specs.declared.error.FilterError.{FilterError}
 use Rattle.filter_lang.specs.declared.error.FilterError.TheVariants.{Syntax, UnknownName, BigNumber, TooDeep}
 use Rattle.filter_lang.specs.declared.term.Atom.{Atom}
@@ -185,3 +185,15 @@ going k (stop refusal) = None
 abbrev pub place_behind : List Placed → Place → Option Place
 place_behind [] p = Some p
 place_behind (t ∷ ts) p = going (place_behind ts) (next p t.token)
+
+-- a refusal is made at a token behind others with which a filter goes on
+pub record IsRefused (ts : List Placed) (p : Place) (e : FilterError) : Type 0 where
+  pub before : List Placed
+  pub token : Placed
+  pub after : List Placed
+  pub place : Place
+  pub refusal : ℕ → FilterError
+  pub whole : ts ≡ before ++ token ∷ after
+  pub goes_on : place_behind before p ≡ Some place
+  pub stops : next place token.token ≡ stop refusal
+  pub error : e ≡ refusal token.at
