@@ -1,0 +1,136 @@
+#!/usr/bin/env python3
+"""Writes captures for measuring: captures.py KIND COUNT > FILE.
+
+KIND is one of
+  flows   COUNT packets in COUNT / 10 connections, none of which ends: in groups of 16 connections a SYN, a SYN+ACK and
+          then 8 segments of 0 to 63 bytes from either side.
+  pages   COUNT / 10 connections of 10 packets: handshake, a request of 64 bytes, an answer of 200 bytes whose segments
+          come in the wrong order and once again, and both FINs. Groups of 16 connections.
+  long    8 connections that share COUNT packets: after the handshakes segments of 1,000 bytes from the server.
+All are classic pcap, big-endian, microseconds, Ethernet, IPv4 and TCP without options.
+"""
+import functools
+import struct
+import sys
+
+HEADER = struct.pack(">IHHIIII", 0xA1B2C3D4, 2, 4, 0, 0, 65535, 1)
+TO_SERVER = bytes.fromhex("020000000002" "020000000001" "0800")
+TO_CLIENT = bytes.fromhex("020000000001" "020000000002" "0800")
+SERVER = (0xC0000201, 80)
+SYN, SYN_ACK, ACK, PUSH, FIN = 0x02, 0x12, 0x10, 0x18, 0x11
+WORD = 0xFFFFFFFF
+GROUP = 16
+
+
+class Out:
+    """Counts the packets, whose number gives their time."""
+
+    def __init__(self, file):
+        self.file = file
+        self.number = 0
+        file.write(HEADER)
+
+    def packet(self, source, destination, flags, seq, ack, payload=b""):
+        size = 54 + len(payload)
+        time = divmod(self.number, 1000)
+        ethernet = TO_SERVER if destination == SERVER else TO_CLIENT
+        self.file.write(
+            struct.pack(">IIII", time[0], time[1] * 1000, size, size)
+            + ethernet
+            + struct.pack(">BBHHHBBHII", 0x45, 0, size - 14, 0, 0x4000, 64, 6, 0, source[0], destination[0])
+            + struct.pack(">HHIIBBHHH", source[1], destination[1], seq & WORD, ack & WORD, 0x50, flags, 0xFFFF, 0, 0)
+            + payload
+        )
+        self.number += 1
+
+
+def client_of(c):
+    return (0x0A000001 + c, 1024 + c % 60000)
+
+
+def numbers_of(c):
+    """The SYN numbers of client and server."""
+    return c * 2654435761 & WORD, c * 2654435761 + 2**31 & WORD
+
+
+def in_groups(out, connections, steps, packet):
+    for first in range(0, connections, GROUP):
+        for step in range(steps):
+            for c in range(first, min(first + GROUP, connections)):
+                packet(out, c, step)
+
+
+def flow_packet(out, c, step):
+    client, (i, j) = client_of(c), numbers_of(c)
+    sent = bytes(range(c % 64))
+    if step == 0:
+        out.packet(client, SERVER, SYN, i, 0)
+    elif step == 1:
+        out.packet(SERVER, client, SYN_ACK, j, i + 1)
+    elif step % 2 == 0:
+        out.packet(client, SERVER, PUSH, i + 1 + (step // 2 - 1) * len(sent), j + 1, sent)
+    else:
+        out.packet(SERVER, client, ACK, j + 1, i + 1 + (step // 2) * len(sent))
+
+
+@functools.cache
+def asked_of(first):
+    return bytes((first + p) % 256 for p in range(64))
+
+
+@functools.cache
+def answered_of(first):
+    """Two segments of an answer."""
+    answer = bytes((first + 3 * p) % 256 for p in range(200))
+    return answer[:100], answer[100:]
+
+
+def page_packet(out, c, step):
+    client, (i, j) = client_of(c), numbers_of(c)
+    asked, (low, high) = asked_of(c % 256), answered_of(c % 256)
+    match step:
+        case 0:
+            out.packet(client, SERVER, SYN, i, 0)
+        case 1:
+            out.packet(SERVER, client, SYN_ACK, j, i + 1)
+        case 2:
+            out.packet(client, SERVER, ACK, i + 1, j + 1)
+        case 3:
+            out.packet(client, SERVER, PUSH, i + 1, j + 1, asked)
+        case 4:
+            out.packet(SERVER, client, PUSH, j + 101, i + 65, high)
+        case 5 | 6:
+            out.packet(SERVER, client, PUSH, j + 1, i + 65, low)
+        case 7:
+            out.packet(client, SERVER, FIN, i + 65, j + 201)
+        case 8:
+            out.packet(SERVER, client, FIN, j + 201, i + 66)
+        case _:
+            out.packet(client, SERVER, ACK, i + 66, j + 202)
+
+
+def long_packet(out, c, step):
+    client, (i, j) = client_of(c), numbers_of(c)
+    if step == 0:
+        out.packet(client, SERVER, SYN, i, 0)
+    elif step == 1:
+        out.packet(SERVER, client, SYN_ACK, j, i + 1)
+    else:
+        out.packet(SERVER, client, PUSH, j + 1 + (step - 2) * 1000, i + 1, bytes(1000))
+
+
+def main():
+    if len(sys.argv) != 3 or sys.argv[1] not in ("flows", "pages", "long"):
+        sys.exit(__doc__)
+    kind, count = sys.argv[1], int(sys.argv[2])
+    out = Out(sys.stdout.buffer)
+    if kind == "flows":
+        in_groups(out, count // 10, 10, flow_packet)
+    elif kind == "pages":
+        in_groups(out, count // 10, 10, page_packet)
+    else:
+        in_groups(out, 8, count // 8, long_packet)
+
+
+if __name__ == "__main__":
+    main()
