@@ -1,7 +1,8 @@
 -- The steps of a dotted address.
 use Rattle.std.proofs.Common.{◌≡◌, ℕ, zero, suc, ◌+◌, ◌-◌, ◌*◌, ◌^◌, ◌<◌, List, drop, take, take_all, length, length-drop, false, refl, arith}
 use Rattle.filter_lang.specs.declared.token.Token.TheVariants.{Quad, Bad}
-use Rattle.filter_lang.specs.Tokens.{lexeme, quad_from, is_dotted, is_part, last_part_len, IsDottedPart, IsLastPart}
+use Rattle.filter_lang.specs.Parts.{IsDottedPart, IsLastPart}
+use Rattle.filter_lang.specs.Tokens.{lexeme, quad_from, is_dotted, is_part, last_part_len}
 
 -- the slice from an offset on
 pub from_offset : (bs : List ℕ) (n : ℕ) → take (length bs - n) (drop n bs) ≡ drop n bs

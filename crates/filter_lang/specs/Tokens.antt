@@ -1,5 +1,5 @@
 -- The tokens of a filter's text: the longest that fit, one after another, with blanks and tabs between.
-use Rattle.std.specs.Prelude.{◌≡◌, ℕ, ◌<◌, ◌≤◌, zero, suc, ◌+◌, ◌-◌, ◌*◌, ◌^◌, min, Bool, true, ◌&&◌, ◌||◌, ◌==◌, if◌then◌else◌, nat_lt, nat_eq, List, [], ◌∷◌, length, take, drop, slice_index, codes}
+use Rattle.std.specs.Prelude.{ℕ, zero, suc, ◌+◌, ◌-◌, ◌*◌, ◌^◌, min, Bool, ◌&&◌, ◌||◌, ◌==◌, if◌then◌else◌, nat_lt, nat_eq, List, [], ◌∷◌, length, take, drop, slice_index, codes}
 use Rattle.std.specs.Char.{is_ascii_digit, is_ascii_hexdigit, is_ascii_lowercase}
 use Rattle.std.specs.List.{prefix_len, starts_with}
 use Rattle.std.specs.Str.{bytes_eq}
@@ -84,27 +84,6 @@ quad_from (suc parts) value len bs =
     if is_dotted bs
     then quad_from parts (value * 256 + digits_value 10 (take n bs)) (len + (n + 1)) (drop (n + 1) bs)
     else lexeme Bad 1
-
--- what the code finds of the parts
-pub record IsPart (ds : List ℕ) (number : ℕ) : Type 0 where
-  pub part : is_part ds ≡ true
-  pub value : number ≡ digits_value 10 ds
-  pub small : number < 256
-
-pub record IsDottedPart (bs : List ℕ) (number len : ℕ) : Type 0 where
-  pub dotted : is_dotted bs ≡ true
-  pub value : number ≡ digits_value 10 (take (prefix_len is_ascii_digit bs) bs)
-  pub small : number < 256
-  pub taken : len ≡ prefix_len is_ascii_digit bs + 1
-  pub within : len ≤ length bs
-
-pub record IsLastPart (bs : List ℕ) (number len : ℕ) : Type 0 where
-  pub part : is_part (take (last_part_len bs) bs) ≡ true
-  pub value : number ≡ digits_value 10 (take (last_part_len bs) bs)
-  pub small : number < 256
-  pub taken : len ≡ last_part_len bs
-  pub some : 0 < len
-  pub within : len ≤ length bs
 
 -- decimal digits: a number, or the dotted form of an address where a dot follows them
 abbrev pub decimal_at : List ℕ → Lexeme

@@ -5,7 +5,8 @@ ghost use Rattle.std.specs.Char.{digit_value, is_ascii_digit, is_ascii_hexdigit,
 ghost use Rattle.std.specs.List.{prefix_len};
 ghost use Rattle.std.specs.Str.{bytes_eq};
 ghost use Rattle.std.specs.Str.Parse.{digits_value};
-ghost use Rattle.filter_lang.specs.Tokens.{is_blank, lexeme, fact_token, fact_names, word_token, name_at, numeral_token, begins_hex, hex_at, is_part, last_part_len, is_dotted, IsPart, IsDottedPart, IsLastPart, quad_from, decimal_at, number_at, short_sign_at, sign_at, token_at};
+ghost use Rattle.filter_lang.specs.Parts.{IsPart, IsDottedPart, IsLastPart};
+ghost use Rattle.filter_lang.specs.Tokens.{is_blank, lexeme, fact_token, fact_names, word_token, name_at, numeral_token, begins_hex, hex_at, is_part, last_part_len, is_dotted, quad_from, decimal_at, number_at, short_sign_at, sign_at, token_at};
 
 use crate::term::{Join, Op};
 use crate::token::Token;

@@ -1,6 +1,7 @@
 use Rattle.std.proofs.Common.{◌≡◌, ◌<◌, take, ◌+◌, ◌-◌, ◌*◌, ◌^◌, suc, drop, length-drop, false, ap, sym, ◌∙◌, subst, arith}
 use Rattle.std.proofs.lemmas.List.{drop-drop}
-use Rattle.filter_lang.specs.Tokens.{quad_from, is_dotted, is_part, last_part_len, IsDottedPart, IsLastPart}
+use Rattle.filter_lang.specs.Parts.{IsDottedPart, IsLastPart}
+use Rattle.filter_lang.specs.Tokens.{quad_from, is_dotted, is_part, last_part_len}
 use Rattle.filter_lang.proofs.Quads.{quad_from-dotted, quad_from-undotted, quad_from-last, quad_from-unended, fits_step, from_offset}
 use Rattle.filter_lang.proofs.lexeme.quad_at.Goals as goal
 
