@@ -32,7 +32,7 @@ at_next cells = ⊎_elim
 pub next_is : (cells : List (Option ℕ)) (n : ℕ) → ((p : ℕ) → p < n → is_some (held cells p) ≡ true) → is_some (held cells n) ≡ false → next_of cells ≡ n
 next_is cells n filled empty = prefix_len_is is_some cells n None
     (⊎_elim
-        (λ (l : length cells < n). absurd (true≢false (sym (filled (length cells) l) ∙ ap is_some (held_past cells (length cells) (omega arith)))))
-        (λ (l : n ≤ length cells). l)
-        (cases_lt (length cells) n))
+    (λ (l : length cells < n). absurd (true≢false (sym (filled (length cells) l) ∙ ap is_some (held_past cells (length cells) (omega arith)))))
+    (λ (l : n ≤ length cells). l)
+    (cases_lt (length cells) n))
     filled (λ l. empty)

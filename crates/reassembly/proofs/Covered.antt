@@ -11,7 +11,7 @@ use Rattle.reassembly.specs.Runs.{run_at, covers, is_covered, AreOrdered, IsCurs
 pub covered_by : (runs : List Run) (k p : ℕ) → k < length runs → (run_at runs k).start ≤ p → p < (run_at runs k).end → is_covered runs p ≡ true
 covered_by runs k p within from below =
     list_any_at (covers p) runs k (record { start = 0; end = 0 }) within
-      (and_from (leb (run_at runs k).start p) (ltb p (run_at runs k).end) (le-leb (run_at runs k).start p from) (lt-ltb p (run_at runs k).end below))
+    (and_from (leb (run_at runs k).start p) (ltb p (run_at runs k).end) (le-leb (run_at runs k).start p from) (lt-ltb p (run_at runs k).end below))
 
 -- the run that has it
 pub record HasRun (runs : List Run) (p : ℕ) : Type 0 where
@@ -24,11 +24,11 @@ pub covering : (runs : List Run) (p : ℕ) → is_covered runs p ≡ true → Ha
 covering [] p e = absurd (cc e)
 covering (run ∷ runs) p e = ⊎_elim
     (λ (here : covers p run ≡ true).
-      let both = and_parts (leb run.start p) (ltb p run.end) here in
-      record { at = 0; within = omega arith; from = leb-true run.start p both.0; below = ltb-true p run.end both.1 })
+    let both = and_parts (leb run.start p) (ltb p run.end) here in
+    record { at = 0; within = omega arith; from = leb-true run.start p both.0; below = ltb-true p run.end both.1 })
     (λ (there : is_covered runs p ≡ true).
-      let h = covering runs p there in
-      record { at = suc h.at; within = let w : h.at < length runs = h.within in omega arith; from = h.from; below = h.below })
+    let h = covering runs p there in
+    record { at = suc h.at; within = let w : h.at < length runs = h.within in omega arith; from = h.from; below = h.below })
     (or_cases (covers p run) (is_covered runs p) e)
 
 pub uncovered : (runs : List Run) (p : ℕ) → (HasRun runs p → ⊥) → is_covered runs p ≡ false
@@ -38,20 +38,20 @@ uncovered runs p none = false_from_ne_true (is_covered runs p) (λ e. none (cove
 pub in_gap : (runs : List Run) (k from p : ℕ) → AreOrdered runs → IsCursor runs k from → from ≤ p → (k < length runs → p < (run_at runs k).start) → is_covered runs p ≡ false
 in_gap runs k from p ordered cursor low gap = uncovered runs p (λ h. ⊎_elim
     (λ (l : h.at < k).
-      let e : (run_at runs h.at).end ≤ from = cursor.before h.at l in
-      let b : p < (run_at runs h.at).end = h.below in
-      omega arith)
+    let e : (run_at runs h.at).end ≤ from = cursor.before h.at l in
+    let b : p < (run_at runs h.at).end = h.below in
+    omega arith)
     (λ (l : k ≤ h.at).
-      let w : h.at < length runs = h.within in
-      let f : (run_at runs h.at).start ≤ p = h.from in
-      let g : p < (run_at runs k).start = gap (omega arith) in
-      ⊎_elim
-        (λ (same : k ≡ h.at). let s : (run_at runs k).start ≡ (run_at runs h.at).start = ap (λ j. (run_at runs j).start) same in omega arith)
-        (λ (other : k ≡ h.at → ⊥).
-          let a : (run_at runs k).end < (run_at runs h.at).start = ordered.apart k h.at (omega arith) w in
-          let f2 : (run_at runs k).start < (run_at runs k).end = ordered.filled k (omega arith) in
-          omega arith)
-        (cases_eq k h.at))
+    let w : h.at < length runs = h.within in
+    let f : (run_at runs h.at).start ≤ p = h.from in
+    let g : p < (run_at runs k).start = gap (omega arith) in
+    ⊎_elim
+    (λ (same : k ≡ h.at). let s : (run_at runs k).start ≡ (run_at runs h.at).start = ap (λ j. (run_at runs j).start) same in omega arith)
+    (λ (other : k ≡ h.at → ⊥).
+    let a : (run_at runs k).end < (run_at runs h.at).start = ordered.apart k h.at (omega arith) w in
+    let f2 : (run_at runs k).start < (run_at runs k).end = ordered.filled k (omega arith) in
+    omega arith)
+    (cases_eq k h.at))
     (cases_lt h.at k))
 
 -- ends rise with the index
@@ -59,18 +59,18 @@ pub ends_rise : (runs : List Run) (j k : ℕ) → AreOrdered runs → j ≤ k �
 ends_rise runs j k ordered l w = ⊎_elim
     (λ (same : j ≡ k). let e : (run_at runs j).end ≡ (run_at runs k).end = ap (λ i. (run_at runs i).end) same in omega arith)
     (λ (other : j ≡ k → ⊥).
-      let a : (run_at runs j).end < (run_at runs k).start = ordered.apart j k (omega arith) w in
-      let f : (run_at runs k).start < (run_at runs k).end = ordered.filled k w in
-      omega arith)
+    let a : (run_at runs j).end < (run_at runs k).start = ordered.apart j k (omega arith) w in
+    let f : (run_at runs k).start < (run_at runs k).end = ordered.filled k w in
+    omega arith)
     (cases_eq j k)
 
 pub starts_rise : (runs : List Run) (j k : ℕ) → AreOrdered runs → j ≤ k → k < length runs → (run_at runs j).start ≤ (run_at runs k).start
 starts_rise runs j k ordered l w = ⊎_elim
     (λ (same : j ≡ k). let e : (run_at runs j).start ≡ (run_at runs k).start = ap (λ i. (run_at runs i).start) same in omega arith)
     (λ (other : j ≡ k → ⊥).
-      let a : (run_at runs j).end < (run_at runs k).start = ordered.apart j k (omega arith) w in
-      let f : (run_at runs j).start < (run_at runs j).end = ordered.filled j (omega arith) in
-      omega arith)
+    let a : (run_at runs j).end < (run_at runs k).start = ordered.apart j k (omega arith) w in
+    let f : (run_at runs j).start < (run_at runs j).end = ordered.filled j (omega arith) in
+    omega arith)
     (cases_eq j k)
 
 -- a cursor stays right up to the end of its run
@@ -78,7 +78,8 @@ pub cursor_stays : (runs : List Run) (k from end : ℕ) → AreOrdered runs → 
 cursor_stays runs k from end ordered cursor w l below = record {
   within = cursor.within;
   before = λ j b. let e : (run_at runs j).end ≤ from = cursor.before j b in omega arith;
-  after = λ j b wj. let e : (run_at runs k).end ≤ (run_at runs j).end = ends_rise runs k j ordered b wj in omega arith }
+  after = λ j b wj. let e : (run_at runs k).end ≤ (run_at runs j).end = ends_rise runs k j ordered b wj in omega arith;
+}
 
 -- and the next one is right from there on
 pub cursor_next : (runs : List Run) (k from : ℕ) → AreOrdered runs → IsCursor runs k from → k < length runs → from ≤ (run_at runs k).end → IsCursor runs (k + 1) (run_at runs k).end
@@ -86,9 +87,10 @@ cursor_next runs k from ordered cursor w l = record {
   within = omega arith;
   before = λ j b. ends_rise runs j k ordered (omega arith) w;
   after = λ j b wj.
-    let a : (run_at runs k).end < (run_at runs j).start = ordered.apart k j (omega arith) wj in
-    let f : (run_at runs j).start < (run_at runs j).end = ordered.filled j wj in
-    omega arith }
+      let a : (run_at runs k).end < (run_at runs j).start = ordered.apart k j (omega arith) wj in
+      let f : (run_at runs j).start < (run_at runs j).end = ordered.filled j wj in
+      omega arith;
+}
 
 -- the last run ends last, and its last position is covered
 pub last_run : (xs runs : List Run) (run : Run) → Some run ≡ slice_get xs (length xs - 1) → xs ≡ runs → (0 < length runs) × (run ≡ run_at runs (length runs - 1))

@@ -57,16 +57,16 @@ pub is_free : (w : Window) (fin : Option ℕ) (rbuf p : ℕ) → IsLaid w → Is
 is_free w fin rbuf p laid bounded r h =
     let next : w.next ≤ p = bounded.next in
     free_cells r.cells p (λ k l within.
-      ap is_some (receiver_cell w fin rbuf laid r h k (omega arith))
-      ∙ some_of_cond (is_accepted w.next w.runs.items k) (byte_at w k) ∙ bounded_cell w p k bounded (omega arith))
+    ap is_some (receiver_cell w fin rbuf laid r h k (omega arith))
+    ∙ some_of_cond (is_accepted w.next w.runs.items k) (byte_at w k) ∙ bounded_cell w p k bounded (omega arith))
 
 pub is_taken : (w : Window) (fin : Option ℕ) (rbuf p q : ℕ) → IsLaid w → p ≤ q → is_accepted w.next w.runs.items q ≡ true → (r : Receiver) → StandsFor (known_of w fin rbuf) r → false ≡ is_free_from r.cells p
 is_taken w fin rbuf p q laid l accepted r h =
     let next : w.next ≡ next_of r.cells = h.next in
     let filled : is_some (held r.cells q) ≡ true = ⊎_elim
-      (λ (b : q < w.next). below_next r.cells q (omega arith))
-      (λ (b : w.next ≤ q). ap is_some (receiver_cell w fin rbuf laid r h q (omega arith)) ∙ some_of_cond (is_accepted w.next w.runs.items q) (byte_at w q) ∙ accepted)
-      (cases_lt q w.next) in
+    (λ (b : q < w.next). below_next r.cells q (omega arith))
+    (λ (b : w.next ≤ q). ap is_some (receiver_cell w fin rbuf laid r h q (omega arith)) ∙ some_of_cond (is_accepted w.next w.runs.items q) (byte_at w q) ∙ accepted)
+    (cases_lt q w.next) in
     taken_cell_at r.cells p q l filled
 
 -- the answer is the model's
@@ -88,7 +88,8 @@ unfolding noted
 stands_noted s n r q edge h next cells rbuf fin = record {
   next = next ∙ h.next;
   fin = fin;
-  cells = λ p. ap (λ c. held c p) cells ∙ h.cells p ∙ ap (λ b. kept r.cells b p) (sym rbuf) }
+  cells = λ p. ap (λ c. held c p) cells ∙ h.cells p ∙ ap (λ b. kept r.cells b p) (sym rbuf);
+}
 
 pub fin_is : (r : Receiver) (q : ℤ) (p : ℕ) (fin : Option ℕ) (note : FinNote) → natural_of q ≡ Some p → fin ≡ r.fin → fin_with fin p note ≡ fin_after r q note
 fin_is r (pos x) p fin answer e f = let same : x ≡ p = cc e in rw (f, same) refl

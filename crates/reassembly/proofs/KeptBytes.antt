@@ -31,8 +31,8 @@ bytes_are at (x ∷ xs) zero p l here stops = absurd (omega arith)
 bytes_are at (x ∷ xs) (suc n) p l here stops =
     let first : at p ≡ Some x = ap at (sym (add-zero p)) ∙ here 0 (omega arith) in
     let rest : bytes_from at (p + 1) n ≡ xs = bytes_are at xs n (p + 1) (omega arith)
-      (λ i b. ap at (let e : p + 1 + i ≡ p + suc i = omega arith in e) ∙ here (suc i) (omega arith))
-      (λ b. ap (λ y. is_some (at y)) (let e : p + 1 + length xs ≡ p + suc (length xs) = omega arith in e) ∙ stops (omega arith)) in
+    (λ i b. ap at (let e : p + 1 + i ≡ p + suc i = omega arith in e) ∙ here (suc i) (omega arith))
+    (λ b. ap (λ y. is_some (at y)) (let e : p + 1 + length xs ≡ p + suc (length xs) = omega arith in e) ∙ stops (omega arith)) in
     ap₂ byte_then first rest
 
 pub runs_same : (at by : ℕ → Option ℕ) → ((p : ℕ) → at p ≡ by p) → (n p : ℕ) → runs_from at p n ≡ runs_from by p n
@@ -65,7 +65,8 @@ pub record IsReadable (w : Window) (rbuf p n : ℕ) : Type 0 where
 pub readable : (w : Window) (rbuf p e n : ℕ) → IsLaid w → IsRunEnd (kept_at w rbuf) p e → p + n ≤ e → 0 < n → IsReadable w rbuf p n
 readable w rbuf p e n laid run l some = record {
   from = kept_from w rbuf p (run.run p (omega arith) (omega arith));
-  within = let b : p + n - 1 < end_of w = kept_within w rbuf (p + n - 1) laid (run.run (p + n - 1) (omega arith) (omega arith)) in omega arith }
+  within = let b : p + n - 1 < end_of w = kept_within w rbuf (p + n - 1) laid (run.run (p + n - 1) (omega arith) (omega arith)) in omega arith;
+}
 
 -- what is copied is the run, as far as it and the buffer reach
 pub bytes_read : (w : Window) (fin : Option ℕ) (rbuf p e n : ℕ) (xs : List ℕ) → IsLaid w → IsRunEnd (kept_at w rbuf) p e → length xs ≡ min (e - p) n
@@ -75,5 +76,5 @@ bytes_read w fin rbuf p e n xs laid run len copied r h =
     let order : p ≤ e = run.order in
     sym (sym (bytes_same (kept_at w rbuf) (kept r.cells rbuf) (kept_same w fin rbuf laid r h) n p)
     ∙ bytes_are (kept_at w rbuf) xs n p (omega arith)
-        (λ i l. some_byte w rbuf (p + i) (run.run (p + i) (omega arith) (omega arith)) ∙ ap Some (sym (copied i l)))
-        (λ l. ap (λ x. is_some (kept_at w rbuf x)) (let same : p + length xs ≡ e = omega arith in same) ∙ run.stops))
+    (λ i l. some_byte w rbuf (p + i) (run.run (p + i) (omega arith) (omega arith)) ∙ ap Some (sym (copied i l)))
+    (λ l. ap (λ x. is_some (kept_at w rbuf x)) (let same : p + length xs ≡ e = omega arith in same) ∙ run.stops))

@@ -38,8 +38,9 @@ begin_joined p (run ∷ runs) = elim (eqb run.0 (p + 1)) as (λ b. BeginFrom p (
 begin_from : (at : ℕ → Option ℕ) (n p : ℕ) → BeginFrom p (runs_from at p n)
 begin_from at zero p = tt
 begin_from at (suc n) p = elim (at p) as (λ c. BeginFrom p (run_then c p (runs_from at (p + 1) n))) [
-    Some b ↦ begin_joined p (runs_from at (p + 1) n)
-  | None ↦ begin_later (p + 1) p (runs_from at (p + 1) n) (omega arith) (begin_from at n (p + 1)) ]
+  | Some b ↦ begin_joined p (runs_from at (p + 1) n)
+  | None ↦ begin_later (p + 1) p (runs_from at (p + 1) n) (omega arith) (begin_from at n (p + 1))
+]
 
 -- a run that begins further on isn't joined
 join_apart : (p : ℕ) (runs : List (ℕ × ℕ)) → BeginFrom (p + 2) runs → join_run p runs ≡ (p, 1) ∷ runs
@@ -53,7 +54,7 @@ join_next p k runs = rw (eq-eqb (p + 1) (p + 1) refl) refl
 pub runs_first : (at : ℕ → Option ℕ) (k m n p q : ℕ) → suc k + m ≡ n → p + suc k ≡ q → ((x : ℕ) → p ≤ x → x < q → is_some (at x) ≡ true) → (0 < m → is_some (at q) ≡ false)
     → runs_from at p n ≡ (p, suc k) ∷ runs_from at q m
 runs_first at k m zero p q e f some stops = absurd (omega arith)
-runs_first at zero zero (suc n) p q e f some stops = 
+runs_first at zero zero (suc n) p q e f some stops =
     let none : n ≡ 0 = omega arith in
     run_then_some (at p) p (runs_from at (p + 1) n) (some p (omega arith) (omega arith)) ∙ ap (λ i. join_run p (runs_from at (p + 1) i)) none
 runs_first at zero (suc m) (suc n) p q e f some stops =

@@ -26,7 +26,8 @@ pub run_to_next : (w : Window) (rbuf p : ℕ) → IsLaid w → w.next - rbuf ≤
 run_to_next w rbuf p laid low below = record {
   order = omega arith;
   run = λ x l h. kept_some w rbuf x (omega arith) (accepted_below w.next w.runs.items x h);
-  stops = kept_none w rbuf w.next (next_open w laid.above) }
+  stops = kept_none w rbuf w.next (next_open w laid.above);
+}
 
 -- a position at next or above it, in no run
 pub gap_open : (w : Window) (rbuf p k : ℕ) → IsLaid w → w.next ≤ p → IsCursor w.runs.items k p → (k < length w.runs.items → p < (run_at w.runs.items k).start) → is_some (kept_at w rbuf p) ≡ false
@@ -41,13 +42,15 @@ run_to_end w rbuf p k laid over cursor within from =
     record {
       order = omega arith;
       run = λ x l h. kept_some w rbuf x (omega arith) (accepted_from_next w.next runs x (omega arith) ∙ covered_by runs k x within (omega arith) h);
-      stops = gap_open w rbuf end (k + 1) laid (omega arith) (cursor_next runs k p laid.ordered cursor within (omega arith)) (λ l. laid.ordered.apart k (k + 1) (omega arith) l) }
+      stops = gap_open w rbuf end (k + 1) laid (omega arith) (cursor_next runs k p laid.ordered cursor within (omega arith)) (λ l. laid.ordered.apart k (k + 1) (omega arith) l);
+    }
 
 pub first_below : (w : Window) (rbuf p : ℕ) → 1 ≤ rbuf → p < w.next → IsFirst (kept_at w rbuf) p (max p (w.next - rbuf))
 first_below w rbuf p some below = record {
   order = omega arith;
   gap = λ x l h. kept_low w rbuf x (omega arith);
-  here = kept_some w rbuf (max p (w.next - rbuf)) (omega arith) (accepted_below w.next w.runs.items (max p (w.next - rbuf)) (omega arith)) }
+  here = kept_some w rbuf (max p (w.next - rbuf)) (omega arith) (accepted_below w.next w.runs.items (max p (w.next - rbuf)) (omega arith));
+}
 
 pub first_in_runs : (w : Window) (rbuf p k : ℕ) → IsLaid w → w.next ≤ p → IsCursor w.runs.items k p → k < length w.runs.items → IsFirst (kept_at w rbuf) p (max p (run_at w.runs.items k).start)
 first_in_runs w rbuf p k laid over cursor within =
@@ -58,7 +61,8 @@ first_in_runs w rbuf p k laid over cursor within =
     record {
       order = omega arith;
       gap = λ x l h. kept_none w rbuf x (accepted_from_next w.next runs x (omega arith) ∙ in_gap runs k p x laid.ordered cursor l (λ b. omega arith));
-      here = kept_some w rbuf f (omega arith) (accepted_from_next w.next runs f (omega arith) ∙ covered_by runs k f within (omega arith) (omega arith)) }
+      here = kept_some w rbuf f (omega arith) (accepted_from_next w.next runs f (omega arith) ∙ covered_by runs k f within (omega arith) (omega arith));
+    }
 
 pub none_past : (w : Window) (rbuf p k : ℕ) → IsLaid w → w.next ≤ p → IsCursor w.runs.items k p → length w.runs.items ≤ k → (x : ℕ) → p ≤ x → is_some (kept_at w rbuf x) ≡ false
 none_past w rbuf p k laid over cursor past x l = kept_none w rbuf x (accepted_from_next w.next w.runs.items x (omega arith) ∙ in_gap w.runs.items k p x laid.ordered cursor l (λ b. absurd (omega arith)))

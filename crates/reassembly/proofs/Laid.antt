@@ -23,14 +23,16 @@ pub tally_few : (runs : List Run) (start : ℕ) (cells segment : List ℕ) (n : 
 tally_few runs start cells segment n t e = rw e (record {
   new = count_below-le (λ i. not (is_covered runs (start + i))) n;
   old = count_below-le (λ i. is_covered runs (start + i)) n;
-  differ = count_below-le (λ i. is_covered runs (start + i) && not (eqb (slice_index cells i) (slice_index segment i))) n })
+  differ = count_below-le (λ i. is_covered runs (start + i) && not (eqb (slice_index cells i) (slice_index segment i))) n;
+})
 
 pub stretch_few : (is_old : Bool) (cells segment : List ℕ) (t : Tally) → t ≡ tally_of_stretch is_old cells segment → IsFew t (length segment)
 stretch_few is_old cells segment t e =
     let few = count_below-le (λ i. not (eqb (slice_index cells i) (slice_index segment i))) (length segment) in
     rw e (elim is_old as (λ b. IsFew (tally_of_stretch b cells segment) (length segment)) [
-      true ↦ record { new = omega arith; old = omega arith; differ = few }
-    | false ↦ record { new = omega arith; old = omega arith; differ = omega arith } ])
+      | true ↦ record { new = omega arith; old = omega arith; differ = few }
+      | false ↦ record { new = omega arith; old = omega arith; differ = omega arith }
+    ])
 
 pub tally_is : (a b : Tally) → a.new ≡ b.new → a.old ≡ b.old → a.differ ≡ b.differ → a ≡ b
 tally_is a b n o d =
@@ -45,25 +47,25 @@ pub tally_more : (runs : List Run) (start m n k : ℕ) (cells segment part_cells
     → tally_sum (tally_of runs start cells segment m) (tally_of_stretch is_old part_cells part) ≡ tally_of runs start cells segment k
 tally_more runs start m n k cells segment part_cells part true sum len alike same_cells same =
     let new : count_below (λ i. not (is_covered runs (start + i))) k ≡ count_below (λ i. not (is_covered runs (start + i))) m
-      = count_below-stays (λ i. not (is_covered runs (start + i))) m n k sum (λ i l. ap not (alike i l)) in
+    = count_below-stays (λ i. not (is_covered runs (start + i))) m n k sum (λ i l. ap not (alike i l)) in
     let old : count_below (λ i. is_covered runs (start + i)) k ≡ count_below (λ i. is_covered runs (start + i)) m + n
-      = count_below-more (λ i. is_covered runs (start + i)) m n k sum alike in
+    = count_below-more (λ i. is_covered runs (start + i)) m n k sum alike in
     let test : ℕ → Bool = λ i. is_covered runs (start + i) && not (eqb (slice_index cells i) (slice_index segment i)) in
     let differ : count_below test k ≡ count_below test m + differing_of part_cells part n
-      = count_below-stretch test (λ i. not (eqb (slice_index part_cells i) (slice_index part i))) m n k sum
-          (λ i l. ap₂ (λ b c. b && not c) (alike i l) (ap₂ eqb (sym (same_cells i l)) (sym (same i l)))) in
+    = count_below-stretch test (λ i. not (eqb (slice_index part_cells i) (slice_index part i))) m n k sum
+    (λ i l. ap₂ (λ b c. b && not c) (alike i l) (ap₂ eqb (sym (same_cells i l)) (sym (same i l)))) in
     tally_is (tally_sum (tally_of runs start cells segment m) (tally_of_stretch true part_cells part)) (tally_of runs start cells segment k)
-      (omega (arith, new)) (omega (arith, old, len)) (rw len (sym differ))
+    (omega (arith, new)) (omega (arith, old, len)) (rw len (sym differ))
 tally_more runs start m n k cells segment part_cells part false sum len alike same_cells same =
     let new : count_below (λ i. not (is_covered runs (start + i))) k ≡ count_below (λ i. not (is_covered runs (start + i))) m + n
-      = count_below-more (λ i. not (is_covered runs (start + i))) m n k sum (λ i l. ap not (alike i l)) in
+    = count_below-more (λ i. not (is_covered runs (start + i))) m n k sum (λ i l. ap not (alike i l)) in
     let old : count_below (λ i. is_covered runs (start + i)) k ≡ count_below (λ i. is_covered runs (start + i)) m
-      = count_below-stays (λ i. is_covered runs (start + i)) m n k sum alike in
+    = count_below-stays (λ i. is_covered runs (start + i)) m n k sum alike in
     let test : ℕ → Bool = λ i. is_covered runs (start + i) && not (eqb (slice_index cells i) (slice_index segment i)) in
     let differ : count_below test k ≡ count_below test m
-      = count_below-stays test m n k sum (λ i l. ap (λ b. b && not (eqb (slice_index cells (m + i)) (slice_index segment (m + i)))) (alike i l)) in
+    = count_below-stays test m n k sum (λ i l. ap (λ b. b && not (eqb (slice_index cells (m + i)) (slice_index segment (m + i)))) (alike i l)) in
     tally_is (tally_sum (tally_of runs start cells segment m) (tally_of_stretch false part_cells part)) (tally_of runs start cells segment k)
-      (omega (arith, new, len)) (omega (arith, old)) (omega (arith, differ))
+    (omega (arith, new, len)) (omega (arith, old)) (omega (arith, differ))
 
 -- the byte at index m + i of the stretch after it was laid
 pub laid_more : (runs : List Run) (start j : ℕ) (policy : Policy) (cells segment : List ℕ) (is_old : Bool) → is_covered runs (start + j) ≡ is_old
@@ -87,21 +89,23 @@ pub laid_part : (runs : List Run) (start a b : ℕ) (policy : Policy) (before se
 laid_part runs start a b policy before segment cells part is_old order within same h alike e =
     let stays = is_old && not (is_last policy) in
     let len : length part ≡ b - a = rw e (cond_both stays (take (b - a) (drop a cells)) (take (b - a) (drop a segment)) (λ xs. length xs ≡ b - a)
-      (λ t. length-part a b cells order within) (λ t. length-part a b segment order (omega arith))) in
+    (λ t. length-part a b cells order within) (λ t. length-part a b segment order (omega arith))) in
     let at_part : (i : ℕ) → i < b - a → slice_index part i ≡ cond stays (slice_index before (a + i)) (slice_index segment (a + i)) = λ i l. rw e
-      (elim stays as (λ v. slice_index (cond v (take (b - a) (drop a cells)) (take (b - a) (drop a segment))) i ≡ cond v (slice_index before (a + i)) (slice_index segment (a + i))) [
-        true ↦ part_at a b cells i 0 l ∙ h.rest (a + i) (omega arith)
-      | false ↦ part_at a b segment i 0 l ]) in
+    (elim stays as (λ v. slice_index (cond v (take (b - a) (drop a cells)) (take (b - a) (drop a segment))) i ≡ cond v (slice_index before (a + i)) (slice_index segment (a + i))) [
+      | true ↦ part_at a b cells i 0 l ∙ h.rest (a + i) (omega arith)
+      | false ↦ part_at a b segment i 0 l
+    ]) in
     record {
       done = λ i l. ⊎_elim
-        (λ (below : i < a). mid_below a (b - a) cells part i 0 (omega arith) below ∙ h.done i below)
-        (λ (from : a ≤ i).
+          (λ (below : i < a). mid_below a (b - a) cells part i 0 (omega arith) below ∙ h.done i below)
+          (λ (from : a ≤ i).
           let back : a + (i - a) ≡ i = omega arith in
           let here : is_covered runs (start + i) ≡ is_old = rw back at (alike (i - a) (omega arith)) in
           let byte : slice_index part (i - a) ≡ cond stays (slice_index before i) (slice_index segment i) = rw back at (at_part (i - a) (omega arith)) in
           mid_in a (b - a) cells part i 0 (omega arith) from (omega arith) ∙ byte ∙ laid_more runs start i policy before segment is_old here)
-        (cases_lt i a);
-      rest = λ i l. mid_above a (b - a) cells part i 0 (omega arith) len (omega arith) ∙ h.rest i (omega arith) }
+          (cases_lt i a);
+      rest = λ i l. mid_above a (b - a) cells part i 0 (omega arith) len (omega arith) ∙ h.rest i (omega arith);
+    }
 
 swapped : {X : Type 0} (b : Bool) (x y : X) → cond (not b) x y ≡ cond b y x
 swapped true x y = refl
@@ -117,44 +121,45 @@ laid_window runs base low k policy xs bytes cells from same within len laid p l 
     let a = low - base in
     let stays = is_covered runs p && not (is_last policy) in
     ⊎_elim
-      (λ (under : p < low).
-        let no : leb low p ≡ false = lt-leb low p under in
-        rw no (mid_below a k xs cells (p - base) 0 (omega arith) (omega arith)))
-      (λ (over : low ≤ p). ⊎_elim
-        (λ (here : p < low + length bytes).
-          let yes : leb low p ≡ true = le-leb low p over in
-          let and : ltb p (low + length bytes) ≡ true = lt-ltb p (low + length bytes) here in
-          let back : low + (p - low) ≡ p = omega arith in
-          let place : p - base - a ≡ p - low = omega arith in
-          let again : a + (p - low) ≡ p - base = omega arith in
-          let byte : slice_index cells (p - low) ≡ cond stays (slice_index (take k (drop a xs)) (p - low)) (slice_index bytes (p - low)) = rw back at (laid (p - low) (omega arith)) in
-          let part : slice_index (take k (drop a xs)) (p - low) ≡ slice_index xs (p - base) = get_or-take k (drop a xs) (p - low) 0 (omega arith) ∙ get_or-drop a xs (p - low) 0 ∙ ap (slice_index xs) again in
-          rw (yes, and) (mid_in a k xs cells (p - base) 0 (omega arith) (omega arith) (omega arith)
-            ∙ ap (slice_index cells) place ∙ byte ∙ ap (λ x. cond stays x (slice_index bytes (p - low))) part
-            ∙ sym (swapped stays (slice_index bytes (p - low)) (slice_index xs (p - base)))))
-        (λ (past : low + length bytes ≤ p).
-          let no : ltb p (low + length bytes) ≡ false = le-ltb p (low + length bytes) past in
-          let never : has_byte low bytes p ≡ false = rw no (and_right (leb low p) false refl) in
-          rw never (mid_above a k xs cells (p - base) 0 (omega arith) (omega arith) (omega arith)))
-        (cases_lt p (low + length bytes)))
-      (cases_lt p low)
+    (λ (under : p < low).
+    let no : leb low p ≡ false = lt-leb low p under in
+    rw no (mid_below a k xs cells (p - base) 0 (omega arith) (omega arith)))
+    (λ (over : low ≤ p). ⊎_elim
+    (λ (here : p < low + length bytes).
+    let yes : leb low p ≡ true = le-leb low p over in
+    let and : ltb p (low + length bytes) ≡ true = lt-ltb p (low + length bytes) here in
+    let back : low + (p - low) ≡ p = omega arith in
+    let place : p - base - a ≡ p - low = omega arith in
+    let again : a + (p - low) ≡ p - base = omega arith in
+    let byte : slice_index cells (p - low) ≡ cond stays (slice_index (take k (drop a xs)) (p - low)) (slice_index bytes (p - low)) = rw back at (laid (p - low) (omega arith)) in
+    let part : slice_index (take k (drop a xs)) (p - low) ≡ slice_index xs (p - base) = get_or-take k (drop a xs) (p - low) 0 (omega arith) ∙ get_or-drop a xs (p - low) 0 ∙ ap (slice_index xs) again in
+    rw (yes, and) (mid_in a k xs cells (p - base) 0 (omega arith) (omega arith) (omega arith)
+    ∙ ap (slice_index cells) place ∙ byte ∙ ap (λ x. cond stays x (slice_index bytes (p - low))) part
+    ∙ sym (swapped stays (slice_index bytes (p - low)) (slice_index xs (p - base)))))
+    (λ (past : low + length bytes ≤ p).
+    let no : ltb p (low + length bytes) ≡ false = le-ltb p (low + length bytes) past in
+    let never : has_byte low bytes p ≡ false = rw no (and_right (leb low p) false refl) in
+    rw never (mid_above a k xs cells (p - base) 0 (omega arith) (omega arith) (omega arith)))
+    (cases_lt p (low + length bytes)))
+    (cases_lt p low)
 
 -- the judgement of those bytes, by the buffer
 pub judged_window : (runs : List Run) (base low k : ℕ) (xs bytes : List ℕ) → base ≤ low → k ≡ length bytes
     → tally_of runs low (take k (drop (low - base) xs)) bytes (length bytes) ≡ record {
-        new = count_below (λ i. not (is_covered runs (low + i))) (length bytes);
-        old = count_below (λ i. is_covered runs (low + i)) (length bytes);
-        differ = count_below (λ i. is_covered runs (low + i) && not (eqb (slice_index xs (low + i - base)) (slice_index bytes i))) (length bytes) }
+      new = count_below (λ i. not (is_covered runs (low + i))) (length bytes);
+      old = count_below (λ i. is_covered runs (low + i)) (length bytes);
+      differ = count_below (λ i. is_covered runs (low + i) && not (eqb (slice_index xs (low + i - base)) (slice_index bytes i))) (length bytes);
+    }
 judged_window runs base low k xs bytes from same =
     let made : ℕ → Tally = λ d. record { new = count_below (λ i. not (is_covered runs (low + i))) (length bytes); old = count_below (λ i. is_covered runs (low + i)) (length bytes); differ = d } in
     ap made (count_below-same
-      (λ i. is_covered runs (low + i) && not (eqb (slice_index (take k (drop (low - base) xs)) i) (slice_index bytes i)))
-      (λ i. is_covered runs (low + i) && not (eqb (slice_index xs (low + i - base)) (slice_index bytes i)))
-      (length bytes)
-      (λ i l.
-        let again : (low - base) + i ≡ low + i - base = omega arith in
-        let part : slice_index (take k (drop (low - base) xs)) i ≡ slice_index xs (low + i - base) = get_or-take k (drop (low - base) xs) i 0 (omega arith) ∙ get_or-drop (low - base) xs i 0 ∙ ap (slice_index xs) again in
-        ap (λ x. is_covered runs (low + i) && not (eqb x (slice_index bytes i))) part))
+    (λ i. is_covered runs (low + i) && not (eqb (slice_index (take k (drop (low - base) xs)) i) (slice_index bytes i)))
+    (λ i. is_covered runs (low + i) && not (eqb (slice_index xs (low + i - base)) (slice_index bytes i)))
+    (length bytes)
+    (λ i l.
+    let again : (low - base) + i ≡ low + i - base = omega arith in
+    let part : slice_index (take k (drop (low - base) xs)) i ≡ slice_index xs (low + i - base) = get_or-take k (drop (low - base) xs) i 0 (omega arith) ∙ get_or-drop (low - base) xs i 0 ∙ ap (slice_index xs) again in
+    ap (λ x. is_covered runs (low + i) && not (eqb x (slice_index bytes i))) part))
 
 -- bytes below the kept ones are never compared
 pub none_compared : (low start n : ℕ) (test : ℕ → Bool) → n ≤ low - start → count_below (λ i. leb low (start + i) && test i) n ≡ 0
@@ -163,15 +168,15 @@ none_compared low start n test l = count_below-none (λ i. leb low (start + i) &
 -- and the others are: skip is how many lie below
 pub some_compared : (low start base skip n m k : ℕ) (xs bytes : List ℕ) → skip ≡ low - start → skip + m ≡ n → base ≤ start + skip → k ≡ m → length bytes ≡ n
     → count_below (λ i. not (eqb (slice_index (take k (drop (start + skip - base) xs)) i) (slice_index (take (length bytes - skip) (drop skip bytes)) i))) m
-      ≡ count_below (λ i. leb low (start + i) && not (eqb (slice_index xs (start + i - base)) (slice_index bytes i))) n
+    ≡ count_below (λ i. leb low (start + i) && not (eqb (slice_index xs (start + i - base)) (slice_index bytes i))) n
 some_compared low start base skip n m k xs bytes e sum from same len =
     let f : ℕ → Bool = λ i. leb low (start + i) && not (eqb (slice_index xs (start + i - base)) (slice_index bytes i)) in
     let g : ℕ → Bool = λ i. not (eqb (slice_index (take k (drop (start + skip - base) xs)) i) (slice_index (take (length bytes - skip) (drop skip bytes)) i)) in
     let none : count_below f skip ≡ 0 = none_compared low start skip (λ i. not (eqb (slice_index xs (start + i - base)) (slice_index bytes i))) (omega arith) in
     let parts : count_below f n ≡ count_below f skip + count_below g m = count_below-stretch f g skip m n sum (λ i l.
-      let yes : leb low (start + (skip + i)) ≡ true = le-leb low (start + (skip + i)) (omega arith) in
-      let again : (start + skip - base) + i ≡ start + (skip + i) - base = omega arith in
-      let x : slice_index (take k (drop (start + skip - base) xs)) i ≡ slice_index xs (start + (skip + i) - base) = get_or-take k (drop (start + skip - base) xs) i 0 (omega arith) ∙ get_or-drop (start + skip - base) xs i 0 ∙ ap (slice_index xs) again in
-      let y : slice_index (take (length bytes - skip) (drop skip bytes)) i ≡ slice_index bytes (skip + i) = get_or-take (length bytes - skip) (drop skip bytes) i 0 (omega arith) ∙ get_or-drop skip bytes i 0 in
-      rw yes (ap not (ap₂ eqb (sym x) (sym y)))) in
+    let yes : leb low (start + (skip + i)) ≡ true = le-leb low (start + (skip + i)) (omega arith) in
+    let again : (start + skip - base) + i ≡ start + (skip + i) - base = omega arith in
+    let x : slice_index (take k (drop (start + skip - base) xs)) i ≡ slice_index xs (start + (skip + i) - base) = get_or-take k (drop (start + skip - base) xs) i 0 (omega arith) ∙ get_or-drop (start + skip - base) xs i 0 ∙ ap (slice_index xs) again in
+    let y : slice_index (take (length bytes - skip) (drop skip bytes)) i ≡ slice_index bytes (skip + i) = get_or-take (length bytes - skip) (drop skip bytes) i 0 (omega arith) ∙ get_or-drop skip bytes i 0 in
+    rw yes (ap not (ap₂ eqb (sym x) (sym y)))) in
     omega (arith, none, parts)

@@ -15,8 +15,9 @@ use Rattle.reassembly.proofs.Counts.{count_below-same}
 is_some_after : (next limit : ℕ) (policy : Policy) (q : ℕ) (bytes : List ℕ) (p : ℕ) (c : Option ℕ) → is_some c ≡ true → is_some (held_after next limit policy q bytes p c) ≡ true
 is_some_after next limit policy q bytes p c e =
     elim (has_byte q bytes p) as (λ b. is_some (cond b (cell_after next limit policy p c (slice_index bytes (p - q))) c) ≡ true) [
-      true ↦ elim (is_new next limit p c || (is_last policy && (is_old next p c && leb next p))) as (λ b. is_some (cond b (Some (slice_index bytes (p - q))) c) ≡ true) [ true ↦ refl | false ↦ e ]
-    | false ↦ e ]
+      | true ↦ elim (is_new next limit p c || (is_last policy && (is_old next p c && leb next p))) as (λ b. is_some (cond b (Some (slice_index bytes (p - q))) c) ≡ true) [ true ↦ refl | false ↦ e ]
+      | false ↦ e
+    ]
 
 -- past the segment a cell stays as it was
 after_past : (next limit : ℕ) (policy : Policy) (q : ℕ) (bytes : List ℕ) (p : ℕ) (c : Option ℕ) → q + length bytes ≤ p → held_after next limit policy q bytes p c ≡ c
@@ -33,11 +34,11 @@ held_accepted r q bytes policy rbuf p =
     let end = max (length r.cells) (q + length bytes) in
     let step : ℕ → Option ℕ = λ x. held_after next limit policy q bytes x (held r.cells x) in
     ⊎_elim
-      (λ (l : p < end). held_made step end p l)
-      (λ (l : end ≤ p).
-        let none : held r.cells p ≡ None = held_past r.cells p (omega arith) in
-        held_made_past step end p l ∙ sym (after_past next limit policy q bytes p (held r.cells p) (omega arith) ∙ none))
-      (cases_lt p end)
+    (λ (l : p < end). held_made step end p l)
+    (λ (l : end ≤ p).
+    let none : held r.cells p ≡ None = held_past r.cells p (omega arith) in
+    held_made_past step end p l ∙ sym (after_past next limit policy q bytes p (held r.cells p) (omega arith) ∙ none))
+    (cases_lt p end)
 
 -- the kept cell is the receiver's
 pub known_cell : (s : Known) (r : Receiver) → StandsFor s r → (p : ℕ) → s.next - s.rbuf ≤ p → held s.kept p ≡ held r.cells p
@@ -54,11 +55,11 @@ stands_after q bytes policy s n step r h =
     let same_fin : s.fin ≡ r.fin = h.fin in
     let cell : (p : ℕ) → held acc.cells p ≡ after p = λ p. rw (same_next, same_fin) (held_accepted r q bytes policy s.rbuf p) in
     let known : (p : ℕ) → s.next - s.rbuf ≤ p → held_after s.next (limit_of s.next s.fin s.rbuf) policy q bytes p (held s.kept p) ≡ after p
-      = λ p l. ap (λ c. held_after s.next (limit_of s.next s.fin s.rbuf) policy q bytes p c) (known_cell s r h p l) in
+    = λ p l. ap (λ c. held_after s.next (limit_of s.next s.fin s.rbuf) policy q bytes p c) (known_cell s r h p l) in
     let filled : (p : ℕ) → p < n.next → is_some (held acc.cells p) ≡ true = λ p l. rw cell (⊎_elim
-      (λ (b : p < s.next). is_some_after s.next (limit_of s.next s.fin s.rbuf) policy q bytes p (held r.cells p) (below_next r.cells p (rw (← same_next) b)))
-      (λ (b : s.next ≤ p). ap is_some (sym (known p (omega arith))) ∙ step.filled p b l)
-      (cases_lt p s.next)) in
+    (λ (b : p < s.next). is_some_after s.next (limit_of s.next s.fin s.rbuf) policy q bytes p (held r.cells p) (below_next r.cells p (rw (← same_next) b)))
+    (λ (b : s.next ≤ p). ap is_some (sym (known p (omega arith))) ∙ step.filled p b l)
+    (cases_lt p s.next)) in
     let rises : s.next ≤ n.next = step.rises in
     let empty : is_some (held acc.cells n.next) ≡ false = rw cell (ap is_some (sym (known n.next (omega arith))) ∙ step.empty) in
     let next : next_of acc.cells ≡ n.next = next_is acc.cells n.next filled empty in
@@ -67,9 +68,10 @@ stands_after q bytes policy s n step r h =
       next = sym next;
       fin = step.fin ∙ same_fin;
       cells = λ p. rw next (⊎_elim
-        (λ (l : p < n.next - n.rbuf). step.forgotten p l ∙ sym (cond-false (leb (n.next - n.rbuf) p) (held acc.cells p) None (lt-leb (n.next - n.rbuf) p l)))
-        (λ (l : n.next - n.rbuf ≤ p). step.cells p l ∙ known p (omega arith) ∙ sym (cell p) ∙ sym (cond-true (leb (n.next - n.rbuf) p) (held acc.cells p) None (le-leb (n.next - n.rbuf) p l)))
-        (cases_lt p (n.next - n.rbuf))) }
+          (λ (l : p < n.next - n.rbuf). step.forgotten p l ∙ sym (cond-false (leb (n.next - n.rbuf) p) (held acc.cells p) None (lt-leb (n.next - n.rbuf) p l)))
+          (λ (l : n.next - n.rbuf ≤ p). step.cells p l ∙ known p (omega arith) ∙ sym (cell p) ∙ sym (cond-true (leb (n.next - n.rbuf) p) (held acc.cells p) None (le-leb (n.next - n.rbuf) p l)))
+          (cases_lt p (n.next - n.rbuf)));
+    }
 
 -- a cell below next is old whatever it holds, and one that isn't kept is never compared
 old_same : (s : Known) (r : Receiver) → StandsFor s r → (p : ℕ) → is_old s.next p (held s.kept p) ≡ is_old s.next p (held r.cells p)
@@ -103,10 +105,11 @@ counts_stand q bytes s r h =
       new = count_below (λ i. is_new s.next limit (q + i) (held r.cells (q + i))) (length bytes);
       old = count_below (λ i. is_old s.next (q + i) (held r.cells (q + i))) (length bytes);
       differ = count_below (λ i. is_differing s.next s.rbuf (q + i) (held r.cells (q + i)) (slice_index bytes i)) (length bytes);
-      over = count_below (λ i. is_over s.next limit (q + i) (held r.cells (q + i))) (length bytes) } in
+      over = count_below (λ i. is_over s.next limit (q + i) (held r.cells (q + i))) (length bytes);
+    } in
     let same : counts_known s q bytes ≡ told = placed_is (counts_known s q bytes) told
-      (count_below-same (λ i. is_new s.next limit (q + i) (held s.kept (q + i))) (λ i. is_new s.next limit (q + i) (held r.cells (q + i))) (length bytes) (λ i l. ap (λ b. not b && ltb (q + i) limit) (old_same s r h (q + i))))
-      (count_below-same (λ i. is_old s.next (q + i) (held s.kept (q + i))) (λ i. is_old s.next (q + i) (held r.cells (q + i))) (length bytes) (λ i l. old_same s r h (q + i)))
-      (count_below-same (λ i. is_differing s.next s.rbuf (q + i) (held s.kept (q + i)) (slice_index bytes i)) (λ i. is_differing s.next s.rbuf (q + i) (held r.cells (q + i)) (slice_index bytes i)) (length bytes) (λ i l. differing_same s r h (q + i) (slice_index bytes i)))
-      (count_below-same (λ i. is_over s.next limit (q + i) (held s.kept (q + i))) (λ i. is_over s.next limit (q + i) (held r.cells (q + i))) (length bytes) (λ i l. ap (λ b. not b && leb limit (q + i)) (old_same s r h (q + i)))) in
+    (count_below-same (λ i. is_new s.next limit (q + i) (held s.kept (q + i))) (λ i. is_new s.next limit (q + i) (held r.cells (q + i))) (length bytes) (λ i l. ap (λ b. not b && ltb (q + i) limit) (old_same s r h (q + i))))
+    (count_below-same (λ i. is_old s.next (q + i) (held s.kept (q + i))) (λ i. is_old s.next (q + i) (held r.cells (q + i))) (length bytes) (λ i l. old_same s r h (q + i)))
+    (count_below-same (λ i. is_differing s.next s.rbuf (q + i) (held s.kept (q + i)) (slice_index bytes i)) (λ i. is_differing s.next s.rbuf (q + i) (held r.cells (q + i)) (slice_index bytes i)) (length bytes) (λ i l. differing_same s r h (q + i) (slice_index bytes i)))
+    (count_below-same (λ i. is_over s.next limit (q + i) (held s.kept (q + i))) (λ i. is_over s.next limit (q + i) (held r.cells (q + i))) (length bytes) (λ i l. ap (λ b. not b && leb limit (q + i)) (old_same s r h (q + i)))) in
     rw (← same_next, ← same_fin) same

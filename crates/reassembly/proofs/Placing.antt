@@ -44,8 +44,8 @@ pub held_known : (w : Window) (fin : Option ℕ) (rbuf : ℕ) → IsLaid w → (
 held_known w fin rbuf laid p = ⊎_elim
     (λ (l : p < end_of w). held_made (kept_at w rbuf) (end_of w) p l)
     (λ (l : end_of w ≤ p).
-      let none : is_accepted w.next w.runs.items p ≡ false = not_accepted w laid p l in
-      held_made_past (kept_at w rbuf) (end_of w) p l ∙ rw none (both None (leb (w.next - rbuf) p)))
+    let none : is_accepted w.next w.runs.items p ≡ false = not_accepted w laid p l in
+    held_made_past (kept_at w rbuf) (end_of w) p l ∙ rw none (both None (leb (w.next - rbuf) p)))
     (cases_lt p (end_of w))
 
 -- at the kept positions it is the cell
@@ -57,9 +57,9 @@ pub bounded_cell : (w : Window) (limit p : ℕ) → IsBounded w limit → limit 
 bounded_cell w limit p bounded l =
     let next : w.next ≤ limit = bounded.next in
     accepted_from_next w.next w.runs.items p (omega arith) ∙ uncovered w.runs.items p (λ h.
-      let below : p < (run_at w.runs.items h.at).end = h.below in
-      let end : (run_at w.runs.items h.at).end ≤ limit = bounded.runs.each h.at h.within in
-      omega arith)
+    let below : p < (run_at w.runs.items h.at).end = h.below in
+    let end : (run_at w.runs.items h.at).end ≤ limit = bounded.runs.each h.at h.within in
+    omega arith)
 
 -- next itself isn't accepted
 pub next_open : (w : Window) → AreAbove w.runs.items w.next → is_accepted w.next w.runs.items w.next ≡ false
@@ -97,38 +97,38 @@ after_is_taken next limit start m k p policy segment c cut below past =
     let len : length middle ≡ k - m = length-part m k segment (omega arith) (omega arith) in
     let last = is_last policy in
     ⊎_elim
-      (λ (under : p < next).
-        let e1 : ltb p next ≡ true = lt-ltb p next under in
-        let e2 : leb next p ≡ false = lt-leb next p under in
-        let out : has_byte low middle p ≡ false = no_byte low middle p (λ f g. omega arith) in
-        rw (out, e1, e2) (stays (has_byte start segment p) (last && false) (slice_index segment (p - start)) c (and_right last false refl)))
-      (λ (over : next ≤ p). ⊎_elim
-        (λ (inside : p < limit).
-          let e1 : ltb p next ≡ false = le-ltb p next over in
-          let e2 : leb next p ≡ true = le-leb next p over in
-          let e3 : ltb p limit ≡ true = lt-ltb p limit inside in
-          ⊎_elim
-            (λ (here : has_byte start segment p ≡ true).
-              let parts = and_parts (leb start p) (ltb p (start + n)) here in
-              let from : start ≤ p = leb-true start p parts.0 in
-              let to : p < start + n = ltb-true p (start + n) parts.1 in
-              let in_middle : has_byte low middle p ≡ true = and_from (leb low p) (ltb p (low + length middle)) (le-leb low p (omega arith)) (lt-ltb p (low + length middle) (omega arith)) in
-              let again : m + (p - low) ≡ p - start = omega arith in
-              let byte : slice_index middle (p - low) ≡ slice_index segment (p - start) = part_byte m k n segment (p - low) refl (omega arith) (omega arith) (omega arith) ∙ ap (slice_index segment) again in
-              rw (here, in_middle, e1, e2, e3, byte) (after_between c last (slice_index segment (p - start))))
-            (λ (gone : has_byte start segment p ≡ false).
-              let out : has_byte low middle p ≡ false = no_byte low middle p (λ f g. false_true (has_byte start segment p) gone
-                (and_from (leb start p) (ltb p (start + n)) (le-leb start p (omega arith)) (lt-ltb p (start + n) (omega arith)))) in
-              rw (gone, out) refl)
-            (cases_Bool (has_byte start segment p)))
-        (λ (outside : limit ≤ p).
-          let none : c ≡ None = past outside in
-          let e1 : ltb p next ≡ false = le-ltb p next over in
-          let e3 : ltb p limit ≡ false = le-ltb p limit outside in
-          let out : has_byte low middle p ≡ false = no_byte low middle p (λ f g. omega arith) in
-          rw (none, out, e1, e3) (stays (has_byte start segment p) (last && false) (slice_index segment (p - start)) None (and_right last false refl)))
-        (cases_lt p limit))
-      (cases_lt p next)
+    (λ (under : p < next).
+    let e1 : ltb p next ≡ true = lt-ltb p next under in
+    let e2 : leb next p ≡ false = lt-leb next p under in
+    let out : has_byte low middle p ≡ false = no_byte low middle p (λ f g. omega arith) in
+    rw (out, e1, e2) (stays (has_byte start segment p) (last && false) (slice_index segment (p - start)) c (and_right last false refl)))
+    (λ (over : next ≤ p). ⊎_elim
+    (λ (inside : p < limit).
+    let e1 : ltb p next ≡ false = le-ltb p next over in
+    let e2 : leb next p ≡ true = le-leb next p over in
+    let e3 : ltb p limit ≡ true = lt-ltb p limit inside in
+    ⊎_elim
+    (λ (here : has_byte start segment p ≡ true).
+    let parts = and_parts (leb start p) (ltb p (start + n)) here in
+    let from : start ≤ p = leb-true start p parts.0 in
+    let to : p < start + n = ltb-true p (start + n) parts.1 in
+    let in_middle : has_byte low middle p ≡ true = and_from (leb low p) (ltb p (low + length middle)) (le-leb low p (omega arith)) (lt-ltb p (low + length middle) (omega arith)) in
+    let again : m + (p - low) ≡ p - start = omega arith in
+    let byte : slice_index middle (p - low) ≡ slice_index segment (p - start) = part_byte m k n segment (p - low) refl (omega arith) (omega arith) (omega arith) ∙ ap (slice_index segment) again in
+    rw (here, in_middle, e1, e2, e3, byte) (after_between c last (slice_index segment (p - start))))
+    (λ (gone : has_byte start segment p ≡ false).
+    let out : has_byte low middle p ≡ false = no_byte low middle p (λ f g. false_true (has_byte start segment p) gone
+    (and_from (leb start p) (ltb p (start + n)) (le-leb start p (omega arith)) (lt-ltb p (start + n) (omega arith)))) in
+    rw (gone, out) refl)
+    (cases_Bool (has_byte start segment p)))
+    (λ (outside : limit ≤ p).
+    let none : c ≡ None = past outside in
+    let e1 : ltb p next ≡ false = le-ltb p next over in
+    let e3 : ltb p limit ≡ false = le-ltb p limit outside in
+    let out : has_byte low middle p ≡ false = no_byte low middle p (λ f g. omega arith) in
+    rw (none, out, e1, e3) (stays (has_byte start segment p) (last && false) (slice_index segment (p - start)) None (and_right last false refl)))
+    (cases_lt p limit))
+    (cases_lt p next)
 
 -- the counts of three stretches: below next, between, and past the limit
 count_three : (f g h : ℕ → Bool) (last : ℕ → Bool) (m k n : ℕ) → m ≤ k → k ≤ n
@@ -211,10 +211,10 @@ counts_placed w fin rbuf limit start m k segment laid bounded is_limit cut tally
     let place : (i : ℕ) → start + (m + i) ≡ low + i = λ i. omega arith in
     let cell1 : (i : ℕ) → i < m → cell (start + i) ≡ cond (leb (next - rbuf) (start + i)) (Some (byte_at w (start + i))) None = λ i l. seen (start + i) ∙ kept_below w rbuf (start + i) (omega arith) in
     let cell2 : (i : ℕ) → i < k - m → cell (start + (m + i)) ≡ cond (covered i) (Some (byte_at w (low + i))) None = λ i l.
-      ap cell (place i) ∙ seen (low + i) ∙ kept_cell w rbuf (low + i) (omega arith) ∙ ap (λ b. cond b (Some (byte_at w (low + i))) None) (accepted_from_next next w.runs.items (low + i) (omega arith)) in
+    ap cell (place i) ∙ seen (low + i) ∙ kept_cell w rbuf (low + i) (omega arith) ∙ ap (λ b. cond b (Some (byte_at w (low + i))) None) (accepted_from_next next w.runs.items (low + i) (omega arith)) in
     let some2 : (i : ℕ) → i < k - m → is_some (cell (start + (m + i))) ≡ covered i = λ i l. ap is_some (cell2 i l) ∙ some_of_cond (covered i) (byte_at w (low + i)) in
     let cell3 : (i : ℕ) → i < n - k → cell (start + (k + i)) ≡ None = λ i l.
-      seen (start + (k + i)) ∙ kept_cell w rbuf (start + (k + i)) (omega arith) ∙ ap (λ b. cond b (Some (byte_at w (start + (k + i)))) None) (bounded_cell w limit (start + (k + i)) bounded (omega arith)) in
+    seen (start + (k + i)) ∙ kept_cell w rbuf (start + (k + i)) (omega arith) ∙ ap (λ b. cond b (Some (byte_at w (start + (k + i)))) None) (bounded_cell w limit (start + (k + i)) bounded (omega arith)) in
     let new_ : ℕ → Bool = λ i. is_new next limit (start + i) (cell (start + i)) in
     let old_ : ℕ → Bool = λ i. is_old next (start + i) (cell (start + i)) in
     let over_ : ℕ → Bool = λ i. is_over next limit (start + i) (cell (start + i)) in
@@ -222,31 +222,31 @@ counts_placed w fin rbuf limit start m k segment laid bounded is_limit cut tally
     let here : ℕ → Bool = λ i. leb (next - rbuf) (start + i) && not (eqb (byte_at w (start + i)) (slice_index segment i)) in
     let there : ℕ → Bool = λ i. covered i && not (eqb (byte_at w (low + i)) (slice_index middle i)) in
     let new : count_below new_ n ≡ count_below (λ i. false) m + count_below (λ i. not (covered i)) (k - m) + count_below (λ i. false) (n - k)
-      = count_three new_ (λ i. false) (λ i. not (covered i)) (λ i. false) m k n (omega arith) (omega arith)
-          (λ i l. new_below next limit (start + i) (cell (start + i)) (omega arith))
-          (λ i l. new_between next limit (start + (m + i)) (cell (start + (m + i))) (omega arith) (omega arith) ∙ ap not (some2 i l))
-          (λ i l. new_past next limit (start + (k + i)) (cell (start + (k + i))) (omega arith)) in
+    = count_three new_ (λ i. false) (λ i. not (covered i)) (λ i. false) m k n (omega arith) (omega arith)
+    (λ i l. new_below next limit (start + i) (cell (start + i)) (omega arith))
+    (λ i l. new_between next limit (start + (m + i)) (cell (start + (m + i))) (omega arith) (omega arith) ∙ ap not (some2 i l))
+    (λ i l. new_past next limit (start + (k + i)) (cell (start + (k + i))) (omega arith)) in
     let old : count_below old_ n ≡ count_below (λ i. true) m + count_below covered (k - m) + count_below (λ i. false) (n - k)
-      = count_three old_ (λ i. true) covered (λ i. false) m k n (omega arith) (omega arith)
-          (λ i l. old_below next (start + i) (cell (start + i)) (omega arith))
-          (λ i l. old_above next (start + (m + i)) (cell (start + (m + i))) (omega arith) ∙ some2 i l)
-          (λ i l. old_above next (start + (k + i)) (cell (start + (k + i))) (omega arith) ∙ ap is_some (cell3 i l)) in
+    = count_three old_ (λ i. true) covered (λ i. false) m k n (omega arith) (omega arith)
+    (λ i l. old_below next (start + i) (cell (start + i)) (omega arith))
+    (λ i l. old_above next (start + (m + i)) (cell (start + (m + i))) (omega arith) ∙ some2 i l)
+    (λ i l. old_above next (start + (k + i)) (cell (start + (k + i))) (omega arith) ∙ ap is_some (cell3 i l)) in
     let over : count_below over_ n ≡ count_below (λ i. false) m + count_below (λ i. false) (k - m) + count_below (λ i. true) (n - k)
-      = count_three over_ (λ i. false) (λ i. false) (λ i. true) m k n (omega arith) (omega arith)
-          (λ i l. over_below next limit (start + i) (cell (start + i)) (omega arith))
-          (λ i l. over_between next limit (start + (m + i)) (cell (start + (m + i))) (omega arith))
-          (λ i l. over_past next limit (start + (k + i)) (cell (start + (k + i))) (omega arith) (omega arith) ∙ ap (λ c. not (is_some c)) (cell3 i l)) in
+    = count_three over_ (λ i. false) (λ i. false) (λ i. true) m k n (omega arith) (omega arith)
+    (λ i l. over_below next limit (start + i) (cell (start + i)) (omega arith))
+    (λ i l. over_between next limit (start + (m + i)) (cell (start + (m + i))) (omega arith))
+    (λ i l. over_past next limit (start + (k + i)) (cell (start + (k + i))) (omega arith) (omega arith) ∙ ap (λ c. not (is_some c)) (cell3 i l)) in
     let differ : count_below differ_ n ≡ count_below here m + count_below there (k - m) + count_below (λ i. false) (n - k)
-      = count_three differ_ here there (λ i. false) m k n (omega arith) (omega arith)
-          (λ i l. ap (λ c. is_differing next rbuf (start + i) c (slice_index segment i)) (cell1 i l) ∙ differs_below next rbuf (start + i) (byte_at w (start + i)) (slice_index segment i) (leb (next - rbuf) (start + i)) refl)
-          (λ i l. ap (λ c. is_differing next rbuf (start + (m + i)) c (slice_index segment (m + i))) (cell2 i l)
-            ∙ differs_above next rbuf (start + (m + i)) (byte_at w (low + i)) (slice_index segment (m + i)) (covered i) (omega arith)
-            ∙ ap (λ b. covered i && not (eqb (byte_at w (low + i)) b)) (sym (part_byte m k n segment i refl (omega arith) (omega arith) l)))
-          (λ i l. ap (λ c. is_differing next rbuf (start + (k + i)) c (slice_index segment (k + i))) (cell3 i l)) in
+    = count_three differ_ here there (λ i. false) m k n (omega arith) (omega arith)
+    (λ i l. ap (λ c. is_differing next rbuf (start + i) c (slice_index segment i)) (cell1 i l) ∙ differs_below next rbuf (start + i) (byte_at w (start + i)) (slice_index segment i) (leb (next - rbuf) (start + i)) refl)
+    (λ i l. ap (λ c. is_differing next rbuf (start + (m + i)) c (slice_index segment (m + i))) (cell2 i l)
+    ∙ differs_above next rbuf (start + (m + i)) (byte_at w (low + i)) (slice_index segment (m + i)) (covered i) (omega arith)
+    ∙ ap (λ b. covered i && not (eqb (byte_at w (low + i)) b)) (sym (part_byte m k n segment i refl (omega arith) (omega arith) l)))
+    (λ i l. ap (λ c. is_differing next rbuf (start + (k + i)) c (slice_index segment (k + i))) (cell3 i l)) in
     let below_is : below ≡ count_below here m = told_below
-      ∙ ap (count_below (λ i. leb (next - rbuf) (start + i) && not (eqb (byte_at w (start + i)) (slice_index (take m segment) i)))) front
-      ∙ count_below-same (λ i. leb (next - rbuf) (start + i) && not (eqb (byte_at w (start + i)) (slice_index (take m segment) i))) here m
-          (λ i l. ap (λ b. leb (next - rbuf) (start + i) && not (eqb (byte_at w (start + i)) b)) (get_or-take m segment i 0 l)) in
+    ∙ ap (count_below (λ i. leb (next - rbuf) (start + i) && not (eqb (byte_at w (start + i)) (slice_index (take m segment) i)))) front
+    ∙ count_below-same (λ i. leb (next - rbuf) (start + i) && not (eqb (byte_at w (start + i)) (slice_index (take m segment) i))) here m
+    (λ i l. ap (λ b. leb (next - rbuf) (start + i) && not (eqb (byte_at w (start + i)) b)) (get_or-take m segment i 0 l)) in
     let t_new : tally.new ≡ count_below (λ i. not (covered i)) (k - m) = ap (λ t. t.new) told_tally ∙ ap (count_below (λ i. not (covered i))) len in
     let t_old : tally.old ≡ count_below covered (k - m) = ap (λ t. t.old) told_tally ∙ ap (count_below covered) len in
     let t_differ : tally.differ ≡ count_below there (k - m) = ap (λ t. t.differ) told_tally ∙ ap (count_below there) len in
@@ -257,10 +257,10 @@ counts_placed w fin rbuf limit start m k segment laid bounded is_limit cut tally
     let all3 = yes_all (n - k) in
     let made : Placed = record { new = count_below new_ n; old = count_below old_ n; differ = count_below differ_ n; over = count_below over_ n } in
     let same : record { new = tally.new; old = m + tally.old; differ = below + tally.differ; over = n - k } ≡ made = placed_is _ made
-      (omega (arith, new, t_new, none, none3)) (omega (arith, old, t_old, all, none3)) (omega (arith, differ, below_is, t_differ, none3)) (omega (arith, over, none, none2, all3)) in
+    (omega (arith, new, t_new, none, none3)) (omega (arith, old, t_old, all, none3)) (omega (arith, differ, below_is, t_differ, none3)) (omega (arith, over, none, none2, all3)) in
     let limit_same : made ≡ counts_known (known_of w fin rbuf) start segment = ap
-      (λ x. record { new = count_below (λ i. is_new next x (start + i) (cell (start + i))) n; old = count_below old_ n; differ = count_below differ_ n; over = count_below (λ i. is_over next x (start + i) (cell (start + i))) n })
-      is_limit in
+    (λ x. record { new = count_below (λ i. is_new next x (start + i) (cell (start + i))) n; old = count_below old_ n; differ = count_below differ_ n; over = count_below (λ i. is_over next x (start + i) (cell (start + i))) n })
+    is_limit in
     told ∙ same ∙ limit_same
 
 -- the buffer before, after bytes were taken, and after old ones were dropped
@@ -287,15 +287,15 @@ steps_placed old mid new fin rbuf limit start m k policy segment h bounded is_li
     let old_kept : old.base ≤ old.next - rbuf = h.old_kept in
     let new_kept : new.base ≤ new.next - rbuf = h.new_kept in
     let told : (p : ℕ) → old.next - rbuf ≤ p → after p (held (known_of old fin rbuf).kept p) ≡ cell_at mid p = λ p l.
-      ap (after p) (held_known old fin rbuf h.old_laid p ∙ kept_cell old rbuf p l)
-      ∙ ap (λ x. held_after old.next x policy start segment p (cell_at old p)) (sym is_limit)
-      ∙ after_is_taken old.next limit start m k p policy segment (cell_at old p) cut
-          (λ b. some_of_cond (is_accepted old.next old.runs.items p) (byte_at old p) ∙ accepted_below old.next old.runs.items p b)
-          (λ b. ap (λ x. cond x (Some (byte_at old p)) None) (bounded_cell old limit p bounded b))
-      ∙ sym (h.taken p (omega arith)) in
+    ap (after p) (held_known old fin rbuf h.old_laid p ∙ kept_cell old rbuf p l)
+    ∙ ap (λ x. held_after old.next x policy start segment p (cell_at old p)) (sym is_limit)
+    ∙ after_is_taken old.next limit start m k p policy segment (cell_at old p) cut
+    (λ b. some_of_cond (is_accepted old.next old.runs.items p) (byte_at old p) ∙ accepted_below old.next old.runs.items p b)
+    (λ b. ap (λ x. cond x (Some (byte_at old p)) None) (bounded_cell old limit p bounded b))
+    ∙ sym (h.taken p (omega arith)) in
     let some_mid : (p : ℕ) → is_some (cell_at mid p) ≡ is_accepted mid.next mid.runs.items p = λ p. some_of_cond (is_accepted mid.next mid.runs.items p) (byte_at mid p) in
     let same_cell : (p : ℕ) → new.base ≤ p → cell_at new p ≡ cell_at mid p = λ p l.
-      ap₂ (λ b x. cond b (Some x) None) (ap₂ (λ n (rs : List Run). is_accepted n rs p) same_next h.new_runs) (h.new_bytes p l) in
+    ap₂ (λ b x. cond b (Some x) None) (ap₂ (λ n (rs : List Run). is_accepted n rs p) same_next h.new_runs) (h.new_bytes p l) in
     record {
       fin = refl;
       rbuf = refl;
@@ -303,4 +303,5 @@ steps_placed old mid new fin rbuf limit start m k policy segment h bounded is_li
       filled = λ p l b. ap is_some (told p (omega arith)) ∙ some_mid p ∙ accepted_below mid.next mid.runs.items p (omega arith);
       empty = ap is_some (told new.next (omega arith)) ∙ some_mid new.next ∙ ap (is_accepted mid.next mid.runs.items) same_next ∙ next_open mid h.mid_laid.above;
       cells = λ p l. held_known new fin rbuf h.new_laid p ∙ kept_cell new rbuf p l ∙ same_cell p (omega arith) ∙ sym (told p (omega arith));
-      forgotten = λ p l. held_known new fin rbuf h.new_laid p ∙ cond-false (leb (new.next - rbuf) p) (cell_at new p) None (lt-leb (new.next - rbuf) p l) }
+      forgotten = λ p l. held_known new fin rbuf h.new_laid p ∙ cond-false (leb (new.next - rbuf) p) (cell_at new p) None (lt-leb (new.next - rbuf) p l);
+    }

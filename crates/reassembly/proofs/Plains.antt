@@ -24,7 +24,8 @@ judged_few before q bytes cells n p e = rw e (record {
   new = count_below-le (λ i. is_new before.next before.limit (q + i) (held cells (q + i))) n;
   old = count_below-le (λ i. is_old before.next (q + i) (held cells (q + i))) n;
   differ = count_below-le (λ i. is_differing before.next before.rbuf (q + i) (held cells (q + i)) (slice_index bytes i)) n;
-  over = count_below-le (λ i. is_over before.next before.limit (q + i) (held cells (q + i))) n })
+  over = count_below-le (λ i. is_over before.next before.limit (q + i) (held cells (q + i))) n;
+})
 
 pub judged_more : (before : Before) (q : ℕ) (bytes : List ℕ) (cells : List (Option ℕ)) (n : ℕ)
     → counted_more (judged_below before q bytes cells n) before (q + n) (held cells (q + n)) (slice_index bytes n) ≡ judged_below before q bytes cells (suc n)
@@ -39,9 +40,9 @@ pub written_more : (next limit : ℕ) (policy : Policy) (start i : ℕ) (bytes :
     → (p : ℕ) → p < start + suc i → held (set cells (start + i) w) p ≡ held_after next limit policy start bytes p (held old p)
 written_more next limit policy start i bytes old cells w within l done rest e p b = ⊎_elim
     (λ (same : p ≡ start + i).
-      let here : has_byte start bytes (start + i) ≡ true = and_from (leb start (start + i)) (ltb (start + i) (start + length bytes)) (le-leb start (start + i) (omega arith)) (lt-ltb (start + i) (start + length bytes) (omega arith)) in
-      let back : start + i - start ≡ i = omega arith in
-      rw same (get_or-set_same cells (start + i) w None (omega arith) ∙ e ∙ (rw (here, back) refl)))
+    let here : has_byte start bytes (start + i) ≡ true = and_from (leb start (start + i)) (ltb (start + i) (start + length bytes)) (le-leb start (start + i) (omega arith)) (lt-ltb (start + i) (start + length bytes) (omega arith)) in
+    let back : start + i - start ≡ i = omega arith in
+    rw same (get_or-set_same cells (start + i) w None (omega arith) ∙ e ∙ (rw (here, back) refl)))
     (λ (other : p ≡ start + i → ⊥). get_or-set_other cells (start + i) p w None other ∙ done p (omega arith))
     (cases_eq p (start + i))
 
@@ -54,7 +55,7 @@ plain_cells r q rbuf bytes policy mid new same len start after =
     let end = max (length r.cells) (q + length bytes) in
     let length_acc : length acc ≡ end = length-map-range_with_len (λ p. held_after (next_of r.cells) (limit_of (next_of r.cells) r.fin rbuf) policy q bytes p (held r.cells p)) 0 end in
     ext_get_or None new acc (same ∙ len ∙ sym length_acc)
-      (λ i l. after i ∙ ap (held_after (next_of r.cells) (limit_of (next_of r.cells) r.fin rbuf) policy q bytes i) (start i) ∙ sym (held_accepted r q bytes policy rbuf i))
+    (λ i l. after i ∙ ap (held_after (next_of r.cells) (limit_of (next_of r.cells) r.fin rbuf) policy q bytes i) (start i) ∙ sym (held_accepted r q bytes policy rbuf i))
 
 pub plain_counts : (r : Receiver) (q rbuf : ℕ) (bytes : List ℕ) (mid : List (Option ℕ)) (before : Before) → before ≡ record { next = next_of r.cells; limit = limit_of (next_of r.cells) r.fin rbuf; rbuf = rbuf } → ((p : ℕ) → held mid p ≡ held r.cells p)
     → judged_below before q bytes mid (length bytes) ≡ counts_at r q bytes rbuf
@@ -63,10 +64,10 @@ plain_counts r q rbuf bytes mid before e start =
     let limit = limit_of next r.fin rbuf in
     let told : Before = record { next = next; limit = limit; rbuf = rbuf } in
     ap (λ (b : Before). judged_below b q bytes mid (length bytes)) e ∙ placed_is (judged_below told q bytes mid (length bytes)) (counts_at r q bytes rbuf)
-      (count_below-same (λ i. is_new next limit (q + i) (held mid (q + i))) (λ i. is_new next limit (q + i) (held r.cells (q + i))) (length bytes) (λ i l. ap (is_new next limit (q + i)) (start (q + i))))
-      (count_below-same (λ i. is_old next (q + i) (held mid (q + i))) (λ i. is_old next (q + i) (held r.cells (q + i))) (length bytes) (λ i l. ap (is_old next (q + i)) (start (q + i))))
-      (count_below-same (λ i. is_differing next rbuf (q + i) (held mid (q + i)) (slice_index bytes i)) (λ i. is_differing next rbuf (q + i) (held r.cells (q + i)) (slice_index bytes i)) (length bytes) (λ i l. ap (λ c. is_differing next rbuf (q + i) c (slice_index bytes i)) (start (q + i))))
-      (count_below-same (λ i. is_over next limit (q + i) (held mid (q + i))) (λ i. is_over next limit (q + i) (held r.cells (q + i))) (length bytes) (λ i l. ap (is_over next limit (q + i)) (start (q + i))))
+    (count_below-same (λ i. is_new next limit (q + i) (held mid (q + i))) (λ i. is_new next limit (q + i) (held r.cells (q + i))) (length bytes) (λ i l. ap (is_new next limit (q + i)) (start (q + i))))
+    (count_below-same (λ i. is_old next (q + i) (held mid (q + i))) (λ i. is_old next (q + i) (held r.cells (q + i))) (length bytes) (λ i l. ap (is_old next (q + i)) (start (q + i))))
+    (count_below-same (λ i. is_differing next rbuf (q + i) (held mid (q + i)) (slice_index bytes i)) (λ i. is_differing next rbuf (q + i) (held r.cells (q + i)) (slice_index bytes i)) (length bytes) (λ i l. ap (λ c. is_differing next rbuf (q + i) c (slice_index bytes i)) (start (q + i))))
+    (count_below-same (λ i. is_over next limit (q + i) (held mid (q + i))) (λ i. is_over next limit (q + i) (held r.cells (q + i))) (length bytes) (λ i l. ap (is_over next limit (q + i)) (start (q + i))))
 
 -- empty cells at the end hold what no cell holds
 pub resized : (old mid : List (Option ℕ)) (end : ℕ) → length mid ≡ end → length old ≤ end
@@ -76,9 +77,9 @@ pub resized : (old mid : List (Option ℕ)) (end : ℕ) → length mid ≡ end �
 resized old mid end len l same none p = ⊎_elim
     (λ (a : p < length old). same p None (omega arith) a)
     (λ (a : length old ≤ p). ⊎_elim
-      (λ (b : p < end). none p None a b ∙ sym (held_past old p a))
-      (λ (b : end ≤ p). held_past mid p (omega arith) ∙ sym (held_past old p a))
-      (cases_lt p end))
+    (λ (b : p < end). none p None a b ∙ sym (held_past old p a))
+    (λ (b : end ≤ p). held_past mid p (omega arith) ∙ sym (held_past old p a))
+    (cases_lt p end))
     (cases_lt p (length old))
 
 pub plain_accept : (r : Receiver) (d : ℤ) (rbuf : ℕ) (bytes : List ℕ) (policy : Policy) (position below cut : ℕ) (mid new : List (Option ℕ))
@@ -101,6 +102,6 @@ unfolding counts
 plain_judged r d rbuf bytes position below cut mid before placed at under e told start judged =
     let rest = take (length bytes - cut) (drop cut bytes) in
     let all : placed ≡ counts_at r (from_zero (pos (next_of r.cells) +ℤ d)) (drop (below_zero (pos (next_of r.cells) +ℤ d)) bytes) rbuf
-      = judged ∙ plain_counts r position rbuf rest mid before told start ∙ ap₂ (λ x y. counts_at r x y rbuf) at (cut_bytes below cut bytes e ∙ ap (λ k. drop k bytes) under) in
+    = judged ∙ plain_counts r position rbuf rest mid before told start ∙ ap₂ (λ x y. counts_at r x y rbuf) at (cut_bytes below cut bytes e ∙ ap (λ k. drop k bytes) under) in
     let made : ℕ → Placed → Placed = λ k c. record { new = c.new; old = k + c.old; differ = c.differ; over = c.over } in
     ap₂ made (e ∙ ap (λ k. min k (length bytes)) under) all

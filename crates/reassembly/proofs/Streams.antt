@@ -23,17 +23,21 @@ bounded_limit w None rbuf h =
     let span : end_of w ≤ w.next + rbuf = h.sized.span in
     record {
       next = omega arith;
-      runs = record { each = λ k l. let e : (run_at w.runs.items k).end ≤ end_of w = h.laid.within.each k l in omega arith } }
+      runs = record { each = λ k l. let e : (run_at w.runs.items k).end ≤ end_of w = h.laid.within.each k l in omega arith };
+    }
 bounded_limit w (Some f) rbuf h =
     let span : end_of w ≤ w.next + rbuf = h.sized.span in
     let fin : IsBounded w f = h.fin f refl in
     let next : w.next ≤ f = fin.next in
     record {
       next = omega arith;
-      runs = record { each = λ k l.
-        let e : (run_at w.runs.items k).end ≤ end_of w = h.laid.within.each k l in
-        let g : (run_at w.runs.items k).end ≤ f = fin.runs.each k l in
-        omega arith } }
+      runs = record {
+        each = λ k l.
+            let e : (run_at w.runs.items k).end ≤ end_of w = h.laid.within.each k l in
+            let g : (run_at w.runs.items k).end ≤ f = fin.runs.each k l in
+            omega arith;
+      };
+    }
 
 pub fin_bounded : (w : Window) (next f rbuf : ℕ) (fin : Option ℕ) → fin ≡ Some f → IsBounded w (limit_of next fin rbuf) → IsBounded w f
 fin_bounded w next f rbuf None e h = absurd (cc e)
@@ -42,7 +46,8 @@ fin_bounded w next f rbuf (Some g) e h =
     let up : w.next ≤ min g (next + rbuf) = h.next in
     record {
       next = omega arith;
-      runs = record { each = λ k l. let b : (run_at w.runs.items k).end ≤ min g (next + rbuf) = h.runs.each k l in omega arith } }
+      runs = record { each = λ k l. let b : (run_at w.runs.items k).end ≤ min g (next + rbuf) = h.runs.each k l in omega arith };
+    }
 
 -- the same content has the same invariant
 pub whole_same : (old new : Window) (fin : Option ℕ) (rbuf : ℕ) → IsSameWindow old new → IsWhole old fin rbuf → IsWhole new fin rbuf
@@ -56,14 +61,17 @@ whole_same old new fin rbuf same h =
         filled = let f : old.next ≤ end_of old = h.laid.filled in omega arith;
         ordered = rw same.runs h.laid.ordered;
         above = rw (same.runs, next) h.laid.above;
-        within = rw (same.runs, end) h.laid.within };
+        within = rw (same.runs, end) h.laid.within;
+      };
       sized = record {
         kept = rw (base, next) h.sized.kept;
         span = rw (end, next) h.sized.span;
-        stale = rw (base, next) h.sized.stale };
+        stale = rw (base, next) h.sized.stale;
+      };
       least = h.least;
       most = h.most;
-      fin = λ f e. let b = h.fin f e in record { next = rw next b.next; runs = rw same.runs b.runs } }
+      fin = λ f e. let b = h.fin f e in record { next = rw next b.next; runs = rw same.runs b.runs };
+    }
 
 -- the bytes from the cut on are those at or above position 0
 pub cut_bytes : (below cut : ℕ) (bytes : List ℕ) → cut ≡ min below (length bytes) → take (length bytes - cut) (drop cut bytes) ≡ drop below bytes
@@ -81,7 +89,7 @@ stream_stands w n fin rbuf d bytes policy position below cut at under e step r h
     let b : below_zero (pos w.next +ℤ d) ≡ below_zero (pos (next_of r.cells) +ℤ d) = ap (λ x. below_zero (pos x +ℤ d)) next in
     let same : drop below bytes ≡ drop (below_zero (pos (next_of r.cells) +ℤ d)) bytes = ap (λ k. drop k bytes) (under ∙ b) in
     subst (λ (x : ℕ × List ℕ). StandsFor (known_of n fin rbuf) (accept_at r x.0 x.1 policy rbuf))
-      (ap₂ (λ x y. (x, y)) (at ∙ q) (cut_bytes below cut bytes e ∙ same)) stood
+    (ap₂ (λ x y. (x, y)) (at ∙ q) (cut_bytes below cut bytes e ∙ same)) stood
 
 pub stream_counts : (w : Window) (fin : Option ℕ) (rbuf : ℕ) (d : ℤ) (bytes : List ℕ) (position below cut : ℕ) (placed : Placed)
     → position ≡ from_zero (pos w.next +ℤ d) → below ≡ below_zero (pos w.next +ℤ d) → cut ≡ min below (length bytes)
@@ -95,8 +103,8 @@ stream_counts w fin rbuf d bytes position below cut placed at under e told r h =
     let b : below_zero (pos w.next +ℤ d) ≡ below_zero (pos (next_of r.cells) +ℤ d) = ap (λ x. below_zero (pos x +ℤ d)) next in
     let same : drop below bytes ≡ drop (below_zero (pos (next_of r.cells) +ℤ d)) bytes = ap (λ k. drop k bytes) (under ∙ b) in
     let all : placed ≡ counts_at r (from_zero (pos (next_of r.cells) +ℤ d)) (drop (below_zero (pos (next_of r.cells) +ℤ d)) bytes) rbuf
-      = told ∙ counts_stand position (take (length bytes - cut) (drop cut bytes)) (known_of w fin rbuf) r h
-        ∙ ap₂ (λ x y. counts_at r x y rbuf) (at ∙ q) (cut_bytes below cut bytes e ∙ same) in
+    = told ∙ counts_stand position (take (length bytes - cut) (drop cut bytes)) (known_of w fin rbuf) r h
+    ∙ ap₂ (λ x y. counts_at r x y rbuf) (at ∙ q) (cut_bytes below cut bytes e ∙ same) in
     let made : ℕ → Placed → Placed = λ k c. record { new = c.new; old = k + c.old; differ = c.differ; over = c.over } in
     ap₂ made (e ∙ ap (λ k. min k (length bytes)) (under ∙ b)) all
 
@@ -114,9 +122,9 @@ low_is w fin rbuf some r h =
     let len : length (map cell (range_with_len 0 n)) ≡ n = length-map-range_with_len cell 0 n in
     let at : (k : ℕ) → k < n → held (map cell (range_with_len 0 n)) k ≡ cell k = λ k l. get_or-map-range_with_len cell 0 n k k None l (omega arith) in
     let none_below : (k : ℕ) → k < n - rbuf → is_none (held (map cell (range_with_len 0 n)) k) ≡ true = λ k l.
-      ap is_none (at k (omega arith) ∙ cond-false (leb (n - rbuf) k) (held r.cells k) None (lt-leb (n - rbuf) k l)) in
+    ap is_none (at k (omega arith) ∙ cond-false (leb (n - rbuf) k) (held r.cells k) None (lt-leb (n - rbuf) k l)) in
     let some_at : n - rbuf < length (map cell (range_with_len 0 n)) → is_none (held (map cell (range_with_len 0 n)) (n - rbuf)) ≡ false = λ l.
-      ap is_none (at (n - rbuf) (omega arith) ∙ cond-true (leb (n - rbuf) (n - rbuf)) (held r.cells (n - rbuf)) None (le-leb (n - rbuf) (n - rbuf) (omega arith)))
-      ∙ none_of_some (held r.cells (n - rbuf)) (below_next r.cells (n - rbuf) (omega arith)) in
+    ap is_none (at (n - rbuf) (omega arith) ∙ cond-true (leb (n - rbuf) (n - rbuf)) (held r.cells (n - rbuf)) None (le-leb (n - rbuf) (n - rbuf) (omega arith)))
+    ∙ none_of_some (held r.cells (n - rbuf)) (below_next r.cells (n - rbuf) (omega arith)) in
     let found : prefix_len is_none (map cell (range_with_len 0 n)) ≡ n - rbuf = prefix_len_is is_none (map cell (range_with_len 0 n)) (n - rbuf) None (omega arith) none_below some_at in
     omega (arith, found)

@@ -77,13 +77,13 @@ cells_taken old mid laid new low bytes policy is_laid from t p reach =
     let place : is_accepted laid.next laid.runs.items p ≡ acc = ap₂ (λ n (rs : List Run). is_accepted n rs p) (t.laid_next ∙ t.mid_next) (t.laid_runs ∙ t.mid_runs) in
     let accepted : is_accepted new.next new.runs.items p ≡ (acc || here) = t.accepted p ∙ ap (λ b. b || here) place in
     let byte : byte_at new p ≡ cond (here && not (covered && not (is_last policy))) seg (byte_at mid p)
-      = ap₂ (λ b (xs : List ℕ). slice_index xs (p - b)) t.new_base t.new_bytes ∙ t.laid_bytes p (omega arith)
-        ∙ ap (λ (rs : List Run). cond (here && not (is_covered rs p && not (is_last policy))) seg (byte_at mid p)) t.mid_runs in
+    = ap₂ (λ b (xs : List ℕ). slice_index xs (p - b)) t.new_base t.new_bytes ∙ t.laid_bytes p (omega arith)
+    ∙ ap (λ (rs : List Run). cond (here && not (is_covered rs p && not (is_last policy))) seg (byte_at mid p)) t.mid_runs in
     ap₂ (λ b x. cond b (Some x) None) accepted byte
     ∙ taken_is acc covered here (is_last policy) seg (byte_at old p) (byte_at mid p)
-        (λ e. let l : low ≤ p = leb-true low p (and_parts (leb low p) (ltb p (low + length bytes)) e).0 in accepted_from_next old.next old.runs.items p (omega arith))
-        (covered_of_accepted old.next old.runs.items p)
-        (λ e. byte_same old mid mid_base t.mid_bytes p reach (accepted_within old is_laid p e))
+    (λ e. let l : low ≤ p = leb-true low p (and_parts (leb low p) (ltb p (low + length bytes)) e).0 in accepted_from_next old.next old.runs.items p (omega arith))
+    (covered_of_accepted old.next old.runs.items p)
+    (λ e. byte_same old mid mid_base t.mid_bytes p reach (accepted_within old is_laid p e))
 
 only_where : (b x y : Bool) → (b ≡ true → x ≡ y) → (b && x) ≡ (b && y)
 only_where true x y h = h refl
@@ -95,23 +95,24 @@ pub tally_taken : (old mid : Window) (low : ℕ) (bytes : List ℕ) → IsLaid o
 tally_taken old mid low bytes laid from base runs same =
     let tally : List Run → ℕ → Tally = λ rs d. record { new = count_below (λ i. not (is_covered rs (low + i))) (length bytes); old = count_below (λ i. is_covered rs (low + i)) (length bytes); differ = d } in
     ap₂ tally runs (
-      ap (λ (rs : List Run). count_below (λ i. is_covered rs (low + i) && not (eqb (byte_at mid (low + i)) (slice_index bytes i))) (length bytes)) runs
-      ∙ count_below-same
-          (λ i. is_covered old.runs.items (low + i) && not (eqb (byte_at mid (low + i)) (slice_index bytes i)))
-          (λ i. is_covered old.runs.items (low + i) && not (eqb (byte_at old (low + i)) (slice_index bytes i)))
-          (length bytes)
-          (λ i l. only_where (is_covered old.runs.items (low + i)) _ _ (λ e. ap (λ x. not (eqb x (slice_index bytes i))) (byte_same old mid base same (low + i) (omega arith) (covered_within old laid (low + i) e)))))
+    ap (λ (rs : List Run). count_below (λ i. is_covered rs (low + i) && not (eqb (byte_at mid (low + i)) (slice_index bytes i))) (length bytes)) runs
+    ∙ count_below-same
+    (λ i. is_covered old.runs.items (low + i) && not (eqb (byte_at mid (low + i)) (slice_index bytes i)))
+    (λ i. is_covered old.runs.items (low + i) && not (eqb (byte_at old (low + i)) (slice_index bytes i)))
+    (length bytes)
+    (λ i l. only_where (is_covered old.runs.items (low + i)) _ _ (λ e. ap (λ x. not (eqb x (slice_index bytes i))) (byte_same old mid base same (low + i) (omega arith) (covered_within old laid (low + i) e)))))
 
 pub taken_few : (w : Window) (low : ℕ) (bytes : List ℕ) (t : Tally) → t ≡ taken_tally w low bytes → (t.old ≤ length bytes) × (t.differ ≤ length bytes)
-taken_few w low bytes t e =
-    (rw (ap (λ (x : Tally). x.old) e) (count_below-le (λ i. is_covered w.runs.items (low + i)) (length bytes)),
-     rw (ap (λ (x : Tally). x.differ) e) (count_below-le (λ i. is_covered w.runs.items (low + i) && not (eqb (byte_at w (low + i)) (slice_index bytes i))) (length bytes)))
+taken_few w low bytes t e = (
+  rw (ap (λ (x : Tally). x.old) e) (count_below-le (λ i. is_covered w.runs.items (low + i)) (length bytes)),
+  rw (ap (λ (x : Tally). x.differ) e) (count_below-le (λ i. is_covered w.runs.items (low + i) && not (eqb (byte_at w (low + i)) (slice_index bytes i))) (length bytes)),
+)
 
 -- where nothing waits, all bytes are new
 pub taken_in_order : (w : Window) (low : ℕ) (bytes : List ℕ) → w.runs.items ≡ [] → record { new = length bytes; old = 0; differ = 0 } ≡ taken_tally w low bytes
 taken_in_order w low bytes e =
     let none : (i : ℕ) → is_covered w.runs.items (low + i) ≡ false = λ i. ap (λ (rs : List Run). is_covered rs (low + i)) e in
     sym (tally_is (taken_tally w low bytes) (record { new = length bytes; old = 0; differ = 0 })
-      (count_below-all (λ i. not (is_covered w.runs.items (low + i))) (length bytes) (λ i l. ap not (none i)))
-      (count_below-none (λ i. is_covered w.runs.items (low + i)) (length bytes) (λ i l. none i))
-      (count_below-none (λ i. is_covered w.runs.items (low + i) && not (eqb (byte_at w (low + i)) (slice_index bytes i))) (length bytes) (λ i l. ap (λ b. b && not (eqb (byte_at w (low + i)) (slice_index bytes i))) (none i))))
+    (count_below-all (λ i. not (is_covered w.runs.items (low + i))) (length bytes) (λ i l. ap not (none i)))
+    (count_below-none (λ i. is_covered w.runs.items (low + i)) (length bytes) (λ i l. none i))
+    (count_below-none (λ i. is_covered w.runs.items (low + i) && not (eqb (byte_at w (low + i)) (slice_index bytes i))) (length bytes) (λ i l. ap (λ b. b && not (eqb (byte_at w (low + i)) (slice_index bytes i))) (none i))))

@@ -20,14 +20,16 @@ abbrev pub tally_of : List Run → ℕ → List ℕ → List ℕ → ℕ → Tal
 tally_of runs start cells segment n = record {
   new = count_below (λ i. not (is_covered runs (start + i))) n;
   old = count_below (λ i. is_covered runs (start + i)) n;
-  differ = count_below (λ i. is_covered runs (start + i) && not (nat_eq (slice_index cells i) (slice_index segment i))) n }
+  differ = count_below (λ i. is_covered runs (start + i) && not (nat_eq (slice_index cells i) (slice_index segment i))) n;
+}
 
 -- how a stretch of n bytes is judged that is accepted as a whole, or not at all
 abbrev pub tally_of_stretch : Bool → List ℕ → List ℕ → Tally
 tally_of_stretch is_old cells segment = record {
   new = if is_old then 0 else length segment;
   old = if is_old then length segment else 0;
-  differ = if is_old then differing_of cells segment (length segment) else 0 }
+  differ = if is_old then differing_of cells segment (length segment) else 0;
+}
 
 abbrev pub tally_sum : Tally → Tally → Tally
 tally_sum a b = record { new = a.new + b.new; old = a.old + b.old; differ = a.differ + b.differ }

@@ -11,7 +11,8 @@ counted_more placed before p c b = record {
   new = placed.new + (if is_new before.next before.limit p c then 1 else 0);
   old = placed.old + (if is_old before.next p c then 1 else 0);
   differ = placed.differ + (if is_differing before.next before.rbuf p c b then 1 else 0);
-  over = placed.over + (if is_over before.next before.limit p c then 1 else 0) }
+  over = placed.over + (if is_over before.next before.limit p c then 1 else 0);
+}
 
 -- the counts of the first n bytes
 abbrev pub judged_below : Before → ℕ → List ℕ → List (Option ℕ) → ℕ → Placed
@@ -19,4 +20,5 @@ judged_below before q bytes cells n = record {
   new = count_below (λ i. is_new before.next before.limit (q + i) (held cells (q + i))) n;
   old = count_below (λ i. is_old before.next (q + i) (held cells (q + i))) n;
   differ = count_below (λ i. is_differing before.next before.rbuf (q + i) (held cells (q + i)) (slice_index bytes i)) n;
-  over = count_below (λ i. is_over before.next before.limit (q + i) (held cells (q + i))) n }
+  over = count_below (λ i. is_over before.next before.limit (q + i) (held cells (q + i))) n;
+}

@@ -45,7 +45,8 @@ held_after next limit policy q bytes p c = if has_byte q bytes p then cell_after
 abbrev pub accept_at : Receiver → ℕ → List ℕ → Policy → ℕ → Receiver
 accept_at r q bytes policy rbuf = record {
   cells = map (λ p. held_after (next_of r.cells) (limit_of (next_of r.cells) r.fin rbuf) policy q bytes p (held r.cells p)) (range_with_len 0 (max (length r.cells) (q + length bytes)));
-  fin = r.fin }
+  fin = r.fin;
+}
 
 -- how many numbers below n pass
 abbrev pub count_below : (ℕ → Bool) → ℕ → ℕ
@@ -58,7 +59,8 @@ counts_at r q bytes rbuf = record {
   new = count_below (λ i. is_new (next_of r.cells) (limit_of (next_of r.cells) r.fin rbuf) (q + i) (held r.cells (q + i))) (length bytes);
   old = count_below (λ i. is_old (next_of r.cells) (q + i) (held r.cells (q + i))) (length bytes);
   differ = count_below (λ i. is_differing (next_of r.cells) rbuf (q + i) (held r.cells (q + i)) (slice_index bytes i)) (length bytes);
-  over = count_below (λ i. is_over (next_of r.cells) (limit_of (next_of r.cells) r.fin rbuf) (q + i) (held r.cells (q + i))) (length bytes) }
+  over = count_below (λ i. is_over (next_of r.cells) (limit_of (next_of r.cells) r.fin rbuf) (q + i) (held r.cells (q + i))) (length bytes);
+}
 
 -- A segment may begin below position 0. Its bytes there are old, and never kept.
 -- the first position at or above 0 from q on, and how many positions lie below 0
@@ -77,4 +79,8 @@ accept r q bytes policy rbuf = accept_at r (from_zero q) (drop (below_zero q) by
 -- how each of its bytes is judged
 unfoldable pub counts : Receiver → ℤ → List ℕ → ℕ → Placed
 counts r q bytes rbuf = let c = counts_at r (from_zero q) (drop (below_zero q) bytes) rbuf in record {
-  new = c.new; old = min (below_zero q) (length bytes) + c.old; differ = c.differ; over = c.over }
+  new = c.new;
+  old = min (below_zero q) (length bytes) + c.old;
+  differ = c.differ;
+  over = c.over;
+}

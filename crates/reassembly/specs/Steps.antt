@@ -22,4 +22,5 @@ counts_known s q bytes = record {
   new = count_below (λ i. is_new s.next (limit_of s.next s.fin s.rbuf) (q + i) (held s.kept (q + i))) (length bytes);
   old = count_below (λ i. is_old s.next (q + i) (held s.kept (q + i))) (length bytes);
   differ = count_below (λ i. is_differing s.next s.rbuf (q + i) (held s.kept (q + i)) (slice_index bytes i)) (length bytes);
-  over = count_below (λ i. is_over s.next (limit_of s.next s.fin s.rbuf) (q + i) (held s.kept (q + i))) (length bytes) }
+  over = count_below (λ i. is_over s.next (limit_of s.next s.fin s.rbuf) (q + i) (held s.kept (q + i))) (length bytes);
+}

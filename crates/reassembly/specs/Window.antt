@@ -73,7 +73,8 @@ abbrev pub taken_tally : Window → ℕ → List ℕ → Tally
 taken_tally w low bytes = record {
   new = count_below (λ i. not (is_covered w.runs.items (low + i))) (length bytes);
   old = count_below (λ i. is_covered w.runs.items (low + i)) (length bytes);
-  differ = count_below (λ i. is_covered w.runs.items (low + i) && not (nat_eq (byte_at w (low + i)) (slice_index bytes i))) (length bytes) }
+  differ = count_below (λ i. is_covered w.runs.items (low + i) && not (nat_eq (byte_at w (low + i)) (slice_index bytes i))) (length bytes);
+}
 
 -- how many bytes of a segment from q on, all of them below next, differ from the kept ones
 abbrev pub differing_below : Window → ℕ → ℕ → List ℕ → ℕ

@@ -47,17 +47,33 @@ fn next_stretch(runs: &[Run], cursor: usize, from: u64, stop: u64) -> Stretch
     ensures { IsStretch runs.now from stop result }
 {
     if cursor == runs.len() {
-        return Stretch { end: stop, is_old: false, cursor };
+        return Stretch {
+            end: stop,
+            is_old: false,
+            cursor,
+        };
     }
     let run = runs[cursor];
     if from < run.start {
         let end = run.start.min(stop);
-        return Stretch { end, is_old: false, cursor };
+        return Stretch {
+            end,
+            is_old: false,
+            cursor,
+        };
     }
     if run.end <= stop {
-        return Stretch { end: run.end, is_old: true, cursor: cursor + 1 };
+        return Stretch {
+            end: run.end,
+            is_old: true,
+            cursor: cursor + 1,
+        };
     }
-    Stretch { end: stop, is_old: true, cursor }
+    Stretch {
+        end: stop,
+        is_old: true,
+        cursor,
+    }
 }
 
 /// Lays one stretch: bytes at empty cells are copied, and others compared, and replaced where the last byte stays.
@@ -70,13 +86,21 @@ fn lay_stretch(cells: &mut [u8], segment: &[u8], policy: Policy, is_old: bool) -
     let len = segment.len() as u32;
     if !is_old {
         cells.copy_from_slice(segment);
-        return Tally { new: len, old: 0, differ: 0 };
+        return Tally {
+            new: len,
+            old: 0,
+            differ: 0,
+        };
     }
     let differ = differing(cells, segment);
     if policy == Policy::Last {
         cells.copy_from_slice(segment);
     }
-    Tally { new: 0, old: len, differ }
+    Tally {
+        new: 0,
+        old: len,
+        differ,
+    }
 }
 
 fn added(a: Tally, b: Tally) -> Tally
@@ -93,13 +117,7 @@ fn added(a: Tally, b: Tally) -> Tally
 }
 
 /// Lays the segment over the cells from position `start` on: one search among the runs, and then one step a stretch.
-pub fn lay(
-    cells: &mut [u8],
-    runs: &[Run],
-    start: u64,
-    segment: &[u8],
-    policy: Policy,
-) -> Tally
+pub fn lay(cells: &mut [u8], runs: &[Run], start: u64, segment: &[u8], policy: Policy) -> Tally
     requires ordered { AreOrdered runs.now }
     requires length { length cells.old ≡ length segment.now }
     requires short { length segment.now ≤ 65535 }
@@ -119,7 +137,12 @@ pub fn lay(
         let next = next_stretch(runs, cursor, at, stop);
         let from = (at - start) as usize;
         let to = (next.end - start) as usize;
-        let part = lay_stretch(&mut cells[from..to], &segment[from..to], policy, next.is_old);
+        let part = lay_stretch(
+            &mut cells[from..to],
+            &segment[from..to],
+            policy,
+            next.is_old,
+        );
         tally = added(tally, part);
         cursor = next.cursor;
         at = next.end;

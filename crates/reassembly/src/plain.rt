@@ -93,7 +93,13 @@ fn counted(placed: Placed, before: Before, position: u64, cell: Option<u8>, byte
 }
 
 /// Writes a segment's bytes from `start` on, one after another, and counts how they are judged.
-fn write_all(cells: &mut [Option<u8>], start: usize, bytes: &[u8], before: Before, policy: Policy) -> Placed
+fn write_all(
+    cells: &mut [Option<u8>],
+    start: usize,
+    bytes: &[u8],
+    before: Before,
+    policy: Policy,
+) -> Placed
     requires within { start + length bytes.now ≤ length cells.old }
     requires short { length bytes.now ≤ 65535 }
     ensures cells { (p : ℕ) → held cells.new p ≡ held_after before.next before.limit policy start bytes.now p (held cells.old p) }
@@ -146,7 +152,13 @@ impl PlainReceiver {
 
     /// Accepts the bytes of a segment whose first one stands `d` above `next`, and answers how they were judged.
     /// Where memory is refused, the receiver is as before.
-    pub fn accept(&mut self, d: i64, bytes: &[u8], policy: Policy, rbuf: u32) -> Result<Placed, AllocError>
+    pub fn accept(
+        &mut self,
+        d: i64,
+        bytes: &[u8],
+        policy: Policy,
+        rbuf: u32,
+    ) -> Result<Placed, AllocError>
         requires from { neg_ℤ (pos (2 ^ 31)) ≤ℤ d }
         requires to { d <ℤ pos (2 ^ 31) }
         requires short { length bytes.now ≤ 65535 }

@@ -76,12 +76,7 @@ impl Stream {
 
     /// Places the bytes of a segment whose first one stands `d` above `next`, and answers how they were judged.
     /// Where memory is refused, the stream is as before.
-    pub fn place(
-        &mut self,
-        d: i64,
-        bytes: &[u8],
-        policy: Policy,
-    ) -> Result<Placed, AllocError>
+    pub fn place(&mut self, d: i64, bytes: &[u8], policy: Policy) -> Result<Placed, AllocError>
         requires from { neg_ℤ (pos (2 ^ 31)) ≤ℤ d }
         requires to { d <ℤ pos (2 ^ 31) }
         requires short { length bytes.now ≤ 65535 }
@@ -95,7 +90,9 @@ impl Stream {
         let limit = limit(self.window.next, self.fin, self.rbuf);
         let start = start_of(self.window.next, d);
         let below = start.below.min(bytes.len() as u64) as usize;
-        let placed = self.window.place(start.position, &bytes[below..], policy, limit, self.rbuf)?;
+        let placed = self
+            .window
+            .place(start.position, &bytes[below..], policy, limit, self.rbuf)?;
         Ok(Placed {
             new: placed.new,
             old: below as u32 + placed.old,

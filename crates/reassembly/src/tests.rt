@@ -17,7 +17,16 @@ fn place(
     assert!(rt; d >= -100 && d < 100 && bytes.len() < 100 && stream.next() < 1000);
     let placed = stream.place(d, bytes, Policy::First)?;
     let (new, old, differ, over) = wanted;
-    assert_eq!(rt; placed, Placed { new, old, differ, over }, "at {d}");
+    assert_eq!(rt;
+        placed,
+        Placed {
+            new,
+            old,
+            differ,
+            over
+        },
+        "at {d}"
+    );
     assert_eq!(rt; stream.next(), next, "after {d}");
     Ok(())
 }
@@ -107,21 +116,23 @@ fn turn(
     let next = stream.next();
     assert!(rt; next < 1_000_000 && plain.next() < 1_000_000 && len <= 12);
     let placed = stream.place(d, &bytes[..len], policy)?;
-    assert_eq!(rt; placed, plain.accept(d, &bytes[..len], policy, rbuf)?, "at {next}");
+    assert_eq!(rt;
+        placed,
+        plain.accept(d, &bytes[..len], policy, rbuf)?,
+        "at {next}"
+    );
     if random.below(60) == 0 {
         let end = next as i64 + d;
-        assert_eq!(rt; stream.note_fin(end, next + 16), plain.note_fin(end, next + 16), "at {next}");
+        assert_eq!(rt;
+            stream.note_fin(end, next + 16),
+            plain.note_fin(end, next + 16),
+            "at {next}"
+        );
     }
     Ok(())
 }
 
-fn agree(
-    rt: &impl Abort,
-    alloc: Global,
-    policy: Policy,
-    rbuf: u32,
-    seed: u32,
-) -> Result<(), Fail>
+fn agree(rt: &impl Abort, alloc: Global, policy: Policy, rbuf: u32, seed: u32) -> Result<(), Fail>
     requires least { 1 ≤ rbuf }
     requires most { rbuf ≤ 1048576 }
 {

@@ -261,7 +261,11 @@ impl Window {
             return position;
         }
         let run = self.runs[at];
-        if run.start <= position { run.end } else { position }
+        if run.start <= position {
+            run.end
+        } else {
+            position
+        }
     }
 
     /// The first kept position at or above `position`, if there is one.

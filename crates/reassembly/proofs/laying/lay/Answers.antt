@@ -39,7 +39,7 @@ loop-at-preserved c =
     let same : length cells ≡ length segment = omega arith in
     let alike : (i : ℕ) → i < b - a → is_covered runs (start + (a + i)) ≡ is_old = λ i l. step.alike (start + (a + i)) (omega arith) (omega arith) in
     let laid = laid_part runs start a b c.args.policy c.args.cells.now segment cells c.lay_stretch-part.new.cells is_old
-      (omega arith) (omega arith) same (record { done = old.done; rest = old.rest }) alike c.lay_stretch-part.ensures.cells in
+    (omega arith) (omega arith) same (record { done = old.done; rest = old.rest }) alike c.lay_stretch-part.ensures.cells in
     record {
       end = refl;
       from = omega arith;
@@ -48,6 +48,7 @@ loop-at-preserved c =
       done = laid.done;
       rest = laid.rest;
       judged = c.added-tally.ensures ∙ ap₂ tally_sum old.judged c.lay_stretch-part.ensures.tally
-        ∙ tally_more runs start a (b - a) b c.args.cells.now segment (take (b - a) (drop a cells)) (take (b - a) (drop a segment)) is_old
-            (omega arith) (length-part a b segment (omega arith) (omega arith)) alike
-            (λ i l. part_at a b cells i 0 l ∙ old.rest (a + i) (omega arith)) (λ i l. part_at a b segment i 0 l) }
+          ∙ tally_more runs start a (b - a) b c.args.cells.now segment (take (b - a) (drop a cells)) (take (b - a) (drop a segment)) is_old
+          (omega arith) (length-part a b segment (omega arith) (omega arith)) alike
+          (λ i l. part_at a b cells i 0 l ∙ old.rest (a + i) (omega arith)) (λ i l. part_at a b segment i 0 l);
+    }

@@ -13,8 +13,10 @@ returns-then-cursor-runs c =
       cursor = record {
         within = omega arith;
         before = λ j l. let e : (run_at runs j).end ≤ c.args.from = c.requires.cursor.before j l in omega arith;
-        after = λ j l w. absurd (omega arith) };
-      alike = λ p low below. in_gap runs c.args.cursor c.args.from p c.requires.ordered c.requires.cursor low (λ w. absurd (omega arith)) }
+        after = λ j l w. absurd (omega arith);
+      };
+      alike = λ p low below. in_gap runs c.args.cursor c.args.from p c.requires.ordered c.requires.cursor low (λ w. absurd (omega arith));
+    }
 
 -- below the run that the cursor shows
 pub returns-then-from-run : goal.returns-then-from-run
@@ -26,7 +28,8 @@ returns-then-from-run c =
       some = omega arith;
       within = omega arith;
       cursor = cursor_stays runs c.args.cursor c.args.from c.min-end.result c.requires.ordered c.requires.cursor (omega arith) (omega arith) (omega arith);
-      alike = λ p low below. in_gap runs c.args.cursor c.args.from p c.requires.ordered c.requires.cursor low (λ w. omega arith) }
+      alike = λ p low below. in_gap runs c.args.cursor c.args.from p c.requires.ordered c.requires.cursor low (λ w. omega arith);
+    }
 
 -- the rest of that run
 pub returns-then-run-stop : goal.returns-then-run-stop
@@ -38,7 +41,8 @@ returns-then-run-stop c =
       some = below;
       within = omega arith;
       cursor = cursor_next runs c.args.cursor c.args.from c.requires.ordered c.requires.cursor (omega arith) (omega arith);
-      alike = λ p low high. covered_by runs c.args.cursor p (omega arith) (omega arith) high }
+      alike = λ p low high. covered_by runs c.args.cursor p (omega arith) (omega arith) high;
+    }
 
 -- that run up to the end of the segment
 pub returns : goal.returns
@@ -49,4 +53,5 @@ returns c =
       some = omega arith;
       within = omega arith;
       cursor = cursor_stays runs c.args.cursor c.args.from c.args.stop c.requires.ordered c.requires.cursor (omega arith) (omega arith) (omega arith);
-      alike = λ p low high. covered_by runs c.args.cursor p (omega arith) (omega arith) (omega arith) }
+      alike = λ p low high. covered_by runs c.args.cursor p (omega arith) (omega arith) (omega arith);
+    }

@@ -21,10 +21,11 @@ loop-i-preserved c =
     let so_far = c.loop-i.invariant in
     let cell : held c.loop-i.cells (start + i) ≡ held old (start + i) = so_far.rest (start + i) (omega arith) in
     let write : c.written.result ≡ cell_after before.next before.limit c.args.policy (start + i) (held old (start + i)) (slice_index bytes i)
-      = c.written.ensures ∙ ap (λ (x : Option ℕ). cell_after before.next before.limit c.args.policy (start + i) x (slice_index bytes i)) cell in
+    = c.written.ensures ∙ ap (λ (x : Option ℕ). cell_after before.next before.limit c.args.policy (start + i) x (slice_index bytes i)) cell in
     let count : c.counted-placed.result ≡ judged_below before start bytes old (suc i)
-      = c.counted-placed.ensures ∙ ap₂ (λ (x : Placed) (y : Option ℕ). counted_more x before (start + i) y (slice_index bytes i)) so_far.judged cell ∙ judged_more before start bytes old i in
+    = c.counted-placed.ensures ∙ ap₂ (λ (x : Placed) (y : Option ℕ). counted_more x before (start + i) y (slice_index bytes i)) so_far.judged cell ∙ judged_more before start bytes old i in
     record {
       done = λ p l. written_more before.next before.limit c.args.policy start i bytes old c.loop-i.cells c.written.result (omega arith) (omega arith) so_far.done so_far.rest write p (omega arith);
       rest = λ p l. get_or-set_other c.loop-i.cells (start + i) p c.written.result None (λ e. omega (arith, e)) ∙ so_far.rest p (omega arith);
-      judged = count ∙ ap (judged_below before start bytes old) (sym (add-one i)) }
+      judged = count ∙ ap (judged_below before start bytes old) (sym (add-one i));
+    }

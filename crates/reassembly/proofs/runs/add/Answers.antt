@@ -34,7 +34,8 @@ prepared c =
       order = order;
       begun = begun;
       joined = joined;
-      span = span_of_joined _ _ _ _ _ _ c.requires.ordered c.requires.some c.requires.positive cursor begun joined order }
+      span = span_of_joined _ _ _ _ _ _ c.requires.ordered c.requires.some c.requires.positive cursor begun joined order;
+    }
 
 pub returns-clause-ordered : goal.returns-clause-ordered
 returns-clause-ordered c = let h = prepared c in

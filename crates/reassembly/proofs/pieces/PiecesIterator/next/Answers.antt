@@ -23,16 +23,16 @@ stepped : (at : ℕ → Option ℕ) (place left start end len : ℕ) → IsFirst
 stepped at place left start end len first run within e =
     let order : place ≤ start = first.order in
     let some : start < end = ⊎_elim
-      (λ (l : start < end). l)
-      (λ (l : end ≤ start).
-        let up : start ≤ end = run.order in
-        let same : end ≡ start = omega arith in
-        absurd (true≢false (sym first.here ∙ ap (λ x. is_some (at x)) (sym same) ∙ run.stops)))
-      (cases_lt start end) in
+    (λ (l : start < end). l)
+    (λ (l : end ≤ start).
+    let up : start ≤ end = run.order in
+    let same : end ≡ start = omega arith in
+    absurd (true≢false (sym first.here ∙ ap (λ x. is_some (at x)) (sym same) ∙ run.stops)))
+    (cases_lt start end) in
     runs_skip at (start - place) (left - (start - place)) left place start (omega arith) (omega arith) first.gap
     ∙ runs_first_of at len (left - (start - place) - len) (left - (start - place)) start (start + len) (omega arith) (omega arith) refl
-        (λ x l h. run.run x l (omega arith))
-        (λ l. ap (λ x. is_some (at x)) (let same : start + len ≡ end = omega arith in same) ∙ run.stops)
+    (λ x l h. run.run x l (omega arith))
+    (λ l. ap (λ x. is_some (at x)) (let same : start + len ≡ end = omega arith in same) ∙ run.stops)
 
 pub returns-clause-steps : goal.returns-clause-steps
 returns-clause-steps c =

@@ -49,10 +49,10 @@ returns-clause-ok c =
     let same : length new ≡ length mid = c.write_all-placed.auto.cells in
     let short : length (take (length bytes - cut) (drop cut bytes)) ≡ length bytes - cut = ap length (take_rest bytes cut) ∙ length-drop cut bytes in
     let after : (p : ℕ) → held new p ≡ held_after (next_of s.cells.items) (limit_of (next_of s.cells.items) s.fin c.args.rbuf) c.args.policy c.start_of-start.result.position (take (length bytes - cut) (drop cut bytes)) p (held mid p)
-      = λ p. c.write_all-placed.ensures.cells p ∙ ap₂ (λ n l. held_after n l c.args.policy c.start_of-start.result.position (take (length bytes - cut) (drop cut bytes)) p (held mid p)) (next_is c) (limit_is c) in
+    = λ p. c.write_all-placed.ensures.cells p ∙ ap₂ (λ n l. held_after n l c.args.policy c.start_of-start.result.position (take (length bytes - cut) (drop cut bytes)) p (held mid p)) (next_is c) (limit_is c) in
     ap (λ (cells : List (Option ℕ)). record { cells = cells; fin = s.fin }) (with_items_is c.resize.new.self new (omega arith))
     ∙ plain_accept r c.args.d c.args.rbuf bytes c.args.policy c.start_of-start.result.position c.start_of-start.result.below cut mid new
-        (begins c) (begins_below c) c.min-below.ensures same (omega arith) (same_cells c) after
+    (begins c) (begins_below c) c.min-below.ensures same (omega arith) (same_cells c) after
     ∙ ap (λ (x : Receiver). accept x (pos (next_of x.cells) +ℤ c.args.d) bytes c.args.policy c.args.rbuf) c.self.view_is
 
 pub returns-clause-counts : goal.returns-clause-counts
@@ -61,7 +61,7 @@ returns-clause-counts c =
     let r : Receiver = record { cells = s.cells.items; fin = s.fin } in
     let before : Before = record { next = c.next-next.result; limit = c.limit.result; rbuf = c.args.rbuf } in
     let told : before ≡ record { next = next_of s.cells.items; limit = limit_of (next_of s.cells.items) s.fin c.args.rbuf; rbuf = c.args.rbuf }
-      = ap₂ (λ n l. record { next = n; limit = l; rbuf = c.args.rbuf }) (next_is c) (limit_is c) in
+    = ap₂ (λ n l. record { next = n; limit = l; rbuf = c.args.rbuf }) (next_is c) (limit_is c) in
     plain_judged r c.args.d c.args.rbuf c.args.bytes.now c.start_of-start.result.position c.start_of-start.result.below c.min-below.result c.deref_mut.result.now before c.write_all-placed.result
-      (begins c) (begins_below c) c.min-below.ensures told (same_cells c) c.write_all-placed.ensures.placed
+    (begins c) (begins_below c) c.min-below.ensures told (same_cells c) c.write_all-placed.ensures.placed
     ∙ ap (λ (x : Receiver). counts x (pos (next_of x.cells) +ℤ c.args.d) c.args.bytes.now c.args.rbuf) c.self.view_is

@@ -4,7 +4,6 @@ use Rattle.reassembly.specs.Fin.{is_free_from, natural_of, note_of, noted, fin_a
 use Rattle.reassembly.proofs.Fins.{note_is, refused_is, refused_fin, fin_is}
 use Rattle.reassembly.proofs.plain.PlainReceiver.note_fin.Goals as goal
 
-
 below : (c : goal.In_default) → natural_of c.args.position ≡ None
 below c = ap natural_of (sym (to_z-of_z c.ranges.position)) ∙ sym c.natural.ensures ∙ c.in_default.is
 
@@ -31,6 +30,6 @@ unfolding noted
 returns-clause-after c =
     let r : Receiver = record { cells = c.self.inside.cells.items; fin = c.self.inside.fin } in
     let fin : c.noted_after-fin.result ≡ fin_after r c.args.position (note_of r c.args.position c.args.edge)
-      = c.noted_after-fin.ensures ∙ fin_is r c.args.position c.in-Some.position c.self.inside.fin c.judge-note.result (natural c) refl ∙ ap (fin_after r c.args.position) (judged c) in
+    = c.noted_after-fin.ensures ∙ fin_is r c.args.position c.in-Some.position c.self.inside.fin c.judge-note.result (natural c) refl ∙ ap (fin_after r c.args.position) (judged c) in
     let told : record { cells = r.cells; fin = c.noted_after-fin.result } ≡ noted r c.args.position c.args.edge = ap (λ f. record { cells = r.cells; fin = f }) fin in
     told ∙ ap (λ (x : Receiver). noted x c.args.position c.args.edge) c.self.view_is

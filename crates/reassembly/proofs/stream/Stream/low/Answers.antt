@@ -9,4 +9,4 @@ returns c r h =
     let s = c.self.inside in
     let value : c.saturating_sub.result ≡ s.window.next - s.rbuf = c.saturating_sub.ensures ∙ ap (λ x. s.window.next - x) c.from.ensures in
     subst (λ (k : Known). StandsFor k r → c.saturating_sub.result ≡ low_of r.cells k.rbuf) c.self.view_is
-      (λ stood. value ∙ low_is s.window s.fin s.rbuf c.self.invariant.least r stood) h
+    (λ stood. value ∙ low_is s.window s.fin s.rbuf c.self.invariant.least r stood) h

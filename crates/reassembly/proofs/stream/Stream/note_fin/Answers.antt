@@ -17,7 +17,7 @@ pub returns-in_default-clause-stands : goal.returns-in_default-clause-stands
 returns-in_default-clause-stands c r h =
     let answer = refused_is r c.args.position c.args.edge (below c) in
     stands_noted c.args.self.now c.args.self.now r c.args.position c.args.edge h refl refl refl
-      (h.fin ∙ sym (refused_fin r c.args.position (below c)) ∙ ap (fin_after r c.args.position) answer)
+    (h.fin ∙ sym (refused_fin r c.args.position (below c)) ∙ ap (fin_after r c.args.position) answer)
 
 pub invariant_of-self : goal.invariant_of-self
 invariant_of-self c =
@@ -33,11 +33,11 @@ free : (c : goal.After-fin-1) (r : Receiver) → StandsFor (known_of c.self.insi
 free c r h =
     let s = c.self.inside in
     ⊎_elim
-      (λ (t : c.is_free_from-free.result ≡ true). t ∙ is_free s.window s.fin s.rbuf c.in-Some.position c.self.invariant.laid (c.is_free_from-free.ensures.free t) r h)
-      (λ (t : c.is_free_from-free.result ≡ false).
-        let taken = c.is_free_from-free.ensures.taken t in
-        t ∙ is_taken s.window s.fin s.rbuf c.in-Some.position taken.0 c.self.invariant.laid taken.1 taken.2 r h)
-      (cases_Bool c.is_free_from-free.result)
+    (λ (t : c.is_free_from-free.result ≡ true). t ∙ is_free s.window s.fin s.rbuf c.in-Some.position c.self.invariant.laid (c.is_free_from-free.ensures.free t) r h)
+    (λ (t : c.is_free_from-free.result ≡ false).
+    let taken = c.is_free_from-free.ensures.taken t in
+    t ∙ is_taken s.window s.fin s.rbuf c.in-Some.position taken.0 c.self.invariant.laid taken.1 taken.2 r h)
+    (cases_Bool c.is_free_from-free.result)
 
 judged : (c : goal.After-fin-1) (r : Receiver) → StandsFor (known_of c.self.inside.window c.self.inside.fin c.self.inside.rbuf) r → c.judge-note.result ≡ note_of r c.args.position c.args.edge
 judged c r h = c.judge-note.ensures ∙ note_is r c.args.position c.in-Some.position c.args.edge c.self.inside.fin c.is_free_from-free.result (natural c) h.fin (free c r h)
@@ -51,6 +51,6 @@ returns-clause-stands c r h =
     let old = known_of s.window s.fin s.rbuf in
     let new = known_of s.window c.noted_after-fin.result s.rbuf in
     subst (λ (k : Known). StandsFor k r → StandsFor new (noted r c.args.position c.args.edge)) c.self.view_is
-      (λ stood. stands_noted old new r c.args.position c.args.edge stood refl refl refl
-        (c.noted_after-fin.ensures ∙ fin_is r c.args.position c.in-Some.position s.fin c.judge-note.result (natural c) stood.fin ∙ ap (fin_after r c.args.position) (judged c r stood)))
-      h
+    (λ stood. stands_noted old new r c.args.position c.args.edge stood refl refl refl
+    (c.noted_after-fin.ensures ∙ fin_is r c.args.position c.in-Some.position s.fin c.judge-note.result (natural c) stood.fin ∙ ap (fin_after r c.args.position) (judged c r stood)))
+    h

@@ -24,9 +24,9 @@ pub returns-clause-stands : goal.returns-clause-stands
 returns-clause-stands c r h =
     let s = c.self.inside in
     subst (λ (k : Known). StandsFor k r → StandsFor (known_of c.place.new.self s.fin s.rbuf) (accept r (pos (next_of r.cells) +ℤ c.args.d) c.args.bytes.now c.args.policy k.rbuf)) c.self.view_is
-      (stream_stands s.window c.place.new.self s.fin s.rbuf c.args.d c.args.bytes.now c.args.policy c.start_of-start.result.position c.start_of-start.result.below c.min-below.result
-        (begins c) (begins_below c) c.min-below.ensures (c.in_ok-placed.ensures.steps s.fin c.limit-limit.ensures) r)
-      h
+    (stream_stands s.window c.place.new.self s.fin s.rbuf c.args.d c.args.bytes.now c.args.policy c.start_of-start.result.position c.start_of-start.result.below c.min-below.result
+    (begins c) (begins_below c) c.min-below.ensures (c.in_ok-placed.ensures.steps s.fin c.limit-limit.ensures) r)
+    h
 
 pub returns-clause-counts : goal.returns-clause-counts
 returns-clause-counts c r h =
@@ -34,6 +34,6 @@ returns-clause-counts c r h =
     let placed = c.in_ok-placed.placed in
     let made : Placed = record { new = placed.new; old = c.min-below.result + placed.old; differ = placed.differ; over = placed.over } in
     subst (λ (k : Known). StandsFor k r → made ≡ counts r (pos (next_of r.cells) +ℤ c.args.d) c.args.bytes.now k.rbuf) c.self.view_is
-      (stream_counts s.window s.fin s.rbuf c.args.d c.args.bytes.now c.start_of-start.result.position c.start_of-start.result.below c.min-below.result placed
-        (begins c) (begins_below c) c.min-below.ensures (c.in_ok-placed.ensures.counts s.fin c.limit-limit.ensures) r)
-      h
+    (stream_counts s.window s.fin s.rbuf c.args.d c.args.bytes.now c.start_of-start.result.position c.start_of-start.result.below c.min-below.result placed
+    (begins c) (begins_below c) c.min-below.ensures (c.in_ok-placed.ensures.counts s.fin c.limit-limit.ensures) r)
+    h

@@ -22,6 +22,6 @@ returns-clause-value c =
     let k = from + n - skip - from in
     let short : length (take (n - skip) (drop skip bytes)) ≡ n - skip = ap length (take_rest bytes skip) ∙ length-drop skip bytes in
     let counted : c.differing.result ≡ differing_of (take k (drop from w.bytes.items)) (take (n - skip) (drop skip bytes)) (n - skip)
-      = c.differing.ensures.value ∙ ap (differing_of (take k (drop from c.deref.result.now)) (take (n - skip) (drop skip bytes))) short
-        ∙ ap (λ (xs : List ℕ). differing_of (take k (drop from xs)) (take (n - skip) (drop skip bytes)) (n - skip)) c.deref.ensures.value in
+    = c.differing.ensures.value ∙ ap (differing_of (take k (drop from c.deref.result.now)) (take (n - skip) (drop skip bytes))) short
+    ∙ ap (λ (xs : List ℕ). differing_of (take k (drop from xs)) (take (n - skip) (drop skip bytes)) (n - skip)) c.deref.ensures.value in
     counted ∙ some_compared (w.next - c.args.rbuf) start w.base skip n (n - skip) k w.bytes.items bytes (omega arith) (omega arith) (omega arith) (omega arith) refl

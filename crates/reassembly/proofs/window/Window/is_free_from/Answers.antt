@@ -14,7 +14,8 @@ returns-in-Some-clause-free c t =
     let below : c.in-Some.run'.now.end ≤ c.args.position = leb-true c.in-Some.run'.now.end c.args.position t in
     record {
       next = omega arith;
-      runs = record { each = λ k l. let e : (run_at runs k).end ≤ (run_at runs (length runs - 1)).end = ends_rise runs k (length runs - 1) c.requires.ordered (omega arith) (omega arith) in omega arith } }
+      runs = record { each = λ k l. let e : (run_at runs k).end ≤ (run_at runs (length runs - 1)).end = ends_rise runs k (length runs - 1) c.requires.ordered (omega arith) (omega arith) in omega arith };
+    }
 
 pub returns-in-Some-clause-taken : goal.returns-in-Some-clause-taken
 returns-in-Some-clause-taken c t =

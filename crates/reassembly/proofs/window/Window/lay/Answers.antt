@@ -22,7 +22,7 @@ returns-clause-bytes c p l =
     let same : length xs ≡ length w.bytes.items = ap length value in
     let len : length cells ≡ n = omega arith in
     let laid : (i : ℕ) → i < n → slice_index cells i ≡ laid_byte w.runs.items c.args.low c.args.policy (take k (drop a xs)) c.args.bytes.now i
-      = rw c.deref.ensures.value at c.lay.ensures.cells in
+    = rw c.deref.ensures.value at c.lay.ensures.cells in
     let written = laid_window w.runs.items w.base c.args.low k c.args.policy xs c.args.bytes.now cells (omega arith) (omega arith) (omega arith) len laid p l in
     let whole : length (put_mid a k xs cells) ≡ length xs = length-mid a k xs cells (omega arith) (omega arith) in
     ap (λ (ys : List ℕ). slice_index ys (p - w.base)) (with_items_is w.bytes (put_mid a k xs cells) (whole ∙ long)) ∙ written
@@ -35,5 +35,5 @@ returns-clause-tally c =
     let a = c.args.low - w.base in
     let k = a + n - a in
     let judged : c.lay.result ≡ tally_of w.runs.items c.args.low (take k (drop a w.bytes.items)) c.args.bytes.now n
-      = c.lay.ensures.tally ∙ ap₂ (λ (runs : List Run) (xs : List ℕ). tally_of runs c.args.low (take k (drop a xs)) c.args.bytes.now n) c.deref.ensures.value c.deref_mut.ensures.value in
+    = c.lay.ensures.tally ∙ ap₂ (λ (runs : List Run) (xs : List ℕ). tally_of runs c.args.low (take k (drop a xs)) c.args.bytes.now n) c.deref.ensures.value c.deref_mut.ensures.value in
     judged ∙ judged_window w.runs.items w.base c.args.low k w.bytes.items c.args.bytes.now (omega arith) (omega arith)

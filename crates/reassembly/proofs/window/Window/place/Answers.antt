@@ -18,9 +18,9 @@ returns-clause-sized c =
     let span : end_of c.args.self.now ≤ c.args.self.now.next + c.args.rbuf = c.requires.sized.span in
     let middle = take (within - below) (drop below segment) in
     let inside : (length middle ≡ 0) ⊎ (c.args.start + below + length middle ≤ c.args.self.now.next + c.args.rbuf) = ⊎_elim
-      (λ (l : below < within). inr (let w : c.args.limit ≤ c.args.self.now.next + c.args.rbuf = c.requires.window in omega arith))
-      (λ (l : within ≤ below). inl (omega arith))
-      (cases_lt below within) in
+    (λ (l : below < within). inr (let w : c.args.limit ≤ c.args.self.now.next + c.args.rbuf = c.requires.window in omega arith))
+    (λ (l : within ≤ below). inl (omega arith))
+    (cases_lt below within) in
     let end : end_of c.take.new.self ≤ c.args.self.now.next + c.args.rbuf = c.in_ok-tally.ensures.end (c.args.self.now.next + c.args.rbuf) inside span in
     let same : end_of c.forget.new.self ≡ end_of c.take.new.self = c.forget.ensures.end in
     let next : c.forget.new.self.next ≡ c.take.new.self.next = c.forget.ensures.place.0 in
@@ -29,24 +29,25 @@ returns-clause-sized c =
 pub returns-clause-steps : goal.returns-clause-steps
 returns-clause-steps c fin is_limit =
     steps_placed c.args.self.now c.take.new.self c.forget.new.self fin c.args.rbuf c.args.limit c.args.start c.count_under-below.result c.count_under-within.result c.args.policy c.args.segment.now
-      (record {
-        old_laid = c.requires.laid;
-        old_kept = c.requires.sized.kept;
-        mid_laid = c.in_ok-tally.ensures.laid;
-        mid_base = c.in_ok-tally.ensures.base;
-        rises = c.in_ok-tally.ensures.rises;
-        taken = c.in_ok-tally.ensures.cells;
-        new_laid = c.forget.ensures.laid;
-        new_next = c.forget.ensures.place.0;
-        new_runs = ap (λ v. v.items) c.forget.ensures.place.1;
-        new_kept = c.forget.ensures.low;
-        new_bytes = c.forget.ensures.bytes })
-      c.requires.bounded is_limit
-      (record { below = c.count_under-below.ensures; within = c.count_under-within.ensures; order = c.requires.bounded.next })
+    (record {
+      old_laid = c.requires.laid;
+      old_kept = c.requires.sized.kept;
+      mid_laid = c.in_ok-tally.ensures.laid;
+      mid_base = c.in_ok-tally.ensures.base;
+      rises = c.in_ok-tally.ensures.rises;
+      taken = c.in_ok-tally.ensures.cells;
+      new_laid = c.forget.ensures.laid;
+      new_next = c.forget.ensures.place.0;
+      new_runs = ap (λ v. v.items) c.forget.ensures.place.1;
+      new_kept = c.forget.ensures.low;
+      new_bytes = c.forget.ensures.bytes;
+    })
+    c.requires.bounded is_limit
+    (record { below = c.count_under-below.ensures; within = c.count_under-within.ensures; order = c.requires.bounded.next })
 
 pub returns-clause-counts : goal.returns-clause-counts
 returns-clause-counts c fin is_limit =
     counts_placed c.args.self.now fin c.args.rbuf c.args.limit c.args.start c.count_under-below.result c.count_under-within.result c.args.segment.now
-      c.requires.laid c.requires.bounded is_limit
-      (record { below = c.count_under-below.ensures; within = c.count_under-within.ensures; order = c.requires.bounded.next })
-      c.in_ok-tally.tally c.compare-differ.result c.in_ok-tally.ensures.tally c.compare-differ.ensures.value _ refl
+    c.requires.laid c.requires.bounded is_limit
+    (record { below = c.count_under-below.ensures; within = c.count_under-within.ensures; order = c.requires.bounded.next })
+    c.in_ok-tally.tally c.compare-differ.result c.in_ok-tally.ensures.tally c.compare-differ.ensures.value _ refl

@@ -1,6 +1,5 @@
 use Rattle.std.proofs.Common.{◌≡◌, ◌≤◌, arith, ap, ◌∙◌, sym, length, vec_len, [], vec_len, []}
 use Rattle.std.proofs.lemmas.Bool.{eqb-false, eqb-true}
-
 use Rattle.reassembly.specs.Window.{taken_tally}
 use Rattle.reassembly.proofs.Taken.{cells_taken, tally_taken, taken_few, taken_in_order}
 use Rattle.std.proofs.lemmas.List.{nil_from_length}
@@ -15,19 +14,20 @@ from_next c =
 pub returns-clause-cells : goal.returns-clause-cells
 returns-clause-cells c p l =
     cells_taken c.args.self.now c.reserve.new.self c.lay-tally.new.self c.accept.new.self c.args.low c.args.bytes.now c.args.policy c.requires.laid (from_next c)
-      (record {
-        mid_base = c.in_ok-reserve.ensures.place.0;
-        mid_next = c.in_ok-reserve.ensures.place.1;
-        mid_runs = c.in_ok-reserve.ensures.runs;
-        mid_bytes = λ i b. c.in_ok-reserve.ensures.bytes i (omega arith);
-        laid_base = c.lay-tally.ensures.place.0;
-        laid_next = c.lay-tally.ensures.place.1;
-        laid_runs = ap (λ v. v.items) c.lay-tally.ensures.place.2;
-        laid_bytes = c.lay-tally.ensures.bytes;
-        new_base = c.accept.ensures.same.0;
-        new_bytes = ap (λ v. v.items) c.accept.ensures.same.1;
-        accepted = c.accept.ensures.accepted })
-      p l
+    (record {
+      mid_base = c.in_ok-reserve.ensures.place.0;
+      mid_next = c.in_ok-reserve.ensures.place.1;
+      mid_runs = c.in_ok-reserve.ensures.runs;
+      mid_bytes = λ i b. c.in_ok-reserve.ensures.bytes i (omega arith);
+      laid_base = c.lay-tally.ensures.place.0;
+      laid_next = c.lay-tally.ensures.place.1;
+      laid_runs = ap (λ v. v.items) c.lay-tally.ensures.place.2;
+      laid_bytes = c.lay-tally.ensures.bytes;
+      new_base = c.accept.ensures.same.0;
+      new_bytes = ap (λ v. v.items) c.accept.ensures.same.1;
+      accepted = c.accept.ensures.accepted;
+    })
+    p l
 
 judged : (c : goal.After-accept) → c.lay-tally.result ≡ taken_tally c.args.self.now c.args.low c.args.bytes.now
 judged c = c.lay-tally.ensures.tally
