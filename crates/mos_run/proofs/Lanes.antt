@@ -1,23 +1,33 @@
 -- What one more packet does to the records that a lane stands for.
-use Rattle.std.proofs.Common.{◌≡◌, ℕ, zero, suc, ◌+◌, ◌<◌, Bool, true, false, Option, Some, None, List, [], ◌∷◌, ◌++◌, length, get_or, set, refl, sym, ap, subst, ◌∙◌, arith, map, cond}
-use Rattle.std.proofs.lemmas.List.{map-append, map-set, length-append, get_or-map}
-use Rattle.std.specs.Prelude.{if◌then◌else◌}
+use Rattle.std.proofs.Common.{◌≡◌, ℕ, zero, suc, ◌+◌, ◌<◌, Bool, true, false, Option, Some, None, List, [], ◌∷◌, ◌++◌, length, get_or, set, refl, sym, ap, subst, ◌∙◌, arith, map, Result, Ok, Err}
+use Rattle.std.proofs.lemmas.List.{map-append, map-set, length-append}
+use Rattle.std.specs.Prelude.{if◌then◌else◌, ◌&&◌, not, OnOk}
 use Rattle.std.specs.FinMap as fin
 use Rattle.packet_views.specs.declared.packet.Head.{Head}
-use Rattle.packet_views.specs.Packet.{Segment, NoSegment}
-use Rattle.flow_table.specs.Key.{Ends, key_of_head, same_key}
-use Rattle.flow_table.specs.Table.{Flows, Rewrites, found, key_cmp}
-use Rattle.flow_table.proofs.Keys.{keys_total, exact_keys, same_key-equal}
-use Rattle.report_text.specs.declared.record.Record.{Record}
 use Rattle.packet_views.specs.declared.packet.Class.{Class}
+use Rattle.packet_views.specs.Packet.{Packet, Segment, NoSegment}
 use Rattle.flow_table.specs.Endpoint.{source_of, destination_of}
+use Rattle.flow_table.specs.Key.{Ends, key_of_head, same_key}
+use Rattle.flow_table.specs.Table.{Flows, found, key_cmp}
+use Rattle.flow_table.proofs.Keys.{same_key-equal}
+use Rattle.flow_socket.specs.Known.{SocketStandsFor}
+use Rattle.flow_socket.specs.Emulation.{sent, received}
+use Rattle.tcp_emulation.specs.Ends.{is_over as are_over}
 use Rattle.report_text.specs.declared.record.RecordKind.TheVariants.{Conn, Orphan}
-use Rattle.mos_run.specs.History.{followed, orphaned, at_sender, at_receiver, at_orphan}
-use Rattle.mos_run.specs.Records.{Past, Stamped, opens, is_between, holds, takes, begun, joined, added}
+use Rattle.report_text.specs.declared.record.Record.{Record}
+use Rattle.mos_run.specs.declared.flow.Flow.{Flow}
+use Rattle.mos_run.specs.History.{followed, orphaned, fresh, is_over, at_sender, at_receiver, at_orphan}
+use Rattle.mos_run.specs.Records.{Past, Stamped, opens, is_between, holds, takes, begun, joined, added, history_after, side_of, side_in}
 use Rattle.mos_run.specs.Report.{record_of, callbacks_of, kind_of}
-use Rattle.mos_run.specs.Places.{place_by, place_of}
-use Rattle.mos_run.specs.Lane.{StandsFor, stamp_of}
-use Rattle.mos_run.proofs.Places.{place_with, place_by-append, place_by-set, place_by-never, added-new, joins, Joins}
+use Rattle.mos_run.specs.Places.{place_by, place_of, IsSingle}
+use Rattle.mos_run.specs.Flows.{IsStep, Follows, Steps}
+use Rattle.mos_run.specs.Lane.{StandsFor, IsFlow, IsFlowAt, Joined, with_packet, stamp_of}
+use Rattle.mos_run.proofs.Places.{place_with, place_by-append, place_by-within, place_by-passes, added-new, joins, IsSingle-append, IsSingle-set}
+use Rattle.mos_run.proofs.Flows.{unopened, opened, kept_flow, stepped_flow, over_flow}
+
+pub both_ok : {T E A B C : Type 0} (r : Result T E) → OnOk r A → OnOk r B → (A → B → C) → OnOk r C
+both_ok (Ok v) a b f = f a b
+both_ok (Err e) a b f = tt
 
 pub callbacks_of-append : (pasts : List Past) (past : Past) → callbacks_of (pasts ++ past ∷ []) ≡ callbacks_of pasts + length past.history.entries
 unfolding callbacks_of
@@ -34,81 +44,32 @@ callbacks_of-set (first ∷ pasts) (suc i) more past d within longer =
 
 -- no packet yet
 pub StandsFor-empty : StandsFor fin.empty [] 0 []
-unfolding place_by callbacks_of
-StandsFor-empty = record { shown = refl; placed = λ key. fin.get-empty key_cmp key; counted = refl }
+unfolding place_by callbacks_of IsSingle
+StandsFor-empty = record {
+  shown = refl;
+  placed = λ key. subst (λ o. IsFlowAt o (place_of key []) []) (sym (fin.get-empty key_cmp key)) refl;
+  single = λ key. tt;
+  counted = refl;
+}
 
 -- a packet that begins a record
-pub StandsFor-begun : (flows after : Flows ℕ) (records : List Record) (r : Record) (callbacks more : ℕ) (s : Stamped) (pasts : List Past)
+pub StandsFor-begun : (flows after : Flows Flow) (records : List Record) (r : Record) (callbacks more : ℕ) (s : Stamped) (pasts : List Past)
     → StandsFor flows records callbacks pasts → place_by (takes s.arrival.packet) pasts ≡ None
     → r ≡ record_of (begun s) → more ≡ length (begun s).history.entries
-    → ((key : Ends) → found after key ≡ place_with (found flows key) (holds key (begun s)) (length pasts))
+    → ((key : Ends) → IsFlowAt (found after key) (place_with (place_of key pasts) (holds key (begun s)) (length pasts)) (pasts ++ begun s ∷ []))
+    → ((key : Ends) → holds key (begun s) ≡ true → place_of key pasts ≡ None)
     → StandsFor after (records ++ r ∷ []) (callbacks + more) (added s pasts)
-StandsFor-begun flows after records r callbacks more s pasts stands none is longer opened =
+StandsFor-begun flows after records r callbacks more s pasts stands none is longer placed alone =
     let new = added-new s pasts none in
     rw new (record {
       shown = rw is (ap (λ rs. rs ++ record_of (begun s) ∷ []) stands.shown ∙ sym (map-append record_of pasts (begun s ∷ [])));
-      placed = λ key. opened key ∙ ap (λ o. place_with o (holds key (begun s)) (length pasts)) (stands.placed key)
-        ∙ sym (place_by-append (holds key) pasts (begun s));
+      placed = λ key. subst (λ o. IsFlowAt (found after key) o (pasts ++ begun s ∷ [])) (sym (place_by-append (holds key) pasts (begun s))) (placed key);
+      single = λ key. IsSingle-append (holds key) pasts (begun s) (stands.single key) (alone key);
       counted = rw (stands.counted, longer) (sym (callbacks_of-append pasts (begun s)));
     })
 
-place_with-false : (o : Option ℕ) (n : ℕ) → o ≡ place_with o false n
-place_with-false None n = refl
-place_with-false (Some i) n = refl
+-- ---- a packet of no connection
 
--- a packet that opens no connection leaves the table as it is
-pub unopened : (flows after : Flows ℕ) (s : Stamped) (n : ℕ) → opens s.arrival.packet ≡ false → ((key : Ends) → found after key ≡ found flows key)
-    → (key : Ends) → found after key ≡ place_with (found flows key) (holds key (begun s)) n
-unopened flows after s n shut same key = rw shut (same key ∙ place_with-false (found flows key) n)
-
-opened_at : (b : Bool) (o : Option ℕ) (n : ℕ) → (b ≡ true → o ≡ None) → (if b then Some n else o) ≡ place_with o b n
-opened_at true o n none = rw (none refl) refl
-opened_at false o n none = place_with-false o n
-
-same_at : (b : Bool) (place : ℕ) (o : Option ℕ) → (b ≡ true → Some place ≡ o) → (if b then Some place else o) ≡ o
-same_at true place o is = is refl
-same_at false place o is = refl
-
--- a segment that opens a connection whose key wasn't there
-pub opened : (flows after : Flows ℕ) (s : Stamped) (head : Head) (payload : List ℕ) (n : ℕ) → s.arrival.packet ≡ Segment head payload
-    → opens (Segment head payload) ≡ true → found flows (key_of_head head) ≡ None
-    → ((key : Ends) → found after key ≡ (if same_key (key_of_head head) key then Some n else found flows key))
-    → (key : Ends) → found after key ≡ place_with (found flows key) (holds key (begun s)) n
-unfolding is_between
-opened flows after s head payload n is opening absent added_there key =
-    let none : same_key (key_of_head head) key ≡ true → found flows key ≡ None =
-      λ same. subst (λ k. found flows k ≡ None) (same_key-equal (key_of_head head) key same) absent in
-    rw (is, opening) (added_there key ∙ opened_at (same_key (key_of_head head) key) (found flows key) n none)
-
-longer : (s : Stamped) (past : Past) → length (joined s.arrival past).history.entries ≡ length past.history.entries + 2
-unfolding followed
-longer s past = length-append past.history.entries _
-
--- a packet that a connection goes on with
-pub StandsFor-joined : (flows after : Flows ℕ) (records : List Record) (r : Record) (callbacks i : ℕ) (s : Stamped) (pasts : List Past) (d : Record)
-    → StandsFor flows records callbacks pasts → place_by (takes s.arrival.packet) pasts ≡ Some i
-    → ((past : Past) → get_or records i d ≡ record_of past → r ≡ record_of (joined s.arrival past))
-    → ((key : Ends) → found after key ≡ found flows key)
-    → StandsFor after (set records i r) (callbacks + 2) (added s pasts)
-StandsFor-joined flows after records r callbacks i s pasts d stands there is same =
-    let at = joins s pasts i there in
-    let first = get_or pasts i (begun s) in
-    let new = at.joined (begun s) in
-    let shown_there : get_or records i d ≡ record_of first = ap (λ rs. get_or rs i d) stands.shown ∙ get_or-map record_of pasts i (begun s) d at.within in
-    rw new (record {
-      shown = ap (λ x. set records i x) (is first shown_there) ∙ ap (λ rs. set rs i (record_of (joined s.arrival first))) stands.shown
-        ∙ sym (map-set record_of pasts i (joined s.arrival first));
-      placed = λ key. same key ∙ stands.placed key ∙ sym (place_by-set (holds key) pasts i (joined s.arrival first) (begun s) at.within refl);
-      counted = rw stands.counted (sym (callbacks_of-set pasts i 2 (joined s.arrival first) (begun s) at.within (longer s first)));
-    })
-
--- a read through what the table lends leaves it as it was
-pub reread : (old new : Flows ℕ) (key : Ends) (place : ℕ) → Rewrites old new key place → Some place ≡ found old key → new ≡ old
-reread old new key place written there =
-    fin.same_map keys_total exact_keys new old (λ other. written.found other ∙ same_at (same_key key other) place (found old other)
-      (λ same. there ∙ ap (λ k. found old k) (same_key-equal key other same)))
-
--- the record of a packet of no connection
 pub stray_record : (s : Stamped) (class : Class) (r : Record) → opens s.arrival.packet ≡ false → kind_of s.arrival.packet ≡ Orphan class
     → r ≡ record { name = s.arrival.number; kind = Orphan class; version = s.version; entries = at_orphan s.arrival.number ∷ [] } → r ≡ record_of (begun s)
 unfolding orphaned
@@ -118,13 +79,187 @@ pub stray_length : (s : Stamped) → opens s.arrival.packet ≡ false → 1 ≡ 
 unfolding orphaned
 stray_length s shut = rw shut refl
 
--- the record of a connection that its first packet opens
+pub stray_holds : (s : Stamped) (key : Ends) → opens s.arrival.packet ≡ false → holds key (begun s) ≡ false
+stray_holds s key shut = rw shut refl
+
+is_false_true : (b : Bool) → b ≡ false → b ≡ true → ⊥
+is_false_true true fails passes = cc
+is_false_true false fails passes = cc
+
+pub stray_alone : (s : Stamped) (key : Ends) (pasts : List Past) → opens s.arrival.packet ≡ false → holds key (begun s) ≡ true → place_of key pasts ≡ None
+stray_alone s key pasts shut passes = absurd (is_false_true (holds key (begun s)) (stray_holds s key shut) passes)
+
+-- ---- a segment that opens a connection
+
 pub opening_record : (number : ℕ) (head : Head) (payload : List ℕ) (r : Record) → opens (Segment head payload) ≡ true
     → r ≡ record { name = number; kind = Conn (source_of head) (destination_of head); version = 0; entries = at_sender number ∷ at_receiver number ∷ [] }
     → r ≡ record_of (begun (stamp_of number (Segment head payload)))
-unfolding followed kind_of
+unfolding followed history_after kind_of
 opening_record number head payload r opening is = rw opening is
 
-pub opening_length : (s : Stamped) → opens s.arrival.packet ≡ true → 2 ≡ length (begun s).history.entries
-unfolding followed
-opening_length s opening = rw opening refl
+pub opening_length : (number : ℕ) (head : Head) (payload : List ℕ) → opens (Segment head payload) ≡ true → 2 ≡ length (begun (stamp_of number (Segment head payload))).history.entries
+unfolding followed history_after
+opening_length number head payload opening = rw opening refl
+
+and_true : (b : Bool) → (b && true) ≡ b
+and_true true = refl
+and_true false = refl
+
+and_false : (b : Bool) → (b && false) ≡ false
+and_false true = refl
+and_false false = refl
+
+-- the flow of a connection after its first packet
+pub opening_flow : (number : ℕ) (head : Head) (payload : List ℕ) (flow after : Flow) (over : Bool) → opens (Segment head payload) ≡ true → flow.client ≡ source_of head
+    → SocketStandsFor flow.socket fresh.emulation → IsStep flow after head payload over → IsFlow after (begun (stamp_of number (Segment head payload)))
+unfolding followed history_after
+opening_flow number head payload flow after over opening client socket step = record {
+  sides = λ h. ap (λ c. side_of c h) (step.client ∙ client);
+  socket = rw opening (subst (λ c. SocketStandsFor after.socket (received (side_of c head) head payload (sent (side_of c head) head fresh.emulation))) client
+    (step.socket fresh.emulation socket));
+}
+
+-- whether it is an open connection of a key
+pub opening_holds : (number : ℕ) (head : Head) (payload : List ℕ) (flow after : Flow) (over : Bool) (key : Ends) → opens (Segment head payload) ≡ true → flow.client ≡ source_of head
+    → SocketStandsFor flow.socket fresh.emulation → IsStep flow after head payload over
+    → holds key (begun (stamp_of number (Segment head payload))) ≡ (same_key (key_of_head head) key && not over)
+unfolding followed history_after is_over is_between
+opening_holds number head payload flow after over key opening client socket step =
+    rw opening (ap (λ b. same_key (key_of_head head) key && not b)
+      (sym (step.over_is fresh.emulation socket ∙ ap (λ c. are_over (received (side_of c head) head payload (sent (side_of c head) head fresh.emulation)).ends) client)))
+
+begun_here : (flows after : Flows Flow) (pasts : List Past) (past : Past) (flow : Flow) (own key : Ends) (over : Bool) → holds key past ≡ (same_key own key && not over) → place_of own pasts ≡ None
+    → found after key ≡ (if not over && same_key own key then Some flow else found flows key) → flow.place ≡ length pasts → IsFlow flow past
+    → IsFlowAt (found flows key) (place_of key pasts) pasts
+    → IsFlowAt (found after key) (place_with (place_of key pasts) (holds key past) (length pasts)) (pasts ++ past ∷ [])
+begun_here flows after pasts past flow own key true own_key absent there last is at =
+    unopened flows after pasts past key (own_key ∙ and_false (same_key own key)) there at
+begun_here flows after pasts past flow own key false own_key absent there last is at =
+    opened flows after pasts past flow own key (own_key ∙ and_true (same_key own key)) absent there last is at
+
+left_of_and : (a b : Bool) → (a && b) ≡ true → a ≡ true
+left_of_and true b both = refl
+left_of_and false b both = absurd (cc)
+
+pub StandsFor-opened : (flows after : Flows Flow) (records : List Record) (r : Record) (callbacks number : ℕ) (head : Head) (payload : List ℕ) (key : Ends) (flow stepped : Flow) (over : Bool) (pasts : List Past)
+    → StandsFor flows records callbacks pasts → key ≡ key_of_head head → found flows key ≡ None → opens (Segment head payload) ≡ true
+    → r ≡ record { name = number; kind = Conn (source_of head) (destination_of head); version = 0; entries = at_sender number ∷ at_receiver number ∷ [] }
+    → flow.client ≡ source_of head → SocketStandsFor flow.socket fresh.emulation → IsStep flow stepped head payload over → stepped.place ≡ length pasts
+    → ((other : Ends) → found after other ≡ (if not over && same_key key other then Some stepped else found flows other))
+    → StandsFor after (records ++ r ∷ []) (callbacks + 2) (added (stamp_of number (Segment head payload)) pasts)
+StandsFor-opened flows after records r callbacks number head payload key flow stepped over pasts stands key_is absent opening is client socket step last left =
+    let s = stamp_of number (Segment head payload) in
+    let own = key_of_head head in
+    let none : place_of own pasts ≡ None = subst (λ o. IsFlowAt o (place_of own pasts) pasts) (ap (λ k. found flows k) (sym key_is) ∙ absent) (stands.placed own) in
+    let own_key = λ (k : Ends). opening_holds number head payload flow stepped over k opening client socket step in
+    StandsFor-begun flows after records r callbacks 2 s pasts stands none (opening_record number head payload r opening is) (opening_length number head payload opening)
+    (λ k. begun_here flows after pasts (begun s) stepped own k over (own_key k) none
+      (left k ∙ ap (λ w. if not over && same_key w k then Some stepped else found flows k) key_is) last
+      (opening_flow number head payload flow stepped over opening client socket step) (stands.placed k))
+    (λ k passes. subst (λ w. place_of w pasts ≡ None) (same_key-equal own k (left_of_and (same_key own k) (not over) (sym (own_key k) ∙ passes))) none)
+
+-- ---- a packet that a connection goes on with
+
+record Holding (a b c : Bool) : Type 0 where
+  first : a ≡ true
+  second : b ≡ true
+  third : c ≡ false
+
+holding : (a b c : Bool) → (a && b && not c) ≡ true → Holding a b c
+holding true true true all = absurd (cc)
+holding true true false all = record { first = refl; second = refl; third = refl }
+holding true false c all = absurd (cc)
+holding false b c all = absurd (cc)
+
+-- the key of a connection is that of its first packet
+between_own : (packet : Packet) (own key : Ends) → is_between own packet ≡ true → is_between key packet ≡ same_key own key
+unfolding is_between
+between_own (Segment opener payload) own key same = ap (λ k. same_key k key) (same_key-equal (key_of_head opener) own same)
+between_own (NoSegment class) own key same = absurd (cc)
+
+holds_before : (past : Past) (own key : Ends) → holds own past ≡ true → holds key past ≡ same_key own key
+holds_before past own key passes =
+    let h = holding (opens past.first.packet) (is_between own past.first.packet) (is_over past.history) passes in
+    let opening = h.first in let open_still = h.third in
+    rw (opening, open_still) (and_true (is_between key past.first.packet) ∙ between_own past.first.packet own key h.second)
+
+holds_after : (past after : Past) (own key : Ends) (over : Bool) → holds own past ≡ true → after.first ≡ past.first → is_over after.history ≡ over
+    → holds key after ≡ (same_key own key && not over)
+holds_after past after own key over passes first is =
+    let h = holding (opens past.first.packet) (is_between own past.first.packet) (is_over past.history) passes in
+    let opening = h.first in
+    rw (first, opening, is) (ap (λ b. b && not over) (between_own past.first.packet own key h.second))
+
+joined_here : (flows after : Flows Flow) (pasts : List Past) (i : ℕ) (past d : Past) (flow : Flow) (own key : Ends) (b over : Bool) → same_key own key ≡ b → IsSingle (holds own) pasts
+    → place_of own pasts ≡ Some i → ((k : Ends) → holds k (get_or pasts i d) ≡ same_key own k) → ((k : Ends) → holds k past ≡ (same_key own k && not over))
+    → flow.place ≡ i → IsFlow flow past → found after key ≡ (if b then (if over then None else Some flow) else found flows key)
+    → IsFlowAt (found flows key) (place_of key pasts) pasts → IsFlowAt (found after key) (place_of key (set pasts i past)) (set pasts i past)
+joined_here flows after pasts i past d flow own key true true same single there before afterwards at is left was =
+    let one : own ≡ key = same_key-equal own key same in
+    let fails : holds key past ≡ false = afterwards key ∙ ap (λ b. b && false) same in
+    rw left (over_flow key pasts i past (subst (λ k. IsSingle (holds k) pasts) one single) (subst (λ k. place_of k pasts ≡ Some i) one there) fails)
+joined_here flows after pasts i past d flow own key true false same single there before afterwards at is left was =
+    let one : own ≡ key = same_key-equal own key same in
+    let passes : holds key past ≡ true = afterwards key ∙ ap (λ b. b && true) same in
+    rw left (stepped_flow key pasts i past flow (subst (λ k. place_of k pasts ≡ Some i) one there) passes at is)
+joined_here flows after pasts i past d flow own key false over same single there before afterwards at is left was =
+    let out : holds key (get_or pasts i d) ≡ false = before key ∙ same in
+    let still_out : holds key past ≡ false = afterwards key ∙ ap (λ b. b && not over) same in
+    rw left (kept_flow key (found flows key) pasts i past d (place_by-within (holds own) pasts i there) out still_out was)
+
+-- the record of a connection after one more packet
+joined_record : (number : ℕ) (head : Head) (payload : List ℕ) (past : Past) → with_packet number (record_of past) ≡ record_of (joined (stamp_of number (Segment head payload)).arrival past)
+unfolding followed history_after
+joined_record number head payload past = refl
+
+joined_length : (number : ℕ) (head : Head) (payload : List ℕ) (past : Past)
+    → length (joined (stamp_of number (Segment head payload)).arrival past).history.entries ≡ length past.history.entries + 2
+unfolding followed history_after
+joined_length number head payload past = length-append past.history.entries _
+
+joined_flow : (number : ℕ) (head : Head) (payload : List ℕ) (past : Past) (flow after : Flow) (over : Bool) → IsFlow flow past → IsStep flow after head payload over
+    → IsFlow after (joined (stamp_of number (Segment head payload)).arrival past)
+unfolding followed history_after
+joined_flow number head payload past flow after over is step = record {
+  sides = λ h. ap (λ c. side_of c h) step.client ∙ is.sides h;
+  socket = subst (λ side. SocketStandsFor after.socket (received side head payload (sent side head past.history.emulation))) (is.sides head)
+    (step.socket past.history.emulation is.socket);
+}
+
+joined_over : (number : ℕ) (head : Head) (payload : List ℕ) (past : Past) (flow after : Flow) (over : Bool) → IsFlow flow past → IsStep flow after head payload over
+    → is_over (joined (stamp_of number (Segment head payload)).arrival past).history ≡ over
+unfolding followed history_after is_over
+joined_over number head payload past flow after over is step =
+    sym (step.over_is past.history.emulation is.socket ∙ ap (λ side. are_over (received side head payload (sent side head past.history.emulation)).ends) (is.sides head))
+
+pub StandsFor-joined : (flows after : Flows Flow) (records new : List Record) (callbacks number : ℕ) (head : Head) (payload : List ℕ) (key : Ends) (place : ℕ) (pasts : List Past)
+    → StandsFor flows records callbacks pasts → key ≡ key_of_head head → Follows flows after key head payload place → Joined records new place number
+    → StandsFor after new (callbacks + 2) (added (stamp_of number (Segment head payload)) pasts)
+StandsFor-joined flows after records new callbacks number head payload key place pasts stands key_is f j =
+    let s = stamp_of number (Segment head payload) in
+    let own = key_of_head head in
+    let i = f.flow.place in
+    let was : found flows own ≡ Some f.flow = ap (λ k. found flows k) (sym key_is) ∙ f.was in
+    let at = subst (λ o. IsFlowAt o (place_of own pasts) pasts) was (stands.placed own) in
+    let there : place_of own pasts ≡ Some i = at.0 in
+    let past = get_or pasts i (begun s) in
+    let next = joined s.arrival past in
+    let is : IsFlow f.flow past = at.1 (begun s) in
+    let within = place_by-within (holds own) pasts i there in
+    let passes = place_by-passes (holds own) pasts i (begun s) there in
+    let over_is = joined_over number head payload past f.flow f.after f.over is f.step in
+    let before = λ (k : Ends). holds_before past own k passes in
+    let afterwards = λ (k : Ends). holds_after past next own k f.over passes refl over_is in
+    let placed_at : place < length pasts = subst (λ n. n < length pasts) (sym f.place_is) within in
+    let noted : new ≡ set records i (record_of next) =
+      subst (λ n. new ≡ set records n (with_packet number (record_of (get_or pasts n (begun s))))) f.place_is (j.shown pasts (begun s) stands.shown placed_at)
+      ∙ ap (λ r. set records i r) (joined_record number head payload past) in
+    rw ((joins s pasts i there).joined (begun s)) (record {
+      shown = noted ∙ ap (λ rs. set rs i (record_of next)) stands.shown ∙ sym (map-set record_of pasts i next);
+      placed = λ k. joined_here flows after pasts i next (begun s) f.after own k (same_key own k) f.over refl (stands.single own) there before afterwards
+        (f.step.place) (joined_flow number head payload past f.flow f.after f.over is f.step)
+        (f.left k ∙ ap (λ w. if same_key w k then (if f.over then None else Some f.after) else found flows k) key_is) (stands.placed k);
+      single = λ k. IsSingle-set (holds k) pasts i next (begun s) (stands.single k) within
+        (λ e. before k ∙ left_of_and (same_key own k) (not f.over) (sym (afterwards k) ∙ e));
+      counted = rw stands.counted (sym (callbacks_of-set pasts i 2 next (begun s) within (joined_length number head payload past)));
+    })

@@ -1,4 +1,4 @@
+pub mod Reach
 pub mod Places
-pub mod Onward
+pub mod Flows
 pub mod Lanes
-pub mod Replaying

@@ -1,8 +1,8 @@
 -- Laws on the place of the open connection of a key.
-use Rattle.std.proofs.Common.{◌≡◌, ℕ, zero, suc, ◌<◌, Bool, true, false, Option, Some, None, List, [], ◌∷◌, ◌++◌, length, get_or, set, refl, ap, subst, ◌∙◌, arith}
-use Rattle.std.specs.Prelude.{if◌then◌else◌}
+use Rattle.std.proofs.Common.{◌≡◌, ℕ, zero, suc, ◌<◌, Bool, true, false, Option, Some, None, List, [], ◌∷◌, ◌++◌, length, get_or, set, refl, sym, ap, subst, ◌∙◌, arith}
+use Rattle.std.specs.Prelude.{if◌then◌else◌, MatchBool}
 use Rattle.mos_run.specs.Records.{Stamped, Past, takes, begun, joined, added}
-use Rattle.mos_run.specs.Places.{further, place_by}
+use Rattle.mos_run.specs.Places.{further, place_by, IsSingle}
 
 -- no record passes where there is no place
 none_here : (b : Bool) (o : Option ℕ) → (if b then Some 0 else further o) ≡ None → (b ≡ false) × (o ≡ None)
@@ -78,3 +78,117 @@ place_by-set test (first ∷ pasts) zero past d within same = rw same refl
 place_by-set test (first ∷ pasts) (suc i) past d within same =
     let below : i < length pasts = omega arith in
     ap (λ o. if test first then Some 0 else further o) (place_by-set test pasts i past d below same)
+
+-- ---- at most one record passes
+
+single_cases : (b : Bool) (A B : Type 0) → MatchBool b A B → (b ≡ true → A) × (b ≡ false → B)
+single_cases true A B m = (λ e. m, λ e. absurd (cc))
+single_cases false A B m = (λ e. absurd (cc), λ e. m)
+
+single_at_false : (b : Bool) (A B : Type 0) → b ≡ false → B → MatchBool b A B
+single_at_false true A B e m = absurd (cc)
+single_at_false false A B e m = m
+
+-- where none passes, at most one does
+pub IsSingle-none : (test : Past → Bool) (pasts : List Past) → place_by test pasts ≡ None → IsSingle test pasts
+unfolding place_by IsSingle
+IsSingle-none test [] none = tt
+IsSingle-none test (past ∷ pasts) none =
+    let here = none_here (test past) (place_by test pasts) none in
+    single_at_false (test past) _ _ here.0 (IsSingle-none test pasts here.1)
+
+append_single : (b : Bool) (o : Option ℕ) (c : Bool) (n : ℕ) (after : Option ℕ) (R S : Type 0) → after ≡ place_with o c n → MatchBool b (o ≡ None) R
+    → (c ≡ true → (if b then Some 0 else further o) ≡ None) → (R → (c ≡ true → o ≡ None) → S) → MatchBool b (after ≡ None) S
+append_single true o true n after R S is single new later = absurd (let e = new refl in cc)
+append_single true o false n after R S is single new later = is ∙ rw single refl
+append_single false o c n after R S is single new later = later single (λ e. (none_here false o (new e)).1)
+
+-- one record more, which passes only where none did
+pub IsSingle-append : (test : Past → Bool) (pasts : List Past) (past : Past) → IsSingle test pasts → (test past ≡ true → place_by test pasts ≡ None) → IsSingle test (pasts ++ past ∷ [])
+unfolding place_by IsSingle
+IsSingle-append test [] past single new = elim (test past) as (λ b. MatchBool b (place_by test [] ≡ None) (Unit {0})) [ true ↦ refl | false ↦ tt ]
+IsSingle-append test (first ∷ pasts) past single new =
+    append_single (test first) (place_by test pasts) (test past) (length pasts) (place_by test (pasts ++ past ∷ [])) _ _
+    (place_by-append test pasts past) single new (λ rest none. IsSingle-append test pasts past rest none)
+
+cleared_here : (test : Past → Bool) (first : Past) (pasts : List Past) (past : Past) (b : Bool) (o : Option ℕ) (i : ℕ) → test first ≡ b → place_by test pasts ≡ o
+    → MatchBool b (o ≡ None) (IsSingle test pasts) → (if b then Some 0 else further o) ≡ Some i → test past ≡ false
+    → ((k : ℕ) → IsSingle test pasts → o ≡ Some k → place_by test (set pasts k past) ≡ None) → place_by test (set (first ∷ pasts) i past) ≡ None
+unfolding place_by
+cleared_here test first pasts past true o zero is there single e fails later = rw fails (ap further (there ∙ single))
+cleared_here test first pasts past true o (suc i) is there single e fails later = absurd (cc)
+cleared_here test first pasts past false None i is there single e fails later = absurd (cc)
+cleared_here test first pasts past false (Some k) zero is there single e fails later = absurd (cc)
+cleared_here test first pasts past false (Some k) (suc i) is there single e fails later =
+    let same : k ≡ i = cc in
+    rw is (ap further (subst (λ j. place_by test (set pasts j past) ≡ None) same (later k single refl)))
+
+-- a record that passes no more
+pub place_by-cleared : (test : Past → Bool) (pasts : List Past) (i : ℕ) (past : Past) → IsSingle test pasts → place_by test pasts ≡ Some i → test past ≡ false
+    → place_by test (set pasts i past) ≡ None
+unfolding place_by IsSingle
+place_by-cleared test [] i past single there fails = absurd (cc)
+place_by-cleared test (first ∷ pasts) i past single there fails =
+    cleared_here test first pasts past (test first) (place_by test pasts) i refl refl single there fails (λ k s e. place_by-cleared test pasts k past s e fails)
+
+within_here : (b : Bool) (o : Option ℕ) (i n : ℕ) → (if b then Some 0 else further o) ≡ Some i → ((k : ℕ) → o ≡ Some k → k < n) → i < suc n
+within_here true o zero n e later = omega arith
+within_here true o (suc i) n e later = absurd (cc)
+within_here false None i n e later = absurd (cc)
+within_here false (Some k) zero n e later = omega arith
+within_here false (Some k) (suc i) n e later = let same : k ≡ i = cc in let below = later k refl in omega arith
+
+passes_here : (test : Past → Bool) (past : Past) (pasts : List Past) (d : Past) (b : Bool) (o : Option ℕ) (i : ℕ) → test past ≡ b
+    → (if b then Some 0 else further o) ≡ Some i → ((k : ℕ) → o ≡ Some k → test (get_or pasts k d) ≡ true) → test (get_or (past ∷ pasts) i d) ≡ true
+passes_here test past pasts d true o zero is e later = is
+passes_here test past pasts d true o (suc i) is e later = absurd (cc)
+passes_here test past pasts d false None i is e later = absurd (cc)
+passes_here test past pasts d false (Some k) zero is e later = absurd (cc)
+passes_here test past pasts d false (Some k) (suc i) is e later =
+    let same : k ≡ i = cc in subst (λ j. test (get_or pasts j d) ≡ true) same (later k refl)
+
+set_here : (b c : Bool) (o : Option ℕ) (S : Type 0) → MatchBool b (o ≡ None) S → (c ≡ true → b ≡ true) → (o ≡ None → S) → MatchBool c (o ≡ None) S
+set_here true true o S single less later = single
+set_here false true o S single less later = absurd (let e = less refl in cc)
+set_here true false o S single less later = later single
+set_here false false o S single less later = single
+
+set_later : (b : Bool) (o after : Option ℕ) (S T : Type 0) → MatchBool b (o ≡ None) S → (o ≡ None → after ≡ None) → (S → T) → MatchBool b (after ≡ None) T
+set_later true o after S T single none rest = none single
+set_later false o after S T single none rest = rest single
+
+fails_with : (c b : Bool) → (c ≡ true → b ≡ true) → b ≡ false → c ≡ false
+fails_with true b less fails = absurd (let e = less refl in cc)
+fails_with false b less fails = refl
+
+-- what stands at the place of the first record that passes
+pub place_by-within : (test : Past → Bool) (pasts : List Past) (i : ℕ) → place_by test pasts ≡ Some i → i < length pasts
+unfolding place_by
+place_by-within test [] i there = absurd (cc)
+place_by-within test (past ∷ pasts) i there = within_here (test past) (place_by test pasts) i (length pasts) there (λ k e. place_by-within test pasts k e)
+
+pub place_by-passes : (test : Past → Bool) (pasts : List Past) (i : ℕ) (d : Past) → place_by test pasts ≡ Some i → test (get_or pasts i d) ≡ true
+unfolding place_by
+place_by-passes test [] i d there = absurd (cc)
+place_by-passes test (past ∷ pasts) i d there = passes_here test past pasts d (test past) (place_by test pasts) i refl there (λ k e. place_by-passes test pasts k d e)
+
+pub place_by-fails : (test : Past → Bool) (pasts : List Past) (i : ℕ) (d : Past) → place_by test pasts ≡ None → i < length pasts → test (get_or pasts i d) ≡ false
+unfolding place_by
+place_by-fails test [] i d none within = absurd (omega arith)
+place_by-fails test (past ∷ pasts) zero d none within = (none_here (test past) (place_by test pasts) none).0
+place_by-fails test (past ∷ pasts) (suc i) d none within =
+    let below : i < length pasts = omega arith in place_by-fails test pasts i d (none_here (test past) (place_by test pasts) none).1 below
+
+-- a record that passes only where the one in its place did
+pub IsSingle-set : (test : Past → Bool) (pasts : List Past) (i : ℕ) (past d : Past) → IsSingle test pasts → i < length pasts → (test past ≡ true → test (get_or pasts i d) ≡ true)
+    → IsSingle test (set pasts i past)
+unfolding IsSingle
+IsSingle-set test [] i past d single within less = absurd (omega arith)
+IsSingle-set test (first ∷ pasts) zero past d single within less =
+    set_here (test first) (test past) (place_by test pasts) (IsSingle test pasts) single less (IsSingle-none test pasts)
+IsSingle-set test (first ∷ pasts) (suc i) past d single within less =
+    let below : i < length pasts = omega arith in
+    set_later (test first) (place_by test pasts) (place_by test (set pasts i past)) (IsSingle test pasts) (IsSingle test (set pasts i past)) single
+    (λ none. let at = place_by-fails test pasts i d none below in
+      place_by-set test pasts i past d below (fails_with (test past) (test (get_or pasts i d)) less at ∙ sym at) ∙ none)
+    (λ rest. IsSingle-set test pasts i past d rest below less)

@@ -1,9 +1,9 @@
 pub mod History
 pub mod Records
 pub mod Report
+pub mod Reach
 pub mod Places
+pub mod Flows
 pub mod Lane
 pub mod Refusal
 pub mod Outcome
-pub mod Replay
-pub mod Run

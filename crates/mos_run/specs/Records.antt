@@ -1,10 +1,15 @@
 -- Which packets make a record. A connection is opened by a SYN with neither ACK nor RST (RFC 9293, section 3.5) while none
--- of its key is open; each later packet between its two endpoints belongs to it. Every other packet is an orphan.
+-- of its key is open; until it is over, each packet between its two endpoints belongs to it. Every other packet is an orphan.
 use Rattle.std.specs.Prelude.{ℕ, ◌+◌, Bool, false, not, ◌&&◌, if◌then◌else◌, List, [], ◌∷◌, map}
 use Rattle.packet_views.specs.Packet.{Packet, Segment, NoSegment}
 use Rattle.packet_views.specs.Flags.{has_syn, has_ack, has_rst}
+use Rattle.packet_views.specs.declared.packet.Head.{Head}
+use Rattle.tcp_emulation.specs.declared.segment.Side.{Side}
+use Rattle.tcp_emulation.specs.declared.segment.Side.TheVariants.{Client, Server}
+use Rattle.flow_table.specs.declared.endpoint.Endpoint.{Endpoint}
+use Rattle.flow_table.specs.Endpoint.{same_endpoint, source_of}
 use Rattle.flow_table.specs.Key.{Ends, key_of_head, same_key}
-use Rattle.mos_run.specs.History.{History, fresh, followed, orphaned}
+use Rattle.mos_run.specs.History.{History, fresh, followed, orphaned, is_over}
 
 -- a packet of the capture, with its number from 0
 pub record Arrival : Type 0 where
@@ -33,22 +38,37 @@ is_between key (NoSegment class) = false
 
 -- an open connection of this key
 abbrev pub holds : Ends → Past → Bool
-holds key past = opens past.first.packet && is_between key past.first.packet
+holds key past = opens past.first.packet && is_between key past.first.packet && not (is_over past.history)
 
 -- whether a record goes on with a packet
 abbrev pub takes : Packet → Past → Bool
 takes (Segment head payload) past = holds (key_of_head head) past
 takes (NoSegment class) past = false
 
+-- Which end sent a segment of the connection that a packet opened: the sender of that packet is the client. Where both
+-- endpoints are equal, every segment is the client's.
+abbrev pub side_of : Endpoint → Head → Side
+side_of client head = if same_endpoint client (source_of head) then Client else Server
+
+abbrev pub side_in : Packet → Head → Side
+side_in (Segment opener payload) head = side_of (source_of opener) head
+side_in (NoSegment class) head = Server
+
+-- one more packet of the connection that a packet opened
+unfoldable pub history_after : Packet → Arrival → History → History
+history_after opener a h = elim a.packet [
+    Segment head payload ↦ followed a.number (side_in opener head) head payload h
+  | NoSegment class ↦ h ]
+
 -- the history that a packet begins
 abbrev pub first_history : Arrival → History
-first_history a = if opens a.packet then followed a.number fresh else orphaned a.number
+first_history a = if opens a.packet then history_after a.packet a fresh else orphaned a.number
 
 abbrev pub begun : Stamped → Past
 begun s = record { first = s.arrival; version = s.version; history = first_history s.arrival }
 
 abbrev pub joined : Arrival → Past → Past
-joined a past = record { first = past.first; version = past.version; history = followed a.number past.history }
+joined a past = record { first = past.first; version = past.version; history = history_after past.first.packet a past.history }
 
 -- one more packet: the open connection of its key goes on, else a record begins
 unfoldable pub added : Stamped → List Past → List Past

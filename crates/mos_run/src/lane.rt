@@ -1,15 +1,17 @@
 //! The records of one worker's packets, with the table of its open connections.
 
-ghost use Rattle.std.specs.Prelude.{◌≡◌, ◌+◌, ◌<◌, ◌≤◌, ◌^◌, ◌++◌, ◌∷◌, [], ℕ, List, OnOk, OnErr, IfOk, vec_len, Some, None, true};
+ghost use Rattle.std.specs.Prelude.{◌≡◌, ◌+◌, ◌*◌, ◌<◌, ◌≤◌, ◌^◌, ◌++◌, ◌∷◌, [], ℕ, List, OnOk, OnErr, IfOk, IfSome, vec_len, length, Some, None, Ok, true, not, ◌&&◌, if◌then◌else◌};
 ghost use Rattle.std.specs.Option.{ForSome};
 ghost use Rattle.packet_views.specs.Packet.{Packet, Segment, NoSegment};
-ghost use Rattle.flow_table.specs.Key.{Ends, key_of_head};
+ghost use Rattle.flow_table.specs.Key.{Ends, key_of_head, same_key};
+ghost use Rattle.flow_table.specs.Endpoint.{source_of, destination_of};
 ghost use Rattle.flow_table.specs.Table.{found};
 ghost use Rattle.mos_run.specs.History.{at_sender, at_receiver, at_orphan};
 ghost use Rattle.mos_run.specs.Records.{Past, Stamped, added, opens};
-ghost use Rattle.flow_table.specs.Endpoint.{source_of, destination_of};
-ghost use Rattle.mos_run.specs.Lane.{StandsFor, IsStray, stamp_of};
+ghost use Rattle.mos_run.specs.Lane.{StandsFor, IsStray, Joined, stamp_of};
+ghost use Rattle.mos_run.specs.Flows.{Steps, Follows, Keeps};
 
+use crate::flow::Flow;
 use app_api::{Entry, EntryList, ORPHAN, PKT_IN, Seen};
 use flow_table::{Endpoint, FlowTable, Key};
 use native_filters::Hook;
@@ -17,13 +19,16 @@ use packet_views::{Class, Head};
 use report_text::{Record, RecordKind};
 use std::alloc::{AllocError, Global};
 
-/// The records so far, in order of name, and for each open connection the place of its record.
+/// The records so far, in order of name, and the open connections.
 #[derive(Drop)]
 pub(crate) struct Lane {
-    pub(crate) flows: FlowTable<usize>,
+    pub(crate) flows: FlowTable<Flow>,
     pub(crate) records: Vec<Record>,
+    /// Packets so far: the number of the next one.
+    pub(crate) packets: u64,
     pub(crate) callbacks: u64,
-    ghost placed: { (key : Ends) → ForSome (found flows key) (λ place. place < vec_len records) },
+    ghost placed: { (key : Ends) → ForSome (found flows key) (λ flow. flow.place < vec_len records) },
+    ghost counted: { (key : Ends) → ForSome (found flows key) (λ flow. flow.count ≤ packets) },
 }
 
 fn entry(number: u64, hook: Hook, event: u16, reg: u8) -> Entry
@@ -39,7 +44,7 @@ fn entry(number: u64, hook: Hook, event: u16, reg: u8) -> Entry
 }
 
 // The callbacks of one more packet of a connection.
-fn follow(of: &mut Record, number: u64) -> Result<(), AllocError>
+fn note(of: &mut Record, number: u64) -> Result<(), AllocError>
     ensures { OnOk result (of.new ≡ record of.old { entries = of.old.entries ++ at_sender number ∷ at_receiver number ∷ [] }) }
 {
     of.entries.items.push(entry(number, Hook::Snd, PKT_IN, 1))?;
@@ -66,7 +71,7 @@ fn connection(alloc: Global, number: u64, head: &Head) -> Result<Record, AllocEr
             items: Vec::new(alloc),
         },
     };
-    follow(&mut opened, number)?;
+    note(&mut opened, number)?;
     Ok(opened)
 }
 
@@ -88,17 +93,6 @@ fn orphan(alloc: Global, number: u64, class: Class) -> Result<Record, AllocError
     })
 }
 
-// Where the record of the open connection of a key stands.
-fn place_of(flows: &mut FlowTable<usize>, key: &Key) -> Option<usize>
-    ensures place { result ≡ found flows.old key.now }
-    ensures same { flows.new ≡ flows.old }
-{
-    match flows.get_mut(key) {
-        Some(place) => Some(*place),
-        None => None,
-    }
-}
-
 // Whether a segment opens a connection: SYN with neither ACK nor RST (RFC 9293, section 3.5).
 #[tactic(auto, unfolding(crate::specs::Records::opens))]
 fn is_opening(head: &Head) -> bool
@@ -107,30 +101,105 @@ fn is_opening(head: &Head) -> bool
     head.has_syn() && !head.has_ack() && !head.has_rst()
 }
 
+/// A packet that an open connection went on with: the place of its record, and whether the connection is over.
+#[derive(Clone, Copy)]
+pub(crate) struct Step {
+    pub(crate) place: usize,
+    pub(crate) over: bool,
+}
+
+// Steps the open connection of a key, where there is one.
+fn step_flow(
+    flows: &mut FlowTable<Flow>,
+    key: &Key,
+    head: &Head,
+    payload: &[u8],
+) -> Result<Option<Step>, AllocError>
+    requires len { head.now.len ≡ length payload.now }
+    requires bytes { length payload.now ≤ 65535 }
+    requires counts { (other : Ends) → ForSome (found flows.old other) (λ flow. flow.count < 2 ^ 30) }
+    ensures none { result ≡ Ok None → (found flows.old key.now ≡ None) × (flows.new ≡ flows.old) }
+    ensures some { IfOk result (λ step. IfSome step (λ s. Steps flows.old flows.new key.now head.now payload.now s.place s.over)) }
+    ensures kept { Keeps flows.old flows.new }
+{
+    match flows.get_mut(key) {
+        Some(flow) => {
+            let over = flow.step(head, payload)?;
+            Ok(Some(Step {
+                place: flow.place,
+                over,
+            }))
+        }
+        None => Ok(None),
+    }
+}
+
+// Takes the connection of a key from the table where it is over.
+fn settle(flows: &mut FlowTable<Flow>, key: &Key, over: bool)
+    ensures { (other : Ends) → found flows.new other ≡ (if over && same_key key.now other then None else found flows.old other) }
+{
+    if over {
+        let _closed = flows.close(key);
+    }
+}
+
+// Steps the open connection of a key, where there is one, and closes it where it is over then. Answers the place of its
+// record.
+fn follow(
+    flows: &mut FlowTable<Flow>,
+    key: &Key,
+    head: &Head,
+    payload: &[u8],
+) -> Result<Option<usize>, AllocError>
+    requires len { head.now.len ≡ length payload.now }
+    requires bytes { length payload.now ≤ 65535 }
+    requires counts { (other : Ends) → ForSome (found flows.old other) (λ flow. flow.count < 2 ^ 30) }
+    ensures none { result ≡ Ok None → (found flows.old key.now ≡ None) × (flows.new ≡ flows.old) }
+    ensures some { IfOk result (λ place. IfSome place (λ p. Follows flows.old flows.new key.now head.now payload.now p)) }
+    ensures kept { Keeps flows.old flows.new }
+{
+    match step_flow(flows, key, head, payload)? {
+        Some(step) => {
+            settle(flows, key, step.over);
+            Ok(Some(step.place))
+        }
+        None => Ok(None),
+    }
+}
+
+// Puts a connection into the table, unless it is over.
+fn keep(
+    flows: &mut FlowTable<Flow>,
+    key: Key,
+    flow: Flow,
+    over: bool,
+) -> Result<(), AllocError>
+    requires absent { found flows.old key ≡ None }
+    ensures left { OnOk result ((other : Ends) → found flows.new other ≡ (if not over && same_key key other then Some flow else found flows.old other)) }
+    ensures err { OnErr result (flows.new ≡ flows.old) }
+{
+    if over {
+        return Ok(());
+    }
+    match flows.open(key, flow) {
+        Ok(()) => Ok(()),
+        Err(_) => Err(AllocError),
+    }
+}
+
 impl Lane {
     /// A lane that has seen no packet. It takes no memory.
     pub(crate) fn new(alloc: Global) -> Lane
-        ensures { StandsFor result.flows result.records.items result.callbacks [] }
+        ensures stands { StandsFor result.flows result.records.items result.callbacks [] }
+        ensures packets { result.packets ≡ 0 }
+        ensures callbacks { result.callbacks ≡ 0 }
     {
         Lane {
             flows: FlowTable::new(alloc),
             records: Vec::new(alloc),
+            packets: 0,
             callbacks: 0,
         }
-    }
-
-    // One more segment of the open connection whose record stands at this place.
-    fn join(&mut self, number: u64, head: &Head, place: usize) -> Result<(), AllocError>
-        requires place { found self.old.flows (key_of_head head.now) ≡ Some place }
-        requires room { self.old.callbacks + 2 < 2 ^ 64 }
-        ensures stands { OnOk result ((pasts : List Past) (payload : List ℕ)
-            → StandsFor self.old.flows self.old.records.items self.old.callbacks pasts
-            → StandsFor self.new.flows self.new.records.items self.new.callbacks (added (stamp_of number (Segment head.now payload)) pasts)) }
-        ensures callbacks { OnOk result (self.new.callbacks ≤ self.old.callbacks + 2) }
-    {
-        follow(&mut self.records[place], number)?;
-        self.callbacks += 2;
-        Ok(())
     }
 
     // A segment that opens a connection.
@@ -139,24 +208,28 @@ impl Lane {
         alloc: Global,
         number: u64,
         head: &Head,
+        payload: &[u8],
         key: Key,
     ) -> Result<(), AllocError>
         requires key { key ≡ key_of_head head.now }
         requires absent { found self.old.flows key ≡ None }
-        requires opens { (payload : List ℕ) → opens (Segment head.now payload) ≡ true }
+        requires opens { opens (Segment head.now payload.now) ≡ true }
+        requires len { head.now.len ≡ length payload.now }
+        requires bytes { length payload.now ≤ 65535 }
+        requires packets { 0 < self.old.packets }
         requires room { self.old.callbacks + 2 < 2 ^ 64 }
-        ensures stands { OnOk result ((pasts : List Past) (payload : List ℕ)
+        ensures stands { OnOk result ((pasts : List Past)
             → StandsFor self.old.flows self.old.records.items self.old.callbacks pasts
-            → StandsFor self.new.flows self.new.records.items self.new.callbacks (added (stamp_of number (Segment head.now payload)) pasts)) }
+            → StandsFor self.new.flows self.new.records.items self.new.callbacks (added (stamp_of number (Segment head.now payload.now)) pasts)) }
         ensures callbacks { OnOk result (self.new.callbacks ≤ self.old.callbacks + 2) }
+        ensures packets { self.new.packets ≡ self.old.packets }
     {
         let place = self.records.len();
+        let mut flow = Flow::new(alloc, place, Endpoint::source_of(head));
+        let over = flow.step(head, payload)?;
         self.records.push(connection(alloc, number, head)?)?;
-        let Ok(()) = self.flows.open(key, place) else {
-            return Err(AllocError);
-        };
         self.callbacks += 2;
-        Ok(())
+        keep(&mut self.flows, key, flow, over)
     }
 
     // A packet of no connection.
@@ -167,9 +240,24 @@ impl Lane {
             → StandsFor self.old.flows self.old.records.items self.old.callbacks pasts
             → StandsFor self.new.flows self.new.records.items self.new.callbacks (added (stamp_of number packet) pasts)) }
         ensures callbacks { OnOk result (self.new.callbacks ≤ self.old.callbacks + 2) }
+        ensures packets { self.new.packets ≡ self.old.packets }
     {
         self.records.push(orphan(alloc, number, class)?)?;
         self.callbacks += 1;
+        Ok(())
+    }
+
+    // The callbacks of a packet that the connection whose record stands at this place went on with.
+    fn join(&mut self, number: u64, place: usize) -> Result<(), AllocError>
+        requires place { place < vec_len self.old.records }
+        requires room { self.old.callbacks + 2 < 2 ^ 64 }
+        ensures records { OnOk result (Joined self.old.records.items self.new.records.items place number) }
+        ensures callbacks { OnOk result (self.new.callbacks ≡ self.old.callbacks + 2) }
+        ensures packets { self.new.packets ≡ self.old.packets }
+        ensures flows { self.new.flows ≡ self.old.flows }
+    {
+        note(&mut self.records[place], number)?;
+        self.callbacks += 2;
         Ok(())
     }
 
@@ -177,22 +265,28 @@ impl Lane {
     pub(crate) fn segment(
         &mut self,
         alloc: Global,
-        number: u64,
         head: &Head,
+        payload: &[u8],
         key: Key,
     ) -> Result<(), AllocError>
         requires key { key ≡ key_of_head head.now }
+        requires len { head.now.len ≡ length payload.now }
+        requires bytes { length payload.now ≤ 65535 }
+        requires packets { self.old.packets < 2 ^ 20 }
         requires room { self.old.callbacks + 2 < 2 ^ 64 }
-        ensures stands { OnOk result ((pasts : List Past) (payload : List ℕ)
+        ensures stands { OnOk result ((pasts : List Past)
             → StandsFor self.old.flows self.old.records.items self.old.callbacks pasts
-            → StandsFor self.new.flows self.new.records.items self.new.callbacks (added (stamp_of number (Segment head.now payload)) pasts)) }
+            → StandsFor self.new.flows self.new.records.items self.new.callbacks (added (stamp_of self.old.packets (Segment head.now payload.now)) pasts)) }
         ensures callbacks { OnOk result (self.new.callbacks ≤ self.old.callbacks + 2) }
+        ensures packets { self.new.packets ≡ self.old.packets + 1 }
     {
-        match place_of(&mut self.flows, &key) {
-            Some(place) => self.join(number, head, place),
+        let number = self.packets;
+        self.packets += 1;
+        match follow(&mut self.flows, &key, head, payload)? {
+            Some(place) => self.join(number, place),
             None => {
                 if is_opening(head) {
-                    self.begin(alloc, number, head, key)
+                    self.begin(alloc, number, head, payload, key)
                 } else {
                     self.stray(alloc, number, Class::Tcp)
                 }
@@ -201,18 +295,17 @@ impl Lane {
     }
 
     /// One more packet that is no segment. At an `Err` nothing is known of the lane.
-    pub(crate) fn other(
-        &mut self,
-        alloc: Global,
-        number: u64,
-        class: Class,
-    ) -> Result<(), AllocError>
+    pub(crate) fn other(&mut self, alloc: Global, class: Class) -> Result<(), AllocError>
+        requires packets { self.old.packets < 2 ^ 20 }
         requires room { self.old.callbacks + 2 < 2 ^ 64 }
         ensures stands { OnOk result ((pasts : List Past)
             → StandsFor self.old.flows self.old.records.items self.old.callbacks pasts
-            → StandsFor self.new.flows self.new.records.items self.new.callbacks (added (stamp_of number (NoSegment class)) pasts)) }
+            → StandsFor self.new.flows self.new.records.items self.new.callbacks (added (stamp_of self.old.packets (NoSegment class)) pasts)) }
         ensures callbacks { OnOk result (self.new.callbacks ≤ self.old.callbacks + 2) }
+        ensures packets { self.new.packets ≡ self.old.packets + 1 }
     {
+        let number = self.packets;
+        self.packets += 1;
         self.stray(alloc, number, class)
     }
 }

@@ -1,15 +1,7 @@
 //! The top of mos: a capture is replayed, its connections are followed, and their report is written.
 #![tactic(auto)]
 
+mod flow;
 mod lane;
-mod replay;
-pub mod run;
-pub mod versions;
-
 pub mod refusal;
 pub mod report;
-
-pub use refusal::RunError;
-pub use report::Report;
-pub use run::{Ended, refuse, run_mos};
-pub use versions::VersionList;

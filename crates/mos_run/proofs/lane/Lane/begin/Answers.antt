@@ -1,28 +1,20 @@
-use Rattle.std.proofs.Common.{◌≡◌, ℕ, List, Some, length, refl, sym, ap, subst, ◌∙◌}
+use Rattle.std.proofs.Common.{◌≡◌, List, length, ap, ◌∙◌}
 use Rattle.std.proofs.lemmas.List.{length-map}
-use Rattle.std.specs.Prelude.{if◌then◌else◌}
-use Rattle.packet_views.specs.Packet.{Segment}
-use Rattle.flow_table.specs.Key.{Ends, key_of_head, same_key}
-use Rattle.flow_table.specs.Table.{found}
-use Rattle.mos_run.specs.Lane.{stamp_of}
+use Rattle.std.proofs.lemmas.Result.{on_ok_weaker}
 use Rattle.mos_run.specs.Report.{record_of}
-use Rattle.mos_run.proofs.Lanes.{StandsFor-begun, opened, opening_record, opening_length}
+use Rattle.mos_run.specs.Flows.{IsStep}
+use Rattle.mos_run.proofs.Lanes.{StandsFor-opened}
 use Rattle.mos_run.proofs.lane.Lane.begin.Goals as goal
 
 pub returns-clause-stands : goal.returns-clause-stands
-returns-clause-stands c = λ pasts payload stands.
-    let n = c.args.number in
-    let head = c.args.head.now in
-    let flows = c.args.self.now.flows in
-    let after = c.open.new.self in
-    let s = stamp_of n (Segment head payload) in
-    let opening = c.requires.opens payload in
-    let place : c.len-place.result ≡ length pasts = c.len-place.ensures ∙ c.args.self.now.records.ok.0 ∙ ap length stands.shown ∙ length-map pasts record_of in
-    let by_key = subst (λ k. (other : Ends) → found after other ≡ (if same_key k other then Some c.len-place.result else found flows other)) c.requires.key c.in-Ok.ensures.found in
-    let by_place = subst (λ i. (other : Ends) → found after other ≡ (if same_key (key_of_head head) other then Some i else found flows other)) place by_key in
-    let absent = ap (λ k. found flows k) (sym c.requires.key) ∙ c.requires.absent in
-    rw c.in_ok-push.ensures.items
-    (StandsFor-begun flows after c.args.self.now.records.items _ c.args.self.now.callbacks 2 s pasts stands
-      (sym (stands.placed (key_of_head head)) ∙ absent)
-      (opening_record n head payload _ opening c.in_ok-connection.ensures) (opening_length s opening)
-      (opened flows after s head payload (length pasts) refl opening absent by_place))
+returns-clause-stands c =
+    on_ok_weaker c.keep.result (λ left. λ pasts stands.
+      let step : IsStep c.new-flow.result c.step.new.self c.args.head.now c.args.payload.now c.in_ok-over.over =
+        record { place = c.step.ensures.place; client = c.step.ensures.client; socket = c.in_ok-over.ensures.socket; over_is = c.in_ok-over.ensures.over } in
+      let last : c.step.new.self.place ≡ length pasts =
+        c.step.ensures.place ∙ c.new-flow.ensures.place ∙ c.len-place.ensures ∙ c.args.self.now.records.ok.0 ∙ ap length stands.shown ∙ length-map pasts record_of in
+      rw c.in_ok-push.ensures.items
+      (StandsFor-opened c.args.self.now.flows c.keep.new.flows c.args.self.now.records.items _ c.args.self.now.callbacks c.args.number c.args.head.now c.args.payload.now c.args.key
+        c.new-flow.result c.step.new.self c.in_ok-over.over pasts stands c.requires.key c.requires.absent c.requires.opens c.in_ok-connection.ensures
+        (c.new-flow.ensures.client ∙ c.source_of.ensures) c.new-flow.ensures.socket step last left))
+    c.keep.ensures.left
