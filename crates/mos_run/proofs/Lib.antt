@@ -2,3 +2,5 @@ pub mod Reach
 pub mod Places
 pub mod Flows
 pub mod Lanes
+pub mod Onward
+pub mod Replaying

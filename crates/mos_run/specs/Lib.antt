@@ -7,3 +7,5 @@ pub mod Flows
 pub mod Lane
 pub mod Refusal
 pub mod Outcome
+pub mod Replay
+pub mod Run

@@ -1,26 +1,15 @@
 -- How a run over the bytes of a capture ends.
-use Rattle.std.specs.Prelude.{ℕ, Bool, false, ◌||◌, List, length, map, Result, Ok, Err, if◌then◌else◌}
-use Rattle.std.specs.List.{list_any}
-use Rattle.packet_views.specs.Packet.{Packet, Segment, NoSegment, packet_of}
-use Rattle.packet_views.specs.Flags.{has_fin, has_rst}
+use Rattle.std.specs.Prelude.{ℕ, List, length, map, Result, Ok, Err}
 use Rattle.pcap_source.specs.Captured.{Captured}
 use Rattle.pcap_source.specs.Capture.{Frames, Ending, tail, too_long, too_many, capture_of}
 use Rattle.pcap_source.specs.declared.errors.OpenError.{OpenError}
 use Rattle.pcap_source.specs.declared.errors.OpenError.TheVariants as Open
 use Rattle.pcap_source.specs.declared.errors.CaptureFault.TheVariants as Fault
 use Rattle.mos_run.specs.declared.refusal.RunError.{RunError}
-use Rattle.mos_run.specs.declared.refusal.RunError.TheVariants.{NotBuilt, Capture, TooMany, ReadFault}
+use Rattle.mos_run.specs.declared.refusal.RunError.TheVariants.{Capture, TooMany, ReadFault}
 use Rattle.mos_run.specs.declared.report.Report.{Report}
 use Rattle.mos_run.specs.Records.{Past}
 use Rattle.mos_run.specs.Report.{record_of, records_of, totals_of}
-
--- the end of a connection isn't followed yet: a segment with FIN or RST
-unfoldable pub closes : Packet → Bool
-closes (Segment head payload) = has_fin head || has_rst head
-closes (NoSegment class) = false
-
-abbrev pub is_closing : Captured → Bool
-is_closing frame = closes (packet_of frame.bytes)
 
 abbrev pub report_of : List Past → ℕ → ℕ → Report
 report_of pasts packets rest = record { records = map record_of pasts; totals = totals_of pasts packets rest }
@@ -31,9 +20,8 @@ followed_to frames (tail n) = Ok (report_of (records_of (λ _. 0) frames) (lengt
 followed_to frames (too_long offset) = Err (Capture Fault.TooLong offset)
 followed_to frames (too_many offset) = Err (TooMany offset)
 
--- front to back: the first closing segment, or else the end of the capture
 unfoldable pub outcome_of_frames : Frames → Result Report RunError
-outcome_of_frames f = if list_any is_closing f.frames then Err NotBuilt else followed_to f.frames f.ending
+outcome_of_frames f = followed_to f.frames f.ending
 
 -- a refused global header, with the offset of what was refused
 abbrev pub header_refusal : OpenError → RunError

@@ -3,5 +3,14 @@
 
 mod flow;
 mod lane;
+mod replay;
+pub mod run;
+pub mod versions;
+
 pub mod refusal;
 pub mod report;
+
+pub use refusal::RunError;
+pub use report::Report;
+pub use run::{Ended, refuse, run_mos};
+pub use versions::VersionList;

@@ -10,7 +10,7 @@ use std::alloc::{AllocError, AllocFailed, Global};
 /// Why a run ended without its report. Offsets count bytes from the start of the capture.
 #[derive(Clone, Copy, Debug, PartialEq, Eq)]
 pub enum RunError {
-    /// A word, or a segment with FIN or RST, which is not built yet.
+    /// A word, which is not built yet.
     NotBuilt,
     /// The capture is refused at this offset; for a short header the offset is the number of bytes there.
     Capture(CaptureFault, u64),

@@ -1,0 +1,18 @@
+use Rattle.std.proofs.Common.{◌≡◌, ℕ, ◌-◌, ◌*◌, ◌≤◌, List, Some, true}
+use Rattle.mos_run.proofs.Replaying.{Replaying}
+use Rattle.mos_run.proofs.replay.replay.Given as goal
+
+-- the capture is live and has given so many packets; how the run ends follows from the records so far and what is left
+abbrev pub invariant-loop-lane : goal.invariant-loop-lane
+invariant-loop-lane g l = record {
+  live : l.capture.is_live ≡ true;
+  count : l.capture.count ≡ l.lane.packets;
+  few : l.lane.packets ≤ 1048576;
+  callbacks : l.lane.callbacks ≤ 2 * l.lane.packets;
+  faults : g.S.Source.faults l.fn.source ≤ g.S.Source.faults l.source;
+  replaying : (bytes : List ℕ) → g.S.Source.left l.fn.source ≡ Some bytes
+    → Replaying bytes (g.S.Source.left l.source) l.capture l.lane.flows l.lane.records.items l.lane.callbacks l.lane.packets;
+}
+
+abbrev pub decreases-loop-lane : goal.decreases-loop-lane
+decreases-loop-lane g l = 1048576 - l.lane.packets
