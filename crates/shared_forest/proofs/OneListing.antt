@@ -1,10 +1,10 @@
 -- Trees of one listing are equal.
-use Rattle.std.proofs.Common.{◌≡◌, ℕ, ◌+◌, ◌-◌, ◌<◌, ◌≤◌, List, [], ◌∷◌, ◌++◌, length, take, drop, refl, sym, ap, ◌∙◌, arith, rules, subst, zero-add}
-use Rattle.std.proofs.lemmas.List.{length-take, length-drop, take-append-drop, drop-drop, drop_all, same_from_push, length_push, nil_from_length}
+use Rattle.std.proofs.Common.{◌≡◌, ℕ, ◌+◌, ◌-◌, ◌≤◌, List, [], ◌∷◌, ◌++◌, length, take, drop, refl, sym, ap, ◌∙◌, arith, rules, subst, zero-add}
+use Rattle.std.proofs.lemmas.List.{length-take, length-drop, take-append-drop, drop-drop, drop_all, same_from_push, length_push}
 use Rattle.shared_forest.specs.declared.node.Node.{Node}
 use Rattle.shared_forest.specs.declared.node.Slot.{Slot}
 use Rattle.shared_forest.specs.Lists.{TreeLists}
-use Rattle.shared_forest.specs.Layout.{under, AreLaidOut, ArePacked, AreTopped, IsTree}
+use Rattle.shared_forest.specs.Layout.{under, AreLaidOut, ArePacked, IsTree}
 use Rattle.shared_forest.specs.Listing.{Shown, slots_of, path_after, listing_after, listing_of, listing}
 
 -- the registrations of a listing, one node after the other

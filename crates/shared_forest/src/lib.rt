@@ -10,3 +10,6 @@ pub use node::{Node, Slot};
 pub use store::{ForestView, Forests, Shared};
 pub use table::Table;
 pub use tree::Tree;
+
+#[cfg(test)]
+mod tests;

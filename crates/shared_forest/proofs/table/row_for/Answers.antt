@@ -1,4 +1,4 @@
-use Rattle.std.proofs.Common.{◌≡◌, ℕ, List, [], ◌∷◌, ◌++◌, length, Some, slice_get, refl, arith}
+use Rattle.std.proofs.Common.{◌≡◌, List, [], ◌∷◌, ◌++◌, length, Some, slice_get, refl, arith}
 use Rattle.shared_forest.specs.Lists.{TreeLists}
 use Rattle.shared_forest.proofs.table.row_for.Goals as goal
 
