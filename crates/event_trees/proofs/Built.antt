@@ -1,12 +1,12 @@
 -- A tree that is built one registration after the other.
-use Rattle.std.proofs.Common.{◌≡◌, ℕ, zero, suc, ◌+◌, ◌-◌, ◌*◌, ◌<◌, ◌≤◌, Bool, true, false, cond, eqb, ltb, List, [], ◌∷◌, ◌++◌, length, take, drop, map, get_or, min, refl, sym, ap, subst, ◌∙◌, arith, append_assoc, append-nil, ⊎_elim}
-use Rattle.std.specs.Prelude.{◌≢◌, ⊤}
-use Rattle.std.proofs.lemmas.List.{length-take, length-append, length_push, take_all, take_at, take-append-le, take_more, get_or-drop, drop-drop, same_from_push, length-drop, length-take-le, length-map, drop_more, get_or-map}
+use Rattle.std.proofs.Common.{◌≡◌, ℕ, suc, ◌+◌, ◌-◌, ◌*◌, ◌<◌, ◌≤◌, Bool, true, cond, ltb, List, [], ◌∷◌, ◌++◌, length, take, drop, map, get_or, refl, sym, ap, subst, ◌∙◌, arith, append_assoc, ⊎_elim}
+use Rattle.std.specs.Prelude.{⊤}
+use Rattle.std.proofs.lemmas.List.{length-take, length-append, length_push, take_all, take_at, take_more, get_or-drop, length-drop, length-take-le, length-map, drop_more, get_or-map}
 use Rattle.std.proofs.lemmas.Bool.{lt-ltb}
 use Rattle.std.proofs.lemmas.Bool.Decides.{eqb_tells}
 use Rattle.shared_forest.specs.declared.node.Node.{Node}
 use Rattle.shared_forest.specs.declared.node.Slot.{Slot}
-use Rattle.shared_forest.specs.Layout.{under, AreLaidOut, ArePacked, AreTopped, IsTree}
+use Rattle.shared_forest.specs.Layout.{under, AreLaidOut, ArePacked, IsTree}
 use Rattle.shared_forest.specs.Listing.{Shown, slots_of, path_after, listing_after, listing_of}
 use Rattle.event_trees.specs.Order.{IsUpTo, Rises}
 use Rattle.event_trees.specs.Canon.{Placed, longer, canon_of}

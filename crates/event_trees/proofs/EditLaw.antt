@@ -1,5 +1,5 @@
 -- The tree of an edited list.
-use Rattle.std.proofs.Common.{◌≡◌, ℕ, ◌+◌, ◌≤◌, Bool, cond, List, [], ◌∷◌, length, Result, Ok, Err, sym, ap, subst, ◌∙◌, arith}
+use Rattle.std.proofs.Common.{◌≡◌, ℕ, ◌≤◌, Bool, cond, List, [], length, Result, Ok, Err, sym, ap, subst, ◌∙◌, arith}
 use Rattle.std.specs.Prelude.{IsTrue, IfOk}
 use Rattle.std.proofs.lemmas.List.{length-map}
 use Rattle.std.proofs.lemmas.List.Elements.{recursion_from_All}
@@ -9,15 +9,15 @@ use Rattle.event_trees.specs.declared.defs.EventDef.{EventDef}
 use Rattle.event_trees.specs.declared.placed.PlacedReg.{PlacedReg}
 use Rattle.event_trees.specs.Defs.{is_event, AreDefs}
 use Rattle.event_trees.specs.Private.{IsPrivate, edited}
-use Rattle.event_trees.specs.Canon.{Placed, placed_of, placed, canon_of, canon}
+use Rattle.event_trees.specs.Canon.{Placed, placed_of, placed}
 use Rattle.event_trees.specs.Order.{Rises}
 use Rattle.event_trees.specs.Build.{seen, all_seen}
 use Rattle.event_trees.specs.ReadOff.{read_off, AreShort}
-use Rattle.event_trees.specs.Edit.{IsForestOf, IsSwitchable, put_placed, without_placed}
+use Rattle.event_trees.specs.Edit.{IsForestOf, put_placed, without_placed}
 use Rattle.event_trees.proofs.Paths.{knows}
 use Rattle.event_trees.proofs.Short.{short-placed, short-canon_of}
 use Rattle.event_trees.proofs.Sorted.{rises, few}
-use Rattle.event_trees.proofs.Switch.{private-edited, placed-edited}
+use Rattle.event_trees.proofs.Switch.{placed-edited}
 use Rattle.event_trees.proofs.Whole.{whole}
 
 pub edit-short : (defs : List EventDef) (list : List Reg) (shown : List Shown) → AreDefs defs → IsForestOf defs list shown → AreShort shown

@@ -1,13 +1,11 @@
 -- One registration more or less, of a list and of the list with paths.
-use Rattle.std.proofs.Common.{◌≡◌, ℕ, ◌+◌, ◌<◌, ◌≤◌, Bool, true, false, cond, eqb, List, [], ◌∷◌, ◌++◌, length, take, drop, map, get_or, refl, sym, ap, subst, ◌∙◌, arith, append_assoc}
-use Rattle.std.specs.Prelude.{not}
-use Rattle.std.specs.List.{filter}
+use Rattle.std.proofs.Common.{◌≡◌, ℕ, ◌+◌, ◌<◌, Bool, true, false, cond, List, [], ◌∷◌, ◌++◌, length, take, drop, get_or, sym, ap, ◌∙◌, arith, append_assoc}
 use Rattle.std.proofs.lemmas.List.{drop_more, take_more, take-map, drop-map, get_or-map, length-map, map-append}
 use Rattle.std.specs.Ordering.{is_lt}
 use Rattle.event_trees.specs.declared.placed.PlacedReg.{PlacedReg}
 use Rattle.event_trees.specs.Canon.{Placed}
 use Rattle.event_trees.specs.Build.{seen, all_seen}
-use Rattle.event_trees.specs.Edit.{placed_cmp, put_placed, without_placed}
+use Rattle.event_trees.specs.Edit.{placed_cmp, put_placed}
 
 drop-seen : (regs : List PlacedReg) (i : ℕ) (d : PlacedReg) → i < length regs → drop i (all_seen regs) ≡ seen (get_or regs i d) ∷ drop (i + 1) (all_seen regs)
 drop-seen regs i d within =

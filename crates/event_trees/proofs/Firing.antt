@@ -1,8 +1,7 @@
 -- What fires of the listing of a private list is what fires of the list.
-use Rattle.std.proofs.Common.{◌≡◌, ℕ, ◌+◌, ◌≤◌, Bool, true, false, cond, eqb, List, [], ◌∷◌, ◌++◌, map, Option, Some, None, refl, sym, ap, subst, ◌∙◌, arith, append_assoc, append-nil, ⊎_elim}
-use Rattle.std.specs.Prelude.{◌&&◌, IsTrue, is_some, nat_le}
+use Rattle.std.proofs.Common.{◌≡◌, ℕ, ◌≤◌, Bool, true, false, cond, eqb, List, [], ◌∷◌, ◌++◌, map, Option, Some, None, refl, sym, ap, ◌∙◌, arith}
+use Rattle.std.specs.Prelude.{◌&&◌, IsTrue, is_some}
 use Rattle.std.specs.List.{filter, AllByRecursion}
-use Rattle.std.proofs.lemmas.List.{map-append}
 use Rattle.std.proofs.lemmas.Bool.Decides.{nat_tests}
 use Rattle.native_filters.specs.declared.facts.Facts.{Facts}
 use Rattle.native_filters.specs.declared.facts.Hook.{Hook}
@@ -12,7 +11,7 @@ use Rattle.app_api.specs.declared.registration.Reg.{Reg}
 use Rattle.event_trees.specs.declared.defs.EventDef.{EventDef}
 use Rattle.event_trees.specs.Defs.{found, is_root, is_event, path}
 use Rattle.event_trees.specs.Private.{numbers_of}
-use Rattle.event_trees.specs.Canon.{Placed, placed_of, placed, canon_of, canon}
+use Rattle.event_trees.specs.Canon.{Placed, placed, canon_of, canon}
 use Rattle.event_trees.specs.Fires.{is_hook, filter_means, filters_mean, begins_with, is_called, fires}
 use Rattle.event_trees.specs.Walk.{asks, keeps, passes, called, firing}
 use Rattle.event_trees.specs.ReadOff.{read_off}

@@ -1,20 +1,20 @@
 -- What one registration more at the end of a sorted list does to the listing.
-use Rattle.std.proofs.Common.{◌≡◌, ℕ, zero, suc, ◌+◌, ◌<◌, ◌≤◌, Bool, true, false, cond, eqb, List, [], ◌∷◌, ◌++◌, length, take, map, Ordering, refl, sym, ap, subst, ◌∙◌, arith, append_assoc, append-nil, inl, inr, ⊎_elim}
+use Rattle.std.proofs.Common.{◌≡◌, ℕ, zero, suc, ◌+◌, Bool, true, false, cond, eqb, List, [], ◌∷◌, ◌++◌, length, take, map, Ordering, refl, sym, ap, subst, ◌∙◌, arith, append_assoc, append-nil, inl, inr, ⊎_elim}
 use Rattle.std.specs.Prelude.{◌⊎◌, ◌≢◌, if◌then◌else◌}
 use Rattle.std.specs.declared.cmp.Ordering.TheVariants.{Less, Equal, Greater}
 use Rattle.std.specs.List.{AllByRecursion}
 use Rattle.std.specs.List.Sorted.{IsStrictlySortedBy}
-use Rattle.std.specs.Ordering.{nat_cmp, is_lt, is_eq, is_gt, ordering_then}
+use Rattle.std.specs.Ordering.{nat_cmp, is_eq, is_gt, ordering_then}
 use Rattle.std.specs.Cmp.{nat_cmp_is}
-use Rattle.std.proofs.lemmas.List.{map-append, take_all, take-append-le}
+use Rattle.std.proofs.lemmas.List.{map-append, take_all}
 use Rattle.std.proofs.lemmas.Bool.{cases_order, false≢true}
-use Rattle.std.proofs.lemmas.Bool.Decides.{nat_tests, eqb_tells}
+use Rattle.std.proofs.lemmas.Bool.Decides.{eqb_tells}
 use Rattle.shared_forest.specs.declared.node.Slot.{Slot}
 use Rattle.shared_forest.specs.Listing.{Shown}
 use Rattle.event_trees.specs.Private.{path_cmp}
 use Rattle.event_trees.specs.Order.{IsUpTo}
 use Rattle.event_trees.specs.Canon.{Placed, longer, prefixes, put_path, put_paths, paths_with, slots_at, shown_at, canon_of}
-use Rattle.event_trees.proofs.Order.{Has, AllBelow, AllAbove, same_path, itself, by_order, less_trans, flip_less, has_below, has_above, below_trans, below_push, put-has, puts-above, sorted-puts, has-puts_old, has-puts_new, cmp-front, front_less}
+use Rattle.event_trees.proofs.Order.{Has, AllBelow, AllAbove, itself, flip_less, below_trans, below_push, put-has, puts-above, sorted-puts, has-puts_old, has-puts_new, cmp-front}
 
 cons_same : (a b : ℕ) (q p : List ℕ) → a ≡ b → q ≡ p → a ∷ q ≡ b ∷ p
 cons_same a b q p e f = cc

@@ -3,6 +3,7 @@ pub mod EditLaw
 pub mod EditSteps
 pub mod Firing
 pub mod Growth
+pub mod Lists
 pub mod NodeSteps
 pub mod Order
 pub mod Paths

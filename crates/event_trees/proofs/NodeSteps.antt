@@ -1,10 +1,10 @@
 -- Steps on lists of nodes.
-use Rattle.std.proofs.Common.{◌≡◌, ℕ, zero, suc, ◌+◌, ◌-◌, ◌<◌, ◌≤◌, Bool, true, false, cond, eqb, List, [], ◌∷◌, ◌++◌, length, drop, get_or, set, refl, sym, ap, subst, ◌∙◌, arith, ⊎_elim}
+use Rattle.std.proofs.Common.{◌≡◌, ℕ, suc, ◌+◌, ◌-◌, ◌<◌, ◌≤◌, Bool, cond, eqb, List, [], ◌∷◌, length, drop, get_or, set, refl, ap, ◌∙◌, arith, ⊎_elim}
 use Rattle.std.specs.Prelude.{◌≢◌}
 use Rattle.std.proofs.lemmas.List.{drop_more, drop_all}
 use Rattle.std.proofs.lemmas.Bool.{ne_eqb, eq-eqb, cases_lt}
 use Rattle.shared_forest.specs.declared.node.Node.{Node}
-use Rattle.event_trees.specs.Build.{common, fresh, bumped, counted}
+use Rattle.event_trees.specs.Build.{common, bumped}
 
 pub bumped-set : (ns : List Node) (d : Node) → 0 < length ns → set ns (length ns - 1) (record (get_or ns (length ns - 1) d) { count = (get_or ns (length ns - 1) d).count + 1 }) ≡ bumped ns
 bumped-set [] d h = absurd (omega arith)

@@ -1,8 +1,8 @@
 -- What a definition more does to look-ups and paths.
-use Rattle.std.proofs.Common.{◌≡◌, ℕ, ◌+◌, ◌<◌, ◌≤◌, Bool, true, false, cond, eqb, leb, List, [], ◌∷◌, ◌++◌, length, map, Option, Some, None, refl, sym, ap, subst, ◌∙◌, arith, rules, append_assoc, append-nil}
-use Rattle.std.specs.Prelude.{◌≢◌, IsTrue, IsSome, ◌||◌, ◌&&◌, is_some, ◌⊎◌}
-use Rattle.std.specs.List.{find, fold, AllByRecursion}
-use Rattle.std.proofs.Common.{inl, inr, ⊎_elim}
+use Rattle.std.proofs.Common.{◌≡◌, ℕ, ◌≤◌, Bool, true, false, cond, eqb, List, [], ◌∷◌, ◌++◌, length, Option, Some, None, refl, sym, ap, subst, ◌∙◌, arith, append_assoc, append-nil}
+use Rattle.std.specs.Prelude.{◌≢◌, IsTrue, ◌||◌, is_some}
+use Rattle.std.specs.List.{fold, AllByRecursion}
+use Rattle.std.proofs.Common.{⊎_elim}
 use Rattle.std.proofs.lemmas.List.{length_push}
 use Rattle.std.proofs.lemmas.Bool.Decides.{nat_tests, eqb_tells}
 use Rattle.event_trees.specs.declared.defs.EventDef.{EventDef}

@@ -1,11 +1,10 @@
 -- Reading a tree's registrations off, node by node.
-use Rattle.std.proofs.Common.{◌≡◌, ℕ, zero, suc, ◌+◌, ◌-◌, ◌<◌, ◌≤◌, List, [], ◌∷◌, ◌++◌, length, take, drop, get_or, map, refl, sym, ap, subst, ◌∙◌, arith, append_assoc, append-nil}
-use Rattle.std.specs.List.{AllByRecursion}
+use Rattle.std.proofs.Common.{◌≡◌, ℕ, ◌+◌, ◌-◌, ◌<◌, ◌≤◌, List, [], ◌∷◌, ◌++◌, length, take, drop, get_or, sym, ap, subst, ◌∙◌, arith, append_assoc, append-nil}
 use Rattle.std.proofs.lemmas.List.{drop_more, drop_all, length_push, length-take}
 use Rattle.shared_forest.specs.declared.node.Node.{Node}
 use Rattle.shared_forest.specs.declared.node.Slot.{Slot}
-use Rattle.shared_forest.specs.Layout.{AreLaidOut, ArePacked, IsTree}
-use Rattle.shared_forest.specs.Listing.{Shown, slots_of, path_after, listing_after, listing_of}
+use Rattle.shared_forest.specs.Layout.{AreLaidOut, IsTree}
+use Rattle.shared_forest.specs.Listing.{slots_of, path_after, listing_after, listing_of}
 use Rattle.event_trees.specs.Canon.{Placed}
 use Rattle.event_trees.specs.ReadOff.{all_at, read_off, AreShort}
 

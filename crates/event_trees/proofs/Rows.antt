@@ -1,15 +1,15 @@
 -- What the rows say of the definitions.
-use Rattle.std.proofs.Common.{◌≡◌, ℕ, ◌≤◌, Bool, true, false, cond, eqb, List, [], ◌∷◌, ◌++◌, length, map, Option, Some, None, refl, sym, ap, subst, ◌∙◌, arith, ⊎_elim, append-nil, append_assoc}
-use Rattle.std.specs.Prelude.{◌≢◌, IsTrue, ◌||◌, is_some}
+use Rattle.std.proofs.Common.{◌≡◌, ℕ, ◌≤◌, Bool, true, false, cond, eqb, List, [], ◌∷◌, ◌++◌, length, Option, Some, None, refl, sym, ap, subst, ◌∙◌, arith, ⊎_elim, append-nil, append_assoc}
+use Rattle.std.specs.Prelude.{◌≢◌, IsTrue}
 use Rattle.std.specs.Option.{option_map}
 use Rattle.std.specs.List.{AllByRecursion}
 use Rattle.std.proofs.lemmas.Bool.Decides.{eqb_tells}
 use Rattle.event_trees.specs.declared.defs.EventDef.{EventDef}
 use Rattle.event_trees.specs.declared.defs.Row.{Row}
 use Rattle.event_trees.specs.EventPath.{path_of}
-use Rattle.event_trees.specs.Defs.{found, is_root, is_event, path, IsAddable, AreAddable}
+use Rattle.event_trees.specs.Defs.{found, is_event, path, IsAddable, AreAddable}
 use Rattle.event_trees.specs.Rows.{defs_of, row_of, HavePaths, AreRows}
-use Rattle.event_trees.proofs.Paths.{KnowsPaths, knows, IsRooted, path-unfound, path-push_same, path-push_other, found-number}
+use Rattle.event_trees.proofs.Paths.{KnowsPaths, knows, IsRooted, path-unfound, path-push_same, path-push_other}
 
 pub found-rows : (rows : List Row) (event : ℕ) → found (defs_of rows) event ≡ option_map (λ r. r.def) (row_of rows event)
 found-rows [] event = refl

@@ -1,8 +1,8 @@
 -- A private list with one registration switched is private, and its paths are those of the list with paths.
-use Rattle.std.proofs.Common.{◌≡◌, ℕ, ◌+◌, ◌<◌, ◌≤◌, Bool, true, false, cond, eqb, List, [], ◌∷◌, ◌++◌, length, map, Ordering, refl, sym, ap, subst, ◌∙◌, arith, ⊎_elim}
+use Rattle.std.proofs.Common.{◌≡◌, ℕ, ◌≤◌, Bool, true, false, cond, eqb, List, [], ◌∷◌, Ordering, refl, sym, ap, ◌∙◌}
 use Rattle.std.specs.Prelude.{◌≢◌, IsTrue, not}
 use Rattle.std.specs.declared.cmp.Ordering.TheVariants.{Less, Equal, Greater}
-use Rattle.std.specs.List.{All, AllByRecursion, IsDistinct, filter}
+use Rattle.std.specs.List.{All, AllByRecursion, IsDistinct}
 use Rattle.std.specs.List.Sorted.{IsStrictlySortedBy}
 use Rattle.std.specs.Cmp.{IsTotalOrder}
 use Rattle.std.specs.Ordering.{nat_cmp, is_lt, ordering_then, ordering_reverse}
@@ -15,7 +15,7 @@ use Rattle.event_trees.specs.declared.defs.EventDef.{EventDef}
 use Rattle.event_trees.specs.Defs.{is_event, path}
 use Rattle.event_trees.specs.Private.{path_cmp, reg_cmp, numbers_of, IsPrivate, put_reg, without, edited}
 use Rattle.event_trees.specs.Canon.{Placed, placed_of, placed}
-use Rattle.event_trees.specs.Edit.{placed_cmp, put_placed, without_placed, IsSwitchable}
+use Rattle.event_trees.specs.Edit.{put_placed, without_placed, IsSwitchable}
 
 pub placed-put : (defs : List EventDef) (r : Reg) (list : List Reg) → placed defs (put_reg defs r list) ≡ put_placed (placed_of defs r) (placed defs list)
 placed-put defs r [] = refl

@@ -1,5 +1,5 @@
 -- The user-defined events, in the order in which they were added.
-use Rattle.std.specs.Prelude.{◌≡◌, ℕ, ◌+◌, ◌≤◌, Bool, ◌||◌, ◌&&◌, ◌==◌, if◌then◌else◌, nat_le, IsTrue, is_some, Option, None, List, [], ◌∷◌, ◌++◌, length, ⊤}
+use Rattle.std.specs.Prelude.{◌≡◌, ℕ, ◌≤◌, Bool, ◌||◌, ◌&&◌, ◌==◌, if◌then◌else◌, nat_le, IsTrue, is_some, Option, None, List, [], ◌∷◌, ◌++◌, length, ⊤}
 use Rattle.std.specs.List.{find, fold}
 use Rattle.event_trees.specs.declared.defs.EventDef.{EventDef}
 

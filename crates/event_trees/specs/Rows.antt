@@ -1,5 +1,5 @@
 -- What the rows of `Defs` hold.
-use Rattle.std.specs.Prelude.{◌≡◌, ℕ, ◌==◌, Option, List, [], ◌∷◌, map, ⊤}
+use Rattle.std.specs.Prelude.{◌≡◌, ℕ, ◌==◌, Option, List, [], map}
 use Rattle.std.specs.List.{AllByRecursion, find}
 use Rattle.event_trees.specs.declared.defs.EventDef.{EventDef}
 use Rattle.event_trees.specs.declared.defs.Row.{Row}

@@ -8,6 +8,8 @@ mod nodes;
 mod path;
 mod place;
 mod placed;
+#[cfg(test)]
+mod tests;
 mod walk;
 
 pub use defs::{Defs, EventDef};

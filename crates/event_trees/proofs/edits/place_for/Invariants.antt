@@ -1,4 +1,4 @@
-use Rattle.std.proofs.Common.{◌≡◌, ◌++◌, ◌∷◌, take, drop}
+use Rattle.std.proofs.Common.{◌≡◌, ◌++◌, take, drop}
 use Rattle.event_trees.specs.Build.{seen, all_seen}
 use Rattle.event_trees.specs.Edit.{put_placed}
 use Rattle.event_trees.proofs.edits.place_for.Given as goal

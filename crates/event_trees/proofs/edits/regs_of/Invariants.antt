@@ -1,8 +1,5 @@
-use Rattle.std.proofs.Common.{◌≡◌, ◌++◌, drop}
-use Rattle.shared_forest.specs.Listing.{listing_of}
 use Rattle.event_trees.specs.EventPath.{path_of}
 use Rattle.event_trees.specs.Build.{all_seen}
-use Rattle.event_trees.specs.ReadOff.{read_off}
 use Rattle.event_trees.proofs.ReadOffs.{Left}
 use Rattle.event_trees.proofs.edits.regs_of.Given as goal
 

@@ -2,12 +2,11 @@ use Rattle.std.proofs.Common.{◌≡◌, ◌∙◌, List, ap, sym, subst}
 use Rattle.app_api.specs.declared.registration.Reg.{Reg}
 use Rattle.shared_forest.specs.Lists.{TreeLists}
 use Rattle.shared_forest.specs.Listing.{Shown, listing}
-use Rattle.event_trees.specs.declared.placed.PlacedReg.{PlacedReg}
 use Rattle.event_trees.specs.Private.{IsPrivate, edited}
 use Rattle.event_trees.specs.Canon.{placed, canon_of, canon}
 use Rattle.event_trees.specs.Build.{all_seen}
 use Rattle.event_trees.specs.ReadOff.{read_off, AreShort}
-use Rattle.event_trees.specs.Edit.{IsForestOf, IsSwitchable}
+use Rattle.event_trees.specs.Edit.{IsForestOf}
 use Rattle.event_trees.proofs.EditLaw.{edit-short, edit-regs, edit-order, edit-few, if_ok}
 use Rattle.event_trees.proofs.Switch.{private-edited}
 use Rattle.event_trees.proofs.forest.edit.Goals as goal

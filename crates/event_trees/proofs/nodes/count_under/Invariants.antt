@@ -1,4 +1,4 @@
-use Rattle.std.proofs.Common.{◌≡◌, ◌≤◌, ◌+◌, drop, length}
+use Rattle.std.proofs.Common.{◌≡◌, ◌+◌, drop}
 use Rattle.shared_forest.specs.Layout.{under}
 use Rattle.event_trees.proofs.nodes.count_under.Given as goal
 

@@ -1,5 +1,5 @@
-use Rattle.std.proofs.Common.{◌≡◌, ◌≤◌, ◌<◌, ◌+◌, ◌-◌, ◌∙◌, ◌++◌, [], ◌∷◌, List, ℕ, sym, ap, subst, take, drop, get_or, length, arith, rules}
-use Rattle.std.proofs.lemmas.List.{length-map, get_or-map}
+use Rattle.std.proofs.Common.{◌≡◌, ◌+◌, ◌∙◌, ◌++◌, [], ◌∷◌, List, ℕ, sym, ap, subst, take, drop, get_or, length, arith}
+use Rattle.std.proofs.lemmas.List.{length-map}
 use Rattle.shared_forest.specs.declared.node.Node.{Node}
 use Rattle.shared_forest.specs.declared.node.Slot.{Slot}
 use Rattle.shared_forest.specs.Layout.{IsTree}
@@ -9,7 +9,7 @@ use Rattle.event_trees.specs.EventPath.{path_of}
 use Rattle.event_trees.specs.Order.{Rises}
 use Rattle.event_trees.specs.Canon.{Placed, canon_of}
 use Rattle.event_trees.specs.Build.{seen, all_seen, seen_slots, fresh_nodes, bumped, counted}
-use Rattle.event_trees.proofs.Built.{Built, built-none, built-next, built-few, built-some, built-room_turn, built-turn, built-all, built-tree, built-listing, lent_back, counted-length, bumped-length, top_node}
+use Rattle.event_trees.proofs.Built.{Built, built-none, built-room_turn, built-turn, built-all, built-tree, built-listing, lent_back, counted-length, bumped-length, top_node}
 use Rattle.event_trees.proofs.nodes.nodes_of.Goals as goal
 
 pub loop-i-init : goal.loop-i-init

@@ -4,7 +4,7 @@ use Rattle.shared_forest.specs.declared.node.Slot.{Slot}
 use Rattle.shared_forest.specs.declared.node.Node.{Node}
 use Rattle.shared_forest.specs.Listing.{slots_of}
 use Rattle.event_trees.specs.Walk.{keeps, called, walked}
-use Rattle.event_trees.specs.Place.{come, pending_at}
+use Rattle.event_trees.specs.Place.{pending_at}
 use Rattle.event_trees.proofs.Walks.{come-step, node-within}
 use Rattle.event_trees.proofs.walk.next_called_in.Goals as goal
 

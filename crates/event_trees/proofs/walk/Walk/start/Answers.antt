@@ -1,4 +1,4 @@
-use Rattle.std.proofs.Common.{◌∙◌, ◌≡◌, ◌≤◌, ◌+◌, ap, subst, get_or, List, length}
+use Rattle.std.proofs.Common.{◌∙◌, ◌≡◌, ◌+◌, ap, subst, get_or, List}
 use Rattle.shared_forest.specs.declared.node.Node.{Node}
 use Rattle.event_trees.specs.Walk.{keeps, to_come}
 use Rattle.std.specs.Prelude.{IsTrue}

@@ -1,0 +1,38 @@
+-- Private lists of no registration, and what is said of lists of one.
+use Rattle.std.proofs.Common.{◌≡◌, ℕ, zero, suc, List, [], ◌∷◌, refl, sym, ap, subst, ◌∙◌, arith}
+use Rattle.std.specs.Prelude.{◌≢◌, ◌≤◌, IsTrue}
+use Rattle.std.specs.List.{All, Contains, IsDistinct}
+use Rattle.std.specs.List.Sorted.{IsStrictlySortedBy}
+use Rattle.std.proofs.lemmas.List.Elements.{All-nil}
+use Rattle.app_api.specs.declared.registration.Reg.{Reg}
+use Rattle.shared_forest.specs.Listing.{Shown}
+use Rattle.event_trees.specs.declared.defs.EventDef.{EventDef}
+use Rattle.event_trees.specs.Defs.{is_event}
+use Rattle.event_trees.specs.Private.{IsPrivate}
+use Rattle.event_trees.specs.Canon.{canon}
+use Rattle.event_trees.specs.Edit.{IsForestOf}
+
+none_private : (defs : List EventDef) → IsPrivate defs []
+unfolding IsDistinct IsStrictlySortedBy
+none_private defs = record {
+  numbers = All-nil (λ (r : Reg). (1 ≤ r.number) × (r.number ≤ 255));
+  events = All-nil (λ (r : Reg). IsTrue (is_event defs r.event));
+  distinct = tt;
+  sorted = tt;
+}
+
+pub private-none : (defs : List EventDef) (list : List Reg) → list ≡ [] → IsPrivate defs list
+private-none defs list is = subst (IsPrivate defs) (sym is) (none_private defs)
+
+pub forest-none : (defs : List EventDef) (list : List Reg) (shown : List Shown) → list ≡ [] → shown ≡ canon defs list → IsForestOf defs [] shown
+forest-none defs list shown is at = record { private = none_private defs; listed = at ∙ ap (canon defs) is }
+
+pub none_absent : (n : ℕ) → All (λ (s : Reg). s.number ≢ n) []
+none_absent n = All-nil (λ (s : Reg). s.number ≢ n)
+
+pub one_absent : (r : Reg) (n : ℕ) → r.number ≢ n → All (λ (s : Reg). s.number ≢ n) (r ∷ [])
+one_absent r n other zero d within = other
+one_absent r n other (suc k) d within = absurd (omega (arith, within))
+
+pub one_there : (r : Reg) → Contains (r ∷ []) r
+one_there r = (0, omega arith, refl)
