@@ -14,3 +14,6 @@ pub use refusal::RunError;
 pub use report::Report;
 pub use run::{Ended, refuse, run_mos};
 pub use versions::VersionList;
+
+#[cfg(test)]
+mod tests;
