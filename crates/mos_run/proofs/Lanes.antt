@@ -137,7 +137,7 @@ begun_here flows after pasts past flow own key true own_key absent there last is
 begun_here flows after pasts past flow own key false own_key absent there last is at =
     opened flows after pasts past flow own key (own_key ∙ and_true (same_key own key)) absent there last is at
 
-left_of_and : (a b : Bool) → (a && b) ≡ true → a ≡ true
+pub left_of_and : (a b : Bool) → (a && b) ≡ true → a ≡ true
 left_of_and true b both = refl
 left_of_and false b both = absurd (cc)
 
@@ -177,13 +177,13 @@ unfolding is_between
 between_own (Segment opener payload) own key same = ap (λ k. same_key k key) (same_key-equal (key_of_head opener) own same)
 between_own (NoSegment class) own key same = absurd (cc)
 
-holds_before : (past : Past) (own key : Ends) → holds own past ≡ true → holds key past ≡ same_key own key
+pub holds_before : (past : Past) (own key : Ends) → holds own past ≡ true → holds key past ≡ same_key own key
 holds_before past own key passes =
     let h = holding (opens past.first.packet) (is_between own past.first.packet) (is_over past.history) passes in
     let opening = h.first in let open_still = h.third in
     rw (opening, open_still) (and_true (is_between key past.first.packet) ∙ between_own past.first.packet own key h.second)
 
-holds_after : (past after : Past) (own key : Ends) (over : Bool) → holds own past ≡ true → after.first ≡ past.first → is_over after.history ≡ over
+pub holds_after : (past after : Past) (own key : Ends) (over : Bool) → holds own past ≡ true → after.first ≡ past.first → is_over after.history ≡ over
     → holds key after ≡ (same_key own key && not over)
 holds_after past after own key over passes first is =
     let h = holding (opens past.first.packet) (is_between own past.first.packet) (is_over past.history) passes in

@@ -4,3 +4,5 @@ pub mod Flows
 pub mod Lanes
 pub mod Onward
 pub mod Replaying
+pub mod Restricted
+pub mod Growing

@@ -5,7 +5,7 @@ use Rattle.mos_run.specs.Records.{Stamped, Past, takes, begun, joined, added}
 use Rattle.mos_run.specs.Places.{further, place_by, IsSingle}
 
 -- no record passes where there is no place
-none_here : (b : Bool) (o : Option ℕ) → (if b then Some 0 else further o) ≡ None → (b ≡ false) × (o ≡ None)
+pub none_here : (b : Bool) (o : Option ℕ) → (if b then Some 0 else further o) ≡ None → (b ≡ false) × (o ≡ None)
 none_here true o e = absurd (cc)
 none_here false None e = (refl, refl)
 none_here false (Some i) e = absurd (cc)
@@ -81,7 +81,7 @@ place_by-set test (first ∷ pasts) (suc i) past d within same =
 
 -- ---- at most one record passes
 
-single_cases : (b : Bool) (A B : Type 0) → MatchBool b A B → (b ≡ true → A) × (b ≡ false → B)
+pub single_cases : (b : Bool) (A B : Type 0) → MatchBool b A B → (b ≡ true → A) × (b ≡ false → B)
 single_cases true A B m = (λ e. m, λ e. absurd (cc))
 single_cases false A B m = (λ e. absurd (cc), λ e. m)
 

@@ -9,3 +9,4 @@ pub mod Refusal
 pub mod Outcome
 pub mod Replay
 pub mod Run
+pub mod Laws

@@ -3,6 +3,7 @@
 
 mod flow;
 mod lane;
+pub mod laws;
 mod replay;
 pub mod run;
 pub mod versions;
