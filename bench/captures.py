@@ -6,7 +6,8 @@ KIND is one of
           then 8 segments of 0 to 63 bytes from either side.
   pages   COUNT / 10 connections of 10 packets: handshake, a request of 64 bytes, an answer of 200 bytes whose segments
           come in the wrong order and once again, and both FINs. Groups of 16 connections.
-  long    8 connections that share COUNT packets: after the handshakes segments of 1,000 bytes from the server.
+  long    8 connections that share COUNT packets: after the handshakes segments of 1,000 bytes from the server, and an
+          acknowledgement of every two.
 All are classic pcap, big-endian, microseconds, Ethernet, IPv4 and TCP without options.
 """
 import functools
@@ -115,8 +116,10 @@ def long_packet(out, c, step):
         out.packet(client, SERVER, SYN, i, 0)
     elif step == 1:
         out.packet(SERVER, client, SYN_ACK, j, i + 1)
+    elif step % 3 == 2:
+        out.packet(client, SERVER, ACK, i + 1, j + 1 + (step - 2) // 3 * 2000)
     else:
-        out.packet(SERVER, client, PUSH, j + 1 + (step - 2) * 1000, i + 1, bytes(1000))
+        out.packet(SERVER, client, PUSH, j + 1 + (2 * step - 5) // 3 * 1000, i + 1, bytes(1000))
 
 
 def main():
