@@ -8,7 +8,7 @@ use Rattle.flow_table.specs.Table.{Flows, Rewrites, found}
 use Rattle.flow_table.proofs.Keys.{same_key-equal}
 use Rattle.mos_run.specs.declared.flow.Flow.{Flow}
 use Rattle.mos_run.specs.Records.{Past, holds}
-use Rattle.mos_run.specs.Places.{place_by, place_of, IsSingle}
+use Rattle.mos_run.specs.Places.{place_of, IsSingle}
 use Rattle.packet_views.specs.declared.packet.Head.{Head}
 use Rattle.mos_run.specs.Flows.{Keeps, Steps, Follows}
 use Rattle.mos_run.specs.Lane.{IsFlow, IsFlowAt}
@@ -55,7 +55,7 @@ pub opened : (flows after : Flows Flow) (pasts : List Past) (past : Past) (flow 
     → IsFlowAt (found after key) (place_with (place_of key pasts) (holds key past) (length pasts)) (pasts ++ past ∷ [])
 opened flows after pasts past flow own key own_key absent there last is at =
     rw (there, own_key) (opened_here (same_key own key) (found flows key) (place_of key pasts) pasts past flow last is
-      (λ same. subst (λ k. place_of k pasts ≡ None) (same_key-equal own key same) absent) (λ i e. place_by-within (holds key) pasts i e) at)
+    (λ same. subst (λ k. place_of k pasts ≡ None) (same_key-equal own key same) absent) (λ i e. place_by-within (holds key) pasts i e) at)
 
 -- ---- a connection that goes on
 
@@ -76,9 +76,10 @@ kept_flow key (Some flow) pasts i past d within before after at =
 pub stepped_flow : (key : Ends) (pasts : List Past) (i : ℕ) (past : Past) (flow : Flow) → place_of key pasts ≡ Some i → holds key past ≡ true → flow.place ≡ i → IsFlow flow past
     → IsFlowAt (Some flow) (place_of key (set pasts i past)) (set pasts i past)
 stepped_flow key pasts i past flow there passes at is =
-    let within = place_by-within (holds key) pasts i there in
-    (place_by-set (holds key) pasts i past past within (passes ∙ sym (place_by-passes (holds key) pasts i past there)) ∙ there ∙ ap Some (sym at),
-      λ d. subst (λ p. IsFlow flow p) (sym (ap (λ j. get_or (set pasts i past) j d) at ∙ get_or-set_same pasts i past d within)) is)
+    let within = place_by-within (holds key) pasts i there in (
+      place_by-set (holds key) pasts i past past within (passes ∙ sym (place_by-passes (holds key) pasts i past there)) ∙ there ∙ ap Some (sym at),
+      λ d. subst (λ p. IsFlow flow p) (sym (ap (λ j. get_or (set pasts i past) j d) at ∙ get_or-set_same pasts i past d within)) is,
+    )
 
 pub over_flow : (key : Ends) (pasts : List Past) (i : ℕ) (past : Past) → IsSingle (holds key) pasts → place_of key pasts ≡ Some i → holds key past ≡ false
     → IsFlowAt None (place_of key (set pasts i past)) (set pasts i past)
@@ -89,9 +90,12 @@ over_flow key pasts i past single there fails = place_by-cleared (holds key) pas
 kept_at : (old : Flows Flow) (key q : Ends) (flow after x : Flow) (b : Bool) → same_key key q ≡ b → found old key ≡ Some flow → after.place ≡ flow.place → after.count ≤ flow.count + 1
     → (if b then Some after else found old q) ≡ Some x → (f : Flow) × (found old q ≡ Some f) × (x.place ≡ f.place) × (x.count ≤ f.count + 1)
 kept_at old key q flow after x true same was place count is =
-    let one : after ≡ x = same_Some after x is in
-    (flow, subst (λ k. found old k ≡ Some flow) (same_key-equal key q same) was, ap (λ (f : Flow). f.place) (sym one) ∙ place,
-      subst (λ (f : Flow). f.count ≤ flow.count + 1) one count)
+    let one : after ≡ x = same_Some after x is in (
+      flow,
+      subst (λ k. found old k ≡ Some flow) (same_key-equal key q same) was,
+      ap (λ (f : Flow). f.place) (sym one) ∙ place,
+      subst (λ (f : Flow). f.count ≤ flow.count + 1) one count,
+    )
 kept_at old key q flow after x false same was place count is = (x, is, refl, omega arith)
 
 -- a step of one flow

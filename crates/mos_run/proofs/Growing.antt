@@ -1,5 +1,5 @@
 -- Records one at a time: each begins with a packet that none takes, and takes the later packets of its key while it is open.
-use Rattle.std.proofs.Common.{◌≡◌, ℕ, Bool, true, false, Option, Some, None, List, [], ◌∷◌, ◌++◌, length, get_or, set, refl, sym, ap, subst, ◌∙◌, append_assoc, append-nil, map}
+use Rattle.std.proofs.Common.{◌≡◌, ℕ, Bool, true, false, Option, Some, None, List, [], ◌∷◌, ◌++◌, get_or, set, refl, sym, ap, subst, ◌∙◌, append_assoc, append-nil, map}
 use Rattle.std.proofs.lemmas.List.{map-append}
 use Rattle.std.specs.Prelude.{if◌then◌else◌, ◌&&◌, ◌||◌, not, MatchBool}
 use Rattle.std.specs.List.{list_any}
@@ -10,7 +10,7 @@ use Rattle.mos_run.specs.History.{is_over}
 use Rattle.mos_run.specs.Records.{Stamped, Past, opens, is_between, holds, takes, begun, joined, added, records_from}
 use Rattle.mos_run.specs.Places.{further, place_by, place_of, IsSingle}
 use Rattle.mos_run.specs.Laws.{grown, begun_by}
-use Rattle.mos_run.proofs.Places.{none_here, single_cases, place_by-within, place_by-passes, place_by-never, added-new, joins, IsSingle-none, IsSingle-append, IsSingle-set}
+use Rattle.mos_run.proofs.Places.{none_here, place_by-within, place_by-passes, place_by-never, added-new, joins, IsSingle-none, IsSingle-append, IsSingle-set}
 use Rattle.mos_run.proofs.Lanes.{holds_before, holds_after, left_of_and}
 
 -- what a packet makes of a record
@@ -103,7 +103,7 @@ joined_alone s (Segment head payload) pasts i key is alone there =
     let passes = place_by-passes (holds own) pasts i (begun s) there in
     IsSingle-set (holds key) pasts i next (begun s) (alone key) (place_by-within (holds own) pasts i there)
     (λ e. holds_before past own key passes
-      ∙ left_of_and (same_key own key) (not (is_over next.history)) (sym (holds_after past next own key (is_over next.history) passes refl refl) ∙ e))
+    ∙ left_of_and (same_key own key) (not (is_over next.history)) (sym (holds_after past next own key (is_over next.history) passes refl refl) ∙ e))
 joined_alone s (NoSegment class) pasts i key is alone there = absurd (none_is_some i (sym (place_by-never (takes (NoSegment class)) pasts (λ past. refl)) ∙ there))
 
 single_takes : (packet : Packet) (pasts : List Past) → Alone pasts → IsSingle (takes packet) pasts
@@ -118,7 +118,7 @@ grow_here s ss pasts None there alone rest =
     let new = added-new s pasts there in
     let none = any_none (takes s.arrival.packet) pasts there in
     let still : Alone (added s pasts) = λ key. subst (IsSingle (holds key)) (sym new)
-      (IsSingle-append (holds key) pasts (begun s) (alone key) (λ passes. begun_alone s s.arrival.packet pasts key refl there passes)) in
+    (IsSingle-append (holds key) pasts (begun s) (alone key) (λ passes. begun_alone s s.arrival.packet pasts key refl there passes)) in
     let last = grown (begun s) ss in
     let after = begun_by (added s pasts) ss in
     rest still

@@ -1,5 +1,5 @@
 -- What one more packet does to the records that a lane stands for.
-use Rattle.std.proofs.Common.{◌≡◌, ℕ, zero, suc, ◌+◌, ◌<◌, Bool, true, false, Option, Some, None, List, [], ◌∷◌, ◌++◌, length, get_or, set, refl, sym, ap, subst, ◌∙◌, arith, map, Result, Ok, Err}
+use Rattle.std.proofs.Common.{◌≡◌, ℕ, zero, suc, ◌+◌, ◌<◌, Bool, true, false, Some, None, List, [], ◌∷◌, ◌++◌, length, get_or, set, refl, sym, ap, subst, ◌∙◌, arith, Result, Ok, Err}
 use Rattle.std.proofs.lemmas.List.{map-append, map-set, length-append}
 use Rattle.std.specs.Prelude.{if◌then◌else◌, ◌&&◌, not, OnOk}
 use Rattle.std.specs.FinMap as fin
@@ -17,10 +17,10 @@ use Rattle.report_text.specs.declared.record.RecordKind.TheVariants.{Conn, Orpha
 use Rattle.report_text.specs.declared.record.Record.{Record}
 use Rattle.mos_run.specs.declared.flow.Flow.{Flow}
 use Rattle.mos_run.specs.History.{followed, orphaned, fresh, is_over, at_sender, at_receiver, at_orphan}
-use Rattle.mos_run.specs.Records.{Past, Stamped, opens, is_between, holds, takes, begun, joined, added, history_after, side_of, side_in}
+use Rattle.mos_run.specs.Records.{Past, Stamped, opens, is_between, holds, takes, begun, joined, added, history_after, side_of}
 use Rattle.mos_run.specs.Report.{record_of, callbacks_of, kind_of}
 use Rattle.mos_run.specs.Places.{place_by, place_of, IsSingle}
-use Rattle.mos_run.specs.Flows.{IsStep, Follows, Steps}
+use Rattle.mos_run.specs.Flows.{IsStep, Follows}
 use Rattle.mos_run.specs.Lane.{StandsFor, IsFlow, IsFlowAt, Joined, with_packet, stamp_of}
 use Rattle.mos_run.proofs.Places.{place_with, place_by-append, place_by-within, place_by-passes, added-new, joins, IsSingle-append, IsSingle-set}
 use Rattle.mos_run.proofs.Flows.{unopened, opened, kept_flow, stepped_flow, over_flow}
@@ -116,7 +116,7 @@ unfolding followed history_after
 opening_flow number head payload flow after over opening client socket step = record {
   sides = λ h. ap (λ c. side_of c h) (step.client ∙ client);
   socket = rw opening (subst (λ c. SocketStandsFor after.socket (received (side_of c head) head payload (sent (side_of c head) head fresh.emulation))) client
-    (step.socket fresh.emulation socket));
+      (step.socket fresh.emulation socket));
 }
 
 -- whether it is an open connection of a key
@@ -126,7 +126,7 @@ pub opening_holds : (number : ℕ) (head : Head) (payload : List ℕ) (flow afte
 unfolding followed history_after is_over is_between
 opening_holds number head payload flow after over key opening client socket step =
     rw opening (ap (λ b. same_key (key_of_head head) key && not b)
-      (sym (step.over_is fresh.emulation socket ∙ ap (λ c. are_over (received (side_of c head) head payload (sent (side_of c head) head fresh.emulation)).ends) client)))
+    (sym (step.over_is fresh.emulation socket ∙ ap (λ c. are_over (received (side_of c head) head payload (sent (side_of c head) head fresh.emulation)).ends) client)))
 
 begun_here : (flows after : Flows Flow) (pasts : List Past) (past : Past) (flow : Flow) (own key : Ends) (over : Bool) → holds key past ≡ (same_key own key && not over) → place_of own pasts ≡ None
     → found after key ≡ (if not over && same_key own key then Some flow else found flows key) → flow.place ≡ length pasts → IsFlow flow past
@@ -154,8 +154,8 @@ StandsFor-opened flows after records r callbacks number head payload key flow st
     let own_key = λ (k : Ends). opening_holds number head payload flow stepped over k opening client socket step in
     StandsFor-begun flows after records r callbacks 2 s pasts stands none (opening_record number head payload r opening is) (opening_length number head payload opening)
     (λ k. begun_here flows after pasts (begun s) stepped own k over (own_key k) none
-      (left k ∙ ap (λ w. if not over && same_key w k then Some stepped else found flows k) key_is) last
-      (opening_flow number head payload flow stepped over opening client socket step) (stands.placed k))
+    (left k ∙ ap (λ w. if not over && same_key w k then Some stepped else found flows k) key_is) last
+    (opening_flow number head payload flow stepped over opening client socket step) (stands.placed k))
     (λ k passes. subst (λ w. place_of w pasts ≡ None) (same_key-equal own k (left_of_and (same_key own k) (not over) (sym (own_key k) ∙ passes))) none)
 
 -- ---- a packet that a connection goes on with
@@ -223,7 +223,7 @@ unfolding followed history_after
 joined_flow number head payload past flow after over is step = record {
   sides = λ h. ap (λ c. side_of c h) step.client ∙ is.sides h;
   socket = subst (λ side. SocketStandsFor after.socket (received side head payload (sent side head past.history.emulation))) (is.sides head)
-    (step.socket past.history.emulation is.socket);
+      (step.socket past.history.emulation is.socket);
 }
 
 joined_over : (number : ℕ) (head : Head) (payload : List ℕ) (past : Past) (flow after : Flow) (over : Bool) → IsFlow flow past → IsStep flow after head payload over
@@ -252,14 +252,14 @@ StandsFor-joined flows after records new callbacks number head payload key place
     let afterwards = λ (k : Ends). holds_after past next own k f.over passes refl over_is in
     let placed_at : place < length pasts = subst (λ n. n < length pasts) (sym f.place_is) within in
     let noted : new ≡ set records i (record_of next) =
-      subst (λ n. new ≡ set records n (with_packet number (record_of (get_or pasts n (begun s))))) f.place_is (j.shown pasts (begun s) stands.shown placed_at)
-      ∙ ap (λ r. set records i r) (joined_record number head payload past) in
+    subst (λ n. new ≡ set records n (with_packet number (record_of (get_or pasts n (begun s))))) f.place_is (j.shown pasts (begun s) stands.shown placed_at)
+    ∙ ap (λ r. set records i r) (joined_record number head payload past) in
     rw ((joins s pasts i there).joined (begun s)) (record {
       shown = noted ∙ ap (λ rs. set rs i (record_of next)) stands.shown ∙ sym (map-set record_of pasts i next);
       placed = λ k. joined_here flows after pasts i next (begun s) f.after own k (same_key own k) f.over refl (stands.single own) there before afterwards
-        (f.step.place) (joined_flow number head payload past f.flow f.after f.over is f.step)
-        (f.left k ∙ ap (λ w. if same_key w k then (if f.over then None else Some f.after) else found flows k) key_is) (stands.placed k);
+          (f.step.place) (joined_flow number head payload past f.flow f.after f.over is f.step)
+          (f.left k ∙ ap (λ w. if same_key w k then (if f.over then None else Some f.after) else found flows k) key_is) (stands.placed k);
       single = λ k. IsSingle-set (holds k) pasts i next (begun s) (stands.single k) within
-        (λ e. before k ∙ left_of_and (same_key own k) (not f.over) (sym (afterwards k) ∙ e));
+          (λ e. before k ∙ left_of_and (same_key own k) (not f.over) (sym (afterwards k) ∙ e));
       counted = rw stands.counted (sym (callbacks_of-set pasts i 2 next (begun s) within (joined_length number head payload past)));
     })

@@ -1,14 +1,14 @@
 -- How a run ends, from the records so far and what is left of the capture.
-use Rattle.std.proofs.Common.{◌≡◌, ℕ, zero, suc, ◌+◌, List, [], ◌∷◌, ◌++◌, length, Result, Ok, Err, refl, sym, ap, ◌∙◌, arith, add-zero}
+use Rattle.std.proofs.Common.{◌≡◌, ℕ, ◌+◌, List, [], ◌∷◌, length, Result, Ok, Err, refl, sym, ap, ◌∙◌, arith, add-zero}
 use Rattle.packet_views.specs.Packet.{packet_of}
 use Rattle.pcap_source.specs.Captured.{Captured}
-use Rattle.pcap_source.specs.Capture.{Frames, Ending, tail, too_long, too_many, with_frame}
+use Rattle.pcap_source.specs.Capture.{Frames, Ending, tail, too_long, too_many}
 use Rattle.pcap_source.specs.declared.errors.CaptureFault.TheVariants as Fault
 use Rattle.mos_run.specs.declared.refusal.RunError.{RunError}
 use Rattle.mos_run.specs.declared.refusal.RunError.TheVariants.{Capture, TooMany}
 use Rattle.mos_run.specs.declared.report.Report.{Report}
-use Rattle.mos_run.specs.Records.{Past, Stamped, added, records_from, stamped}
-use Rattle.mos_run.specs.Report.{arrivals, record_of, records_of, totals_of}
+use Rattle.mos_run.specs.Records.{Past, added, records_from, stamped}
+use Rattle.mos_run.specs.Report.{arrivals, records_of}
 use Rattle.mos_run.specs.Outcome.{report_of, followed_to, outcome_of_frames}
 use Rattle.mos_run.specs.Lane.{stamp_of}
 

@@ -190,5 +190,5 @@ IsSingle-set test (first ∷ pasts) (suc i) past d single within less =
     let below : i < length pasts = omega arith in
     set_later (test first) (place_by test pasts) (place_by test (set pasts i past)) (IsSingle test pasts) (IsSingle test (set pasts i past)) single
     (λ none. let at = place_by-fails test pasts i d none below in
-      place_by-set test pasts i past d below (fails_with (test past) (test (get_or pasts i d)) less at ∙ sym at) ∙ none)
+    place_by-set test pasts i past d below (fails_with (test past) (test (get_or pasts i d)) less at ∙ sym at) ∙ none)
     (λ rest. IsSingle-set test pasts i past d rest below less)

@@ -1,25 +1,24 @@
 -- What a replay keeps while it reads: how the run ends follows from the records so far and what is left.
-use Rattle.std.proofs.Common.{◌≡◌, ℕ, ◌+◌, ◌-◌, ◌<◌, Bool, true, false, Option, Some, None, List, [], ◌∷◌, length, drop, map, Result, Ok, Err, refl, sym, ap, subst, ◌∙◌, arith}
+use Rattle.std.proofs.Common.{◌≡◌, ℕ, ◌+◌, ◌-◌, Option, Some, None, List, [], ◌∷◌, length, drop, map, Result, Ok, Err, refl, sym, ap, subst, ◌∙◌, arith}
 use Rattle.std.proofs.lemmas.List.{length-map}
 use Rattle.packet_views.specs.Packet.{packet_of}
 use Rattle.flow_table.specs.Table.{Flows}
 use Rattle.mos_run.specs.declared.flow.Flow.{Flow}
 use Rattle.report_text.specs.declared.record.Record.{Record}
 use Rattle.pcap_source.specs.Captured.{Captured}
-use Rattle.pcap_source.specs.Capture.{Frames, Ending, tail, too_long, too_many, ended, with_frame, frames_from, frames_by, header_of}
+use Rattle.pcap_source.specs.Capture.{Frames, tail, ended, with_frame, frames_from, frames_by, header_of}
 use Rattle.pcap_source.specs.Reading.{CaptureState, OpenGives, NextGives, StepsAs, frames_at}
 use Rattle.pcap_source.specs.declared.capture.TheConstants.{RECORD_LIMIT}
 use Rattle.pcap_source.specs.declared.capture.Step.{Step}
-use Rattle.pcap_source.specs.declared.capture.Step.TheVariants.{Frame, Tail, End}
+use Rattle.pcap_source.specs.declared.capture.Step.TheVariants.{Frame}
 use Rattle.pcap_source.specs.declared.errors.NextError.{NextError}
 use Rattle.pcap_source.specs.declared.errors.NextError.TheVariants as Next
 use Rattle.pcap_source.specs.declared.errors.OpenError.{OpenError}
 use Rattle.pcap_source.specs.declared.errors.OpenError.TheVariants as Open
-use Rattle.mos_run.specs.declared.refusal.RunError.{RunError}
 use Rattle.mos_run.specs.declared.report.Report.{Report}
 use Rattle.mos_run.specs.Records.{Past, added}
 use Rattle.mos_run.specs.Lane.{StandsFor, stamp_of}
-use Rattle.mos_run.specs.Report.{record_of, callbacks_of, totals_of}
+use Rattle.mos_run.specs.Report.{record_of, callbacks_of}
 use Rattle.mos_run.specs.Refusal.{record_refusal}
 use Rattle.mos_run.specs.Outcome.{outcome, outcome_by, outcome_of_frames, report_of, header_refusal}
 use Rattle.mos_run.specs.Replay.{ReplaysAs}
@@ -48,11 +47,11 @@ opened_replay (Some b) (Some after) capture flows records callbacks bytes gives 
     let same : b ≡ bytes = cc in
     let all : RECORD_LIMIT - capture.count ≡ RECORD_LIMIT = omega arith in
     let start : frames_at capture after ≡ frames_from capture.order RECORD_LIMIT 24 (drop 24 b) =
-      ap (λ n. frames_from capture.order n capture.offset after) all
-      ∙ ap (λ at. frames_from capture.order RECORD_LIMIT at after) offset
-      ∙ ap (λ l. frames_from capture.order RECORD_LIMIT 24 l) gives.2 in
+    ap (λ n. frames_from capture.order n capture.offset after) all
+    ∙ ap (λ at. frames_from capture.order RECORD_LIMIT at after) offset
+    ∙ ap (λ l. frames_from capture.order RECORD_LIMIT 24 l) gives.2 in
     let whole : outcome b ≡ outcome_of_frames (frames_at capture after) =
-      outcome_of_header b (Ok capture.order) gives.0 ∙ ap outcome_of_frames (sym start) in
+    outcome_of_header b (Ok capture.order) gives.0 ∙ ap outcome_of_frames (sym start) in
     record {
       pasts = [];
       rest = after;

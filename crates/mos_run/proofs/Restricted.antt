@@ -4,7 +4,7 @@ use Rattle.std.specs.Prelude.{if◌then◌else◌, ◌&&◌, filter}
 use Rattle.packet_views.specs.Packet.{Packet, Segment, NoSegment}
 use Rattle.flow_table.specs.Key.{Ends, key_of_head}
 use Rattle.flow_table.proofs.Keys.{same_key-equal}
-use Rattle.mos_run.specs.Records.{Stamped, Past, is_between, takes, begun, joined, added, records_from}
+use Rattle.mos_run.specs.Records.{Stamped, Past, is_between, takes, joined, added, records_from}
 use Rattle.mos_run.specs.Laws.{has_key}
 
 second_of : (a b c : Bool) → (a && b && c) ≡ true → b ≡ true

@@ -1,5 +1,5 @@
 -- What a packet does to the table of open connections.
-use Rattle.std.specs.Prelude.{◌≡◌, ℕ, ◌+◌, ◌≤◌, Bool, List, Option, Some, None, if◌then◌else◌}
+use Rattle.std.specs.Prelude.{◌≡◌, ℕ, ◌+◌, ◌≤◌, Bool, List, Some, None, if◌then◌else◌}
 use Rattle.packet_views.specs.declared.packet.Head.{Head}
 use Rattle.tcp_emulation.specs.Ends.{is_over}
 use Rattle.flow_table.specs.Key.{Ends, same_key}

@@ -36,7 +36,7 @@ unfoldable pub followed : ℕ → Side → Head → List ℕ → History → His
 followed number from head payload h = record {
   emulation = received from head payload (sent from head h.emulation);
   entries = h.entries ++ at_sender number ∷ at_receiver number ∷ [];
-  }
+}
 
 -- a packet of no connection
 unfoldable pub orphaned : ℕ → History

@@ -1,6 +1,6 @@
 -- Which packets make a record. A connection is opened by a SYN with neither ACK nor RST (RFC 9293, section 3.5) while none
 -- of its key is open; until it is over, each packet between its two endpoints belongs to it. Every other packet is an orphan.
-use Rattle.std.specs.Prelude.{ℕ, ◌+◌, Bool, false, not, ◌&&◌, if◌then◌else◌, List, [], ◌∷◌, map}
+use Rattle.std.specs.Prelude.{ℕ, Bool, false, not, ◌&&◌, if◌then◌else◌, List, [], ◌∷◌, map}
 use Rattle.packet_views.specs.Packet.{Packet, Segment, NoSegment}
 use Rattle.packet_views.specs.Flags.{has_syn, has_ack, has_rst}
 use Rattle.packet_views.specs.declared.packet.Head.{Head}
@@ -57,8 +57,9 @@ side_in (NoSegment class) head = Server
 -- one more packet of the connection that a packet opened
 unfoldable pub history_after : Packet → Arrival → History → History
 history_after opener a h = elim a.packet [
-    Segment head payload ↦ followed a.number (side_in opener head) head payload h
-  | NoSegment class ↦ h ]
+  | Segment head payload ↦ followed a.number (side_in opener head) head payload h
+  | NoSegment class ↦ h
+]
 
 -- the history that a packet begins
 abbrev pub first_history : Arrival → History

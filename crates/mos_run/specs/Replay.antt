@@ -1,7 +1,7 @@
 -- What a replay of a capture gives, where its source tells the bytes that are left.
 use Rattle.std.specs.Prelude.{◌≡◌, ℕ, List, [], ⊤, Option, Some, Result, Ok, Err}
 use Rattle.mos_run.specs.declared.refusal.RunError.{RunError}
-use Rattle.mos_run.specs.declared.refusal.RunError.TheVariants.{NotBuilt, Capture, TooMany, ReadFault, WriteFault, NoMemory}
+use Rattle.mos_run.specs.declared.refusal.RunError.TheVariants.{ReadFault, NoMemory}
 use Rattle.mos_run.specs.declared.report.Report.{Report}
 use Rattle.mos_run.specs.Outcome.{outcome}
 

@@ -1,5 +1,5 @@
 -- The report of a run: what each record shows, and what is counted.
-use Rattle.std.specs.Prelude.{ℕ, ◌+◌, List, [], ◌∷◌, length, map, sum_by, if◌then◌else◌}
+use Rattle.std.specs.Prelude.{ℕ, ◌+◌, List, [], ◌∷◌, length, map, if◌then◌else◌}
 use Rattle.packet_views.specs.Packet.{Packet, Segment, NoSegment, packet_of}
 use Rattle.packet_views.specs.declared.packet.Class.TheVariants.{Tcp}
 use Rattle.flow_table.specs.Endpoint.{source_of, destination_of}

@@ -55,10 +55,11 @@ fn note(of: &mut Record, number: u64) -> Result<(), AllocError>
 // The record of a connection that its first packet opens.
 fn connection(alloc: Global, number: u64, head: &Head) -> Result<Record, AllocError>
     ensures { IfOk result (λ r. r ≡ record {
-        name = number;
-        kind = RecordKind.Conn (source_of head.now) (destination_of head.now);
-        version = 0;
-        entries = at_sender number ∷ at_receiver number ∷ [] }) }
+      name = number;
+      kind = RecordKind.Conn (source_of head.now) (destination_of head.now);
+      version = 0;
+      entries = at_sender number ∷ at_receiver number ∷ [];
+    }) }
 {
     let mut opened = Record {
         name: number,
@@ -78,10 +79,11 @@ fn connection(alloc: Global, number: u64, head: &Head) -> Result<Record, AllocEr
 // The record of a packet of no connection.
 fn orphan(alloc: Global, number: u64, class: Class) -> Result<Record, AllocError>
     ensures { IfOk result (λ r. r ≡ record {
-        name = number;
-        kind = RecordKind.Orphan class;
-        version = 0;
-        entries = at_orphan number ∷ [] }) }
+      name = number;
+      kind = RecordKind.Orphan class;
+      version = 0;
+      entries = at_orphan number ∷ [];
+    }) }
 {
     let mut items = Vec::new(alloc);
     items.push(entry(number, Hook::Snd, ORPHAN, 3))?;
@@ -168,12 +170,7 @@ fn follow(
 }
 
 // Puts a connection into the table, unless it is over.
-fn keep(
-    flows: &mut FlowTable<Flow>,
-    key: Key,
-    flow: Flow,
-    over: bool,
-) -> Result<(), AllocError>
+fn keep(flows: &mut FlowTable<Flow>, key: Key, flow: Flow, over: bool) -> Result<(), AllocError>
     requires absent { found flows.old key ≡ None }
     ensures left { OnOk result ((other : Ends) → found flows.new other ≡ (if not over && same_key key other then Some flow else found flows.old other)) }
     ensures err { OnErr result (flows.new ≡ flows.old) }

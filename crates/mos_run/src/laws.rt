@@ -6,12 +6,10 @@ ghost use Rattle.mos_run.specs.Laws.{RecordsGrow, RecordsByKey};
 /// open: the definition by one record at a time.
 pub fn records_grow()
     ensures { RecordsGrow }
-{
-}
+{}
 
 /// The records of the packets of a set of keys are the records whose first packet has such a key. So the packets of a
 /// connection can be followed apart from all others.
 pub fn records_by_key()
     ensures { RecordsByKey }
-{
-}
+{}

@@ -4,12 +4,11 @@
 mod flow;
 mod lane;
 pub mod laws;
+pub mod refusal;
 mod replay;
+pub mod report;
 pub mod run;
 pub mod versions;
-
-pub mod refusal;
-pub mod report;
 
 pub use refusal::RunError;
 pub use report::Report;

@@ -7,9 +7,9 @@ ghost use Rattle.mos_run.specs.Outcome.{outcome};
 ghost use Rattle.mos_run.specs.Refusal.{refusal_text, status_of};
 ghost use Rattle.mos_run.specs.Run.{Reports, RefusedAs, EndsAs, WritesNothing, WritesFront, WritesText, Tells};
 
+use crate::refusal::{RunError, capture_line, too_many_line};
 use crate::replay::replay;
 use crate::versions::{VersionList, versions_of};
-use crate::refusal::{RunError, capture_line, too_many_line};
 use mos_bytes::{Sink, Source};
 use report_text::write_report;
 use std::alloc::{AllocError, Global};
@@ -58,11 +58,7 @@ fn write_text<E: Sink>(err: &mut E, text: &str)
 
 // Tells a refusal by its line, or want of memory where there is none for the line. Answers what was told.
 #[tactic(auto, unfolding(crate::specs::Refusal::refusal_text))]
-fn tell_line<E: Sink>(
-    err: &mut E,
-    line: Result<String, AllocError>,
-    error: RunError,
-) -> RunError
+fn tell_line<E: Sink>(err: &mut E, line: Result<String, AllocError>, error: RunError) -> RunError
     requires { ForOk line (λ line. string_bytes line ≡ refusal_text error) }
     ensures which { (result ≡ error) ⊎ (result ≡ RunError.NoMemory) }
     ensures text { WritesText (E.taken err.old) (E.taken err.new) (E.faults err.old) (E.faults err.new) (refusal_text result) }

@@ -1,7 +1,6 @@
-use Rattle.std.proofs.Common.{◌≡◌, ℕ, refl, sym, subst, ◌∙◌}
+use Rattle.std.proofs.Common.{sym, subst}
 use Rattle.std.specs.Option.{OnSome}
-use Rattle.flow_table.specs.Table.{Flows, Rewrites}
-use Rattle.mos_run.specs.declared.flow.Flow.{Flow}
+use Rattle.flow_table.specs.Table.{Rewrites}
 use Rattle.mos_run.proofs.Flows.{stepped_keeps, same_keeps}
 use Rattle.mos_run.proofs.lane.step_flow.Goals as goal
 

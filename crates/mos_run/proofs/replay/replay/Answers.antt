@@ -1,11 +1,11 @@
-use Rattle.std.proofs.Common.{◌≡◌, ◌+◌, Some, Ok, Err, true, refl, sym, ap, subst, ◌∙◌, arith}
+use Rattle.std.proofs.Common.{◌≡◌, ◌+◌, Some, Ok, Err, sym, ap, subst, ◌∙◌, arith}
 use Rattle.std.proofs.lemmas.Result.{err_from_is_err_and}
 use Rattle.packet_views.specs.Packet.{packet_of}
 use Rattle.pcap_source.specs.Captured.{Captured}
 use Rattle.pcap_source.specs.Reading.{NextGives}
 use Rattle.mos_run.specs.Lane.{StandsFor, stamp_of}
-use Rattle.mos_run.specs.Records.{Past, added}
-use Rattle.mos_run.proofs.Replaying.{Replaying, StepTold, opened_replay, refused_header, step_told, replayed, ended_replay, refused_record}
+use Rattle.mos_run.specs.Records.{added}
+use Rattle.mos_run.proofs.Replaying.{Replaying, opened_replay, refused_header, step_told, replayed, ended_replay, refused_record}
 use Rattle.mos_run.proofs.replay.replay.Goals as goal
 
 pub returns-in_err-capture-clause-gives : goal.returns-in_err-capture-clause-gives
@@ -21,9 +21,9 @@ loop-lane-init g c = record {
   callbacks = omega (arith, c.new-lane.ensures.callbacks);
   faults = c.open.ensures.cause.later;
   replaying = λ bytes told.
-    subst (λ n. Replaying bytes (g.S.Source.left c.open.new.source) c.in_ok-capture.capture c.new-lane.result.flows c.new-lane.result.records.items c.new-lane.result.callbacks n) (sym c.new-lane.ensures.packets)
-    (opened_replay (g.S.Source.left c.args.source.now) (g.S.Source.left c.open.new.source) c.in_ok-capture.capture c.new-lane.result.flows c.new-lane.result.records.items c.new-lane.result.callbacks
-    bytes c.in_ok-capture.ensures.gives c.in_ok-capture.ensures.start.0 c.in_ok-capture.ensures.start.1 c.new-lane.ensures.stands told);
+      subst (λ n. Replaying bytes (g.S.Source.left c.open.new.source) c.in_ok-capture.capture c.new-lane.result.flows c.new-lane.result.records.items c.new-lane.result.callbacks n) (sym c.new-lane.ensures.packets)
+      (opened_replay (g.S.Source.left c.args.source.now) (g.S.Source.left c.open.new.source) c.in_ok-capture.capture c.new-lane.result.flows c.new-lane.result.records.items c.new-lane.result.callbacks
+      bytes c.in_ok-capture.ensures.gives c.in_ok-capture.ensures.start.0 c.in_ok-capture.ensures.start.1 c.new-lane.ensures.stands told);
 }
 
 pub returns-in_err-next-clause-gives : goal.returns-in_err-next-clause-gives
@@ -37,17 +37,19 @@ pub returns-in-Tail-clause-gives : goal.returns-in-Tail-clause-gives
 returns-in-Tail-clause-gives g c = λ bytes told.
     let r = c.loop-lane.invariant.replaying bytes told in
     let gives = subst (λ s. NextGives c.loop-lane.capture c.next.new.self (g.S.Source.left c.loop-lane.source) (g.S.Source.left c.next.new.source) c.next.new.frame (Ok s)) c.in-Tail.is c.in_ok-next.ensures.gives in
-    let step = step_told c.loop-lane.capture c.next.new.self _ _ r.rest c.next.new.frame _ gives r.told in
-    (ended_replay bytes _ (g.S.Source.left c.next.new.source) c.loop-lane.capture c.next.new.self _ _ _ _ c.in-Tail.bytes c.report.result r step.steps.0 c.report.ensures,
-      step.told ∙ ap Some step.steps.2)
+    let step = step_told c.loop-lane.capture c.next.new.self _ _ r.rest c.next.new.frame _ gives r.told in (
+      ended_replay bytes _ (g.S.Source.left c.next.new.source) c.loop-lane.capture c.next.new.self _ _ _ _ c.in-Tail.bytes c.report.result r step.steps.0 c.report.ensures,
+      step.told ∙ ap Some step.steps.2,
+    )
 
 pub returns-in-End-clause-gives : goal.returns-in-End-clause-gives
 returns-in-End-clause-gives g c = λ bytes told.
     let r = c.loop-lane.invariant.replaying bytes told in
     let gives = subst (λ s. NextGives c.loop-lane.capture c.next.new.self (g.S.Source.left c.loop-lane.source) (g.S.Source.left c.next.new.source) c.next.new.frame (Ok s)) c.in-End.is c.in_ok-next.ensures.gives in
-    let step = step_told c.loop-lane.capture c.next.new.self _ _ r.rest c.next.new.frame _ gives r.told in
-    (ended_replay bytes _ (g.S.Source.left c.next.new.source) c.loop-lane.capture c.next.new.self _ _ _ _ 0 c.report-in-End.result r step.steps.0 c.report-in-End.ensures,
-      step.told ∙ ap Some step.steps.1)
+    let step = step_told c.loop-lane.capture c.next.new.self _ _ r.rest c.next.new.frame _ gives r.told in (
+      ended_replay bytes _ (g.S.Source.left c.next.new.source) c.loop-lane.capture c.next.new.self _ _ _ _ 0 c.report-in-End.result r step.steps.0 c.report-in-End.ensures,
+      step.told ∙ ap Some step.steps.1,
+    )
 
 pub loop-lane-preserved : goal.loop-lane-preserved
 loop-lane-preserved g c =
@@ -63,11 +65,11 @@ loop-lane-preserved g c =
       callbacks = omega (arith, c.in_ok-take-in-Frame.ensures.callbacks, inv.callbacks, counted);
       faults = omega (arith, inv.faults, c.next.ensures.cause.later);
       replaying = λ bytes told.
-        let r = inv.replaying bytes told in
-        let gives = subst (λ s. NextGives c.loop-lane.capture c.next.new.self (g.S.Source.left c.loop-lane.source) (g.S.Source.left c.next.new.source) c.next.new.frame (Ok s)) c.in-Frame.is c.in_ok-next.ensures.gives in
-        let step = step_told c.loop-lane.capture c.next.new.self _ _ r.rest c.next.new.frame _ gives r.told in
-        let next = replayed bytes _ _ c.loop-lane.capture c.next.new.self _ c.take.new.lane.flows _ c.take.new.lane.records.items _ c.take.new.lane.callbacks c.loop-lane.lane.packets c.next.new.frame r step
+          let r = inv.replaying bytes told in
+          let gives = subst (λ s. NextGives c.loop-lane.capture c.next.new.self (g.S.Source.left c.loop-lane.source) (g.S.Source.left c.next.new.source) c.next.new.frame (Ok s)) c.in-Frame.is c.in_ok-next.ensures.gives in
+          let step = step_told c.loop-lane.capture c.next.new.self _ _ r.rest c.next.new.frame _ gives r.told in
+          let next = replayed bytes _ _ c.loop-lane.capture c.next.new.self _ c.take.new.lane.flows _ c.take.new.lane.records.items _ c.take.new.lane.callbacks c.loop-lane.lane.packets c.next.new.frame r step
           (λ pasts stands. subst (λ b. StandsFor c.take.new.lane.flows c.take.new.lane.records.items c.take.new.lane.callbacks (added (stamp_of c.loop-lane.lane.packets (packet_of b)) pasts)) same
-            (c.in_ok-take-in-Frame.ensures.stands pasts stands)) in
-        subst (λ n. Replaying bytes (g.S.Source.left c.next.new.source) c.next.new.self c.take.new.lane.flows c.take.new.lane.records.items c.take.new.lane.callbacks n) (sym counted) next;
+          (c.in_ok-take-in-Frame.ensures.stands pasts stands)) in
+          subst (λ n. Replaying bytes (g.S.Source.left c.next.new.source) c.next.new.self c.take.new.lane.flows c.take.new.lane.records.items c.take.new.lane.callbacks n) (sym counted) next;
     }

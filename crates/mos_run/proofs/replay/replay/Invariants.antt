@@ -11,7 +11,7 @@ invariant-loop-lane g l = record {
   callbacks : l.lane.callbacks ≤ 2 * l.lane.packets;
   faults : g.S.Source.faults l.fn.source ≤ g.S.Source.faults l.source;
   replaying : (bytes : List ℕ) → g.S.Source.left l.fn.source ≡ Some bytes
-    → Replaying bytes (g.S.Source.left l.source) l.capture l.lane.flows l.lane.records.items l.lane.callbacks l.lane.packets;
+      → Replaying bytes (g.S.Source.left l.source) l.capture l.lane.flows l.lane.records.items l.lane.callbacks l.lane.packets;
 }
 
 abbrev pub decreases-loop-lane : goal.decreases-loop-lane

@@ -11,6 +11,6 @@ returns-clause-stands c = λ pasts packet stray stands.
     let flows = c.args.self.now.flows in
     rw c.in_ok-push.ensures.items
     (StandsFor-begun flows flows c.args.self.now.records.items _ c.args.self.now.callbacks 1 s pasts stands stray.untaken
-      (stray_record s c.args.class _ stray.shut stray.kind c.in_ok-orphan.ensures) (stray_length s stray.shut)
-      (λ key. unopened flows flows pasts (begun s) key (stray_holds s key stray.shut) refl (stands.placed key))
-      (λ key passes. stray_alone s key pasts stray.shut passes))
+    (stray_record s c.args.class _ stray.shut stray.kind c.in_ok-orphan.ensures) (stray_length s stray.shut)
+    (λ key. unopened flows flows pasts (begun s) key (stray_holds s key stray.shut) refl (stands.placed key))
+    (λ key passes. stray_alone s key pasts stray.shut passes))
