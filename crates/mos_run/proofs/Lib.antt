@@ -1,6 +1,9 @@
 pub mod Reach
+pub mod Calling
+pub mod Phases
+pub mod Presets
 pub mod Places
-pub mod Flows
+pub mod OpenFlows
 pub mod Lanes
 pub mod Onward
 pub mod Replaying

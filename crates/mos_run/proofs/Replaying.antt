@@ -16,6 +16,7 @@ use Rattle.pcap_source.specs.declared.errors.NextError.TheVariants as Next
 use Rattle.pcap_source.specs.declared.errors.OpenError.{OpenError}
 use Rattle.pcap_source.specs.declared.errors.OpenError.TheVariants as Open
 use Rattle.mos_run.specs.declared.report.Report.{Report}
+use Rattle.shared_forest.specs.Rows.{TableRows}
 use Rattle.mos_run.specs.Records.{Past, added}
 use Rattle.mos_run.specs.Lane.{StandsFor, stamp_of}
 use Rattle.mos_run.specs.Report.{record_of, callbacks_of}
@@ -25,11 +26,11 @@ use Rattle.mos_run.specs.Replay.{ReplaysAs}
 use Rattle.mos_run.proofs.Onward.{onward, onward_all}
 
 -- the run over these bytes, of which some are left, ends as these records and what is left say
-pub record Replaying (bytes : List ℕ) (left : Option (List ℕ)) (capture : CaptureState) (flows : Flows Flow) (records : List Record) (callbacks packets : ℕ) : Type 0 where
+pub record Replaying (bytes : List ℕ) (left : Option (List ℕ)) (capture : CaptureState) (table : TableRows) (flows : Flows Flow) (records : List Record) (callbacks packets : ℕ) : Type 0 where
   pub pasts : List Past
   pub rest : List ℕ
   pub told : left ≡ Some rest
-  pub stands : StandsFor flows records callbacks pasts
+  pub stands : StandsFor table flows records callbacks pasts
   pub ends : outcome bytes ≡ onward pasts packets (frames_at capture rest).frames (frames_at capture rest).ending
 
 -- ---- the global header
@@ -38,12 +39,12 @@ outcome_of_header : (bytes : List ℕ) (h : Result _ OpenError) → header_of by
 unfolding outcome
 outcome_of_header bytes h is = ap (λ r. outcome_by (frames_by r bytes)) is
 
-pub opened_replay : (old new : Option (List ℕ)) (capture : CaptureState) (flows : Flows Flow) (records : List Record) (callbacks : ℕ) (bytes : List ℕ)
-    → OpenGives old new (Ok capture) → capture.count ≡ 0 → capture.offset ≡ 24 → StandsFor flows records callbacks [] → old ≡ Some bytes
-    → Replaying bytes new capture flows records callbacks 0
-opened_replay None new capture flows records callbacks bytes gives count offset stands told = absurd (cc)
-opened_replay (Some b) None capture flows records callbacks bytes gives count offset stands told = absurd gives
-opened_replay (Some b) (Some after) capture flows records callbacks bytes gives count offset stands told =
+pub opened_replay : (old new : Option (List ℕ)) (capture : CaptureState) (table : TableRows) (flows : Flows Flow) (records : List Record) (callbacks : ℕ) (bytes : List ℕ)
+    → OpenGives old new (Ok capture) → capture.count ≡ 0 → capture.offset ≡ 24 → StandsFor table flows records callbacks [] → old ≡ Some bytes
+    → Replaying bytes new capture table flows records callbacks 0
+opened_replay None new capture table flows records callbacks bytes gives count offset stands told = absurd (cc)
+opened_replay (Some b) None capture table flows records callbacks bytes gives count offset stands told = absurd gives
+opened_replay (Some b) (Some after) capture table flows records callbacks bytes gives count offset stands told =
     let same : b ≡ bytes = cc in
     let all : RECORD_LIMIT - capture.count ≡ RECORD_LIMIT = omega arith in
     let start : frames_at capture after ≡ frames_from capture.order RECORD_LIMIT 24 (drop 24 b) =
@@ -96,11 +97,11 @@ pub framed : (pasts : List Past) (n : ℕ) (before others : Frames) (frame : Cap
 framed pasts n before others frame is = ap (λ (f : Frames). onward pasts n f.frames f.ending) is
 
 -- one more packet
-pub replayed : (bytes : List ℕ) (left after : Option (List ℕ)) (old new : CaptureState) (flows flows' : Flows Flow) (records records' : List Record) (callbacks callbacks' n : ℕ) (frame : Captured)
-    → (r : Replaying bytes left old flows records callbacks n) → StepTold old new r.rest after frame (Ok Frame)
-    → ((pasts : List Past) → StandsFor flows records callbacks pasts → StandsFor flows' records' callbacks' (added (stamp_of n (packet_of frame.bytes)) pasts))
-    → Replaying bytes after new flows' records' callbacks' (n + 1)
-replayed bytes left after old new flows flows' records records' callbacks callbacks' n frame r step stands = record {
+pub replayed : (bytes : List ℕ) (left after : Option (List ℕ)) (old new : CaptureState) (table table' : TableRows) (flows flows' : Flows Flow) (records records' : List Record) (callbacks callbacks' n : ℕ) (frame : Captured)
+    → (r : Replaying bytes left old table flows records callbacks n) → StepTold old new r.rest after frame (Ok Frame)
+    → ((pasts : List Past) → StandsFor table flows records callbacks pasts → StandsFor table' flows' records' callbacks' (added (stamp_of n (packet_of frame.bytes)) pasts))
+    → Replaying bytes after new table' flows' records' callbacks' (n + 1)
+replayed bytes left after old new table table' flows flows' records records' callbacks callbacks' n frame r step stands = record {
   pasts = added (stamp_of n (packet_of frame.bytes)) r.pasts;
   rest = step.rest;
   told = step.told;
@@ -109,28 +110,28 @@ replayed bytes left after old new flows flows' records records' callbacks callba
 }
 
 -- the end of the capture
-report_is : (flows : Flows Flow) (records : List Record) (callbacks n k : ℕ) (pasts : List Past) (report : Report) → StandsFor flows records callbacks pasts
+report_is : (table : TableRows) (flows : Flows Flow) (records : List Record) (callbacks n k : ℕ) (pasts : List Past) (report : Report) → StandsFor table flows records callbacks pasts
     → report ≡ record { records = records; totals = record { packets = n; records = length records; callbacks = callbacks; drops = 0; tail = k } }
     → report_of pasts n k ≡ report
-report_is flows records callbacks n k pasts report stands is =
+report_is table flows records callbacks n k pasts report stands is =
     let made : List Record → ℕ → Report = λ rs c. record { records = rs; totals = record { packets = n; records = length rs; callbacks = c; drops = 0; tail = k } } in
     ap (λ m. record { records = map record_of pasts; totals = record { packets = n; records = m; callbacks = callbacks_of pasts; drops = 0; tail = k } }) (sym (length-map pasts record_of))
     ∙ ap (λ rs. made rs (callbacks_of pasts)) (sym stands.shown) ∙ ap (made records) (sym stands.counted) ∙ sym is
 
-pub ended_replay : (bytes : List ℕ) (left after : Option (List ℕ)) (old new : CaptureState) (flows : Flows Flow) (records : List Record) (callbacks n k : ℕ) (report : Report)
-    → (r : Replaying bytes left old flows records callbacks n) → frames_at old r.rest ≡ ended (tail k)
+pub ended_replay : (bytes : List ℕ) (left after : Option (List ℕ)) (old new : CaptureState) (table : TableRows) (flows : Flows Flow) (records : List Record) (callbacks n k : ℕ) (report : Report)
+    → (r : Replaying bytes left old table flows records callbacks n) → frames_at old r.rest ≡ ended (tail k)
     → report ≡ record { records = records; totals = record { packets = n; records = length records; callbacks = callbacks; drops = 0; tail = k } }
     → outcome bytes ≡ Ok report
-ended_replay bytes left after old new flows records callbacks n k report r is made =
-    r.ends ∙ ap (λ (f : Frames). onward r.pasts n f.frames f.ending) is ∙ ap Ok (report_is flows records callbacks n k r.pasts report r.stands made)
+ended_replay bytes left after old new table flows records callbacks n k report r is made =
+    r.ends ∙ ap (λ (f : Frames). onward r.pasts n f.frames f.ending) is ∙ ap Ok (report_is table flows records callbacks n k r.pasts report r.stands made)
 
 -- a record that can't be read
-pub refused_record : (bytes : List ℕ) (left after : Option (List ℕ)) (old new : CaptureState) (flows : Flows Flow) (records : List Record) (callbacks n : ℕ) (frame : Captured) (e : NextError)
-    → (r : Replaying bytes left old flows records callbacks n) → StepTold old new r.rest after frame (Err e)
+pub refused_record : (bytes : List ℕ) (left after : Option (List ℕ)) (old new : CaptureState) (table : TableRows) (flows : Flows Flow) (records : List Record) (callbacks n : ℕ) (frame : Captured) (e : NextError)
+    → (r : Replaying bytes left old table flows records callbacks n) → StepTold old new r.rest after frame (Err e)
     → ReplaysAs bytes after (Err (record_refusal e))
-refused_record bytes left after old new flows records callbacks n frame (Next.TooLong offset) r step =
+refused_record bytes left after old new table flows records callbacks n frame (Next.TooLong offset) r step =
     r.ends ∙ ap (λ (f : Frames). onward r.pasts n f.frames f.ending) step.steps
-refused_record bytes left after old new flows records callbacks n frame (Next.TooMany offset) r step =
+refused_record bytes left after old new table flows records callbacks n frame (Next.TooMany offset) r step =
     r.ends ∙ ap (λ (f : Frames). onward r.pasts n f.frames f.ending) step.steps
-refused_record bytes left after old new flows records callbacks n frame Next.ReadFault r step = tt
-refused_record bytes left after old new flows records callbacks n frame Next.NoMemory r step = tt
+refused_record bytes left after old new table flows records callbacks n frame Next.ReadFault r step = tt
+refused_record bytes left after old new table flows records callbacks n frame Next.NoMemory r step = tt

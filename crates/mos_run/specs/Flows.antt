@@ -1,45 +1,65 @@
--- What a packet does to the table of open connections.
-use Rattle.std.specs.Prelude.{◌≡◌, ℕ, ◌+◌, ◌≤◌, Bool, List, Some, None, if◌then◌else◌}
+-- What a packet does to the table of open connections, and to the record of the one that takes it.
+use Rattle.std.specs.Prelude.{◌≡◌, ℕ, ◌+◌, ◌≤◌, Bool, List, length, Some, None, if◌then◌else◌, get_or, slice_set}
 use Rattle.packet_views.specs.declared.packet.Head.{Head}
-use Rattle.tcp_emulation.specs.Ends.{is_over}
 use Rattle.flow_table.specs.Key.{Ends, same_key}
 use Rattle.flow_table.specs.Table.{Flows, found}
 use Rattle.flow_socket.specs.Known.{SocketStandsFor}
-use Rattle.flow_socket.specs.Emulation.{Emulation, sent, received}
+use Rattle.app_api.specs.declared.entry.Entry.{Entry}
+use Rattle.shared_forest.specs.Rows.{TableRows, tree_at}
+use Rattle.report_text.specs.declared.record.Record.{Record}
 use Rattle.mos_run.specs.declared.flow.Flow.{Flow}
+use Rattle.mos_run.specs.InForce.{IsTreeOf}
+use Rattle.mos_run.specs.History.{History, followed, is_over}
 use Rattle.mos_run.specs.Records.{side_of}
 
--- both phases of a packet of a connection with this client
-abbrev pub emulated : Flow → Head → List ℕ → Emulation → Emulation
-emulated flow head payload e = received (side_of flow.client head) head payload (sent (side_of flow.client head) head e)
+-- what is kept for a connection, and the callbacks of its record, stand for its history
+pub record FlowStandsFor (table : TableRows) (flow : Flow) (entries : List Entry) (h : History) : Type 0 where
+  pub socket : SocketStandsFor flow.socket h.emulation
+  pub count : flow.count ≡ h.count
+  pub tree : IsTreeOf h.active (tree_at table flow.forest)
+  pub made : entries ≡ h.entries
 
--- a flow after one more packet
-pub record IsStep (flow after : Flow) (head : Head) (payload : List ℕ) (over : Bool) : Type 0 where
+-- a flow and its callbacks after one more packet
+pub record IsStep (table : TableRows) (flow after : Flow) (before entries : List Entry) (number : ℕ) (head : Head) (payload : List ℕ) (over : Bool) : Type 0 where
   pub place : after.place ≡ flow.place
   pub client : after.client ≡ flow.client
-  pub socket : (e : Emulation) → SocketStandsFor flow.socket e → SocketStandsFor after.socket (emulated flow head payload e)
-  pub over_is : (e : Emulation) → SocketStandsFor flow.socket e → over ≡ is_over (emulated flow head payload e).ends
+  pub stands : (h : History) → FlowStandsFor table flow before h
+      → FlowStandsFor table after entries (followed number (side_of flow.client head) head payload h)
+  pub over_is : (h : History) → FlowStandsFor table flow before h
+      → over ≡ is_over (followed number (side_of flow.client head) head payload h)
 
--- the flow of a key made a step, and the others are as they were
-pub record Steps (old new : Flows Flow) (key : Ends) (head : Head) (payload : List ℕ) (place : ℕ) (over : Bool) : Type 0 where
+-- a record with other callbacks
+abbrev pub with_entries : List Entry → Record → Record
+with_entries entries r = record { name = r.name; kind = r.kind; version = r.version; entries = entries }
+
+-- the flow of a key made a step, its record has the callbacks, and the others are as they were
+pub record Steps (table : TableRows) (old new : Flows Flow) (records shown : List Record) (key : Ends) (number : ℕ) (head : Head) (payload : List ℕ) (over : Bool) (more : ℕ) : Type 0 where
   pub flow : Flow
   pub after : Flow
+  pub of : Record
+  pub entries : List Entry
   pub was : found old key ≡ Some flow
-  pub place_is : place ≡ flow.place
-  pub step : IsStep flow after head payload over
+  pub of_is : of ≡ get_or records flow.place of
+  pub step : IsStep table flow after of.entries entries number head payload over
   pub left : (other : Ends) → found new other ≡ (if same_key key other then Some after else found old other)
+  pub noted : shown ≡ slice_set records flow.place (with_entries entries of)
+  pub more_are : length entries ≡ length of.entries + more
 
 -- the same, and the connection was closed where it is over
-pub record Follows (old new : Flows Flow) (key : Ends) (head : Head) (payload : List ℕ) (place : ℕ) : Type 0 where
+pub record Follows (table : TableRows) (old new : Flows Flow) (records shown : List Record) (key : Ends) (number : ℕ) (head : Head) (payload : List ℕ) (more : ℕ) : Type 0 where
   pub flow : Flow
   pub after : Flow
+  pub of : Record
+  pub entries : List Entry
   pub over : Bool
   pub was : found old key ≡ Some flow
-  pub place_is : place ≡ flow.place
-  pub step : IsStep flow after head payload over
+  pub of_is : of ≡ get_or records flow.place of
+  pub step : IsStep table flow after of.entries entries number head payload over
   pub left : (other : Ends) → found new other ≡ (if same_key key other then (if over then None else Some after) else found old other)
+  pub noted : shown ≡ slice_set records flow.place (with_entries entries of)
+  pub more_are : length entries ≡ length of.entries + more
 
--- each flow that is there was there, in its place and with at most one packet less
+-- each flow that is there was there, in its place, with its tree and with at most one packet less
 abbrev pub Keeps : Flows Flow → Flows Flow → Type 0
 Keeps old new = (key : Ends) (after : Flow) → found new key ≡ Some after
-    → (flow : Flow) × (found old key ≡ Some flow) × (after.place ≡ flow.place) × (after.count ≤ flow.count + 1)
+    → (flow : Flow) × (found old key ≡ Some flow) × (after.place ≡ flow.place) × (after.forest ≡ flow.forest) × (after.count ≤ flow.count + 1)

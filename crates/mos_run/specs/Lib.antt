@@ -1,4 +1,6 @@
+pub mod InForce
 pub mod History
+pub mod Calls
 pub mod Records
 pub mod Report
 pub mod Reach

@@ -1,14 +1,17 @@
 -- Which packets make a record. A connection is opened by a SYN with neither ACK nor RST (RFC 9293, section 3.5) while none
 -- of its key is open; until it is over, each packet between its two endpoints belongs to it. Every other packet is an orphan.
-use Rattle.std.specs.Prelude.{ℕ, Bool, false, not, ◌&&◌, if◌then◌else◌, List, [], ◌∷◌, map}
+use Rattle.std.specs.Prelude.{ℕ, Bool, false, not, ◌&&◌, if◌then◌else◌, Some, None, List, [], ◌∷◌, map}
 use Rattle.packet_views.specs.Packet.{Packet, Segment, NoSegment}
 use Rattle.packet_views.specs.Flags.{has_syn, has_ack, has_rst}
 use Rattle.packet_views.specs.declared.packet.Head.{Head}
+use Rattle.packet_views.specs.declared.packet.Class.TheVariants.{Tcp}
 use Rattle.tcp_emulation.specs.declared.segment.Side.{Side}
 use Rattle.tcp_emulation.specs.declared.segment.Side.TheVariants.{Client, Server}
 use Rattle.flow_table.specs.declared.endpoint.Endpoint.{Endpoint}
 use Rattle.flow_table.specs.Endpoint.{same_endpoint, source_of}
 use Rattle.flow_table.specs.Key.{Ends, key_of_head, same_key}
+use Rattle.builtin_events.specs.declared.raise.Raise.{Raise}
+use Rattle.builtin_events.specs.Raises.{orphan_raises}
 use Rattle.mos_run.specs.History.{History, fresh, followed, orphaned, is_over}
 
 -- a packet of the capture, with its number from 0
@@ -61,9 +64,14 @@ history_after opener a h = elim a.packet [
   | NoSegment class ↦ h
 ]
 
+-- what a packet of no connection raises
+abbrev pub orphan_raises_of : Packet → List Raise
+orphan_raises_of (Segment head payload) = orphan_raises Tcp (Some head)
+orphan_raises_of (NoSegment class) = orphan_raises class None
+
 -- the history that a packet begins
 abbrev pub first_history : Arrival → History
-first_history a = if opens a.packet then history_after a.packet a fresh else orphaned a.number
+first_history a = if opens a.packet then history_after a.packet a fresh else orphaned a.number (orphan_raises_of a.packet)
 
 abbrev pub begun : Stamped → Past
 begun s = record { first = s.arrival; version = s.version; history = first_history s.arrival }

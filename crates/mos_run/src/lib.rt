@@ -2,8 +2,10 @@
 #![tactic(auto)]
 
 mod flow;
+mod flows;
 mod lane;
 pub mod laws;
+mod monitor;
 pub mod refusal;
 mod replay;
 pub mod report;

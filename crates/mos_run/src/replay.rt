@@ -19,11 +19,11 @@ use std::alloc::{AllocError, Global};
 // One more packet of the capture.
 fn take(alloc: Global, lane: &mut Lane, bytes: &[u8]) -> Result<(), AllocError>
     requires packets { lane.old.packets < 2 ^ 20 }
-    requires room { lane.old.callbacks + 2 < 2 ^ 64 }
+    requires room { lane.old.callbacks + 3060 < 2 ^ 64 }
     ensures stands { OnOk result ((pasts : List Past)
-        → StandsFor lane.old.flows lane.old.records.items lane.old.callbacks pasts
-        → StandsFor lane.new.flows lane.new.records.items lane.new.callbacks (added (stamp_of lane.old.packets (packet_of bytes.now)) pasts)) }
-    ensures callbacks { OnOk result (lane.new.callbacks ≤ lane.old.callbacks + 2) }
+        → StandsFor lane.old.monitor.table lane.old.flows lane.old.records.items lane.old.callbacks pasts
+        → StandsFor lane.new.monitor.table lane.new.flows lane.new.records.items lane.new.callbacks (added (stamp_of lane.old.packets (packet_of bytes.now)) pasts)) }
+    ensures callbacks { OnOk result (lane.new.callbacks ≤ lane.old.callbacks + 3060) }
     ensures packets { lane.new.packets ≡ lane.old.packets + 1 }
 {
     match view_of(bytes) {
@@ -43,7 +43,7 @@ pub(crate) fn replay<S: Source>(alloc: Global, source: &mut S) -> Result<Report,
 {
     let mut capture = Capture::open(source)?;
     let mut frame = Frame::new(alloc);
-    let mut lane = Lane::new(alloc);
+    let mut lane = Lane::new(alloc)?;
     loop {
         match capture.next(source, &mut frame)? {
             Step::Frame => take(alloc, &mut lane, frame.bytes.as_slice())?,

@@ -8,10 +8,10 @@ invariant-loop-lane g l = record {
   live : l.capture.is_live ≡ true;
   count : l.capture.count ≡ l.lane.packets;
   few : l.lane.packets ≤ 1048576;
-  callbacks : l.lane.callbacks ≤ 2 * l.lane.packets;
+  callbacks : l.lane.callbacks ≤ 3060 * l.lane.packets;
   faults : g.S.Source.faults l.fn.source ≤ g.S.Source.faults l.source;
   replaying : (bytes : List ℕ) → g.S.Source.left l.fn.source ≡ Some bytes
-      → Replaying bytes (g.S.Source.left l.source) l.capture l.lane.flows l.lane.records.items l.lane.callbacks l.lane.packets;
+      → Replaying bytes (g.S.Source.left l.source) l.capture l.lane.monitor.table l.lane.flows l.lane.records.items l.lane.callbacks l.lane.packets;
 }
 
 abbrev pub decreases-loop-lane : goal.decreases-loop-lane

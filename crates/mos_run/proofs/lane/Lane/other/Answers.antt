@@ -10,5 +10,5 @@ pub returns-clause-stands : goal.returns-clause-stands
 unfolding opens kind_of
 returns-clause-stands c =
     on_ok_weaker c.stray.result (λ any. λ pasts stands.
-    any pasts (NoSegment c.args.class) (record { kind = refl; shut = refl; untaken = place_by-never (takes (NoSegment c.args.class)) pasts (λ past. refl) }) stands)
+    any pasts (NoSegment c.args.class) (record { kind = refl; shut = refl; raises = refl; untaken = place_by-never (takes (NoSegment c.args.class)) pasts (λ past. refl) }) stands)
     c.stray.ensures.stands

@@ -1,0 +1,25 @@
+use Rattle.std.proofs.Common.{◌≡◌, ◌+◌, ◌++◌, take, sym, subst, arith}
+use Rattle.mos_run.specs.History.{calls}
+use Rattle.mos_run.proofs.Calling.{calls-none, calls-more}
+use Rattle.mos_run.proofs.monitor.Monitor.call.Goals as goal
+
+pub loop-raise-init : goal.loop-raise-init
+loop-raise-init c = record {
+  calls_so_far = λ active tree. calls-none c.args.number active c.args.entries.now;
+  longer = omega arith;
+  few = omega arith;
+}
+
+pub loop-raise-preserved : goal.loop-raise-preserved
+loop-raise-preserved c =
+    let raises = c.as_slice-raise-items.result.now in
+    let same = c.as_slice-raise-items.ensures.items in
+    record {
+      calls_so_far = λ active tree.
+          let so_far = subst (λ l. c.loop-raise.entries ≡ c.args.entries.now ++ calls c.args.number active (take c.loop-raise.raise-index l)) (sym same) (c.loop-raise.invariant.calls_so_far active tree) in
+          subst (λ l. c.call_at.new.entries ≡ c.args.entries.now ++ calls c.args.number active (take (c.loop-raise.raise-index + 1) l)) same
+          (calls-more c.args.number active raises c.loop-raise.raise-index _ c.args.entries.now c.loop-raise.entries c.call_at.new.entries c.loop-raise-test.true
+          so_far (c.in_ok-call_at.ensures.calls active tree));
+      longer = omega (arith, c.loop-raise.invariant.longer, c.call_at.ensures.longer);
+      few = omega (arith, c.loop-raise.invariant.few, c.call_at.ensures.few);
+    }
