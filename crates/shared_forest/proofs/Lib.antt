@@ -1,1 +1,2 @@
 pub mod OneListing
+pub mod Rows

@@ -3,3 +3,5 @@ pub mod Lists
 pub mod Listing
 pub mod Store
 pub mod Rows
+pub mod Key
+pub mod KeyLaws

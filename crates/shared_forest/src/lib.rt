@@ -1,6 +1,7 @@
 //! Event trees in one flat list, and the store of one owner that keeps each different tree once.
 #![tactic(auto)]
 
+mod key;
 mod node;
 mod store;
 mod table;

@@ -1,27 +1,29 @@
-ghost use Rattle.std.specs.Prelude.{◌≡◌, ◌+◌, ◌<◌, ◌≤◌, ◌^◌, ◌-◌, ◌++◌, [], ◌∷◌, min, length, IfOk, IfSome, IfNone, OnOk, OnErr, IsOk, ℕ, Some, slice_get, slice_index_or, Contains};
+ghost use Rattle.std.specs.Prelude.{◌≡◌, ◌+◌, ◌<◌, ◌≤◌, ◌^◌, ◌-◌, ◌++◌, [], ◌∷◌, min, length, IfOk, OnOk, OnErr, IsOk, ℕ, Some, slice_get, slice_index_or, Contains};
 ghost use Rattle.shared_forest.specs.Lists.{TreeLists};
 ghost use Rattle.shared_forest.specs.Rows.{AreDifferent};
 
 use crate::Tree;
 use crate::store::{ForestView, Forests, Shared};
+use indexmap::IndexSet;
 use std::alloc::{AllocError, Global};
 use std::marker::Model;
 
 /// The store of one owner: no lock, and one row for each different tree.
+///
+/// A tree is found by its hash, so `intern` takes time by the size of its tree, on average, however many rows there
+/// are. The hash has a fixed seed: whoever picks the trees can make them collide, and then it goes through all rows.
 #[derive(Debug, Drop)]
 pub struct Table {
-    rows: Vec<Tree>,
+    rows: IndexSet<Tree>,
     interns: u64,
 }
 
 impl Model for Table {
-    ghost use Rattle.shared_forest.specs.Rows.{TableRows, AreDifferent};
+    ghost use Rattle.shared_forest.specs.Rows.{TableRows};
 
     ghost Value = { TableRows };
 
-    ghost view = { λ t. record { rows = t.rows.items; interns = t.interns } };
-
-    ghost invariant = { λ t. AreDifferent t.rows.items };
+    ghost view = { λ t. record { rows = t.rows.keys; interns = t.interns } };
 }
 
 impl Table {
@@ -31,7 +33,7 @@ impl Table {
         ensures interns { result.interns ≡ 0 }
     {
         Table {
-            rows: Vec::new(alloc),
+            rows: IndexSet::new(alloc),
             interns: 0,
         }
     }
@@ -81,7 +83,8 @@ impl Forests for Table {
         ensures counted { CountsAtMost (Some self.old.interns) (Some self.new.interns) }
         ensures err { OnErr result (self.new ≡ self.old) }
 
-        // A tree that is there gets its row. Another is added at the end.
+        // A tree that is there gets its row, and needs no memory. Another is added at the end.
+        ensures held { Contains self.old.rows tree → IsOk result }
         ensures found { Contains self.old.rows tree → OnOk result (self.new.rows ≡ self.old.rows) }
         ensures added { ¬ (Contains self.old.rows tree) → OnOk result (self.new.rows ≡ self.old.rows ++ tree ∷ []) }
         ensures rises { OnOk result (self.new.interns ≡ min (self.old.interns + 1) (2 ^ 64 - 1)) }
@@ -108,32 +111,15 @@ impl Forests for Table {
 }
 
 /// The row that holds this tree; a tree without a row gets the next.
-fn row_for(rows: &mut Vec<Tree>, tree: Tree) -> Result<usize, AllocError>
-    ensures row { IfOk result (λ row. slice_get rows.new.items row ≡ Some tree) }
-    ensures found { Contains rows.old.items tree → rows.new.items ≡ rows.old.items }
-    ensures added { ¬ (Contains rows.old.items tree) → OnOk result (rows.new.items ≡ rows.old.items ++ tree ∷ []) }
-    ensures different { AreDifferent rows.old.items → AreDifferent rows.new.items }
-    ensures longer { length rows.old.items ≤ length rows.new.items }
-    ensures kept { (row : ℕ) (d : TreeLists) → row < length rows.old.items → slice_index_or rows.new.items row d ≡ slice_index_or rows.old.items row d }
-    ensures err { OnErr result (rows.new.items ≡ rows.old.items) }
+fn row_for(rows: &mut IndexSet<Tree>, tree: Tree) -> Result<usize, AllocError>
+    ensures row { IfOk result (λ row. slice_get rows.new.keys row ≡ Some tree) }
+    ensures found { Contains rows.old.keys tree → rows.new.keys ≡ rows.old.keys }
+    ensures added { ¬ (Contains rows.old.keys tree) → OnOk result (rows.new.keys ≡ rows.old.keys ++ tree ∷ []) }
+    ensures held { Contains rows.old.keys tree → IsOk result }
+    ensures longer { length rows.old.keys ≤ length rows.new.keys }
+    ensures kept { (row : ℕ) (d : TreeLists) → row < length rows.old.keys → slice_index_or rows.new.keys row d ≡ slice_index_or rows.old.keys row d }
+    ensures err { OnErr result (rows.new.keys ≡ rows.old.keys) }
 {
-    if let Some(row) = find_row(rows, &tree) {
-        return Ok(row);
-    }
-    let row = rows.len();
-    rows.push(tree)?;
+    let (row, _is_new) = rows.insert_full(tree)?;
     Ok(row)
-}
-
-/// The first row that holds this tree.
-fn find_row(rows: &[Tree], tree: &Tree) -> Option<usize>
-    ensures some { IfSome result (λ row. slice_get rows.now row ≡ Some tree.now) }
-    ensures none { IfNone result (¬ (Contains rows.now tree.now)) }
-{
-    for i in 0..rows.len() {
-        if rows[i].is_same(tree) {
-            return Some(i);
-        }
-    }
-    None
 }

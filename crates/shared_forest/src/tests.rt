@@ -62,6 +62,25 @@ fn a_hundred_trees_have_a_hundred_rows(rt: HostRuntime) -> Result<(), Fail> {
 }
 
 #[test]
+fn two_thousand_trees_keep_their_rows(rt: HostRuntime) -> Result<(), Fail> {
+    let alloc = rt.alloc();
+    let mut table = Table::new(alloc);
+    for event in 0..2000u16 {
+        let s = table.intern(alloc, leaf(alloc, event, 1)?)?;
+        assert_eq!(rt; s.row(), event as usize);
+    }
+    for event in (0..2000u16).rev() {
+        let s = table.intern(alloc, leaf(alloc, event, 1)?)?;
+        assert_eq!(rt; s.row(), event as usize);
+        let nodes = table.tree_of(&s).nodes();
+        assert_eq!(rt; nodes.last().map(|node| node.event), Some(event));
+    }
+    assert_eq!(rt; table.rows(), 2000);
+    assert_eq!(rt; table.interns(), 4000);
+    Ok(())
+}
+
+#[test]
 fn other_events_are_other_trees(rt: HostRuntime) -> Result<(), Fail> {
     let alloc = rt.alloc();
     let mut table = Table::new(alloc);
