@@ -17,7 +17,7 @@ use Rattle.event_trees.specs.Edit.{IsForestOf, put_placed, without_placed}
 use Rattle.event_trees.proofs.Paths.{knows}
 use Rattle.event_trees.proofs.Short.{short-placed, short-canon_of}
 use Rattle.event_trees.proofs.Sorted.{rises, few}
-use Rattle.event_trees.proofs.Switch.{placed-edited}
+use Rattle.event_trees.proofs.Switches.{placed-edited}
 use Rattle.event_trees.proofs.Whole.{whole}
 
 pub edit-short : (defs : List EventDef) (list : List Reg) (shown : List Shown) → AreDefs defs → IsForestOf defs list shown → AreShort shown

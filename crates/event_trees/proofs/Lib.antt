@@ -7,11 +7,12 @@ pub mod Lists
 pub mod NodeSteps
 pub mod Order
 pub mod Paths
+pub mod Privates
 pub mod ReadOffs
 pub mod Rows
 pub mod Short
 pub mod Sorted
-pub mod Switch
+pub mod Switches
 pub mod WalkLaw
 pub mod Walks
 pub mod Whole
