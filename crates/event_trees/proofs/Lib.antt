@@ -3,12 +3,14 @@ pub mod EditLaw
 pub mod EditSteps
 pub mod Firing
 pub mod Growth
+pub mod InOrder
 pub mod Lists
 pub mod NodeSteps
 pub mod Order
 pub mod Paths
 pub mod Privates
 pub mod ReadOffs
+pub mod Rises
 pub mod Rows
 pub mod Short
 pub mod Sorted
