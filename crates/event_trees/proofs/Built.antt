@@ -7,8 +7,8 @@ use Rattle.std.proofs.lemmas.Bool.Decides.{eqb_tells}
 use Rattle.shared_forest.specs.declared.node.Node.{Node}
 use Rattle.shared_forest.specs.declared.node.Slot.{Slot}
 use Rattle.shared_forest.specs.Layout.{under, AreLaidOut, ArePacked, IsTree}
-use Rattle.shared_forest.specs.Listing.{Shown, slots_of, path_after, listing_after, listing_of}
-use Rattle.event_trees.specs.Order.{IsUpTo, Rises}
+use Rattle.shared_forest.specs.Listing.{Shown, slots_of, path_after, listing_after, listing_of, IsInOrder}
+use Rattle.event_trees.proofs.Rises.{IsUpTo, Rises}
 use Rattle.event_trees.specs.Canon.{Placed, longer, canon_of}
 use Rattle.event_trees.specs.declared.placed.PlacedReg.{PlacedReg}
 use Rattle.event_trees.specs.EventPath.{path_of}
@@ -273,16 +273,17 @@ pub counted-length : (ns : List Node) → length (counted ns) ≡ length ns
 counted-length [] = refl
 counted-length (n ∷ ns) = ap (λ (k : ℕ). suc k) (counted-length ns)
 
-pub built-tree : (slots : List Slot) (list : List Placed) (q : List ℕ) (nodes : List Node) → Built slots list q nodes → length list ≡ length slots → IsTree (counted nodes) slots
-built-tree slots list q [] b all = absurd b.stepped
-built-tree slots list q (top ∷ ns) b all = record {
-  topped = (b.stepped.0, b.stepped.1, ap (λ (d : ℕ). under d ns) b.stepped.1 ∙ (all-under 0 ns b.stepped.2 ∙ sym (counted-length ns)), counted-laid 0 ns b.stepped.2);
-  packed = subst (λ (e : ℕ). ArePacked 0 (counted (top ∷ ns)) e) all (counted-packed 0 (length list) (top ∷ ns) b.packed);
-}
-
 pub built-listing : (slots : List Slot) (list : List Placed) (q : List ℕ) (nodes : List Node) → Built slots list q nodes → listing_of (counted nodes) slots ≡ canon_of list
 built-listing slots list q [] b = absurd b.stepped
 built-listing slots list q (top ∷ ns) b = ap (λ (l : List Shown). record { path = []; slots = slots_of top slots } ∷ l) (counted-after [] ns slots) ∙ b.listed
+
+pub built-tree : (slots : List Slot) (list : List Placed) (q : List ℕ) (nodes : List Node) → Built slots list q nodes → length list ≡ length slots → IsInOrder (canon_of list) → IsTree (counted nodes) slots
+built-tree slots list q [] b all order = absurd b.stepped
+built-tree slots list q (top ∷ ns) b all order = record {
+  topped = (b.stepped.0, b.stepped.1, ap (λ (d : ℕ). under d ns) b.stepped.1 ∙ (all-under 0 ns b.stepped.2 ∙ sym (counted-length ns)), counted-laid 0 ns b.stepped.2);
+  packed = subst (λ (e : ℕ). ArePacked 0 (counted (top ∷ ns)) e) all (counted-packed 0 (length list) (top ∷ ns) b.packed);
+  order = subst IsInOrder (sym (built-listing slots list q (top ∷ ns) b)) order;
+}
 
 -- the last node has fewer registrations than there are places
 last-room : (place : ℕ) (n : Node) (ns : List Node) (end : ℕ) (d : Node) → ArePacked place (n ∷ ns) end → (get_or (n ∷ ns) (length (n ∷ ns) - 1) d).count ≤ end

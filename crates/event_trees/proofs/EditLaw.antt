@@ -1,8 +1,9 @@
 -- The tree of an edited list.
-use Rattle.std.proofs.Common.{◌≡◌, ℕ, ◌≤◌, Bool, cond, List, [], length, Result, Ok, Err, sym, ap, subst, ◌∙◌, arith}
+use Rattle.std.proofs.Common.{◌≡◌, ℕ, ◌≤◌, Bool, cond, List, length, Result, Ok, Err, sym, ap, subst, ◌∙◌, arith}
 use Rattle.std.specs.Prelude.{IsTrue, IfOk}
 use Rattle.std.proofs.lemmas.List.{length-map}
 use Rattle.std.proofs.lemmas.List.Elements.{recursion_from_All}
+use Rattle.std.specs.List.Sorted.{IsStrictlySortedBy}
 use Rattle.app_api.specs.declared.registration.Reg.{Reg}
 use Rattle.shared_forest.specs.Listing.{Shown}
 use Rattle.event_trees.specs.declared.defs.EventDef.{EventDef}
@@ -10,14 +11,14 @@ use Rattle.event_trees.specs.declared.placed.PlacedReg.{PlacedReg}
 use Rattle.event_trees.specs.Defs.{is_event, AreDefs}
 use Rattle.event_trees.specs.Private.{IsPrivate, edited}
 use Rattle.event_trees.specs.Canon.{Placed, placed_of, placed}
-use Rattle.event_trees.specs.Order.{Rises}
 use Rattle.event_trees.specs.Build.{seen, all_seen}
 use Rattle.event_trees.specs.ReadOff.{read_off, AreShort}
-use Rattle.event_trees.specs.Edit.{IsForestOf, put_placed, without_placed}
+use Rattle.event_trees.specs.Edit.{IsForestOf, placed_cmp, put_placed, without_placed}
 use Rattle.event_trees.proofs.Paths.{knows}
+use Rattle.event_trees.proofs.InOrder.{strict-placed}
 use Rattle.event_trees.proofs.Short.{short-placed, short-canon_of}
 use Rattle.event_trees.proofs.Sorted.{rises, few}
-use Rattle.event_trees.proofs.Switch.{placed-edited}
+use Rattle.event_trees.proofs.Switches.{placed-edited}
 use Rattle.event_trees.proofs.Whole.{whole}
 
 pub edit-short : (defs : List EventDef) (list : List Reg) (shown : List Shown) → AreDefs defs → IsForestOf defs list shown → AreShort shown
@@ -32,8 +33,8 @@ edit-regs defs list shown r on p regs more forest at read switched =
     (ap (λ (x : Placed). cond on (put_placed x (placed defs list)) (without_placed p.slot.number (placed defs list))) at ∙
     (ap (λ (n : ℕ). cond on (put_placed (placed_of defs r) (placed defs list)) (without_placed n (placed defs list))) number ∙ sym (placed-edited defs r on list))))
 
-pub edit-order : (defs : List EventDef) (list : List Reg) (more : List PlacedReg) → IsPrivate defs list → all_seen more ≡ placed defs list → Rises [] (all_seen more)
-edit-order defs list more private same = subst (λ (l : List Placed). Rises [] l) (sym same) (rises defs list private.sorted)
+pub edit-order : (defs : List EventDef) (list : List Reg) (more : List PlacedReg) → IsPrivate defs list → all_seen more ≡ placed defs list → IsStrictlySortedBy placed_cmp (all_seen more)
+edit-order defs list more private same = subst (IsStrictlySortedBy placed_cmp) (sym same) (strict-placed defs list private.sorted)
 
 pub edit-few : (defs : List EventDef) (list : List Reg) (more : List PlacedReg) → IsPrivate defs list → all_seen more ≡ placed defs list → length more ≤ 255
 edit-few defs list more private same =

@@ -17,7 +17,7 @@ use Rattle.event_trees.specs.Walk.{asks, keeps, passes, called, firing}
 use Rattle.event_trees.specs.ReadOff.{read_off}
 use Rattle.event_trees.proofs.Paths.{KnowsPaths, IsRooted}
 use Rattle.event_trees.proofs.Whole.{whole}
-use Rattle.event_trees.specs.Order.{Rises}
+use Rattle.event_trees.proofs.Rises.{Rises}
 
 -- what fires of registrations with their paths
 abbrev fires_placed : (ℕ → Bool) → Hook → List Placed → List ℕ

@@ -12,7 +12,7 @@ use Rattle.std.proofs.lemmas.Bool.Decides.{eqb_tells}
 use Rattle.shared_forest.specs.declared.node.Slot.{Slot}
 use Rattle.shared_forest.specs.Listing.{Shown}
 use Rattle.event_trees.specs.Private.{path_cmp}
-use Rattle.event_trees.specs.Order.{IsUpTo}
+use Rattle.event_trees.proofs.Rises.{IsUpTo}
 use Rattle.event_trees.specs.Canon.{Placed, longer, prefixes, put_path, put_paths, paths_with, slots_at, shown_at, canon_of}
 use Rattle.event_trees.proofs.Order.{Has, AllBelow, AllAbove, itself, flip_less, below_trans, below_push, put-has, puts-above, sorted-puts, has-puts_old, has-puts_new, cmp-front}
 

@@ -1,7 +1,7 @@
--- Private lists of no registration, and what is said of lists of one.
-use Rattle.std.proofs.Common.{◌≡◌, ℕ, zero, suc, List, [], ◌∷◌, refl, sym, ap, subst, ◌∙◌, arith}
-use Rattle.std.specs.Prelude.{◌≢◌, ◌≤◌, IsTrue}
-use Rattle.std.specs.List.{All, Contains, IsDistinct}
+-- The private list of no registration.
+use Rattle.std.proofs.Common.{◌≡◌, List, [], sym, ap, subst, ◌∙◌}
+use Rattle.std.specs.Prelude.{◌≤◌, IsTrue}
+use Rattle.std.specs.List.{IsDistinct}
 use Rattle.std.specs.List.Sorted.{IsStrictlySortedBy}
 use Rattle.std.proofs.lemmas.List.Elements.{All-nil}
 use Rattle.app_api.specs.declared.registration.Reg.{Reg}
@@ -26,13 +26,3 @@ private-none defs list is = subst (IsPrivate defs) (sym is) (none_private defs)
 
 pub forest-none : (defs : List EventDef) (list : List Reg) (shown : List Shown) → list ≡ [] → shown ≡ canon defs list → IsForestOf defs [] shown
 forest-none defs list shown is at = record { private = none_private defs; listed = at ∙ ap (canon defs) is }
-
-pub none_absent : (n : ℕ) → All (λ (s : Reg). s.number ≢ n) []
-none_absent n = All-nil (λ (s : Reg). s.number ≢ n)
-
-pub one_absent : (r : Reg) (n : ℕ) → r.number ≢ n → All (λ (s : Reg). s.number ≢ n) (r ∷ [])
-one_absent r n other zero d within = other
-one_absent r n other (suc k) d within = absurd (omega (arith, within))
-
-pub one_there : (r : Reg) → Contains (r ∷ []) r
-one_there r = (0, omega arith, refl)

@@ -15,9 +15,9 @@ use Rattle.event_trees.specs.declared.defs.EventDef.{EventDef}
 use Rattle.event_trees.specs.Defs.{path}
 use Rattle.event_trees.specs.Private.{path_cmp, reg_cmp, numbers_of}
 use Rattle.event_trees.specs.Canon.{placed}
-use Rattle.event_trees.specs.Order.{IsUpTo, Rises}
+use Rattle.event_trees.proofs.Rises.{IsUpTo, Rises}
 
-then_less : (o n : Ordering) → ordering_then o n ≡ Less → is_gt o ≡ false
+pub then_less : (o n : Ordering) → ordering_then o n ≡ Less → is_gt o ≡ false
 then_less Less n h = refl
 then_less Equal n h = refl
 then_less Greater n h = cc
@@ -28,7 +28,7 @@ rises-from defs r [] h s = tt
 rises-from defs r (t ∷ list) h s =
     (then_less (path_cmp (path defs r.event) (path defs t.event)) (nat_cmp r.number t.number) h.0, rises-from defs t list s.0 s.1)
 
-from_top : (p : List ℕ) → IsUpTo [] p
+pub from_top : (p : List ℕ) → IsUpTo [] p
 from_top [] = refl
 from_top (e ∷ p) = refl
 

@@ -3,7 +3,7 @@ use Rattle.std.proofs.Common.{◌≡◌, ℕ, List, [], ◌∷◌, ◌++◌, map
 use Rattle.std.proofs.lemmas.List.{map-append}
 use Rattle.shared_forest.specs.declared.node.Slot.{Slot}
 use Rattle.shared_forest.specs.Listing.{Shown}
-use Rattle.event_trees.specs.Order.{Rises}
+use Rattle.event_trees.proofs.Rises.{Rises}
 use Rattle.event_trees.specs.Canon.{Placed, canon_of}
 use Rattle.event_trees.specs.ReadOff.{read_off}
 use Rattle.event_trees.proofs.Growth.{Grown, grown-none, grown-push, Step, step, bare, newer}

@@ -7,6 +7,5 @@ pub mod Build
 pub mod Canon
 pub mod Fires
 pub mod Private
-pub mod Order
 pub mod Place
 pub mod Walk

@@ -15,7 +15,7 @@ use std::alloc::{AllocError, Global};
 use std::cmp::Ordering;
 
 /// Whether a registration comes before another: by path, and then by number.
-fn is_before(a: &PlacedReg, b: &PlacedReg) -> bool
+pub(crate) fn is_before(a: &PlacedReg, b: &PlacedReg) -> bool
     ensures { result ≡ is_lt (placed_cmp (seen a.now) (seen b.now)) }
 {
     match a.path.events().cmp(b.path.events()) {

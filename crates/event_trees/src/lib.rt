@@ -8,10 +8,12 @@ mod nodes;
 mod path;
 mod place;
 mod placed;
+mod private;
 #[cfg(test)]
 mod tests;
 mod walk;
 
 pub use defs::{Defs, EventDef};
 pub use forest::{build, edit};
+pub use private::{is_private, switch};
 pub use walk::Walk;

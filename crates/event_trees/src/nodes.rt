@@ -1,10 +1,11 @@
 //! The nodes and registrations of a tree.
 
 ghost use Rattle.std.specs.Prelude.{◌≡◌, ◌≤◌, ◌<◌, ◌+◌, ◌-◌, ◌^◌, ◌++◌, [], ◌∷◌, length, drop, slice_index_or, OnOk, IfOk};
+ghost use Rattle.std.specs.List.Sorted.{IsStrictlySortedBy};
 ghost use Rattle.shared_forest.specs.Layout.{under, IsTree};
 ghost use Rattle.shared_forest.specs.Listing.{listing, listing_of};
 ghost use Rattle.event_trees.specs.Canon.{canon_of};
-ghost use Rattle.event_trees.specs.Order.{Rises};
+ghost use Rattle.event_trees.specs.Edit.{placed_cmp};
 ghost use Rattle.event_trees.specs.Build.{all_seen, seen_slots, common, fresh_nodes, bumped, counted};
 
 use crate::path::EventPath;
@@ -84,9 +85,9 @@ fn count_below(nodes: &mut [Node])
     }
 }
 
-/// The nodes of registrations in the order of their paths.
+/// The nodes of registrations in the order of their paths, and then of their numbers.
 fn nodes_of(alloc: Global, regs: &[PlacedReg]) -> Result<Vec<Node>, AllocError>
-    requires order { Rises [] (all_seen regs.now) }
+    requires order { IsStrictlySortedBy placed_cmp (all_seen regs.now) }
     requires few { length regs.now ≤ 255 }
     ensures tree { IfOk result (λ nodes. IsTree nodes.items (seen_slots regs.now)) }
     ensures listing { IfOk result (λ nodes. listing_of nodes.items (seen_slots regs.now) ≡ canon_of (all_seen regs.now)) }
@@ -121,9 +122,9 @@ fn slots_of(alloc: Global, regs: &[PlacedReg]) -> Result<Vec<Slot>, AllocError>
     Ok(slots)
 }
 
-/// The tree of registrations in the order of their paths.
+/// The tree of registrations in the order of their paths, and then of their numbers.
 pub(crate) fn tree_of(alloc: Global, regs: &[PlacedReg]) -> Result<Tree, AllocError>
-    requires order { Rises [] (all_seen regs.now) }
+    requires order { IsStrictlySortedBy placed_cmp (all_seen regs.now) }
     requires few { length regs.now ≤ 255 }
     ensures { IfOk result (λ tree. listing tree ≡ canon_of (all_seen regs.now)) }
 {

@@ -2,6 +2,7 @@
 use Rattle.std.specs.Prelude.{◌≡◌, ℕ, ◌+◌, ◌≤◌, cond, nat_lt, List, [], ◌∷◌, length, ⊤}
 use Rattle.shared_forest.specs.declared.node.Node.{Node}
 use Rattle.shared_forest.specs.declared.node.Slot.{Slot}
+use Rattle.shared_forest.specs.Listing.{IsInOrder, listing_of}
 
 -- how many nodes at the front of a list are deeper than this
 abbrev pub under : ℕ → List Node → ℕ
@@ -28,3 +29,4 @@ AreTopped (top ∷ ns) = (top.event ≡ 0) × (top.depth ≡ 0) × (top.below �
 pub record IsTree (nodes : List Node) (slots : List Slot) : Type 0 where
   pub topped : AreTopped nodes
   pub packed : ArePacked 0 nodes (length slots)
+  pub order : IsInOrder (listing_of nodes slots)

@@ -1,5 +1,9 @@
 -- What a tree says, with every path written out.
-use Rattle.std.specs.Prelude.{ℕ, ◌-◌, List, [], ◌∷◌, ◌++◌, take, drop}
+use Rattle.std.specs.Prelude.{ℕ, ◌-◌, List, [], ◌∷◌, ◌++◌, take, drop, map}
+use Rattle.std.specs.List.{All}
+use Rattle.std.specs.List.Sorted.{IsStrictlySortedBy, IsStrictlyIncreasing}
+use Rattle.std.specs.Cmp.Lexicographic.{slice_cmp}
+use Rattle.std.specs.Ordering.{nat_cmp}
 use Rattle.shared_forest.specs.declared.node.Node.{Node}
 use Rattle.shared_forest.specs.declared.node.Slot.{Slot}
 use Rattle.shared_forest.specs.Lists.{TreeLists}
@@ -30,3 +34,9 @@ listing_of (top ∷ ns) slots = record { path = []; slots = slots_of top slots }
 -- one pair for each node, in the order of the nodes
 abbrev pub listing : TreeLists → List Shown
 listing tree = listing_of tree.nodes tree.slots
+
+-- paths by the first event that differs, a prefix first: so siblings stand by rising event. The registrations of a
+-- pair stand by rising number
+pub record IsInOrder (shown : List Shown) : Type 0 where
+  pub paths : IsStrictlySortedBy (slice_cmp nat_cmp) (map (λ s. s.path) shown)
+  pub numbers : All (λ s. IsStrictlyIncreasing (map (λ r. r.number) s.slots)) shown

@@ -7,8 +7,8 @@ use std::marker::Model;
 /// An event tree: one list of nodes and one list of registrations. Contracts see the two lists.
 ///
 /// The first node is the top node, with event 0 and depth 0. Each other node stands at most one deeper than the
-/// node before it, and is followed by the nodes under it. The registrations stand in the order of their nodes,
-/// and there are no others.
+/// node before it, and is followed by the nodes under it. Siblings stand by rising event. The registrations stand in
+/// the order of their nodes, those of one node by rising number, and there are no others.
 #[derive(Debug, Drop)]
 pub struct Tree {
     nodes: Vec<Node>,

@@ -8,7 +8,7 @@ use Rattle.event_trees.specs.Build.{all_seen}
 use Rattle.event_trees.specs.ReadOff.{read_off, AreShort}
 use Rattle.event_trees.specs.Edit.{IsForestOf}
 use Rattle.event_trees.proofs.EditLaw.{edit-short, edit-regs, edit-order, edit-few, if_ok}
-use Rattle.event_trees.proofs.Switch.{private-edited}
+use Rattle.event_trees.proofs.Switches.{private-edited}
 use Rattle.event_trees.proofs.forest.edit.Goals as goal
 
 pub regs_of-requires : goal.regs_of-requires

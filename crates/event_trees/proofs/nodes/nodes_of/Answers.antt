@@ -6,10 +6,13 @@ use Rattle.shared_forest.specs.Layout.{IsTree}
 use Rattle.shared_forest.specs.Listing.{listing_of}
 use Rattle.event_trees.specs.declared.placed.PlacedReg.{PlacedReg}
 use Rattle.event_trees.specs.EventPath.{path_of}
-use Rattle.event_trees.specs.Order.{Rises}
+use Rattle.event_trees.proofs.Rises.{Rises}
 use Rattle.event_trees.specs.Canon.{Placed, canon_of}
+use Rattle.std.specs.List.Sorted.{IsStrictlySortedBy}
+use Rattle.event_trees.specs.Edit.{placed_cmp}
 use Rattle.event_trees.specs.Build.{seen, all_seen, seen_slots, fresh_nodes, bumped, counted}
 use Rattle.event_trees.proofs.Built.{Built, built-none, built-room_turn, built-turn, built-all, built-tree, built-listing, lent_back, counted-length, bumped-length, top_node}
+use Rattle.event_trees.proofs.InOrder.{strict-rises, canon-order}
 use Rattle.event_trees.proofs.nodes.nodes_of.Goals as goal
 
 pub loop-i-init : goal.loop-i-init
@@ -18,7 +21,7 @@ loop-i-init c =
     let empty : path_of c.empty-last.result ≡ [] = c.empty-last.ensures in
     let items : c.push.new.self.items ≡ top_node ∷ [] = c.in_ok-push.ensures.items ∙ ap (λ (l : List Node). l ++ top_node ∷ []) c.new-nodes.ensures.items in (
       subst (λ (q : List ℕ). Built slots [] q c.push.new.self.items) (sym empty) (subst (λ (l : List Node). Built slots [] [] l) (sym items) (built-none slots)),
-      subst (λ (q : List ℕ). Rises q (all_seen c.args.regs.now)) (sym empty) c.requires.order,
+      subst (λ (q : List ℕ). Rises q (all_seen c.args.regs.now)) (sym empty) (strict-rises (all_seen c.args.regs.now) c.requires.order),
     )
 
 pub count_last-requires-clause-room : goal.count_last-requires-clause-room
@@ -35,13 +38,13 @@ loop-i-preserved c =
     let turn = built-turn c.args.regs.now c.loop-i.i c.index-regs-i.result (path_of c.loop-i.last) c.events.result.now c.events-in-loop-i.result.now c.loop-i.nodes.items c.push_nodes.new.nodes.items after (omega arith) c.events.ensures.events c.events-in-loop-i.ensures.events c.events-in-loop-i.ensures.within c.in_ok-push_nodes.ensures bump c.loop-i.invariant.0 c.loop-i.invariant.1 in
     (subst (λ (l : List Node). Built (seen_slots c.args.regs.now) (take (c.loop-i.i + 1) (all_seen c.args.regs.now)) (path_of (get_or c.args.regs.now c.loop-i.i c.index-regs-i.result).path) l) (sym back) turn.0, turn.1)
 
-built-end : (regs : List PlacedReg) (i : ℕ) (q : List ℕ) (nodes after : List Node) → i ≡ length regs → after ≡ counted nodes → Built (seen_slots regs) (take i (all_seen regs)) q nodes → IsTree after (seen_slots regs) × (listing_of after (seen_slots regs) ≡ canon_of (all_seen regs))
-built-end regs i q nodes after is count b =
+built-end : (regs : List PlacedReg) (i : ℕ) (q : List ℕ) (nodes after : List Node) → i ≡ length regs → after ≡ counted nodes → IsStrictlySortedBy placed_cmp (all_seen regs) → Built (seen_slots regs) (take i (all_seen regs)) q nodes → IsTree after (seen_slots regs) × (listing_of after (seen_slots regs) ≡ canon_of (all_seen regs))
+built-end regs i q nodes after is count order b =
     let all : List Placed = all_seen regs in
     let long : length all ≡ length regs = length-map regs seen in
     let whole : Built (seen_slots regs) all q nodes = built-all (seen_slots regs) all q nodes (subst (λ (k : ℕ). Built (seen_slots regs) (take k all) q nodes) (is ∙ sym long) b) in
     let slots : length all ≡ length (seen_slots regs) = long ∙ sym (length-map regs (λ (r : PlacedReg). r.slot)) in (
-      subst (λ (l : List Node). IsTree l (seen_slots regs)) (sym count) (built-tree (seen_slots regs) all q nodes whole slots),
+      subst (λ (l : List Node). IsTree l (seen_slots regs)) (sym count) (built-tree (seen_slots regs) all q nodes whole slots (canon-order all order)),
       ap (λ (l : List Node). listing_of l (seen_slots regs)) count ∙ built-listing (seen_slots regs) all q nodes whole,
     )
 
@@ -54,10 +57,10 @@ pub returns-clause-tree : goal.returns-clause-tree
 returns-clause-tree c =
     let at_end : c.loop-i.i ≡ length c.args.regs.now = omega arith in
     let back = returned c.loop-i.nodes.len c.count_below.new.nodes c.loop-i.nodes.items c.deref_mut-2.result.now c.loop-i.nodes.ok.0 c.count_below.ensures c.deref_mut-2.ensures.value in
-    (built-end c.args.regs.now c.loop-i.i (path_of c.loop-i.last) c.loop-i.nodes.items (take c.loop-i.nodes.len (c.count_below.new.nodes ++ drop (length c.count_below.new.nodes) c.loop-i.nodes.items)) at_end back c.loop-i.invariant.0).0
+    (built-end c.args.regs.now c.loop-i.i (path_of c.loop-i.last) c.loop-i.nodes.items (take c.loop-i.nodes.len (c.count_below.new.nodes ++ drop (length c.count_below.new.nodes) c.loop-i.nodes.items)) at_end back c.requires.order c.loop-i.invariant.0).0
 
 pub returns-clause-listing : goal.returns-clause-listing
 returns-clause-listing c =
     let at_end : c.loop-i.i ≡ length c.args.regs.now = omega arith in
     let back = returned c.loop-i.nodes.len c.count_below.new.nodes c.loop-i.nodes.items c.deref_mut-2.result.now c.loop-i.nodes.ok.0 c.count_below.ensures c.deref_mut-2.ensures.value in
-    (built-end c.args.regs.now c.loop-i.i (path_of c.loop-i.last) c.loop-i.nodes.items (take c.loop-i.nodes.len (c.count_below.new.nodes ++ drop (length c.count_below.new.nodes) c.loop-i.nodes.items)) at_end back c.loop-i.invariant.0).1
+    (built-end c.args.regs.now c.loop-i.i (path_of c.loop-i.last) c.loop-i.nodes.items (take c.loop-i.nodes.len (c.count_below.new.nodes ++ drop (length c.count_below.new.nodes) c.loop-i.nodes.items)) at_end back c.requires.order c.loop-i.invariant.0).1

@@ -1,6 +1,6 @@
 use Rattle.std.proofs.Common.{take, drop}
 use Rattle.event_trees.specs.EventPath.{path_of}
-use Rattle.event_trees.specs.Order.{Rises}
+use Rattle.event_trees.proofs.Rises.{Rises}
 use Rattle.event_trees.specs.Build.{all_seen, seen_slots}
 use Rattle.event_trees.proofs.Built.{Built}
 use Rattle.event_trees.proofs.nodes.nodes_of.Given as goal

@@ -33,7 +33,7 @@ placed-without defs number (s ∷ list) =
       | false ↦ placed-without defs number list
     ]
 
-reg_total : (defs : List EventDef) → IsTotalOrder (reg_cmp defs)
+pub reg_total : (defs : List EventDef) → IsTotalOrder (reg_cmp defs)
 reg_total defs = then_total (on_total (λ (r : Reg). path defs r.event) nat_list_cmp_total) (on_total (λ (r : Reg). r.number) nat_cmp_total)
 
 then_equal : (o n : Ordering) → ordering_then o n ≡ Equal → n ≡ Equal
@@ -41,7 +41,7 @@ then_equal Less n e = cc
 then_equal Equal n e = e
 then_equal Greater n e = cc
 
-less_of : (o : Ordering) → is_lt o ≡ true → o ≡ Less
+pub less_of : (o : Ordering) → is_lt o ≡ true → o ≡ Less
 less_of Less e = refl
 less_of Equal e = cc
 less_of Greater e = cc
