@@ -1,9 +1,8 @@
 -- The callbacks of a raise, as a walk over the tree gives them.
-use Rattle.std.proofs.Common.{◌≡◌, ℕ, zero, suc, ◌+◌, ◌<◌, ◌≤◌, eqb, Bool, true, false, cond, Some, List, [], ◌∷◌, ◌++◌, length, map, take, get_or, refl, sym, ap, subst, ◌∙◌, arith, append_assoc, append-nil, lit≤}
+use Rattle.std.proofs.Common.{◌≡◌, ℕ, ◌+◌, ◌<◌, ◌≤◌, eqb, Bool, true, false, cond, Some, List, [], ◌∷◌, ◌++◌, length, map, take, get_or, refl, sym, ap, subst, ◌∙◌, arith, append_assoc, append-nil, lit≤}
 use Rattle.std.specs.Prelude.{IsTrue}
 use Rattle.std.specs.List.{All, AllByRecursion, IsDistinct, filter}
 use Rattle.std.specs.List.Sorted.{IsStrictlySortedBy}
-use Rattle.std.specs.Option.{option_to_list}
 use Rattle.std.proofs.lemmas.List.{length-append, length-map, take_more}
 use Rattle.std.proofs.lemmas.List.Elements.{All-filter, All-from_recursion, recursion_from_All}
 use Rattle.native_filters.specs.declared.facts.Facts.{Facts}
@@ -24,19 +23,6 @@ use Rattle.mos_run.specs.Calls.{IsFirstTree, entry_by}
 use Rattle.mos_run.specs.History.{called, calls_at, calls}
 
 -- ---- the presets
-
--- the presets with a smaller number, by number
-abbrev pub presets_below : ℕ → List Reg
-presets_below zero = []
-presets_below (suc n) = presets_below n ++ option_to_list (reg_of in_force.regs n)
-
-pub presets_begin : presets_below 1 ≡ []
-unfolding log
-presets_begin = refl
-
-pub presets_all : presets_below 16 ≡ in_force.regs
-unfolding log
-presets_all = refl
 
 pub first_is : first_active ≡ in_force.regs
 unfolding first_active log path

@@ -8,15 +8,12 @@ ghost use Rattle.shared_forest.specs.Listing.{listing};
 ghost use Rattle.event_trees.specs.Canon.{canon};
 ghost use Rattle.mos_run.specs.InForce.{in_force, first_active, IsTreeOf};
 
-use app_api::{ActiveList, App, Entry, EntryList, LogApp, Reg, Seen};
+use app_api::{ActiveList, Entry, EntryList, LogApp, Reg, Seen, presets_of};
 use builtin_events::{Raise, RaiseList};
 use event_trees::{Defs, Walk, build};
 use native_filters::NativeBook;
 use shared_forest::{ForestView, Forests, Shared, Table, Tree};
 use std::alloc::{AllocError, Global};
-
-/// The greatest number of a preset.
-const LAST_PRESET: u8 = 15;
 
 /// What is in force, and the store of the trees.
 #[derive(Drop)]
@@ -33,19 +30,6 @@ pub(crate) struct Monitor {
     ghost tree: { listing (tree_at table first) ≡ canon in_force.defs first_active },
 }
 
-/// The log application's presets, by number.
-fn presets(alloc: Global) -> Result<ActiveList, AllocError>
-    ensures { IfOk result (λ regs. regs ≡ in_force.regs) }
-{
-    let mut items = Vec::new(alloc);
-    for number in 1..=LAST_PRESET {
-        if let Some(reg) = LogApp.preset(number) {
-            items.push(reg)?;
-        }
-    }
-    Ok(ActiveList { items })
-}
-
 impl Monitor {
     ghost use Rattle.app_api.specs.declared.registration.Reg.{Reg};
     ghost use Rattle.mos_run.specs.Calls.{IsFirstTree, IsFirstForest, entry_by, event_by};
@@ -54,7 +38,9 @@ impl Monitor {
     /// What is in force where there are no control commands.
     pub(crate) fn new(alloc: Global) -> Result<Monitor, AllocError> {
         let defs = Defs::new(alloc);
-        let regs = presets(alloc)?;
+        let regs = ActiveList {
+            items: presets_of(alloc, &LogApp)?,
+        };
         let mut table = Table::new(alloc);
         let first = build(alloc, &mut table, &defs, &regs)?;
         Ok(Monitor {
