@@ -132,7 +132,8 @@ impl Flow {
         Ok(got.over)
     }
 
-    /// One more packet, and its callbacks. Answers whether the connection is over.
+    /// One more packet, and its callbacks: at most 3,060, since each phase has at most six raises, and a private list at
+    /// most 255 registrations. Answers whether the connection is over.
     pub(crate) fn step(
         &mut self,
         monitor: &Monitor,
