@@ -1,5 +1,5 @@
 -- The lines of a report. Each ends with a newline.
-use Rattle.std.specs.Prelude.{ℕ, List, [], ◌∷◌, ◌++◌, codes}
+use Rattle.std.specs.Prelude.{ℕ, List, ◌++◌, codes}
 use Rattle.std.specs.Fmt.{decimal}
 use Rattle.app_api.specs.declared.entry.Entry.{Entry}
 use Rattle.report_text.specs.declared.record.RecordKind.{RecordKind}
