@@ -131,7 +131,9 @@ fn threads_share_registrations_and_entries(rt: HostRuntime) {
     };
     assert!(rt; is_shared(&LogApp) && is_shared(&Reg::preset(1, PKT_IN, Hook::Snd, true)));
     assert!(rt; is_shared(&rule) && is_shared(&Reaction::nothing()) && is_shared(&Tally::zeros()));
-    assert!(rt; is_shared(&entry) && is_shared(&entries) && is_shared(&drops) && is_shared(&active));
+    assert!(rt;
+        is_shared(&entry) && is_shared(&entries) && is_shared(&drops) && is_shared(&active)
+    );
     assert!(rt; is_shared(&fields) && is_shared(&Verdict::Pass) && fields.as_slice().is_empty());
     assert!(rt;
         entries.as_slice().is_empty() && drops.as_slice().is_empty() && active.as_slice().is_empty()

@@ -4,3 +4,4 @@ pub mod Lane
 pub mod Table
 pub mod Lends
 pub use Rattle.packet_views.specs.Packet
+pub mod Laws

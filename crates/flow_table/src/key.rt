@@ -6,7 +6,7 @@ ghost use Rattle.flow_table.specs.Endpoint.{source_of, destination_of};
 ghost use Rattle.flow_table.specs.Key.{key_between, key_of_head};
 
 use crate::endpoint::Endpoint;
-use packet_views::TcpView;
+use packet_views::{Head, TcpView};
 use std::marker::Model;
 
 /// The two endpoints of a connection without an order, so that both directions have one key.
@@ -52,11 +52,18 @@ impl Key {
 }
 
 /// The key of the connection that a segment belongs to, whichever direction it goes.
-#[tactic(auto, unfolding(crate::specs::Key::key_of_head))]
 pub fn key_of(segment: &TcpView<'_>) -> Key
     ensures key { result ≡ key_of_head (head_of segment.now) }
     ensures either { result ≡ key_between (destination_of (head_of segment.now)) (source_of (head_of segment.now)) }
 {
-    let head = segment.head();
-    Key::between(Endpoint::source_of(&head), Endpoint::destination_of(&head))
+    key_of_head(&segment.head())
+}
+
+/// The same by the segment's header fields, for a caller that has read them.
+#[tactic(auto, unfolding(crate::specs::Key::key_of_head))]
+pub fn key_of_head(head: &Head) -> Key
+    ensures key { result ≡ key_of_head head.now }
+    ensures either { result ≡ key_between (destination_of head.now) (source_of head.now) }
+{
+    Key::between(Endpoint::source_of(head), Endpoint::destination_of(head))
 }

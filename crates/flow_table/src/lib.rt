@@ -3,13 +3,17 @@
 #![tactic(auto)]
 
 pub mod endpoint;
+mod hashing;
 pub mod key;
 pub mod lane;
+mod laws;
 pub mod table;
 
 pub use endpoint::Endpoint;
-pub use key::{Key, key_of};
+pub use hashing::seed_of;
+pub use key::{Key, key_of, key_of_head};
 pub use lane::{lane_of, mix};
+pub use laws::{both_directions_have_one_lane, without_a_key_to_lane_0};
 pub use table::FlowTable;
 
 #[cfg(test)]

@@ -7,6 +7,7 @@ ghost use Rattle.std.specs.FinMap as map;
 ghost use Rattle.flow_table.specs.Key.{Ends, same_key};
 ghost use Rattle.flow_table.specs.Table.{found};
 
+use crate::hashing::KeyHashing;
 use crate::key::Key;
 use indexmap::IndexMap;
 use std::alloc::Global;
@@ -16,7 +17,7 @@ use std::marker::Model;
 /// takes constant time on average.
 #[derive(Drop)]
 pub struct FlowTable<T> {
-    flows: IndexMap<Key, T>,
+    flows: IndexMap<Key, T, KeyHashing>,
 }
 
 impl<T> Model for FlowTable<T> {
@@ -33,13 +34,25 @@ impl<T> Model for FlowTable<T> {
 impl<T> FlowTable<T> {
     ghost use Rattle.flow_table.specs.Lends.{LendsFlow};
 
-    /// An empty table. It takes no memory.
+    /// An empty table, whose hashes have a fixed seed. Keys that were chosen to collide make its calls as
+    /// slow as the table is long. It takes no memory.
     pub fn new(alloc: Global) -> FlowTable<T>
         ensures empty { result ≡ map.empty }
         ensures none { (key : Ends) → found result key ≡ None }
     {
         FlowTable {
-            flows: IndexMap::new(alloc),
+            flows: IndexMap::with_hasher(alloc, KeyHashing::fixed()),
+        }
+    }
+
+    /// An empty table, whose hashes begin with a seed, so that keys collide by chance alone for whoever
+    /// doesn't know it. The seed changes no answer. It takes no memory.
+    pub fn with_seed(alloc: Global, seed: u64) -> FlowTable<T>
+        ensures empty { result ≡ map.empty }
+        ensures none { (key : Ends) → found result key ≡ None }
+    {
+        FlowTable {
+            flows: IndexMap::with_hasher(alloc, KeyHashing::seeded(seed)),
         }
     }
 

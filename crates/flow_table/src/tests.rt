@@ -1,6 +1,6 @@
 //! Vectors of the lanes, and each call of the table once.
 
-use crate::{Endpoint, FlowTable, Key, key_of, lane_of, mix};
+use crate::{Endpoint, FlowTable, Key, key_of, key_of_head, lane_of, mix, seed_of};
 use packet_views::{View, view_of};
 
 const ONE: Endpoint = Endpoint::V4 { addr: 0, port: 1 };
@@ -59,6 +59,7 @@ fn key_of_a_segment(rt: HostRuntime) {
     assert_eq!(rt; Endpoint::destination_of(&head), server);
     assert_eq!(rt; key_of(&segment), Key::between(server, client));
     assert_eq!(rt; key_of(&segment).lo, client);
+    assert_eq!(rt; key_of_head(&head), Key::between(client, server));
 }
 
 #[test]
@@ -83,6 +84,36 @@ fn take_the_last(rt: HostRuntime) {
     assert_eq!(rt; table.open(key, 9), Ok(()));
     assert_eq!(rt; table.take_any(), Some((key, 9)));
     assert_eq!(rt; table.take_any(), None);
+}
+
+#[test]
+fn table_with_a_seed(rt: HostRuntime) {
+    let key = Key::between(ONE, TWO);
+    let seed = seed_of(1, 2, &SYN);
+    let mut table: FlowTable<u32> = FlowTable::with_seed(rt.alloc(), seed);
+    assert_eq!(rt; table.open(key, 7), Ok(()));
+    if let Some(value) = table.get_mut(&key) {
+        *value = 8;
+    }
+    assert_eq!(rt; table.close(&key), Some(8));
+    assert_eq!(rt; table.take_any(), None);
+}
+
+#[test]
+fn seed_by_time_and_frame(rt: HostRuntime) {
+    let seed = seed_of(1, 2, &SYN);
+    assert!(rt; seed != seed_of(1, 3, &SYN));
+    assert!(rt; seed != seed_of(2, 1, &SYN));
+    assert!(rt; seed != seed_of(1, 2, &SYN[..53]));
+}
+
+fn is_shared<T: Send + Sync>(_: &T) -> bool {
+    true
+}
+
+#[test]
+fn threads_share_keys(rt: HostRuntime) {
+    assert!(rt; is_shared(&ONE) && is_shared(&Key::between(ONE, TWO)));
 }
 
 fn sent<T: Send>(value: T) -> T {
