@@ -1,17 +1,18 @@
 -- The text of a chain or a sum, with one part more.
 use Rattle.std.proofs.Common.{◌≡◌, ℕ, suc, List, [], ◌∷◌, ◌++◌, length, refl, ap, ◌∙◌, sym, append_assoc, append-nil}
-use Rattle.filter_lang.specs.declared.term.Step.{Step}
+use Rattle.filter_lang.specs.declared.term.Join.{Join}
+use Rattle.filter_lang.specs.declared.term.Atom.{Atom}
 use Rattle.filter_lang.specs.declared.term.Term.{Term}
 use Rattle.filter_lang.specs.Printed.{join_text, atom_text, steps_text, behind_text, separator_text, joined_text, and_texts, or_texts, wrap, is_chain, is_or, printed}
 use Rattle.filter_lang.specs.Shape.{shape, shapes}
 
-steps_text-push : (ss : List Step) (s : Step) → steps_text (ss ++ s ∷ []) ≡ steps_text ss ++ (join_text s.join ++ atom_text s.atom)
-steps_text-push [] s = ap (λ xs. join_text s.join ++ xs) (append-nil (atom_text s.atom))
+steps_text-push : (ss : List (Join × Atom)) (s : Join × Atom) → steps_text (ss ++ s ∷ []) ≡ steps_text ss ++ (join_text s.0 ++ atom_text s.1)
+steps_text-push [] s = ap (λ xs. join_text s.0 ++ xs) (append-nil (atom_text s.1))
 steps_text-push (t ∷ ss) s =
-    ap (λ xs. join_text t.join ++ (atom_text t.atom ++ xs)) (steps_text-push ss s)
+    ap (λ xs. join_text t.0 ++ (atom_text t.1 ++ xs)) (steps_text-push ss s)
     ∙ simp append_assoc
 
-pub sum_push : (old first : List ℕ) (ss : List Step) (s : Step) → (old ++ (first ++ steps_text ss)) ++ (join_text s.join ++ atom_text s.atom) ≡ old ++ (first ++ steps_text (ss ++ s ∷ []))
+pub sum_push : (old first : List ℕ) (ss : List (Join × Atom)) (s : Join × Atom) → (old ++ (first ++ steps_text ss)) ++ (join_text s.0 ++ atom_text s.1) ≡ old ++ (first ++ steps_text (ss ++ s ∷ []))
 sum_push old first ss s = rw (steps_text-push ss s) (simp append_assoc)
 
 behind_text-push : (sep : List ℕ) (ts : List (List ℕ)) (t : List ℕ) → behind_text sep (ts ++ t ∷ []) ≡ behind_text sep ts ++ (sep ++ t)

@@ -5,7 +5,6 @@ use Rattle.filter_lang.specs.declared.term.Atom.{Atom}
 use Rattle.filter_lang.specs.declared.term.Atom.TheVariants.{Fact, Number}
 use Rattle.filter_lang.specs.declared.term.Join.{Join}
 use Rattle.filter_lang.specs.declared.term.Join.TheVariants.{Plus, Minus, Rem}
-use Rattle.filter_lang.specs.declared.term.Step.{Step}
 use Rattle.filter_lang.specs.declared.term.Sum.{Sum}
 use Rattle.filter_lang.specs.Grammar.{Level, Side, left, unit_place, atom_place, behind_atom, go, next_atom, next_unit, alone, joined}
 use Rattle.filter_lang.specs.Printed.{atom_text, join_text, steps_text, sum_text}
@@ -21,30 +20,30 @@ next_unit-token : (a : Atom) (l : Level) (os : List Level) → next_unit l os (a
 next_unit-token (Fact place) l os = refl
 next_unit-token (Number n) l os = refl
 
-stop_before_steps : (ss : List Step) (rest : List ℕ) → IsStop rest → IsStop (steps_text ss ++ rest)
+stop_before_steps : (ss : List (Join × Atom)) (rest : List ℕ) → IsStop rest → IsStop (steps_text ss ++ rest)
 stop_before_steps [] rest stop = stop
-stop_before_steps (s ∷ ss) rest stop = stop_before_join s.join _ where
+stop_before_steps (s ∷ ss) rest stop = stop_before_join s.0 _ where
   stop_before_join : (j : Join) (xs : List ℕ) → IsStop ((join_text j ++ xs) ++ rest)
   stop_before_join Plus xs = inl refl
   stop_before_join Minus xs = inl refl
   stop_before_join Rem xs = inl refl
 
-abbrev AreSteps : List Step → Type 0
-AreSteps = All (λ s. AtomIsWithin s.atom)
+abbrev AreSteps : List (Join × Atom) → Type 0
+AreSteps = All (λ s. AtomIsWithin s.1)
 
-steps_read : (ss : List Step) → AreSteps ss → (acc : Sum) (side : Side) (l : Level) (os : List Level) (rest : List ℕ) → IsStop rest → run (kinds 0 (steps_text ss ++ rest)) (behind_atom side acc l os) ≡ run (kinds 0 rest) (behind_atom side (record { first = acc.first; rest = acc.rest ++ ss }) l os)
+steps_read : (ss : List (Join × Atom)) → AreSteps ss → (acc : Sum) (side : Side) (l : Level) (os : List Level) (rest : List ℕ) → IsStop rest → run (kinds 0 (steps_text ss ++ rest)) (behind_atom side acc l os) ≡ run (kinds 0 rest) (behind_atom side (record { first = acc.first; rest = acc.rest ++ ss }) l os)
 steps_read [] within acc side l os rest stop =
     ap (λ ys. run (kinds 0 rest) (behind_atom side (record { first = acc.first; rest = ys }) l os)) (sym (append-nil acc.rest))
 steps_read (s ∷ ss) within acc side l os rest stop =
     let later = steps_text ss ++ rest in
-    let more : Sum = joined acc s.join s.atom in
-    let text : (join_text s.join ++ (atom_text s.atom ++ steps_text ss)) ++ rest ≡ join_text s.join ++ (atom_text s.atom ++ later) = simp append_assoc in
-    let one = All-head (λ x. AtomIsWithin x.atom) s ss within in
+    let more : Sum = joined acc s.0 s.1 in
+    let text : (join_text s.0 ++ (atom_text s.1 ++ steps_text ss)) ++ rest ≡ join_text s.0 ++ (atom_text s.1 ++ later) = simp append_assoc in
+    let one = All-head (λ x. AtomIsWithin x.1) s ss within in
     ap (λ xs. run (kinds 0 xs) (behind_atom side acc l os)) text
-    ∙ ap (λ ts. run ts (behind_atom side acc l os)) (join_read s.join (atom_text s.atom ++ later))
-    ∙ ap (λ ts. run ts (atom_place side (joined acc s.join) l os)) (atom_read s.atom later one (stop_before_steps ss rest stop))
-    ∙ ap (on (run (kinds 0 later))) (next_atom-token s.atom side (joined acc s.join) l os)
-    ∙ steps_read ss (All-tail (λ x. AtomIsWithin x.atom) s ss within) more side l os rest stop
+    ∙ ap (λ ts. run ts (behind_atom side acc l os)) (join_read s.0 (atom_text s.1 ++ later))
+    ∙ ap (λ ts. run ts (atom_place side (joined acc s.0) l os)) (atom_read s.1 later one (stop_before_steps ss rest stop))
+    ∙ ap (on (run (kinds 0 later))) (next_atom-token s.1 side (joined acc s.0) l os)
+    ∙ steps_read ss (All-tail (λ x. AtomIsWithin x.1) s ss within) more side l os rest stop
     ∙ ap (λ ys. run (kinds 0 rest) (behind_atom side (record { first = acc.first; rest = ys }) l os)) (append_assoc acc.rest (s ∷ []) ss)
 
 pub sum_read : (s : Sum) → SumIsWithin s → (side : Side) (l : Level) (os : List Level) (rest : List ℕ) → IsStop rest → run (kinds 0 (sum_text s ++ rest)) (atom_place side alone l os) ≡ run (kinds 0 rest) (behind_atom side s l os)

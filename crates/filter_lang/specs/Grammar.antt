@@ -93,7 +93,7 @@ abbrev pub alone : Atom → Sum
 alone a = record { first = a; rest = [] }
 
 abbrev pub joined : Sum → Join → Atom → Sum
-joined s j a = record { first = s.first; rest = s.rest ++ record { join = j; atom = a } ∷ [] }
+joined s j a = record { first = s.first; rest = s.rest ++ (j, a) ∷ [] }
 
 -- at most 32 constructs are open at a place
 abbrev pub opening : ℕ → Place → Next

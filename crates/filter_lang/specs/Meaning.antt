@@ -24,7 +24,7 @@ joined_value a Rem b = if b == 0 then 0 else a % b
 
 -- a sum, from the left
 abbrev pub sum_value : Facts → Sum → ℕ
-sum_value facts s = fold (λ n step. joined_value n step.join (atom_value facts step.atom)) (atom_value facts s.first) s.rest
+sum_value facts s = fold (λ n step. joined_value n step.0 (atom_value facts step.1)) (atom_value facts s.first) s.rest
 
 abbrev pub compared : ℕ → Op → ℕ → Bool
 compared a Eq b = a == b

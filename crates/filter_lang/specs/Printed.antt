@@ -8,7 +8,6 @@ use Rattle.filter_lang.specs.declared.term.Join.{Join}
 use Rattle.filter_lang.specs.declared.term.Join.TheVariants.{Plus, Minus, Rem}
 use Rattle.filter_lang.specs.declared.term.Op.{Op}
 use Rattle.filter_lang.specs.declared.term.Op.TheVariants.{Eq, Ne, Lt, Le, Gt, Ge, Has}
-use Rattle.filter_lang.specs.declared.term.Step.{Step}
 use Rattle.filter_lang.specs.declared.term.Sum.{Sum}
 use Rattle.filter_lang.specs.Shape.{Shape, Always, Never, Ask, Compare, Negate, AllOf, AnyOf, Shapes, none, more}
 use Rattle.filter_lang.specs.Tokens.{fact_names}
@@ -31,9 +30,9 @@ op_text Gt = codes " > "
 op_text Ge = codes " >= "
 op_text Has = codes " has "
 
-abbrev pub steps_text : List Step → List ℕ
+abbrev pub steps_text : List (Join × Atom) → List ℕ
 steps_text [] = []
-steps_text (s ∷ ss) = join_text s.join ++ (atom_text s.atom ++ steps_text ss)
+steps_text (s ∷ ss) = join_text s.0 ++ (atom_text s.1 ++ steps_text ss)
 
 abbrev pub sum_text : Sum → List ℕ
 sum_text s = atom_text s.first ++ steps_text s.rest

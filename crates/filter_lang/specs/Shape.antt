@@ -49,7 +49,7 @@ AtomIsWithin (Fact place) = place ≤ 19
 AtomIsWithin (Number n) = n < 2 ^ 64
 
 abbrev pub SumIsWithin : Sum → Type 0
-SumIsWithin s = AtomIsWithin s.first × All (λ step. AtomIsWithin step.atom) s.rest
+SumIsWithin s = AtomIsWithin s.first × All (λ step. AtomIsWithin step.1) s.rest
 
 abbrev pub HasTwo : Shapes → Type 0
 HasTwo none = ⊥

@@ -10,7 +10,7 @@ ghost use Rattle.filter_lang.specs.Shape.{shape, AtomIsWithin, SumIsWithin, IsWi
 use crate::error::FilterError;
 use crate::expr::Expr;
 use crate::lexer::Lexer;
-use crate::term::{Atom, Op, Step, StepList, Sum, Term, TermList};
+use crate::term::{Atom, Op, StepList, Sum, Term, TermList};
 use crate::token::Token;
 use std::alloc::Global;
 
@@ -69,7 +69,7 @@ fn sum(alloc: Global, lexer: &mut Lexer) -> Result<Sum, FilterError>
     while let Token::Joins(join) = lexer.token {
         lexer.advance();
         let atom = atom(lexer)?;
-        rest.push(Step { join, atom })?;
+        rest.push((join, atom))?;
     }
     Ok(Sum { first, rest })
 }

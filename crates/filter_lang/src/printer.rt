@@ -141,13 +141,13 @@ fn write_sum(out: &mut String, sum: &Sum) -> Result<(), AllocError>
 
 /// Puts one atom more of a sum at the end, with how it is joined on.
 fn write_step(out: &mut String, step: &Step) -> Result<(), AllocError>
-    requires { AtomIsWithin step.now.atom }
+    requires { AtomIsWithin step.now.1 }
     ensures { OnOk result
         (string_bytes out.new
-        ≡ string_bytes out.old ++ (join_text step.now.join ++ atom_text step.now.atom)) }
+        ≡ string_bytes out.old ++ (join_text step.now.0 ++ atom_text step.now.1)) }
 {
-    out.push_str(join_text(step.join))?;
-    write_atom(out, &step.atom)
+    out.push_str(join_text(step.0))?;
+    write_atom(out, &step.1)
 }
 
 /// Puts the text of an atom at the end.

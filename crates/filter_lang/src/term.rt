@@ -45,25 +45,21 @@ pub enum Atom {
 }
 
 /// One more atom of a sum, with how it is joined on.
-#[derive(Clone, Copy, PartialEq, Eq, Debug)]
-pub struct Step {
-    /// How it is joined on.
-    pub join: Join,
-    /// What is joined on.
-    pub atom: Atom,
-}
+pub type Step = (Join, Atom);
 
-/// The atoms of a sum after its first, from the left.
+/// The atoms of a sum after its first, from the left, each with how it is joined on.
 #[derive(Drop)]
 pub struct StepList {
-    items: Vec<Step>,
+    /// The items in order.
+    pub items: Vec<Step>,
 }
 
 impl Model for StepList {
     ghost use Rattle.std.specs.Prelude.{List};
-    ghost use Rattle.filter_lang.specs.declared.term.Step.{Step};
+    ghost use Rattle.filter_lang.specs.declared.term.Atom.{Atom};
+    ghost use Rattle.filter_lang.specs.declared.term.Join.{Join};
 
-    ghost Value = { List Step };
+    ghost Value = { List (Join × Atom) };
 
     ghost view = { λ l. l.items.items };
 }
@@ -78,7 +74,7 @@ impl StepList {
         }
     }
 
-    /// The steps, in their order.
+    /// The items in order.
     pub fn as_slice(&self) -> &[Step]
         ensures { result.now ≡ self.now }
     {
@@ -123,10 +119,20 @@ pub enum Term {
     Or(TermList),
 }
 
-/// The members of a chain of `&&` or of `||`, from the left.
+/// The members of a chain of `&&` or of `||`, from the left. A type that holds itself has no model, so
+/// contracts name the field.
 #[derive(Drop)]
 #[cycle(term)]
 pub struct TermList {
-    /// The members.
+    /// The members in order.
     pub items: Vec<Term>,
+}
+
+impl TermList {
+    /// The members, in their order.
+    pub fn as_slice(&self) -> &[Term]
+        ensures { result.now ≡ self.now.items.items }
+    {
+        self.items.as_slice()
+    }
 }

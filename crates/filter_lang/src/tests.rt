@@ -1,8 +1,7 @@
 //! Filters as authors write them.
 
-use crate::{FilterError, eval, parse, print};
+use crate::{Atom, FilterError, Join, Op, Term, eval, parse, print};
 use native_filters::{Facts, NativeBook};
-use std::alloc::{AllocError, Global};
 use std::test::Fail;
 
 #[test]
@@ -44,6 +43,38 @@ fn printed_once_more(rt: HostRuntime) -> Result<(), Fail> {
             "(true && false) && !(native 5||src=10.0.0.1)",
             "(true && false) && !(native 5 || src = 167772161)",
         ),
+        ("\t(( len=1 ))  ", "len = 1"),
+        ("!!(!true)", "!!!true"),
+        ("!( !(nth!=2))", "!!(nth != 2)"),
+        ("!(native 3)&&!(false)", "!native 3 && !false"),
+        ("!(true&&false)", "!(true && false)"),
+        (
+            "(len=1||dir=0)&&(true)",
+            "(len = 1 || dir = 0) && true",
+        ),
+        (
+            "(len=1&&dir=0)||false",
+            "len = 1 && dir = 0 || false",
+        ),
+        (
+            "(len=1||dir=0)||false",
+            "(len = 1 || dir = 0) || false",
+        ),
+        (
+            "true||(false||(true&&(false&&true)))",
+            "true || (false || true && (false && true))",
+        ),
+        ("seq-ack+1%2>=win", "seq - ack + 1 % 2 >= win"),
+        ("ttl<0x40&&old!=new", "ttl < 64 && old != new"),
+        (
+            "18446744073709551615>next",
+            "18446744073709551615 > next",
+        ),
+        ("255.255.255.255<=dst", "4294967295 <= dst"),
+        (
+            "sport=dport&&fresh=rexlen&&rexdiff=fault&&class=src",
+            "sport = dport && fresh = rexlen && rexdiff = fault && class = src",
+        ),
     ];
     for (text, printed) in rows {
         let filter = parse(rt.alloc(), text)?.copy(rt.alloc())?;
@@ -78,48 +109,33 @@ fn true_of_the_facts(rt: HostRuntime) -> Result<(), Fail> {
     Ok(())
 }
 
-/// The next of a row of numbers that look random.
-fn random(seed: &mut u64) -> u64 {
-    *seed = seed
-        .wrapping_mul(6364136223846793005)
-        .wrapping_add(1442695040888963407);
-    *seed >> 33
+#[test]
+fn terms_are_lists_of_their_members(rt: HostRuntime) -> Result<(), Fail> {
+    let filter = parse(rt.alloc(), "native 1 && 1 + len - 2 > 0 && false")?;
+    let mut members = 0;
+    if let Term::And(chain) = filter.term() {
+        members = chain.as_slice().len();
+        if let Some(Term::Cmp(sum, Op::Gt, _)) = chain.as_slice().get(1) {
+            let steps = [
+                (Join::Plus, Atom::Fact(10)),
+                (Join::Minus, Atom::Number(2)),
+            ];
+            assert_eq!(rt; sum.first, Atom::Number(1));
+            assert_eq!(rt; sum.rest.as_slice(), steps.as_slice());
+        }
+    }
+    assert_eq!(rt; members, 3);
+    Ok(())
 }
 
-/// Puts a filter at the end that looks random, at most so deep.
-fn grow(out: &mut String, seed: &mut u64, depth: u8) -> Result<(), AllocError> {
-    let pick = random(seed);
-    if depth == 0 {
-        return write!(out, "len + {pick} % 7 >= dir");
-    }
-    if pick % 3 == 0 {
-        out.push_str("!(")?;
-        grow(out, seed, depth - 1)?;
-        return out.push_str(")");
-    }
-    out.push_str("(")?;
-    grow(out, seed, depth - 1)?;
-    out.push_str(if pick % 3 == 1 { " && " } else { "||" })?;
-    grow(out, seed, depth - 1)?;
-    out.push_str(")")
-}
-
-/// The printed text of a text that is a filter.
-fn printed(alloc: Global, text: &str) -> Result<String, FilterError> {
-    let filter = parse(alloc, text)?;
-    Ok(print(alloc, &filter)?)
+fn is_shared<T: Send + Sync>(_: &T) -> bool {
+    true
 }
 
 #[test]
-fn random_filters_are_read_again(rt: HostRuntime) -> Result<(), Fail> {
-    let mut seed = 20_260_727;
-    for round in 0u16..300 {
-        let mut text = String::new(rt.alloc());
-        grow(&mut text, &mut seed, (round % 6) as u8)?;
-        let once = printed(rt.alloc(), text.as_str())?;
-        let twice = printed(rt.alloc(), once.as_str())?;
-        assert_eq!(rt; once.as_str(), twice.as_str());
-    }
+fn threads_share_filters(rt: HostRuntime) -> Result<(), Fail> {
+    let filter = parse(rt.alloc(), "!(native 1 && len > 0)")?;
+    assert!(rt; is_shared(&filter) && is_shared(filter.term()));
     Ok(())
 }
 

@@ -48,14 +48,7 @@ impl NativeBook {
     }
 
     /// A book of six functions, each with its own number.
-    pub fn new(
-        n0: Native,
-        n1: Native,
-        n2: Native,
-        n3: Native,
-        n4: Native,
-        n5: Native,
-    ) -> NativeBook
+    pub fn new(n0: Native, n1: Native, n2: Native, n3: Native, n4: Native, n5: Native) -> NativeBook
         requires n0 { n0.which ≡ 0 }
         requires n1 { n1.which ≡ 1 }
         requires n2 { n2.which ≡ 2 }

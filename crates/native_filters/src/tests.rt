@@ -46,7 +46,10 @@ fn asked(which: u8, facts: &Facts) -> (bool, bool) {
         Native::new(5, has_differing_bytes),
     );
     if which <= 5 {
-        (NativeBook::plain().call(which, facts), book.call(which, facts))
+        (
+            NativeBook::plain().call(which, facts),
+            book.call(which, facts),
+        )
     } else {
         (false, true)
     }

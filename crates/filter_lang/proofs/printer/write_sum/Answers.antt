@@ -3,7 +3,8 @@ use Rattle.std.specs.Prelude.{string_bytes}
 use Rattle.std.proofs.lemmas.List.{take_more}
 use Rattle.filter_lang.specs.declared.term.Atom.TheVariants.{Fact}
 use Rattle.filter_lang.specs.declared.term.Join.TheVariants.{Plus}
-use Rattle.filter_lang.specs.declared.term.Step.{Step}
+use Rattle.filter_lang.specs.declared.term.Join.{Join}
+use Rattle.filter_lang.specs.declared.term.Atom.{Atom}
 use Rattle.filter_lang.specs.Printed.{join_text, atom_text, steps_text}
 use Rattle.filter_lang.proofs.Printing.{sum_push}
 use Rattle.filter_lang.proofs.printer.write_sum.Goals as goal
@@ -15,7 +16,7 @@ loop-step-preserved c =
     let xs = c.as_slice-step-items.result.now in
     let old = string_bytes c.args.out.now in
     let first = atom_text c.args.sum.now.first in
-    let none : Step = record { join = Plus; atom = Fact 0 } in
+    let none : Join × Atom = (Plus, Fact 0) in
     let x = get_or xs i none in
-    c.in_ok-write_step.ensures ∙ ap (λ b. b ++ (join_text x.join ++ atom_text x.atom)) l.invariant
+    c.in_ok-write_step.ensures ∙ ap (λ b. b ++ (join_text x.0 ++ atom_text x.1)) l.invariant
     ∙ sum_push old first (take i xs) x ∙ ap (λ ys. old ++ (first ++ steps_text ys)) (sym (take_more xs i none c.loop-step-test.true))
