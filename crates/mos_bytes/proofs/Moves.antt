@@ -9,10 +9,11 @@ use borrow.Rule.Slice.PartMut.{put_mid, post_of}
 use lib.Seq.{drop-drop}
 
 -- a loop that fills a buffer from a source: its front is what was consumed so far
-pub record Filling {S : Type 0} (left : S → Option (List ℕ)) (faults : S → ℕ) (old now : S) (buf : List ℕ) (filled : ℕ) : Type 0 where
+pub record Filling {S L : Type 0} (left : S → Option (List ℕ)) (faults : S → ℕ) (lasting : S → L) (old now : S) (buf : List ℕ) (filled : ℕ) : Type 0 where
   pub within : filled ≤ length buf
   pub consumed : Consumes (left old) (left now) (take filled buf)
   pub later : faults old ≤ faults now
+  pub lasts : lasting now ≡ lasting old
 
 -- a list loses the front that was copied over the front of another
 pub front_copied : (n place : ℕ) (xs rest : List ℕ) → n ≤ length (drop place xs)

@@ -5,6 +5,14 @@ use Rattle.std.specs.Io.KnownBytes.{prepend_known}
 use Rattle.mos_bytes.specs.declared.read_source.ReadSource.{ReadSource}
 use Rattle.mos_bytes.specs.declared.write_sink.WriteSink.{WriteSink}
 
+-- how often a source over a reader has failed
+abbrev pub source_faults : {R : Type 0} → ReadSource R → ℕ
+source_faults s = s.faults
+
+-- how often a sink over a writer has failed
+abbrev pub sink_faults : {W : Type 0} → WriteSink W → ℕ
+sink_faults s = s.faults
+
 -- the bytes that were read ahead
 abbrev pub ahead_of : {R : Type 0} → ReadSource R → List ℕ
 ahead_of s = slice_range s.buffer s.start s.end

@@ -1,7 +1,7 @@
 // A sink into memory, for tests.
 ghost use Rattle.std.specs.Prelude.{◌≡◌, ◌+◌, ◌-◌, ◌/◌, ◌<◌, ◌≤◌, ◌↔◌, ◌⊎◌, ◌++◌, [], ℕ, List, length, take, min, Some, IsErr, OnOk, OnErr, Contains};
 ghost use Rattle.mos_bytes.specs.Causes.{HasCause, risen};
-ghost use Rattle.mos_bytes.specs.Memory.{SinkState};
+ghost use Rattle.mos_bytes.specs.Memory.{SinkLasting, SinkState};
 ghost use Rattle.mos_bytes.specs.Writes.{WriteAdds};
 
 use crate::{Failed, Sink};
@@ -70,6 +70,11 @@ impl Sink for MemSink {
 
     ghost faults = { λ s. s.faults };
 
+    // The calls that are to fail, and how many bytes the sink has room for in all.
+    ghost Lasting = { SinkLasting };
+
+    ghost lasting = { λ s. record { fails = s.fails; whole = length s.taken + s.room } };
+
     /// Takes the whole piece, where it has room. A listed call fails, and takes the first half of a piece that has room,
     /// rounded down. A piece without room is a fault, and nothing of it is taken.
     fn write_all(&mut self, bytes: &[u8]) -> Result<(), Failed>
@@ -79,10 +84,10 @@ impl Sink for MemSink {
         ensures half { OnErr result (length bytes.now ≤ self.old.room
             → self.new.taken ≡ self.old.taken ++ take (length bytes.now / 2) bytes.now) }
         ensures too_long { self.old.room < length bytes.now → self.new.taken ≡ self.old.taken }
-        ensures room { length self.new.taken + self.new.room ≡ length self.old.taken + self.old.room }
         ensures ok { OnOk result (self.new.faults ≡ self.old.faults) }
         ensures err { OnErr result (self.new.faults ≡ risen self.old.faults) }
         ensures calls { self.new.calls ≡ risen self.old.calls }
+        ensures room { length self.new.taken + self.new.room ≡ length self.old.taken + self.old.room }
         ensures fails { self.new.fails ≡ self.old.fails }
     {
         let call = self.calls;

@@ -52,6 +52,11 @@ impl Source for MemSource {
 
     ghost faults = { λ s. s.faults };
 
+    // The calls that are to fail.
+    ghost Lasting = { List ℕ };
+
+    ghost lasting = { λ s. s.fails };
+
     /// Gives as many bytes as `buf` has room for and are left. A listed call fails and gives none.
     fn read(&mut self, buf: &mut [u8]) -> Result<usize, Failed>
         ensures bound { ReadsAtMost result buf.new }
@@ -62,7 +67,7 @@ impl Source for MemSource {
         ensures ok { OnOk result (self.new.faults ≡ self.old.faults) }
         ensures err { OnErr result (self.new.faults ≡ risen self.old.faults) }
         ensures calls { self.new.calls ≡ risen self.old.calls }
-        ensures fails { self.new.fails ≡ self.old.fails }
+        ensures lasts { self.new.fails ≡ self.old.fails }
     {
         let call = self.calls;
         self.calls = call.saturating_add(1);

@@ -1,8 +1,8 @@
 // A source over any reader of std.
-ghost use Rattle.std.specs.Prelude.{◌≡◌, ◌+◌, ◌-◌, ◌≤◌, length, take, min, OnOk};
+ghost use Rattle.std.specs.Prelude.{◌≡◌, ◌+◌, ◌-◌, ◌≤◌, ⊤, length, take, min, OnOk, OnErr};
 ghost use Rattle.std.specs.Io.{ReadsAtMost};
 ghost use Rattle.std.specs.Io.KnownBytes.{Consumes, IsAtEnd, Keeps, ReadConsumes};
-ghost use Rattle.mos_bytes.specs.Causes.{HasCause};
+ghost use Rattle.mos_bytes.specs.Causes.{HasCause, risen};
 
 use crate::copy::copy_front;
 use crate::{Failed, Source};
@@ -12,7 +12,7 @@ use std::io::Read;
 const BUFFER: usize = 16384;
 
 /// A source over a reader. It tells what is left where the reader does: over files and standard streams it tells
-/// nothing. It counts each error of the reader as a fault.
+/// nothing. Its count of faults begins at 0. Each error of the reader is a fault, and so is a count longer than the buffer.
 ///
 /// It reads ahead into a buffer of its own, so that many short reads cost one call of the reader.
 #[derive(Drop)]
@@ -31,6 +31,8 @@ fn read_once<R: Read>(inner: &mut R, buf: &mut [u8], faults: &mut u64) -> Result
     ensures bound { ReadsAtMost result buf.new }
     ensures bytes { ReadConsumes (R.remaining inner.old) (R.remaining inner.new) result buf.new }
     ensures cause { HasCause faults.old faults.new result }
+    ensures ok { OnOk result (faults.new ≡ faults.old) }
+    ensures err { OnErr result (faults.new ≡ risen faults.old) }
 {
     match inner.read(buf) {
         Ok(count) if count <= buf.len() => Ok(count),
@@ -42,11 +44,12 @@ fn read_once<R: Read>(inner: &mut R, buf: &mut [u8], faults: &mut u64) -> Result
 }
 
 impl<R: Read> ReadSource<R> {
-    ghost use Rattle.mos_bytes.specs.Adapters.{ahead_of, source_left};
+    ghost use Rattle.mos_bytes.specs.Adapters.{ahead_of, source_faults, source_left};
 
     /// A source over this reader, from which nothing was read yet. It takes no memory.
     pub fn new(inner: R) -> Self
-        ensures { source_left R.remaining result ≡ R.remaining inner }
+        ensures left { source_left R.remaining result ≡ R.remaining inner }
+        ensures faults { source_faults result ≡ 0 }
     {
         ReadSource {
             inner,
@@ -63,6 +66,8 @@ impl<R: Read> ReadSource<R> {
         ensures bytes { Keeps (source_left R.remaining self.old) (source_left R.remaining self.new) }
         ensures end { OnOk result (length (ahead_of self.new) ≡ 0 → IsAtEnd (source_left R.remaining self.new)) }
         ensures cause { HasCause self.old.faults self.new.faults result }
+        ensures ok { OnOk result (self.new.faults ≡ self.old.faults) }
+        ensures err { OnErr result (self.new.faults ≡ risen self.old.faults) }
     {
         let count = read_once(&mut self.inner, &mut self.buffer, &mut self.faults)?;
         self.start = 0;
@@ -86,13 +91,24 @@ impl<R: Read> ReadSource<R> {
 }
 
 impl<R: Read> Source for ReadSource<R> {
-    ghost use Rattle.mos_bytes.specs.Adapters.{source_left};
+    ghost use Rattle.mos_bytes.specs.Adapters.{source_faults, source_left};
 
     ghost left = { source_left R.remaining };
 
-    ghost faults = { λ s. s.faults };
+    ghost faults = { source_faults };
 
-    fn read(&mut self, buf: &mut [u8]) -> Result<usize, Failed> {
+    ghost Lasting = { ⊤ };
+
+    ghost lasting = { λ _. tt };
+
+    /// Gives what was read ahead, or asks the reader once. An error counts one fault more, any other answer none.
+    fn read(&mut self, buf: &mut [u8]) -> Result<usize, Failed>
+        ensures bound { ReadsAtMost result buf.new }
+        ensures bytes { ReadConsumes (source_left R.remaining self.old) (source_left R.remaining self.new) result buf.new }
+        ensures cause { HasCause (source_faults self.old) (source_faults self.new) result }
+        ensures ok { OnOk result (source_faults self.new ≡ source_faults self.old) }
+        ensures err { OnErr result (source_faults self.new ≡ risen (source_faults self.old)) }
+    {
         if self.start == self.end {
             // A long read needs no buffer between.
             if buf.len() >= BUFFER {

@@ -1,5 +1,5 @@
 // Where bytes go.
-ghost use Rattle.std.specs.Prelude.{ℕ, List};
+ghost use Rattle.std.specs.Prelude.{◌≡◌, ℕ, List};
 ghost use Rattle.std.specs.declared.option.Option.{Option};
 ghost use Rattle.mos_bytes.specs.Causes.{HasCause};
 ghost use Rattle.mos_bytes.specs.Writes.{WriteAdds};
@@ -14,8 +14,14 @@ pub trait Sink {
     // How often the sink has failed. It never falls.
     ghost faults: { Self → ℕ };
 
+    // What no call changes, as which object a sink borrows: the unit where there is nothing to say.
+    ghost Lasting: { Type 0 };
+
+    ghost lasting: { Self → Lasting };
+
     /// Takes all of `bytes`, or at `Failed` a front of them.
     fn write_all(&mut self, bytes: &[u8]) -> Result<(), Failed>
         ensures bytes { WriteAdds (taken self.old) (taken self.new) result bytes.now }
-        ensures cause { HasCause (faults self.old) (faults self.new) result };
+        ensures cause { HasCause (faults self.old) (faults self.new) result }
+        ensures lasts { lasting self.new ≡ lasting self.old };
 }

@@ -16,12 +16,18 @@ pub trait Source {
     // How often the source has failed. It never falls.
     ghost faults: { Self → ℕ };
 
+    // What no call changes, as which object a source borrows: the unit where there is nothing to say.
+    ghost Lasting: { Type 0 };
+
+    ghost lasting: { Self → Lasting };
+
     /// Puts some of the bytes that are left into the front of `buf`, and answers how many.
     /// It answers 0 only where none is left or `buf` is empty. A call that fails consumes nothing.
     fn read(&mut self, buf: &mut [u8]) -> Result<usize, Failed>
         ensures bound { ReadsAtMost result buf.new }
         ensures bytes { ReadConsumes (left self.old) (left self.new) result buf.new }
-        ensures cause { HasCause (faults self.old) (faults self.new) result };
+        ensures cause { HasCause (faults self.old) (faults self.new) result }
+        ensures lasts { lasting self.new ≡ lasting self.old };
 }
 
 /// Reads until `buf` is full or the source ends, and answers how many bytes stand in the front of `buf`:
@@ -30,6 +36,7 @@ pub fn fill<S: Source>(source: &mut S, buf: &mut [u8]) -> Result<usize, Failed>
     ensures bound { ReadsAtMost result buf.new }
     ensures bytes { FillConsumes (S.left source.old) (S.left source.new) result buf.new }
     ensures cause { HasCause (S.faults source.old) (S.faults source.new) result }
+    ensures lasts { S.lasting source.new ≡ S.lasting source.old }
 {
     let mut filled = 0;
     while filled < buf.len() {

@@ -1,14 +1,15 @@
 // A sink over any writer of std.
-ghost use Rattle.std.specs.Prelude.{◌≡◌};
+ghost use Rattle.std.specs.Prelude.{◌≡◌, ⊤, OnOk, OnErr};
 ghost use Rattle.std.specs.Bool.{OnTrue, OnFalse};
 ghost use Rattle.std.specs.Io.KnownBytes.{Appends};
-ghost use Rattle.mos_bytes.specs.Writes.{AppendsFront};
+ghost use Rattle.mos_bytes.specs.Causes.{HasCause, risen};
+ghost use Rattle.mos_bytes.specs.Writes.{AppendsFront, WriteAdds};
 
 use crate::{Failed, Sink};
 use std::io::Write;
 
 /// A sink over a writer. It tells what was taken where the writer does: over files and standard streams it tells
-/// nothing. It counts each error of the writer as a fault.
+/// nothing. Its count of faults begins at 0, and each error of the writer is a fault.
 #[derive(Drop)]
 pub struct WriteSink<W> {
     inner: W,
@@ -16,11 +17,12 @@ pub struct WriteSink<W> {
 }
 
 impl<W: Write> WriteSink<W> {
-    ghost use Rattle.mos_bytes.specs.Adapters.{sink_taken};
+    ghost use Rattle.mos_bytes.specs.Adapters.{sink_faults, sink_taken};
 
     /// A sink over this writer. It takes no memory.
     pub fn new(inner: W) -> Self
-        ensures { sink_taken W.contents result ≡ W.contents inner }
+        ensures taken { sink_taken W.contents result ≡ W.contents inner }
+        ensures faults { sink_faults result ≡ 0 }
     {
         WriteSink { inner, faults: 0 }
     }
@@ -42,15 +44,24 @@ fn write_pieces<W: Write>(inner: &mut W, bytes: &[u8]) -> bool
 }
 
 impl<W: Write> Sink for WriteSink<W> {
-    ghost use Rattle.mos_bytes.specs.Adapters.{sink_taken};
+    ghost use Rattle.mos_bytes.specs.Adapters.{sink_faults, sink_taken};
 
     ghost taken = { sink_taken W.contents };
 
-    ghost faults = { λ s. s.faults };
+    ghost faults = { sink_faults };
+
+    ghost Lasting = { ⊤ };
+
+    ghost lasting = { λ _. tt };
 
     /// Hands the bytes to the writer and flushes it. A writer that takes nothing of a piece that isn't empty is a fault,
-    /// and so is a flush that fails.
-    fn write_all(&mut self, bytes: &[u8]) -> Result<(), Failed> {
+    /// and so is a flush that fails. A call that fails counts one fault more, any other none.
+    fn write_all(&mut self, bytes: &[u8]) -> Result<(), Failed>
+        ensures bytes { WriteAdds (sink_taken W.contents self.old) (sink_taken W.contents self.new) result bytes.now }
+        ensures cause { HasCause (sink_faults self.old) (sink_faults self.new) result }
+        ensures ok { OnOk result (sink_faults self.new ≡ sink_faults self.old) }
+        ensures err { OnErr result (sink_faults self.new ≡ risen (sink_faults self.old)) }
+    {
         if write_pieces(&mut self.inner, bytes) && self.inner.flush().is_ok() {
             return Ok(());
         }

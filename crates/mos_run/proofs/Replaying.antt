@@ -8,7 +8,6 @@ use Rattle.report_text.specs.declared.record.Record.{Record}
 use Rattle.pcap_source.specs.Captured.{Captured}
 use Rattle.pcap_source.specs.Capture.{Frames, tail, ended, with_frame, frames_from, frames_by, header_of}
 use Rattle.pcap_source.specs.Reading.{CaptureState, OpenGives, NextGives, StepsAs, frames_at}
-use Rattle.pcap_source.specs.declared.capture.TheConstants.{RECORD_LIMIT}
 use Rattle.pcap_source.specs.declared.capture.Step.{Step}
 use Rattle.pcap_source.specs.declared.capture.Step.TheVariants.{Frame}
 use Rattle.pcap_source.specs.declared.errors.NextError.{NextError}
@@ -46,11 +45,11 @@ opened_replay None new capture table flows records callbacks bytes gives count o
 opened_replay (Some b) None capture table flows records callbacks bytes gives count offset stands told = absurd gives
 opened_replay (Some b) (Some after) capture table flows records callbacks bytes gives count offset stands told =
     let same : b ≡ bytes = cc in
-    let all : RECORD_LIMIT - capture.count ≡ RECORD_LIMIT = omega arith in
-    let start : frames_at capture after ≡ frames_from capture.order RECORD_LIMIT 24 (drop 24 b) =
+    let all : 1048576 - capture.count ≡ 1048576 = omega arith in
+    let start : frames_at capture after ≡ frames_from capture.order 1048576 24 (drop 24 b) =
     ap (λ n. frames_from capture.order n capture.offset after) all
-    ∙ ap (λ at. frames_from capture.order RECORD_LIMIT at after) offset
-    ∙ ap (λ l. frames_from capture.order RECORD_LIMIT 24 l) gives.2 in
+    ∙ ap (λ at. frames_from capture.order 1048576 at after) offset
+    ∙ ap (λ l. frames_from capture.order 1048576 24 l) gives.2 in
     let whole : outcome b ≡ outcome_of_frames (frames_at capture after) =
     outcome_of_header b (Ok capture.order) gives.0 ∙ ap outcome_of_frames (sym start) in
     record {

@@ -3,7 +3,6 @@
 use Rattle.std.specs.Prelude.{ℕ, zero, suc, ◌+◌, ◌%◌, List, [], ◌∷◌, length, take, drop, Bool, ◌&&◌, ◌||◌, ◌==◌, not, nat_lt, nat_le, if◌then◌else◌, Option, Some, None, Result, Ok, Err}
 use Rattle.pcap_source.specs.Captured.{Captured}
 use Rattle.pcap_source.specs.Order.{number_in}
-use Rattle.pcap_source.specs.declared.capture.TheConstants.{CAPTURED_LIMIT, RECORD_LIMIT}
 use Rattle.pcap_source.specs.declared.order.Order.{Order}
 use Rattle.pcap_source.specs.declared.order.Order.TheVariants.{Big, Little}
 use Rattle.pcap_source.specs.declared.errors.OpenError.{OpenError}
@@ -61,7 +60,7 @@ record_at order bytes = record_of order (take 16 bytes) (take (captured_length o
 
 -- a whole record of an allowed length stands at the front
 abbrev pub is_whole : Order → List ℕ → Bool
-is_whole order bytes = nat_le (captured_length order bytes) CAPTURED_LIMIT && nat_le (record_length order bytes) (length bytes)
+is_whole order bytes = nat_le (captured_length order bytes) 262144 && nat_le (record_length order bytes) (length bytes)
 
 -- how the whole records of a capture end
 pub data Ending : Type 0 where
@@ -76,7 +75,7 @@ pub data Ending : Type 0 where
 abbrev pub ending_of : Order → ℕ → ℕ → List ℕ → Ending
 ending_of order n offset bytes = if nat_lt (length bytes) 16 then tail (length bytes)
     else if n == 0 then too_many offset
-    else if nat_lt CAPTURED_LIMIT (captured_length order bytes) then too_long offset
+    else if nat_lt 262144 (captured_length order bytes) then too_long offset
     else tail (length bytes)
 
 -- the whole records of a capture, and how they end
@@ -102,7 +101,7 @@ frames_from order (suc n) offset bytes = if is_whole order bytes
 -- the records behind an accepted header
 abbrev pub frames_by : Result Order OpenError → List ℕ → Result Frames OpenError
 frames_by (Err e) bytes = Err e
-frames_by (Ok order) bytes = Ok (frames_from order RECORD_LIMIT 24 (drop 24 bytes))
+frames_by (Ok order) bytes = Ok (frames_from order 1048576 24 (drop 24 bytes))
 
 -- what a whole capture says: its records and how they end, or why its header is refused
 abbrev pub capture_of : List ℕ → Result Frames OpenError

@@ -1,9 +1,8 @@
 -- What a capture that is read front to back gives, where its source tells the bytes that are left.
-use Rattle.std.specs.Prelude.{◌≡◌, ℕ, zero, suc, ◌+◌, ◌-◌, ◌<◌, ◌≤◌, Bool, true, List, [], length, take, drop, ⊤, Option, Some, None, Result, Ok, Err}
+use Rattle.std.specs.Prelude.{◌≡◌, ℕ, zero, suc, ◌+◌, ◌-◌, ◌<◌, ◌≤◌, Bool, true, List, [], length, take, drop, ⊤, IsTrue, Option, Some, None, Result, Ok, Err}
 use Rattle.pcap_source.specs.Captured.{Captured}
 use Rattle.pcap_source.specs.Capture.{Ending, Frames, ended, with_frame, frames_from, header_of, record_of, tail, too_long, too_many}
 use Rattle.pcap_source.specs.Order.{number_in}
-use Rattle.pcap_source.specs.declared.capture.TheConstants.{CAPTURED_LIMIT, RECORD_LIMIT}
 use Rattle.pcap_source.specs.declared.order.Order.{Order}
 use Rattle.pcap_source.specs.declared.capture.Step.{Step}
 use Rattle.pcap_source.specs.declared.capture.Step.TheVariants.{Frame, Tail, End}
@@ -31,14 +30,14 @@ pub record Moves (old new : CaptureState) (frame : Captured) : Type 0 where
   pub order : new.order ≡ old.order
   pub count : new.count ≡ old.count + 1
   pub offset : new.offset ≡ old.offset + 16 + length frame.bytes
-  pub within : new.count ≤ RECORD_LIMIT
+  pub within : new.count ≤ 1048576
 
 -- the frame is what its head and its bytes say, and has as many bytes as its head tells
 pub record IsRecord (order : Order) (frame : Captured) : Type 0 where
   pub head : length frame.head ≡ 16
   pub whole : frame ≡ record_of order frame.head frame.bytes
   pub told : length frame.bytes ≡ number_in order 4 (drop 8 frame.head)
-  pub bounded : length frame.bytes ≤ CAPTURED_LIMIT
+  pub bounded : length frame.bytes ≤ 262144
 
 -- what holds where `next` took no record
 abbrev pub OnNoFrame : Result Step NextError → Type 0 → Type 0
@@ -49,7 +48,7 @@ OnNoFrame (Err e) P = P
 
 -- what these bytes say from here on
 abbrev pub frames_at : CaptureState → List ℕ → Frames
-frames_at capture bytes = frames_from capture.order (RECORD_LIMIT - capture.count) capture.offset bytes
+frames_at capture bytes = frames_from capture.order (1048576 - capture.count) capture.offset bytes
 
 -- `open` on these bytes, of which it leaves others
 abbrev pub OpensAs : List ℕ → List ℕ → Result CaptureState OpenError → Type 0
@@ -78,6 +77,22 @@ abbrev pub NextGives : CaptureState → CaptureState → Option (List ℕ) → O
 NextGives old new None after frame result = ⊤
 NextGives old new (Some bytes) None frame result = ⊥
 NextGives old new (Some bytes) (Some after) frame result = StepsAs (frames_at old bytes) (frames_at new after) after frame result
+
+-- A refusal of `next` tells the place where the record begins. Too many are refused exactly behind 1,048,576 records.
+abbrev pub RefusesAt : CaptureState → Result Step NextError → Type 0
+RefusesAt old (Ok step) = ⊤
+RefusesAt old (Err (TooLong offset)) = (offset ≡ old.offset) × (old.count < 1048576)
+RefusesAt old (Err (TooMany offset)) = (offset ≡ old.offset) × (old.count ≡ 1048576)
+RefusesAt old (Err ReadFault) = ⊤
+RefusesAt old (Err NoMemory) = ⊤
+
+-- an opened capture stands behind its header of 24 bytes, which was accepted in the capture's order of bytes
+pub record Opened (capture : CaptureState) : Type 0 where
+  pub header : length capture.header ≡ 24
+  pub order : header_of capture.header ≡ Ok capture.order
+  pub count : capture.count ≡ 0
+  pub offset : capture.offset ≡ 24
+  pub live : IsTrue capture.is_live
 
 -- a source tells what is left in it
 abbrev pub IsTold : Option (List ℕ) → Type 0

@@ -3,7 +3,7 @@ ghost use Rattle.std.specs.Prelude.{◌≡◌, ◌+◌, ◌*◌, ◌<◌, ◌≤
 ghost use Rattle.std.specs.Io.KnownBytes.{Consumes};
 ghost use Rattle.mos_bytes.specs.Causes.{HasCauseOf};
 ghost use Rattle.mos_bytes.specs.Reads.{Fills};
-ghost use Rattle.pcap_source.specs.Reading.{CaptureState, IsRecord, IsTold, NextGives, reading};
+ghost use Rattle.pcap_source.specs.Reading.{CaptureState, IsRecord, IsTold, NextGives, RefusesAt, reading};
 
 use crate::header::{HEADER, judge_header};
 use crate::{Frame, NextError, OpenError, Order};
@@ -64,6 +64,7 @@ fn read_bytes<S: Source>(
     ensures ok { IfOk result (λ n. Fills (S.left source.old) (S.left source.new) n bytes.new.items) }
     ensures told { IsTold (S.left source.old) → IsTold (S.left source.new) }
     ensures cause { HasCauseOf (S.faults source.old) (S.faults source.new) (IsErrOf result NextError.ReadFault) }
+    ensures lasts { S.lasting source.new ≡ S.lasting source.old }
     ensures only { IfErr result (λ e. (e ≡ NextError.ReadFault) ⊎ (e ≡ NextError.NoMemory)) }
 {
     bytes.resize(count, 0)?;
@@ -78,13 +79,15 @@ fn read_record<S: Source>(
     source: &mut S,
     frame: &mut Frame,
 ) -> Result<Step, NextError>
-    requires { count ≤ RECORD_LIMIT }
+    requires { count ≤ 1048576 }
     ensures gives { NextGives (reading order count offset) (reading order (count + 1) (offset + 16 + length frame.new.bytes))
         (S.left source.old) (S.left source.new) frame.new result }
-    ensures few { result ≡ Ok Step.Frame → count < RECORD_LIMIT }
+    ensures few { result ≡ Ok Step.Frame → count < 1048576 }
+    ensures refused { RefusesAt (reading order count offset) result }
     ensures whole { result ≡ Ok Step.Frame → IsRecord order frame.new }
     ensures consumed { result ≡ Ok Step.Frame → Consumes (S.left source.old) (S.left source.new) (frame.new.head ++ frame.new.bytes) }
     ensures cause { HasCauseOf (S.faults source.old) (S.faults source.new) (IsErrOf result NextError.ReadFault) }
+    ensures lasts { S.lasting source.new ≡ S.lasting source.old }
 {
     let filled = fill(source, &mut frame.head)?;
     if filled == 0 {
@@ -111,13 +114,14 @@ fn read_record<S: Source>(
 }
 
 impl Capture {
-    ghost use Rattle.pcap_source.specs.Reading.{Moves, OnNoFrame, OpenGives};
+    ghost use Rattle.pcap_source.specs.Reading.{Moves, OnNoFrame, OpenGives, Opened};
 
     /// Reads the global header: at most 24 bytes. It takes no memory.
     pub fn open<S: Source>(source: &mut S) -> Result<Capture, OpenError>
         ensures gives { OpenGives (S.left source.old) (S.left source.new) result }
-        ensures start { IfOk result (λ c. (c.count ≡ 0) × (c.offset ≡ 24) × IsTrue c.is_live) }
+        ensures start { IfOk result Opened }
         ensures cause { HasCauseOf (S.faults source.old) (S.faults source.new) (IsErrOf result OpenError.ReadFault) }
+        ensures lasts { S.lasting source.new ≡ S.lasting source.old }
         ensures at_most { (read : List ℕ) × Consumes (S.left source.old) (S.left source.new) read × (length read ≤ 24) }
     {
         let mut header = [0; HEADER];
@@ -145,12 +149,16 @@ impl Capture {
         ensures moved { result ≡ Ok Step.Frame → Moves self.old self.new frame.new }
         ensures stopped { OnNoFrame result (self.new ≡ record self.old { is_live = false }) }
 
+        // A refusal tells where the record begins, also over a source that tells nothing.
+        ensures refused { RefusesAt self.old result }
+
         // The frame holds what was read.
         ensures whole { result ≡ Ok Step.Frame → IsRecord self.old.order frame.new }
         ensures consumed { result ≡ Ok Step.Frame
             → Consumes (S.left source.old) (S.left source.new) (frame.new.head ++ frame.new.bytes) }
 
         ensures cause { HasCauseOf (S.faults source.old) (S.faults source.new) (IsErrOf result NextError.ReadFault) }
+        ensures lasts { S.lasting source.new ≡ S.lasting source.old }
     {
         self.is_live = false;
         let step = read_record(self.order, self.count, self.offset, source, frame)?;

@@ -1,5 +1,5 @@
 // Writing a capture as it was read.
-ghost use Rattle.std.specs.Prelude.{◌++◌};
+ghost use Rattle.std.specs.Prelude.{◌≡◌, ◌++◌};
 ghost use Rattle.mos_bytes.specs.Causes.{HasCause};
 ghost use Rattle.mos_bytes.specs.Writes.{WriteAdds};
 
@@ -11,6 +11,7 @@ impl Capture {
     pub fn write_header<O: Sink>(&self, out: &mut O) -> Result<(), Failed>
         ensures bytes { WriteAdds (O.taken out.old) (O.taken out.new) result self.now.header }
         ensures cause { HasCause (O.faults out.old) (O.faults out.new) result }
+        ensures lasts { O.lasting out.new ≡ O.lasting out.old }
     {
         out.write_all(self.header())
     }
@@ -19,6 +20,7 @@ impl Capture {
     pub fn write_record<O: Sink>(&self, out: &mut O, frame: &Frame) -> Result<(), Failed>
         ensures bytes { WriteAdds (O.taken out.old) (O.taken out.new) result (frame.now.head ++ frame.now.bytes) }
         ensures cause { HasCause (O.faults out.old) (O.faults out.new) result }
+        ensures lasts { O.lasting out.new ≡ O.lasting out.old }
     {
         out.write_all(&frame.head)?;
         out.write_all(&frame.bytes)

@@ -58,8 +58,8 @@ pub fn cut(
     order: Order,
     bytes: &[u8],
 ) -> Result<(Vec<Frame>, Result<Step, NextError>), AllocError>
-    ensures frames { IfOk result (λ r. r.0.items ≡ (frames_from order RECORD_LIMIT 24 bytes.now).frames) }
-    ensures ending { IfOk result (λ r. r.1 ≡ answer_of (frames_from order RECORD_LIMIT 24 bytes.now).ending) }
+    ensures frames { IfOk result (λ r. r.0.items ≡ (frames_from order 1048576 24 bytes.now).frames) }
+    ensures ending { IfOk result (λ r. r.1 ≡ answer_of (frames_from order 1048576 24 bytes.now).ending) }
 {
     let mut frames = Vec::new(alloc);
     let mut allowed = RECORD_LIMIT;

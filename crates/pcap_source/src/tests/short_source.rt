@@ -1,5 +1,5 @@
 // A source that gives few bytes at a time.
-ghost use Rattle.std.specs.Prelude.{◌<◌, Some};
+ghost use Rattle.std.specs.Prelude.{◌<◌, ℕ, Some};
 
 use mos_bytes::{Failed, MemSource, Source};
 
@@ -15,6 +15,10 @@ impl Source for ShortSource {
     ghost left = { λ s. Some s.inner.left };
 
     ghost faults = { λ s. s.inner.faults };
+
+    ghost Lasting = { ℕ };
+
+    ghost lasting = { λ s. s.most };
 
     fn read(&mut self, buf: &mut [u8]) -> Result<usize, Failed> {
         let most = self.most.min(buf.len());

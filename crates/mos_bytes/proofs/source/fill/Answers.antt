@@ -11,4 +11,5 @@ loop-filled-preserved g c = record {
   consumed = subst (Consumes _ _) (front_grows _ _ _ _ _ c.loop-filled.invariant.within c.in_ok-count.ensures.bound.0)
       (Consumes-trans _ _ _ _ _ c.loop-filled.invariant.consumed c.in_ok-count.ensures.bytes.0);
   later = search rules;
+  lasts = search rules;
 }

@@ -15,15 +15,15 @@ returns-in_err-capture-clause-gives g c = λ bytes told.
 
 pub loop-lane-init : goal.loop-lane-init
 loop-lane-init g c = record {
-  live = c.in_ok-capture.ensures.start.2;
-  count = c.in_ok-capture.ensures.start.0 ∙ sym c.in_ok-lane.ensures.packets;
+  live = c.in_ok-capture.ensures.start.live;
+  count = c.in_ok-capture.ensures.start.count ∙ sym c.in_ok-lane.ensures.packets;
   few = omega (arith, c.in_ok-lane.ensures.packets);
   callbacks = omega (arith, c.in_ok-lane.ensures.callbacks);
   faults = c.open.ensures.cause.later;
   replaying = λ bytes told.
       subst (λ n. Replaying bytes (g.S.Source.left c.open.new.source) c.in_ok-capture.capture c.in_ok-lane.lane.monitor.table c.in_ok-lane.lane.flows c.in_ok-lane.lane.records.items c.in_ok-lane.lane.callbacks n) (sym c.in_ok-lane.ensures.packets)
       (opened_replay (g.S.Source.left c.args.source.now) (g.S.Source.left c.open.new.source) c.in_ok-capture.capture c.in_ok-lane.lane.monitor.table c.in_ok-lane.lane.flows c.in_ok-lane.lane.records.items c.in_ok-lane.lane.callbacks
-      bytes c.in_ok-capture.ensures.gives c.in_ok-capture.ensures.start.0 c.in_ok-capture.ensures.start.1 c.in_ok-lane.ensures.stands told);
+      bytes c.in_ok-capture.ensures.gives c.in_ok-capture.ensures.start.count c.in_ok-capture.ensures.start.offset c.in_ok-lane.ensures.stands told);
 }
 
 pub returns-in_err-next-clause-gives : goal.returns-in_err-next-clause-gives
