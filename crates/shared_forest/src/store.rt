@@ -37,6 +37,9 @@ pub trait ForestView {
     /// Whether the store answered this Shared.
     ghost answered: { Self → Shared → Type 0 };
 
+    /// That is a fact without further content, so a struct may keep it.
+    ghost answered_once: { (store : Self) (s : Shared) → IsProp (answered store s) };
+
     /// The tree of a Shared that the store answered.
     ghost content: { Self → Shared → TreeLists };
 

@@ -55,9 +55,12 @@ impl Table {
 }
 
 impl ForestView for Table {
+    ghost use Rattle.std.specs.Coded.{le_prop};
     ghost use Rattle.shared_forest.specs.Rows.{HasRow, tree_at};
 
     ghost answered = { HasRow };
+
+    ghost answered_once = { λ table s. le_prop };
 
     ghost content = { tree_at };
 
