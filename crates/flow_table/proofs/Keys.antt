@@ -11,7 +11,7 @@ use Rattle.std.proofs.lemmas.Map.Lookups.{CmpEqualImpliesEq, exact_pairs, exact_
 use Rattle.flow_table.specs.declared.endpoint.Endpoint.{Endpoint}
 use Rattle.flow_table.specs.declared.endpoint.Endpoint.TheVariants.{V4, V6}
 use Rattle.flow_table.specs.Endpoint.{version_of, addr_of, port_of, same_endpoint, endpoint_cmp}
-use Rattle.flow_table.specs.Key.{Ends, same_key, key_between}
+use Rattle.flow_table.specs.Key.{EndpointPair, same_key, key_between}
 use Rattle.flow_table.specs.Table.{key_cmp, numbers_of, from_numbers, from_numbers-numbers_of}
 use Rattle.flow_table.specs.contracts.key.KeyPartialEq.TheImpl.{ghosts as ends}
 use Rattle.flow_table.specs.contracts.endpoint.EndpointPartialEq.TheImpl.{ghosts as endpoint}
@@ -20,7 +20,7 @@ pub endpoints_total : IsTotalOrder endpoint_cmp
 endpoints_total = then_total (on_total version_of nat_cmp_total) (then_total (on_total addr_of nat_cmp_total) (on_total port_of nat_cmp_total))
 
 pub keys_total : IsTotalOrder key_cmp
-keys_total = then_total (on_total (λ (key : Ends). key.0) endpoints_total) (on_total (λ (key : Ends). key.1) endpoints_total)
+keys_total = then_total (on_total (λ (key : EndpointPair). key.0) endpoints_total) (on_total (λ (key : EndpointPair). key.1) endpoints_total)
 
 pub exact_endpoints : CmpEqualImpliesEq endpoint_cmp
 exact_endpoints a b h =
@@ -55,7 +55,7 @@ ties_endpoint (V4 a p) (V6 b q) = refl
 ties_endpoint (V6 a p) (V4 b q) = refl
 ties_endpoint (V6 a p) (V6 b q) = is_eq-then (nat_cmp a b) (nat_cmp p q) ∙ (λ i. is_eq-nat_cmp a b i && is_eq-nat_cmp p q i)
 
-pub ties_key : (a b : Ends) → eq_by_cmp key_cmp a b ≡ same_key a b
+pub ties_key : (a b : EndpointPair) → eq_by_cmp key_cmp a b ≡ same_key a b
 unfolding same_key
 ties_key a b = is_eq-then (endpoint_cmp a.0 b.0) (endpoint_cmp a.1 b.1) ∙ (λ i. ties_endpoint a.0 b.0 i && ties_endpoint a.1 b.1 i)
 
@@ -66,21 +66,21 @@ eq_endpoint (V4 a p) (V6 b q) = refl
 eq_endpoint (V6 a p) (V4 b q) = refl
 eq_endpoint (V6 a p) (V6 b q) = refl
 
-pub eq_key : (a b : Ends) → ends.eq a b ≡ same_key a b
+pub eq_key : (a b : EndpointPair) → ends.eq a b ≡ same_key a b
 unfolding same_key
 eq_key a b = λ i. eq_endpoint a.0 b.0 i && eq_endpoint a.1 b.1 i
 
 -- `same_key` is true exactly at equal keys
-pub same_key-reflexive : (key : Ends) → same_key key key ≡ true
+pub same_key-reflexive : (key : EndpointPair) → same_key key key ≡ true
 same_key-reflexive key = sym (ties_key key key) ∙ (eq_by_cmp_equiv keys_total).refl key
 
-pub same_key-equal : (a b : Ends) → same_key a b ≡ true → a ≡ b
+pub same_key-equal : (a b : EndpointPair) → same_key a b ≡ true → a ≡ b
 same_key-equal a b h = exact_keys a b ((Equal-is (key_cmp a b)).0 (ties_key a b ∙ h))
 
-pub same_key-symmetric : (a b : Ends) → same_key a b ≡ same_key b a
+pub same_key-symmetric : (a b : EndpointPair) → same_key a b ≡ same_key b a
 same_key-symmetric a b = sym (ties_key a b) ∙ (eq_by_cmp_equiv keys_total).symm a b ∙ ties_key b a
 
-abbrev in_order : Bool → Endpoint → Endpoint → Ends
+abbrev in_order : Bool → Endpoint → Endpoint → EndpointPair
 in_order le a b = if le then (a, b) else (b, a)
 
 -- both directions of a connection have one key

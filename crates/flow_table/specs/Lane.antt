@@ -3,7 +3,7 @@ use Rattle.std.specs.Prelude.{ℕ, ◌+◌, ◌*◌, ◌/◌, ◌%◌, ◌^◌, 
 use Rattle.packet_views.specs.Packet.{Packet, Segment, NoSegment}
 use Rattle.flow_table.specs.declared.endpoint.Endpoint.{Endpoint}
 use Rattle.flow_table.specs.declared.endpoint.Endpoint.TheVariants.{V4, V6}
-use Rattle.flow_table.specs.Key.{Ends, key_of_head}
+use Rattle.flow_table.specs.Key.{EndpointPair, key_of_head}
 
 -- an endpoint as one number
 abbrev pub number_of : Endpoint → ℕ
@@ -19,7 +19,7 @@ unfoldable pub mix_of : Endpoint → ℕ
 mix_of endpoint = folded (number_of endpoint * 0x9e37_79b9_7f4a_7c15 % 2 ^ 64)
 
 -- the lane of a key, among so many lanes
-unfoldable pub lane_of_key : Ends → ℕ → ℕ
+unfoldable pub lane_of_key : EndpointPair → ℕ → ℕ
 lane_of_key key lanes = (mix_of key.0 + mix_of key.1) % 2 ^ 64 % lanes
 
 -- the lane of a packet; what has no key goes to lane 0

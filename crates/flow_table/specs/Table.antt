@@ -7,23 +7,23 @@ use Rattle.std.specs.Ordering.{ordering_then}
 use Rattle.flow_table.specs.declared.endpoint.Endpoint.{Endpoint}
 use Rattle.flow_table.specs.declared.endpoint.Endpoint.TheVariants.{V4, V6}
 use Rattle.flow_table.specs.Endpoint.{version_of, addr_of, port_of, endpoint_cmp}
-use Rattle.flow_table.specs.Key.{Ends, same_key}
+use Rattle.flow_table.specs.Key.{EndpointPair, same_key}
 
 -- by the lower endpoint, and then by the higher one
-abbrev pub key_cmp : Ends → Ends → Ordering
+abbrev pub key_cmp : EndpointPair → EndpointPair → Ordering
 key_cmp a b = ordering_then (endpoint_cmp a.0 b.0) (endpoint_cmp a.1 b.1)
 
 abbrev pub Flows : Type 0 → Type 0
 Flows T = map.FinMap key_cmp T
 
 -- what is kept for a key
-abbrev pub found : {T : Type 0} → Flows T → Ends → Option T
+abbrev pub found : {T : Type 0} → Flows T → EndpointPair → Option T
 found flows key = map.get flows key
 
 -- the value of a key that was there is another one, and the rest stays
-pub record Rewrites {T : Type 0} (old new : Flows T) (key : Ends) (value : T) : Type 0 where
+pub record Rewrites {T : Type 0} (old new : Flows T) (key : EndpointPair) (value : T) : Type 0 where
   pub flows : new ≡ map.insert old key value
-  pub found : (other : Ends) → found new other ≡ (if same_key key other then Some value else found old other)
+  pub found : (other : EndpointPair) → found new other ≡ (if same_key key other then Some value else found old other)
   pub len : map.len new ≡ map.len old
 
 -- an endpoint as numbers
@@ -40,5 +40,5 @@ from_numbers-numbers_of (V6 addr port) = refl
 abbrev pub coded_endpoint : Coded Endpoint
 coded_endpoint = code_by (ℕ × (ℕ × ℕ)) (coded× coded_ℕ (coded× coded_ℕ coded_ℕ)) numbers_of from_numbers from_numbers-numbers_of
 
-abbrev pub coded_ends : Coded Ends
-coded_ends = coded× coded_endpoint coded_endpoint
+abbrev pub coded_pair : Coded EndpointPair
+coded_pair = coded× coded_endpoint coded_endpoint

@@ -23,9 +23,9 @@ impl Model for Key {
     ghost use Rattle.std.specs.Prelude.{◌≡◌, true};
     ghost use Rattle.std.specs.Ordering.{is_le};
     ghost use Rattle.flow_table.specs.Endpoint.{endpoint_cmp};
-    ghost use Rattle.flow_table.specs.Key.{Ends};
+    ghost use Rattle.flow_table.specs.Key.{EndpointPair};
 
-    ghost Value = { Ends };
+    ghost Value = { EndpointPair };
 
     ghost view = { λ key. (key.lo, key.hi) };
 

@@ -4,7 +4,7 @@ ghost use Rattle.std.specs.Prelude.{◌≡◌, ◌+◌, ◌↔◌, None, Some, i
 ghost use Rattle.std.specs.Borrow.{sem};
 ghost use Rattle.std.specs.Option.{option_copied_mut};
 ghost use Rattle.std.specs.FinMap as map;
-ghost use Rattle.flow_table.specs.Key.{Ends, same_key};
+ghost use Rattle.flow_table.specs.Key.{EndpointPair, same_key};
 ghost use Rattle.flow_table.specs.Table.{found};
 
 use crate::hashing::KeyHashing;
@@ -22,11 +22,11 @@ pub struct FlowTable<T> {
 
 impl<T> Model for FlowTable<T> {
     ghost use Rattle.std.specs.FinMap as map;
-    ghost use Rattle.flow_table.specs.Table.{key_cmp, Flows, coded_ends};
+    ghost use Rattle.flow_table.specs.Table.{key_cmp, Flows, coded_pair};
 
     ghost Value = { Flows T };
 
-    ghost coded = { map.code coded_ends T.code };
+    ghost coded = { map.code coded_pair T.code };
 
     ghost view = { λ table. map.from_entries table.flows.entries };
 }
@@ -38,7 +38,7 @@ impl<T> FlowTable<T> {
     /// slow as the table is long. It takes no memory.
     pub fn new(alloc: Global) -> FlowTable<T>
         ensures empty { result ≡ map.empty }
-        ensures none { (key : Ends) → found result key ≡ None }
+        ensures none { (key : EndpointPair) → found result key ≡ None }
     {
         FlowTable {
             flows: IndexMap::with_hasher(alloc, KeyHashing::fixed()),
@@ -63,7 +63,7 @@ impl<T> FlowTable<T> {
         T: Drop,
         requires absent { found self.old key ≡ None }
         ensures ok { OnOk result (self.new ≡ map.insert self.old key value) }
-        ensures found { OnOk result ((other : Ends) → found self.new other ≡ (if same_key key other then Some value else found self.old other)) }
+        ensures found { OnOk result ((other : EndpointPair) → found self.new other ≡ (if same_key key other then Some value else found self.old other)) }
         ensures len { OnOk result (map.len self.new ≡ map.len self.old + 1) }
         ensures err { OnErr result (self.new ≡ self.old) }
         ensures returned { IfErr result (λ back. back ≡ value) }
@@ -90,7 +90,7 @@ impl<T> FlowTable<T> {
     pub fn close(&mut self, key: &Key) -> Option<T>
         ensures value { result ≡ found self.old key.now }
         ensures removed { self.new ≡ map.remove self.old key.now }
-        ensures found { (other : Ends) → found self.new other ≡ (if same_key key.now other then None else found self.old other) }
+        ensures found { (other : EndpointPair) → found self.new other ≡ (if same_key key.now other then None else found self.old other) }
         ensures none { IfNone result (self.new ≡ self.old) }
         ensures len { IfSome result (λ _. map.len self.new + 1 ≡ map.len self.old) }
     {
@@ -102,7 +102,7 @@ impl<T> FlowTable<T> {
         ensures empty { IsNone result ↔ (self.old ≡ map.empty) }
         ensures value { IfSome result (λ flow. found self.old flow.0 ≡ Some flow.1) }
         ensures removed { IfSome result (λ flow. self.new ≡ map.remove self.old flow.0) }
-        ensures found { IfSome result (λ flow. (other : Ends) → found self.new other ≡ (if same_key flow.0 other then None else found self.old other)) }
+        ensures found { IfSome result (λ flow. (other : EndpointPair) → found self.new other ≡ (if same_key flow.0 other then None else found self.old other)) }
         ensures none { IfNone result (self.new ≡ self.old) }
         ensures len { IfSome result (λ _. map.len self.new + 1 ≡ map.len self.old) }
     {

@@ -1,11 +1,2 @@
-pub mod Reach
-pub mod Calling
-pub mod Phases
-pub mod Presets
-pub mod Places
-pub mod OpenFlows
-pub mod Lanes
 pub mod Onward
 pub mod Replaying
-pub mod Restricted
-pub mod Growing

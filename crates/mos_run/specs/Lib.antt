@@ -1,14 +1,5 @@
-pub mod InForce
-pub mod History
-pub mod Calls
-pub mod Records
 pub mod Report
-pub mod Reach
-pub mod Places
-pub mod Flows
-pub mod Lane
 pub mod Refusal
 pub mod Outcome
 pub mod Replay
 pub mod Run
-pub mod Laws

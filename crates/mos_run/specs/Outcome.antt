@@ -8,11 +8,12 @@ use Rattle.pcap_source.specs.declared.errors.CaptureFault.TheVariants as Fault
 use Rattle.mos_run.specs.declared.refusal.RunError.{RunError}
 use Rattle.mos_run.specs.declared.refusal.RunError.TheVariants.{Capture, TooMany, ReadFault}
 use Rattle.mos_run.specs.declared.report.Report.{Report}
-use Rattle.mos_run.specs.Records.{Past}
-use Rattle.mos_run.specs.Report.{record_of, records_of, totals_of}
+use Rattle.lane_core.specs.Records.{RecordSoFar}
+use Rattle.lane_core.specs.Shown.{record_of}
+use Rattle.mos_run.specs.Report.{records_of, totals_of}
 
-abbrev pub report_of : List Past → ℕ → ℕ → Report
-report_of pasts packets rest = record { records = map record_of pasts; totals = totals_of pasts packets rest }
+abbrev pub report_of : List RecordSoFar → ℕ → ℕ → Report
+report_of records packets rest = record { records = map record_of records; totals = totals_of records packets rest }
 
 -- whole records that were followed to the end of the capture, or to where it is refused
 abbrev pub followed_to : List Captured → Ending → Result Report RunError

@@ -1,11 +1,6 @@
 //! The top of mos: a capture is replayed, its connections are followed, and their report is written.
 #![tactic(auto)]
 
-mod flow;
-mod flows;
-mod lane;
-pub mod laws;
-mod monitor;
 pub mod refusal;
 mod replay;
 pub mod report;

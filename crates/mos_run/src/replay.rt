@@ -2,38 +2,15 @@
 
 ghost use Rattle.std.specs.Prelude.{◌≡◌, ◌+◌, ◌*◌, ◌<◌, ◌≤◌, ◌^◌, ℕ, List, OnOk, IsErrOf, IfErr, true, false, ◌⊎◌, ◌≢◌, Err, length};
 ghost use Rattle.mos_bytes.specs.Causes.{HasCauseOf};
-ghost use Rattle.mos_run.specs.Lane.{StandsFor, stamp_of};
-ghost use Rattle.mos_run.specs.Records.{Past, added};
-ghost use Rattle.packet_views.specs.Packet.{packet_of};
 ghost use Rattle.mos_run.specs.Replay.{ReplaysAs};
 
-use crate::lane::Lane;
 use crate::{Report, RunError};
-use flow_table::key_of;
+use lane_core::{Lane, LaneEnd};
 use mos_bytes::Source;
-use packet_views::{View, view_of};
 use pcap_source::{Capture, Frame, Step};
-use report_text::{RecordList, Totals};
-use std::alloc::{AllocError, Global};
-
-// One more packet of the capture.
-fn take(alloc: Global, lane: &mut Lane, bytes: &[u8]) -> Result<(), AllocError>
-    requires packets { lane.old.packets < 2 ^ 20 }
-    requires room { lane.old.callbacks + 3060 < 2 ^ 64 }
-    ensures stands { OnOk result ((pasts : List Past)
-        → StandsFor lane.old.monitor.table lane.old.flows lane.old.records.items lane.old.callbacks pasts
-        → StandsFor lane.new.monitor.table lane.new.flows lane.new.records.items lane.new.callbacks (added (stamp_of lane.old.packets (packet_of bytes.now)) pasts)) }
-    ensures callbacks { OnOk result (lane.new.callbacks ≤ lane.old.callbacks + 3060) }
-    ensures packets { lane.new.packets ≡ lane.old.packets + 1 }
-{
-    match view_of(bytes) {
-        View::Tcp(segment) => {
-            let head = segment.head();
-            lane.segment(alloc, &head, segment.payload(), key_of(&segment))
-        }
-        View::Other(class) => lane.other(alloc, class),
-    }
-}
+use report_text::Totals;
+use shared_forest::Table;
+use std::alloc::Global;
 
 /// Reads a capture to its end or its tail, and answers the report of its packets.
 pub(crate) fn replay<S: Source>(alloc: Global, source: &mut S) -> Result<Report, RunError>
@@ -43,30 +20,30 @@ pub(crate) fn replay<S: Source>(alloc: Global, source: &mut S) -> Result<Report,
 {
     let mut capture = Capture::open(source)?;
     let mut frame = Frame::new(alloc);
-    let mut lane = Lane::new(alloc)?;
+    let mut lane = Lane::new(alloc, Table::new(alloc))?;
+    let mut packets = 0;
     loop {
         match capture.next(source, &mut frame)? {
-            Step::Frame => take(alloc, &mut lane, frame.bytes.as_slice())?,
-            Step::Tail(bytes) => return Ok(report(lane, bytes)),
-            Step::End => return Ok(report(lane, 0)),
+            Step::Frame => {
+                lane.packet(alloc, packets, &frame)?;
+                packets += 1;
+            }
+            Step::Tail(bytes) => return Ok(report(lane.finish(), packets, bytes)),
+            Step::End => return Ok(report(lane.finish(), packets, 0)),
         }
     }
 }
 
-fn report(lane: Lane, tail: u32) -> Report
-    ensures { result ≡ record { records = lane.records.items; totals = record { packets = lane.packets; records = length lane.records.items; callbacks = lane.callbacks; drops = 0; tail = tail } } }
+fn report(end: LaneEnd, packets: u64, tail: u32) -> Report
+    ensures { result ≡ record { records = end.records; totals = record { packets = packets; records = length end.records; callbacks = end.callbacks; drops = 0; tail = tail } } }
 {
-    let records = lane.records.len() as u64;
-    Report {
-        records: RecordList {
-            items: lane.records,
-        },
-        totals: Totals {
-            packets: lane.packets,
-            records,
-            callbacks: lane.callbacks,
-            drops: 0,
-            tail,
-        },
-    }
+    let LaneEnd { records, callbacks } = end;
+    let totals = Totals {
+        packets,
+        records: records.as_slice().len() as u64,
+        callbacks,
+        drops: 0,
+        tail,
+    };
+    Report { records, totals }
 }

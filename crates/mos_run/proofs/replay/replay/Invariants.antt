@@ -1,4 +1,5 @@
-use Rattle.std.proofs.Common.{◌≡◌, ℕ, ◌-◌, ◌*◌, ◌≤◌, List, Some, true}
+use Rattle.std.proofs.Common.{◌≡◌, ℕ, ◌-◌, ◌≤◌, List, Some, true}
+use Rattle.shared_forest.specs.Rows.{tree_at}
 use Rattle.mos_run.proofs.Replaying.{Replaying}
 use Rattle.mos_run.proofs.replay.replay.Given as goal
 
@@ -6,13 +7,13 @@ use Rattle.mos_run.proofs.replay.replay.Given as goal
 abbrev pub invariant-loop-lane : goal.invariant-loop-lane
 invariant-loop-lane g l = record {
   live : l.capture.is_live ≡ true;
-  count : l.capture.count ≡ l.lane.packets;
-  few : l.lane.packets ≤ 1048576;
-  callbacks : l.lane.callbacks ≤ 3060 * l.lane.packets;
+  count : l.capture.count ≡ l.packets;
+  next : l.lane.next ≡ l.packets;
+  few : l.packets ≤ 1048576;
   faults : g.S.Source.faults l.fn.source ≤ g.S.Source.faults l.source;
   replaying : (bytes : List ℕ) → g.S.Source.left l.fn.source ≡ Some bytes
-      → Replaying bytes (g.S.Source.left l.source) l.capture l.lane.monitor.table l.lane.flows l.lane.records.items l.lane.callbacks l.lane.packets;
+      → Replaying bytes (g.S.Source.left l.source) l.capture (tree_at l.lane.monitor.store) l.lane.kept l.packets;
 }
 
 abbrev pub decreases-loop-lane : goal.decreases-loop-lane
-decreases-loop-lane g l = 1048576 - l.lane.packets
+decreases-loop-lane g l = 1048576 - l.packets

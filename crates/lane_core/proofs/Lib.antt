@@ -1,0 +1,10 @@
+pub mod Reach
+pub mod Calling
+pub mod Phases
+pub mod Presets
+pub mod Places
+pub mod OpenFlows
+pub mod Lanes
+pub mod Restricted
+pub mod Growing
+pub mod Sights

@@ -1,0 +1,8 @@
+use Rattle.std.proofs.Common.{[]}
+use Rattle.lane_core.specs.Places.{IsSingle}
+use Rattle.lane_core.proofs.Growing.{records_grown}
+use Rattle.lane_core.proofs.laws.records_grow.Goals as goal
+
+pub returns : goal.returns
+unfolding IsSingle
+returns c = λ control_at ps. records_grown control_at ps [] (λ key. tt)

@@ -1,0 +1,12 @@
+pub mod Sight
+pub mod History
+pub mod Records
+pub mod Shown
+pub mod Laws
+pub mod Lane
+pub mod Seen
+pub mod InForce
+pub mod Calls
+pub mod Reach
+pub mod Places
+pub mod Flows

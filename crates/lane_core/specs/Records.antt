@@ -1,0 +1,106 @@
+-- Which packets make a record. A connection is opened by a SYN with neither ACK nor RST (RFC 9293, section 3.5) while none
+-- of its key is open; until it is over, each packet between its two endpoints belongs to it. Every other packet is an orphan.
+use Rattle.std.specs.Prelude.{ℕ, Bool, false, not, ◌&&◌, if◌then◌else◌, Some, None, List, [], ◌∷◌, map}
+use Rattle.packet_views.specs.Flags.{has_syn, has_ack, has_rst}
+use Rattle.packet_views.specs.declared.packet.Class.TheVariants as Class
+use Rattle.tcp_emulation.specs.declared.segment.Side.{Side}
+use Rattle.tcp_emulation.specs.declared.segment.Side.TheVariants.{Client, Server}
+use Rattle.flow_table.specs.declared.endpoint.Endpoint.{Endpoint}
+use Rattle.flow_table.specs.Endpoint.{same_endpoint}
+use Rattle.flow_table.specs.Key.{EndpointPair, same_key}
+use Rattle.builtin_events.specs.declared.raise.Raise.{Raise}
+use Rattle.builtin_events.specs.Raises.{orphan_raises}
+use Rattle.forest_versions.specs.State.{ControlState}
+use Rattle.lane_core.specs.Sight.{Segment, Sight, Tcp, Other, Arrival, key_of_segment}
+use Rattle.lane_core.specs.History.{History, fresh, followed, orphaned, is_over}
+
+-- a packet with the version of the record that it would start
+pub record VersionedPacket : Type 0 where
+  pub version : ℕ
+  pub arrival : Arrival
+
+-- a connection or an orphan so far; the number of its first packet is its name
+pub record RecordSoFar : Type 0 where
+  pub first : Arrival
+  pub version : ℕ
+  pub history : History
+
+-- a SYN with neither ACK nor RST
+unfoldable pub opens : Sight → Bool
+opens (Tcp segment) = has_syn segment.head && not (has_ack segment.head) && not (has_rst segment.head)
+opens (Other class) = false
+
+-- a segment between the two endpoints of a key
+unfoldable pub is_between : EndpointPair → Sight → Bool
+is_between key (Tcp segment) = same_key (key_of_segment segment) key
+is_between key (Other class) = false
+
+-- an open connection of this key
+abbrev pub is_open_at : EndpointPair → RecordSoFar → Bool
+is_open_at key so_far = opens so_far.first.sight && is_between key so_far.first.sight && not (is_over so_far.history)
+
+-- whether a packet belongs to a record that was started before it
+abbrev pub belongs_to : Sight → RecordSoFar → Bool
+belongs_to (Tcp segment) so_far = is_open_at (key_of_segment segment) so_far
+belongs_to (Other class) so_far = false
+
+-- Which end sent a segment of a connection: the client is who sent the segment that opened it. Where both endpoints are equal,
+-- every segment is the client's.
+abbrev pub side_of : Endpoint → Segment → Side
+side_of client segment = if same_endpoint client segment.sender then Client else Server
+
+abbrev pub side_in : Sight → Segment → Side
+side_in (Tcp opener) segment = side_of opener.sender segment
+side_in (Other class) segment = Server
+
+-- one more packet of the connection that a packet opened
+unfoldable pub history_after : ControlState → Sight → Arrival → History → History
+history_after control opener a h = elim a.sight [
+  | Tcp segment ↦ followed control a.number (side_in opener segment) segment h
+  | Other class ↦ h
+]
+
+-- what a packet of no connection raises
+abbrev pub orphan_raises_of : Sight → List Raise
+orphan_raises_of (Tcp segment) = orphan_raises Class.Tcp (Some segment.head)
+orphan_raises_of (Other class) = orphan_raises class None
+
+-- the history that a packet starts
+abbrev pub first_history : ControlState → Arrival → History
+first_history control a =
+    if opens a.sight then history_after control a.sight a (fresh control)
+    else orphaned control a.number (orphan_raises_of a.sight)
+
+-- What is in force for a record is that of its version: `control_at` gives it.
+
+-- the record that a packet starts
+abbrev pub started_by : (ℕ → ControlState) → VersionedPacket → RecordSoFar
+started_by control_at p =
+    record { first = p.arrival; version = p.version; history = first_history (control_at p.version) p.arrival }
+
+-- the record with one packet more
+abbrev pub continued_by : (ℕ → ControlState) → Arrival → RecordSoFar → RecordSoFar
+continued_by control_at a so_far = record {
+  first = so_far.first;
+  version = so_far.version;
+  history = history_after (control_at so_far.version) so_far.first.sight a so_far.history;
+}
+
+-- one more packet: it belongs to the open connection of its key, else it starts a record
+unfoldable pub added : (ℕ → ControlState) → VersionedPacket → List RecordSoFar → List RecordSoFar
+added control_at p [] = started_by control_at p ∷ []
+added control_at p (so_far ∷ others) =
+    if belongs_to p.arrival.sight so_far then continued_by control_at p.arrival so_far ∷ others
+    else so_far ∷ added control_at p others
+
+unfoldable pub records_from : (ℕ → ControlState) → List RecordSoFar → List VersionedPacket → List RecordSoFar
+records_from control_at so_far [] = so_far
+records_from control_at so_far (p ∷ ps) = records_from control_at (added control_at p so_far) ps
+
+-- the records of packets, in order of their names
+abbrev pub records : (ℕ → ControlState) → List VersionedPacket → List RecordSoFar
+records control_at ps = records_from control_at [] ps
+
+-- packets with the versions that a rule gives to their numbers
+abbrev pub versioned : (ℕ → ℕ) → List Arrival → List VersionedPacket
+versioned version arrivals = map (λ a. record { version = version a.number; arrival = a }) arrivals
