@@ -7,7 +7,6 @@ pub mod expr;
 mod law;
 mod lexeme;
 mod lexer;
-mod natives;
 mod parser;
 mod printer;
 pub mod term;

@@ -49,7 +49,7 @@ impl<T> FlowTable<T> {
     /// doesn't know it. The seed changes no answer. It takes no memory.
     pub fn with_seed(alloc: Global, seed: u64) -> FlowTable<T>
         ensures empty { result ≡ map.empty }
-        ensures none { (key : Ends) → found result key ≡ None }
+        ensures none { (key : EndpointPair) → found result key ≡ None }
     {
         FlowTable {
             flows: IndexMap::with_hasher(alloc, KeyHashing::seeded(seed)),

@@ -19,7 +19,6 @@ use std::alloc::{AllocError, Global};
 #[derive(Drop)]
 pub(crate) struct Monitor<F: Forests> {
     pub(crate) in_force: InForce,
-    natives: NativeBook,
     pub(crate) store: F,
     /// The tree of the registrations that are on at a connection's start.
     first: Shared,
@@ -40,7 +39,6 @@ impl<F: Forests + Drop> Monitor<F> {
         let first = build(alloc, &mut store, &in_force.defs, &in_force.regs)?;
         Ok(Monitor {
             in_force,
-            natives: NativeBook::plain(),
             store,
             first,
         })
@@ -90,8 +88,9 @@ impl<F: Forests + Drop> Monitor<F> {
         ensures longer { length entries.old ≤ length entries.new }
         ensures few { length entries.new ≤ length entries.old + 255 }
     {
+        let natives = NativeBook::plain();
         let mut walk = Walk::start(tree, raise.hook, raise.event, &raise.facts);
-        while let Some(reg) = walk.next(&self.in_force.defs, &self.natives) {
+        while let Some(reg) = walk.next(&self.in_force.defs, &natives) {
             entries.items.push(self.entry(number, raise, reg))?;
         }
         Ok(())
