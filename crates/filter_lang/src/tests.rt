@@ -48,28 +48,16 @@ fn printed_once_more(rt: HostRuntime) -> Result<(), Fail> {
         ("!( !(nth!=2))", "!!(nth != 2)"),
         ("!(native 3)&&!(false)", "!native 3 && !false"),
         ("!(true&&false)", "!(true && false)"),
-        (
-            "(len=1||dir=0)&&(true)",
-            "(len = 1 || dir = 0) && true",
-        ),
-        (
-            "(len=1&&dir=0)||false",
-            "len = 1 && dir = 0 || false",
-        ),
-        (
-            "(len=1||dir=0)||false",
-            "(len = 1 || dir = 0) || false",
-        ),
+        ("(len=1||dir=0)&&(true)", "(len = 1 || dir = 0) && true"),
+        ("(len=1&&dir=0)||false", "len = 1 && dir = 0 || false"),
+        ("(len=1||dir=0)||false", "(len = 1 || dir = 0) || false"),
         (
             "true||(false||(true&&(false&&true)))",
             "true || (false || true && (false && true))",
         ),
         ("seq-ack+1%2>=win", "seq - ack + 1 % 2 >= win"),
         ("ttl<0x40&&old!=new", "ttl < 64 && old != new"),
-        (
-            "18446744073709551615>next",
-            "18446744073709551615 > next",
-        ),
+        ("18446744073709551615>next", "18446744073709551615 > next"),
         ("255.255.255.255<=dst", "4294967295 <= dst"),
         (
             "sport=dport&&fresh=rexlen&&rexdiff=fault&&class=src",
@@ -116,10 +104,7 @@ fn terms_are_lists_of_their_members(rt: HostRuntime) -> Result<(), Fail> {
     if let Term::And(chain) = filter.term() {
         members = chain.as_slice().len();
         if let Some(Term::Cmp(sum, Op::Gt, _)) = chain.as_slice().get(1) {
-            let steps = [
-                (Join::Plus, Atom::Fact(10)),
-                (Join::Minus, Atom::Number(2)),
-            ];
+            let steps = [(Join::Plus, Atom::Fact(10)), (Join::Minus, Atom::Number(2))];
             assert_eq!(rt; sum.first, Atom::Number(1));
             assert_eq!(rt; sum.rest.as_slice(), steps.as_slice());
         }
