@@ -71,7 +71,7 @@ StandsFor-begun table flows after records r callbacks s pasts stands none is pla
 -- ---- a packet of no connection
 
 pub stray_record : (s : Stamped) (class : Class) (head : Option Head) (pasts : List Past) (r : Record) → IsStray s.arrival.packet class head pasts
-    → r ≡ record { name = s.arrival.number; kind = Orphan class; version = s.version; entries = calls s.arrival.number first_active (orphan_raises class head) }
+    → r ≡ record { name = s.arrival.number; kind = Orphan class; version = s.version; entries = calls s.arrival.number first_active (orphan_raises class head); drops = []; fields = [] }
     → r ≡ record_of (begun s)
 unfolding orphaned
 stray_record s class head pasts r stray is = rw (stray.shut, stray.kind, stray.raises) is
@@ -120,13 +120,13 @@ opening_stands table number head payload flow after entries over opening client 
 
 opening_record : (table : TableRows) (number : ℕ) (head : Head) (payload : List ℕ) (flow after : Flow) (entries : List Entry) (over : Bool) (r : Record) → opens (Segment head payload) ≡ true
     → flow.client ≡ source_of head → FlowStandsFor table flow [] fresh → IsStep table flow after [] entries number head payload over
-    → r ≡ record { name = number; kind = Conn (source_of head) (destination_of head); version = 0; entries = entries }
+    → r ≡ record { name = number; kind = Conn (source_of head) (destination_of head); version = 0; entries = entries; drops = []; fields = [] }
     → r ≡ record_of (begun (stamp_of number (Segment head payload)))
 unfolding kind_of
 opening_record table number head payload flow after entries over r opening client new step is =
     let made = (opening_stands table number head payload flow after entries over opening client new step).made in
-    is ∙ ap (λ l. record { name = number; kind = Conn (source_of head) (destination_of head); version = 0; entries = l }) made
-    ∙ ap (λ k. record { name = number; kind = k; version = 0; entries = (begun (stamp_of number (Segment head payload))).history.entries })
+    is ∙ ap (λ l. record { name = number; kind = Conn (source_of head) (destination_of head); version = 0; entries = l; drops = []; fields = [] }) made
+    ∙ ap (λ k. record { name = number; kind = k; version = 0; entries = (begun (stamp_of number (Segment head payload))).history.entries; drops = []; fields = [] })
     (ap (λ b. if b then Conn (source_of head) (destination_of head) else Orphan Tcp) (sym opening))
 
 opening_flow : (table : TableRows) (number : ℕ) (head : Head) (payload : List ℕ) (flow after : Flow) (entries : List Entry) (over : Bool) → opens (Segment head payload) ≡ true
@@ -161,7 +161,7 @@ left_of_and false b both = absurd (cc)
 
 pub StandsFor-opened : (table : TableRows) (flows after : Flows Flow) (records : List Record) (r : Record) (callbacks number : ℕ) (head : Head) (payload : List ℕ) (key : Ends) (flow stepped : Flow) (entries : List Entry) (over : Bool) (pasts : List Past)
     → StandsFor table flows records callbacks pasts → key ≡ key_of_head head → found flows key ≡ None → opens (Segment head payload) ≡ true
-    → r ≡ record { name = number; kind = Conn (source_of head) (destination_of head); version = 0; entries = entries }
+    → r ≡ record { name = number; kind = Conn (source_of head) (destination_of head); version = 0; entries = entries; drops = []; fields = [] }
     → flow.client ≡ source_of head → FlowStandsFor table flow [] fresh → IsStep table flow stepped [] entries number head payload over → stepped.place ≡ length pasts
     → ((other : Ends) → found after other ≡ (if not over && same_key key other then Some stepped else found flows other))
     → StandsFor table after (records ++ r ∷ []) (callbacks + length r.entries) (added (stamp_of number (Segment head payload)) pasts)

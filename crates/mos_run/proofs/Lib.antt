@@ -9,3 +9,4 @@ pub mod Onward
 pub mod Replaying
 pub mod Restricted
 pub mod Growing
+pub mod Tidiness

@@ -30,7 +30,7 @@ pub record IsStep (table : TableRows) (flow after : Flow) (before entries : List
 
 -- a record with other callbacks
 abbrev pub with_entries : List Entry → Record → Record
-with_entries entries r = record { name = r.name; kind = r.kind; version = r.version; entries = entries }
+with_entries entries r = record r { entries = entries }
 
 -- the flow of a key made a step, its record has the callbacks, and the others are as they were
 pub record Steps (table : TableRows) (old new : Flows Flow) (records shown : List Record) (key : Ends) (number : ℕ) (head : Head) (payload : List ℕ) (over : Bool) (more : ℕ) : Type 0 where

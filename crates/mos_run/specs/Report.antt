@@ -16,12 +16,15 @@ kind_of (Segment head payload) =
     if opens (Segment head payload) then Conn (source_of head) (destination_of head) else Orphan Tcp
 kind_of (NoSegment class) = Orphan class
 
+-- nothing is dropped, and no field is counted
 abbrev pub record_of : Past → Record
 record_of past = record {
   name = past.first.number;
   kind = kind_of past.first.packet;
   version = past.version;
   entries = past.history.entries;
+  drops = [];
+  fields = [];
 }
 
 -- the packets of captured frames, numbered from n on

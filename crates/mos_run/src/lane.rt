@@ -13,7 +13,7 @@ ghost use Rattle.mos_run.specs.Lane.{StandsFor, IsStray, stamp_of};
 use crate::flow::{Arrived, Flow};
 use crate::flows::{follow, keep};
 use crate::monitor::Monitor;
-use app_api::EntryList;
+use app_api::{DropList, EntryList, FieldList};
 use builtin_events::orphan_raise;
 use flow_table::{Endpoint, FlowTable, Key};
 use packet_views::{Class, Head};
@@ -34,15 +34,21 @@ pub(crate) struct Lane {
     ghost counted: { (key : Ends) → ForSome (found flows key) (λ flow. flow.count ≤ packets) },
 }
 
-// A record without callbacks.
+// A record without callbacks. Nothing is dropped or counted yet.
 fn record_without_calls(alloc: Global, number: u64, kind: RecordKind) -> Record
-    ensures { result ≡ record { name = number; kind = kind; version = 0; entries = [] } }
+    ensures { result ≡ record { name = number; kind = kind; version = 0; entries = []; drops = []; fields = [] } }
 {
     Record {
         name: number,
         kind,
         version: 0,
         entries: EntryList {
+            items: Vec::new(alloc),
+        },
+        drops: DropList {
+            items: Vec::new(alloc),
+        },
+        fields: FieldList {
             items: Vec::new(alloc),
         },
     }

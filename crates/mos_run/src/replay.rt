@@ -1,11 +1,12 @@
 //! Reads a capture front to back into the records of its packets.
 
-ghost use Rattle.std.specs.Prelude.{◌≡◌, ◌+◌, ◌*◌, ◌<◌, ◌≤◌, ◌^◌, ℕ, List, OnOk, IsErrOf, IfErr, true, false, ◌⊎◌, ◌≢◌, Err, length};
+ghost use Rattle.std.specs.Prelude.{◌≡◌, ◌+◌, ◌*◌, ◌<◌, ◌≤◌, ◌^◌, ℕ, List, OnOk, IsErrOf, IfErr, IfOk, IsTrue, true, false, ◌⊎◌, ◌≢◌, Err, length};
 ghost use Rattle.mos_bytes.specs.Causes.{HasCauseOf};
 ghost use Rattle.mos_run.specs.Lane.{StandsFor, stamp_of};
 ghost use Rattle.mos_run.specs.Records.{Past, added};
 ghost use Rattle.packet_views.specs.Packet.{packet_of};
 ghost use Rattle.mos_run.specs.Replay.{ReplaysAs};
+ghost use Rattle.report_text.specs.Tidy.{tidy};
 
 use crate::lane::Lane;
 use crate::{Report, RunError};
@@ -39,6 +40,7 @@ fn take(alloc: Global, lane: &mut Lane, bytes: &[u8]) -> Result<(), AllocError>
 pub(crate) fn replay<S: Source>(alloc: Global, source: &mut S) -> Result<Report, RunError>
     ensures gives { (bytes : List ℕ) → S.left source.old ≡ Some bytes → ReplaysAs bytes (S.left source.new) result }
     ensures cause { HasCauseOf (S.faults source.old) (S.faults source.new) (IsErrOf result RunError.ReadFault) }
+    ensures tidy { IfOk result (λ report. IsTrue (tidy report.records)) }
     ensures writes_nothing { result ≢ Err RunError.WriteFault }
 {
     let mut capture = Capture::open(source)?;

@@ -1,10 +1,13 @@
-use Rattle.std.proofs.Common.{◌≡◌, ◌+◌, Some, Ok, Err, sym, ap, subst, ◌∙◌, arith}
+use Rattle.std.proofs.Common.{◌≡◌, true, ◌+◌, Some, Ok, Err, sym, ap, subst, ◌∙◌, arith}
 use Rattle.std.proofs.lemmas.Result.{err_from_is_err_and}
 use Rattle.packet_views.specs.Packet.{packet_of}
 use Rattle.pcap_source.specs.Captured.{Captured}
 use Rattle.pcap_source.specs.Reading.{NextGives}
 use Rattle.mos_run.specs.Lane.{StandsFor, stamp_of}
 use Rattle.mos_run.specs.Records.{added}
+use Rattle.report_text.specs.Tidy.{tidy}
+use Rattle.mos_run.specs.declared.report.Report.{Report}
+use Rattle.mos_run.proofs.Tidiness.{IsTidyLane, tidy_lane, tidy_lane-begun, tidy_lane-more}
 use Rattle.mos_run.proofs.Replaying.{Replaying, opened_replay, refused_header, step_told, replayed, ended_replay, refused_record}
 use Rattle.mos_run.proofs.replay.replay.Goals as goal
 
@@ -19,6 +22,7 @@ loop-lane-init g c = record {
   count = c.in_ok-capture.ensures.start.0 ∙ sym c.in_ok-lane.ensures.packets;
   few = omega (arith, c.in_ok-lane.ensures.packets);
   callbacks = omega (arith, c.in_ok-lane.ensures.callbacks);
+  tidy = tidy_lane-begun c.in_ok-lane.lane.monitor.table c.in_ok-lane.lane.flows c.in_ok-lane.lane.records.items c.in_ok-lane.lane.callbacks c.in_ok-lane.lane.packets c.in_ok-lane.ensures.stands;
   faults = c.open.ensures.cause.later;
   replaying = λ bytes told.
       subst (λ n. Replaying bytes (g.S.Source.left c.open.new.source) c.in_ok-capture.capture c.in_ok-lane.lane.monitor.table c.in_ok-lane.lane.flows c.in_ok-lane.lane.records.items c.in_ok-lane.lane.callbacks n) (sym c.in_ok-lane.ensures.packets)
@@ -63,6 +67,10 @@ loop-lane-preserved g c =
       count = moved.count ∙ ap (λ n. n + 1) inv.count ∙ sym counted;
       few = omega (arith, moved.within, moved.count, inv.count, counted);
       callbacks = omega (arith, c.in_ok-take-in-Frame.ensures.callbacks, inv.callbacks, counted);
+      tidy =
+          let more = tidy_lane-more c.loop-lane.lane.monitor.table c.take.new.lane.monitor.table c.loop-lane.lane.flows c.take.new.lane.flows c.loop-lane.lane.records.items c.take.new.lane.records.items c.loop-lane.lane.callbacks c.take.new.lane.callbacks
+          c.loop-lane.lane.packets (packet_of c.as_slice.result.now) inv.tidy c.in_ok-take-in-Frame.ensures.stands in
+          subst (λ n. IsTidyLane c.take.new.lane.monitor.table c.take.new.lane.flows c.take.new.lane.records.items c.take.new.lane.callbacks n) (sym counted) more;
       faults = omega (arith, inv.faults, c.next.ensures.cause.later);
       replaying = λ bytes told.
           let r = inv.replaying bytes told in
@@ -73,3 +81,13 @@ loop-lane-preserved g c =
           (c.in_ok-take-in-Frame.ensures.stands pasts stands)) in
           subst (λ n. Replaying bytes (g.S.Source.left c.next.new.source) c.next.new.self c.take.new.lane.monitor.table c.take.new.lane.flows c.take.new.lane.records.items c.take.new.lane.callbacks n) (sym counted) next;
     }
+
+pub returns-in-Tail-clause-tidy : goal.returns-in-Tail-clause-tidy
+returns-in-Tail-clause-tidy g c =
+    subst (λ (r : Report). tidy r.records ≡ true) (sym c.report.ensures)
+    (tidy_lane c.loop-lane.lane.monitor.table c.loop-lane.lane.flows c.loop-lane.lane.records.items c.loop-lane.lane.callbacks c.loop-lane.lane.packets c.loop-lane.invariant.tidy)
+
+pub returns-in-End-clause-tidy : goal.returns-in-End-clause-tidy
+returns-in-End-clause-tidy g c =
+    subst (λ (r : Report). tidy r.records ≡ true) (sym c.report-in-End.ensures)
+    (tidy_lane c.loop-lane.lane.monitor.table c.loop-lane.lane.flows c.loop-lane.lane.records.items c.loop-lane.lane.callbacks c.loop-lane.lane.packets c.loop-lane.invariant.tidy)

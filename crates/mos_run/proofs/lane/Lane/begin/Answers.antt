@@ -75,7 +75,7 @@ returns-clause-stands c =
     rw (c.in_ok-push.ensures.items, c.as_slice.ensures)
     (StandsFor-opened table c.args.self.now.flows c.keep.new.flows c.args.self.now.records.items _ c.args.self.now.callbacks number c.args.arrived.now.head.now c.args.arrived.now.payload.now
     c.args.key flow c.step.new.self entries c.in_ok-over.over pasts stands c.requires.key c.requires.absent c.requires.opens
-    (ap (λ (r : Record). record { name = r.name; kind = r.kind; version = r.version; entries = entries }) c.record_without_calls-opened.ensures
-    ∙ ap (λ (k : RecordKind). record { name = number; kind = k; version = 0; entries = entries }) c.connection.ensures)
+    (ap (λ (r : Record). record r { entries = entries }) c.record_without_calls-opened.ensures
+    ∙ ap (λ (k : RecordKind). record { name = number; kind = k; version = 0; entries = entries; drops = []; fields = [] }) c.connection.ensures)
     (c.new-flow.ensures.client ∙ c.source_of-client.ensures) new step last left))
     c.keep.ensures.left

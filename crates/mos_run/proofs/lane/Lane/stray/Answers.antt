@@ -1,4 +1,4 @@
-use Rattle.std.proofs.Common.{◌≡◌, ◌++◌, refl, ap, ◌∙◌}
+use Rattle.std.proofs.Common.{◌≡◌, [], ◌++◌, refl, ap, ◌∙◌}
 use Rattle.std.specs.Option.{option_copied}
 use Rattle.builtin_events.specs.Raises.{orphan_raises}
 use Rattle.report_text.specs.declared.record.RecordKind.TheVariants.{Orphan}
@@ -23,7 +23,7 @@ returns-clause-stands c = λ pasts packet stray stands.
     rw (c.in_ok-push.ensures.items, c.as_slice.ensures)
     (StandsFor-begun table flows flows c.args.self.now.records.items _ c.args.self.now.callbacks s pasts stands stray.untaken
     (stray_record s c.args.class _ pasts _ stray
-    (ap (λ (r : Record). record { name = r.name; kind = r.kind; version = r.version; entries = c.call_first.new.entries }) c.record_without_calls-orphan.ensures
-    ∙ ap (λ l. record { name = number; kind = Orphan c.args.class; version = 0; entries = l }) made))
+    (ap (λ (r : Record). record r { entries = c.call_first.new.entries }) c.record_without_calls-orphan.ensures
+    ∙ ap (λ l. record { name = number; kind = Orphan c.args.class; version = 0; entries = l; drops = []; fields = [] }) made))
     (λ key. unopened table flows flows pasts (begun s) key (stray_holds s key stray.shut) refl (stands.placed key))
     (λ key passes. stray_alone s key pasts stray.shut passes))
