@@ -98,7 +98,7 @@ StandsFor-begun control content flows after records r callbacks s pasts stands n
 -- ---- a packet of no connection
 
 pub stray_record : (control : ControlState) (s : VersionedPacket) (class : Class) (head : Option Head) (pasts : List RecordSoFar) (r : Record) → IsStray s.arrival.sight class head pasts
-    → r ≡ record { name = s.arrival.number; kind = Orphan class; version = s.version; entries = calls control s.arrival.number (first_active control) (orphan_raises class head) }
+    → r ≡ record { name = s.arrival.number; kind = Orphan class; version = s.version; entries = calls control s.arrival.number (first_active control) (orphan_raises class head); drops = []; fields = [] }
     → r ≡ record_of (started_by (λ _. control) s)
 unfolding orphaned
 stray_record control s class head pasts r stray is = rw (stray.shut, stray.kind, stray.raises) is
@@ -147,13 +147,13 @@ opening_stands control content number moment segment flow after entries over ope
 
 opening_record : (control : ControlState) (content : Shared → TreeLists) (number : ℕ) (moment : Moment) (segment : Segment) (flow after : Flow) (entries : List Entry) (over : Bool) (r : Record) → opens (Tcp segment) ≡ true
     → flow.client ≡ segment.sender → FlowStandsFor control content flow [] (fresh control) → IsStep control content flow after [] entries number segment over
-    → r ≡ record { name = number; kind = Conn segment.sender segment.receiver; version = 0; entries = entries }
+    → r ≡ record { name = number; kind = Conn segment.sender segment.receiver; version = 0; entries = entries; drops = []; fields = [] }
     → r ≡ record_of (started_by (λ _. control) (arrived number moment (Tcp segment)))
 unfolding kind_of
 opening_record control content number moment segment flow after entries over r opening client new step is =
     let made = (opening_stands control content number moment segment flow after entries over opening client new step).made in
-    is ∙ ap (λ l. record { name = number; kind = Conn segment.sender segment.receiver; version = 0; entries = l }) made
-    ∙ ap (λ k. record { name = number; kind = k; version = 0; entries = (started_by (λ _. control) (arrived number moment (Tcp segment))).history.entries })
+    is ∙ ap (λ l. record { name = number; kind = Conn segment.sender segment.receiver; version = 0; entries = l; drops = []; fields = [] }) made
+    ∙ ap (λ k. record { name = number; kind = k; version = 0; entries = (started_by (λ _. control) (arrived number moment (Tcp segment))).history.entries; drops = []; fields = [] })
     (ap (λ b. if b then Conn segment.sender segment.receiver else Orphan Class.Tcp) (sym opening))
 
 opening_flow : (control : ControlState) (content : Shared → TreeLists) (number : ℕ) (moment : Moment) (segment : Segment) (flow after : Flow) (entries : List Entry) (over : Bool) → opens (Tcp segment) ≡ true
@@ -188,7 +188,7 @@ left_of_and false b both = absurd (cc)
 
 pub StandsFor-opened : (control : ControlState) (content : Shared → TreeLists) (flows after : Flows Flow) (records : List Record) (r : Record) (callbacks number : ℕ) (moment : Moment) (segment : Segment) (key : EndpointPair) (flow stepped : Flow) (entries : List Entry) (over : Bool) (pasts : List RecordSoFar)
     → AreKept control content flows records callbacks pasts → key ≡ key_of_segment segment → found flows key ≡ None → opens (Tcp segment) ≡ true
-    → r ≡ record { name = number; kind = Conn segment.sender segment.receiver; version = 0; entries = entries }
+    → r ≡ record { name = number; kind = Conn segment.sender segment.receiver; version = 0; entries = entries; drops = []; fields = [] }
     → flow.client ≡ segment.sender → FlowStandsFor control content flow [] (fresh control) → IsStep control content flow stepped [] entries number segment over → stepped.place ≡ length pasts
     → ((other : EndpointPair) → found after other ≡ (if not over && same_key key other then Some stepped else found flows other))
     → AreKept control content after (records ++ r ∷ []) (callbacks + length r.entries) (added (λ _. control) (arrived number moment (Tcp segment)) pasts)

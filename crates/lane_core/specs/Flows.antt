@@ -40,7 +40,7 @@ pub record IsStep (control : ControlState) (content : Shared → TreeLists) (flo
 
 -- a record with other callbacks
 abbrev pub with_entries : List Entry → Record → Record
-with_entries entries r = record { name = r.name; kind = r.kind; version = r.version; entries = entries }
+with_entries entries r = record r { entries = entries }
 
 -- the flow of a key made a step, its record has the callbacks, and the others are as they were
 pub record Steps (control : ControlState) (content : Shared → TreeLists) (old new : Flows Flow) (records shown : List Record) (key : EndpointPair) (number : ℕ) (segment : Segment) (over : Bool) (more : ℕ) : Type 0 where

@@ -12,12 +12,15 @@ unfoldable pub kind_of : Sight → RecordKind
 kind_of (Tcp segment) = if opens (Tcp segment) then Conn segment.sender segment.receiver else Orphan Class.Tcp
 kind_of (Other class) = Orphan class
 
+-- nothing is dropped, and no field is counted
 abbrev pub record_of : RecordSoFar → Record
 record_of so_far = record {
   name = so_far.first.number;
   kind = kind_of so_far.first.sight;
   version = so_far.version;
   entries = so_far.history.entries;
+  drops = [];
+  fields = [];
 }
 
 unfoldable pub callbacks_of : List RecordSoFar → ℕ

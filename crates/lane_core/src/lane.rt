@@ -18,7 +18,7 @@ use crate::flows::{follow, keep};
 use crate::kept::Kept;
 use crate::monitor::Monitor;
 use crate::segment::Segment;
-use app_api::EntryList;
+use app_api::{DropList, EntryList, FieldList};
 use builtin_events::orphan_raise;
 use flow_table::{FlowTable, Key};
 use packet_views::{Class, Head, View, view_of};
@@ -51,15 +51,21 @@ pub struct LaneEnd {
     pub callbacks: u64,
 }
 
-// A record without callbacks.
+// A record without callbacks. Nothing is dropped or counted yet.
 fn record_without_calls(alloc: Global, number: u64, kind: RecordKind) -> Record
-    ensures { result ≡ record { name = number; kind = kind; version = 0; entries = [] } }
+    ensures { result ≡ record { name = number; kind = kind; version = 0; entries = []; drops = []; fields = [] } }
 {
     Record {
         name: number,
         kind,
         version: 0,
         entries: EntryList {
+            items: Vec::new(alloc),
+        },
+        drops: DropList {
+            items: Vec::new(alloc),
+        },
+        fields: FieldList {
             items: Vec::new(alloc),
         },
     }

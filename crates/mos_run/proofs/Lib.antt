@@ -1,2 +1,3 @@
 pub mod Onward
 pub mod Replaying
+pub mod Tidiness

@@ -1,8 +1,9 @@
 //! Reads a capture front to back into the records of its packets.
 
-ghost use Rattle.std.specs.Prelude.{◌≡◌, ◌+◌, ◌*◌, ◌<◌, ◌≤◌, ◌^◌, ℕ, List, OnOk, IsErrOf, IfErr, true, false, ◌⊎◌, ◌≢◌, Err, length};
+ghost use Rattle.std.specs.Prelude.{◌≡◌, ◌+◌, ◌*◌, ◌<◌, ◌≤◌, ◌^◌, ℕ, List, OnOk, IsErrOf, IfErr, IfOk, IsTrue, true, false, ◌⊎◌, ◌≢◌, Err, length};
 ghost use Rattle.mos_bytes.specs.Causes.{HasCauseOf};
 ghost use Rattle.mos_run.specs.Replay.{ReplaysAs};
+ghost use Rattle.report_text.specs.Tidy.{tidy};
 
 use crate::{Report, RunError};
 use lane_core::{Lane, LaneEnd};
@@ -16,6 +17,7 @@ use std::alloc::Global;
 pub(crate) fn replay<S: Source>(alloc: Global, source: &mut S) -> Result<Report, RunError>
     ensures gives { (bytes : List ℕ) → S.left source.old ≡ Some bytes → ReplaysAs bytes (S.left source.new) result }
     ensures cause { HasCauseOf (S.faults source.old) (S.faults source.new) (IsErrOf result RunError.ReadFault) }
+    ensures tidy { IfOk result (λ report. IsTrue (tidy report.records)) }
     ensures writes_nothing { result ≢ Err RunError.WriteFault }
 {
     let mut capture = Capture::open(source)?;

@@ -1,3 +1,5 @@
 pub mod Words
 pub mod Lines
 pub mod Report
+pub mod Tidy
+pub mod Ranges

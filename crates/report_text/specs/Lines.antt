@@ -2,11 +2,12 @@
 use Rattle.std.specs.Prelude.{ℕ, List, ◌++◌, codes}
 use Rattle.std.specs.Fmt.{decimal}
 use Rattle.app_api.specs.declared.entry.Entry.{Entry}
+use Rattle.app_api.specs.declared.reaction.Reason.{Reason}
 use Rattle.report_text.specs.declared.record.RecordKind.{RecordKind}
 use Rattle.report_text.specs.declared.record.RecordKind.TheVariants.{Conn, Orphan}
 use Rattle.report_text.specs.declared.record.Record.{Record}
 use Rattle.report_text.specs.declared.record.Totals.{Totals}
-use Rattle.report_text.specs.Words.{class_text, hook_text, event_text, endpoint_text, seen_text}
+use Rattle.report_text.specs.Words.{class_text, hook_text, event_text, endpoint_text, seen_text, reason_text}
 
 -- a connection with its client and its server, or an orphan with its class
 abbrev pub kind_text : ℕ → RecordKind → List ℕ
@@ -20,6 +21,14 @@ unfoldable pub callback_line : Entry → List ℕ
 callback_line e =
     codes "cb " ++ (decimal e.index ++ (codes " " ++ (hook_text e.hook ++ (codes " " ++ (event_text e.event
     ++ (codes " " ++ (decimal e.reg ++ (seen_text e.seen ++ codes "\n"))))))))
+
+-- a dropped packet's place in the capture, and who asked for the drop
+unfoldable pub drop_line : ℕ × Reason → List ℕ
+drop_line d = codes "drop " ++ (decimal d.0 ++ (codes " " ++ (reason_text d.1 ++ codes "\n")))
+
+-- a field's name and its value
+unfoldable pub field_line : List ℕ × ℕ → List ℕ
+field_line f = codes "field " ++ (f.0 ++ (codes " " ++ (decimal f.1 ++ codes "\n")))
 
 unfoldable pub totals_line : Totals → List ℕ
 totals_line t =

@@ -13,7 +13,8 @@ use Rattle.packet_views.specs.declared.packet.Class.{Class}
 use Rattle.packet_views.specs.declared.packet.Class.TheVariants.{Tcp, Other, Fragment, Cut, Bad}
 use Rattle.app_api.specs.declared.entry.Seen.{Seen}
 use Rattle.app_api.specs.declared.entry.Seen.TheVariants.{Nothing, Next, At}
-use Rattle.app_api.specs.declared.events.TheConstants.{START, PKT_IN, REXMIT, NEW_DATA, ERROR, STATE, END, ORPHAN}
+use Rattle.app_api.specs.declared.reaction.Reason.{Reason}
+use Rattle.app_api.specs.declared.reaction.Reason.TheVariants.{Reg, Rule}
 
 abbrev pub class_text : Class → List ℕ
 class_text Tcp = codes "tcp"
@@ -26,18 +27,20 @@ abbrev pub hook_text : Hook → List ℕ
 hook_text Snd = codes "snd"
 hook_text Rcv = codes "rcv"
 
+-- the numbers of the built-in events with their names
+abbrev pub event_names : List (ℕ × List ℕ)
+event_names =
+    (256, codes "start") ∷ (257, codes "pkt_in") ∷ (258, codes "rexmit") ∷ (259, codes "new_data")
+    ∷ (260, codes "error") ∷ (261, codes "state") ∷ (262, codes "end") ∷ (263, codes "orphan") ∷ []
+
+-- the name that a number has in a list, else the number
+abbrev pub name_or_number : List (ℕ × List ℕ) → ℕ → List ℕ
+name_or_number [] n = decimal n
+name_or_number (named ∷ others) n = if n == named.0 then named.1 else name_or_number others n
+
 -- a built-in event by its name, a user-defined one by its number
 unfoldable pub event_text : ℕ → List ℕ
-event_text event =
-    if event == START then codes "start"
-    else if event == PKT_IN then codes "pkt_in"
-    else if event == REXMIT then codes "rexmit"
-    else if event == NEW_DATA then codes "new_data"
-    else if event == ERROR then codes "error"
-    else if event == STATE then codes "state"
-    else if event == END then codes "end"
-    else if event == ORPHAN then codes "orphan"
-    else decimal event
+event_text event = name_or_number event_names event
 
 -- the eight groups of 16 bits of an IPv6 address
 unfoldable pub groups_of : ℕ → List ℕ
@@ -75,3 +78,8 @@ abbrev pub seen_text : Seen → List ℕ
 seen_text Nothing = []
 seen_text (Next at missed bytes) = codes " peek " ++ (decimal at ++ (codes " " ++ (decimal missed ++ (codes " " ++ bytes_text bytes))))
 seen_text (At off pieces) = codes " at " ++ (decimal off ++ pieces_text pieces)
+
+-- who asked for a drop: a registration or a rule, by its number
+abbrev pub reason_text : Reason → List ℕ
+reason_text (Reg n) = codes "reg " ++ decimal n
+reason_text (Rule n) = codes "rule " ++ decimal n

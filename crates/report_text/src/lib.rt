@@ -3,10 +3,12 @@
 
 mod lines;
 pub mod record;
+pub mod tidy;
 mod words;
 pub mod write;
 
 pub use record::{Record, RecordKind, RecordList, Totals};
+pub use tidy::is_tidy;
 pub use write::{TextError, write_report, write_totals};
 
 #[cfg(test)]

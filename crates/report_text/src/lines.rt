@@ -1,11 +1,12 @@
 //! The lines of a report, each put behind what a text already holds.
 
-ghost use Rattle.std.specs.Prelude.{◌≡◌, ◌++◌, OnOk, string_bytes};
-ghost use Rattle.report_text.specs.Lines.{kind_text, first_line, callback_line, totals_line};
+ghost use Rattle.std.specs.Prelude.{◌≡◌, ◌++◌, IsTrue, OnOk, string_bytes};
+ghost use Rattle.report_text.specs.Lines.{kind_text, first_line, callback_line, drop_line, field_line, totals_line};
+ghost use Rattle.app_api.specs.App.{is_field_name};
 
 use crate::record::{Record, RecordKind, Totals};
-use crate::words::{class_name, hook_name, push_endpoint, push_event, push_seen};
-use app_api::Entry;
+use crate::words::{class_name, hook_name, push_endpoint, push_event, push_name, push_reason, push_seen};
+use app_api::{Entry, Reason};
 use std::alloc::{AllocError, Global};
 use std::fmt::Write;
 
@@ -51,6 +52,25 @@ pub(crate) fn push_callback(
     write!(line, " {reg}")?;
     push_seen(alloc, line, &entry.seen)?;
     line.push_str("\n")
+}
+
+#[tactic(auto, unfolding(crate::specs::Lines::drop_line))]
+pub(crate) fn push_drop(line: &mut String, index: u64, reason: Reason) -> Result<(), AllocError>
+    ensures { OnOk result (string_bytes line.new ≡ string_bytes line.old ++ drop_line (index, reason)) }
+{
+    write!(line, "drop {index} ")?;
+    push_reason(line, reason)?;
+    line.push_str("\n")
+}
+
+#[tactic(auto, unfolding(crate::specs::Lines::field_line))]
+pub(crate) fn push_field(line: &mut String, name: &[u8], value: u64) -> Result<(), AllocError>
+    requires { IsTrue (is_field_name name.now) }
+    ensures { OnOk result (string_bytes line.new ≡ string_bytes line.old ++ field_line (name.now, value)) }
+{
+    line.push_str("field ")?;
+    push_name(line, name)?;
+    writeln!(line, " {value}")
 }
 
 #[tactic(auto, unfolding(crate::specs::Lines::totals_line))]

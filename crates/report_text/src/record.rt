@@ -2,7 +2,7 @@
 
 ghost use Rattle.std.specs.Prelude.{◌≡◌};
 
-use app_api::EntryList;
+use app_api::{DropList, EntryList, FieldList};
 use flow_table::Endpoint;
 use packet_views::Class;
 use std::marker::Model;
@@ -16,7 +16,7 @@ pub enum RecordKind {
     Orphan { class: Class },
 }
 
-/// A connection, or a packet of none, with the callbacks that it caused.
+/// A connection, or a packet of none, with what it caused.
 #[derive(Debug, Drop)]
 pub struct Record {
     /// The number of its first packet in the capture, from 0.
@@ -26,6 +26,10 @@ pub struct Record {
     pub version: u32,
     /// Its callbacks in the order in which they were made.
     pub entries: EntryList,
+    /// Its packets that were dropped, by their places in the capture, each with who asked for it.
+    pub drops: DropList,
+    /// What the application counted for it. An orphan has none.
+    pub fields: FieldList,
 }
 
 /// Records in order of their names. Contracts see the list.

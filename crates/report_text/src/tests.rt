@@ -1,7 +1,7 @@
 //! Each form of a line, and what a sink that fails has taken.
 
-use crate::{Record, RecordKind, TextError, Totals, write_report, write_totals};
-use app_api::{Bytes, Entry, EntryList, PieceList, Seen};
+use crate::{Record, RecordKind, RecordList, TextError, Totals, is_tidy, write_report, write_totals};
+use app_api::{Bytes, DropList, Entry, EntryList, FieldList, PieceList, Reason, Seen};
 use flow_table::Endpoint;
 use mos_bytes::MemSink;
 use native_filters::Hook;
@@ -54,12 +54,19 @@ fn sink(alloc: Global, fails: u64) -> Result<MemSink, AllocError> {
     Ok(MemSink::new(vec![in alloc; 0; 512]?, [fails].to_vec(alloc)?))
 }
 
-fn record(name: u64, kind: RecordKind, version: u32, items: Vec<Entry>) -> Record {
+// A record without drops and fields.
+fn record(alloc: Global, name: u64, kind: RecordKind, version: u32, items: Vec<Entry>) -> Record {
     Record {
         name,
         kind,
         version,
         entries: EntryList { items },
+        drops: DropList {
+            items: Vec::new(alloc),
+        },
+        fields: FieldList {
+            items: Vec::new(alloc),
+        },
     }
 }
 
@@ -80,7 +87,7 @@ fn handshake(alloc: Global) -> Result<Record, AllocError> {
         items.push(entry(index, Hook::Snd, app_api::PKT_IN, 1, Seen::Nothing))?;
         items.push(entry(index, Hook::Rcv, app_api::PKT_IN, 2, Seen::Nothing))?;
     }
-    Ok(record(0, OVER_IPV4, 0, items))
+    Ok(record(alloc, 0, OVER_IPV4, 0, items))
 }
 
 fn bytes(alloc: Global, bytes: &[u8]) -> Result<Bytes, AllocError> {
@@ -112,7 +119,9 @@ fn peekat(alloc: Global, runs: &[(u64, &[u8])]) -> Result<Seen, AllocError> {
 fn a_connection(rt: HostRuntime) -> Result<(), Fail> {
     let alloc = rt.alloc();
     let mut out = sink(alloc, 99)?;
-    write_report(alloc, &mut out, &[handshake(alloc)?], &COUNTS)?;
+    let records = [handshake(alloc)?];
+    assert!(rt; is_tidy(&records));
+    write_report(alloc, &mut out, &records, &COUNTS)?;
     assert_eq!(rt; out.bytes(), HANDSHAKE);
     Ok(())
 }
@@ -129,10 +138,11 @@ fn orphans_and_ipv6(rt: HostRuntime) -> Result<(), Fail> {
         (40, Class::Bad),
     ] {
         let kind = RecordKind::Orphan { class };
-        records.push(record(name, kind, 5, Vec::new(alloc)))?;
+        records.push(record(alloc, name, kind, 5, Vec::new(alloc)))?;
     }
-    records.push(record(41, OVER_IPV6, 0, Vec::new(alloc)))?;
+    records.push(record(alloc, 41, OVER_IPV6, 0, Vec::new(alloc)))?;
     let mut out = sink(alloc, 99)?;
+    assert!(rt; is_tidy(records.as_slice()));
     write_report(alloc, &mut out, records.as_slice(), &COUNTS)?;
     let want: &[u8] = b"orphan 0 tcp v 5\n\
         orphan 1 other v 5\n\
@@ -161,7 +171,9 @@ fn what_callbacks_saw(rt: HostRuntime) -> Result<(), Fail> {
         items.push(entry(index, Hook::Rcv, event, 16, seen))?;
     }
     let mut out = sink(alloc, 99)?;
-    write_report(alloc, &mut out, &[record(0, OVER_IPV4, 4, items)], &COUNTS)?;
+    let records = [record(alloc, 0, OVER_IPV4, 4, items)];
+    assert!(rt; is_tidy(&records));
+    write_report(alloc, &mut out, &records, &COUNTS)?;
     let want: &[u8] = b"conn 0 10.0.0.1:1000 > 10.0.0.2:80 v 4\n\
         cb 3 rcv 1 16 at 0 4:45464748\n\
         cb 4 rcv 1 16 at 0 0:4142434445464748\n\
@@ -183,7 +195,9 @@ fn names_of_events(rt: HostRuntime) -> Result<(), Fail> {
         items.push(entry(9, Hook::Snd, event, 255, Seen::Nothing))?;
     }
     let mut out = sink(alloc, 99)?;
-    write_report(alloc, &mut out, &[record(9, OVER_IPV4, 0, items)], &COUNTS)?;
+    let records = [record(alloc, 9, OVER_IPV4, 0, items)];
+    assert!(rt; is_tidy(&records));
+    write_report(alloc, &mut out, &records, &COUNTS)?;
     let want: &[u8] = b"conn 9 10.0.0.1:1000 > 10.0.0.2:80 v 0\n\
         cb 9 snd 255 255\n\
         cb 9 snd start 255\n\
@@ -221,11 +235,99 @@ fn the_totals(rt: HostRuntime) -> Result<(), Fail> {
 #[test]
 fn a_write_that_fails(rt: HostRuntime) -> Result<(), Fail> {
     let alloc = rt.alloc();
+    let records = [handshake(alloc)?];
+    assert!(rt; is_tidy(&records));
     for (call, taken) in [(0, 19), (1, 48), (4, 102), (7, 172)] {
         let mut out = sink(alloc, call)?;
-        let written = write_report(alloc, &mut out, &[handshake(alloc)?], &COUNTS);
+        let written = write_report(alloc, &mut out, &records, &COUNTS);
         assert_eq!(rt; written, Err(TextError::WriteFault), "call {call}");
         assert_eq!(rt; Some(out.bytes()), HANDSHAKE.get(..taken), "call {call}");
     }
+    Ok(())
+}
+
+// A connection of which three packets were dropped, with the fields of an application that counts.
+#[test]
+fn drops_and_fields(rt: HostRuntime) -> Result<(), Fail> {
+    let alloc = rt.alloc();
+    let mut items = Vec::new(alloc);
+    items.push(entry(3, Hook::Snd, 7, 16, Seen::Nothing))?;
+    let mut of = record(alloc, 3, OVER_IPV4, 2, items);
+    for (index, reason) in [
+        (3, Reason::Reg(16)),
+        (12, Reason::Rule(0)),
+        (u64::MAX, Reason::Rule(255)),
+    ] {
+        of.drops.items.push((index, reason))?;
+    }
+    for (name, value) in [("up_pkts", 5), ("t0", u64::MAX), ("_", 0)] {
+        of.fields.items.push((bytes(alloc, name.as_bytes())?, value))?;
+    }
+    let mut out = sink(alloc, 99)?;
+    let records = [of];
+    assert!(rt; is_tidy(&records));
+    write_report(alloc, &mut out, &records, &COUNTS)?;
+    let want: &[u8] = b"conn 3 10.0.0.1:1000 > 10.0.0.2:80 v 2\n\
+        cb 3 snd 7 16\n\
+        drop 3 reg 16\n\
+        drop 12 rule 0\n\
+        drop 18446744073709551615 rule 255\n\
+        field up_pkts 5\n\
+        field t0 18446744073709551615\n\
+        field _ 0\n\
+        end packets 3 records 1 callbacks 6 drops 0 tail 0\n";
+    assert_eq!(rt; out.bytes(), want);
+    Ok(())
+}
+
+fn is_shared<T: Send + Sync>(_: &T) -> bool {
+    true
+}
+
+fn handed_over<T: Send>(value: T) -> T {
+    value
+}
+
+#[test]
+fn threads_hand_over_records(rt: HostRuntime) -> Result<(), Fail> {
+    let alloc = rt.alloc();
+    let mut items = Vec::new(alloc);
+    items.push(handed_over(handshake(alloc)?))?;
+    let list = handed_over(RecordList { items });
+    assert!(rt; is_shared(&OVER_IPV4) && is_shared(&COUNTS));
+    assert_eq!(rt; list.as_slice().len(), 1);
+    assert_eq!(rt; handed_over(COUNTS), COUNTS);
+    assert_eq!(rt; handed_over(OVER_IPV6), OVER_IPV6);
+    Ok(())
+}
+
+// Each rule of tidy records broken alone.
+#[test]
+fn records_that_are_not_tidy(rt: HostRuntime) -> Result<(), Fail> {
+    let alloc = rt.alloc();
+    for event in [0, 264, u16::MAX] {
+        let items = vec![in alloc; entry(0, Hook::Snd, event, 1, Seen::Nothing)]?;
+        assert!(rt; !is_tidy(&[record(alloc, 0, OVER_IPV4, 0, items)]), "event {event}");
+    }
+    let seen = peekat(alloc, &[(0, b"A"), (4, b"")])?;
+    let items = vec![in alloc; entry(0, Hook::Snd, 1, 1, seen)]?;
+    assert!(rt; !is_tidy(&[record(alloc, 0, OVER_IPV4, 0, items)]));
+    for name in ["", "Up", "up-pkts", "up pkts", "\u{e9}"] {
+        let mut of = record(alloc, 0, OVER_IPV4, 0, Vec::new(alloc));
+        of.fields.items.push((bytes(alloc, name.as_bytes())?, 0))?;
+        assert!(rt; !is_tidy(&[of]), "field {name}");
+    }
+    for (first, second) in [(4, 4), (5, 4), (u64::MAX, u64::MAX)] {
+        let mut of = record(alloc, 0, OVER_IPV4, 0, Vec::new(alloc));
+        of.drops.items.push((first, Reason::Rule(0)))?;
+        of.drops.items.push((second, Reason::Rule(0)))?;
+        assert!(rt; !is_tidy(&[of]), "drops {first} {second}");
+        let one = record(alloc, first, OVER_IPV4, 0, Vec::new(alloc));
+        let other = record(alloc, second, OVER_IPV4, 0, Vec::new(alloc));
+        assert!(rt; !is_tidy(&[one, other]), "names {first} {second}");
+    }
+    let mut orphan = record(alloc, 0, RecordKind::Orphan { class: Class::Bad }, 0, Vec::new(alloc));
+    orphan.fields.items.push((bytes(alloc, b"up_pkts")?, 0))?;
+    assert!(rt; !is_tidy(&[orphan]));
     Ok(())
 }

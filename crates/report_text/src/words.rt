@@ -1,9 +1,12 @@
 //! The parts of a line: names of classes, hooks and events, endpoints, and what a callback saw.
 
-ghost use Rattle.std.specs.Prelude.{◌≡◌, ◌++◌, OnOk, string_bytes};
-ghost use Rattle.report_text.specs.Words.{class_text, hook_text, event_text, groups_of, groups_text, v6_text, endpoint_text, bytes_text, piece_text, pieces_text, seen_text};
+ghost use Rattle.std.specs.Prelude.{◌≡◌, ◌==◌, ◌++◌, IfSome, IfNone, IsTrue, is_some, OnOk, string_bytes};
+ghost use Rattle.std.specs.Fmt.{decimal};
+ghost use Rattle.std.specs.List.{list_any};
+ghost use Rattle.report_text.specs.Words.{class_text, hook_text, event_names, event_text, groups_of, groups_text, v6_text, endpoint_text, bytes_text, piece_text, pieces_text, seen_text, reason_text};
+ghost use Rattle.app_api.specs.App.{is_field_name};
 
-use app_api::{Bytes, Seen};
+use app_api::{Bytes, Reason, Seen};
 use flow_table::Endpoint;
 use native_filters::Hook;
 use packet_views::Class;
@@ -32,21 +35,33 @@ pub(crate) fn hook_name(hook: Hook) -> &'static str
     }
 }
 
-// A built-in event by its name, a user-defined one by its number.
+// The name of a built-in event.
 #[tactic(auto, unfolding(crate::specs::Words::event_text))]
+pub(crate) fn event_name(event: u16) -> Option<&'static str>
+    ensures named { IfSome result (λ name. event_text event ≡ name.now) }
+    ensures unnamed { IfNone result (event_text event ≡ decimal event) }
+    ensures some { is_some result ≡ list_any (λ named. named.0 == event) event_names }
+{
+    match event {
+        app_api::START => Some("start"),
+        app_api::PKT_IN => Some("pkt_in"),
+        app_api::REXMIT => Some("rexmit"),
+        app_api::NEW_DATA => Some("new_data"),
+        app_api::ERROR => Some("error"),
+        app_api::STATE => Some("state"),
+        app_api::END => Some("end"),
+        app_api::ORPHAN => Some("orphan"),
+        _ => None,
+    }
+}
+
+// A built-in event by its name, a user-defined one by its number.
 pub(crate) fn push_event(line: &mut String, event: u16) -> Result<(), AllocError>
     ensures { OnOk result (string_bytes line.new ≡ string_bytes line.old ++ event_text event) }
 {
-    match event {
-        app_api::START => line.push_str("start"),
-        app_api::PKT_IN => line.push_str("pkt_in"),
-        app_api::REXMIT => line.push_str("rexmit"),
-        app_api::NEW_DATA => line.push_str("new_data"),
-        app_api::ERROR => line.push_str("error"),
-        app_api::STATE => line.push_str("state"),
-        app_api::END => line.push_str("end"),
-        app_api::ORPHAN => line.push_str("orphan"),
-        _ => write!(line, "{event}"),
+    match event_name(event) {
+        Some(name) => line.push_str(name),
+        None => write!(line, "{event}"),
     }
 }
 
@@ -134,4 +149,24 @@ pub(crate) fn push_seen(alloc: Global, line: &mut String, seen: &Seen) -> Result
             push_pieces(alloc, line, pieces.as_slice())
         }
     }
+}
+
+pub(crate) fn push_reason(line: &mut String, reason: Reason) -> Result<(), AllocError>
+    ensures { OnOk result (string_bytes line.new ≡ string_bytes line.old ++ reason_text reason) }
+{
+    match reason {
+        Reason::Reg(number) => write!(line, "reg {number}"),
+        Reason::Rule(number) => write!(line, "rule {number}"),
+    }
+}
+
+// The name of a field: each of its bytes is a character.
+pub(crate) fn push_name(line: &mut String, name: &[u8]) -> Result<(), AllocError>
+    requires { IsTrue (is_field_name name.now) }
+    ensures { OnOk result (string_bytes line.new ≡ string_bytes line.old ++ name.now) }
+{
+    for byte in name {
+        line.push(char::from(*byte))?;
+    }
+    Ok(())
 }

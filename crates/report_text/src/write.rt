@@ -1,14 +1,17 @@
 //! Writes a report to a sink, each line by one call.
 
-ghost use Rattle.std.specs.Prelude.{◌≡◌, IsErrOf};
+ghost use Rattle.std.specs.Prelude.{◌≡◌, IsErrOf, IsTrue};
 ghost use Rattle.mos_bytes.specs.Causes.{HasCauseOf};
 ghost use Rattle.mos_bytes.specs.Writes.{WriteAdds};
-ghost use Rattle.report_text.specs.Lines.{first_line, callback_line, totals_line};
-ghost use Rattle.report_text.specs.Report.{callbacks_text, record_text, records_text, report_text};
+ghost use Rattle.report_text.specs.Lines.{first_line, callback_line, drop_line, field_line, totals_line};
+ghost use Rattle.report_text.specs.Report.{callbacks_text, drops_text, fields_text, rest_text, record_text, records_text, report_text};
+ghost use Rattle.report_text.specs.Tidy.{are_named, is_tidy_record, tidy};
+ghost use Rattle.std.specs.List.{list_all};
+ghost use Rattle.app_api.specs.App.{is_field_name};
 
-use crate::lines::{push_callback, push_first_line, push_totals};
+use crate::lines::{push_callback, push_drop, push_field, push_first_line, push_totals};
 use crate::record::{Record, Totals};
-use app_api::Entry;
+use app_api::{Bytes, Entry, Reason};
 use mos_bytes::{Failed, Sink};
 use std::alloc::{AllocError, Global};
 use thiserror::Error;
@@ -70,6 +73,37 @@ fn write_first_line<O: Sink>(out: &mut O, line: &mut String, of: &Record) -> Res
     Ok(())
 }
 
+fn write_drop<O: Sink>(
+    out: &mut O,
+    line: &mut String,
+    index: u64,
+    reason: Reason,
+) -> Result<(), TextError>
+    ensures text { WriteAdds (O.taken out.old) (O.taken out.new) result (drop_line (index, reason)) }
+    ensures cause { HasCauseOf (O.faults out.old) (O.faults out.new) (IsErrOf result TextError.WriteFault) }
+{
+    line.clear();
+    push_drop(line, index, reason)?;
+    out.write_all(line.as_bytes())?;
+    Ok(())
+}
+
+fn write_field<O: Sink>(
+    out: &mut O,
+    line: &mut String,
+    name: &[u8],
+    value: u64,
+) -> Result<(), TextError>
+    requires { IsTrue (is_field_name name.now) }
+    ensures text { WriteAdds (O.taken out.old) (O.taken out.new) result (field_line (name.now, value)) }
+    ensures cause { HasCauseOf (O.faults out.old) (O.faults out.new) (IsErrOf result TextError.WriteFault) }
+{
+    line.clear();
+    push_field(line, name, value)?;
+    out.write_all(line.as_bytes())?;
+    Ok(())
+}
+
 fn write_callbacks<O: Sink>(
     alloc: Global,
     out: &mut O,
@@ -85,17 +119,63 @@ fn write_callbacks<O: Sink>(
     Ok(())
 }
 
+fn write_drops<O: Sink>(
+    out: &mut O,
+    line: &mut String,
+    drops: &[(u64, Reason)],
+) -> Result<(), TextError>
+    ensures text { WriteAdds (O.taken out.old) (O.taken out.new) result (drops_text drops.now) }
+    ensures cause { HasCauseOf (O.faults out.old) (O.faults out.new) (IsErrOf result TextError.WriteFault) }
+{
+    for (index, reason) in drops {
+        write_drop(out, line, *index, *reason)?;
+    }
+    Ok(())
+}
+
+fn write_fields<O: Sink>(
+    out: &mut O,
+    line: &mut String,
+    fields: &[(Bytes, u64)],
+) -> Result<(), TextError>
+    requires { IsTrue (are_named fields.now) }
+    ensures text { WriteAdds (O.taken out.old) (O.taken out.new) result (fields_text fields.now) }
+    ensures cause { HasCauseOf (O.faults out.old) (O.faults out.new) (IsErrOf result TextError.WriteFault) }
+{
+    for (name, value) in fields {
+        write_field(out, line, name.as_slice(), *value)?;
+    }
+    Ok(())
+}
+
+// The lines that follow a record's first line.
+fn write_rest<O: Sink>(
+    alloc: Global,
+    out: &mut O,
+    line: &mut String,
+    of: &Record,
+) -> Result<(), TextError>
+    requires { IsTrue (is_tidy_record of.now) }
+    ensures text { WriteAdds (O.taken out.old) (O.taken out.new) result (rest_text of.now) }
+    ensures cause { HasCauseOf (O.faults out.old) (O.faults out.new) (IsErrOf result TextError.WriteFault) }
+{
+    write_callbacks(alloc, out, line, of.entries.as_slice())?;
+    write_drops(out, line, of.drops.as_slice())?;
+    write_fields(out, line, of.fields.as_slice())
+}
+
 fn write_record<O: Sink>(
     alloc: Global,
     out: &mut O,
     line: &mut String,
     of: &Record,
 ) -> Result<(), TextError>
+    requires { IsTrue (is_tidy_record of.now) }
     ensures text { WriteAdds (O.taken out.old) (O.taken out.new) result (record_text of.now) }
     ensures cause { HasCauseOf (O.faults out.old) (O.faults out.new) (IsErrOf result TextError.WriteFault) }
 {
     write_first_line(out, line, of)?;
-    write_callbacks(alloc, out, line, of.entries.as_slice())
+    write_rest(alloc, out, line, of)
 }
 
 fn write_records<O: Sink>(
@@ -104,6 +184,7 @@ fn write_records<O: Sink>(
     line: &mut String,
     records: &[Record],
 ) -> Result<(), TextError>
+    requires { IsTrue (list_all is_tidy_record records.now) }
     ensures text { WriteAdds (O.taken out.old) (O.taken out.new) result (records_text records.now) }
     ensures cause { HasCauseOf (O.faults out.old) (O.faults out.new) (IsErrOf result TextError.WriteFault) }
 {
@@ -124,14 +205,15 @@ pub fn write_totals<O: Sink>(alloc: Global, out: &mut O, totals: &Totals) -> Res
     Ok(())
 }
 
-/// Writes a report: each record with its callbacks, in order, and then the totals. At an `Err` the sink holds a front
-/// of the text.
+/// Writes a report: each record with its callbacks, drops and fields, in order of name, and then the totals. It asks
+/// tidy records. At an `Err` the sink holds a front of the text.
 pub fn write_report<O: Sink>(
     alloc: Global,
     out: &mut O,
     records: &[Record],
     totals: &Totals,
 ) -> Result<(), TextError>
+    requires tidy { IsTrue (tidy records.now) }
     ensures text { WriteAdds (O.taken out.old) (O.taken out.new) result (report_text records.now totals.now) }
     ensures cause { HasCauseOf (O.faults out.old) (O.faults out.new) (IsErrOf result TextError.WriteFault) }
 {

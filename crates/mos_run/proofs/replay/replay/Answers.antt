@@ -1,7 +1,12 @@
-use Rattle.std.proofs.Common.{◌≡◌, ◌+◌, Some, Ok, Err, refl, sym, ap, subst, ◌∙◌, arith}
+use Rattle.std.proofs.Common.{◌≡◌, true, ◌+◌, Some, Ok, Err, refl, sym, ap, subst, ◌∙◌, arith}
 use Rattle.std.proofs.lemmas.Result.{err_from_is_err_and}
 use Rattle.pcap_source.specs.Reading.{NextGives}
 use Rattle.shared_forest.specs.Rows.{tree_at}
+use Rattle.pcap_source.specs.Captured.{Captured}
+use Rattle.lane_core.specs.Sight.{arrival_of}
+use Rattle.report_text.specs.Tidy.{tidy}
+use Rattle.mos_run.specs.declared.report.Report.{Report}
+use Rattle.mos_run.proofs.Tidiness.{tidy_lane, tidy_lane-new, tidy_lane-more}
 use Rattle.mos_run.proofs.Replaying.{Replaying, opened_replay, refused_header, step_told, replayed, ended_replay, refused_record}
 use Rattle.mos_run.proofs.replay.replay.Goals as goal
 
@@ -16,6 +21,7 @@ loop-lane-init g c = record {
   count = c.in_ok-capture.ensures.start.count;
   next = c.in_ok-lane.ensures.next;
   few = omega arith;
+  tidy = tidy_lane-new (tree_at c.in_ok-lane.lane.monitor.store) c.in_ok-lane.lane.kept 0 c.in_ok-lane.ensures.stands;
   faults = c.open.ensures.cause.later;
   replaying = λ bytes told.
       opened_replay (g.S.Source.left c.args.source.now) (g.S.Source.left c.open.new.source) c.in_ok-capture.capture (tree_at c.in_ok-lane.lane.monitor.store) c.in_ok-lane.lane.kept
@@ -59,6 +65,8 @@ loop-lane-preserved g c =
       count = moved.count ∙ ap (λ n. n + 1) inv.count;
       next = c.packet.ensures.next;
       few = omega (arith, moved.within, moved.count, inv.count);
+      tidy = tidy_lane-more (tree_at c.loop-lane.lane.monitor.store) (tree_at c.packet.new.self.monitor.store) c.loop-lane.lane.kept c.packet.new.self.kept
+          (arrival_of c.loop-lane.packets c.next.new.frame) inv.tidy c.in_ok-packet-in-Frame.ensures.stands;
       faults = omega (arith, inv.faults, c.next.ensures.cause.later);
       replaying = λ bytes told.
           let r = inv.replaying bytes told in
@@ -67,3 +75,13 @@ loop-lane-preserved g c =
           replayed bytes _ _ c.loop-lane.capture c.next.new.self _ (tree_at c.packet.new.self.monitor.store) _ c.packet.new.self.kept c.loop-lane.packets c.next.new.frame r step
           c.in_ok-packet-in-Frame.ensures.stands;
     }
+
+pub returns-in-Tail-clause-tidy : goal.returns-in-Tail-clause-tidy
+returns-in-Tail-clause-tidy g c =
+    subst (λ (r : Report). tidy r.records ≡ true) (sym c.report.ensures)
+    (subst (λ rs. tidy rs ≡ true) (sym c.finish.ensures.records) (tidy_lane (tree_at c.loop-lane.lane.monitor.store) c.loop-lane.lane.kept c.loop-lane.packets c.loop-lane.invariant.tidy))
+
+pub returns-in-End-clause-tidy : goal.returns-in-End-clause-tidy
+returns-in-End-clause-tidy g c =
+    subst (λ (r : Report). tidy r.records ≡ true) (sym c.report-in-End.ensures)
+    (subst (λ rs. tidy rs ≡ true) (sym c.finish-in-End.ensures.records) (tidy_lane (tree_at c.loop-lane.lane.monitor.store) c.loop-lane.lane.kept c.loop-lane.packets c.loop-lane.invariant.tidy))

@@ -1,3 +1,5 @@
+use Rattle.report_text.specs.Tidy.{is_tidy_record}
+use Rattle.report_text.proofs.Each.{passes-at}
 use Rattle.report_text.proofs.Pieces.{records_text-drop}
 use Rattle.report_text.proofs.Writing.{Writing-more, Writing-failed, WriteAdds-err}
 use Rattle.report_text.proofs.write.write_records.Goals as goal
@@ -12,3 +14,7 @@ returns-in_err-write_record-clause-text g c =
     let next = records_text-drop c.args.records.now c.loop-of.of-index c.of-item.result c.loop-of-test.true c.of-item.is in
     WriteAdds-err _ _ _ _ c.from_residual.ensures.0
     (Writing-failed g.O.Sink.taken g.O.Sink.faults _ _ _ _ _ _ _ c.loop-of.invariant next c.in_err-write_record.ensures.text)
+
+pub write_record-requires : goal.write_record-requires
+write_record-requires g c =
+    passes-at is_tidy_record c.args.records.now c.loop-of.of-index c.of-item.result c.requires c.loop-of-test.true c.of-item.is

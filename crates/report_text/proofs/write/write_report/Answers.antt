@@ -1,5 +1,7 @@
+use Rattle.std.proofs.Common.{arith}
 use Rattle.mos_bytes.proofs.Writes.{AppendsFront-more}
 use Rattle.report_text.specs.Report.{report_text}
+use Rattle.report_text.specs.Tidy.{tidy}
 use Rattle.report_text.proofs.Writing.{WriteAdds-err, WriteAdds-after}
 use Rattle.report_text.proofs.write.write_report.Goals as goal
 
@@ -11,3 +13,7 @@ returns-in_err-write_records-clause-text g c =
 pub returns-clause-text : goal.returns-clause-text
 unfolding report_text
 returns-clause-text g c = WriteAdds-after _ _ _ _ _ _ c.in_ok-write_records.ensures.text c.write_totals.ensures.text
+
+pub write_records-requires : goal.write_records-requires
+unfolding tidy
+write_records-requires g c = grind arith

@@ -105,6 +105,6 @@ returns-clause-stands g c =
     rw (c.in_ok-push.ensures.items, c.as_slice.ensures)
     (StandsFor-opened from_start content kept.flows c.keep.new.flows kept.records.items _ kept.callbacks number moment segment
     c.args.key flow after entries over pasts stands c.requires.key c.requires.absent c.requires.opens
-    (ap (λ (r : Record). record { name = r.name; kind = r.kind; version = r.version; entries = entries }) c.record_without_calls-opened.ensures)
+    (ap (λ (r : Record). record r { entries = entries }) c.record_without_calls-opened.ensures)
     c.new-flow.ensures.client new step last left))
     c.keep.ensures.left

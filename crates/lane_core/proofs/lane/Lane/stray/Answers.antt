@@ -27,7 +27,7 @@ returns-clause-stands g c = λ pasts moment sight stray stands.
     rw (c.in_ok-push.ensures.items, c.as_slice.ensures)
     (StandsFor-begun from_start content flows flows c.args.self.now.kept.records.items _ c.args.self.now.kept.callbacks s pasts stands stray.untaken
     (stray_record from_start s c.args.class _ pasts _ stray
-    (ap (λ (r : Record). record { name = r.name; kind = r.kind; version = r.version; entries = c.call_first.new.entries }) c.record_without_calls-orphan.ensures
-    ∙ ap (λ l. record { name = number; kind = Orphan c.args.class; version = 0; entries = l }) made))
+    (ap (λ (r : Record). record r { entries = c.call_first.new.entries }) c.record_without_calls-orphan.ensures
+    ∙ ap (λ l. record { name = number; kind = Orphan c.args.class; version = 0; entries = l; drops = []; fields = [] }) made))
     (λ key. unopened from_start content flows flows pasts (started_by (λ _. from_start) s) key (stray_holds from_start s key stray.shut) refl (stands.placed key))
     (λ key passes. stray_alone from_start s key pasts stray.shut passes))
