@@ -53,6 +53,7 @@ fn write_callback<O: Sink>(
 ) -> Result<(), TextError>
     ensures text { WriteAdds (O.taken out.old) (O.taken out.new) result (callback_line entry.now) }
     ensures cause { HasCauseOf (O.faults out.old) (O.faults out.new) (IsErrOf result TextError.WriteFault) }
+    ensures lasts { O.lasting out.new ≡ O.lasting out.old }
 {
     line.clear();
     push_callback(alloc, line, entry)?;
@@ -63,6 +64,7 @@ fn write_callback<O: Sink>(
 fn write_first_line<O: Sink>(out: &mut O, line: &mut String, of: &Record) -> Result<(), TextError>
     ensures text { WriteAdds (O.taken out.old) (O.taken out.new) result (first_line of.now) }
     ensures cause { HasCauseOf (O.faults out.old) (O.faults out.new) (IsErrOf result TextError.WriteFault) }
+    ensures lasts { O.lasting out.new ≡ O.lasting out.old }
 {
     line.clear();
     push_first_line(line, of)?;
@@ -78,6 +80,7 @@ fn write_callbacks<O: Sink>(
 ) -> Result<(), TextError>
     ensures text { WriteAdds (O.taken out.old) (O.taken out.new) result (callbacks_text entries.now) }
     ensures cause { HasCauseOf (O.faults out.old) (O.faults out.new) (IsErrOf result TextError.WriteFault) }
+    ensures lasts { O.lasting out.new ≡ O.lasting out.old }
 {
     for entry in entries {
         write_callback(alloc, out, line, entry)?;
@@ -93,6 +96,7 @@ fn write_record<O: Sink>(
 ) -> Result<(), TextError>
     ensures text { WriteAdds (O.taken out.old) (O.taken out.new) result (record_text of.now) }
     ensures cause { HasCauseOf (O.faults out.old) (O.faults out.new) (IsErrOf result TextError.WriteFault) }
+    ensures lasts { O.lasting out.new ≡ O.lasting out.old }
 {
     write_first_line(out, line, of)?;
     write_callbacks(alloc, out, line, of.entries.as_slice())
@@ -106,6 +110,7 @@ fn write_records<O: Sink>(
 ) -> Result<(), TextError>
     ensures text { WriteAdds (O.taken out.old) (O.taken out.new) result (records_text records.now) }
     ensures cause { HasCauseOf (O.faults out.old) (O.faults out.new) (IsErrOf result TextError.WriteFault) }
+    ensures lasts { O.lasting out.new ≡ O.lasting out.old }
 {
     for of in records {
         write_record(alloc, out, line, of)?;
@@ -117,6 +122,7 @@ fn write_records<O: Sink>(
 pub fn write_totals<O: Sink>(alloc: Global, out: &mut O, totals: &Totals) -> Result<(), TextError>
     ensures text { WriteAdds (O.taken out.old) (O.taken out.new) result (totals_line totals.now) }
     ensures cause { HasCauseOf (O.faults out.old) (O.faults out.new) (IsErrOf result TextError.WriteFault) }
+    ensures lasts { O.lasting out.new ≡ O.lasting out.old }
 {
     let mut line = String::new(alloc);
     push_totals(&mut line, totals)?;
@@ -134,6 +140,7 @@ pub fn write_report<O: Sink>(
 ) -> Result<(), TextError>
     ensures text { WriteAdds (O.taken out.old) (O.taken out.new) result (report_text records.now totals.now) }
     ensures cause { HasCauseOf (O.faults out.old) (O.faults out.new) (IsErrOf result TextError.WriteFault) }
+    ensures lasts { O.lasting out.new ≡ O.lasting out.old }
 {
     let mut line = String::new(alloc);
     write_records(alloc, out, &mut line, records)?;
