@@ -20,6 +20,7 @@ loop-lane-init g c = record {
   few = omega (arith, c.in_ok-lane.ensures.packets);
   callbacks = omega (arith, c.in_ok-lane.ensures.callbacks);
   faults = c.open.ensures.cause.later;
+  lasts = c.open.ensures.lasts;
   replaying = λ bytes told.
       subst (λ n. Replaying bytes (g.S.Source.left c.open.new.source) c.in_ok-capture.capture c.in_ok-lane.lane.monitor.table c.in_ok-lane.lane.flows c.in_ok-lane.lane.records.items c.in_ok-lane.lane.callbacks n) (sym c.in_ok-lane.ensures.packets)
       (opened_replay (g.S.Source.left c.args.source.now) (g.S.Source.left c.open.new.source) c.in_ok-capture.capture c.in_ok-lane.lane.monitor.table c.in_ok-lane.lane.flows c.in_ok-lane.lane.records.items c.in_ok-lane.lane.callbacks
@@ -64,6 +65,7 @@ loop-lane-preserved g c =
       few = omega (arith, moved.within, moved.count, inv.count, counted);
       callbacks = omega (arith, c.in_ok-take-in-Frame.ensures.callbacks, inv.callbacks, counted);
       faults = omega (arith, inv.faults, c.next.ensures.cause.later);
+      lasts = c.next.ensures.lasts ∙ inv.lasts;
       replaying = λ bytes told.
           let r = inv.replaying bytes told in
           let gives = subst (λ s. NextGives c.loop-lane.capture c.next.new.self (g.S.Source.left c.loop-lane.source) (g.S.Source.left c.next.new.source) c.next.new.frame (Ok s)) c.in-Frame.is c.in_ok-next.ensures.gives in

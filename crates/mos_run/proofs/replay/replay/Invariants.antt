@@ -10,6 +10,7 @@ invariant-loop-lane g l = record {
   few : l.lane.packets ≤ 1048576;
   callbacks : l.lane.callbacks ≤ 3060 * l.lane.packets;
   faults : g.S.Source.faults l.fn.source ≤ g.S.Source.faults l.source;
+  lasts : g.S.Source.lasting l.source ≡ g.S.Source.lasting l.fn.source;
   replaying : (bytes : List ℕ) → g.S.Source.left l.fn.source ≡ Some bytes
       → Replaying bytes (g.S.Source.left l.source) l.capture l.lane.monitor.table l.lane.flows l.lane.records.items l.lane.callbacks l.lane.packets;
 }
