@@ -46,6 +46,13 @@ WritesText old new before now text = Appends old new text ⊎ (Rose before now �
 abbrev pub WritesNothing : ℕ → Type 0
 WritesNothing status = (status ≡ 3) ⊎ (status ≡ 4) ⊎ (status ≡ 7) ⊎ (status ≡ 8)
 
+-- a refusal was told on err with its status, or want of memory for its line in its place
+pub record TellsOf (error : RunError) (status : ℕ) (old new : Option (List ℕ)) (before now : ℕ) : Type 0 where
+  pub refusal : RunError
+  pub which : (refusal ≡ error) ⊎ (refusal ≡ NoMemory)
+  pub status_is : status ≡ status_of refusal
+  pub text : WritesText old new before now (refusal_text refusal)
+
 -- the refusal of this status was told on err: of a refused capture that of its bytes, so with its offset
 pub record Tells {W : Type 0} (words : List W) (left : Option (List ℕ)) (status : ℕ) (old new : Option (List ℕ)) (before now : ℕ) : Type 0 where
   pub refusal : RunError

@@ -19,6 +19,8 @@ pub(crate) fn replay<S: Source>(alloc: Global, source: &mut S) -> Result<Report,
     ensures cause { HasCauseOf (S.faults source.old) (S.faults source.new) (IsErrOf result RunError.ReadFault) }
     ensures tidy { IfOk result (λ report. IsTrue (tidy report.records)) }
     ensures writes_nothing { result ≢ Err RunError.WriteFault }
+    ensures built { result ≢ Err RunError.NotBuilt }
+    ensures lasts { S.lasting source.new ≡ S.lasting source.old }
 {
     let mut capture = Capture::open(source)?;
     let mut frame = Frame::new(alloc);

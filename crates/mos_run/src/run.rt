@@ -5,7 +5,7 @@ ghost use Rattle.std.specs.Result.{ForOk};
 ghost use Rattle.mos_bytes.specs.Causes.{Rose, HasCauseOf};
 ghost use Rattle.mos_run.specs.Outcome.{outcome};
 ghost use Rattle.mos_run.specs.Refusal.{refusal_text, status_of};
-ghost use Rattle.mos_run.specs.Run.{Reports, RefusedAs, EndsAs, WritesNothing, WritesFront, WritesText, Tells};
+ghost use Rattle.mos_run.specs.Run.{Reports, RefusedAs, EndsAs, WritesNothing, WritesFront, WritesText, Tells, TellsOf};
 
 use crate::refusal::{RunError, capture_line, too_many_line};
 use crate::replay::replay;
@@ -32,6 +32,7 @@ fn run<S: Source, O: Sink>(
 ) -> Result<VersionList, RunError>
     ensures done { IfOk result (λ versions. (bytes : List ℕ) → S.left capture.old ≡ Some bytes
         → Reports bytes (S.left capture.new) (O.taken out.old) (O.taken out.new) versions) }
+    ensures accepted { IsOk result → words.now ≡ [] → (bytes : List ℕ) → S.left capture.old ≡ Some bytes → EndsAs (outcome bytes) 0 }
     ensures refused { IfErr result (λ e. words.now ≡ [] → (bytes : List ℕ) → S.left capture.old ≡ Some bytes → RefusedAs (outcome bytes) e) }
     ensures front { IfErr result (λ e. words.now ≡ [] → (bytes : List ℕ) → S.left capture.old ≡ Some bytes
         → WritesFront (outcome bytes) (O.taken out.old) (O.taken out.new)) }
@@ -39,6 +40,9 @@ fn run<S: Source, O: Sink>(
     ensures words { words.now ≢ [] → (result ≡ Err RunError.NotBuilt) × (capture.new ≡ capture.old) × (out.new ≡ out.old) }
     ensures read_fault { HasCauseOf (S.faults capture.old) (S.faults capture.new) (IsErrOf result RunError.ReadFault) }
     ensures write_fault { HasCauseOf (O.faults out.old) (O.faults out.new) (IsErrOf result RunError.WriteFault) }
+    ensures built { IsErrOf result RunError.NotBuilt → words.now ≢ [] }
+    ensures capture_lasts { S.lasting capture.new ≡ S.lasting capture.old }
+    ensures out_lasts { O.lasting out.new ≡ O.lasting out.old }
 {
     if !words.is_empty() {
         return Err(RunError::NotBuilt);
@@ -52,6 +56,7 @@ fn run<S: Source, O: Sink>(
 // Writes a text to err. A fault of err changes nothing.
 fn write_text<E: Sink>(err: &mut E, text: &str)
     ensures text { WritesText (E.taken err.old) (E.taken err.new) (E.faults err.old) (E.faults err.new) text.now }
+    ensures lasts { E.lasting err.new ≡ E.lasting err.old }
 {
     let _ = err.write_all(text.as_bytes());
 }
@@ -62,6 +67,7 @@ fn tell_line<E: Sink>(err: &mut E, line: Result<String, AllocError>, error: RunE
     requires { ForOk line (λ line. string_bytes line ≡ refusal_text error) }
     ensures which { (result ≡ error) ⊎ (result ≡ RunError.NoMemory) }
     ensures text { WritesText (E.taken err.old) (E.taken err.new) (E.faults err.old) (E.faults err.new) (refusal_text result) }
+    ensures lasts { E.lasting err.new ≡ E.lasting err.old }
 {
     match line {
         Ok(line) => {
@@ -81,6 +87,7 @@ fn tell<E: Sink>(alloc: Global, err: &mut E, error: RunError) -> RunError
     ensures which { (result ≡ error) ⊎ (result ≡ RunError.NoMemory) }
     ensures not_built { error ≡ RunError.NotBuilt → result ≡ error }
     ensures text { WritesText (E.taken err.old) (E.taken err.new) (E.faults err.old) (E.faults err.new) (refusal_text result) }
+    ensures lasts { E.lasting err.new ≡ E.lasting err.old }
 {
     match error {
         RunError::Capture(fault, offset) => {
@@ -125,6 +132,7 @@ pub fn run_mos<S: Source, O: Sink, E: Sink>(
     // Every other status has its cause; only want of memory has none.
     ensures refused { words.now ≡ [] → (bytes : List ℕ) → S.left capture.old ≡ Some bytes → EndsAs (outcome bytes) result.status }
     ensures words { words.now ≢ [] → (result.status ≡ 8) × (capture.new ≡ capture.old) × (out.new ≡ out.old) }
+    ensures not_built { result.status ≡ 8 → words.now ≢ [] }
     ensures read_fault { HasCauseOf (S.faults capture.old) (S.faults capture.new) (result.status ≡ 4) }
     ensures write_fault { HasCauseOf (O.faults out.old) (O.faults out.new) (result.status ≡ 5) }
 
@@ -132,6 +140,7 @@ pub fn run_mos<S: Source, O: Sink, E: Sink>(
     ensures silent { WritesNothing result.status → out.new ≡ out.old }
     ensures front { result.status ≢ 0 → words.now ≡ [] → (bytes : List ℕ) → S.left capture.old ≡ Some bytes
         → WritesFront (outcome bytes) (O.taken out.old) (O.taken out.new) }
+    ensures no_versions { result.status ≢ 0 → result.versions ≡ [] }
 
     // What is told on err.
     ensures told_nothing { result.status ≡ 0 → err.new ≡ err.old }
@@ -141,6 +150,11 @@ pub fn run_mos<S: Source, O: Sink, E: Sink>(
     ensures complete { words.now ≡ [] → (bytes : List ℕ) → S.left capture.old ≡ Some bytes → IsOk (outcome bytes)
         → ¬ Rose (S.faults capture.old) (S.faults capture.new) → ¬ Rose (O.faults out.old) (O.faults out.new)
         → (result.status ≡ 0) ⊎ (result.status ≡ 6) }
+
+    // What no call of the outside changes stays.
+    ensures capture_lasts { S.lasting capture.new ≡ S.lasting capture.old }
+    ensures out_lasts { O.lasting out.new ≡ O.lasting out.old }
+    ensures err_lasts { E.lasting err.new ≡ E.lasting err.old }
 {
     match run(alloc, words, capture, out) {
         Ok(versions) => Ended {
@@ -159,7 +173,9 @@ pub fn run_mos<S: Source, O: Sink, E: Sink>(
 /// Ends a run before it begins: tells the refusal on `err`. Where memory for its line is refused, that is told instead.
 pub fn refuse<E: Sink>(alloc: Global, err: &mut E, error: RunError) -> Ended
     ensures status { (result.status ≡ status_of error) ⊎ (result.status ≡ 6) }
+    ensures told { TellsOf error result.status (E.taken err.old) (E.taken err.new) (E.faults err.old) (E.faults err.new) }
     ensures versions { result.versions ≡ [] }
+    ensures lasts { E.lasting err.new ≡ E.lasting err.old }
 {
     Ended {
         status: tell(alloc, err, error).status(),

@@ -248,16 +248,21 @@ fn as_many_packets_as_a_capture_may_have(rt: HostRuntime) -> Result<(), Fail> {
     Ok(())
 }
 
-// The last line of a handshake's report, of which so many packets are there.
-fn last_line(alloc: Global, packets: usize, tail: usize) -> Result<String, AllocError> {
+// The report of a handshake of which so many packets are there. The connection's line has 39 bytes, and the two of a
+// packet have 36.
+fn cut_report(alloc: Global, packets: usize, tail: usize) -> Result<Vec<u8>, AllocError> {
     let records = packets.min(1);
     let callbacks = packets.saturating_mul(2);
-    format!(in alloc;
+    let lines = (records * 39).saturating_add(packets.saturating_mul(36));
+    let last = format!(in alloc;
         "end packets {packets} records {records} callbacks {callbacks} drops 0 tail {tail}\n"
-    )
+    )?;
+    let mut report = HANDSHAKE.get(..lines).unwrap_or(&[]).to_vec(alloc)?;
+    report.extend_from_slice(last.as_bytes())?;
+    Ok(report)
 }
 
-// The header has 24 bytes, and each packet of the handshake 70. A connection's line has 39 bytes, and that of a callback 18.
+// The header has 24 bytes, and each packet of the handshake 70.
 #[test]
 fn a_capture_that_is_cut(rt: HostRuntime) -> Result<(), Fail> {
     let alloc = rt.alloc();
@@ -272,8 +277,9 @@ fn a_capture_that_is_cut(rt: HostRuntime) -> Result<(), Fail> {
         } else {
             let packets = (len - 24) / 70;
             assert_eq!(rt; run.ended.status, 0, "{len} bytes");
-            let last = last_line(alloc, packets, (len - 24) % 70)?;
-            assert!(rt; run.out.bytes().ends_with(last.as_bytes()), "{len} bytes");
+            let want = cut_report(alloc, packets, (len - 24) % 70)?;
+            assert_eq!(rt; run.out.bytes(), want.as_slice(), "{len} bytes");
+            assert_eq!(rt; run.err.bytes(), b"".as_slice());
         }
     }
     Ok(())

@@ -56,6 +56,7 @@ fn write_callback<O: Sink>(
 ) -> Result<(), TextError>
     ensures text { WriteAdds (O.taken out.old) (O.taken out.new) result (callback_line entry.now) }
     ensures cause { HasCauseOf (O.faults out.old) (O.faults out.new) (IsErrOf result TextError.WriteFault) }
+    ensures lasts { O.lasting out.new ≡ O.lasting out.old }
 {
     line.clear();
     push_callback(alloc, line, entry)?;
@@ -66,6 +67,7 @@ fn write_callback<O: Sink>(
 fn write_first_line<O: Sink>(out: &mut O, line: &mut String, of: &Record) -> Result<(), TextError>
     ensures text { WriteAdds (O.taken out.old) (O.taken out.new) result (first_line of.now) }
     ensures cause { HasCauseOf (O.faults out.old) (O.faults out.new) (IsErrOf result TextError.WriteFault) }
+    ensures lasts { O.lasting out.new ≡ O.lasting out.old }
 {
     line.clear();
     push_first_line(line, of)?;
@@ -81,6 +83,7 @@ fn write_drop<O: Sink>(
 ) -> Result<(), TextError>
     ensures text { WriteAdds (O.taken out.old) (O.taken out.new) result (drop_line (index, reason)) }
     ensures cause { HasCauseOf (O.faults out.old) (O.faults out.new) (IsErrOf result TextError.WriteFault) }
+    ensures lasts { O.lasting out.new ≡ O.lasting out.old }
 {
     line.clear();
     push_drop(line, index, reason)?;
@@ -97,6 +100,7 @@ fn write_field<O: Sink>(
     requires { IsTrue (is_field_name name.now) }
     ensures text { WriteAdds (O.taken out.old) (O.taken out.new) result (field_line (name.now, value)) }
     ensures cause { HasCauseOf (O.faults out.old) (O.faults out.new) (IsErrOf result TextError.WriteFault) }
+    ensures lasts { O.lasting out.new ≡ O.lasting out.old }
 {
     line.clear();
     push_field(line, name, value)?;
@@ -112,6 +116,7 @@ fn write_callbacks<O: Sink>(
 ) -> Result<(), TextError>
     ensures text { WriteAdds (O.taken out.old) (O.taken out.new) result (callbacks_text entries.now) }
     ensures cause { HasCauseOf (O.faults out.old) (O.faults out.new) (IsErrOf result TextError.WriteFault) }
+    ensures lasts { O.lasting out.new ≡ O.lasting out.old }
 {
     for entry in entries {
         write_callback(alloc, out, line, entry)?;
@@ -126,6 +131,7 @@ fn write_drops<O: Sink>(
 ) -> Result<(), TextError>
     ensures text { WriteAdds (O.taken out.old) (O.taken out.new) result (drops_text drops.now) }
     ensures cause { HasCauseOf (O.faults out.old) (O.faults out.new) (IsErrOf result TextError.WriteFault) }
+    ensures lasts { O.lasting out.new ≡ O.lasting out.old }
 {
     for (index, reason) in drops {
         write_drop(out, line, *index, *reason)?;
@@ -141,6 +147,7 @@ fn write_fields<O: Sink>(
     requires { IsTrue (are_named fields.now) }
     ensures text { WriteAdds (O.taken out.old) (O.taken out.new) result (fields_text fields.now) }
     ensures cause { HasCauseOf (O.faults out.old) (O.faults out.new) (IsErrOf result TextError.WriteFault) }
+    ensures lasts { O.lasting out.new ≡ O.lasting out.old }
 {
     for (name, value) in fields {
         write_field(out, line, name.as_slice(), *value)?;
@@ -158,6 +165,7 @@ fn write_rest<O: Sink>(
     requires { IsTrue (is_tidy_record of.now) }
     ensures text { WriteAdds (O.taken out.old) (O.taken out.new) result (rest_text of.now) }
     ensures cause { HasCauseOf (O.faults out.old) (O.faults out.new) (IsErrOf result TextError.WriteFault) }
+    ensures lasts { O.lasting out.new ≡ O.lasting out.old }
 {
     write_callbacks(alloc, out, line, of.entries.as_slice())?;
     write_drops(out, line, of.drops.as_slice())?;
@@ -173,6 +181,7 @@ fn write_record<O: Sink>(
     requires { IsTrue (is_tidy_record of.now) }
     ensures text { WriteAdds (O.taken out.old) (O.taken out.new) result (record_text of.now) }
     ensures cause { HasCauseOf (O.faults out.old) (O.faults out.new) (IsErrOf result TextError.WriteFault) }
+    ensures lasts { O.lasting out.new ≡ O.lasting out.old }
 {
     write_first_line(out, line, of)?;
     write_rest(alloc, out, line, of)
@@ -187,6 +196,7 @@ fn write_records<O: Sink>(
     requires { IsTrue (list_all is_tidy_record records.now) }
     ensures text { WriteAdds (O.taken out.old) (O.taken out.new) result (records_text records.now) }
     ensures cause { HasCauseOf (O.faults out.old) (O.faults out.new) (IsErrOf result TextError.WriteFault) }
+    ensures lasts { O.lasting out.new ≡ O.lasting out.old }
 {
     for of in records {
         write_record(alloc, out, line, of)?;
@@ -198,6 +208,7 @@ fn write_records<O: Sink>(
 pub fn write_totals<O: Sink>(alloc: Global, out: &mut O, totals: &Totals) -> Result<(), TextError>
     ensures text { WriteAdds (O.taken out.old) (O.taken out.new) result (totals_line totals.now) }
     ensures cause { HasCauseOf (O.faults out.old) (O.faults out.new) (IsErrOf result TextError.WriteFault) }
+    ensures lasts { O.lasting out.new ≡ O.lasting out.old }
 {
     let mut line = String::new(alloc);
     push_totals(&mut line, totals)?;
@@ -216,6 +227,7 @@ pub fn write_report<O: Sink>(
     requires tidy { IsTrue (tidy records.now) }
     ensures text { WriteAdds (O.taken out.old) (O.taken out.new) result (report_text records.now totals.now) }
     ensures cause { HasCauseOf (O.faults out.old) (O.faults out.new) (IsErrOf result TextError.WriteFault) }
+    ensures lasts { O.lasting out.new ≡ O.lasting out.old }
 {
     let mut line = String::new(alloc);
     write_records(alloc, out, &mut line, records)?;

@@ -23,6 +23,7 @@ loop-lane-init g c = record {
   few = omega arith;
   tidy = tidy_lane-new (tree_at c.in_ok-lane.lane.monitor.store) c.in_ok-lane.lane.kept 0 c.in_ok-lane.ensures.stands;
   faults = c.open.ensures.cause.later;
+  lasts = c.open.ensures.lasts;
   replaying = λ bytes told.
       opened_replay (g.S.Source.left c.args.source.now) (g.S.Source.left c.open.new.source) c.in_ok-capture.capture (tree_at c.in_ok-lane.lane.monitor.store) c.in_ok-lane.lane.kept
       bytes c.in_ok-capture.ensures.gives c.in_ok-capture.ensures.start.count c.in_ok-capture.ensures.start.offset c.in_ok-lane.ensures.stands told;
@@ -68,6 +69,7 @@ loop-lane-preserved g c =
       tidy = tidy_lane-more (tree_at c.loop-lane.lane.monitor.store) (tree_at c.packet.new.self.monitor.store) c.loop-lane.lane.kept c.packet.new.self.kept
           (arrival_of c.loop-lane.packets c.next.new.frame) inv.tidy c.in_ok-packet-in-Frame.ensures.stands;
       faults = omega (arith, inv.faults, c.next.ensures.cause.later);
+      lasts = c.next.ensures.lasts ∙ inv.lasts;
       replaying = λ bytes told.
           let r = inv.replaying bytes told in
           let gives = subst (λ s. NextGives c.loop-lane.capture c.next.new.self (g.S.Source.left c.loop-lane.source) (g.S.Source.left c.next.new.source) c.next.new.frame (Ok s)) c.in-Frame.is c.in_ok-next.ensures.gives in

@@ -13,6 +13,7 @@ invariant-loop-lane g l = record {
   few : l.packets ≤ 1048576;
   tidy : IsTidyLane (tree_at l.lane.monitor.store) l.lane.kept l.packets;
   faults : g.S.Source.faults l.fn.source ≤ g.S.Source.faults l.source;
+  lasts : g.S.Source.lasting l.source ≡ g.S.Source.lasting l.fn.source;
   replaying : (bytes : List ℕ) → g.S.Source.left l.fn.source ≡ Some bytes
       → Replaying bytes (g.S.Source.left l.source) l.capture (tree_at l.lane.monitor.store) l.lane.kept l.packets;
 }

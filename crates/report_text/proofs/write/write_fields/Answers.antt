@@ -1,4 +1,4 @@
-use Rattle.std.proofs.Common.{◌≡◌, ℕ, List, ◌++◌, drop, ap, ◌+◌, sym, subst, true}
+use Rattle.std.proofs.Common.{◌∙◌, ◌≡◌, ℕ, List, ◌++◌, drop, ap, ◌+◌, sym, subst, true}
 use Rattle.app_api.specs.App.{is_field_name}
 use Rattle.report_text.specs.Lines.{field_line}
 use Rattle.report_text.specs.Report.{fields_text}
@@ -17,7 +17,8 @@ loop-name-preserved g c =
     let next = fields_text-drop c.args.fields.now c.loop-name.name-index c.loop-name-item.result c.loop-name-test.true c.loop-name-item.is in
     let read = subst (λ n. fields_text (drop c.loop-name.name-index c.args.fields.now) ≡ field_line (n, c.loop-name-item.result.1) ++ fields_text (drop (c.loop-name.name-index + 1) c.args.fields.now))
     (sym c.as_slice.ensures) next in
-    Writing-more g.O.Sink.taken g.O.Sink.faults _ _ _ _ _ _ _ c.loop-name.invariant read c.in_ok-write_field.ensures.text c.write_field.ensures.cause.later
+    (Writing-more g.O.Sink.taken g.O.Sink.faults _ _ _ _ _ _ _ c.loop-name.invariant.0 read c.in_ok-write_field.ensures.text c.write_field.ensures.cause.later,
+    c.write_field.ensures.lasts ∙ c.loop-name.invariant.1)
 
 pub returns-in_err-write_field-clause-text : goal.returns-in_err-write_field-clause-text
 returns-in_err-write_field-clause-text g c =
@@ -25,4 +26,4 @@ returns-in_err-write_field-clause-text g c =
     let read = subst (λ n. fields_text (drop c.loop-name.name-index c.args.fields.now) ≡ field_line (n, c.loop-name-item.result.1) ++ fields_text (drop (c.loop-name.name-index + 1) c.args.fields.now))
     (sym c.as_slice.ensures) next in
     WriteAdds-err _ _ _ _ c.from_residual.ensures.0
-    (Writing-failed g.O.Sink.taken g.O.Sink.faults _ _ _ _ _ _ _ c.loop-name.invariant read c.in_err-write_field.ensures.text)
+    (Writing-failed g.O.Sink.taken g.O.Sink.faults _ _ _ _ _ _ _ c.loop-name.invariant.0 read c.in_err-write_field.ensures.text)
