@@ -2,8 +2,7 @@
 use Rattle.std.proofs.Common.{◌≡◌, ◌≢◌, ℕ, List, refl, sym, ap, ◌∙◌}
 use Rattle.packet_views.specs.Packet.{class_of}
 use Rattle.packet_views.specs.declared.packet.Class.{Class}
-use Rattle.packet_views.specs.declared.packet.Class.TheVariants as Class
-use Rattle.lane_core.specs.Sight.{Sight, Segment, Tcp, Other, segment_of, sight_with, sight_of}
+use Rattle.lane_core.specs.Sight.{Segment, Tcp, Other, segment_of, sight_with, sight_of}
 
 pub sight_tcp : (bytes : List ℕ) (segment : Segment) → class_of bytes ≡ Class.Tcp → segment ≡ segment_of bytes → Tcp segment ≡ sight_of bytes
 unfolding sight_of

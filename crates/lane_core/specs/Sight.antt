@@ -4,7 +4,6 @@ use Rattle.packet_views.specs.Packet.{class_of, head_of, payload_of}
 use Rattle.packet_views.specs.Options.{window_scale_of}
 use Rattle.packet_views.specs.declared.packet.Head.{Head}
 use Rattle.packet_views.specs.declared.packet.Class.{Class}
-use Rattle.packet_views.specs.declared.packet.Class.TheVariants as Class
 use Rattle.pcap_source.specs.Captured.{Captured}
 use Rattle.flow_table.specs.declared.endpoint.Endpoint.{Endpoint}
 use Rattle.flow_table.specs.Endpoint.{source_of, destination_of}

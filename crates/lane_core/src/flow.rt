@@ -2,11 +2,13 @@
 
 ghost use Rattle.std.specs.Prelude.{◌≡◌, ◌+◌, ◌*◌, ◌<◌, ◌≤◌, ◌^◌, ℕ, List, length, OnOk, IfOk};
 ghost use Rattle.tcp_emulation.specs.declared.segment.Side.{Side};
+ghost use Rattle.lane_core.specs.declared.limits.TheConstants.{PHASE_CALLBACKS, PACKET_CALLBACKS};
 ghost use Rattle.lane_core.specs.Reach.{Reaches};
 ghost use Rattle.lane_core.specs.Records.{side_of};
 ghost use Rattle.lane_core.specs.Seen.{seen};
 
-use crate::in_force::{OVERLAP, RECEIVE_BUFFER};
+use crate::in_force::OVERLAP;
+use crate::limits::RECEIVE_BUFFER;
 use crate::monitor::Monitor;
 use crate::segment::Segment;
 use app_api::EntryList;
@@ -86,7 +88,7 @@ impl Flow {
         ensures stands { OnOk result (StepsBy (sender_phase (control_of monitor.now.in_force) number from (seen segment.now))
             (control_of monitor.now.in_force) (F.content monitor.now.store) self.old self.new entries.old entries.new) }
         ensures longer { length entries.old ≤ length entries.new }
-        ensures few { length entries.new ≤ length entries.old + 1530 }
+        ensures few { length entries.new ≤ length entries.old + PHASE_CALLBACKS }
     {
         let sent = self.socket.send(from, &segment.head);
         let raises = phase_s(&segment.head, from, self.count, self.count == 0, &sent);
@@ -113,7 +115,7 @@ impl Flow {
         ensures over { IfOk result (λ over. Answers over (λ h. is_over (receiver_phase (control_of monitor.now.in_force) number from (seen segment.now) h))
             (control_of monitor.now.in_force) (F.content monitor.now.store) self.old entries.old) }
         ensures longer { length entries.old ≤ length entries.new }
-        ensures few { length entries.new ≤ length entries.old + 1530 }
+        ensures few { length entries.new ≤ length entries.old + PHASE_CALLBACKS }
     {
         let nth = self.count;
         let got = self.socket.receive(from, &segment.head, segment.payload)?;
@@ -143,7 +145,7 @@ impl Flow {
         ensures over { IfOk result (λ over. Answers over (λ h. is_over (followed (control_of monitor.now.in_force) number (side_of self.old.client (seen segment.now)) (seen segment.now) h))
             (control_of monitor.now.in_force) (F.content monitor.now.store) self.old entries.old) }
         ensures longer { length entries.old ≤ length entries.new }
-        ensures few { length entries.new ≤ length entries.old + 3060 }
+        ensures few { length entries.new ≤ length entries.old + PACKET_CALLBACKS }
     {
         let from = side_of(&self.client, segment);
         self.sender_phase(monitor, from, number, segment, entries)?;

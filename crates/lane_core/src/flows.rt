@@ -6,6 +6,7 @@ ghost use Rattle.flow_table.specs.Key.{EndpointPair, same_key};
 ghost use Rattle.flow_table.specs.Table.{found};
 ghost use Rattle.lane_core.specs.InForce.{control_of};
 ghost use Rattle.lane_core.specs.Calls.{IsFirstForest};
+ghost use Rattle.lane_core.specs.declared.limits.TheConstants.{PACKET_CALLBACKS};
 ghost use Rattle.lane_core.specs.Seen.{seen};
 ghost use Rattle.lane_core.specs.Flows.{IsStep, Steps, Follows, Keeps, with_entries};
 
@@ -42,7 +43,7 @@ fn step_one<F: Forests + Drop>(
     ensures step { IfOk result (λ s. IsStep (control_of monitor.now.in_force) (F.content monitor.now.store) flow.old flow.new of.old.entries of.new.entries number (seen segment.now) s.over) }
     ensures noted { OnOk result (of.new ≡ with_entries of.new.entries of.old) }
     ensures calls { IfOk result (λ s. length of.new.entries ≡ length of.old.entries + s.calls) }
-    ensures few { IfOk result (λ s. s.calls ≤ 3060) }
+    ensures few { IfOk result (λ s. s.calls ≤ PACKET_CALLBACKS) }
 {
     let before = of.entries.items.len();
     let over = flow.step(monitor, number, segment, &mut of.entries)?;
@@ -66,7 +67,7 @@ fn step_flow<F: Forests + Drop>(
     requires counts { (other : EndpointPair) → ForSome (found flows.old other) (λ flow. flow.count < 2 ^ 30) }
     ensures none { result ≡ Ok None → (found flows.old key.now ≡ None) × (flows.new ≡ flows.old) × (records.new ≡ records.old) }
     ensures some { IfOk result (λ step. IfSome step (λ s. Steps (control_of monitor.now.in_force) (F.content monitor.now.store) flows.old flows.new records.old records.new key.now number (seen segment.now) s.over s.calls)) }
-    ensures few { IfOk result (λ step. IfSome step (λ s. s.calls ≤ 3060)) }
+    ensures few { IfOk result (λ step. IfSome step (λ s. s.calls ≤ PACKET_CALLBACKS)) }
     ensures kept { Keeps flows.old flows.new }
     ensures len { length records.new ≡ length records.old }
 {
@@ -104,7 +105,7 @@ pub(crate) fn follow<F: Forests + Drop>(
     requires counts { (other : EndpointPair) → ForSome (found flows.old other) (λ flow. flow.count < 2 ^ 30) }
     ensures none { result ≡ Ok None → (found flows.old key.now ≡ None) × (flows.new ≡ flows.old) × (records.new ≡ records.old) }
     ensures some { IfOk result (λ calls. IfSome calls (λ n. Follows (control_of monitor.now.in_force) (F.content monitor.now.store) flows.old flows.new records.old records.new key.now number (seen segment.now) n)) }
-    ensures few { IfOk result (λ calls. IfSome calls (λ n. n ≤ 3060)) }
+    ensures few { IfOk result (λ calls. IfSome calls (λ n. n ≤ PACKET_CALLBACKS)) }
     ensures kept { Keeps flows.old flows.new }
     ensures len { length records.new ≡ length records.old }
 {

@@ -9,9 +9,6 @@ use event_trees::Defs;
 use reassembly::Policy;
 use std::alloc::{AllocError, Global};
 
-/// The receive buffer of each end, in bytes.
-pub const RECEIVE_BUFFER: u32 = 65536;
-
 /// Of two overlapping bytes the first stays.
 pub(crate) const OVERLAP: Policy = Policy::First;
 

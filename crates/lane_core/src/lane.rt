@@ -11,6 +11,7 @@ ghost use Rattle.lane_core.specs.Seen.{seen};
 ghost use Rattle.lane_core.specs.Records.{opens};
 ghost use Rattle.app_api.specs.Log.{log};
 ghost use Rattle.forest_versions.specs.State.{start};
+ghost use Rattle.lane_core.specs.declared.limits.TheConstants.{PACKET_CALLBACKS, PACKETS};
 ghost use Rattle.lane_core.specs.Calls.{IsFirstTree};
 
 use crate::flow::Flow;
@@ -38,8 +39,8 @@ pub struct Lane<F: Forests> {
     ghost answered: { (key : EndpointPair) → ForSome (found kept.flows key) (λ flow. F.answered monitor.store flow.forest) } by { Π_prop (λ key. Π_prop (λ flow. Π_prop (λ _. F.answered_once monitor.store flow.forest))) },
     ghost trees: { (key : EndpointPair) → ForSome (found kept.flows key) (λ flow. IsFirstTree (start log.presets) (F.content monitor.store flow.forest)) },
     ghost counted: { (key : EndpointPair) → ForSome (found kept.flows key) (λ flow. flow.count ≤ next) },
-    ghost few: { kept.callbacks ≤ 3060 * next },
-    ghost numbered: { next ≤ 1048576 },
+    ghost few: { kept.callbacks ≤ PACKET_CALLBACKS * next },
+    ghost numbered: { next ≤ PACKETS },
 }
 
 /// What a lane ends with.
@@ -114,7 +115,7 @@ impl<F: Forests + Drop> Lane<F> {
         requires absent { found self.old.kept.flows key ≡ None }
         requires opens { opens (Tcp (seen segment.now)) ≡ true }
         requires next { 0 < self.old.next }
-        requires room { self.old.kept.callbacks + 3060 ≤ 3060 * self.old.next }
+        requires room { self.old.kept.callbacks + PACKET_CALLBACKS ≤ PACKET_CALLBACKS * self.old.next }
         ensures stands { OnOk result ((moment : Moment)
             → Adds (record { number = number; moment = moment; sight = Tcp (seen segment.now) }) (start log.presets)
             (F.content self.old.monitor.store) self.old.kept (F.content self.new.monitor.store) self.new.kept) }
@@ -142,7 +143,7 @@ impl<F: Forests + Drop> Lane<F> {
         class: Class,
         head: Option<&Head>,
     ) -> Result<(), AllocError>
-        requires room { self.old.kept.callbacks + 3060 ≤ 3060 * self.old.next }
+        requires room { self.old.kept.callbacks + PACKET_CALLBACKS ≤ PACKET_CALLBACKS * self.old.next }
         ensures stands { OnOk result (AddsStray number class (option_copied head.entry) (start log.presets)
             (F.content self.old.monitor.store) self.old.kept (F.content self.new.monitor.store) self.new.kept) }
         ensures next { self.new.next ≡ self.old.next }
@@ -164,7 +165,7 @@ impl<F: Forests + Drop> Lane<F> {
         segment: &Segment<'_>,
     ) -> Result<(), AllocError>
         requires rising { self.old.next ≤ number }
-        requires bound { number < 1048576 }
+        requires bound { number < PACKETS }
         ensures stands { OnOk result ((moment : Moment)
             → Adds (record { number = number; moment = moment; sight = Tcp (seen segment.now) }) (start log.presets)
             (F.content self.old.monitor.store) self.old.kept (F.content self.new.monitor.store) self.new.kept) }
@@ -198,7 +199,7 @@ impl<F: Forests + Drop> Lane<F> {
     // A packet that is no segment.
     fn other(&mut self, alloc: Global, number: u64, class: Class) -> Result<(), AllocError>
         requires rising { self.old.next ≤ number }
-        requires bound { number < 1048576 }
+        requires bound { number < PACKETS }
         ensures stands { OnOk result ((moment : Moment)
             → Adds (record { number = number; moment = moment; sight = Other class }) (start log.presets)
             (F.content self.old.monitor.store) self.old.kept (F.content self.new.monitor.store) self.new.kept) }
@@ -211,7 +212,7 @@ impl<F: Forests + Drop> Lane<F> {
     /// One more packet, of a number above all before. At an `Err` nothing is known of the lane.
     pub fn packet(&mut self, alloc: Global, number: u64, frame: &Frame) -> Result<(), AllocError>
         requires rising { self.old.next ≤ number }
-        requires bound { number < 1048576 }
+        requires bound { number < PACKETS }
         ensures stands { OnOk result (Adds (arrival_of number frame.now) (start log.presets)
             (F.content self.old.monitor.store) self.old.kept (F.content self.new.monitor.store) self.new.kept) }
         ensures next { self.new.next ≡ number + 1 }

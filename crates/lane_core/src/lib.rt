@@ -7,8 +7,8 @@ mod in_force;
 mod kept;
 pub mod lane;
 pub mod laws;
+pub mod limits;
 mod monitor;
 mod segment;
 
-pub use in_force::RECEIVE_BUFFER;
 pub use lane::{Lane, LaneEnd};

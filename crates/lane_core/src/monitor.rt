@@ -5,6 +5,7 @@ ghost use Rattle.shared_forest.specs.Listing.{listing};
 ghost use Rattle.event_trees.specs.Canon.{canon};
 ghost use Rattle.forest_versions.specs.State.{start, active as first_active};
 ghost use Rattle.app_api.specs.Log.{log};
+ghost use Rattle.lane_core.specs.declared.limits.TheConstants.{PRIVATE_LIST, PHASE_CALLBACKS};
 ghost use Rattle.lane_core.specs.InForce.{control_of};
 
 use crate::in_force::InForce;
@@ -86,7 +87,7 @@ impl<F: Forests + Drop> Monitor<F> {
         ensures calls { OnOk result ((active : List Reg) → IsTreeOf (control_of self.now.in_force) active tree.now
             → entries.new ≡ entries.old ++ calls_at (control_of self.now.in_force) number active raise.now) }
         ensures longer { length entries.old ≤ length entries.new }
-        ensures few { length entries.new ≤ length entries.old + 255 }
+        ensures few { length entries.new ≤ length entries.old + PRIVATE_LIST }
     {
         let natives = NativeBook::plain();
         let mut walk = Walk::start(tree, raise.hook, raise.event, &raise.facts);
@@ -108,7 +109,7 @@ impl<F: Forests + Drop> Monitor<F> {
         ensures calls { OnOk result ((active : List Reg) → IsTreeOf (control_of self.now.in_force) active (F.content self.now.store forest.now)
             → entries.new ≡ entries.old ++ calls (control_of self.now.in_force) number active raises.now) }
         ensures longer { length entries.old ≤ length entries.new }
-        ensures few { length entries.new ≤ length entries.old + 1530 }
+        ensures few { length entries.new ≤ length entries.old + PHASE_CALLBACKS }
     {
         let tree = self.store.tree_of(forest);
         for raise in raises.as_slice() {
@@ -126,7 +127,7 @@ impl<F: Forests + Drop> Monitor<F> {
     ) -> Result<(), AllocError>
         ensures calls { OnOk result (entries.new ≡ entries.old ++ calls (control_of self.now.in_force) number (first_active (control_of self.now.in_force)) raises.now) }
         ensures longer { length entries.old ≤ length entries.new }
-        ensures few { length entries.new ≤ length entries.old + 1530 }
+        ensures few { length entries.new ≤ length entries.old + PHASE_CALLBACKS }
     {
         self.call(&self.first, number, raises, entries)
     }

@@ -1,4 +1,4 @@
-use Rattle.std.proofs.Common.{◌∙◌, sym}
+use Rattle.std.proofs.Common.{◌∙◌}
 use Rattle.lane_core.proofs.Calling.{presets_in_place}
 use Rattle.lane_core.proofs.in_force.InForce.new.Goals as goal
 

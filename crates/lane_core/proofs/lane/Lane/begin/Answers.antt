@@ -1,9 +1,8 @@
-use Rattle.std.proofs.Common.{◌≡◌, ◌<◌, ◌≤◌, ◌+◌, [], length, sym, ap, subst, ◌∙◌, arith}
+use Rattle.std.proofs.Common.{◌≡◌, ◌<◌, ◌≤◌, [], length, sym, ap, subst, ◌∙◌, arith}
 use Rattle.std.specs.Prelude.{vec_len}
 use Rattle.std.proofs.lemmas.List.{length-map}
 use Rattle.std.proofs.lemmas.Result.{on_ok_weaker}
 use Rattle.report_text.specs.declared.record.Record.{Record}
-use Rattle.report_text.specs.declared.record.RecordKind.{RecordKind}
 use Rattle.lane_core.specs.declared.flow.Flow.{Flow}
 use Rattle.forest_versions.specs.State.{ControlState}
 use Rattle.lane_core.specs.InForce.{control_of}

@@ -1,9 +1,9 @@
-use Rattle.std.proofs.Common.{◌≡◌, ℕ, List, sym, ap, subst, ◌∙◌}
+use Rattle.std.proofs.Common.{◌≡◌, sym, ap, subst, ◌∙◌}
 use Rattle.std.proofs.lemmas.Result.{on_ok_weaker}
 use Rattle.packet_views.specs.Packet.{class_of}
 use Rattle.packet_views.specs.declared.packet.Class.TheVariants as Class
 use Rattle.pcap_source.specs.Captured.{Captured}
-use Rattle.lane_core.specs.Sight.{Sight, segment_of, sight_of}
+use Rattle.lane_core.specs.Sight.{Sight, segment_of}
 use Rattle.lane_core.specs.Seen.{seen}
 use Rattle.lane_core.specs.Lane.{Adds}
 use Rattle.lane_core.proofs.Calling.{from_start}

@@ -1,6 +1,5 @@
-use Rattle.std.proofs.Common.{sym, ap, ◌∙◌, subst}
+use Rattle.std.proofs.Common.{sym, ap, ◌∙◌}
 use Rattle.event_trees.specs.Canon.{canon}
-use Rattle.event_trees.specs.Private.{IsPrivate}
 use Rattle.lane_core.proofs.Calling.{private_start, start_list}
 use Rattle.lane_core.proofs.monitor.Monitor.new.Goals as goal
 

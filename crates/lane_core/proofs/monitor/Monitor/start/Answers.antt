@@ -1,4 +1,4 @@
-use Rattle.std.proofs.Common.{sym, subst, ap, ◌∙◌}
+use Rattle.std.proofs.Common.{sym, subst}
 use Rattle.shared_forest.specs.Lists.{TreeLists}
 use Rattle.forest_versions.specs.State.{ControlState}
 use Rattle.lane_core.specs.Calls.{IsFirstTree}
