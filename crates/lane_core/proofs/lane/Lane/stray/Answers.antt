@@ -1,4 +1,4 @@
-use Rattle.std.proofs.Common.{◌≡◌, ◌++◌, refl, ap, ◌∙◌}
+use Rattle.std.proofs.Common.{◌≡◌, [], ◌++◌, refl, ap, ◌∙◌}
 use Rattle.std.specs.Option.{option_copied}
 use Rattle.builtin_events.specs.Raises.{orphan_raises}
 use Rattle.report_text.specs.declared.record.RecordKind.TheVariants.{Orphan}
