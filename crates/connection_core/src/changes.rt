@@ -1,0 +1,69 @@
+//! The changes of a connection's registrations.
+
+ghost use Rattle.std.specs.Prelude.{◌≡◌, OnOk, List, ℕ, None, IsTrue, map};
+ghost use Rattle.std.specs.List.{list_any};
+ghost use Rattle.shared_forest.specs.Store.{Keeps};
+ghost use Rattle.connection_core.specs.Course.{changed, changed_all};
+ghost use Rattle.connection_core.specs.Trees.{active_in, IsForestIn};
+ghost use Rattle.connection_core.specs.Standing.{Alters};
+
+use crate::control::Control;
+use app_api::Change1;
+use event_trees::edit;
+use shared_forest::{Forests, Shared, Tree};
+use std::alloc::{AllocError, Global};
+
+// Whether a tree has a registration of this number.
+fn is_on(tree: &Tree, number: u8) -> bool
+    ensures { result ≡ list_any (λ slot. slot.number == number) tree.now.slots }
+{
+    tree.slots().iter().any(|slot| slot.number == number)
+}
+
+// Makes one change, where its number is registered and isn't so already.
+fn change<F: Forests>(
+    alloc: Global,
+    control: &Control,
+    forests: &mut F,
+    forest: &mut Shared,
+    change: Change1,
+) -> Result<(), AllocError>
+    requires answered { F.answered forests.old forest.old }
+    requires forest { IsForestIn control.now.defs control.now.regs (F.content forests.old forest.old) }
+    ensures answered { F.answered forests.new forest.new }
+    ensures forest { IsForestIn control.now.defs control.now.regs (F.content forests.new forest.new) }
+    ensures kept { Keeps F.answered F.content forests.old forests.new }
+    ensures made { OnOk result (Alters (active_in control.now.regs (F.content forests.old forest.old)) (active_in control.now.regs (F.content forests.new forest.new))
+        (F.interns forests.old) (F.interns forests.new) (changed control.now change)) }
+{
+    let Some(reg) = control.reg_at(change.reg) else {
+        return Ok(());
+    };
+    if is_on(forests.tree_of(forest), change.reg) == change.on {
+        return Ok(());
+    }
+    *forest = edit(alloc, forests, forest, control.defs(), reg, change.on)?;
+    Ok(())
+}
+
+/// Makes changes in the order in which they were asked. At an error some of them are made.
+pub(crate) fn change_all<F: Forests>(
+    alloc: Global,
+    control: &Control,
+    forests: &mut F,
+    forest: &mut Shared,
+    changes: &[Change1],
+) -> Result<(), AllocError>
+    requires answered { F.answered forests.old forest.old }
+    requires forest { IsForestIn control.now.defs control.now.regs (F.content forests.old forest.old) }
+    ensures answered { F.answered forests.new forest.new }
+    ensures forest { IsForestIn control.now.defs control.now.regs (F.content forests.new forest.new) }
+    ensures kept { Keeps F.answered F.content forests.old forests.new }
+    ensures made { OnOk result (Alters (active_in control.now.regs (F.content forests.old forest.old)) (active_in control.now.regs (F.content forests.new forest.new))
+        (F.interns forests.old) (F.interns forests.new) (changed_all control.now changes.now)) }
+{
+    for asked in changes {
+        change(alloc, control, forests, forest, *asked)?;
+    }
+    Ok(())
+}

@@ -1,0 +1,34 @@
+//! Packets that arrive, and the raises that they make.
+
+ghost use Rattle.std.specs.Prelude.{◌≡◌, ◌≤◌, length};
+
+use native_filters::{Facts, Hook};
+use packet_views::Head;
+use tcp_emulation::Side;
+
+/// A segment of a connection.
+#[derive(Clone, Copy)]
+pub struct Arrived<'a> {
+    /// The packet's number, from 0.
+    pub number: u64,
+    /// Who sent it.
+    pub from: Side,
+    pub head: &'a Head,
+    /// Its `head.len` bytes.
+    pub payload: &'a [u8],
+    ghost len: { head.now.len ≡ length payload.now },
+    ghost bytes: { length payload.now ≤ 65535 },
+}
+
+/// One raise of a packet.
+#[derive(Clone, Copy)]
+pub(crate) struct Moment<'a> {
+    /// The packet's number.
+    pub(crate) number: u64,
+    /// Who sent it.
+    pub(crate) from: Side,
+    pub(crate) hook: Hook,
+    /// The event that is raised.
+    pub(crate) event: u16,
+    pub(crate) facts: &'a Facts,
+}
