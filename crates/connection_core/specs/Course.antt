@@ -23,7 +23,7 @@ use Rattle.app_api.specs.Reg.{reg_of}
 use Rattle.builtin_events.specs.declared.raise.Raise.{Raise}
 use Rattle.event_trees.specs.Private.{edited}
 use Rattle.event_trees.specs.Fires.{fires}
-use Rattle.connection_core.specs.Control.{ControlState}
+use Rattle.forest_versions.specs.State.{ControlState}
 
 -- The emulated connection; the private list, and how often it was altered; what the application keeps; the callbacks made, in
 -- order; the changes asked in this phase, in order; the first reason for which a drop was asked.

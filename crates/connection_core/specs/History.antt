@@ -14,7 +14,7 @@ use Rattle.app_api.specs.declared.registration.Reg.{Reg}
 use Rattle.app_api.specs.App.{Meaning}
 use Rattle.builtin_events.specs.declared.raise.Raise.{Raise}
 use Rattle.builtin_events.specs.Raises.{sender_raises, receiver_raises}
-use Rattle.connection_core.specs.Control.{ControlState, first_active}
+use Rattle.forest_versions.specs.State.{ControlState, active as first_active}
 use Rattle.connection_core.specs.Course.{Course, raised, phase, bytes_seen}
 
 -- The emulated connection and its packets so far; its private list, and how often it was altered; what the application keeps; the

@@ -1,3 +1,4 @@
+pub mod Registered
 pub mod Control
 pub mod Course
 pub mod History

@@ -5,7 +5,7 @@ use Rattle.app_api.specs.declared.registration.Reg.{Reg}
 use Rattle.app_api.specs.App.{Meaning}
 use Rattle.app_api.specs.Reg.{reg_of}
 use Rattle.builtin_events.specs.declared.raise.Raise.{Raise}
-use Rattle.connection_core.specs.Control.{ControlState}
+use Rattle.forest_versions.specs.State.{ControlState}
 use Rattle.connection_core.specs.Course.{Course, called}
 
 -- the callback of the registration with a number; where there is none, nothing is called

@@ -24,13 +24,13 @@ pub record IsNoted (keep : Bool) (others : Counts) (kept : Tally) (made : List E
   pub weight : counts.weight ≡ others.weight + weight_of made
 
 -- what is kept of a connection; its private list is what the tree of its registrations names
-pub record IsFlow (regs : List Reg) (tree : TreeLists) (flow : Flow) (h : History) : Type 0 where
+pub record IsFlow (at : ℕ → Option Reg) (tree : TreeLists) (flow : Flow) (h : History) : Type 0 where
   pub socket : SocketStandsFor flow.socket h.emulation
   pub count : flow.count ≡ h.count
-  pub active : h.active ≡ active_in regs tree
+  pub active : h.active ≡ active_in at tree
 
-pub record IsConnection (keep : Bool) (others : Counts) (regs : List Reg) (tree : TreeLists) (flow : Flow) (notes : Notes) (counts : Counts) (h : History) : Type 0 where
-  pub kept : IsFlow regs tree flow h
+pub record IsConnection (keep : Bool) (others : Counts) (at : ℕ → Option Reg) (tree : TreeLists) (flow : Flow) (notes : Notes) (counts : Counts) (h : History) : Type 0 where
+  pub kept : IsFlow at tree flow h
   pub noted : IsNoted keep others h.tally h.entries notes counts
 
 -- a packet under way, over this private list

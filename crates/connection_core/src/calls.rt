@@ -3,6 +3,8 @@
 ghost use Rattle.std.specs.Prelude.{◌≡◌, ◌≤◌, ◌<◌, ◌+◌, ◌*◌, ◌^◌, IsTrue, OnOk, List, ℕ, length};
 ghost use Rattle.app_api.specs.Reg.{peek_fits, reg_of};
 ghost use Rattle.app_api.specs.declared.registration.Reg.{Reg as RegOf};
+ghost use Rattle.forest_versions.specs.State.{ControlState};
+ghost use Rattle.connection_core.specs.Control.{told, defs_at, IsInForce};
 ghost use Rattle.connection_core.specs.Course.{called, called_at, raised};
 ghost use Rattle.connection_core.specs.Trees.{active_in, IsForestIn};
 ghost use Rattle.connection_core.specs.Numbers.{called_by};
@@ -34,8 +36,8 @@ impl<A: App> Terms<'_, A> {
         requires peek { IsTrue (peek_fits reg.now.peek) }
         requires callbacks { ledger.old.counts.callbacks < 2 ^ 63 }
         requires weight { ledger.old.counts.weight < 2 ^ 63 }
-        ensures stands { OnOk result ((list : List RegOf) → Steps self.now.keep list socket.old notes.old ledger.old socket.new notes.new ledger.new
-            (λ c. called (A.meaning self.now.app.now) self.now.control moment.now.number moment.now.from (raise_of moment.now) c reg.now)) }
+        ensures stands { OnOk result ((s : ControlState) (list : List RegOf) → IsInForce self.now.control s → Steps self.now.keep list socket.old notes.old ledger.old socket.new notes.new ledger.new
+            (λ c. called (A.meaning self.now.app.now) s moment.now.number moment.now.from (raise_of moment.now) c reg.now)) }
         ensures rise { RiseBy 1 ledger.old.counts ledger.new.counts }
         ensures as_far { IsAsFar socket.old socket.new }
     {
@@ -59,13 +61,12 @@ impl<A: App> Terms<'_, A> {
     ) -> Result<(), AllocError>
         requires callbacks { ledger.old.counts.callbacks < 2 ^ 63 }
         requires weight { ledger.old.counts.weight < 2 ^ 63 }
-        ensures stands { OnOk result ((list : List RegOf) → Steps self.now.keep list socket.old notes.old ledger.old socket.new notes.new ledger.new
-            (λ c. called_by (A.meaning self.now.app.now) self.now.control moment.now.number moment.now.from (raise_of moment.now) c (reg_of self.now.control.regs number))) }
+        ensures stands { OnOk result ((s : ControlState) (list : List RegOf) → IsInForce self.now.control s → Steps self.now.keep list socket.old notes.old ledger.old socket.new notes.new ledger.new
+            (λ c. called_by (A.meaning self.now.app.now) s moment.now.number moment.now.from (raise_of moment.now) c (reg_of s.regs number))) }
         ensures rise { RiseBy 1 ledger.old.counts ledger.new.counts }
         ensures as_far { IsAsFar socket.old socket.new }
     {
-        let control = &self.control;
-        match control.reg_at(number) {
+        match self.control.reg_at(number) {
             Some(reg) => self.call(alloc, moment, reg, socket, notes, ledger),
             None => Ok(()),
         }
@@ -81,17 +82,16 @@ impl<A: App> Terms<'_, A> {
         notes: &mut Notes,
         ledger: &mut Ledger,
     ) -> Result<(), AllocError>
-        requires forest { IsForestIn self.now.control.defs self.now.control.regs tree.now }
+        requires forest { IsForestIn (defs_at self.now.control) (told self.now.control) tree.now }
         requires callbacks { ledger.old.counts.callbacks < 2 ^ 62 }
         requires weight { ledger.old.counts.weight < 2 ^ 62 }
-        ensures stands { OnOk result (Steps self.now.keep (active_in self.now.control.regs tree.now) socket.old notes.old ledger.old socket.new notes.new ledger.new
-            (called_at (A.meaning self.now.app.now) self.now.control moment.now.number moment.now.from (raise_of moment.now))) }
+        ensures stands { OnOk result ((s : ControlState) → IsInForce self.now.control s → Steps self.now.keep (active_in (told self.now.control) tree.now) socket.old notes.old ledger.old socket.new notes.new ledger.new
+            (called_at (A.meaning self.now.app.now) s moment.now.number moment.now.from (raise_of moment.now))) }
         ensures rise { RiseBy 255 ledger.old.counts ledger.new.counts }
         ensures as_far { IsAsFar socket.old socket.new }
     {
-        let control = &self.control;
         let mut walk = Walk::start(tree, moment.hook, moment.event, moment.facts);
-        while let Some(number) = walk.next(control.defs(), self.natives) {
+        while let Some(number) = walk.next(self.control.defs(), self.natives) {
             self.call_number(alloc, moment, number, socket, notes, ledger)?;
         }
         Ok(())
@@ -109,11 +109,11 @@ impl<A: App> Terms<'_, A> {
         notes: &mut Notes,
         ledger: &mut Ledger,
     ) -> Result<(), AllocError>
-        requires forest { IsForestIn self.now.control.defs self.now.control.regs tree.now }
+        requires forest { IsForestIn (defs_at self.now.control) (told self.now.control) tree.now }
         requires callbacks { ledger.old.counts.callbacks < 2 ^ 61 }
         requires weight { ledger.old.counts.weight < 2 ^ 61 }
-        ensures stands { OnOk result (Steps self.now.keep (active_in self.now.control.regs tree.now) socket.old notes.old ledger.old socket.new notes.new ledger.new
-            (raised (A.meaning self.now.app.now) self.now.control number from raises.now)) }
+        ensures stands { OnOk result ((s : ControlState) → IsInForce self.now.control s → Steps self.now.keep (active_in (told self.now.control) tree.now) socket.old notes.old ledger.old socket.new notes.new ledger.new
+            (raised (A.meaning self.now.app.now) s number from raises.now)) }
         ensures rise { RiseBy 1530 ledger.old.counts ledger.new.counts }
         ensures as_far { IsAsFar socket.old socket.new }
     {

@@ -1,8 +1,10 @@
 //! The changes of a connection's registrations.
 
-ghost use Rattle.std.specs.Prelude.{◌≡◌, OnOk, List, ℕ, None, IsTrue, map};
+ghost use Rattle.std.specs.Prelude.{◌≡◌, ◌==◌, OnOk};
 ghost use Rattle.std.specs.List.{list_any};
 ghost use Rattle.shared_forest.specs.Store.{Keeps};
+ghost use Rattle.forest_versions.specs.State.{ControlState};
+ghost use Rattle.connection_core.specs.Control.{told, defs_at, IsInForce};
 ghost use Rattle.connection_core.specs.Course.{changed, changed_all};
 ghost use Rattle.connection_core.specs.Trees.{active_in, IsForestIn};
 ghost use Rattle.connection_core.specs.Standing.{Alters};
@@ -29,12 +31,12 @@ fn change<F: Forests>(
     change: Change1,
 ) -> Result<(), AllocError>
     requires answered { F.answered forests.old forest.old }
-    requires forest { IsForestIn control.now.defs control.now.regs (F.content forests.old forest.old) }
+    requires forest { IsForestIn (defs_at control.now) (told control.now) (F.content forests.old forest.old) }
     ensures answered { F.answered forests.new forest.new }
-    ensures forest { IsForestIn control.now.defs control.now.regs (F.content forests.new forest.new) }
+    ensures forest { IsForestIn (defs_at control.now) (told control.now) (F.content forests.new forest.new) }
     ensures kept { Keeps F.answered F.content forests.old forests.new }
-    ensures made { OnOk result (Alters (active_in control.now.regs (F.content forests.old forest.old)) (active_in control.now.regs (F.content forests.new forest.new))
-        (F.interns forests.old) (F.interns forests.new) (changed control.now change)) }
+    ensures made { OnOk result ((s : ControlState) → IsInForce control.now s → Alters (active_in (told control.now) (F.content forests.old forest.old)) (active_in (told control.now) (F.content forests.new forest.new))
+        (F.interns forests.old) (F.interns forests.new) (changed s change)) }
 {
     let Some(reg) = control.reg_at(change.reg) else {
         return Ok(());
@@ -55,12 +57,12 @@ pub(crate) fn change_all<F: Forests>(
     changes: &[Change1],
 ) -> Result<(), AllocError>
     requires answered { F.answered forests.old forest.old }
-    requires forest { IsForestIn control.now.defs control.now.regs (F.content forests.old forest.old) }
+    requires forest { IsForestIn (defs_at control.now) (told control.now) (F.content forests.old forest.old) }
     ensures answered { F.answered forests.new forest.new }
-    ensures forest { IsForestIn control.now.defs control.now.regs (F.content forests.new forest.new) }
+    ensures forest { IsForestIn (defs_at control.now) (told control.now) (F.content forests.new forest.new) }
     ensures kept { Keeps F.answered F.content forests.old forests.new }
-    ensures made { OnOk result (Alters (active_in control.now.regs (F.content forests.old forest.old)) (active_in control.now.regs (F.content forests.new forest.new))
-        (F.interns forests.old) (F.interns forests.new) (changed_all control.now changes.now)) }
+    ensures made { OnOk result ((s : ControlState) → IsInForce control.now s → Alters (active_in (told control.now) (F.content forests.old forest.old)) (active_in (told control.now) (F.content forests.new forest.new))
+        (F.interns forests.old) (F.interns forests.new) (changed_all s changes.now)) }
 {
     for asked in changes {
         change(alloc, control, forests, forest, *asked)?;

@@ -4,7 +4,8 @@ ghost use Rattle.std.specs.Prelude.{◌≡◌, ◌+◌, ◌*◌, ◌<◌, ◌≤
 ghost use Rattle.app_api.specs.declared.registration.Reg.{Reg as RegOf};
 ghost use Rattle.shared_forest.specs.Store.{Keeps};
 ghost use Rattle.connection_core.specs.Trees.{active_in, IsTreeOf, IsForestIn, InternsWithin};
-ghost use Rattle.connection_core.specs.Control.{first_active};
+ghost use Rattle.forest_versions.specs.State.{ControlState, active as first_active};
+ghost use Rattle.connection_core.specs.Control.{told, defs_at, IsInForce};
 ghost use Rattle.connection_core.specs.Reach.{Reaches};
 
 use crate::changes::change_all;
@@ -44,8 +45,10 @@ pub struct Step {
 const MOST: usize = 4;
 
 impl Flow {
-    ghost use Rattle.flow_socket.specs.Known.{SocketStandsFor};
-    ghost use Rattle.flow_socket.specs.Emulation.{fresh as unheard};
+    ghost use Rattle.app_api.specs.App.{Meaning};
+    ghost use Rattle.shared_forest.specs.Lists.{TreeLists};
+    ghost use Rattle.shared_forest.specs.Listing.{listing};
+    ghost use Rattle.event_trees.specs.Canon.{canon};
     ghost use Rattle.connection_core.specs.declared.ledger.Counts.{Counts};
     ghost use Rattle.connection_core.specs.Course.{Course, phase, settled};
     ghost use Rattle.connection_core.specs.History.{History, fresh, sender_phase, receiver_phase, followed, verdict, is_over};
@@ -55,7 +58,8 @@ impl Flow {
     pub fn new(alloc: Global, control: &Control, forest: Shared) -> Flow
         ensures forest { result.forest ≡ forest }
         ensures count { result.count ≡ 0 }
-        ensures socket { SocketStandsFor result.socket (unheard control.now.rbuf control.now.policy) }
+        ensures opened { (s : ControlState) (tree : TreeLists) → IsInForce control.now s → listing tree ≡ canon s.defs (first_active s)
+            → IsForestIn (defs_at control.now) (told control.now) tree × ((app : Meaning) → IsFlow (told control.now) tree result (fresh app s)) }
     {
         Flow {
             socket: FlowSocket::new(alloc, control.rbuf(), control.policy()),

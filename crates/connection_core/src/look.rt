@@ -125,7 +125,7 @@ fn look_at(
     })
 }
 
-// Notes one run, where bytes are to be kept.
+// Notes one run, which is kept whole, where bytes are to be kept.
 fn note_piece(
     alloc: Global,
     keep: bool,
@@ -135,7 +135,7 @@ fn note_piece(
     pieces: &mut PieceList,
 ) -> Result<(), AllocError>
     requires { run ≤ 256 }
-    ensures { OnOk result ((r : Receiver) → StandsFor stream.now r → pieces.new
+    ensures { OnOk result ((r : Receiver) → StandsFor stream.now r → length (bytes_from (kept r.cells stream.now.rbuf) place run) ≡ run → pieces.new
         ≡ (if keep then pieces.old ++ (place, bytes_from (kept r.cells stream.now.rbuf) place run) ∷ [] else pieces.old)) }
 {
     if !keep {
@@ -143,8 +143,10 @@ fn note_piece(
     }
     let mut room = [0; LONGEST];
     let buf = &mut room[..run as usize];
-    let len = stream.read_at(place, buf);
-    let bytes = kept_bytes(alloc, true, &buf[..len])?;
+    let _all = stream.read_at(place, buf);
+    let bytes = Bytes {
+        items: buf.to_vec(alloc)?,
+    };
     pieces.items.push((place, bytes))?;
     Ok(())
 }

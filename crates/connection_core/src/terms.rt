@@ -1,7 +1,9 @@
 //! What callbacks run under: the application, what is in force, and whether entries are kept.
 
 ghost use Rattle.std.specs.Prelude.{◌≡◌, IsTrue};
-ghost use Rattle.connection_core.specs.Course.{reaction_of, asked_by, call_of};
+ghost use Rattle.forest_versions.specs.State.{ControlState};
+ghost use Rattle.connection_core.specs.Control.{IsInForce};
+ghost use Rattle.connection_core.specs.Course.{reaction_of, asked_by};
 
 use crate::control::Control;
 use app_api::{App, Call, Reaction, Reason, Reg, Tally};
@@ -24,12 +26,11 @@ const FIRST_OF_SCRIPTS: u8 = 16;
 impl<A: App> Terms<'_, A> {
     /// Runs a callback: a preset's application, or the action of a script's registration.
     pub(crate) fn react(&self, reg: &Reg, call: &Call, tally: &mut Tally) -> Reaction
-        ensures tally { tally.new ≡ (reaction_of (A.meaning self.now.app.now) self.now.control.rules reg.now call.now tally.old).0 }
-        ensures reaction { result ≡ (reaction_of (A.meaning self.now.app.now) self.now.control.rules reg.now call.now tally.old).1 }
+        ensures tally { (s : ControlState) → IsInForce self.now.control s → tally.new ≡ (reaction_of (A.meaning self.now.app.now) s.rules reg.now call.now tally.old).0 }
+        ensures reaction { (s : ControlState) → IsInForce self.now.control s → result ≡ (reaction_of (A.meaning self.now.app.now) s.rules reg.now call.now tally.old).1 }
     {
         if reg.number < FIRST_OF_SCRIPTS {
-            let control = &self.control;
-            self.app.react(tally, call, control.rules())
+            self.app.react(tally, call, self.control.rules())
         } else {
             asked_by(reg)
         }
