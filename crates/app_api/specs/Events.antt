@@ -1,7 +1,32 @@
 use Rattle.std.specs.Prelude.{ℕ, Bool, true, false, ◌==◌, ◌||◌, if◌then◌else◌}
 use Rattle.native_filters.specs.declared.facts.Hook.{Hook}
 use Rattle.native_filters.specs.declared.facts.Hook.TheVariants.{Snd, Rcv}
-use Rattle.app_api.specs.declared.events.TheConstants.{START, PKT_IN, REXMIT, NEW_DATA, ERROR, STATE, END, ORPHAN}
+
+-- the built-in events by their numbers
+
+abbrev pub START : ℕ
+START = 256
+
+abbrev pub PKT_IN : ℕ
+PKT_IN = 257
+
+abbrev pub REXMIT : ℕ
+REXMIT = 258
+
+abbrev pub NEW_DATA : ℕ
+NEW_DATA = 259
+
+abbrev pub ERROR : ℕ
+ERROR = 260
+
+abbrev pub STATE : ℕ
+STATE = 261
+
+abbrev pub END : ℕ
+END = 262
+
+abbrev pub ORPHAN : ℕ
+ORPHAN = 263
 
 -- whether the hook is the sender's
 abbrev pub is_snd : Hook → Bool

@@ -2,9 +2,8 @@ use Rattle.std.specs.Prelude.{true, List, [], ◌∷◌, refl}
 use Rattle.std.proofs.Common.{lit≤}
 use Rattle.native_filters.specs.declared.facts.Hook.TheVariants.{Snd, Rcv}
 use Rattle.app_api.specs.declared.registration.Reg.{Reg}
-use Rattle.app_api.specs.declared.events.TheConstants.{PKT_IN, ORPHAN}
 use Rattle.app_api.specs.App.{Meaning, IsLawful}
-use Rattle.app_api.specs.Events.{allows_hook}
+use Rattle.app_api.specs.Events.{PKT_IN, ORPHAN, allows_hook}
 use Rattle.app_api.specs.Reg.{preset_reg}
 use Rattle.app_api.specs.Reaction.{asks_nothing}
 use Rattle.app_api.specs.Tally.{zeros}

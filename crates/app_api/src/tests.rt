@@ -5,20 +5,27 @@ use std::test::Fail;
 #[test]
 fn hooks_of_the_built_in_events(rt: HostRuntime) {
     let rows = [
-        (START, true, false),
-        (PKT_IN, true, true),
-        (REXMIT, false, true),
-        (NEW_DATA, false, true),
-        (ERROR, false, true),
-        (STATE, true, true),
-        (END, false, true),
-        (ORPHAN, true, false),
+        (255, false, false),
+        (256, true, false),
+        (257, true, true),
+        (258, false, true),
+        (259, false, true),
+        (260, false, true),
+        (261, true, true),
+        (262, false, true),
+        (263, true, false),
         (264, false, false),
     ];
     for (event, snd, rcv) in rows {
         assert_eq!(rt; allows_hook(event, Hook::Snd), snd);
         assert_eq!(rt; allows_hook(event, Hook::Rcv), rcv);
     }
+}
+
+#[test]
+fn numbers_of_the_built_in_events(rt: HostRuntime) {
+    let events = [START, PKT_IN, REXMIT, NEW_DATA, ERROR, STATE, END, ORPHAN];
+    assert_eq!(rt; events, [256, 257, 258, 259, 260, 261, 262, 263]);
 }
 
 #[test]
@@ -38,15 +45,25 @@ fn changes_stand_in_order(rt: HostRuntime) {
     assert_eq!(rt; changes.as_slice(), rows.as_slice());
 }
 
+/// The fields of a registration without a peek and without changes.
+fn told(reg: &Reg) -> (u8, u16, Hook, bool, bool) {
+    (reg.number, reg.event, reg.hook, reg.on, reg.action.drop)
+}
+
 #[test]
 fn log_has_three_presets_and_asks_nothing(rt: HostRuntime) -> Result<(), Fail> {
     let presets = presets_of(rt.alloc(), &LogApp)?;
     let rows = [
-        Reg::preset(1, PKT_IN, Hook::Snd, true),
-        Reg::preset(2, PKT_IN, Hook::Rcv, true),
-        Reg::preset(3, ORPHAN, Hook::Snd, true),
+        (1, 257, Hook::Snd, true, false),
+        (2, 257, Hook::Rcv, true, false),
+        (3, 263, Hook::Snd, true, false),
     ];
-    assert_eq!(rt; presets.as_slice(), rows.as_slice());
+    assert_eq!(rt; presets.as_slice().len(), 3);
+    for (preset, row) in presets.as_slice().iter().zip(rows) {
+        assert_eq!(rt; told(preset), row);
+        assert_eq!(rt; preset.peek, PeekSpec::Nothing);
+        assert!(rt; preset.action.changes.as_slice().is_empty());
+    }
     assert_eq!(rt; (LogApp.preset(0), LogApp.preset(4)), (None, None));
 
     let mut tally = LogApp.fresh();
@@ -57,8 +74,20 @@ fn log_has_three_presets_and_asks_nothing(rt: HostRuntime) -> Result<(), Fail> {
         facts: Facts::none(),
         got: 0,
     };
-    assert_eq!(rt; LogApp.react(&mut tally, &call, &[]), Reaction::nothing());
-    assert_eq!(rt; tally, Tally::zeros());
+    let reaction = LogApp.react(&mut tally, &call, &[]);
+    assert_eq!(rt; reaction.drop, None);
+    assert!(rt; reaction.changes.as_slice().is_empty());
+    let Tally {
+        t0,
+        t1,
+        t2,
+        t3,
+        t4,
+        t5,
+        t6,
+        t7,
+    } = tally;
+    assert_eq!(rt; [t0, t1, t2, t3, t4, t5, t6, t7], [0; 8]);
     let fields = fields_of(rt.alloc(), &LogApp, &tally)?;
     assert!(rt; fields.as_slice().is_empty());
     Ok(())
@@ -68,12 +97,8 @@ fn is_shared<T: Send + Sync>(_: &T) -> bool {
     true
 }
 
-fn is_handed_over<T: Send>(_: &T) -> bool {
-    true
-}
-
 #[test]
-fn threads_share_registrations_and_hand_over_entries(rt: HostRuntime) {
+fn threads_share_registrations_and_entries(rt: HostRuntime) {
     let alloc = rt.alloc();
     let entries = EntryList {
         items: Vec::new(alloc),
@@ -84,8 +109,30 @@ fn threads_share_registrations_and_hand_over_entries(rt: HostRuntime) {
     let active = ActiveList {
         items: Vec::new(alloc),
     };
+    let fields = FieldList {
+        items: Vec::new(alloc),
+    };
+    let entry = Entry {
+        index: 0,
+        hook: Hook::Snd,
+        event: 257,
+        reg: 1,
+        seen: Seen::Nothing,
+    };
+    let rule = Rule {
+        number: 1,
+        allow: true,
+        src: 0,
+        src_len: 0,
+        dst: 0,
+        dst_len: 0,
+        low: 0,
+        high: 65535,
+    };
     assert!(rt; is_shared(&LogApp) && is_shared(&Reg::preset(1, PKT_IN, Hook::Snd, true)));
-    assert!(rt; is_handed_over(&entries) && is_handed_over(&drops) && is_handed_over(&active));
+    assert!(rt; is_shared(&rule) && is_shared(&Reaction::nothing()) && is_shared(&Tally::zeros()));
+    assert!(rt; is_shared(&entry) && is_shared(&entries) && is_shared(&drops) && is_shared(&active));
+    assert!(rt; is_shared(&fields) && is_shared(&Verdict::Pass) && fields.as_slice().is_empty());
     assert!(rt;
         entries.as_slice().is_empty() && drops.as_slice().is_empty() && active.as_slice().is_empty()
     );

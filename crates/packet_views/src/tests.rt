@@ -105,11 +105,55 @@ fn head_of_a_tagged_frame(rt: HostRuntime) {
 #[test]
 fn padding_is_no_payload(rt: HostRuntime) {
     let frame = changed(&[(17, 42), (54, 7), (55, 9), (56, 1)]);
+    assert_eq!(rt; payload(&frame), Some(&[7, 9][..]));
     if let View::Tcp(segment) = view_of(&frame) {
-        assert_eq!(rt; segment.payload(), &[7, 9][..]);
         assert_eq!(rt; segment.head().len, 2);
     }
-    assert_eq!(rt; class(&frame), Class::Tcp);
+}
+
+// The payload of a segment, which outlives the view.
+fn payload(frame: &[u8]) -> Option<&[u8]> {
+    match view_of(frame) {
+        View::Tcp(segment) => Some(segment.payload()),
+        View::Other(_) => None,
+    }
+}
+
+#[test]
+fn flags_by_their_bits(rt: HostRuntime) {
+    for (flags, want) in [
+        (0x01, (true, false, false, false)),
+        (0x02, (false, true, false, false)),
+        (0x04, (false, false, true, false)),
+        (0x10, (false, false, false, true)),
+        (0x12, (false, true, false, true)),
+        (0xe8, (false, false, false, false)),
+    ] {
+        let frame = changed(&[(47, flags)]);
+        if let View::Tcp(segment) = view_of(&frame) {
+            let head = segment.head();
+            let got = (
+                head.has_fin(),
+                head.has_syn(),
+                head.has_rst(),
+                head.has_ack(),
+            );
+            assert_eq!(rt; got, want, "flags {flags}");
+        }
+        assert_eq!(rt; class(&frame), Class::Tcp);
+    }
+}
+
+fn is_shared<T: Send + Sync>(_: &T) -> bool {
+    true
+}
+
+#[test]
+fn threads_share_classes_and_heads(rt: HostRuntime) {
+    assert!(rt; is_shared(&Class::Tcp));
+    if let View::Tcp(segment) = view_of(&SYN) {
+        assert!(rt; is_shared(&segment.head()));
+    }
 }
 
 // The window scale of a SYN with 4 bytes of options.

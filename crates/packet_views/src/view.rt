@@ -65,9 +65,9 @@ impl<'a> TcpView<'a> {
     }
 
     /// The bytes between the TCP header and the end of the IPv4 packet, at most 65,535, borrowed
-    /// from the frame. Padding of the frame is no part of them.
+    /// from the frame: they may outlive the view. Padding of the frame is no part of them.
     #[tactic(auto, unfolding(crate::specs::Packet::payload_of))]
-    pub fn payload(&self) -> &[u8]
+    pub fn payload(&self) -> &'a [u8]
         ensures bytes { result.now ≡ payload_of self.now }
         ensures bound { length result.now ≤ 65535 }
     {
