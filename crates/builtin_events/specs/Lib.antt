@@ -1,3 +1,4 @@
 pub mod Facts
 pub mod Laws
+pub mod Raised
 pub mod Raises

@@ -5,7 +5,7 @@ use Rattle.native_filters.specs.declared.facts.Hook.TheVariants.{Snd, Rcv}
 use Rattle.packet_views.specs.declared.packet.Class.{Class}
 use Rattle.packet_views.specs.declared.packet.Head.{Head}
 use Rattle.tcp_emulation.specs.declared.segment.Side.{Side}
-use Rattle.app_api.specs.declared.events.TheConstants.{START, PKT_IN, REXMIT, NEW_DATA, ERROR, STATE, END, ORPHAN}
+use Rattle.app_api.specs.Events.{START, PKT_IN, REXMIT, NEW_DATA, ERROR, STATE, END, ORPHAN}
 use Rattle.flow_socket.specs.declared.answers.Sent.{Sent}
 use Rattle.flow_socket.specs.declared.answers.Got.{Got}
 use Rattle.builtin_events.specs.declared.raise.Raise.{Raise}

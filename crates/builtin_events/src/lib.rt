@@ -5,10 +5,14 @@ mod facts;
 mod laws;
 mod phases;
 mod raise;
+mod raised;
 
 pub use laws::{receiver_raises_each_event_in_order, sender_raises_each_event_in_order};
-pub use phases::{orphan_raise, phase_r, phase_s};
+pub use phases::{
+    orphan_raise, phase_r, phase_s, raised_at_receiver, raised_at_sender, raised_by_orphan,
+};
 pub use raise::{Raise, RaiseList};
+pub use raised::{EventList, Raised};
 
 #[cfg(test)]
 mod tests;

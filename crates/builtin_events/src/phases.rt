@@ -1,77 +1,99 @@
-//! The raises of both phases of a packet, and of an orphan.
+//! What is raised in both phases of a packet, and by an orphan.
 
 ghost use Rattle.std.specs.Prelude.{◌≡◌};
 ghost use Rattle.std.specs.Option.{option_copied};
+ghost use Rattle.builtin_events.specs.Facts.{sender_facts, receiver_facts, orphan_facts};
+ghost use Rattle.builtin_events.specs.Raised.{raises_of};
 ghost use Rattle.builtin_events.specs.Raises.{sender_raises, receiver_raises, orphan_raises};
 
 use crate::facts::{orphan_facts, receiver_facts, sender_facts};
-use crate::raise::{Raise, RaiseList};
+use crate::raise::RaiseList;
+use crate::raised::{EventList, Raised};
 use app_api::{END, ERROR, NEW_DATA, ORPHAN, PKT_IN, REXMIT, START, STATE};
 use flow_socket::{Got, Sent};
-use native_filters::{Facts, Hook};
+use native_filters::Hook;
 use packet_views::{Class, Head};
 use tcp_emulation::Side;
 
-/// The raises of a packet at its sender, after the sender's step: `start` where it is the connection's
+/// What a packet raises at its sender, after the sender's step: `start` where it is the connection's
 /// first packet, `pkt_in`, and `state` where the sender's state changed. `nth` is the packet's place in
 /// its connection, from 0, and `from` its sender. Takes no memory.
 #[tactic(auto, unfolding(crate::specs::Raises::sender_raises))]
-pub fn phase_s(h: &Head, from: Side, nth: u64, first: bool, s: &Sent) -> RaiseList
-    ensures { result ≡ sender_raises h.now from nth first s.now }
+pub fn raised_at_sender(h: &Head, from: Side, nth: u64, first: bool, s: &Sent) -> Raised
+    ensures raises { raises_of result ≡ sender_raises h.now from nth first s.now }
+    ensures hook { result.hook ≡ Hook.Snd }
+    ensures facts { result.facts ≡ sender_facts h.now from nth s.now }
 {
     let facts = sender_facts(h, from, nth, s);
-    let mut raises = RaiseList::new();
-    raises.add_if(first, at_sender(START, facts));
-    raises.add_if(true, at_sender(PKT_IN, facts));
-    raises.add_if(facts.old != facts.new, at_sender(STATE, facts));
-    raises
+    let mut events = EventList::new();
+    events.add_if(first, START);
+    events.add_if(true, PKT_IN);
+    events.add_if(facts.old != facts.new, STATE);
+    Raised {
+        hook: Hook::Snd,
+        facts,
+        events,
+    }
 }
 
-/// The raises of a packet at its receiver, after the receiver's step: `pkt_in`, `rexmit` where bytes
+/// What a packet raises at its receiver, after the receiver's step: `pkt_in`, `rexmit` where bytes
 /// came again, `new_data` where the stream's next position rose, `error` where there is a fault, `state`
 /// where the receiver's state changed, and `end` where the connection is over. Takes no memory.
 #[tactic(auto, unfolding(crate::specs::Raises::receiver_raises))]
+pub fn raised_at_receiver(h: &Head, from: Side, nth: u64, g: &Got) -> Raised
+    ensures raises { raises_of result ≡ receiver_raises h.now from nth g.now }
+    ensures hook { result.hook ≡ Hook.Rcv }
+    ensures facts { result.facts ≡ receiver_facts h.now from nth g.now }
+{
+    let facts = receiver_facts(h, from, nth, g);
+    let mut events = EventList::new();
+    events.add_if(true, PKT_IN);
+    events.add_if(facts.rexlen > 0, REXMIT);
+    events.add_if(g.rose, NEW_DATA);
+    events.add_if(facts.fault != 0, ERROR);
+    events.add_if(facts.old != facts.new, STATE);
+    events.add_if(g.over, END);
+    Raised {
+        hook: Hook::Rcv,
+        facts,
+        events,
+    }
+}
+
+/// What a packet that belongs to no connection raises: `orphan` alone. Its header fields count for class
+/// tcp alone. Takes no memory.
+#[tactic(auto, unfolding(crate::specs::Raises::orphan_raises))]
+pub fn raised_by_orphan(class: Class, h: Option<&Head>) -> Raised
+    ensures raises { raises_of result ≡ orphan_raises class (option_copied h.entry) }
+    ensures hook { result.hook ≡ Hook.Snd }
+    ensures facts { result.facts ≡ orphan_facts class (option_copied h.entry) }
+{
+    let mut events = EventList::new();
+    events.add_if(true, ORPHAN);
+    Raised {
+        hook: Hook::Snd,
+        facts: orphan_facts(class, h),
+        events,
+    }
+}
+
+/// The raises of `raised_at_sender`, one by one. Takes no memory.
+pub fn phase_s(h: &Head, from: Side, nth: u64, first: bool, s: &Sent) -> RaiseList
+    ensures { result ≡ sender_raises h.now from nth first s.now }
+{
+    raised_at_sender(h, from, nth, first, s).to_list()
+}
+
+/// The raises of `raised_at_receiver`, one by one. Takes no memory.
 pub fn phase_r(h: &Head, from: Side, nth: u64, g: &Got) -> RaiseList
     ensures { result ≡ receiver_raises h.now from nth g.now }
 {
-    let facts = receiver_facts(h, from, nth, g);
-    let mut raises = RaiseList::new();
-    raises.add_if(true, at_receiver(PKT_IN, facts));
-    raises.add_if(facts.rexlen > 0, at_receiver(REXMIT, facts));
-    raises.add_if(g.rose, at_receiver(NEW_DATA, facts));
-    raises.add_if(facts.fault != 0, at_receiver(ERROR, facts));
-    raises.add_if(facts.old != facts.new, at_receiver(STATE, facts));
-    raises.add_if(g.over, at_receiver(END, facts));
-    raises
+    raised_at_receiver(h, from, nth, g).to_list()
 }
 
-/// The one raise of a packet that belongs to no connection. Its header fields count for class tcp alone.
-/// Takes no memory.
-#[tactic(auto, unfolding(crate::specs::Raises::orphan_raises))]
+/// The one raise of `raised_by_orphan`. Takes no memory.
 pub fn orphan_raise(class: Class, h: Option<&Head>) -> RaiseList
     ensures { result ≡ orphan_raises class (option_copied h.entry) }
 {
-    let mut raises = RaiseList::new();
-    raises.add_if(true, at_sender(ORPHAN, orphan_facts(class, h)));
-    raises
-}
-
-fn at_sender(event: u16, facts: Facts) -> Raise
-    ensures { result ≡ record { hook = Hook.Snd; event = event; facts = facts } }
-{
-    Raise {
-        hook: Hook::Snd,
-        event,
-        facts,
-    }
-}
-
-fn at_receiver(event: u16, facts: Facts) -> Raise
-    ensures { result ≡ record { hook = Hook.Rcv; event = event; facts = facts } }
-{
-    Raise {
-        hook: Hook::Rcv,
-        event,
-        facts,
-    }
+    raised_by_orphan(class, h).to_list()
 }

@@ -1,7 +1,6 @@
 //! Raises, and the short list of them that one phase gives.
 
-ghost use Rattle.std.specs.Prelude.{◌≡◌, ◌+◌, ◌<◌, ◌≤◌, [], ◌++◌, length};
-ghost use Rattle.builtin_events.specs.Raises.{raise_if};
+ghost use Rattle.std.specs.Prelude.{◌≡◌, ◌<◌, ◌≤◌, [], ◌∷◌, ◌++◌, length};
 
 use native_filters::{Facts, Hook};
 use std::marker::Model;
@@ -54,16 +53,13 @@ impl RaiseList {
         }
     }
 
-    /// Adds a raise at the end where a condition holds.
-    pub(crate) fn add_if(&mut self, holds: bool, raise: Raise)
+    /// Adds a raise at the end.
+    pub(crate) fn add(&mut self, raise: Raise)
         requires { length self.old < 6 }
-        ensures items { self.new ≡ self.old ++ raise_if holds raise }
-        ensures more { length self.new ≤ length self.old + 1 }
+        ensures { self.new ≡ self.old ++ raise ∷ [] }
     {
-        if holds {
-            self.items[self.count] = raise;
-            self.count += 1;
-        }
+        self.items[self.count] = raise;
+        self.count += 1;
     }
 
     /// The raises in order.

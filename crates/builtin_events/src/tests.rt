@@ -174,6 +174,30 @@ fn facts_of_a_retransmission(rt: HostRuntime) {
 }
 
 #[test]
+fn facts_are_kept_once(rt: HostRuntime) {
+    let first = Sent {
+        change: Change {
+            old: State::Closed,
+            new: State::SynSent,
+        },
+        next: 0,
+    };
+    let raised = raised_at_sender(&head(100, 0x02, 0), Side::Client, 0, true, &first);
+    assert_eq!(rt; raised.events.as_slice(), [256, 257, 261].as_slice());
+    assert_eq!(rt; (raised.hook, raised.facts.flags), (Hook::Snd, 0x02));
+    assert_eq!(rt; (raised.facts.old, raised.facts.new), (0, 2));
+
+    let got = came_again(4, 2);
+    let raised = raised_at_receiver(&head(101, 0x18, 4), Side::Server, 4, &got);
+    assert_eq!(rt; raised.events.as_slice(), [257, 258].as_slice());
+    assert_eq!(rt; (raised.hook, raised.facts.rexlen), (Hook::Rcv, 4));
+
+    let raised = raised_by_orphan(Class::Cut, None);
+    assert_eq!(rt; raised.events.as_slice(), [263].as_slice());
+    assert_eq!(rt; (raised.hook, raised.facts.class), (Hook::Snd, 3));
+}
+
+#[test]
 fn orphan_of_each_class(rt: HostRuntime) {
     let header = Facts {
         src: 0x0a00_0001,

@@ -1,0 +1,88 @@
+//! What one phase raises, with its facts kept once for all of its events.
+
+ghost use Rattle.std.specs.Prelude.{◌≡◌, ◌+◌, ◌<◌, ◌≤◌, [], ◌++◌, length};
+ghost use Rattle.builtin_events.specs.Raised.{event_if, raises_of};
+
+use crate::raise::{Raise, RaiseList};
+use native_filters::{Facts, Hook};
+use std::marker::Model;
+
+/// What one phase of a packet raises. All its raises are at one side and have the same facts.
+#[derive(Debug, Drop)]
+pub struct Raised {
+    /// The side.
+    pub hook: Hook,
+    /// The facts of each raise.
+    pub facts: Facts,
+    /// The numbers of the events, in the order in which they are raised.
+    pub events: EventList,
+}
+
+/// How many events one phase may raise.
+const MOST: usize = 6;
+
+/// The numbers of events, at most six. Contracts see the list of them.
+#[derive(Debug, Drop)]
+pub struct EventList {
+    items: [u16; MOST],
+    count: usize,
+}
+
+impl Model for EventList {
+    ghost use Rattle.std.specs.Prelude.{◌≡◌, ◌≤◌, ℕ, List, take, length};
+
+    ghost Value = { List ℕ };
+
+    ghost view = { λ l. take l.count l.items };
+
+    ghost invariant = { λ l. (l.count ≤ 6) × (length l.items ≡ 6) };
+}
+
+impl EventList {
+    /// No event.
+    pub(crate) fn new() -> EventList
+        ensures { result ≡ [] }
+    {
+        EventList {
+            items: [0; MOST],
+            count: 0,
+        }
+    }
+
+    /// Adds an event at the end where a condition holds.
+    pub(crate) fn add_if(&mut self, holds: bool, event: u16)
+        requires { length self.old < 6 }
+        ensures items { self.new ≡ self.old ++ event_if holds event }
+        ensures more { length self.new ≤ length self.old + 1 }
+    {
+        if holds {
+            self.items[self.count] = event;
+            self.count += 1;
+        }
+    }
+
+    /// The numbers in order.
+    pub fn as_slice(&self) -> &[u16]
+        ensures items { result.now ≡ self.now }
+        ensures within { length self.now ≤ 6 }
+    {
+        &self.items[..self.count]
+    }
+}
+
+impl Raised {
+    /// The raises one by one, each with its facts.
+    pub fn to_list(&self) -> RaiseList
+        ensures { result ≡ raises_of self.now }
+    {
+        let mut raises = RaiseList::new();
+        for event in self.events.as_slice() {
+            raises.add(Raise {
+                hook: self.hook,
+                event: *event,
+                facts: self.facts,
+            });
+        }
+        raises
+    }
+}
