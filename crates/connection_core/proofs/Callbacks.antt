@@ -1,7 +1,11 @@
 -- One callback, and the callbacks of a raise as a walk over the tree gives them.
 use Rattle.std.proofs.Common.{◌≡◌, ℕ, ◌+◌, ◌*◌, ◌<◌, ◌≤◌, Bool, true, false, cond, Some, None, Option, List, [], ◌∷◌, ◌++◌, length, map, refl, sym, ap, subst, ◌∙◌, arith, append_assoc, append-nil}
 use Rattle.std.specs.Prelude.{if◌then◌else◌}
-use Rattle.std.proofs.lemmas.List.{length-append}
+use Rattle.std.specs.List.{All, AllByRecursion, filter}
+use Rattle.std.proofs.lemmas.List.{length-append, length-map}
+use Rattle.std.proofs.lemmas.List.Elements.{All-filter, recursion_from_All}
+use Rattle.native_filters.specs.declared.facts.Facts.{Facts}
+use Rattle.native_filters.specs.declared.facts.Hook.{Hook}
 use Rattle.tcp_emulation.specs.declared.segment.Side.{Side}
 use Rattle.flow_socket.specs.Known.{KnownSocket, SocketStandsFor}
 use Rattle.app_api.specs.declared.app.Call.{Call}
@@ -13,14 +17,19 @@ use Rattle.app_api.specs.declared.reaction.Reaction.{Reaction}
 use Rattle.app_api.specs.declared.reaction.Reason.{Reason}
 use Rattle.app_api.specs.declared.registration.Reg.{Reg}
 use Rattle.app_api.specs.App.{Meaning}
+use Rattle.app_api.specs.Reg.{reg_of}
 use Rattle.builtin_events.specs.declared.raise.Raise.{Raise}
+use Rattle.event_trees.specs.declared.defs.EventDef.{EventDef}
+use Rattle.event_trees.specs.Private.{numbers_of}
+use Rattle.event_trees.specs.Fires.{is_called, fires}
 use Rattle.forest_versions.specs.State.{ControlState}
 use Rattle.connection_core.specs.declared.ledger.Notes.{Notes}
 use Rattle.connection_core.specs.declared.ledger.Counts.{Counts}
 use Rattle.connection_core.specs.declared.ledger.Ledger.{Ledger}
-use Rattle.connection_core.specs.Course.{Course, seen_by, after_seen, bytes_seen, call_of, entry_of, reaction_of, first_reason, called}
+use Rattle.connection_core.specs.Course.{Course, seen_by, after_seen, bytes_seen, call_of, entry_of, reaction_of, first_reason, called, called_all, called_at}
 use Rattle.connection_core.specs.History.{weight_of}
-use Rattle.connection_core.specs.Standing.{IsNoted, IsUnder}
+use Rattle.connection_core.specs.Standing.{IsNoted, IsUnder, Steps}
+use Rattle.connection_core.specs.Numbers.{called_by, called_numbers}
 
 pub weight-append : (xs ys : List Entry) → weight_of (xs ++ ys) ≡ weight_of xs + weight_of ys
 weight-append [] ys = omega arith
@@ -67,3 +76,76 @@ called_under app s number from raise r keep others list socket socket_after note
       asked = changes ∙ ap (λ l. l ++ reaction.changes) u.asked ∙ ap (λ (w : Reaction). c.asked ++ w.changes) reaction_is;
       drop = drop ∙ ap (λ d. first_reason d reaction.drop) u.drop ∙ ap (λ (w : Reaction). first_reason c.drop w.drop) reaction_is;
     }
+
+-- ---- a walk under way
+
+-- what the callbacks made so far have come to, so that those of the numbers left give what all give
+pub record CallsLeft (app : Meaning) (s : ControlState) (keep : Bool) (list : List Reg) (number : ℕ) (from : Side) (raise : Raise)
+    (socket : KnownSocket) (notes : Notes) (ledger : Ledger) (all : List ℕ) (socket_now : KnownSocket) (notes_now : Notes) (ledger_now : Ledger) (left : List ℕ) : Type 0 where
+  pub so_far : Course → Course
+  pub steps : Steps keep list socket notes ledger socket_now notes_now ledger_now so_far
+  pub whole : (c : Course) → called_numbers app s number from raise (so_far c) left ≡ called_numbers app s number from raise c all
+
+pub calls_begun : (app : Meaning) (s : ControlState) (keep : Bool) (list : List Reg) (number : ℕ) (from : Side) (raise : Raise)
+    (socket : KnownSocket) (notes : Notes) (ledger : Ledger) (all : List ℕ)
+    → CallsLeft app s keep list number from raise socket notes ledger all socket notes ledger all
+calls_begun app s keep list number from raise socket notes ledger all =
+    record { so_far = λ c. c; steps = record { stands = λ others c u. u }; whole = λ c. refl }
+
+pub calls_on : (app : Meaning) (s : ControlState) (keep : Bool) (list : List Reg) (number : ℕ) (from : Side) (raise : Raise)
+    (socket : KnownSocket) (notes : Notes) (ledger : Ledger) (all : List ℕ) (socket_now socket_after : KnownSocket) (notes_now notes_after : Notes) (ledger_now ledger_after : Ledger)
+    (left after : List ℕ) (n : ℕ)
+    → CallsLeft app s keep list number from raise socket notes ledger all socket_now notes_now ledger_now left → left ≡ n ∷ after
+    → Steps keep list socket_now notes_now ledger_now socket_after notes_after ledger_after (λ c. called_by app s number from raise c (reg_of s.regs n))
+    → CallsLeft app s keep list number from raise socket notes ledger all socket_after notes_after ledger_after after
+calls_on app s keep list number from raise socket notes ledger all socket_now socket_after notes_now notes_after ledger_now ledger_after left after n k is step = record {
+  so_far = λ c. called_by app s number from raise (k.so_far c) (reg_of s.regs n);
+  steps = record { stands = λ others c u. step.stands others (k.so_far c) (k.steps.stands others c u) };
+  whole = λ c. ap (called_numbers app s number from raise (k.so_far c)) (sym is) ∙ k.whole c;
+}
+
+-- the numbers of registrations that are there call these
+calls_by_number : (app : Meaning) (s : ControlState) (number : ℕ) (from : Side) (raise : Raise) (list : List Reg) (c : Course)
+    → AllByRecursion (λ (r : Reg). reg_of s.regs r.number ≡ Some r) list
+    → called_numbers app s number from raise c (numbers_of list) ≡ called_all app s number from raise c list
+calls_by_number app s number from raise [] c all = refl
+calls_by_number app s number from raise (r ∷ list) c all =
+    ap (λ o. called_numbers app s number from raise (called_by app s number from raise c o) (numbers_of list)) all.0
+    ∙ calls_by_number app s number from raise list (called app s number from raise c r) all.1
+
+-- once no number is left, the raise is made
+pub calls_done : (app : Meaning) (s : ControlState) (keep : Bool) (list : List Reg) (number : ℕ) (from : Side) (raise : Raise)
+    (socket : KnownSocket) (notes : Notes) (ledger : Ledger) (all : List ℕ) (socket_now : KnownSocket) (notes_now : Notes) (ledger_now : Ledger) (left : List ℕ)
+    → CallsLeft app s keep list number from raise socket notes ledger all socket_now notes_now ledger_now left → left ≡ []
+    → All (λ (r : Reg). reg_of s.regs r.number ≡ Some r) list
+    → all ≡ numbers_of (fires s.defs raise.facts raise.hook raise.event list)
+    → Steps keep list socket notes ledger socket_now notes_now ledger_now (called_at app s number from raise)
+unfolding called_at
+calls_done app s keep list number from raise socket notes ledger all socket_now notes_now ledger_now left k none known is = record {
+  stands = λ others c u.
+      let P : Reg → Type 0 = λ r. reg_of s.regs r.number ≡ Some r in
+      let fired = fires s.defs raise.facts raise.hook raise.event list in
+      let same : k.so_far c ≡ called_all app s number from raise c (fires s.defs raise.facts raise.hook raise.event c.active) =
+      ap (called_numbers app s number from raise (k.so_far c)) (sym none) ∙ k.whole c
+      ∙ ap (called_numbers app s number from raise c) is
+      ∙ calls_by_number app s number from raise fired c (recursion_from_All P fired (All-filter (is_called s.defs raise.facts raise.hook raise.event) P list known))
+      ∙ ap (λ l. called_all app s number from raise c (fires s.defs raise.facts raise.hook raise.event l)) (sym u.active) in
+      subst (λ w. IsUnder keep others list socket_now notes_now ledger_now w) same (k.steps.stands others c u);
+}
+
+-- no more fire than there are
+filter_short : {X : Type 0} (p : X → Bool) (xs : List X) → length (filter p xs) ≤ length xs
+filter_short p [] = omega arith
+filter_short p (x ∷ xs) =
+    let rest = filter_short p xs in
+    elim (p x) as (λ b. length (cond b (x ∷ filter p xs) (filter p xs)) ≤ length (x ∷ xs)) [
+      | true ↦ omega arith
+      | false ↦ omega arith
+    ]
+
+pub few_fire : (defs : List EventDef) (facts : Facts) (hook : Hook) (event : ℕ) (list : List Reg) (numbers : List ℕ) → length list ≤ 255
+    → numbers ≡ numbers_of (fires defs facts hook event list) → length numbers ≤ 255
+few_fire defs facts hook event list numbers few is =
+    let fired = fires defs facts hook event list in
+    let count : length numbers ≡ length fired = ap length is ∙ length-map fired (λ r. r.number) in
+    omega (arith, count, filter_short (is_called defs facts hook event) list)

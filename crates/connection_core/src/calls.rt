@@ -2,6 +2,7 @@
 
 ghost use Rattle.std.specs.Prelude.{◌≡◌, ◌≤◌, ◌<◌, ◌+◌, ◌*◌, ◌^◌, IsTrue, OnOk, List, ℕ, length};
 ghost use Rattle.app_api.specs.Reg.{peek_fits, reg_of};
+ghost use Rattle.builtin_events.specs.Raised.{raises_of};
 ghost use Rattle.app_api.specs.declared.registration.Reg.{Reg as RegOf};
 ghost use Rattle.forest_versions.specs.State.{ControlState};
 ghost use Rattle.connection_core.specs.Control.{told, defs_at, IsInForce};
@@ -12,15 +13,13 @@ ghost use Rattle.connection_core.specs.Standing.{Steps, IsAsFar, RiseBy, raise_o
 
 use crate::ledger::{Ledger, Notes};
 use crate::look::look;
-use crate::moment::Moment;
+use crate::moment::{Moment, Phase};
 use crate::terms::Terms;
-use app_api::{App, Call, Entry, Reaction, Reg, Seen};
-use builtin_events::RaiseList;
+use app_api::{App, Call, Entry, Reg, Seen};
 use event_trees::Walk;
 use flow_socket::FlowSocket;
 use shared_forest::Tree;
 use std::alloc::{AllocError, Global};
-use tcp_emulation::Side;
 
 impl<A: App> Terms<'_, A> {
     // One callback: it peeks, leaves an entry where these are kept, and reacts.
@@ -102,9 +101,7 @@ impl<A: App> Terms<'_, A> {
         &self,
         alloc: Global,
         tree: &Tree,
-        number: u64,
-        from: Side,
-        raises: &RaiseList,
+        phase: &Phase,
         socket: &mut FlowSocket,
         notes: &mut Notes,
         ledger: &mut Ledger,
@@ -113,18 +110,12 @@ impl<A: App> Terms<'_, A> {
         requires callbacks { ledger.old.counts.callbacks < 2 ^ 61 }
         requires weight { ledger.old.counts.weight < 2 ^ 61 }
         ensures stands { OnOk result ((s : ControlState) → IsInForce self.now.control s → Steps self.now.keep (active_in (told self.now.control) tree.now) socket.old notes.old ledger.old socket.new notes.new ledger.new
-            (raised (A.meaning self.now.app.now) s number from raises.now)) }
+            (raised (A.meaning self.now.app.now) s phase.now.number phase.now.from (raises_of phase.now.raised))) }
         ensures rise { RiseBy 1530 ledger.old.counts ledger.new.counts }
         ensures as_far { IsAsFar socket.old socket.new }
     {
-        for raise in raises.as_slice() {
-            let moment = Moment {
-                number,
-                from,
-                hook: raise.hook,
-                event: raise.event,
-                facts: &raise.facts,
-            };
+        for event in phase.raised.events.as_slice() {
+            let moment = phase.moment(*event);
             self.call_at(alloc, tree, &moment, socket, notes, ledger)?;
         }
         Ok(())
