@@ -20,7 +20,13 @@ use Rattle.app_api.specs.App.{Meaning}
 use Rattle.app_api.specs.Reg.{reg_of}
 use Rattle.builtin_events.specs.declared.raise.Raise.{Raise}
 use Rattle.event_trees.specs.declared.defs.EventDef.{EventDef}
-use Rattle.event_trees.specs.Private.{numbers_of}
+use Rattle.shared_forest.specs.Lists.{TreeLists}
+use Rattle.shared_forest.specs.Listing.{listing}
+use Rattle.event_trees.specs.Defs.{AreDefs}
+use Rattle.event_trees.specs.Canon.{slot_of, canon}
+use Rattle.event_trees.specs.Later.{IsEarlier}
+use Rattle.event_trees.specs.Edit.{IsForestOf}
+use Rattle.event_trees.specs.Private.{IsPrivate, numbers_of}
 use Rattle.event_trees.specs.Fires.{is_called, fires}
 use Rattle.forest_versions.specs.State.{ControlState}
 use Rattle.connection_core.specs.declared.ledger.Notes.{Notes}
@@ -149,3 +155,18 @@ few_fire defs facts hook event list numbers few is =
     let fired = fires defs facts hook event list in
     let count : length numbers ≡ length fired = ap length is ∙ length-map fired (λ r. r.number) in
     omega (arith, count, filter_short (is_called defs facts hook event) list)
+
+-- a raise makes at most 255 calls
+pub all_few : (defs later : List EventDef) (list : List Reg) (tree : TreeLists) (raise : Raise) (all : List ℕ) → later ≡ defs → IsPrivate defs list → listing tree ≡ canon defs list
+    → ((d : List EventDef) (l : List Reg) → IsForestOf d l (listing tree) → tree.slots ≡ map slot_of l)
+    → ((d : List EventDef) (l : List Reg) → IsForestOf d l (listing tree) → length tree.slots ≤ 255)
+    → ((d : List EventDef) → IsEarlier d later → AreDefs d)
+    → ((l : List Reg) → AreDefs later → IsPrivate later l → listing tree ≡ canon later l → all ≡ numbers_of (fires later raise.facts raise.hook raise.event l))
+    → length all ≤ 255
+all_few defs later list tree raise all same private listed slots few defined fires_all =
+    let there : IsPrivate later list = subst (λ d. IsPrivate d list) (sym same) private in
+    let shown : listing tree ≡ canon later list = subst (λ d. listing tree ≡ canon d list) (sym same) listed in
+    let forest : IsForestOf later list (listing tree) = record { private = there; listed = shown } in
+    let count : length tree.slots ≡ length list = ap length (slots later list forest) ∙ length-map list slot_of in
+    let short : length list ≤ 255 = omega (arith, count, few later list forest) in
+    few_fire later raise.facts raise.hook raise.event list all short (fires_all list (defined later ([], append-nil later)) there shown)

@@ -128,8 +128,8 @@ abbrev pub altered_to : List Reg → Course → Course
 altered_to active c = record c { active = active; altered = c.altered + 1 }
 
 abbrev pub is_so : Bool → Bool → Bool
-is_so true on = on
-is_so false on = not on
+is_so now true = now
+is_so now false = not now
 
 -- a registration is switched on or off, where it isn't so already
 abbrev pub switched : ControlState → Option Reg → Bool → Course → Course

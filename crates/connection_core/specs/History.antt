@@ -101,9 +101,10 @@ verdict_of (Some reason) = Drop reason
 unfoldable pub verdict : Meaning → ControlState → ℕ → Side → Head → History → Verdict
 verdict app control number from head h = verdict_of (sender_phase app control number from head h).drop
 
-abbrev pub dropped_by : Option Reason → ℕ → List (ℕ × Reason)
-dropped_by None number = []
-dropped_by (Some reason) number = (number, reason) ∷ []
+-- what a verdict adds to the dropped packets
+abbrev pub drops_of : Verdict → ℕ → List (ℕ × Reason)
+drops_of Pass number = []
+drops_of (Drop reason) number = (number, reason) ∷ []
 
 -- The callbacks of a packet of no connection. It is a connection that heard nothing, so its peeks find nothing, whichever side they
 -- name; and the changes asked come to nothing, since it has no other packet.
@@ -113,7 +114,7 @@ lone_course app control number raises =
 
 unfoldable pub orphaned : Meaning → ControlState → ℕ → List Raise → History
 orphaned app control number raises =
-    let c = lone_course app control number raises in done 0 (dropped_by c.drop number) c
+    let c = lone_course app control number raises in done 0 (drops_of (verdict_of c.drop) number) c
 
 unfoldable pub orphan_verdict : Meaning → ControlState → ℕ → List Raise → Verdict
 orphan_verdict app control number raises = verdict_of (lone_course app control number raises).drop

@@ -5,4 +5,5 @@ pub mod History
 pub mod Trees
 pub mod Numbers
 pub mod Reach
+pub mod Laws
 pub mod Standing

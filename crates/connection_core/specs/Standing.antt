@@ -51,6 +51,22 @@ pub record Alters (list list_after : List Reg) (interns interns_after : Option �
   pub made : (c : Course) → c.active ≡ list → (step c).active ≡ list_after
   pub interned : (c : Course) → c.active ≡ list → InternsWithin interns interns_after c.altered (step c).altered
 
+-- a packet has come to this course, with at most one intern for each alteration since the list was altered so often
+pub record Reached (keep : Bool) (others : Counts) (list : List Reg) (socket : KnownSocket) (notes : Notes) (ledger : Ledger) (interns interns_after : Option ℕ) (altered : ℕ) (c : Course) : Type 0 where
+  pub under : IsUnder keep others list socket notes ledger c
+  pub interned : InternsWithin interns interns_after altered c.altered
+
+-- a phase makes one private list of another, and what stood for a course stands for the one that it makes of it
+pub record Makes (keep : Bool) (list : List Reg) (socket : KnownSocket) (notes : Notes) (ledger : Ledger) (interns : Option ℕ)
+    (list_after : List Reg) (socket_after : KnownSocket) (notes_after : Notes) (ledger_after : Ledger) (interns_after : Option ℕ) (step : Course → Course) : Type 0 where
+  pub stands : (others : Counts) (c : Course) → IsUnder keep others list socket notes ledger c
+      → Reached keep others list_after socket_after notes_after ledger_after interns interns_after c.altered (step c)
+
+-- a packet is done, and its connection has come to this history
+pub record Stepped (keep : Bool) (others : Counts) (at : ℕ → Option Reg) (tree : TreeLists) (flow : Flow) (notes : Notes) (counts : Counts) (interns interns_after : Option ℕ) (altered : ℕ) (h : History) : Type 0 where
+  pub stands : IsConnection keep others at tree flow notes counts h
+  pub interned : InternsWithin interns interns_after altered h.altered
+
 -- callbacks leave how far the streams have come
 pub record IsAsFar (old new : KnownSocket) : Type 0 where
   pub client : next_at Client new ≡ next_at Client old

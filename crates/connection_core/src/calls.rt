@@ -16,7 +16,7 @@ use crate::look::look;
 use crate::moment::{Moment, Phase};
 use crate::terms::Terms;
 use app_api::{App, Call, Entry, Reg, Seen};
-use event_trees::Walk;
+use event_trees::{Walk, later_events_change_nothing, slots_in_order};
 use flow_socket::FlowSocket;
 use shared_forest::Tree;
 use std::alloc::{AllocError, Global};
@@ -89,8 +89,11 @@ impl<A: App> Terms<'_, A> {
         ensures rise { RiseBy 255 ledger.old.counts ledger.new.counts }
         ensures as_far { IsAsFar socket.old socket.new }
     {
+        let defs = self.control.defs();
+        slots_in_order(tree);
+        later_events_change_nothing(defs);
         let mut walk = Walk::start(tree, moment.hook, moment.event, moment.facts);
-        while let Some(number) = walk.next(self.control.defs(), self.natives) {
+        while let Some(number) = walk.next(defs, self.natives) {
             self.call_number(alloc, moment, number, socket, notes, ledger)?;
         }
         Ok(())
@@ -138,14 +141,14 @@ fn call_of(moment: &Moment, reg: &Reg, got: u32) -> Call
 }
 
 // What the report tells of a callback.
-fn entry_of(moment: &Moment, reg: &Reg, seen: Seen) -> Entry
-    ensures { result ≡ entry_of moment.now.number (raise_of moment.now) reg.now seen }
+fn entry_of(moment: &Moment, called: &Reg, seen: Seen) -> Entry
+    ensures { result ≡ entry_of moment.now.number (raise_of moment.now) called.now seen }
 {
     Entry {
         index: moment.number,
         hook: moment.hook,
-        event: reg.event,
-        reg: reg.number,
+        event: called.event,
+        reg: called.number,
         seen,
     }
 }

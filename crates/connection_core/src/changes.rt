@@ -5,13 +5,13 @@ ghost use Rattle.std.specs.List.{list_any};
 ghost use Rattle.shared_forest.specs.Store.{Keeps};
 ghost use Rattle.forest_versions.specs.State.{ControlState};
 ghost use Rattle.connection_core.specs.Control.{told, defs_at, IsInForce};
-ghost use Rattle.connection_core.specs.Course.{changed, changed_all};
+ghost use Rattle.connection_core.specs.Course.{is_so, changed, changed_all};
 ghost use Rattle.connection_core.specs.Trees.{active_in, IsForestIn};
 ghost use Rattle.connection_core.specs.Standing.{Alters};
 
 use crate::control::Control;
 use app_api::Change1;
-use event_trees::edit;
+use event_trees::{edit, later_events_change_nothing, slots_in_order};
 use shared_forest::{Forests, Shared, Tree};
 use std::alloc::{AllocError, Global};
 
@@ -20,6 +20,17 @@ fn is_on(tree: &Tree, number: u8) -> bool
     ensures { result ≡ list_any (λ slot. slot.number == number) tree.now.slots }
 {
     tree.slots().iter().any(|slot| slot.number == number)
+}
+
+// Whether a registration of a tree is already as a change asks.
+fn is_so(tree: &Tree, change: Change1) -> bool
+    ensures { result ≡ is_so (list_any (λ slot. slot.number == change.reg) tree.now.slots) change.on }
+{
+    if change.on {
+        is_on(tree, change.reg)
+    } else {
+        !is_on(tree, change.reg)
+    }
 }
 
 // Makes one change, where its number is registered and isn't so already.
@@ -41,10 +52,16 @@ fn change<F: Forests>(
     let Some(reg) = control.reg_at(change.reg) else {
         return Ok(());
     };
-    if is_on(forests.tree_of(forest), change.reg) == change.on {
+    let tree = forests.tree_of(forest);
+    slots_in_order(tree);
+    if is_so(tree, change) {
         return Ok(());
     }
-    *forest = edit(alloc, forests, forest, control.defs(), reg, change.on)?;
+    let defs = control.defs();
+    later_events_change_nothing(defs);
+    let edited = edit(alloc, forests, forest, defs, reg, change.on)?;
+    slots_in_order(forests.tree_of(&edited));
+    *forest = edited;
     Ok(())
 }
 

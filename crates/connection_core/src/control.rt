@@ -55,6 +55,7 @@ impl<'a> Control<'a> {
     /// The registration of a number.
     pub(crate) fn reg_at(&self, number: u8) -> Option<&Reg>
         ensures reg { option_copied result ≡ told self.now number }
+        ensures number { IfSome result (λ r. r.now.number ≡ number) }
         ensures lawful { IfSome result (λ r. IsRegistered (defs_at self.now) r.now) }
     {
         self.regs.iter().find(|reg| reg.number == number)

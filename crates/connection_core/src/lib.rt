@@ -7,13 +7,19 @@ mod calls;
 mod changes;
 mod control;
 mod flow;
+pub mod laws;
 mod ledger;
 mod look;
 mod moment;
+mod orphan;
 mod terms;
 
 pub use control::Control;
 pub use flow::{Flow, Step};
 pub use ledger::{Counts, Ledger, Notes};
 pub use moment::Arrived;
+pub use orphan::lone;
 pub use terms::Terms;
+
+#[cfg(test)]
+mod tests;

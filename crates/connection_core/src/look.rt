@@ -20,6 +20,8 @@ use tcp_emulation::Side;
 /// The most bytes that one peek sees.
 const LONGEST: usize = 256;
 
+const MOST: u32 = LONGEST as u32;
+
 /// What a callback saw.
 #[derive(Drop)]
 pub(crate) struct Looked {
@@ -70,11 +72,30 @@ fn look_next(
     ensures as_far { IsAsFar socket.old socket.new }
 {
     let mut room = [0; LONGEST];
-    let buf = &mut room[..usize::from(len)];
+    look_into(alloc, keep, socket, from, &mut room[..usize::from(len)])
+}
+
+// Reads on from the mark into a buffer.
+fn look_into(
+    alloc: Global,
+    keep: bool,
+    socket: &mut FlowSocket,
+    from: Side,
+    buf: &mut [u8],
+) -> Result<Looked, AllocError>
+    requires { length buf.old ≤ 256 }
+    ensures seen { IfOk result (λ look. keep ≡ true → (e : Emulation) → SocketStandsFor socket.old e → look.seen ≡ seen_by from (PeekSpecOf.Next (length buf.old)) e) }
+    ensures got { IfOk result (λ look. (e : Emulation) → SocketStandsFor socket.old e → look.got ≡ bytes_seen (seen_by from (PeekSpecOf.Next (length buf.old)) e)) }
+    ensures few { IfOk result (λ look. look.got ≤ 256) }
+    ensures stands { (e : Emulation) → SocketStandsFor socket.old e → SocketStandsFor socket.new (after_seen from (PeekSpecOf.Next (length buf.old)) e) }
+    ensures as_far { IsAsFar socket.old socket.new }
+{
+    let most = buf.len() as u32;
     let peeked = socket.peek(from, buf);
-    let bytes = kept_bytes(alloc, keep, &buf[..peeked.len as usize])?;
+    let got = peeked.len.min(most);
+    let bytes = kept_bytes(alloc, keep, &buf[..got as usize])?;
     Ok(Looked {
-        got: peeked.len,
+        got,
         seen: Seen::Next {
             at: peeked.at,
             missed: peeked.missed,
@@ -115,9 +136,11 @@ fn look_at(
         items: Vec::new(alloc),
     };
     let mut got = 0;
+    let stream = socket.stream(from);
     for (place, run) in socket.ppeek(from, off, u32::from(len)) {
+        let run = run.min(MOST - got);
         got += run;
-        note_piece(alloc, keep, socket.stream(from), place, run, &mut pieces)?;
+        note_piece(alloc, keep, stream, place, run, &mut pieces)?;
     }
     Ok(Looked {
         got,

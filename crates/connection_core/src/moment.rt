@@ -46,7 +46,6 @@ pub(crate) struct Phase {
 
 impl Phase {
     ghost use Rattle.connection_core.specs.Standing.{raise_of};
-    ghost use Rattle.builtin_events.specs.Raised.{raise_at};
 
     /// Its raise of an event.
     pub(crate) fn moment(&self, event: u16) -> Moment<'_>

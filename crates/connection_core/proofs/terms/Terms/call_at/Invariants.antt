@@ -9,8 +9,8 @@ use Rattle.connection_core.proofs.terms.Terms.call_at.Given as goal
 
 abbrev pub invariant-loop-number : goal.invariant-loop-number
 invariant-loop-number g l =
-    let all = to_come (defs_at l.self.control) l.initial.walk in
-    let left = to_come (defs_at l.self.control) l.walk in record {
+    let all = to_come l.defs l.initial.walk in
+    let left = to_come l.defs l.walk in record {
       stands : (s : ControlState) → IsInForce l.self.control s → CallsLeft (g.A.App.meaning l.self.app.now) s l.self.keep (active_in (told l.self.control) l.tree) l.moment.number l.moment.from (raise_of l.moment)
           l.fn.socket l.fn.notes l.fn.ledger all l.socket l.notes l.ledger left;
       callbacks : l.ledger.counts.callbacks + length left ≤ l.fn.ledger.counts.callbacks + length all;
@@ -19,4 +19,4 @@ invariant-loop-number g l =
     }
 
 abbrev pub decreases-loop-number : goal.decreases-loop-number
-decreases-loop-number g l = length (to_come (defs_at l.self.control) l.walk)
+decreases-loop-number g l = length (to_come l.defs l.walk)
