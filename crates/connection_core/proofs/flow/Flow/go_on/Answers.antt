@@ -14,6 +14,7 @@ returns-in-Some-clause-stands g c = λ s others h course force count u.
     (record c.args.self.now { count = c.args.self.now.count + 1; reach = c.self-1.given.0 }) c.args.notes.now c.args.ledger.now (g.F.ForestView.interns c.args.forests.now) arrived.number course
     (receiver_phase app s arrived.number arrived.from arrived.head.now arrived.payload.now h.count course) h
     c.args.self.now.count c.in-Some.field-0 c.in-Some.is count refl u
+
 pub returns-in_ok-receive-in-None-clause-stands : goal.returns-in_ok-receive-in-None-clause-stands
 returns-in_ok-receive-in-None-clause-stands g c = λ s others h course force count u.
     let app = g.A.App.meaning c.args.terms.now.app.now in
