@@ -1,0 +1,26 @@
+use Rattle.std.proofs.Common.{sym, subst}
+use Rattle.flow_socket.specs.Known.{KnownSocket}
+use Rattle.shared_forest.specs.Lists.{TreeLists}
+use Rattle.builtin_events.specs.Raised.{raises_of}
+use Rattle.connection_core.specs.Control.{told}
+use Rattle.connection_core.specs.Course.{raised}
+use Rattle.connection_core.specs.Trees.{active_in}
+use Rattle.connection_core.specs.Standing.{Steps}
+use Rattle.connection_core.proofs.Phases.{phase_made}
+use Rattle.connection_core.proofs.flow.Flow.make.Goals as goal
+
+pub returns-clause-made : goal.returns-clause-made
+returns-clause-made g c = λ s force.
+    let app = g.A.App.meaning c.args.terms.now.app.now in
+    let at = told c.args.terms.now.control in
+    let keep = c.args.terms.now.keep in
+    let step = raised app s c.args.phase.now.number c.args.phase.now.from (raises_of c.args.phase.now.raised) in
+    let steps = subst (λ (t : TreeLists). Steps keep (active_in at t) c.args.self.now.socket c.args.notes.now c.make_room.new.self c.raise_all.new.socket c.raise_all.new.notes c.raise_all.new.ledger step)
+    c.tree_of-tree.ensures (c.in_ok-raise_all.ensures.stands s force) in
+    let list = active_in at (g.F.ForestView.content c.args.forests.now c.args.self.now.forest) in
+    phase_made app s keep list (active_in at (g.F.ForestView.content c.settle.new.forests c.settle.new.self.forest)) (g.F.ForestView.interns c.args.forests.now) (g.F.ForestView.interns c.settle.new.forests)
+    c.args.phase.now.number c.args.phase.now.from (raises_of c.args.phase.now.raised)
+    c.args.self.now.socket c.settle.new.self.socket c.args.notes.now c.raise_all.new.notes c.args.ledger.now c.make_room.new.self c.raise_all.new.ledger c.settle.new.ledger
+    c.make_room.ensures.changes c.make_room.ensures.drop c.make_room.ensures.counts
+    (subst (λ (k : KnownSocket). Steps keep list c.args.self.now.socket c.args.notes.now c.make_room.new.self k c.raise_all.new.notes c.raise_all.new.ledger step) (sym c.settle.ensures.socket) steps)
+    (c.in_ok-settle.ensures.made s force) c.in_ok-settle.ensures.asked c.settle.ensures.drop c.settle.ensures.counts

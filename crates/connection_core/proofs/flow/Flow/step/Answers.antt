@@ -1,0 +1,42 @@
+use Rattle.std.proofs.Common.{◌≡◌, ◌++◌, sym, ap, ◌∙◌}
+use Rattle.connection_core.specs.History.{History, receiver_phase, sender_phase, followed, verdict, verdict_of, drops_of, is_over}
+use Rattle.connection_core.proofs.Changing.{within-on}
+use Rattle.connection_core.proofs.Phases.{drops_more}
+use Rattle.connection_core.proofs.flow.Flow.step.Goals as goal
+
+pub returns-clause-stands : goal.returns-clause-stands
+unfolding followed
+returns-clause-stands g c = λ s others h force is.
+    let reached = c.in_ok-send.ensures.stands s others h force is in
+    (c.in_ok-go_on.ensures.stands s others h _ force (c.send.ensures.count ∙ is.kept.count) reached.under).stands
+
+pub returns-clause-interned : goal.returns-clause-interned
+unfolding followed
+returns-clause-interned g c = λ s others h force is.
+    let reached = c.in_ok-send.ensures.stands s others h force is in
+    let stepped = c.in_ok-go_on.ensures.stands s others h _ force (c.send.ensures.count ∙ is.kept.count) reached.under in
+    within-on _ _ _ _ _ _ reached.interned stepped.interned
+
+pub returns-clause-over : goal.returns-clause-over
+unfolding followed is_over
+returns-clause-over g c = λ s others h force is.
+    let reached = c.in_ok-send.ensures.stands s others h force is in
+    let stepped = c.in_ok-go_on.ensures.stands s others h _ force (c.send.ensures.count ∙ is.kept.count) reached.under in
+    c.is_over.ensures _ stepped.stands.kept.socket
+
+pub returns-clause-verdict : goal.returns-clause-verdict
+unfolding verdict
+returns-clause-verdict g c = λ s others h force is.
+    let reached = c.in_ok-send.ensures.stands s others h force is in
+    c.verdict_of-verdict.ensures ∙ ap verdict_of reached.under.drop
+
+pub returns-clause-drops : goal.returns-clause-drops
+unfolding followed
+returns-clause-drops g c = λ s others h force is.
+    let app = g.A.App.meaning c.args.terms.now.app.now in
+    let number = c.args.arrived.now.number in
+    let reached = c.in_ok-send.ensures.stands s others h force is in
+    let sent = sender_phase app s number c.args.arrived.now.from c.args.arrived.now.head.now h in
+    let same = c.verdict_of-verdict.ensures ∙ ap verdict_of reached.under.drop in
+    drops_more sent.drop number sent (receiver_phase app s number c.args.arrived.now.from c.args.arrived.now.head.now c.args.arrived.now.payload.now h.count sent) h
+    ∙ ap (λ v. h.drops ++ drops_of v number) (sym same)

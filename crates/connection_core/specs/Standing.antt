@@ -1,0 +1,82 @@
+-- What is kept for a connection and noted of its callbacks, and which histories and courses it stands for.
+use Rattle.std.specs.Prelude.{◌≡◌, ℕ, ◌+◌, ◌*◌, ◌≤◌, Bool, Option, List, [], length, if◌then◌else◌}
+use Rattle.tcp_emulation.specs.declared.segment.Side.TheVariants.{Client, Server}
+use Rattle.flow_socket.specs.Known.{KnownSocket, SocketStandsFor, next_at}
+use Rattle.app_api.specs.declared.app.Tally.{Tally}
+use Rattle.app_api.specs.declared.entry.Entry.{Entry}
+use Rattle.app_api.specs.declared.registration.Reg.{Reg}
+use Rattle.builtin_events.specs.declared.raise.Raise.{Raise}
+use Rattle.shared_forest.specs.Lists.{TreeLists}
+use Rattle.connection_core.specs.declared.ledger.Notes.{Notes}
+use Rattle.connection_core.specs.declared.ledger.Counts.{Counts}
+use Rattle.connection_core.specs.declared.ledger.Ledger.{Ledger}
+use Rattle.connection_core.specs.declared.flow.Flow.{Flow}
+use Rattle.connection_core.specs.declared.moment.Moment.{Moment}
+use Rattle.connection_core.specs.Course.{Course}
+use Rattle.connection_core.specs.History.{History, weight_of}
+use Rattle.connection_core.specs.Trees.{active_in, InternsWithin}
+
+-- what is noted of a record's callbacks; `others` are the counts of all other records
+pub record IsNoted (keep : Bool) (others : Counts) (kept : Tally) (made : List Entry) (notes : Notes) (counts : Counts) : Type 0 where
+  pub tally : notes.tally ≡ kept
+  pub entries : notes.entries ≡ (if keep then made else [])
+  pub callbacks : counts.callbacks ≡ others.callbacks + length made
+  pub weight : counts.weight ≡ others.weight + weight_of made
+
+-- what is kept of a connection; its private list is what the tree of its registrations names
+pub record IsFlow (at : ℕ → Option Reg) (tree : TreeLists) (flow : Flow) (h : History) : Type 0 where
+  pub socket : SocketStandsFor flow.socket h.emulation
+  pub count : flow.count ≡ h.count
+  pub active : h.active ≡ active_in at tree
+
+pub record IsConnection (keep : Bool) (others : Counts) (at : ℕ → Option Reg) (tree : TreeLists) (flow : Flow) (notes : Notes) (counts : Counts) (h : History) : Type 0 where
+  pub kept : IsFlow at tree flow h
+  pub noted : IsNoted keep others h.tally h.entries notes counts
+
+-- a packet under way, over this private list
+pub record IsUnder (keep : Bool) (others : Counts) (list : List Reg) (socket : KnownSocket) (notes : Notes) (ledger : Ledger) (c : Course) : Type 0 where
+  pub heard : SocketStandsFor socket c.emulation
+  pub active : c.active ≡ list
+  pub noted : IsNoted keep others c.tally c.entries notes ledger.counts
+  pub asked : ledger.changes.items ≡ c.asked
+  pub drop : ledger.drop ≡ c.drop
+
+-- what stood for a course stands for the one that this step makes of it
+pub record Steps (keep : Bool) (list : List Reg) (socket : KnownSocket) (notes : Notes) (ledger : Ledger) (socket_after : KnownSocket) (notes_after : Notes) (ledger_after : Ledger) (step : Course → Course) : Type 0 where
+  pub stands : (others : Counts) (c : Course) → IsUnder keep others list socket notes ledger c
+      → IsUnder keep others list socket_after notes_after ledger_after (step c)
+
+-- a step makes one private list of another, with at most one intern for each alteration
+pub record Alters (list list_after : List Reg) (interns interns_after : Option ℕ) (step : Course → Course) : Type 0 where
+  pub made : (c : Course) → c.active ≡ list → (step c).active ≡ list_after
+  pub interned : (c : Course) → c.active ≡ list → InternsWithin interns interns_after c.altered (step c).altered
+
+-- a packet has come to this course, with at most one intern for each alteration since the list was altered so often
+pub record Reached (keep : Bool) (others : Counts) (list : List Reg) (socket : KnownSocket) (notes : Notes) (ledger : Ledger) (interns interns_after : Option ℕ) (altered : ℕ) (c : Course) : Type 0 where
+  pub under : IsUnder keep others list socket notes ledger c
+  pub interned : InternsWithin interns interns_after altered c.altered
+
+-- a phase makes one private list of another, and what stood for a course stands for the one that it makes of it
+pub record Makes (keep : Bool) (list : List Reg) (socket : KnownSocket) (notes : Notes) (ledger : Ledger) (interns : Option ℕ)
+    (list_after : List Reg) (socket_after : KnownSocket) (notes_after : Notes) (ledger_after : Ledger) (interns_after : Option ℕ) (step : Course → Course) : Type 0 where
+  pub stands : (others : Counts) (c : Course) → IsUnder keep others list socket notes ledger c
+      → Reached keep others list_after socket_after notes_after ledger_after interns interns_after c.altered (step c)
+
+-- a packet is done, and its connection has come to this history
+pub record Stepped (keep : Bool) (others : Counts) (at : ℕ → Option Reg) (tree : TreeLists) (flow : Flow) (notes : Notes) (counts : Counts) (interns interns_after : Option ℕ) (altered : ℕ) (h : History) : Type 0 where
+  pub stands : IsConnection keep others at tree flow notes counts h
+  pub interned : InternsWithin interns interns_after altered h.altered
+
+-- callbacks leave how far the streams have come
+pub record IsAsFar (old new : KnownSocket) : Type 0 where
+  pub client : next_at Client new ≡ next_at Client old
+  pub server : next_at Server new ≡ next_at Server old
+  pub rbuf : new.rbuf ≡ old.rbuf
+
+-- counts rose by at most so many callbacks, each of at most 288
+pub record RiseBy (n : ℕ) (old new : Counts) : Type 0 where
+  pub callbacks : new.callbacks ≤ old.callbacks + n
+  pub weight : new.weight ≤ old.weight + 288 * n
+
+abbrev pub raise_of : Moment → Raise
+raise_of m = record { hook = m.hook; event = m.event; facts = m.facts.now }

@@ -1,0 +1,154 @@
+//! The callbacks of a raise, and of the raises of a phase.
+
+ghost use Rattle.std.specs.Prelude.{◌≡◌, ◌≤◌, ◌<◌, ◌+◌, ◌*◌, ◌^◌, IsTrue, OnOk, List, ℕ, length};
+ghost use Rattle.app_api.specs.Reg.{peek_fits, reg_of};
+ghost use Rattle.builtin_events.specs.Raised.{raises_of};
+ghost use Rattle.app_api.specs.declared.registration.Reg.{Reg as RegOf};
+ghost use Rattle.forest_versions.specs.State.{ControlState};
+ghost use Rattle.connection_core.specs.Control.{told, defs_at, IsInForce};
+ghost use Rattle.connection_core.specs.Course.{called, called_at, raised};
+ghost use Rattle.connection_core.specs.Trees.{active_in, IsForestIn};
+ghost use Rattle.connection_core.specs.Numbers.{called_by};
+ghost use Rattle.connection_core.specs.Standing.{Steps, IsAsFar, RiseBy, raise_of};
+
+use crate::ledger::{Ledger, Notes};
+use crate::look::look;
+use crate::moment::{Moment, Phase};
+use crate::terms::Terms;
+use app_api::{App, Call, Entry, Reg, Seen};
+use event_trees::{Walk, later_events_change_nothing, slots_in_order};
+use flow_socket::FlowSocket;
+use shared_forest::Tree;
+use std::alloc::{AllocError, Global};
+
+impl<A: App> Terms<'_, A> {
+    // One callback: it peeks, leaves an entry where these are kept, and reacts.
+    fn call(
+        &self,
+        alloc: Global,
+        moment: &Moment,
+        reg: &Reg,
+        socket: &mut FlowSocket,
+        notes: &mut Notes,
+        ledger: &mut Ledger,
+    ) -> Result<(), AllocError>
+        requires peek { IsTrue (peek_fits reg.now.peek) }
+        requires callbacks { ledger.old.counts.callbacks < 2 ^ 63 }
+        requires weight { ledger.old.counts.weight < 2 ^ 63 }
+        ensures stands { OnOk result ((s : ControlState) (list : List RegOf) → IsInForce self.now.control s → Steps self.now.keep list socket.old notes.old ledger.old socket.new notes.new ledger.new
+            (λ c. called (A.meaning self.now.app.now) s moment.now.number moment.now.from (raise_of moment.now) c reg.now)) }
+        ensures rise { RiseBy 1 ledger.old.counts ledger.new.counts }
+        ensures as_far { IsAsFar socket.old socket.new }
+    {
+        let look = look(alloc, self.keep, socket, moment.from, &reg.peek)?;
+        let call = call_of(moment, reg, look.got);
+        let reaction = self.react(reg, &call, &mut notes.tally);
+        ledger.count(look.got);
+        ledger.ask(&reaction)?;
+        notes.keep_entry(self.keep, entry_of(moment, reg, look.seen))
+    }
+
+    // The callback of the registration with a number.
+    fn call_number(
+        &self,
+        alloc: Global,
+        moment: &Moment,
+        number: u8,
+        socket: &mut FlowSocket,
+        notes: &mut Notes,
+        ledger: &mut Ledger,
+    ) -> Result<(), AllocError>
+        requires callbacks { ledger.old.counts.callbacks < 2 ^ 63 }
+        requires weight { ledger.old.counts.weight < 2 ^ 63 }
+        ensures stands { OnOk result ((s : ControlState) (list : List RegOf) → IsInForce self.now.control s → Steps self.now.keep list socket.old notes.old ledger.old socket.new notes.new ledger.new
+            (λ c. called_by (A.meaning self.now.app.now) s moment.now.number moment.now.from (raise_of moment.now) c (reg_of s.regs number))) }
+        ensures rise { RiseBy 1 ledger.old.counts ledger.new.counts }
+        ensures as_far { IsAsFar socket.old socket.new }
+    {
+        match self.control.reg_at(number) {
+            Some(reg) => self.call(alloc, moment, reg, socket, notes, ledger),
+            None => Ok(()),
+        }
+    }
+
+    // Calls what fires at one raise: at most as many as a private list has.
+    fn call_at(
+        &self,
+        alloc: Global,
+        tree: &Tree,
+        moment: &Moment,
+        socket: &mut FlowSocket,
+        notes: &mut Notes,
+        ledger: &mut Ledger,
+    ) -> Result<(), AllocError>
+        requires forest { IsForestIn (defs_at self.now.control) (told self.now.control) tree.now }
+        requires callbacks { ledger.old.counts.callbacks < 2 ^ 62 }
+        requires weight { ledger.old.counts.weight < 2 ^ 62 }
+        ensures stands { OnOk result ((s : ControlState) → IsInForce self.now.control s → Steps self.now.keep (active_in (told self.now.control) tree.now) socket.old notes.old ledger.old socket.new notes.new ledger.new
+            (called_at (A.meaning self.now.app.now) s moment.now.number moment.now.from (raise_of moment.now))) }
+        ensures rise { RiseBy 255 ledger.old.counts ledger.new.counts }
+        ensures as_far { IsAsFar socket.old socket.new }
+    {
+        let defs = self.control.defs();
+        slots_in_order(tree);
+        later_events_change_nothing(defs);
+        let mut walk = Walk::start(tree, moment.hook, moment.event, moment.facts);
+        while let Some(number) = walk.next(defs, self.natives) {
+            self.call_number(alloc, moment, number, socket, notes, ledger)?;
+        }
+        Ok(())
+    }
+
+    /// Makes the raises of a phase, of which there are at most six, one after the other.
+    pub(crate) fn raise_all(
+        &self,
+        alloc: Global,
+        tree: &Tree,
+        phase: &Phase,
+        socket: &mut FlowSocket,
+        notes: &mut Notes,
+        ledger: &mut Ledger,
+    ) -> Result<(), AllocError>
+        requires forest { IsForestIn (defs_at self.now.control) (told self.now.control) tree.now }
+        requires callbacks { ledger.old.counts.callbacks < 2 ^ 61 }
+        requires weight { ledger.old.counts.weight < 2 ^ 61 }
+        ensures stands { OnOk result ((s : ControlState) → IsInForce self.now.control s → Steps self.now.keep (active_in (told self.now.control) tree.now) socket.old notes.old ledger.old socket.new notes.new ledger.new
+            (raised (A.meaning self.now.app.now) s phase.now.number phase.now.from (raises_of phase.now.raised))) }
+        ensures rise { RiseBy 1530 ledger.old.counts ledger.new.counts }
+        ensures as_far { IsAsFar socket.old socket.new }
+    {
+        for event in phase.raised.events.as_slice() {
+            let moment = phase.moment(*event);
+            self.call_at(alloc, tree, &moment, socket, notes, ledger)?;
+        }
+        Ok(())
+    }
+}
+
+ghost use Rattle.connection_core.specs.Course.{call_of, entry_of};
+
+// The call as the application sees it.
+fn call_of(moment: &Moment, reg: &Reg, got: u32) -> Call
+    ensures { result ≡ record { reg = reg.now.number; hook = moment.now.hook; event = reg.now.event; facts = moment.now.facts.now; got = got } }
+{
+    Call {
+        reg: reg.number,
+        hook: moment.hook,
+        event: reg.event,
+        facts: *moment.facts,
+        got,
+    }
+}
+
+// What the report tells of a callback.
+fn entry_of(moment: &Moment, called: &Reg, seen: Seen) -> Entry
+    ensures { result ≡ entry_of moment.now.number (raise_of moment.now) called.now seen }
+{
+    Entry {
+        index: moment.number,
+        hook: moment.hook,
+        event: called.event,
+        reg: called.number,
+        seen,
+    }
+}

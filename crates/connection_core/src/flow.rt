@@ -1,0 +1,309 @@
+//! An open connection: its monitoring socket, and the tree of its registrations.
+
+ghost use Rattle.std.specs.Prelude.{◌≡◌, ◌+◌, ◌<◌, ◌≤◌, ◌^◌, ◌++◌, [], OnOk, IfOk};
+ghost use Rattle.shared_forest.specs.Store.{Keeps};
+ghost use Rattle.app_api.specs.declared.reaction.Verdict.{Verdict as VerdictOf};
+ghost use Rattle.connection_core.specs.Trees.{active_in, IsForestIn, InternsWithin};
+ghost use Rattle.forest_versions.specs.State.{ControlState, active as first_active};
+ghost use Rattle.connection_core.specs.Control.{told, defs_at, IsInForce};
+ghost use Rattle.connection_core.specs.Reach.{Reaches};
+
+use crate::changes::change_all;
+use crate::control::Control;
+use crate::ledger::{Ledger, Notes};
+use crate::moment::{Arrived, Phase};
+use crate::terms::Terms;
+use app_api::{App, Reason, Verdict};
+use builtin_events::{raised_at_receiver, raised_at_sender};
+use flow_socket::FlowSocket;
+use shared_forest::{Forests, Shared};
+use std::alloc::{AllocError, Global};
+
+/// What is kept of an open connection. Its private list is what the tree of its registrations names: it keeps no list
+/// beside that.
+#[derive(Drop)]
+pub struct Flow {
+    pub socket: FlowSocket,
+    /// The tree of its registrations.
+    pub forest: Shared,
+    /// Its packets so far.
+    pub count: u64,
+    ghost reach: { Reaches socket count },
+}
+
+/// What a packet did to its connection.
+#[derive(Clone, Copy, Debug, PartialEq, Eq)]
+pub struct Step {
+    /// Whether the connection is over.
+    pub over: bool,
+    /// What becomes of the packet.
+    pub verdict: Verdict,
+}
+
+/// The most changes that a phase asks: four at each of 255 registrations, at each of six raises.
+const MOST: usize = 4 * 255 * 6;
+
+impl Flow {
+    ghost use Rattle.app_api.specs.App.{Meaning};
+    ghost use Rattle.shared_forest.specs.Lists.{TreeLists};
+    ghost use Rattle.builtin_events.specs.Raised.{raises_of};
+    ghost use Rattle.connection_core.specs.declared.ledger.Counts.{Counts};
+    ghost use Rattle.connection_core.specs.Course.{Course, changed_all, phase as made};
+    ghost use Rattle.connection_core.specs.History.{History, fresh, sender_phase, receiver_phase, received_unless, followed, verdict, drops_of, is_over};
+    ghost use Rattle.connection_core.specs.Standing.{IsFlow, IsConnection, IsUnder, RiseBy, Alters, Makes, Reached, Stepped};
+
+    /// A connection before its first packet, with the tree of the registrations that are on at its start. It takes no memory.
+    pub fn new(alloc: Global, control: &Control, forest: Shared) -> Flow
+        ensures forest { result.forest ≡ forest }
+        ensures count { result.count ≡ 0 }
+        ensures opened { (s : ControlState) (tree : TreeLists) → IsInForce control.now s → active_in (told control.now) tree ≡ first_active s
+            → (app : Meaning) → IsFlow (told control.now) tree result (fresh app s) }
+    {
+        Flow {
+            socket: FlowSocket::new(alloc, control.rbuf(), control.policy()),
+            forest,
+            count: 0,
+        }
+    }
+
+    // Makes the changes that were asked in a phase.
+    fn settle<F: Forests>(
+        &mut self,
+        alloc: Global,
+        control: &Control,
+        forests: &mut F,
+        ledger: &mut Ledger,
+    ) -> Result<(), AllocError>
+        requires answered { F.answered forests.old self.old.forest }
+        requires forest { IsForestIn (defs_at control.now) (told control.now) (F.content forests.old self.old.forest) }
+        ensures answered { F.answered forests.new self.new.forest }
+        ensures forest { IsForestIn (defs_at control.now) (told control.now) (F.content forests.new self.new.forest) }
+        ensures kept { Keeps F.answered F.content forests.old forests.new }
+        ensures made { OnOk result ((s : ControlState) → IsInForce control.now s
+            → Alters (active_in (told control.now) (F.content forests.old self.old.forest)) (active_in (told control.now) (F.content forests.new self.new.forest))
+            (F.interns forests.old) (F.interns forests.new) (changed_all s ledger.old.changes.items)) }
+        ensures asked { OnOk result (ledger.new.changes.items ≡ []) }
+        ensures drop { ledger.new.drop ≡ ledger.old.drop }
+        ensures counts { ledger.new.counts ≡ ledger.old.counts }
+        ensures socket { self.new.socket ≡ self.old.socket }
+        ensures count { self.new.count ≡ self.old.count }
+    {
+        change_all(
+            alloc,
+            control,
+            forests,
+            &mut self.forest,
+            ledger.changes.as_slice(),
+        )?;
+        ledger.changes.clear();
+        Ok(())
+    }
+
+    // Makes the raises of a phase, and then the changes that its callbacks ask. Room for these is taken first.
+    fn make<A: App, F: Forests>(
+        &mut self,
+        alloc: Global,
+        terms: &Terms<A>,
+        forests: &mut F,
+        phase: &Phase,
+        notes: &mut Notes,
+        ledger: &mut Ledger,
+    ) -> Result<(), AllocError>
+        requires answered { F.answered forests.old self.old.forest }
+        requires forest { IsForestIn (defs_at terms.now.control) (told terms.now.control) (F.content forests.old self.old.forest) }
+        requires callbacks { ledger.old.counts.callbacks < 2 ^ 61 }
+        requires weight { ledger.old.counts.weight < 2 ^ 61 }
+        ensures answered { F.answered forests.new self.new.forest }
+        ensures forest { IsForestIn (defs_at terms.now.control) (told terms.now.control) (F.content forests.new self.new.forest) }
+        ensures kept { Keeps F.answered F.content forests.old forests.new }
+        ensures made { OnOk result ((s : ControlState) → IsInForce terms.now.control s
+            → Makes terms.now.keep (active_in (told terms.now.control) (F.content forests.old self.old.forest)) self.old.socket notes.old ledger.old (F.interns forests.old)
+            (active_in (told terms.now.control) (F.content forests.new self.new.forest)) self.new.socket notes.new ledger.new (F.interns forests.new)
+            (made (A.meaning terms.now.app.now) s phase.now.number phase.now.from (raises_of phase.now.raised))) }
+        ensures rise { RiseBy 1530 ledger.old.counts ledger.new.counts }
+        ensures count { self.new.count ≡ self.old.count }
+    {
+        let tree = forests.tree_of(&self.forest);
+        ledger.make_room(MOST)?;
+        terms.raise_all(alloc, tree, phase, &mut self.socket, notes, ledger)?;
+        self.settle(alloc, &terms.control, forests, ledger)?;
+        Ok(())
+    }
+
+    // The packet's phase at its sender.
+    fn send<A: App, F: Forests>(
+        &mut self,
+        alloc: Global,
+        terms: &Terms<A>,
+        forests: &mut F,
+        arrived: &Arrived,
+        notes: &mut Notes,
+        ledger: &mut Ledger,
+    ) -> Result<(), AllocError>
+        requires answered { F.answered forests.old self.old.forest }
+        requires forest { IsForestIn (defs_at terms.now.control) (told terms.now.control) (F.content forests.old self.old.forest) }
+        requires callbacks { ledger.old.counts.callbacks < 2 ^ 61 }
+        requires weight { ledger.old.counts.weight < 2 ^ 61 }
+        ensures answered { F.answered forests.new self.new.forest }
+        ensures forest { IsForestIn (defs_at terms.now.control) (told terms.now.control) (F.content forests.new self.new.forest) }
+        ensures kept { Keeps F.answered F.content forests.old forests.new }
+        ensures stands { OnOk result ((s : ControlState) (others : Counts) (h : History) → IsInForce terms.now.control s
+            → IsConnection terms.now.keep others (told terms.now.control) (F.content forests.old self.old.forest) self.old notes.old ledger.old.counts h
+            → Reached terms.now.keep others (active_in (told terms.now.control) (F.content forests.new self.new.forest)) self.new.socket notes.new ledger.new
+            (F.interns forests.old) (F.interns forests.new) h.altered (sender_phase (A.meaning terms.now.app.now) s arrived.now.number arrived.now.from arrived.now.head.now h)) }
+        ensures rise { RiseBy 1530 ledger.old.counts ledger.new.counts }
+        ensures count { self.new.count ≡ self.old.count }
+    {
+        ledger.begin();
+        let sent = self.socket.send(arrived.from, arrived.head);
+        let raised = raised_at_sender(
+            arrived.head,
+            arrived.from,
+            self.count,
+            self.count == 0,
+            &sent,
+        );
+        let phase = Phase {
+            number: arrived.number,
+            from: arrived.from,
+            raised,
+        };
+        self.make(alloc, terms, forests, &phase, notes, ledger)
+    }
+
+    // Its phase at its receiver.
+    fn receive<A: App, F: Forests>(
+        &mut self,
+        alloc: Global,
+        terms: &Terms<A>,
+        forests: &mut F,
+        arrived: &Arrived,
+        notes: &mut Notes,
+        ledger: &mut Ledger,
+    ) -> Result<(), AllocError>
+        requires count { self.old.count < 2 ^ 30 }
+        requires answered { F.answered forests.old self.old.forest }
+        requires forest { IsForestIn (defs_at terms.now.control) (told terms.now.control) (F.content forests.old self.old.forest) }
+        requires callbacks { ledger.old.counts.callbacks < 2 ^ 61 }
+        requires weight { ledger.old.counts.weight < 2 ^ 61 }
+        ensures answered { F.answered forests.new self.new.forest }
+        ensures forest { IsForestIn (defs_at terms.now.control) (told terms.now.control) (F.content forests.new self.new.forest) }
+        ensures kept { Keeps F.answered F.content forests.old forests.new }
+        ensures stands { OnOk result ((s : ControlState) (others : Counts) (c : Course) → IsInForce terms.now.control s
+            → IsUnder terms.now.keep others (active_in (told terms.now.control) (F.content forests.old self.old.forest)) self.old.socket notes.old ledger.old c
+            → Reached terms.now.keep others (active_in (told terms.now.control) (F.content forests.new self.new.forest)) self.new.socket notes.new ledger.new
+            (F.interns forests.old) (F.interns forests.new) c.altered (receiver_phase (A.meaning terms.now.app.now) s arrived.now.number arrived.now.from arrived.now.head.now arrived.now.payload.now self.old.count c)) }
+        ensures rise { RiseBy 1530 ledger.old.counts ledger.new.counts }
+        ensures count { self.new.count ≤ self.old.count + 1 }
+        ensures counted { OnOk result (self.new.count ≡ self.old.count + 1) }
+    {
+        let nth = self.count;
+        let got = self
+            .socket
+            .receive(arrived.from, arrived.head, arrived.payload)?;
+        self.count += 1;
+        let phase = Phase {
+            number: arrived.number,
+            from: arrived.from,
+            raised: raised_at_receiver(arrived.head, arrived.from, nth, &got),
+        };
+        self.make(alloc, terms, forests, &phase, notes, ledger)
+    }
+
+    // What is left of a packet after its phase at its sender: where it was dropped it never comes to its receiver.
+    fn go_on<A: App, F: Forests>(
+        &mut self,
+        alloc: Global,
+        terms: &Terms<A>,
+        forests: &mut F,
+        arrived: &Arrived,
+        notes: &mut Notes,
+        ledger: &mut Ledger,
+    ) -> Result<(), AllocError>
+        requires count { self.old.count < 2 ^ 30 }
+        requires answered { F.answered forests.old self.old.forest }
+        requires forest { IsForestIn (defs_at terms.now.control) (told terms.now.control) (F.content forests.old self.old.forest) }
+        requires callbacks { ledger.old.counts.callbacks < 2 ^ 61 }
+        requires weight { ledger.old.counts.weight < 2 ^ 61 }
+        ensures answered { F.answered forests.new self.new.forest }
+        ensures forest { IsForestIn (defs_at terms.now.control) (told terms.now.control) (F.content forests.new self.new.forest) }
+        ensures kept { Keeps F.answered F.content forests.old forests.new }
+        ensures stands { OnOk result ((s : ControlState) (others : Counts) (h : History) (c : Course) → IsInForce terms.now.control s → self.old.count ≡ h.count
+            → IsUnder terms.now.keep others (active_in (told terms.now.control) (F.content forests.old self.old.forest)) self.old.socket notes.old ledger.old c
+            → Stepped terms.now.keep others (told terms.now.control) (F.content forests.new self.new.forest) self.new notes.new ledger.new.counts (F.interns forests.old) (F.interns forests.new) c.altered
+            (received_unless c.drop arrived.now.number c (receiver_phase (A.meaning terms.now.app.now) s arrived.now.number arrived.now.from arrived.now.head.now arrived.now.payload.now h.count c) h)) }
+        ensures rise { RiseBy 1530 ledger.old.counts ledger.new.counts }
+        ensures count { self.new.count ≤ self.old.count + 1 }
+    {
+        match ledger.drop {
+            None => {
+                self.receive(alloc, terms, forests, arrived, notes, ledger)?;
+                Ok(())
+            }
+            Some(_) => {
+                self.count += 1;
+                Ok(())
+            }
+        }
+    }
+
+    /// One more packet, and its callbacks.
+    pub fn step<A: App, F: Forests>(
+        &mut self,
+        alloc: Global,
+        terms: &Terms<A>,
+        forests: &mut F,
+        arrived: &Arrived,
+        notes: &mut Notes,
+        ledger: &mut Ledger,
+    ) -> Result<Step, AllocError>
+        requires count { self.old.count < 2 ^ 30 }
+        requires answered { F.answered forests.old self.old.forest }
+        requires forest { IsForestIn (defs_at terms.now.control) (told terms.now.control) (F.content forests.old self.old.forest) }
+        requires callbacks { ledger.old.counts.callbacks < 2 ^ 60 }
+        requires weight { ledger.old.counts.weight < 2 ^ 60 }
+        ensures answered { F.answered forests.new self.new.forest }
+        ensures forest { IsForestIn (defs_at terms.now.control) (told terms.now.control) (F.content forests.new self.new.forest) }
+        ensures kept { Keeps F.answered F.content forests.old forests.new }
+        ensures stands { OnOk result ((s : ControlState) (others : Counts) (h : History) → IsInForce terms.now.control s
+            → IsConnection terms.now.keep others (told terms.now.control) (F.content forests.old self.old.forest) self.old notes.old ledger.old.counts h
+            → IsConnection terms.now.keep others (told terms.now.control) (F.content forests.new self.new.forest) self.new notes.new ledger.new.counts (followed (A.meaning terms.now.app.now) s arrived.now.number arrived.now.from arrived.now.head.now arrived.now.payload.now h)) }
+
+        // At most one intern for each change that altered the private list.
+        ensures interned { OnOk result ((s : ControlState) (others : Counts) (h : History) → IsInForce terms.now.control s
+            → IsConnection terms.now.keep others (told terms.now.control) (F.content forests.old self.old.forest) self.old notes.old ledger.old.counts h
+            → InternsWithin (F.interns forests.old) (F.interns forests.new) h.altered (followed (A.meaning terms.now.app.now) s arrived.now.number arrived.now.from arrived.now.head.now arrived.now.payload.now h).altered) }
+
+        ensures over { IfOk result (λ step. (s : ControlState) (others : Counts) (h : History) → IsInForce terms.now.control s
+            → IsConnection terms.now.keep others (told terms.now.control) (F.content forests.old self.old.forest) self.old notes.old ledger.old.counts h
+            → step.over ≡ is_over (followed (A.meaning terms.now.app.now) s arrived.now.number arrived.now.from arrived.now.head.now arrived.now.payload.now h)) }
+        ensures verdict { IfOk result (λ step. (s : ControlState) (others : Counts) (h : History) → IsInForce terms.now.control s
+            → IsConnection terms.now.keep others (told terms.now.control) (F.content forests.old self.old.forest) self.old notes.old ledger.old.counts h
+            → step.verdict ≡ verdict (A.meaning terms.now.app.now) s arrived.now.number arrived.now.from arrived.now.head.now h) }
+        ensures drops { IfOk result (λ step. (s : ControlState) (others : Counts) (h : History) → IsInForce terms.now.control s
+            → IsConnection terms.now.keep others (told terms.now.control) (F.content forests.old self.old.forest) self.old notes.old ledger.old.counts h
+            → (followed (A.meaning terms.now.app.now) s arrived.now.number arrived.now.from arrived.now.head.now arrived.now.payload.now h).drops ≡ h.drops ++ drops_of step.verdict arrived.now.number) }
+        ensures rise { RiseBy 3060 ledger.old.counts ledger.new.counts }
+        ensures count { self.new.count ≤ self.old.count + 1 }
+    {
+        self.send(alloc, terms, forests, arrived, notes, ledger)?;
+        let verdict = verdict_of(ledger.drop);
+        self.go_on(alloc, terms, forests, arrived, notes, ledger)?;
+        Ok(Step {
+            over: self.socket.is_over(),
+            verdict,
+        })
+    }
+}
+
+ghost use Rattle.connection_core.specs.History.{verdict_of};
+
+// What becomes of a packet for which a drop was asked, or none.
+pub(crate) fn verdict_of(drop: Option<Reason>) -> Verdict
+    ensures { result ≡ verdict_of drop }
+{
+    match drop {
+        Some(reason) => Verdict::Drop(reason),
+        None => Verdict::Pass,
+    }
+}

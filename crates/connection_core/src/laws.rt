@@ -1,0 +1,43 @@
+//! What callers may rest on. These functions do nothing.
+
+ghost use Rattle.std.specs.Prelude.{◌≡◌, ℕ, Option, List};
+ghost use Rattle.app_api.specs.declared.registration.Reg.{Reg};
+ghost use Rattle.shared_forest.specs.Lists.{TreeLists};
+ghost use Rattle.shared_forest.specs.Listing.{listing};
+ghost use Rattle.event_trees.specs.declared.defs.EventDef.{EventDef};
+ghost use Rattle.event_trees.specs.Edit.{IsForestOf};
+ghost use Rattle.event_trees.specs.Later.{IsEarlier};
+ghost use Rattle.forest_versions.specs.State.{ControlState, active as first_active};
+ghost use Rattle.connection_core.specs.Control.{told, defs_at, IsInForce};
+ghost use Rattle.connection_core.specs.Trees.{active_in, IsForestIn};
+ghost use Rattle.connection_core.specs.Laws.{CallsWhatFires};
+
+use crate::control::Control;
+use event_trees::{Defs, later_events_change_nothing, slots_in_order};
+use shared_forest::Tree;
+
+/// The callbacks of a phase are, raise by raise, those registrations of its private list that fire: those with the
+/// raise's hook and root whose filters on the whole path are true, by path and then by number. The private list is that
+/// of the phase's beginning.
+pub fn callbacks_are_those_that_fire()
+    ensures { CallsWhatFires }
+{}
+
+/// The tree of the registrations that are on at a connection's start names them.
+pub fn first_tree_names_the_first_list(control: &Control, tree: &Tree)
+    ensures list { (s : ControlState) → IsInForce control.now s → IsForestOf (defs_at control.now) (first_active s) (listing tree.now)
+        → active_in (told control.now) tree.now ≡ first_active s }
+    ensures forest { (s : ControlState) → IsInForce control.now s → IsForestOf (defs_at control.now) (first_active s) (listing tree.now)
+        → IsForestIn (defs_at control.now) (told control.now) tree.now }
+{
+    slots_in_order(tree);
+}
+
+/// A tree stays that of its private list where events are defined later, and registrations are looked up as before.
+pub fn trees_stay(defs: &Defs)
+    ensures forest { (earlier : List EventDef) (at now : ℕ → Option Reg) (tree : TreeLists) → IsEarlier earlier defs.now → ((number : ℕ) → now number ≡ at number)
+        → IsForestIn earlier at tree → IsForestIn defs.now now tree }
+    ensures list { (at now : ℕ → Option Reg) (tree : TreeLists) → ((number : ℕ) → now number ≡ at number) → active_in now tree ≡ active_in at tree }
+{
+    later_events_change_nothing(defs);
+}

@@ -1,0 +1,127 @@
+//! What is noted of callbacks: in their record, and for the packet under way.
+
+ghost use Rattle.std.specs.Prelude.{◌≡◌, ◌+◌, ◌<◌, ◌≤◌, ◌^◌, ◌++◌, ◌∷◌, [], None, OnOk, if◌then◌else◌};
+ghost use Rattle.connection_core.specs.Course.{first_reason};
+
+use app_api::{Change1, Entry, EntryList, Reaction, Reason, Tally};
+use std::alloc::{AllocError, Global};
+
+/// What is kept of a record's callbacks.
+#[derive(Drop)]
+pub struct Notes {
+    /// What the application keeps.
+    pub tally: Tally,
+    /// The callbacks in order, where entries are kept.
+    pub entries: EntryList,
+}
+
+/// What a run's callbacks amount to.
+#[derive(Clone, Copy, Debug, PartialEq, Eq)]
+pub struct Counts {
+    /// How many were made.
+    pub callbacks: u64,
+    /// For each of them 32, and the bytes that it saw.
+    pub weight: u64,
+}
+
+/// What the callbacks of the packet under way ask, and the counts of all callbacks so far. The room for changes is used
+/// again by the next packet.
+#[derive(Drop)]
+pub struct Ledger {
+    /// The changes asked in this phase, in order.
+    pub changes: Vec<Change1>,
+    /// The first reason for which a drop was asked.
+    pub drop: Option<Reason>,
+    pub counts: Counts,
+}
+
+impl Notes {
+    /// Before the first callback. It takes no memory.
+    pub fn new(alloc: Global, tally: Tally) -> Notes
+        ensures tally { result.tally ≡ tally }
+        ensures entries { result.entries ≡ [] }
+    {
+        Notes {
+            tally,
+            entries: EntryList {
+                items: Vec::new(alloc),
+            },
+        }
+    }
+
+    /// Keeps an entry, where these are kept.
+    pub(crate) fn keep_entry(&mut self, keep: bool, entry: Entry) -> Result<(), AllocError>
+        ensures tally { self.new.tally ≡ self.old.tally }
+        ensures entries { OnOk result (self.new.entries ≡ (if keep then self.old.entries ++ entry ∷ [] else self.old.entries)) }
+    {
+        if !keep {
+            return Ok(());
+        }
+        self.entries.items.push(entry)?;
+        Ok(())
+    }
+}
+
+/// What a callback weighs beside the bytes that it saw.
+const WEIGHT: u64 = 32;
+
+impl Ledger {
+    /// Before the first packet. It takes no memory.
+    pub fn new(alloc: Global) -> Ledger
+        ensures changes { result.changes.items ≡ [] }
+        ensures drop { result.drop ≡ None }
+        ensures counts { result.counts ≡ record { callbacks = 0; weight = 0 } }
+    {
+        Ledger {
+            changes: Vec::new(alloc),
+            drop: None,
+            counts: Counts {
+                callbacks: 0,
+                weight: 0,
+            },
+        }
+    }
+
+    /// A packet begins, for which nothing was asked yet.
+    pub(crate) fn begin(&mut self)
+        ensures changes { self.new.changes.items ≡ [] }
+        ensures drop { self.new.drop ≡ None }
+        ensures counts { self.new.counts ≡ self.old.counts }
+    {
+        self.changes.clear();
+        self.drop = None;
+    }
+
+    /// Room for so many changes.
+    pub(crate) fn make_room(&mut self, changes: usize) -> Result<(), AllocError>
+        ensures changes { self.new.changes.items ≡ self.old.changes.items }
+        ensures drop { self.new.drop ≡ self.old.drop }
+        ensures counts { self.new.counts ≡ self.old.counts }
+    {
+        self.changes.reserve(changes)
+    }
+
+    /// Counts a callback that saw so many bytes.
+    pub(crate) fn count(&mut self, got: u32)
+        requires callbacks { self.old.counts.callbacks < 2 ^ 63 }
+        requires weight { self.old.counts.weight < 2 ^ 63 }
+        ensures callbacks { self.new.counts.callbacks ≡ self.old.counts.callbacks + 1 }
+        ensures weight { self.new.counts.weight ≡ self.old.counts.weight + (32 + got) }
+        ensures changes { self.new.changes ≡ self.old.changes }
+        ensures drop { self.new.drop ≡ self.old.drop }
+    {
+        self.counts.callbacks += 1;
+        self.counts.weight += WEIGHT + u64::from(got);
+    }
+
+    /// Notes what a callback asks.
+    pub(crate) fn ask(&mut self, reaction: &Reaction) -> Result<(), AllocError>
+        ensures changes { OnOk result (self.new.changes.items ≡ self.old.changes.items ++ reaction.now.changes) }
+        ensures drop { self.new.drop ≡ first_reason self.old.drop reaction.now.drop }
+        ensures counts { self.new.counts ≡ self.old.counts }
+    {
+        self.drop = self.drop.or(reaction.drop);
+        let changes = &reaction.changes;
+        self.changes.extend_from_slice(changes.as_slice())
+    }
+}

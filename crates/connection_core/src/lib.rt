@@ -1,0 +1,22 @@
+//! One connection: its callbacks, what they ask, and what a packet makes of it.
+//!
+//! Start with `specs/Course.antt`, one callback after the other, and `specs/History.antt`, one packet after the other.
+#![tactic(auto)]
+
+mod calls;
+mod changes;
+mod control;
+mod flow;
+pub mod laws;
+mod ledger;
+mod look;
+mod moment;
+mod orphan;
+mod terms;
+
+pub use control::Control;
+pub use flow::{Flow, Step};
+pub use ledger::{Counts, Ledger, Notes};
+pub use moment::Arrived;
+pub use orphan::lone;
+pub use terms::Terms;

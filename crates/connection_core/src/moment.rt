@@ -1,0 +1,64 @@
+//! Packets that arrive, and the raises that they make.
+
+ghost use Rattle.std.specs.Prelude.{◌≡◌, ◌≤◌, length};
+
+use builtin_events::Raised;
+use native_filters::{Facts, Hook};
+use packet_views::Head;
+use tcp_emulation::Side;
+
+/// A segment of a connection.
+#[derive(Clone, Copy)]
+pub struct Arrived<'a> {
+    /// The packet's number, from 0.
+    pub number: u64,
+    /// Who sent it.
+    pub from: Side,
+    pub head: &'a Head,
+    /// Its `head.len` bytes.
+    pub payload: &'a [u8],
+    ghost len: { head.now.len ≡ length payload.now },
+    ghost bytes: { length payload.now ≤ 65535 },
+}
+
+/// One raise of a packet.
+#[derive(Clone, Copy)]
+pub(crate) struct Moment<'a> {
+    /// The packet's number.
+    pub(crate) number: u64,
+    /// Who sent it.
+    pub(crate) from: Side,
+    pub(crate) hook: Hook,
+    /// The event that is raised.
+    pub(crate) event: u16,
+    pub(crate) facts: &'a Facts,
+}
+
+/// One phase of a packet, and what it raises.
+#[derive(Drop)]
+pub(crate) struct Phase {
+    /// The packet's number.
+    pub(crate) number: u64,
+    /// Who sent it.
+    pub(crate) from: Side,
+    pub(crate) raised: Raised,
+}
+
+impl Phase {
+    ghost use Rattle.connection_core.specs.Standing.{raise_of};
+
+    /// Its raise of an event.
+    pub(crate) fn moment(&self, event: u16) -> Moment<'_>
+        ensures number { result.number ≡ self.now.number }
+        ensures from { result.from ≡ self.now.from }
+        ensures raise { raise_of result ≡ record { hook = self.now.raised.hook; event = event; facts = self.now.raised.facts } }
+    {
+        Moment {
+            number: self.number,
+            from: self.from,
+            hook: self.raised.hook,
+            event,
+            facts: &self.raised.facts,
+        }
+    }
+}

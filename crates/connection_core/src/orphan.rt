@@ -1,0 +1,63 @@
+//! Packets that belong to no connection.
+
+ghost use Rattle.std.specs.Prelude.{◌≡◌, ◌<◌, ◌^◌, [], OnOk, IfOk};
+ghost use Rattle.builtin_events.specs.Raised.{raises_of};
+ghost use Rattle.forest_versions.specs.State.{ControlState, active as first_active};
+ghost use Rattle.connection_core.specs.declared.ledger.Counts.{Counts};
+ghost use Rattle.connection_core.specs.Control.{told, defs_at, IsInForce};
+ghost use Rattle.connection_core.specs.Trees.{active_in, IsForestIn};
+ghost use Rattle.connection_core.specs.History.{orphaned, orphan_verdict, drops_of};
+ghost use Rattle.connection_core.specs.Standing.{IsNoted, RiseBy};
+
+use crate::flow::verdict_of;
+use crate::ledger::{Ledger, Notes};
+use crate::moment::Phase;
+use crate::terms::Terms;
+use app_api::{App, Verdict};
+use builtin_events::Raised;
+use flow_socket::FlowSocket;
+use shared_forest::{ForestView, Shared};
+use std::alloc::{AllocError, Global};
+use tcp_emulation::Side;
+
+/// The callbacks of a packet of no connection, over the tree of the registrations that are on. It is as if it belonged
+/// to a connection that heard nothing, and the changes that are asked come to nothing.
+pub fn lone<A: App, F: ForestView>(
+    alloc: Global,
+    terms: &Terms<A>,
+    forests: &F,
+    forest: &Shared,
+    number: u64,
+    raised: Raised,
+    notes: &mut Notes,
+    ledger: &mut Ledger,
+) -> Result<Verdict, AllocError>
+    requires answered { F.answered forests.now forest.now }
+    requires forest { IsForestIn (defs_at terms.now.control) (told terms.now.control) (F.content forests.now forest.now) }
+    requires callbacks { ledger.old.counts.callbacks < 2 ^ 60 }
+    requires weight { ledger.old.counts.weight < 2 ^ 60 }
+    ensures stands { OnOk result ((s : ControlState) (others : Counts) → IsInForce terms.now.control s
+        → active_in (told terms.now.control) (F.content forests.now forest.now) ≡ first_active s
+        → IsNoted terms.now.keep others (A.meaning terms.now.app.now).fresh [] notes.old ledger.old.counts
+        → IsNoted terms.now.keep others (orphaned (A.meaning terms.now.app.now) s number (raises_of raised)).tally (orphaned (A.meaning terms.now.app.now) s number (raises_of raised)).entries notes.new ledger.new.counts) }
+    ensures verdict { IfOk result (λ verdict. (s : ControlState) (others : Counts) → IsInForce terms.now.control s
+        → active_in (told terms.now.control) (F.content forests.now forest.now) ≡ first_active s
+        → IsNoted terms.now.keep others (A.meaning terms.now.app.now).fresh [] notes.old ledger.old.counts
+        → verdict ≡ orphan_verdict (A.meaning terms.now.app.now) s number (raises_of raised)) }
+    ensures drops { IfOk result (λ verdict. (s : ControlState) (others : Counts) → IsInForce terms.now.control s
+        → active_in (told terms.now.control) (F.content forests.now forest.now) ≡ first_active s
+        → IsNoted terms.now.keep others (A.meaning terms.now.app.now).fresh [] notes.old ledger.old.counts
+        → (orphaned (A.meaning terms.now.app.now) s number (raises_of raised)).drops ≡ drops_of verdict number) }
+    ensures rise { RiseBy 1530 ledger.old.counts ledger.new.counts }
+{
+    ledger.begin();
+    let phase = Phase {
+        number,
+        from: Side::Client,
+        raised,
+    };
+    let mut socket = FlowSocket::new(alloc, terms.control.rbuf(), terms.control.policy());
+    let tree = forests.tree_of(forest);
+    terms.raise_all(alloc, tree, &phase, &mut socket, notes, ledger)?;
+    Ok(verdict_of(ledger.drop))
+}
