@@ -11,7 +11,7 @@ use Rattle.flow_table.specs.Endpoint.{source_of, destination_of}
 use Rattle.flow_table.specs.Key.{Ends, key_of_head, same_key}
 use Rattle.flow_table.specs.Table.{Flows, found, key_cmp}
 use Rattle.flow_table.proofs.Keys.{same_key-equal}
-use Rattle.flow_socket.specs.Known.{SocketStandsFor}
+use Rattle.flow_socket.specs.View.{SocketStandsFor}
 use Rattle.app_api.specs.declared.entry.Entry.{Entry}
 use Rattle.builtin_events.specs.Raises.{orphan_raises}
 use Rattle.shared_forest.specs.Rows.{TableRows, tree_at}

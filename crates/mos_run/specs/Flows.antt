@@ -3,7 +3,7 @@ use Rattle.std.specs.Prelude.{◌≡◌, ℕ, ◌+◌, ◌≤◌, Bool, List, le
 use Rattle.packet_views.specs.declared.packet.Head.{Head}
 use Rattle.flow_table.specs.Key.{Ends, same_key}
 use Rattle.flow_table.specs.Table.{Flows, found}
-use Rattle.flow_socket.specs.Known.{SocketStandsFor}
+use Rattle.flow_socket.specs.View.{SocketStandsFor}
 use Rattle.app_api.specs.declared.entry.Entry.{Entry}
 use Rattle.shared_forest.specs.Rows.{TableRows, tree_at}
 use Rattle.report_text.specs.declared.record.Record.{Record}

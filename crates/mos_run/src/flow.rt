@@ -57,7 +57,7 @@ fn side_of(client: &Endpoint, head: &Head) -> Side
 }
 
 impl Flow {
-    ghost use Rattle.flow_socket.specs.Known.{SocketStandsFor};
+    ghost use Rattle.flow_socket.specs.View.{SocketStandsFor};
     ghost use Rattle.flow_socket.specs.Emulation.{fresh};
     ghost use Rattle.mos_run.specs.Calls.{IsFirstForest};
     ghost use Rattle.mos_run.specs.History.{History, counted, sender_phase, receiver_phase, followed, is_over};
