@@ -7,7 +7,7 @@ use Rattle.std.proofs.lemmas.List.Elements.{All-filter, recursion_from_All}
 use Rattle.native_filters.specs.declared.facts.Facts.{Facts}
 use Rattle.native_filters.specs.declared.facts.Hook.{Hook}
 use Rattle.tcp_emulation.specs.declared.segment.Side.{Side}
-use Rattle.flow_socket.specs.Known.{KnownSocket, SocketStandsFor}
+use Rattle.flow_socket.specs.View.{SocketView, SocketStandsFor}
 use Rattle.app_api.specs.declared.app.Call.{Call}
 use Rattle.app_api.specs.declared.app.Tally.{Tally}
 use Rattle.app_api.specs.declared.changes.Change1.{Change1}
@@ -49,7 +49,7 @@ kept-more true made kept after here seen before is same = is ∙ ap (λ l. l ++ 
 kept-more false made kept after here seen before is same = is ∙ before
 
 pub called_under : (app : Meaning) (s : ControlState) (number : ℕ) (from : Side) (raise : Raise) (r : Reg) (keep : Bool) (others : Counts) (list : List Reg)
-    (socket socket_after : KnownSocket) (notes notes_after : Notes) (ledger ledger_after : Ledger) (got : ℕ) (seen : Seen) (reaction : Reaction) (c : Course)
+    (socket socket_after : SocketView) (notes notes_after : Notes) (ledger ledger_after : Ledger) (got : ℕ) (seen : Seen) (reaction : Reaction) (c : Course)
     → IsUnder keep others list socket notes ledger c
     → SocketStandsFor socket_after (after_seen from r.peek c.emulation)
     → (keep ≡ true → seen ≡ seen_by from r.peek c.emulation)
@@ -87,19 +87,19 @@ called_under app s number from raise r keep others list socket socket_after note
 
 -- what the callbacks made so far have come to, so that those of the numbers left give what all give
 pub record CallsLeft (app : Meaning) (s : ControlState) (keep : Bool) (list : List Reg) (number : ℕ) (from : Side) (raise : Raise)
-    (socket : KnownSocket) (notes : Notes) (ledger : Ledger) (all : List ℕ) (socket_now : KnownSocket) (notes_now : Notes) (ledger_now : Ledger) (left : List ℕ) : Type 0 where
+    (socket : SocketView) (notes : Notes) (ledger : Ledger) (all : List ℕ) (socket_now : SocketView) (notes_now : Notes) (ledger_now : Ledger) (left : List ℕ) : Type 0 where
   pub so_far : Course → Course
   pub steps : Steps keep list socket notes ledger socket_now notes_now ledger_now so_far
   pub whole : (c : Course) → called_numbers app s number from raise (so_far c) left ≡ called_numbers app s number from raise c all
 
 pub calls_begun : (app : Meaning) (s : ControlState) (keep : Bool) (list : List Reg) (number : ℕ) (from : Side) (raise : Raise)
-    (socket : KnownSocket) (notes : Notes) (ledger : Ledger) (all : List ℕ)
+    (socket : SocketView) (notes : Notes) (ledger : Ledger) (all : List ℕ)
     → CallsLeft app s keep list number from raise socket notes ledger all socket notes ledger all
 calls_begun app s keep list number from raise socket notes ledger all =
     record { so_far = λ c. c; steps = record { stands = λ others c u. u }; whole = λ c. refl }
 
 pub calls_on : (app : Meaning) (s : ControlState) (keep : Bool) (list : List Reg) (number : ℕ) (from : Side) (raise : Raise)
-    (socket : KnownSocket) (notes : Notes) (ledger : Ledger) (all : List ℕ) (socket_now socket_after : KnownSocket) (notes_now notes_after : Notes) (ledger_now ledger_after : Ledger)
+    (socket : SocketView) (notes : Notes) (ledger : Ledger) (all : List ℕ) (socket_now socket_after : SocketView) (notes_now notes_after : Notes) (ledger_now ledger_after : Ledger)
     (left after : List ℕ) (n : ℕ)
     → CallsLeft app s keep list number from raise socket notes ledger all socket_now notes_now ledger_now left → left ≡ n ∷ after
     → Steps keep list socket_now notes_now ledger_now socket_after notes_after ledger_after (λ c. called_by app s number from raise c (reg_of s.regs n))
@@ -121,7 +121,7 @@ calls_by_number app s number from raise (r ∷ list) c all =
 
 -- once no number is left, the raise is made
 pub calls_done : (app : Meaning) (s : ControlState) (keep : Bool) (list : List Reg) (number : ℕ) (from : Side) (raise : Raise)
-    (socket : KnownSocket) (notes : Notes) (ledger : Ledger) (all : List ℕ) (socket_now : KnownSocket) (notes_now : Notes) (ledger_now : Ledger) (left : List ℕ)
+    (socket : SocketView) (notes : Notes) (ledger : Ledger) (all : List ℕ) (socket_now : SocketView) (notes_now : Notes) (ledger_now : Ledger) (left : List ℕ)
     → CallsLeft app s keep list number from raise socket notes ledger all socket_now notes_now ledger_now left → left ≡ []
     → All (λ (r : Reg). reg_of s.regs r.number ≡ Some r) list
     → all ≡ numbers_of (fires s.defs raise.facts raise.hook raise.event list)

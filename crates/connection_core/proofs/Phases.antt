@@ -3,7 +3,7 @@ use Rattle.std.proofs.Common.{◌≡◌, ℕ, ◌+◌, eqb, Bool, true, false, c
 use Rattle.packet_views.specs.declared.packet.Head.{Head}
 use Rattle.tcp_emulation.specs.declared.segment.Side.{Side}
 use Rattle.tcp_emulation.specs.Ends.{is_over as are_over}
-use Rattle.flow_socket.specs.Known.{KnownSocket, SocketStandsFor}
+use Rattle.flow_socket.specs.View.{SocketView, SocketStandsFor}
 use Rattle.reassembly.specs.declared.answers.Policy.{Policy}
 use Rattle.tcp_emulation.specs.declared.segment.Side.TheVariants.{Client}
 use Rattle.flow_socket.specs.Emulation.{Emulation, fresh as unheard, sent, sent_answer, received, got_of}
@@ -94,7 +94,7 @@ altered-raised app s number from (raise ∷ raises) c =
 -- ---- a phase
 
 -- a ledger with the same content stands for the same
-under_room : (keep : Bool) (others : Counts) (list : List Reg) (socket : KnownSocket) (notes : Notes) (ledger roomy : Ledger) (c : Course)
+under_room : (keep : Bool) (others : Counts) (list : List Reg) (socket : SocketView) (notes : Notes) (ledger roomy : Ledger) (c : Course)
     → roomy.changes.items ≡ ledger.changes.items → roomy.drop ≡ ledger.drop → roomy.counts ≡ ledger.counts
     → IsUnder keep others list socket notes ledger c → IsUnder keep others list socket notes roomy c
 under_room keep others list socket notes ledger roomy c changes drop counts u = record {
@@ -105,7 +105,7 @@ under_room keep others list socket notes ledger roomy c changes drop counts u = 
   drop = drop ∙ u.drop;
 }
 
-settled_under : (s : ControlState) (keep : Bool) (others : Counts) (list after : List Reg) (i j : Option ℕ) (socket : KnownSocket) (notes : Notes) (ledger emptied : Ledger) (c : Course)
+settled_under : (s : ControlState) (keep : Bool) (others : Counts) (list after : List Reg) (i j : Option ℕ) (socket : SocketView) (notes : Notes) (ledger emptied : Ledger) (c : Course)
     → IsUnder keep others list socket notes ledger c → Alters list after i j (changed_all s ledger.changes.items)
     → emptied.changes.items ≡ [] → emptied.drop ≡ ledger.drop → emptied.counts ≡ ledger.counts
     → Reached keep others after socket notes emptied i j c.altered (settled s c)
@@ -126,7 +126,7 @@ settled_under s keep others list after i j socket notes ledger emptied c u alter
     }
 
 pub phase_made : (app : Meaning) (s : ControlState) (keep : Bool) (list after : List Reg) (i j : Option ℕ) (number : ℕ) (from : Side) (raises : List Raise)
-    (socket socket_after : KnownSocket) (notes notes_after : Notes) (ledger roomy called_for emptied : Ledger)
+    (socket socket_after : SocketView) (notes notes_after : Notes) (ledger roomy called_for emptied : Ledger)
     → roomy.changes.items ≡ ledger.changes.items → roomy.drop ≡ ledger.drop → roomy.counts ≡ ledger.counts
     → Steps keep list socket notes roomy socket_after notes_after called_for (raised app s number from raises)
     → Alters list after i j (changed_all s called_for.changes.items)
@@ -144,7 +144,7 @@ phase_made app s keep list after i j number from raises socket socket_after note
 -- ---- the sender's phase
 
 pub sender_reached : (app : Meaning) (s : ControlState) (keep : Bool) (others : Counts) (at : ℕ → Option Reg) (tree : TreeLists) (after : List Reg) (i j : Option ℕ) (number : ℕ) (from : Side) (head : Head)
-    (answer : Sent) (raises : List Raise) (flow : Flow) (socket socket_after : KnownSocket) (notes notes_after : Notes) (ledger begun ledger_after : Ledger) (h : History)
+    (answer : Sent) (raises : List Raise) (flow : Flow) (socket socket_after : SocketView) (notes notes_after : Notes) (ledger begun ledger_after : Ledger) (h : History)
     → IsConnection keep others at tree flow notes ledger.counts h
     → ((e : Emulation) → SocketStandsFor flow.socket e → SocketStandsFor socket (sent from head e))
     → ((e : Emulation) → SocketStandsFor flow.socket e → answer ≡ sent_answer from head e)
@@ -170,7 +170,7 @@ sender_reached app s keep others at tree after i j number from head answer raise
 -- ---- the receiver's phase
 
 pub receiver_reached : (app : Meaning) (s : ControlState) (keep : Bool) (others : Counts) (list after : List Reg) (i j : Option ℕ) (number : ℕ) (from : Side) (head : Head) (payload : List ℕ) (count : ℕ)
-    (answer : Got) (raises : List Raise) (socket heard socket_after : KnownSocket) (notes notes_after : Notes) (ledger ledger_after : Ledger) (c : Course)
+    (answer : Got) (raises : List Raise) (socket heard socket_after : SocketView) (notes notes_after : Notes) (ledger ledger_after : Ledger) (c : Course)
     → IsUnder keep others list socket notes ledger c
     → ((e : Emulation) → SocketStandsFor socket e → SocketStandsFor heard (received from head payload e))
     → ((e : Emulation) → SocketStandsFor socket e → answer ≡ got_of from head payload e)
@@ -238,7 +238,7 @@ entries-changed_all s changes c = (same-changed_all s changes c).entries
 -- ---- a packet of no connection
 
 pub lone_under : (app : Meaning) (s : ControlState) (keep : Bool) (others : Counts) (list : List Reg) (number : ℕ) (raises : List Raise) (rbuf : ℕ) (policy : Policy)
-    (socket socket_after : KnownSocket) (notes notes_after : Notes) (ledger begun ledger_after : Ledger)
+    (socket socket_after : SocketView) (notes notes_after : Notes) (ledger begun ledger_after : Ledger)
     → list ≡ first_active s → rbuf ≡ s.rbuf → policy ≡ s.policy → SocketStandsFor socket (unheard rbuf policy)
     → IsNoted keep others app.fresh [] notes ledger.counts
     → begun.changes.items ≡ [] → begun.drop ≡ None → begun.counts ≡ ledger.counts

@@ -2,7 +2,7 @@
 use Rattle.std.proofs.Common.{◌≡◌, ℕ, ◌+◌, ◌<◌, Bool, List, [], ◌∷◌, ◌++◌, length, map, take, get_or, refl, sym, ap, subst, ◌∙◌}
 use Rattle.std.proofs.lemmas.List.{take_more, map-append}
 use Rattle.tcp_emulation.specs.declared.segment.Side.{Side}
-use Rattle.flow_socket.specs.Known.{KnownSocket}
+use Rattle.flow_socket.specs.View.{SocketView}
 use Rattle.app_api.specs.declared.registration.Reg.{Reg}
 use Rattle.app_api.specs.App.{Meaning}
 use Rattle.builtin_events.specs.declared.raise.Raise.{Raise}
@@ -23,14 +23,14 @@ raised-one : (app : Meaning) (s : ControlState) (number : ℕ) (from : Side) (x 
 unfolding raised
 raised-one app s number from x c = refl
 
-pub raised_none : (app : Meaning) (s : ControlState) (keep : Bool) (list : List Reg) (number : ℕ) (from : Side) (socket : KnownSocket) (notes : Notes) (ledger : Ledger)
+pub raised_none : (app : Meaning) (s : ControlState) (keep : Bool) (list : List Reg) (number : ℕ) (from : Side) (socket : SocketView) (notes : Notes) (ledger : Ledger)
     → Steps keep list socket notes ledger socket notes ledger (raised app s number from [])
 unfolding raised
 raised_none app s keep list number from socket notes ledger = record { stands = λ others c u. u }
 
 -- one raise more
 pub raised_more : (app : Meaning) (s : ControlState) (keep : Bool) (list : List Reg) (number : ℕ) (from : Side) (at : ℕ → Raise) (events : List ℕ) (i event : ℕ)
-    (socket socket_now socket_after : KnownSocket) (notes notes_now notes_after : Notes) (ledger ledger_now ledger_after : Ledger)
+    (socket socket_now socket_after : SocketView) (notes notes_now notes_after : Notes) (ledger ledger_now ledger_after : Ledger)
     → i < length events → event ≡ get_or events i 0
     → Steps keep list socket notes ledger socket_now notes_now ledger_now (raised app s number from (map at (take i events)))
     → Steps keep list socket_now notes_now ledger_now socket_after notes_after ledger_after (called_at app s number from (at event))
@@ -47,7 +47,7 @@ raised_more app s keep list number from at events i event socket socket_now sock
 
 -- the raise of a moment
 pub raise_as : (app : Meaning) (s : ControlState) (keep : Bool) (list : List Reg) (number n : ℕ) (from side : Side) (raise x : Raise)
-    (socket socket_after : KnownSocket) (notes notes_after : Notes) (ledger ledger_after : Ledger)
+    (socket socket_after : SocketView) (notes notes_after : Notes) (ledger ledger_after : Ledger)
     → n ≡ number → side ≡ from → x ≡ raise
     → Steps keep list socket notes ledger socket_after notes_after ledger_after (called_at app s n side x)
     → Steps keep list socket notes ledger socket_after notes_after ledger_after (called_at app s number from raise)

@@ -1,7 +1,7 @@
 -- What is kept for a connection and noted of its callbacks, and which histories and courses it stands for.
 use Rattle.std.specs.Prelude.{◌≡◌, ℕ, ◌+◌, ◌*◌, ◌≤◌, Bool, Option, List, [], length, if◌then◌else◌}
 use Rattle.tcp_emulation.specs.declared.segment.Side.TheVariants.{Client, Server}
-use Rattle.flow_socket.specs.Known.{KnownSocket, SocketStandsFor, next_at}
+use Rattle.flow_socket.specs.View.{SocketView, SocketStandsFor, next_at}
 use Rattle.app_api.specs.declared.app.Tally.{Tally}
 use Rattle.app_api.specs.declared.entry.Entry.{Entry}
 use Rattle.app_api.specs.declared.registration.Reg.{Reg}
@@ -34,7 +34,7 @@ pub record IsConnection (keep : Bool) (others : Counts) (at : ℕ → Option Reg
   pub noted : IsNoted keep others h.tally h.entries notes counts
 
 -- a packet under way, over this private list
-pub record IsUnder (keep : Bool) (others : Counts) (list : List Reg) (socket : KnownSocket) (notes : Notes) (ledger : Ledger) (c : Course) : Type 0 where
+pub record IsUnder (keep : Bool) (others : Counts) (list : List Reg) (socket : SocketView) (notes : Notes) (ledger : Ledger) (c : Course) : Type 0 where
   pub heard : SocketStandsFor socket c.emulation
   pub active : c.active ≡ list
   pub noted : IsNoted keep others c.tally c.entries notes ledger.counts
@@ -42,7 +42,7 @@ pub record IsUnder (keep : Bool) (others : Counts) (list : List Reg) (socket : K
   pub drop : ledger.drop ≡ c.drop
 
 -- what stood for a course stands for the one that this step makes of it
-pub record Steps (keep : Bool) (list : List Reg) (socket : KnownSocket) (notes : Notes) (ledger : Ledger) (socket_after : KnownSocket) (notes_after : Notes) (ledger_after : Ledger) (step : Course → Course) : Type 0 where
+pub record Steps (keep : Bool) (list : List Reg) (socket : SocketView) (notes : Notes) (ledger : Ledger) (socket_after : SocketView) (notes_after : Notes) (ledger_after : Ledger) (step : Course → Course) : Type 0 where
   pub stands : (others : Counts) (c : Course) → IsUnder keep others list socket notes ledger c
       → IsUnder keep others list socket_after notes_after ledger_after (step c)
 
@@ -52,13 +52,13 @@ pub record Alters (list list_after : List Reg) (interns interns_after : Option �
   pub interned : (c : Course) → c.active ≡ list → InternsWithin interns interns_after c.altered (step c).altered
 
 -- a packet has come to this course, with at most one intern for each alteration since the list was altered so often
-pub record Reached (keep : Bool) (others : Counts) (list : List Reg) (socket : KnownSocket) (notes : Notes) (ledger : Ledger) (interns interns_after : Option ℕ) (altered : ℕ) (c : Course) : Type 0 where
+pub record Reached (keep : Bool) (others : Counts) (list : List Reg) (socket : SocketView) (notes : Notes) (ledger : Ledger) (interns interns_after : Option ℕ) (altered : ℕ) (c : Course) : Type 0 where
   pub under : IsUnder keep others list socket notes ledger c
   pub interned : InternsWithin interns interns_after altered c.altered
 
 -- a phase makes one private list of another, and what stood for a course stands for the one that it makes of it
-pub record Makes (keep : Bool) (list : List Reg) (socket : KnownSocket) (notes : Notes) (ledger : Ledger) (interns : Option ℕ)
-    (list_after : List Reg) (socket_after : KnownSocket) (notes_after : Notes) (ledger_after : Ledger) (interns_after : Option ℕ) (step : Course → Course) : Type 0 where
+pub record Makes (keep : Bool) (list : List Reg) (socket : SocketView) (notes : Notes) (ledger : Ledger) (interns : Option ℕ)
+    (list_after : List Reg) (socket_after : SocketView) (notes_after : Notes) (ledger_after : Ledger) (interns_after : Option ℕ) (step : Course → Course) : Type 0 where
   pub stands : (others : Counts) (c : Course) → IsUnder keep others list socket notes ledger c
       → Reached keep others list_after socket_after notes_after ledger_after interns interns_after c.altered (step c)
 
@@ -68,7 +68,7 @@ pub record Stepped (keep : Bool) (others : Counts) (at : ℕ → Option Reg) (tr
   pub interned : InternsWithin interns interns_after altered h.altered
 
 -- callbacks leave how far the streams have come
-pub record IsAsFar (old new : KnownSocket) : Type 0 where
+pub record IsAsFar (old new : SocketView) : Type 0 where
   pub client : next_at Client new ≡ next_at Client old
   pub server : next_at Server new ≡ next_at Server old
   pub rbuf : new.rbuf ≡ old.rbuf

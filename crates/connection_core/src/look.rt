@@ -3,9 +3,9 @@
 ghost use Rattle.std.specs.Prelude.{◌≡◌, ◌≤◌, ◌+◌, ◌++◌, ◌∷◌, [], length, true, IsTrue, if◌then◌else◌, OnOk, IfOk, List, ℕ};
 ghost use Rattle.reassembly.specs.Receiver.{Receiver, kept};
 ghost use Rattle.reassembly.specs.Kept.{bytes_from};
-ghost use Rattle.reassembly.specs.Known.{StandsFor};
+ghost use Rattle.reassembly.specs.View.{StandsFor};
 ghost use Rattle.flow_socket.specs.Emulation.{Emulation};
-ghost use Rattle.flow_socket.specs.Known.{SocketStandsFor};
+ghost use Rattle.flow_socket.specs.View.{SocketStandsFor};
 ghost use Rattle.app_api.specs.Reg.{peek_fits};
 ghost use Rattle.app_api.specs.declared.registration.PeekSpec.{PeekSpec as PeekSpecOf};
 ghost use Rattle.connection_core.specs.Course.{seen_by, after_seen, bytes_seen};

@@ -10,7 +10,7 @@ use Rattle.tcp_emulation.specs.Ends.{end_at, ends_after_receive, change_of}
 use Rattle.reassembly.specs.declared.answers.Placed.{Placed}
 use Rattle.flow_socket.specs.declared.answers.Got.{Got}
 use Rattle.packet_views.specs.Flags.{has_rst}
-use Rattle.flow_socket.specs.Known.{KnownSocket, SocketStandsFor, next_at}
+use Rattle.flow_socket.specs.View.{SocketView, SocketStandsFor, next_at}
 use Rattle.flow_socket.specs.Direction.{Direction, next_in, acks_syn, acks_fin, is_in_window, is_finished}
 use Rattle.flow_socket.specs.Emulation.{Emulation, fault_of, received, facts_of, received_facts, ends_received, direction_of, with_direction, taken_by}
 use Rattle.flow_socket.proofs.Sides.{direction_of-with_direction}
@@ -23,7 +23,7 @@ pub ends-with_direction : (from : Side) (d : Direction) (e : Emulation) → (wit
 ends-with_direction Client d e = refl
 ends-with_direction Server d e = refl
 
-pub next_is : (from : Side) (s : KnownSocket) (e : Emulation) → SocketStandsFor s e → next_at from s ≡ next_in (direction_of from e)
+pub next_is : (from : Side) (s : SocketView) (e : Emulation) → SocketStandsFor s e → next_at from s ≡ next_in (direction_of from e)
 next_is Client s e stands = stands.client.stream.next
 next_is Server s e stands = stands.server.stream.next
 
@@ -50,7 +50,7 @@ ends_are from h payload e of facts same_side same_facts =
     ∙ (ap (λ f. ends_after_receive (other from) f (with_taken from h payload e).ends) same_facts
     ∙ ap (λ ends. ends_after_receive (other from) (received_facts from h payload e) ends) (ends-with_direction from (taken_by from h payload e) e))
 
-pub received_stands : (new : KnownSocket) (from : Side) (h : Head) (payload : List ℕ) (e : Emulation) (of : Side) (facts : SegFacts) →
+pub received_stands : (new : SocketView) (from : Side) (h : Head) (payload : List ℕ) (e : Emulation) (of : Side) (facts : SegFacts) →
     of ≡ other from → facts ≡ received_facts from h payload e →
     SocketStandsFor new (record (with_taken from h payload e) { ends = ends_after_receive of facts (with_taken from h payload e).ends }) →
     SocketStandsFor new (received from h payload e)

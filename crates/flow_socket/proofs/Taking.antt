@@ -5,11 +5,11 @@ use Rattle.reassembly.specs.declared.answers.FinNote.{FinNote}
 use Rattle.reassembly.specs.Receiver.{Receiver, next_of}
 use Rattle.reassembly.specs.Segment.{accept}
 use Rattle.reassembly.specs.Fin.{noted, note_of}
-use Rattle.reassembly.specs.Known.{Known, StandsFor}
+use Rattle.reassembly.specs.View.{StreamView, StandsFor}
 use Rattle.flow_socket.specs.Segment.{with_payload, with_fin, note_at, fin_position, fin_edge}
 
 -- the payload, at the same distance and with the same window
-pub payload_stands : (new : Known) (r : Receiver) (window rbuf : ℕ) (policy : Policy) (at distance : ℤ) (payload : List ℕ) →
+pub payload_stands : (new : StreamView) (r : Receiver) (window rbuf : ℕ) (policy : Policy) (at distance : ℤ) (payload : List ℕ) →
     at ≡ distance → window ≡ rbuf →
     StandsFor new (accept r (pos (next_of r.cells) +ℤ at) payload policy window) →
     StandsFor new (with_payload rbuf policy distance payload r)
@@ -25,7 +25,7 @@ end_is r next at distance payload same_next same_distance =
     ap (λ n. pos n +ℤ at +ℤ pos (length payload)) same_next ∙ ap (λ z. pos (next_of r.cells) +ℤ z +ℤ pos (length payload)) same_distance
 
 -- the FIN, at the same place and with the same edge
-pub fin_stands : (new : Known) (r : Receiver) (rbuf : ℕ) (policy : Policy) (distance : ℤ) (payload : List ℕ) (end : ℤ) (edge : ℕ) →
+pub fin_stands : (new : StreamView) (r : Receiver) (rbuf : ℕ) (policy : Policy) (distance : ℤ) (payload : List ℕ) (end : ℤ) (edge : ℕ) →
     end ≡ fin_position distance payload r → edge ≡ fin_edge rbuf r →
     StandsFor new (noted (with_payload rbuf policy distance payload r) end edge) →
     StandsFor new (with_fin rbuf policy distance payload r)

@@ -2,5 +2,5 @@ pub mod Segment
 pub mod Direction
 pub mod Emulation
 pub mod Peek
-pub mod Known
+pub mod View
 pub mod Laws

@@ -19,9 +19,9 @@ pub(crate) struct KeptDirection {
 }
 
 impl Model for KeptDirection {
-    ghost use Rattle.flow_socket.specs.Known.{KnownDirection};
+    ghost use Rattle.flow_socket.specs.View.{DirectionView};
 
-    ghost Value = { KnownDirection };
+    ghost Value = { DirectionView };
 
     ghost view = { λ k. record { origin = k.origin; stream = k.stream; mark = k.mark } };
 }
@@ -35,9 +35,9 @@ pub(crate) struct Taken {
 }
 
 impl KeptDirection {
-    ghost use Rattle.reassembly.specs.Known.{StandsFor};
+    ghost use Rattle.reassembly.specs.View.{StandsFor};
     ghost use Rattle.reassembly.specs.Receiver.{Receiver};
-    ghost use Rattle.flow_socket.specs.Known.{DirectionStandsFor};
+    ghost use Rattle.flow_socket.specs.View.{DirectionStandsFor};
     ghost use Rattle.flow_socket.specs.Direction.{Direction, untouched, direction_after, placed_in, is_fin_refused, is_in_window, is_finished, acks_syn, acks_fin, next_in};
 
     /// A direction from which nothing was received.
@@ -113,13 +113,14 @@ impl KeptDirection {
 
 impl KeptDirection {
     ghost use Rattle.std.specs.Prelude.{drop, ◌++◌};
-    ghost use Rattle.flow_socket.specs.Known.{DirectionStandsFor};
+    ghost use Rattle.flow_socket.specs.View.{DirectionStandsFor};
     ghost use Rattle.flow_socket.specs.Direction.{Direction};
     ghost use Rattle.flow_socket.specs.Peek.{peeked_in, peek_bytes, marked};
 
     /// Reads on from the mark, at most as many bytes as the buffer has, and moves the mark behind them.
     #[tactic(auto, using(crate::proofs::Peeking::low_near, crate::proofs::Peeking::read_within, crate::proofs::Peeking::rest_after, std::proofs::lemmas::Grind::common_steps))]
     pub(crate) fn peek(&mut self, buf: &mut [u8], rbuf: u32) -> Peeked
+        ensures few { result.len ≤ length buf.old }
         ensures stream { self.new.stream ≡ self.old.stream }
         ensures stands { (d : Direction) → DirectionStandsFor rbuf self.old d → DirectionStandsFor rbuf self.new (marked rbuf (length buf.old) d) }
         ensures answer { (d : Direction) → DirectionStandsFor rbuf self.old d → result ≡ peeked_in rbuf (length buf.old) d }

@@ -2,7 +2,7 @@
 
 ghost use Rattle.std.specs.Prelude.{◌≡◌, ◌+◌, ◌-◌, ◌^◌, ◌≤◌, ◌≤ℤ◌, ◌<ℤ◌, ◌-ℤ◌, ◌+ℤ◌, pos, length, OnOk, OnErr, IfOk};
 ghost use Rattle.reassembly.specs.Receiver.{Receiver};
-ghost use Rattle.reassembly.specs.Known.{StandsFor};
+ghost use Rattle.reassembly.specs.View.{StandsFor};
 ghost use Rattle.flow_socket.specs.Segment.{with_segment, placed_at, is_refused, is_refusal};
 
 use reassembly::{FinNote, Placed, Policy, Stream};

@@ -27,9 +27,9 @@ pub struct FlowSocket {
 
 impl Model for FlowSocket {
     ghost use Rattle.std.specs.Prelude.{◌≡◌};
-    ghost use Rattle.flow_socket.specs.Known.{KnownSocket};
+    ghost use Rattle.flow_socket.specs.View.{SocketView};
 
-    ghost Value = { KnownSocket };
+    ghost Value = { SocketView };
 
     ghost invariant = { λ s. (s.client.stream.rbuf ≡ s.rbuf) × (s.server.stream.rbuf ≡ s.rbuf) };
 
@@ -43,9 +43,12 @@ impl FlowSocket {
     ghost use Rattle.tcp_emulation.specs.Ends.{end_at, ends_after_receive, change_of, is_over};
     ghost use Rattle.flow_socket.specs.Direction.{acks_syn, acks_fin, is_finished, placed_in, is_fin_refused, is_in_window};
     ghost use Rattle.flow_socket.specs.Emulation.{Emulation, fresh, sent, sent_answer, received, got_of, direction_of, with_direction, taken_by};
-    ghost use Rattle.flow_socket.specs.Peek.{peeked, bytes_peeked, after_peek, runs_at};
-    ghost use Rattle.reassembly.specs.Known.{StandsFor};
-    ghost use Rattle.flow_socket.specs.Known.{SocketStandsFor, known_at, next_at};
+    ghost use Rattle.std.specs.Prelude.{map};
+    ghost use Rattle.flow_socket.specs.Peek.{peeked, bytes_peeked, after_peek, runs_at, pieces_at};
+    ghost use Rattle.reassembly.specs.Receiver.{kept};
+    ghost use Rattle.reassembly.specs.Kept.{positions_in, AreWhole};
+    ghost use Rattle.reassembly.specs.View.{StandsFor};
+    ghost use Rattle.flow_socket.specs.View.{SocketStandsFor, view_at, next_at};
 
     /// The socket of a connection before its first packet. Each receiver's buffer has `rbuf` bytes,
     /// from 1 to 1,048,576; `policy` says which byte of an overlap stays.
@@ -92,7 +95,7 @@ impl FlowSocket {
         ensures stands { OnOk result ((e : Emulation) → SocketStandsFor self.old e → SocketStandsFor self.new (received from h.now payload.now e)) }
         ensures answer { IfOk result (λ got. (e : Emulation) → SocketStandsFor self.old e → got ≡ got_of from h.now payload.now e) }
         ensures rise { OnOk result (next_at from self.new ≤ next_at from self.old + self.old.rbuf) }
-        ensures peer { OnOk result (known_at (other from) self.new ≡ known_at (other from) self.old) }
+        ensures peer { OnOk result (view_at (other from) self.new ≡ view_at (other from) self.old) }
         ensures rbuf { self.new.rbuf ≡ self.old.rbuf }
     {
         let acks = self.acks(from.other(), h.ack);
@@ -154,7 +157,7 @@ impl FlowSocket {
         ensures refused { IfOk result (λ taken. (e : Emulation) → SocketStandsFor self.old e → taken.fin_refused ≡ is_fin_refused e.rbuf e.policy h.now payload.now (direction_of from e)) }
         ensures window { IfOk result (λ taken. (e : Emulation) → SocketStandsFor self.old e → taken.in_window ≡ is_in_window e.rbuf h.now (direction_of from e)) }
         ensures rise { OnOk result (next_at from self.new ≤ next_at from self.old + self.old.rbuf) }
-        ensures peer { OnOk result (known_at (other from) self.new ≡ known_at (other from) self.old) }
+        ensures peer { OnOk result (view_at (other from) self.new ≡ view_at (other from) self.old) }
         ensures rbuf { self.new.rbuf ≡ self.old.rbuf }
     {
         match from {
@@ -169,10 +172,11 @@ impl FlowSocket {
     pub fn peek(&mut self, from: Side, buf: &mut [u8]) -> Peeked
         ensures stands { (e : Emulation) → SocketStandsFor self.old e → SocketStandsFor self.new (after_peek from (length buf.old) e) }
         ensures answer { (e : Emulation) → SocketStandsFor self.old e → result ≡ peeked from (length buf.old) e }
+        ensures few { result.len ≤ length buf.old }
         ensures bytes { (e : Emulation) → SocketStandsFor self.old e → buf.new ≡ bytes_peeked from (length buf.old) e ++ drop result.len buf.old }
         ensures rbuf { self.new.rbuf ≡ self.old.rbuf }
-        ensures stream { (known_at from self.new).stream ≡ (known_at from self.old).stream }
-        ensures peer { known_at (other from) self.new ≡ known_at (other from) self.old }
+        ensures stream { (view_at from self.new).stream ≡ (view_at from self.old).stream }
+        ensures peer { view_at (other from) self.new ≡ view_at (other from) self.old }
     {
         match from {
             Side::Client => self.client.peek(buf, self.rbuf),
@@ -182,17 +186,20 @@ impl FlowSocket {
 
     /// The longest runs of positions that the receiver of the stream that `from` sends keeps, among
     /// the `len` from `off` on, also above `next`: each by its place and length. It moves no mark;
-    /// `Stream::read_at` gives the bytes of a run.
-    #[tactic(auto, unfolding(crate::specs::Peek::runs_at))]
+    /// `Stream::read_at` gives the bytes of a run, as many as it has positions.
+    #[tactic(auto, unfolding(crate::specs::Peek::runs_at, crate::specs::Peek::pieces_at))]
     pub fn ppeek(&self, from: Side, off: u64, len: u32) -> Pieces<'_>
-        ensures { (e : Emulation) → SocketStandsFor self.now e → result ≡ runs_at from off len e }
+        ensures runs { (e : Emulation) → SocketStandsFor self.now e → result ≡ runs_at from off len e }
+        ensures few { positions_in result ≤ len }
+        ensures whole { (e : Emulation) → SocketStandsFor self.now e → AreWhole (kept (direction_of from e).receiver.cells e.rbuf) result }
+        ensures pieces { (e : Emulation) → SocketStandsFor self.now e → map (λ piece. (piece.0, length piece.1)) (pieces_at from off len e) ≡ result }
     {
         self.stream(from).pieces(off, len)
     }
 
     /// The stream of the bytes that `from` sends, as the other end accepts them.
     pub fn stream(&self, from: Side) -> &Stream
-        ensures known { result.now ≡ (known_at from self.now).stream }
+        ensures known { result.now ≡ (view_at from self.now).stream }
         ensures stands { (e : Emulation) → SocketStandsFor self.now e → StandsFor result.now (direction_of from e).receiver }
         ensures rbuf { (e : Emulation) → SocketStandsFor self.now e → result.now.rbuf ≡ e.rbuf }
     {

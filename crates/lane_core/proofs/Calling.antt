@@ -23,7 +23,7 @@ use Rattle.forest_versions.specs.State.{ControlState, start, active as first_act
 use Rattle.lane_core.specs.declared.in_force.InForce.{InForce}
 use Rattle.lane_core.specs.InForce.{control_of}
 use Rattle.lane_core.specs.Calls.{IsTreeOf, IsFirstTree, entry_by}
-use Rattle.flow_socket.specs.Known.{KnownSocket, SocketStandsFor}
+use Rattle.flow_socket.specs.View.{SocketView, SocketStandsFor}
 use Rattle.flow_socket.specs.Emulation.{fresh as unheard}
 use Rattle.lane_core.specs.History.{called, calls_at, calls, fresh}
 
@@ -101,7 +101,7 @@ pub start_tree : (tree : TreeLists) → IsFirstTree from_start tree → IsTreeOf
 start_tree tree = subst (λ (ctl : ControlState). IsFirstTree ctl tree → IsTreeOf ctl (first_active ctl) tree) (sym listed_is) (listed_tree tree)
 
 -- the socket of a connection of no packet
-pub start_socket : (socket : KnownSocket) → SocketStandsFor socket (unheard 65536 First) → SocketStandsFor socket (fresh from_start).emulation
+pub start_socket : (socket : SocketView) → SocketStandsFor socket (unheard 65536 First) → SocketStandsFor socket (fresh from_start).emulation
 unfolding start
 start_socket socket is = is
 

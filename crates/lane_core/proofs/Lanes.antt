@@ -9,7 +9,7 @@ use Rattle.lane_core.specs.Sight.{Segment, Sight, Tcp, Other, Moment, key_of_seg
 use Rattle.flow_table.specs.Key.{EndpointPair, same_key}
 use Rattle.flow_table.specs.Table.{Flows, found, key_cmp}
 use Rattle.flow_table.proofs.Keys.{same_key-equal}
-use Rattle.flow_socket.specs.Known.{SocketStandsFor}
+use Rattle.flow_socket.specs.View.{SocketStandsFor}
 use Rattle.app_api.specs.declared.entry.Entry.{Entry}
 use Rattle.builtin_events.specs.Raises.{orphan_raises}
 use Rattle.shared_forest.specs.declared.store.Shared.{Shared}

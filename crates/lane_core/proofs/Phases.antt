@@ -1,7 +1,7 @@
 -- A flow and its callbacks through both phases of a packet.
 use Rattle.std.proofs.Common.{◌≡◌, ℕ, ◌+◌, eqb, List, ◌++◌, sym, ap, subst, ◌∙◌}
 use Rattle.tcp_emulation.specs.declared.segment.Side.{Side}
-use Rattle.flow_socket.specs.Known.{SocketStandsFor}
+use Rattle.flow_socket.specs.View.{SocketStandsFor}
 use Rattle.flow_socket.specs.Emulation.{sent, sent_answer, received, got_of}
 use Rattle.flow_socket.specs.declared.answers.Sent.{Sent}
 use Rattle.flow_socket.specs.declared.answers.Got.{Got}

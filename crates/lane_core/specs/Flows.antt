@@ -2,7 +2,7 @@
 use Rattle.std.specs.Prelude.{◌≡◌, ℕ, ◌+◌, ◌≤◌, Bool, List, length, Some, None, if◌then◌else◌, get_or, slice_set}
 use Rattle.flow_table.specs.Key.{EndpointPair, same_key}
 use Rattle.flow_table.specs.Table.{Flows, found}
-use Rattle.flow_socket.specs.Known.{SocketStandsFor}
+use Rattle.flow_socket.specs.View.{SocketStandsFor}
 use Rattle.app_api.specs.declared.entry.Entry.{Entry}
 use Rattle.shared_forest.specs.declared.store.Shared.{Shared}
 use Rattle.shared_forest.specs.Lists.{TreeLists}

@@ -1,10 +1,10 @@
 -- Only for proofs: how far the streams of a connection can have come.
 use Rattle.std.specs.Prelude.{◌≡◌, ℕ, ◌*◌, ◌≤◌}
 use Rattle.tcp_emulation.specs.declared.segment.Side.TheVariants.{Client, Server}
-use Rattle.flow_socket.specs.Known.{KnownSocket, next_at}
+use Rattle.flow_socket.specs.View.{SocketView, next_at}
 
 -- with a receive buffer of 65,536 bytes, a packet takes next no further than that
-pub record Reaches (socket : KnownSocket) (packets : ℕ) : Type 0 where
+pub record Reaches (socket : SocketView) (packets : ℕ) : Type 0 where
   pub client : next_at Client socket ≤ 65536 * packets
   pub server : next_at Server socket ≤ 65536 * packets
   pub buffer : socket.rbuf ≡ 65536

@@ -46,7 +46,7 @@ fn side_of(client: &Endpoint, segment: &Segment<'_>) -> Side
 }
 
 impl Flow {
-    ghost use Rattle.flow_socket.specs.Known.{SocketStandsFor};
+    ghost use Rattle.flow_socket.specs.View.{SocketStandsFor};
     ghost use Rattle.flow_socket.specs.Emulation.{fresh as unheard};
     ghost use Rattle.reassembly.specs.declared.answers.Policy.TheVariants.{First};
     ghost use Rattle.lane_core.specs.InForce.{control_of};

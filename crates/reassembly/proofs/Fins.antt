@@ -8,16 +8,16 @@ use Rattle.reassembly.specs.declared.answers.FinNote.TheVariants.{Noted, Same, R
 use Rattle.reassembly.specs.declared.window.Window.{Window}
 use Rattle.reassembly.specs.Receiver.{Receiver, held, next_of, kept}
 use Rattle.reassembly.specs.Fin.{is_free_from, natural_of, note_with, note_of, fin_with, fin_after, noted}
-use Rattle.reassembly.specs.Known.{Known, StandsFor}
+use Rattle.reassembly.specs.View.{StreamView, StandsFor}
 use Rattle.reassembly.specs.Runs.{is_accepted}
-use Rattle.reassembly.specs.Window.{byte_at, cell_at, known_of, IsLaid, IsBounded}
+use Rattle.reassembly.specs.Window.{byte_at, cell_at, view_of, IsLaid, IsBounded}
 use Rattle.reassembly.proofs.Cells.{below_next, held_past}
-use Rattle.reassembly.proofs.Laws.{known_cell}
-use Rattle.reassembly.proofs.Placing.{held_known, kept_cell, bounded_cell, some_of_cond}
+use Rattle.reassembly.proofs.Laws.{viewed_cell}
+use Rattle.reassembly.proofs.Placing.{held_viewed, kept_cell, bounded_cell, some_of_cond}
 
 -- a cell at next or above it is the receiver's
-pub receiver_cell : (w : Window) (fin : Option ℕ) (rbuf : ℕ) → IsLaid w → (r : Receiver) → StandsFor (known_of w fin rbuf) r → (p : ℕ) → w.next - rbuf ≤ p → held r.cells p ≡ cell_at w p
-receiver_cell w fin rbuf laid r h p l = sym (known_cell (known_of w fin rbuf) r h p l) ∙ held_known w fin rbuf laid p ∙ kept_cell w rbuf p l
+pub receiver_cell : (w : Window) (fin : Option ℕ) (rbuf : ℕ) → IsLaid w → (r : Receiver) → StandsFor (view_of w fin rbuf) r → (p : ℕ) → w.next - rbuf ≤ p → held r.cells p ≡ cell_at w p
+receiver_cell w fin rbuf laid r h p l = sym (viewed_cell (view_of w fin rbuf) r h p l) ∙ held_viewed w fin rbuf laid p ∙ kept_cell w rbuf p l
 
 record HasCell (cells : List (Option ℕ)) : Type 0 where
   at : ℕ
@@ -53,14 +53,14 @@ taken_cell_at cells p q l filled =
     let there : is_some (get_or (drop p cells) (q - p) None) ≡ true = ap is_some (get_or-drop p cells (q - p) None ∙ ap (held cells) back) ∙ filled in
     sym (ap not (list_any_at is_some (drop p cells) (q - p) None (omega arith) there))
 
-pub is_free : (w : Window) (fin : Option ℕ) (rbuf p : ℕ) → IsLaid w → IsBounded w p → (r : Receiver) → StandsFor (known_of w fin rbuf) r → true ≡ is_free_from r.cells p
+pub is_free : (w : Window) (fin : Option ℕ) (rbuf p : ℕ) → IsLaid w → IsBounded w p → (r : Receiver) → StandsFor (view_of w fin rbuf) r → true ≡ is_free_from r.cells p
 is_free w fin rbuf p laid bounded r h =
     let next : w.next ≤ p = bounded.next in
     free_cells r.cells p (λ k l within.
     ap is_some (receiver_cell w fin rbuf laid r h k (omega arith))
     ∙ some_of_cond (is_accepted w.next w.runs.items k) (byte_at w k) ∙ bounded_cell w p k bounded (omega arith))
 
-pub is_taken : (w : Window) (fin : Option ℕ) (rbuf p q : ℕ) → IsLaid w → p ≤ q → is_accepted w.next w.runs.items q ≡ true → (r : Receiver) → StandsFor (known_of w fin rbuf) r → false ≡ is_free_from r.cells p
+pub is_taken : (w : Window) (fin : Option ℕ) (rbuf p q : ℕ) → IsLaid w → p ≤ q → is_accepted w.next w.runs.items q ≡ true → (r : Receiver) → StandsFor (view_of w fin rbuf) r → false ≡ is_free_from r.cells p
 is_taken w fin rbuf p q laid l accepted r h =
     let next : w.next ≡ next_of r.cells = h.next in
     let filled : is_some (held r.cells q) ≡ true = ⊎_elim
@@ -83,7 +83,7 @@ refused_is r (pos x) edge e = absurd (cc e)
 refused_is r (negsuc n) edge e = refl
 
 -- only a noted FIN changes the stream
-pub stands_noted : (s n : Known) (r : Receiver) (q : ℤ) (edge : ℕ) → StandsFor s r → n.next ≡ s.next → n.kept ≡ s.kept → n.rbuf ≡ s.rbuf → n.fin ≡ fin_after r q (note_of r q edge) → StandsFor n (noted r q edge)
+pub stands_noted : (s n : StreamView) (r : Receiver) (q : ℤ) (edge : ℕ) → StandsFor s r → n.next ≡ s.next → n.kept ≡ s.kept → n.rbuf ≡ s.rbuf → n.fin ≡ fin_after r q (note_of r q edge) → StandsFor n (noted r q edge)
 unfolding noted
 stands_noted s n r q edge h next cells rbuf fin = record {
   next = next ∙ h.next;

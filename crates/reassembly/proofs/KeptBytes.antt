@@ -4,16 +4,16 @@ use Rattle.std.proofs.lemmas.Bool.{cases_lt}
 use Rattle.reassembly.specs.declared.window.Window.{Window}
 use Rattle.reassembly.specs.Receiver.{Receiver, kept}
 use Rattle.reassembly.specs.Kept.{byte_then, bytes_from, run_then, runs_from, IsRunEnd}
-use Rattle.reassembly.specs.Known.{StandsFor}
+use Rattle.reassembly.specs.View.{StandsFor}
 use Rattle.reassembly.specs.Runs.{is_accepted}
-use Rattle.reassembly.specs.Window.{end_of, byte_at, kept_at, known_of, IsLaid}
-use Rattle.reassembly.proofs.Placing.{held_known, some_of_cond, kept_cell}
+use Rattle.reassembly.specs.Window.{end_of, byte_at, kept_at, view_of, IsLaid}
+use Rattle.reassembly.proofs.Placing.{held_viewed, some_of_cond, kept_cell}
 use Rattle.reassembly.proofs.Taken.{accepted_within}
 use Rattle.reassembly.proofs.KeptRuns.{kept_low}
 
 -- the window keeps what the receiver keeps
-pub kept_same : (w : Window) (fin : Option ℕ) (rbuf : ℕ) → IsLaid w → (r : Receiver) → StandsFor (known_of w fin rbuf) r → (p : ℕ) → kept_at w rbuf p ≡ kept r.cells rbuf p
-kept_same w fin rbuf laid r h p = sym (held_known w fin rbuf laid p) ∙ h.cells p
+pub kept_same : (w : Window) (fin : Option ℕ) (rbuf : ℕ) → IsLaid w → (r : Receiver) → StandsFor (view_of w fin rbuf) r → (p : ℕ) → kept_at w rbuf p ≡ kept r.cells rbuf p
+kept_same w fin rbuf laid r h p = sym (held_viewed w fin rbuf laid p) ∙ h.cells p
 
 pub bytes_same : (at by : ℕ → Option ℕ) → ((p : ℕ) → at p ≡ by p) → (n p : ℕ) → bytes_from at p n ≡ bytes_from by p n
 bytes_same at by same zero p = refl
@@ -71,7 +71,7 @@ readable w rbuf p e n laid run l some = record {
 -- what is copied is the run, as far as it and the buffer reach
 pub bytes_read : (w : Window) (fin : Option ℕ) (rbuf p e n : ℕ) (xs : List ℕ) → IsLaid w → IsRunEnd (kept_at w rbuf) p e → length xs ≡ min (e - p) n
     → ((i : ℕ) → i < length xs → slice_index xs i ≡ byte_at w (p + i))
-    → (r : Receiver) → StandsFor (known_of w fin rbuf) r → xs ≡ bytes_from (kept r.cells rbuf) p n
+    → (r : Receiver) → StandsFor (view_of w fin rbuf) r → xs ≡ bytes_from (kept r.cells rbuf) p n
 bytes_read w fin rbuf p e n xs laid run len copied r h =
     let order : p ≤ e = run.order in
     sym (sym (bytes_same (kept_at w rbuf) (kept r.cells rbuf) (kept_same w fin rbuf laid r h) n p)

@@ -6,8 +6,8 @@ use Rattle.reassembly.specs.declared.answers.Policy.{Policy}
 use Rattle.reassembly.specs.declared.answers.Placed.{Placed}
 use Rattle.reassembly.specs.Receiver.{Receiver, held, next_of, limit_of}
 use Rattle.reassembly.specs.Segment.{is_old, is_new, is_over, is_differing, is_last, cell_after, has_byte, held_after, accept_at, count_below, counts_at}
-use Rattle.reassembly.specs.Known.{Known, StandsFor}
-use Rattle.reassembly.specs.Steps.{StepsTo, counts_known}
+use Rattle.reassembly.specs.View.{StreamView, StandsFor}
+use Rattle.reassembly.specs.Steps.{StepsTo, counts_viewed}
 use Rattle.reassembly.proofs.Cells.{held_made, held_made_past, held_past, below_next, next_is}
 use Rattle.reassembly.proofs.Counts.{count_below-same}
 
@@ -41,13 +41,13 @@ held_accepted r q bytes policy rbuf p =
     (cases_lt p end)
 
 -- the kept cell is the receiver's
-pub known_cell : (s : Known) (r : Receiver) → StandsFor s r → (p : ℕ) → s.next - s.rbuf ≤ p → held s.kept p ≡ held r.cells p
-known_cell s r h p l =
+pub viewed_cell : (s : StreamView) (r : Receiver) → StandsFor s r → (p : ℕ) → s.next - s.rbuf ≤ p → held s.kept p ≡ held r.cells p
+viewed_cell s r h p l =
     let e : s.next ≡ next_of r.cells = h.next in
     let low : next_of r.cells - s.rbuf ≤ p = rw (← e) l in
     h.cells p ∙ cond-true (leb (next_of r.cells - s.rbuf) p) (held r.cells p) None (le-leb (next_of r.cells - s.rbuf) p low)
 
-pub stands_after : (q : ℕ) (bytes : List ℕ) (policy : Policy) (s n : Known) → StepsTo q bytes policy s n → (r : Receiver) → StandsFor s r → StandsFor n (accept_at r q bytes policy s.rbuf)
+pub stands_after : (q : ℕ) (bytes : List ℕ) (policy : Policy) (s n : StreamView) → StepsTo q bytes policy s n → (r : Receiver) → StandsFor s r → StandsFor n (accept_at r q bytes policy s.rbuf)
 stands_after q bytes policy s n step r h =
     let after : ℕ → Option ℕ = λ p. held_after s.next (limit_of s.next s.fin s.rbuf) policy q bytes p (held r.cells p) in
     let acc = accept_at r q bytes policy s.rbuf in
@@ -55,7 +55,7 @@ stands_after q bytes policy s n step r h =
     let same_fin : s.fin ≡ r.fin = h.fin in
     let cell : (p : ℕ) → held acc.cells p ≡ after p = λ p. rw (same_next, same_fin) (held_accepted r q bytes policy s.rbuf p) in
     let known : (p : ℕ) → s.next - s.rbuf ≤ p → held_after s.next (limit_of s.next s.fin s.rbuf) policy q bytes p (held s.kept p) ≡ after p
-    = λ p l. ap (λ c. held_after s.next (limit_of s.next s.fin s.rbuf) policy q bytes p c) (known_cell s r h p l) in
+    = λ p l. ap (λ c. held_after s.next (limit_of s.next s.fin s.rbuf) policy q bytes p c) (viewed_cell s r h p l) in
     let filled : (p : ℕ) → p < n.next → is_some (held acc.cells p) ≡ true = λ p l. rw cell (⊎_elim
     (λ (b : p < s.next). is_some_after s.next (limit_of s.next s.fin s.rbuf) policy q bytes p (held r.cells p) (below_next r.cells p (rw (← same_next) b)))
     (λ (b : s.next ≤ p). ap is_some (sym (known p (omega arith))) ∙ step.filled p b l)
@@ -74,10 +74,10 @@ stands_after q bytes policy s n step r h =
     }
 
 -- a cell below next is old whatever it holds, and one that isn't kept is never compared
-old_same : (s : Known) (r : Receiver) → StandsFor s r → (p : ℕ) → is_old s.next p (held s.kept p) ≡ is_old s.next p (held r.cells p)
+old_same : (s : StreamView) (r : Receiver) → StandsFor s r → (p : ℕ) → is_old s.next p (held s.kept p) ≡ is_old s.next p (held r.cells p)
 old_same s r h p = ⊎_elim
     (λ (l : p < s.next). let e : ltb p s.next ≡ true = lt-ltb p s.next l in rw e refl)
-    (λ (l : s.next ≤ p). ap (is_old s.next p) (known_cell s r h p (omega arith)))
+    (λ (l : s.next ≤ p). ap (is_old s.next p) (viewed_cell s r h p (omega arith)))
     (cases_lt p s.next)
 
 not_compared : (next rbuf p b : ℕ) (c : Option ℕ) → p < next - rbuf → is_differing next rbuf p c b ≡ false
@@ -85,10 +85,10 @@ not_compared next rbuf p b c l =
     let e : leb (next - rbuf) p ≡ false = lt-leb (next - rbuf) p l in
     elim c as (λ o. is_differing next rbuf p o b ≡ false) [ Some a ↦ rw e refl | None ↦ refl ]
 
-differing_same : (s : Known) (r : Receiver) → StandsFor s r → (p b : ℕ) → is_differing s.next s.rbuf p (held s.kept p) b ≡ is_differing s.next s.rbuf p (held r.cells p) b
+differing_same : (s : StreamView) (r : Receiver) → StandsFor s r → (p b : ℕ) → is_differing s.next s.rbuf p (held s.kept p) b ≡ is_differing s.next s.rbuf p (held r.cells p) b
 differing_same s r h p b = ⊎_elim
     (λ (l : p < s.next - s.rbuf). not_compared s.next s.rbuf p b (held s.kept p) l ∙ sym (not_compared s.next s.rbuf p b (held r.cells p) l))
-    (λ (l : s.next - s.rbuf ≤ p). ap (λ c. is_differing s.next s.rbuf p c b) (known_cell s r h p l))
+    (λ (l : s.next - s.rbuf ≤ p). ap (λ c. is_differing s.next s.rbuf p c b) (viewed_cell s r h p l))
     (cases_lt p (s.next - s.rbuf))
 
 pub placed_is : (a b : Placed) → a.new ≡ b.new → a.old ≡ b.old → a.differ ≡ b.differ → a.over ≡ b.over → a ≡ b
@@ -96,7 +96,7 @@ placed_is a b n o d v =
     let made : ℕ → ℕ → ℕ → ℕ → Placed = λ w x y z. record { new = w; old = x; differ = y; over = z } in
     ap (λ w. made w a.old a.differ a.over) n ∙ ap (λ x. made b.new x a.differ a.over) o ∙ ap (λ y. made b.new b.old y a.over) d ∙ ap (λ z. made b.new b.old b.differ z) v
 
-pub counts_stand : (q : ℕ) (bytes : List ℕ) (s : Known) (r : Receiver) → StandsFor s r → counts_known s q bytes ≡ counts_at r q bytes s.rbuf
+pub counts_stand : (q : ℕ) (bytes : List ℕ) (s : StreamView) (r : Receiver) → StandsFor s r → counts_viewed s q bytes ≡ counts_at r q bytes s.rbuf
 counts_stand q bytes s r h =
     let same_next : s.next ≡ next_of r.cells = h.next in
     let same_fin : s.fin ≡ r.fin = h.fin in
@@ -107,7 +107,7 @@ counts_stand q bytes s r h =
       differ = count_below (λ i. is_differing s.next s.rbuf (q + i) (held r.cells (q + i)) (slice_index bytes i)) (length bytes);
       over = count_below (λ i. is_over s.next limit (q + i) (held r.cells (q + i))) (length bytes);
     } in
-    let same : counts_known s q bytes ≡ told = placed_is (counts_known s q bytes) told
+    let same : counts_viewed s q bytes ≡ told = placed_is (counts_viewed s q bytes) told
     (count_below-same (λ i. is_new s.next limit (q + i) (held s.kept (q + i))) (λ i. is_new s.next limit (q + i) (held r.cells (q + i))) (length bytes) (λ i l. ap (λ b. not b && ltb (q + i) limit) (old_same s r h (q + i))))
     (count_below-same (λ i. is_old s.next (q + i) (held s.kept (q + i))) (λ i. is_old s.next (q + i) (held r.cells (q + i))) (length bytes) (λ i l. old_same s r h (q + i)))
     (count_below-same (λ i. is_differing s.next s.rbuf (q + i) (held s.kept (q + i)) (slice_index bytes i)) (λ i. is_differing s.next s.rbuf (q + i) (held r.cells (q + i)) (slice_index bytes i)) (length bytes) (λ i l. differing_same s r h (q + i) (slice_index bytes i)))

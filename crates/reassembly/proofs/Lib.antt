@@ -13,4 +13,5 @@ pub mod Fins
 pub mod KeptRuns
 pub mod KeptBytes
 pub mod KeptPieces
+pub mod WholeRuns
 pub mod Plains

@@ -9,11 +9,11 @@ use Rattle.reassembly.specs.declared.window.Window.{Window}
 use Rattle.reassembly.specs.Receiver.{held, limit_of}
 use Rattle.reassembly.specs.Segment.{is_old, is_new, is_over, is_differing, is_last, has_byte, held_after, count_below}
 use Rattle.reassembly.specs.Runs.{run_at, is_accepted, is_covered, AreAbove}
-use Rattle.reassembly.specs.Window.{end_of, byte_at, cell_at, kept_at, known_of, IsLaid, IsBounded, taken_cell, taken_tally, differing_below}
+use Rattle.reassembly.specs.Window.{end_of, byte_at, cell_at, kept_at, view_of, IsLaid, IsBounded, taken_cell, taken_tally, differing_below}
 use Rattle.reassembly.proofs.Cells.{held_made, held_made_past}
 use Rattle.reassembly.proofs.Counts.{count_below-same, count_below-stretch, count_below-all, count_below-none}
 use Rattle.reassembly.proofs.Covered.{uncovered}
-use Rattle.reassembly.specs.Steps.{StepsTo, counts_known}
+use Rattle.reassembly.specs.Steps.{StepsTo, counts_viewed}
 use Rattle.reassembly.proofs.Laws.{placed_is}
 use Rattle.reassembly.proofs.Laid.{length-part}
 use Rattle.reassembly.proofs.Taken.{accepted_within, accepted_from_next, accepted_below}
@@ -40,8 +40,8 @@ stays true write byte c e = rw e refl
 stays false write byte c e = refl
 
 -- what contracts see of a window, read at a position
-pub held_known : (w : Window) (fin : Option ℕ) (rbuf : ℕ) → IsLaid w → (p : ℕ) → held (known_of w fin rbuf).kept p ≡ kept_at w rbuf p
-held_known w fin rbuf laid p = ⊎_elim
+pub held_viewed : (w : Window) (fin : Option ℕ) (rbuf : ℕ) → IsLaid w → (p : ℕ) → held (view_of w fin rbuf).kept p ≡ kept_at w rbuf p
+held_viewed w fin rbuf laid p = ⊎_elim
     (λ (l : p < end_of w). held_made (kept_at w rbuf) (end_of w) p l)
     (λ (l : end_of w ≤ p).
     let none : is_accepted w.next w.runs.items p ≡ false = not_accepted w laid p l in
@@ -194,7 +194,7 @@ differs_above next rbuf p byte b false l = refl
 pub counts_placed : (w : Window) (fin : Option ℕ) (rbuf limit start m k : ℕ) (segment : List ℕ) → IsLaid w → IsBounded w limit → limit ≡ limit_of w.next fin rbuf → IsCut w.next limit start (length segment) m k
     → (tally : Tally) (below : ℕ) → tally ≡ taken_tally w (start + m) (take (k - m) (drop m segment)) → below ≡ differing_below w rbuf start (take m segment)
     → (placed : Placed) → placed ≡ record { new = tally.new; old = m + tally.old; differ = below + tally.differ; over = length segment - k }
-    → placed ≡ counts_known (known_of w fin rbuf) start segment
+    → placed ≡ counts_viewed (view_of w fin rbuf) start segment
 counts_placed w fin rbuf limit start m k segment laid bounded is_limit cut tally below told_tally told_below placed told =
     let n = length segment in
     let next = w.next in
@@ -205,8 +205,8 @@ counts_placed w fin rbuf limit start m k segment laid bounded is_limit cut tally
     let order : next ≤ limit = cut.order in
     let len : length middle ≡ k - m = length-part m k segment (omega arith) (omega arith) in
     let front : length (take m segment) ≡ m = length-take-le m segment (omega arith) in
-    let cell : ℕ → Option ℕ = λ p. held (known_of w fin rbuf).kept p in
-    let seen : (p : ℕ) → cell p ≡ kept_at w rbuf p = held_known w fin rbuf laid in
+    let cell : ℕ → Option ℕ = λ p. held (view_of w fin rbuf).kept p in
+    let seen : (p : ℕ) → cell p ≡ kept_at w rbuf p = held_viewed w fin rbuf laid in
     let covered : ℕ → Bool = λ i. is_covered w.runs.items (low + i) in
     let place : (i : ℕ) → start + (m + i) ≡ low + i = λ i. omega arith in
     let cell1 : (i : ℕ) → i < m → cell (start + i) ≡ cond (leb (next - rbuf) (start + i)) (Some (byte_at w (start + i))) None = λ i l. seen (start + i) ∙ kept_below w rbuf (start + i) (omega arith) in
@@ -258,7 +258,7 @@ counts_placed w fin rbuf limit start m k segment laid bounded is_limit cut tally
     let made : Placed = record { new = count_below new_ n; old = count_below old_ n; differ = count_below differ_ n; over = count_below over_ n } in
     let same : record { new = tally.new; old = m + tally.old; differ = below + tally.differ; over = n - k } ≡ made = placed_is _ made
     (omega (arith, new, t_new, none, none3)) (omega (arith, old, t_old, all, none3)) (omega (arith, differ, below_is, t_differ, none3)) (omega (arith, over, none, none2, all3)) in
-    let limit_same : made ≡ counts_known (known_of w fin rbuf) start segment = ap
+    let limit_same : made ≡ counts_viewed (view_of w fin rbuf) start segment = ap
     (λ x. record { new = count_below (λ i. is_new next x (start + i) (cell (start + i))) n; old = count_below old_ n; differ = count_below differ_ n; over = count_below (λ i. is_over next x (start + i) (cell (start + i))) n })
     is_limit in
     told ∙ same ∙ limit_same
@@ -279,15 +279,15 @@ pub record IsPlaced (old mid new : Window) (rbuf low : ℕ) (middle : List ℕ) 
 
 pub steps_placed : (old mid new : Window) (fin : Option ℕ) (rbuf limit start m k : ℕ) (policy : Policy) (segment : List ℕ)
     → IsPlaced old mid new rbuf (start + m) (take (k - m) (drop m segment)) policy → IsBounded old limit → limit ≡ limit_of old.next fin rbuf → IsCut old.next limit start (length segment) m k
-    → StepsTo start segment policy (known_of old fin rbuf) (known_of new fin rbuf)
+    → StepsTo start segment policy (view_of old fin rbuf) (view_of new fin rbuf)
 steps_placed old mid new fin rbuf limit start m k policy segment h bounded is_limit cut =
     let after : ℕ → Option ℕ → Option ℕ = λ p c. held_after old.next (limit_of old.next fin rbuf) policy start segment p c in
     let rises : old.next ≤ mid.next = h.rises in
     let same_next : new.next ≡ mid.next = h.new_next in
     let old_kept : old.base ≤ old.next - rbuf = h.old_kept in
     let new_kept : new.base ≤ new.next - rbuf = h.new_kept in
-    let told : (p : ℕ) → old.next - rbuf ≤ p → after p (held (known_of old fin rbuf).kept p) ≡ cell_at mid p = λ p l.
-    ap (after p) (held_known old fin rbuf h.old_laid p ∙ kept_cell old rbuf p l)
+    let told : (p : ℕ) → old.next - rbuf ≤ p → after p (held (view_of old fin rbuf).kept p) ≡ cell_at mid p = λ p l.
+    ap (after p) (held_viewed old fin rbuf h.old_laid p ∙ kept_cell old rbuf p l)
     ∙ ap (λ x. held_after old.next x policy start segment p (cell_at old p)) (sym is_limit)
     ∙ after_is_taken old.next limit start m k p policy segment (cell_at old p) cut
     (λ b. some_of_cond (is_accepted old.next old.runs.items p) (byte_at old p) ∙ accepted_below old.next old.runs.items p b)
@@ -302,6 +302,6 @@ steps_placed old mid new fin rbuf limit start m k policy segment h bounded is_li
       rises = omega arith;
       filled = λ p l b. ap is_some (told p (omega arith)) ∙ some_mid p ∙ accepted_below mid.next mid.runs.items p (omega arith);
       empty = ap is_some (told new.next (omega arith)) ∙ some_mid new.next ∙ ap (is_accepted mid.next mid.runs.items) same_next ∙ next_open mid h.mid_laid.above;
-      cells = λ p l. held_known new fin rbuf h.new_laid p ∙ kept_cell new rbuf p l ∙ same_cell p (omega arith) ∙ sym (told p (omega arith));
-      forgotten = λ p l. held_known new fin rbuf h.new_laid p ∙ cond-false (leb (new.next - rbuf) p) (cell_at new p) None (lt-leb (new.next - rbuf) p l);
+      cells = λ p l. held_viewed new fin rbuf h.new_laid p ∙ kept_cell new rbuf p l ∙ same_cell p (omega arith) ∙ sym (told p (omega arith));
+      forgotten = λ p l. held_viewed new fin rbuf h.new_laid p ∙ cond-false (leb (new.next - rbuf) p) (cell_at new p) None (lt-leb (new.next - rbuf) p l);
     }

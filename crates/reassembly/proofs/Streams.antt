@@ -10,10 +10,10 @@ use Rattle.reassembly.specs.declared.answers.Placed.{Placed}
 use Rattle.reassembly.specs.declared.window.Window.{Window}
 use Rattle.reassembly.specs.Receiver.{Receiver, held, next_of, kept, low_of, limit_of}
 use Rattle.reassembly.specs.Segment.{accept, accept_at, counts, counts_at, from_zero, below_zero}
-use Rattle.reassembly.specs.Known.{StandsFor}
-use Rattle.reassembly.specs.Steps.{StepsTo, counts_known}
+use Rattle.reassembly.specs.View.{StandsFor}
+use Rattle.reassembly.specs.Steps.{StepsTo, counts_viewed}
 use Rattle.reassembly.specs.Runs.{run_at}
-use Rattle.reassembly.specs.Window.{end_of, known_of, IsBounded, IsWhole, IsSameWindow}
+use Rattle.reassembly.specs.Window.{end_of, view_of, IsBounded, IsWhole, IsSameWindow}
 use Rattle.reassembly.proofs.Cells.{below_next}
 use Rattle.reassembly.proofs.Laws.{stands_after, counts_stand}
 
@@ -79,22 +79,22 @@ cut_bytes below cut bytes e = take_rest bytes cut ∙ ap (λ n. drop n bytes) e 
 
 pub stream_stands : (w n : Window) (fin : Option ℕ) (rbuf : ℕ) (d : ℤ) (bytes : List ℕ) (policy : Policy) (position below cut : ℕ)
     → position ≡ from_zero (pos w.next +ℤ d) → below ≡ below_zero (pos w.next +ℤ d) → cut ≡ min below (length bytes)
-    → StepsTo position (take (length bytes - cut) (drop cut bytes)) policy (known_of w fin rbuf) (known_of n fin rbuf)
-    → (r : Receiver) → StandsFor (known_of w fin rbuf) r → StandsFor (known_of n fin rbuf) (accept r (pos (next_of r.cells) +ℤ d) bytes policy rbuf)
+    → StepsTo position (take (length bytes - cut) (drop cut bytes)) policy (view_of w fin rbuf) (view_of n fin rbuf)
+    → (r : Receiver) → StandsFor (view_of w fin rbuf) r → StandsFor (view_of n fin rbuf) (accept r (pos (next_of r.cells) +ℤ d) bytes policy rbuf)
 unfolding accept
 stream_stands w n fin rbuf d bytes policy position below cut at under e step r h =
-    let stood = stands_after position (take (length bytes - cut) (drop cut bytes)) policy (known_of w fin rbuf) (known_of n fin rbuf) step r h in
+    let stood = stands_after position (take (length bytes - cut) (drop cut bytes)) policy (view_of w fin rbuf) (view_of n fin rbuf) step r h in
     let next : w.next ≡ next_of r.cells = h.next in
     let q : from_zero (pos w.next +ℤ d) ≡ from_zero (pos (next_of r.cells) +ℤ d) = ap (λ x. from_zero (pos x +ℤ d)) next in
     let b : below_zero (pos w.next +ℤ d) ≡ below_zero (pos (next_of r.cells) +ℤ d) = ap (λ x. below_zero (pos x +ℤ d)) next in
     let same : drop below bytes ≡ drop (below_zero (pos (next_of r.cells) +ℤ d)) bytes = ap (λ k. drop k bytes) (under ∙ b) in
-    subst (λ (x : ℕ × List ℕ). StandsFor (known_of n fin rbuf) (accept_at r x.0 x.1 policy rbuf))
+    subst (λ (x : ℕ × List ℕ). StandsFor (view_of n fin rbuf) (accept_at r x.0 x.1 policy rbuf))
     (ap₂ (λ x y. (x, y)) (at ∙ q) (cut_bytes below cut bytes e ∙ same)) stood
 
 pub stream_counts : (w : Window) (fin : Option ℕ) (rbuf : ℕ) (d : ℤ) (bytes : List ℕ) (position below cut : ℕ) (placed : Placed)
     → position ≡ from_zero (pos w.next +ℤ d) → below ≡ below_zero (pos w.next +ℤ d) → cut ≡ min below (length bytes)
-    → placed ≡ counts_known (known_of w fin rbuf) position (take (length bytes - cut) (drop cut bytes))
-    → (r : Receiver) → StandsFor (known_of w fin rbuf) r
+    → placed ≡ counts_viewed (view_of w fin rbuf) position (take (length bytes - cut) (drop cut bytes))
+    → (r : Receiver) → StandsFor (view_of w fin rbuf) r
     → record { new = placed.new; old = cut + placed.old; differ = placed.differ; over = placed.over } ≡ counts r (pos (next_of r.cells) +ℤ d) bytes rbuf
 unfolding counts
 stream_counts w fin rbuf d bytes position below cut placed at under e told r h =
@@ -103,7 +103,7 @@ stream_counts w fin rbuf d bytes position below cut placed at under e told r h =
     let b : below_zero (pos w.next +ℤ d) ≡ below_zero (pos (next_of r.cells) +ℤ d) = ap (λ x. below_zero (pos x +ℤ d)) next in
     let same : drop below bytes ≡ drop (below_zero (pos (next_of r.cells) +ℤ d)) bytes = ap (λ k. drop k bytes) (under ∙ b) in
     let all : placed ≡ counts_at r (from_zero (pos (next_of r.cells) +ℤ d)) (drop (below_zero (pos (next_of r.cells) +ℤ d)) bytes) rbuf
-    = told ∙ counts_stand position (take (length bytes - cut) (drop cut bytes)) (known_of w fin rbuf) r h
+    = told ∙ counts_stand position (take (length bytes - cut) (drop cut bytes)) (view_of w fin rbuf) r h
     ∙ ap₂ (λ x y. counts_at r x y rbuf) (at ∙ q) (cut_bytes below cut bytes e ∙ same) in
     let made : ℕ → Placed → Placed = λ k c. record { new = c.new; old = k + c.old; differ = c.differ; over = c.over } in
     ap₂ made (e ∙ ap (λ k. min k (length bytes)) (under ∙ b)) all
@@ -113,7 +113,7 @@ none_of_some None e = absurd (cc e)
 none_of_some (Some x) e = refl
 
 -- the lowest kept position is rbuf below next, or 0
-pub low_is : (w : Window) (fin : Option ℕ) (rbuf : ℕ) → 1 ≤ rbuf → (r : Receiver) → StandsFor (known_of w fin rbuf) r → w.next - rbuf ≡ low_of r.cells rbuf
+pub low_is : (w : Window) (fin : Option ℕ) (rbuf : ℕ) → 1 ≤ rbuf → (r : Receiver) → StandsFor (view_of w fin rbuf) r → w.next - rbuf ≡ low_of r.cells rbuf
 unfolding low_of
 low_is w fin rbuf some r h =
     let next : w.next ≡ next_of r.cells = h.next in

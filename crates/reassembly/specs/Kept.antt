@@ -1,5 +1,5 @@
 -- Reading the bytes that are kept. `at` gives the kept byte at a position.
-use Rattle.std.specs.Prelude.{◌≡◌, ◌<◌, ◌≤◌, true, false, is_some, ℕ, zero, suc, ◌+◌, List, [], ◌∷◌, Option, Some, None, nat_eq, if◌then◌else◌}
+use Rattle.std.specs.Prelude.{◌≡◌, ◌<◌, ◌≤◌, true, false, is_some, ℕ, zero, suc, ◌+◌, List, [], ◌∷◌, length, All, sum_by, Option, Some, None, nat_eq, if◌then◌else◌}
 
 -- a kept byte goes before the rest of its run, and nothing follows a position that isn't kept
 abbrev pub byte_then : Option ℕ → List ℕ → List ℕ
@@ -24,6 +24,14 @@ run_then None p runs = runs
 abbrev pub runs_from : (ℕ → Option ℕ) → ℕ → ℕ → List (ℕ × ℕ)
 runs_from at p zero = []
 runs_from at p (suc n) = run_then (at p) p (runs_from at (p + 1) n)
+
+-- how many positions the runs have in all
+abbrev pub positions_in : List (ℕ × ℕ) → ℕ
+positions_in runs = sum_by (λ run. run.1) runs
+
+-- each run is kept whole: from its place on as many bytes are read as it has positions
+abbrev pub AreWhole : (ℕ → Option ℕ) → List (ℕ × ℕ) → Type 0
+AreWhole at runs = All (λ run. length (bytes_from at run.0 run.1) ≡ run.1) runs
 
 -- the positions from p to below e are kept, and e isn't: e is p where p isn't kept
 pub record IsRunEnd (at : ℕ → Option ℕ) (p e : ℕ) : Type 0 where

@@ -3,7 +3,7 @@ pub mod Receiver
 pub mod Segment
 pub mod Fin
 pub mod Kept
-pub mod Known
+pub mod View
 pub mod Runs
 pub mod Laying
 pub mod Window

@@ -4,10 +4,10 @@ use Rattle.reassembly.specs.declared.answers.Policy.{Policy}
 use Rattle.reassembly.specs.declared.answers.Placed.{Placed}
 use Rattle.reassembly.specs.Receiver.{held, limit_of}
 use Rattle.reassembly.specs.Segment.{is_old, is_new, is_over, is_differing, held_after, count_below}
-use Rattle.reassembly.specs.Known.{Known}
+use Rattle.reassembly.specs.View.{StreamView}
 
 -- what a stream knows after a segment of bytes from q on, told from what it knew
-pub record StepsTo (q : ℕ) (bytes : List ℕ) (policy : Policy) (s n : Known) : Type 0 where
+pub record StepsTo (q : ℕ) (bytes : List ℕ) (policy : Policy) (s n : StreamView) : Type 0 where
   pub fin : n.fin ≡ s.fin
   pub rbuf : n.rbuf ≡ s.rbuf
   pub rises : s.next ≤ n.next
@@ -17,8 +17,8 @@ pub record StepsTo (q : ℕ) (bytes : List ℕ) (policy : Policy) (s n : Known) 
   pub forgotten : (p : ℕ) → p < n.next - n.rbuf → held n.kept p ≡ None
 
 -- how the segment's bytes are judged, told from what the stream knows
-abbrev pub counts_known : Known → ℕ → List ℕ → Placed
-counts_known s q bytes = record {
+abbrev pub counts_viewed : StreamView → ℕ → List ℕ → Placed
+counts_viewed s q bytes = record {
   new = count_below (λ i. is_new s.next (limit_of s.next s.fin s.rbuf) (q + i) (held s.kept (q + i))) (length bytes);
   old = count_below (λ i. is_old s.next (q + i) (held s.kept (q + i))) (length bytes);
   differ = count_below (λ i. is_differing s.next s.rbuf (q + i) (held s.kept (q + i)) (slice_index bytes i)) (length bytes);

@@ -6,7 +6,7 @@ use Rattle.reassembly.specs.declared.laying.Tally.{Tally}
 use Rattle.reassembly.specs.declared.window.Window.{Window}
 use Rattle.reassembly.specs.Segment.{is_last, has_byte, count_below}
 use Rattle.reassembly.specs.Runs.{is_accepted, is_covered, AreOrdered, AreAbove, AreWithin}
-use Rattle.reassembly.specs.Known.{Known}
+use Rattle.reassembly.specs.View.{StreamView}
 
 -- where the buffer ends
 abbrev pub end_of : Window → ℕ
@@ -24,8 +24,8 @@ cell_at w p = if is_accepted w.next w.runs.items p then Some (byte_at w p) else 
 abbrev pub kept_at : Window → ℕ → ℕ → Option ℕ
 kept_at w rbuf p = if nat_le (w.next - rbuf) p then cell_at w p else None
 
-abbrev pub known_of : Window → Option ℕ → ℕ → Known
-known_of w fin rbuf = record { next = w.next; kept = map (kept_at w rbuf) (range_with_len 0 (end_of w)); fin = fin; rbuf = rbuf }
+abbrev pub view_of : Window → Option ℕ → ℕ → StreamView
+view_of w fin rbuf = record { next = w.next; kept = map (kept_at w rbuf) (range_with_len 0 (end_of w)); fin = fin; rbuf = rbuf }
 
 -- the buffer reaches over next and over all runs, which are in order and lie above next
 pub record IsLaid (w : Window) : Type 0 where

@@ -1,10 +1,10 @@
 // A stream: its buffer, its FIN, and the size of its receive buffer.
 ghost use Rattle.std.specs.Prelude.{◌≡◌, ℕ, ◌+◌, ◌-◌, ◌<◌, ◌≤◌, ◌^◌, ℤ, pos, ◌+ℤ◌, neg_ℤ, ◌≤ℤ◌, ◌<ℤ◌, ◌++◌, min, length, drop, OnOk, OnErr, IfOk, Option, None};
 ghost use Rattle.reassembly.specs.Receiver.{Receiver, no_bytes, next_of, kept, low_of};
-ghost use Rattle.reassembly.specs.Kept.{bytes_from, runs_from};
+ghost use Rattle.reassembly.specs.Kept.{bytes_from, runs_from, positions_in, AreWhole};
 ghost use Rattle.reassembly.specs.Segment.{accept, counts};
 ghost use Rattle.reassembly.specs.Fin.{note_of, noted};
-ghost use Rattle.reassembly.specs.Known.{StandsFor};
+ghost use Rattle.reassembly.specs.View.{StandsFor};
 
 use crate::fin::{judge, natural, noted_after};
 use crate::start::{limit, start_of};
@@ -26,12 +26,12 @@ pub struct Stream {
 }
 
 impl Model for Stream {
-    ghost use Rattle.reassembly.specs.Known.{Known};
-    ghost use Rattle.reassembly.specs.Window.{known_of, IsWhole};
+    ghost use Rattle.reassembly.specs.View.{StreamView};
+    ghost use Rattle.reassembly.specs.Window.{view_of, IsWhole};
 
-    ghost Value = { Known };
+    ghost Value = { StreamView };
 
-    ghost view = { λ s. known_of s.window s.fin s.rbuf };
+    ghost view = { λ s. view_of s.window s.fin s.rbuf };
 
     ghost invariant = { λ s. IsWhole s.window s.fin s.rbuf };
 }
@@ -120,6 +120,7 @@ impl Stream {
     /// Copies the run of kept bytes from `position` on, as far as `buf` reaches, and answers how many these are:
     /// 0 exactly where `buf` is empty or `position` isn't kept. The rest of `buf` stays.
     pub fn read_at(&self, position: u64, buf: &mut [u8]) -> usize
+        ensures bound { result ≤ length buf.old }
         ensures len { (r : Receiver) → StandsFor self.now r → result ≡ length (bytes_from (kept r.cells self.now.rbuf) position (length buf.old)) }
         ensures bytes { (r : Receiver) → StandsFor self.now r → buf.new ≡ bytes_from (kept r.cells self.now.rbuf) position (length buf.old) ++ drop result buf.old }
     {
@@ -133,8 +134,11 @@ impl Stream {
     }
 
     /// The longest runs of kept positions among the `len` from `position` on, in order, also above `next`.
+    /// Each is kept whole: `read_at` from its place on fills a buffer of its length.
     pub fn pieces(&self, position: u64, len: u32) -> Pieces<'_>
-        ensures { (r : Receiver) → StandsFor self.now r → result ≡ runs_from (kept r.cells self.now.rbuf) position len }
+        ensures runs { (r : Receiver) → StandsFor self.now r → result ≡ runs_from (kept r.cells self.now.rbuf) position len }
+        ensures few { positions_in result ≤ len }
+        ensures whole { (r : Receiver) → StandsFor self.now r → AreWhole (kept r.cells self.now.rbuf) result }
     {
         Pieces::new(&self.window, self.rbuf, position, len)
     }

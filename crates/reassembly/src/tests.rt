@@ -59,11 +59,16 @@ fn moved<T: Send>(value: T) -> T {
     value
 }
 
-// A stream can be handed to a thread.
+fn shared<T: Send + Sync>(value: T) -> T {
+    value
+}
+
+// A stream can be handed to a thread, and a policy shared by threads.
 #[test]
 fn crosses_threads(rt: HostRuntime) {
     let stream = moved(Stream::new(rt.alloc(), 1));
     assert_eq!(rt; stream.next(), 0);
+    assert!(rt; shared(Policy::Last) == Policy::Last);
 }
 
 /// The bits of a linear congruential generator: enough to vary segments.

@@ -25,9 +25,9 @@ fn count_under(position: u64, start: u64, len: usize) -> usize
 
 impl Window {
     ghost use Rattle.reassembly.specs.Receiver.{limit_of};
-    ghost use Rattle.reassembly.specs.Steps.{StepsTo, counts_known};
+    ghost use Rattle.reassembly.specs.Steps.{StepsTo, counts_viewed};
     ghost use Rattle.reassembly.specs.Kept.{IsRunEnd, IsFirstKept};
-    ghost use Rattle.reassembly.specs.Window.{end_of, known_of, kept_at, byte_at, cell_at, IsLaid, IsSized, IsBounded, IsSameWindow, laid_at, taken_cell, taken_tally, differing_below};
+    ghost use Rattle.reassembly.specs.Window.{end_of, view_of, kept_at, byte_at, cell_at, IsLaid, IsSized, IsBounded, IsSameWindow, laid_at, taken_cell, taken_tally, differing_below};
 
     /// A buffer with nothing in it. It takes no memory.
     pub fn new(alloc: Global) -> Self
@@ -213,8 +213,8 @@ impl Window {
         ensures laid { OnOk result (IsLaid self.new) }
         ensures sized { OnOk result (IsSized self.new rbuf) }
         ensures bounded { OnOk result (IsBounded self.new limit) }
-        ensures steps { OnOk result ((fin : Option ℕ) → limit ≡ limit_of self.old.next fin rbuf → StepsTo start segment.now policy (known_of self.old fin rbuf) (known_of self.new fin rbuf)) }
-        ensures counts { IfOk result (λ placed. (fin : Option ℕ) → limit ≡ limit_of self.old.next fin rbuf → placed ≡ counts_known (known_of self.old fin rbuf) start segment.now) }
+        ensures steps { OnOk result ((fin : Option ℕ) → limit ≡ limit_of self.old.next fin rbuf → StepsTo start segment.now policy (view_of self.old fin rbuf) (view_of self.new fin rbuf)) }
+        ensures counts { IfOk result (λ placed. (fin : Option ℕ) → limit ≡ limit_of self.old.next fin rbuf → placed ≡ counts_viewed (view_of self.old fin rbuf) start segment.now) }
         ensures bounds { IfOk result (λ placed. placed.old ≤ length segment.now) }
     {
         let below = count_under(self.next, start, segment.len());

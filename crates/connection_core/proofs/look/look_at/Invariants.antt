@@ -1,7 +1,7 @@
 use Rattle.std.proofs.Common.{◌≤◌, ℕ}
 use Rattle.reassembly.specs.Receiver.{kept}
 use Rattle.flow_socket.specs.Emulation.{Emulation, direction_of}
-use Rattle.flow_socket.specs.Known.{SocketStandsFor}
+use Rattle.flow_socket.specs.View.{SocketStandsFor}
 use Rattle.flow_socket.specs.Peek.{runs_at}
 use Rattle.connection_core.proofs.Looking.{Looking}
 use Rattle.connection_core.proofs.look.look_at.Given as goal

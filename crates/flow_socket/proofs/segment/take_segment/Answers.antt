@@ -1,7 +1,7 @@
 -- The answers of the stream, for the receiver from before the segment and then for the one with its payload.
 use Rattle.std.proofs.Common.{◌≡◌, ◌+◌, ◌∙◌, ap, subst, sym, w64, to_z, of_z, to_z-of_z}
 use Rattle.reassembly.specs.Receiver.{Receiver, next_of}
-use Rattle.reassembly.specs.Known.{StandsFor}
+use Rattle.reassembly.specs.View.{StandsFor}
 use Rattle.flow_socket.specs.Segment.{with_segment, with_payload, fin_position, fin_edge, is_refused, is_refusal}
 use Rattle.flow_socket.proofs.Taking.{payload_stands, end_is, fin_stands, note_is}
 use Rattle.flow_socket.proofs.segment.take_segment.Goals as goal

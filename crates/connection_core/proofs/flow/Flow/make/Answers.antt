@@ -1,5 +1,5 @@
 use Rattle.std.proofs.Common.{sym, subst}
-use Rattle.flow_socket.specs.Known.{KnownSocket}
+use Rattle.flow_socket.specs.View.{SocketView}
 use Rattle.shared_forest.specs.Lists.{TreeLists}
 use Rattle.builtin_events.specs.Raised.{raises_of}
 use Rattle.connection_core.specs.Control.{told}
@@ -22,5 +22,5 @@ returns-clause-made g c = λ s force.
     c.args.phase.now.number c.args.phase.now.from (raises_of c.args.phase.now.raised)
     c.args.self.now.socket c.settle.new.self.socket c.args.notes.now c.raise_all.new.notes c.args.ledger.now c.make_room.new.self c.raise_all.new.ledger c.settle.new.ledger
     c.make_room.ensures.changes c.make_room.ensures.drop c.make_room.ensures.counts
-    (subst (λ (k : KnownSocket). Steps keep list c.args.self.now.socket c.args.notes.now c.make_room.new.self k c.raise_all.new.notes c.raise_all.new.ledger step) (sym c.settle.ensures.socket) steps)
+    (subst (λ (k : SocketView). Steps keep list c.args.self.now.socket c.args.notes.now c.make_room.new.self k c.raise_all.new.notes c.raise_all.new.ledger step) (sym c.settle.ensures.socket) steps)
     (c.in_ok-settle.ensures.made s force) c.in_ok-settle.ensures.asked c.settle.ensures.drop c.settle.ensures.counts

@@ -1,6 +1,6 @@
 -- The packet's direction takes it, and then the receiver steps by facts that are those of the definition.
 use Rattle.std.proofs.Common.{◌≡◌, ◌∙◌, ap, nat_lt}
-use Rattle.flow_socket.specs.Known.{SocketStandsFor}
+use Rattle.flow_socket.specs.View.{SocketStandsFor}
 use Rattle.flow_socket.specs.Direction.{next_in, is_in_window, is_fin_refused}
 use Rattle.flow_socket.specs.Emulation.{Emulation, received, got_of, received_facts, direction_of, taken_by}
 use Rattle.flow_socket.proofs.Phases.{facts_are, received_stands, change_is, next_is, direction_of-received, got_is, fault_is}

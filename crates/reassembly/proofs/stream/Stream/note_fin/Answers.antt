@@ -2,8 +2,8 @@ use Rattle.std.proofs.Common.{◌≡◌, ◌∙◌, ap, sym, refl, ⊎_elim, sub
 use Rattle.std.proofs.lemmas.Bool.{cases_Bool}
 use Rattle.reassembly.specs.Receiver.{Receiver}
 use Rattle.reassembly.specs.Fin.{is_free_from, natural_of, note_of, noted, fin_after}
-use Rattle.reassembly.specs.Known.{Known, StandsFor}
-use Rattle.reassembly.specs.Window.{known_of}
+use Rattle.reassembly.specs.View.{StreamView, StandsFor}
+use Rattle.reassembly.specs.Window.{view_of}
 use Rattle.reassembly.proofs.Fins.{is_free, is_taken, note_is, refused_is, refused_fin, stands_noted, fin_is, fin_bound}
 use Rattle.reassembly.proofs.stream.Stream.note_fin.Goals as goal
 
@@ -29,7 +29,7 @@ natural : (c : goal.After-fin-1) → natural_of c.args.position ≡ Some c.in-So
 natural c = ap natural_of (sym (to_z-of_z c.ranges.position)) ∙ sym c.natural.ensures ∙ c.in-Some.is
 
 -- whether bytes were accepted there, by whichever receiver
-free : (c : goal.After-fin-1) (r : Receiver) → StandsFor (known_of c.self.inside.window c.self.inside.fin c.self.inside.rbuf) r → c.is_free_from-free.result ≡ is_free_from r.cells c.in-Some.position
+free : (c : goal.After-fin-1) (r : Receiver) → StandsFor (view_of c.self.inside.window c.self.inside.fin c.self.inside.rbuf) r → c.is_free_from-free.result ≡ is_free_from r.cells c.in-Some.position
 free c r h =
     let s = c.self.inside in
     ⊎_elim
@@ -39,18 +39,18 @@ free c r h =
     t ∙ is_taken s.window s.fin s.rbuf c.in-Some.position taken.0 c.self.invariant.laid taken.1 taken.2 r h)
     (cases_Bool c.is_free_from-free.result)
 
-judged : (c : goal.After-fin-1) (r : Receiver) → StandsFor (known_of c.self.inside.window c.self.inside.fin c.self.inside.rbuf) r → c.judge-note.result ≡ note_of r c.args.position c.args.edge
+judged : (c : goal.After-fin-1) (r : Receiver) → StandsFor (view_of c.self.inside.window c.self.inside.fin c.self.inside.rbuf) r → c.judge-note.result ≡ note_of r c.args.position c.args.edge
 judged c r h = c.judge-note.ensures ∙ note_is r c.args.position c.in-Some.position c.args.edge c.self.inside.fin c.is_free_from-free.result (natural c) h.fin (free c r h)
 
 pub returns-clause-answer : goal.returns-clause-answer
-returns-clause-answer c r h = subst (λ (k : Known). StandsFor k r → c.judge-note.result ≡ note_of r c.args.position c.args.edge) c.self.view_is (judged c r) h
+returns-clause-answer c r h = subst (λ (k : StreamView). StandsFor k r → c.judge-note.result ≡ note_of r c.args.position c.args.edge) c.self.view_is (judged c r) h
 
 pub returns-clause-stands : goal.returns-clause-stands
 returns-clause-stands c r h =
     let s = c.self.inside in
-    let old = known_of s.window s.fin s.rbuf in
-    let new = known_of s.window c.noted_after-fin.result s.rbuf in
-    subst (λ (k : Known). StandsFor k r → StandsFor new (noted r c.args.position c.args.edge)) c.self.view_is
+    let old = view_of s.window s.fin s.rbuf in
+    let new = view_of s.window c.noted_after-fin.result s.rbuf in
+    subst (λ (k : StreamView). StandsFor k r → StandsFor new (noted r c.args.position c.args.edge)) c.self.view_is
     (λ stood. stands_noted old new r c.args.position c.args.edge stood refl refl refl
     (c.noted_after-fin.ensures ∙ fin_is r c.args.position c.in-Some.position s.fin c.judge-note.result (natural c) stood.fin ∙ ap (fin_after r c.args.position) (judged c r stood)))
     h

@@ -2,8 +2,8 @@ use Rattle.std.proofs.Common.{◌≡◌, ◌∙◌, ◌+◌, ◌+ℤ◌, ℤ, po
 use Rattle.reassembly.specs.declared.answers.Placed.{Placed}
 use Rattle.reassembly.specs.Receiver.{next_of}
 use Rattle.reassembly.specs.Segment.{accept, counts, from_zero, below_zero}
-use Rattle.reassembly.specs.Known.{StandsFor, Known}
-use Rattle.reassembly.specs.Window.{known_of}
+use Rattle.reassembly.specs.View.{StandsFor, StreamView}
+use Rattle.reassembly.specs.Window.{view_of}
 use Rattle.reassembly.proofs.Streams.{bounded_limit, whole_same, stream_stands, stream_counts}
 use Rattle.reassembly.proofs.stream.Stream.place.Goals as goal
 
@@ -23,7 +23,7 @@ begins_below c = c.start_of-start.ensures.below ∙ ap (λ (z : ℤ). below_zero
 pub returns-clause-stands : goal.returns-clause-stands
 returns-clause-stands c r h =
     let s = c.self.inside in
-    subst (λ (k : Known). StandsFor k r → StandsFor (known_of c.place.new.self s.fin s.rbuf) (accept r (pos (next_of r.cells) +ℤ c.args.d) c.args.bytes.now c.args.policy k.rbuf)) c.self.view_is
+    subst (λ (k : StreamView). StandsFor k r → StandsFor (view_of c.place.new.self s.fin s.rbuf) (accept r (pos (next_of r.cells) +ℤ c.args.d) c.args.bytes.now c.args.policy k.rbuf)) c.self.view_is
     (stream_stands s.window c.place.new.self s.fin s.rbuf c.args.d c.args.bytes.now c.args.policy c.start_of-start.result.position c.start_of-start.result.below c.min-below.result
     (begins c) (begins_below c) c.min-below.ensures (c.in_ok-placed.ensures.steps s.fin c.limit-limit.ensures) r)
     h
@@ -33,7 +33,7 @@ returns-clause-counts c r h =
     let s = c.self.inside in
     let placed = c.in_ok-placed.placed in
     let made : Placed = record { new = placed.new; old = c.min-below.result + placed.old; differ = placed.differ; over = placed.over } in
-    subst (λ (k : Known). StandsFor k r → made ≡ counts r (pos (next_of r.cells) +ℤ c.args.d) c.args.bytes.now k.rbuf) c.self.view_is
+    subst (λ (k : StreamView). StandsFor k r → made ≡ counts r (pos (next_of r.cells) +ℤ c.args.d) c.args.bytes.now k.rbuf) c.self.view_is
     (stream_counts s.window s.fin s.rbuf c.args.d c.args.bytes.now c.start_of-start.result.position c.start_of-start.result.below c.min-below.result placed
     (begins c) (begins_below c) c.min-below.ensures (c.in_ok-placed.ensures.counts s.fin c.limit-limit.ensures) r)
     h

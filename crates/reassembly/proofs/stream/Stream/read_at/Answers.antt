@@ -1,13 +1,13 @@
 use Rattle.std.proofs.Common.{◌≡◌, ◌-◌, ◌≤◌, ◌++◌, [], min, arith, ap, subst, ◌∙◌, length, take, drop, length-take}
 use Rattle.reassembly.specs.Receiver.{Receiver, kept}
 use Rattle.reassembly.specs.Kept.{bytes_from}
-use Rattle.reassembly.specs.Known.{Known, StandsFor}
+use Rattle.reassembly.specs.View.{StreamView, StandsFor}
 use Rattle.reassembly.proofs.KeptBytes.{IsReadable, readable, bytes_read}
 use Rattle.reassembly.proofs.stream.Stream.read_at.Goals as goal
 
 nothing : (c : goal.Then-len-eq0) (r : Receiver) → StandsFor c.args.self.now r → [] ≡ bytes_from (kept r.cells c.args.self.now.rbuf) c.args.position (length c.args.buf.now)
 nothing c r h = let s = c.self.inside in
-    subst (λ (k : Known). StandsFor k r → [] ≡ bytes_from (kept r.cells k.rbuf) c.args.position (length c.args.buf.now)) c.self.view_is
+    subst (λ (k : StreamView). StandsFor k r → [] ≡ bytes_from (kept r.cells k.rbuf) c.args.position (length c.args.buf.now)) c.self.view_is
     (bytes_read s.window s.fin s.rbuf c.args.position c.run_end-end.result (length c.args.buf.now) [] c.self.invariant.laid c.run_end-end.ensures (omega arith) (λ i l. absurd (omega arith)) r) h
 
 pub returns-then-len-eq0-clause-len : goal.returns-then-len-eq0-clause-len
@@ -36,7 +36,7 @@ read : (c : goal.After-slice_known-2-1) (r : Receiver) → StandsFor c.args.self
 read c r h =
     let s = c.self.inside in
     let len : length (take c.min-len.result c.args.buf.now) ≡ min c.min-len.result (length c.args.buf.now) = length-take c.min-len.result c.args.buf.now in
-    subst (λ (k : Known). StandsFor k r → c.copy.new.buf ≡ bytes_from (kept r.cells k.rbuf) c.args.position (length c.args.buf.now)) c.self.view_is
+    subst (λ (k : StreamView). StandsFor k r → c.copy.new.buf ≡ bytes_from (kept r.cells k.rbuf) c.args.position (length c.args.buf.now)) c.self.view_is
     (bytes_read s.window s.fin s.rbuf c.args.position c.run_end-end.result (length c.args.buf.now) c.copy.new.buf c.self.invariant.laid c.run_end-end.ensures (omega arith) (λ i l. c.copy.ensures i (omega arith)) r) h
 
 pub returns-clause-len : goal.returns-clause-len

@@ -5,41 +5,41 @@ use Rattle.tcp_emulation.specs.declared.segment.Side.{Side}
 use Rattle.tcp_emulation.specs.declared.segment.Side.TheVariants.{Client, Server}
 use Rattle.tcp_emulation.specs.declared.ends.Ends.{Ends}
 use Rattle.reassembly.specs.declared.answers.Policy.{Policy}
-use Rattle.reassembly.specs.Known.{Known, StandsFor}
+use Rattle.reassembly.specs.View.{StreamView, StandsFor}
 use Rattle.flow_socket.specs.declared.answers.Origin.{Origin}
 use Rattle.flow_socket.specs.Direction.{Direction}
 use Rattle.flow_socket.specs.Emulation.{Emulation}
 
 -- one direction: a stream keeps the bytes near next and forgets the others
-pub record KnownDirection : Type 0 where
+pub record DirectionView : Type 0 where
   pub origin : Option Origin
-  pub stream : Known
+  pub stream : StreamView
   pub mark : ℕ
 
-pub record KnownSocket : Type 0 where
+pub record SocketView : Type 0 where
   pub ends : Ends
-  pub client : KnownDirection
-  pub server : KnownDirection
+  pub client : DirectionView
+  pub server : DirectionView
   pub last : Option Head
   pub rbuf : ℕ
   pub policy : Policy
 
-abbrev pub known_at : Side → KnownSocket → KnownDirection
-known_at Client s = s.client
-known_at Server s = s.server
+abbrev pub view_at : Side → SocketView → DirectionView
+view_at Client s = s.client
+view_at Server s = s.server
 
 -- next of the direction of one sender
-abbrev pub next_at : Side → KnownSocket → ℕ
-next_at from s = (known_at from s).stream.next
+abbrev pub next_at : Side → SocketView → ℕ
+next_at from s = (view_at from s).stream.next
 
-pub record DirectionStandsFor (rbuf : ℕ) (k : KnownDirection) (d : Direction) : Type 0 where
+pub record DirectionStandsFor (rbuf : ℕ) (k : DirectionView) (d : Direction) : Type 0 where
   pub origin : k.origin ≡ d.origin
   pub stream : StandsFor k.stream d.receiver
   pub window : k.stream.rbuf ≡ rbuf
   pub mark : k.mark ≡ d.mark
 
 -- a socket stands for each connection with its ends, its origins, marks and kept bytes, its last packet and its settings
-pub record SocketStandsFor (s : KnownSocket) (e : Emulation) : Type 0 where
+pub record SocketStandsFor (s : SocketView) (e : Emulation) : Type 0 where
   pub ends : s.ends ≡ e.ends
   pub client : DirectionStandsFor e.rbuf s.client e.client
   pub server : DirectionStandsFor e.rbuf s.server e.server
