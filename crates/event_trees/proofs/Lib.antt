@@ -9,6 +9,7 @@ pub mod Lists
 pub mod NodeSteps
 pub mod Order
 pub mod Paths
+pub mod Places
 pub mod Privates
 pub mod ReadOffs
 pub mod Rises

@@ -58,7 +58,7 @@ addable-push before [] d are is = (subst (λ (l : List EventDef). IsAddable l d)
 addable-push before (c ∷ cs) d are is = (are.0, addable-push (before ++ c ∷ []) cs d are.1 (subst (λ (l : List EventDef). IsAddable l d) (sym (append_assoc before (c ∷ []) cs)) is))
 
 -- the number of a row is found, so a number that isn't found is no row's
-none-rows : (rows : List Row) (event : ℕ) → found (defs_of rows) event ≡ None → AllByRecursion (λ r. event ≢ r.def.number) rows
+pub none-rows : (rows : List Row) (event : ℕ) → found (defs_of rows) event ≡ None → AllByRecursion (λ r. event ≢ r.def.number) rows
 none-rows [] event h = tt
 none-rows (r ∷ rs) event h =
     ⊎_elim (λ t. let e : Some r.def ≡ None = sym (ap (λ (b : Bool). cond b (Some r.def) (found (defs_of rs) event)) t.0) ∙ h in cc)

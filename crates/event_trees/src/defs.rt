@@ -3,7 +3,7 @@
 ghost use Rattle.std.specs.Prelude.{◌≡◌, ◌≤◌, ◌++◌, [], ◌∷◌, ◌↔◌, length, slice_index, IsTrue, IsSome, IfSome, OnOk, OnErr, None, Some, List, ℕ, ◌==◌, if◌then◌else◌};
 ghost use Rattle.std.specs.Option.{option_copied};
 ghost use Rattle.event_trees.specs.Defs.{found, is_root, is_event, path, AreDefs};
-ghost use Rattle.event_trees.specs.Rows.{row_of};
+ghost use Rattle.event_trees.specs.Rows.{row_of, AreRows, ArePlaces};
 
 use crate::path::EventPath;
 use filter_lang::Expr;
@@ -15,6 +15,9 @@ const FIRST_ROOT: u16 = 256;
 
 /// The last built-in event.
 const LAST_ROOT: u16 = 264;
+
+/// The numbers of user-defined events are below this.
+const NUMBERS: usize = 256;
 
 /// A user-defined event: it is raised where its parent is raised and its filter is true.
 #[derive(Drop)]
@@ -35,9 +38,12 @@ struct Row {
 }
 
 /// The user-defined events by their numbers. Contracts see them in the order in which they were added.
+///
+/// An event is found in constant time, however many there are.
 #[derive(Drop)]
 pub struct Defs {
     rows: Vec<Row>,
+    places: [Option<u8>; NUMBERS],
 }
 
 impl Model for Defs {
@@ -50,11 +56,11 @@ impl Model for Defs {
 
     ghost coded = { coded_list event_def.the_row.coded };
 
-    ghost use Rattle.event_trees.specs.Rows.{defs_of, AreRows};
+    ghost use Rattle.event_trees.specs.Rows.{defs_of, AreRows, ArePlaces};
 
     ghost view = { λ d. defs_of d.rows.items };
 
-    ghost invariant = { λ d. AreRows d.rows.items };
+    ghost invariant = { λ d. AreRows d.rows.items × ArePlaces d.rows.items d.places };
 }
 
 impl Defs {
@@ -69,6 +75,7 @@ impl Defs {
     {
         Defs {
             rows: Vec::new(alloc),
+            places: [None; NUMBERS],
         }
     }
 
@@ -89,7 +96,10 @@ impl Defs {
         ensures err { OnErr result (self.new ≡ self.old) }
     {
         let path = self.path_of(d.parent).with(d.number);
+        let number = d.number as usize;
+        let place = self.count();
         self.rows.push(Row { def: d, path })?;
+        self.places[number] = Some(place);
         Ok(())
     }
 
@@ -97,7 +107,7 @@ impl Defs {
     pub fn find(&self, number: u16) -> Option<&EventDef>
         ensures { option_copied result ≡ found self.now number }
     {
-        match find_row(&self.rows, number) {
+        match find_row(&self.rows, &self.places, number) {
             Some(row) => Some(&row.def),
             None => None,
         }
@@ -134,6 +144,13 @@ impl Defs {
         (FIRST_ROOT..=LAST_ROOT).contains(&event) || self.find(event).is_some()
     }
 
+    /// How many events there are, before one more is added.
+    fn count(&self) -> u8
+        ensures { result ≡ length self.now }
+    {
+        self.rows.len() as u8
+    }
+
     /// The path of an event.
     pub(crate) fn path_of(&self, event: u16) -> EventPath
         requires { IsTrue (is_event self.now event) }
@@ -142,7 +159,7 @@ impl Defs {
         ensures short { length (path self.now event) ≤ 8 }
         ensures long { 1 ≤ length (path self.now event) }
     {
-        match find_row(&self.rows, event) {
+        match find_row(&self.rows, &self.places, event) {
             Some(row) => row.path,
             None => EventPath::empty().with(event),
         }
@@ -150,8 +167,17 @@ impl Defs {
 }
 
 /// The row of an event.
-fn find_row(rows: &[Row], number: u16) -> Option<&Row>
+fn find_row<'a>(rows: &'a [Row], places: &[Option<u8>], number: u16) -> Option<&'a Row>
+    requires rows { AreRows rows.now }
+    requires places { ArePlaces rows.now places.now }
     ensures { option_copied result ≡ row_of rows.now number }
 {
-    rows.iter().find(|row| row.def.number == number)
+    let number = number as usize;
+    if number >= places.len() {
+        return None;
+    }
+    match places[number] {
+        Some(place) => Some(&rows[place as usize]),
+        None => None,
+    }
 }

@@ -103,3 +103,41 @@ fn facts_of(len: u64) -> Facts {
     facts.len = len;
     facts
 }
+
+#[test]
+fn every_number_is_found(rt: HostRuntime) -> Result<(), Fail> {
+    let alloc = rt.alloc();
+    let mut defs = Defs::new(alloc);
+    for number in (1..256u16).rev() {
+        define(alloc, &mut defs, number, PKT_IN, "true")?;
+    }
+    for number in 1..256u16 {
+        assert_eq!(rt; defs.find(number).map(|def| def.number), Some(number));
+        assert_eq!(rt; defs.root_of(number), Some((PKT_IN, 2)));
+    }
+    assert!(rt; defs.find(0).is_none());
+    assert!(rt; defs.find(PKT_IN).is_none());
+    Ok(())
+}
+
+/// Asks that a type may be shared by threads, and handed from one to another.
+fn shared<T: Send + Sync>(value: T) -> T {
+    value
+}
+
+#[test]
+fn threads_may_share_definitions(rt: HostRuntime) -> Result<(), Fail> {
+    let alloc = rt.alloc();
+    let filter = parse(alloc, "len > 3")?;
+    let def = shared(EventDef {
+        number: 255,
+        parent: PKT_IN,
+        filter,
+    });
+    assert_eq!(rt; def.parent, PKT_IN);
+    let mut defs = Defs::new(alloc);
+    define(alloc, &mut defs, 255, PKT_IN, "len > 3")?;
+    let defs = shared(defs);
+    assert_eq!(rt; defs.root_of(255), Some((PKT_IN, 2)));
+    Ok(())
+}

@@ -5,3 +5,4 @@ pub mod Store
 pub mod Rows
 pub mod Key
 pub mod KeyLaws
+pub mod Using

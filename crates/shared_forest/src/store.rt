@@ -1,24 +1,45 @@
-ghost use Rattle.std.specs.Prelude.{◌≡◌, ◌≤◌, ◌+◌, ◌↔◌, IsTrue, Option, IfOk, OnOk, OnErr, ℕ};
+ghost use Rattle.std.specs.Prelude.{◌≡◌, ◌≤◌, ◌+◌, ◌↔◌, IsTrue, Option, Some, IfOk, OnOk, OnErr, ℕ};
+ghost use Rattle.std.specs.Option.{option_copied};
 ghost use Rattle.shared_forest.specs.Lists.{TreeLists};
 
 use crate::Tree;
+use boxcar::Pushed;
 use std::alloc::{AllocError, Global};
 
 /// A place in a store of trees: the number of a row. Two with one row number have equal trees.
 ///
 /// It isn't `Copy`: a second one is taken by [`Forests::again`].
-#[derive(Debug, Drop)]
+#[derive(Drop)]
 pub struct Shared {
     row: usize,
+
+    // What shows the row's tree to every thread; none in a store of one owner.
+    token: Option<Pushed<Tree>>,
 }
 
 impl Shared {
-    ghost use Rattle.shared_forest.specs.Store.{row_of};
+    ghost use Rattle.shared_forest.specs.Store.{row_of, token_of};
 
     pub(crate) fn at(row: usize) -> Shared
         ensures { row_of result ≡ row }
     {
-        Shared { row }
+        Shared { row, token: None }
+    }
+
+    pub(crate) fn shown(token: Pushed<Tree>) -> Shared
+        ensures row { row_of result ≡ token.index }
+        ensures token { token_of result ≡ Some token }
+    {
+        Shared {
+            row: token.index(),
+            token: Some(token),
+        }
+    }
+
+    pub(crate) fn token(&self) -> Option<&Pushed<Tree>>
+        ensures { option_copied result ≡ token_of self.now }
+    {
+        self.token.as_ref()
     }
 
     /// The row's number, from 0.

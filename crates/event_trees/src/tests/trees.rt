@@ -205,12 +205,28 @@ fn an_edit_takes_away_the_nodes_that_nothing_needs(rt: HostRuntime) -> Result<()
     let empty = bare(alloc, &mut table, &defs)?;
     let on = switched(alloc, &mut table, &defs, empty, &both, true)?;
     let off = switched(alloc, &mut table, &defs, on, &both[..1], false)?;
+    let edited = table.tree_of(&off.shared);
     assert_eq!(rt;
-        table.tree_of(&off.shared).nodes(),
+        edited.nodes(),
         [node(0, 0, 1, 0, 0), node(END, 1, 0, 0, 1)].as_slice()
     );
-    assert_eq!(rt; table.tree_of(&whole).nodes(), four.as_slice());
+    assert_eq!(rt; edited.slots(), [slot(17, Hook::Rcv)].as_slice());
+    let old = table.tree_of(&whole);
+    assert_eq!(rt; old.nodes(), four.as_slice());
+    assert_eq!(rt;
+        old.slots(),
+        [slot(16, Hook::Snd), slot(17, Hook::Rcv)].as_slice()
+    );
     Ok(())
+}
+
+/// The nodes of a list with one registration at pkt_in and so many at event 1.
+fn pair_of_nodes(count: u8) -> [Node; 3] {
+    [
+        node(0, 0, 2, 0, 0),
+        node(PKT_IN, 1, 1, 0, 1),
+        node(1, 2, 0, 1, count),
+    ]
 }
 
 #[test]
@@ -236,8 +252,17 @@ fn an_edited_list_has_the_row_of_the_whole_list(rt: HostRuntime) -> Result<(), F
     assert_eq!(rt; before.shared.row(), two.row());
     let after = switched(alloc, &mut table, &defs, before, &second, true)?;
     assert_eq!(rt; after.shared.row(), three.row());
+    // Each registration stands at its event, and the tree of two is as it was.
+    let edited = table.tree_of(&after.shared);
+    assert_eq!(rt; edited.nodes(), pair_of_nodes(2).as_slice());
     assert_eq!(rt;
-        table.tree_of(&two).slots(),
+        edited.slots(),
+        [slot(1, Hook::Snd), slot(2, Hook::Rcv), slot(3, Hook::Snd)].as_slice()
+    );
+    let old = table.tree_of(&two);
+    assert_eq!(rt; old.nodes(), pair_of_nodes(1).as_slice());
+    assert_eq!(rt;
+        old.slots(),
         [slot(1, Hook::Snd), slot(3, Hook::Snd)].as_slice()
     );
     Ok(())

@@ -6,7 +6,7 @@ pub returns-clause-root : goal.returns-clause-root
 returns-clause-root c = λ event h. path-unfound c.args.self.now event h
 
 pub returns-clause-defined : goal.returns-clause-defined
-returns-clause-defined c = (knows_rows c.self.inside.rows.items c.args.self.now c.self.view_is c.self.invariant).law
+returns-clause-defined c = (knows_rows c.self.inside.rows.items c.args.self.now c.self.view_is c.self.invariant.0).law
 
 pub returns-clause-len : goal.returns-clause-len
-returns-clause-len c = (knows_rows c.self.inside.rows.items c.args.self.now c.self.view_is c.self.invariant).short
+returns-clause-len c = (knows_rows c.self.inside.rows.items c.args.self.now c.self.view_is c.self.invariant.0).short
