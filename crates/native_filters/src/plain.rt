@@ -1,6 +1,6 @@
 //! The six native filters, each as a function of the facts.
 
-ghost use Rattle.std.specs.Prelude.{◌≡◌, ◌≤◌, ◌&&◌, ◌||◌, ◌==◌};
+ghost use Rattle.std.specs.Prelude.{◌≡◌, ◌&&◌, ◌||◌, ◌==◌};
 ghost use Rattle.native_filters.specs.Native.{native, has_bits, is_private};
 
 use crate::facts::Facts;
@@ -63,21 +63,6 @@ pub fn has_differing_bytes(facts: &Facts) -> bool
     ensures { result ≡ native 5 facts.now }
 {
     facts.rexdiff > 0
-}
-
-/// Whether the native filter of a number is true of the facts.
-pub(crate) fn plain_native(which: u8, facts: &Facts) -> bool
-    requires { which ≤ 5 }
-    ensures { result ≡ native which facts.now }
-{
-    match which {
-        0 => is_opening(facts),
-        1 => has_system_port(facts),
-        2 => is_private_traffic(facts),
-        3 => is_keep_alive(facts),
-        4 => is_ending(facts),
-        _ => has_differing_bytes(facts),
-    }
 }
 
 /// Whether all bits of a mask are set.

@@ -35,23 +35,15 @@ fn again(len: u64, rexlen: u64, rexdiff: u64) -> Facts {
     }
 }
 
-/// Asks the native filter of a number twice: of the plain book, and of one whose functions are handed in.
-fn asked(which: u8, facts: &Facts) -> (bool, bool) {
-    let book = NativeBook::new(
-        Native::new(0, is_opening),
-        Native::new(1, has_system_port),
-        Native::new(2, is_private_traffic),
-        Native::new(3, is_keep_alive),
-        Native::new(4, is_ending),
-        Native::new(5, has_differing_bytes),
-    );
-    if which <= 5 {
-        (
-            NativeBook::plain().call(which, facts),
-            book.call(which, facts),
-        )
-    } else {
-        (false, true)
+/// Asks the function that is kept under a number.
+fn asked(which: u8, facts: &Facts) -> bool {
+    match which {
+        0 => Native::new(0, is_opening).ask(facts),
+        1 => Native::new(1, has_system_port).ask(facts),
+        2 => Native::new(2, is_private_traffic).ask(facts),
+        3 => Native::new(3, is_keep_alive).ask(facts),
+        4 => Native::new(4, is_ending).ask(facts),
+        _ => Native::new(5, has_differing_bytes).ask(facts),
     }
 }
 
@@ -71,8 +63,12 @@ fn each_native_filter_is_true_and_false(rt: HostRuntime) {
         (5, again(4, 4, 2), true),
         (5, again(4, 4, 0), false),
     ];
+    let book = NativeBook::plain();
     for (which, facts, answer) in rows {
-        assert_eq!(rt; asked(which, &facts), (answer, answer));
+        assert_eq!(rt; asked(which, &facts), answer);
+        if which <= 5 {
+            assert_eq!(rt; book.call(which, &facts), answer);
+        }
     }
 }
 
