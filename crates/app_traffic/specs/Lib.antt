@@ -1,0 +1,4 @@
+pub mod Acct
+pub mod Counting
+pub mod Laws
+pub mod Rexmit
