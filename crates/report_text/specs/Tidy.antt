@@ -1,8 +1,6 @@
 -- Which records a report may have. Endpoints are of IPv4 or IPv6.
-use Rattle.std.specs.Prelude.{ℕ, ◌+◌, Option, Some, None, ◌&&◌, ◌||◌, ◌==◌, Bool, true, false, List, [], ◌∷◌, length, map, nat_le, nat_lt}
+use Rattle.std.specs.Prelude.{ℕ, ◌+◌, Option, Some, None, ◌&&◌, ◌||◌, ◌==◌, Bool, true, List, length, map, nat_le, nat_lt}
 use Rattle.std.specs.List.{list_all, list_any}
-use Rattle.flow_table.specs.declared.endpoint.Endpoint.{Endpoint}
-use Rattle.packet_views.specs.declared.packet.Class.{Class}
 use Rattle.app_api.specs.declared.entry.Entry.{Entry}
 use Rattle.app_api.specs.declared.entry.Seen.{Seen}
 use Rattle.app_api.specs.declared.entry.Seen.TheVariants.{Nothing, Next, At}

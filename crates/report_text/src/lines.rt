@@ -5,7 +5,9 @@ ghost use Rattle.report_text.specs.Lines.{kind_text, first_line, callback_line, 
 ghost use Rattle.app_api.specs.App.{is_field_name};
 
 use crate::record::{Record, RecordKind, Totals};
-use crate::words::{class_name, hook_name, push_endpoint, push_event, push_name, push_reason, push_seen};
+use crate::words::{
+    class_name, hook_name, push_endpoint, push_event, push_name, push_reason, push_seen,
+};
 use app_api::{Entry, Reason};
 use std::alloc::{AllocError, Global};
 use std::fmt::Write;

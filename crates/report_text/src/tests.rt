@@ -1,6 +1,8 @@
 //! Each form of a line, and what a sink that fails has taken.
 
-use crate::{Record, RecordKind, RecordList, TextError, Totals, is_tidy, write_report, write_totals};
+use crate::{
+    Record, RecordKind, RecordList, TextError, Totals, is_tidy, write_report, write_totals,
+};
 use app_api::{Bytes, DropList, Entry, EntryList, FieldList, PieceList, Reason, Seen};
 use flow_table::Endpoint;
 use mos_bytes::MemSink;
@@ -261,7 +263,9 @@ fn drops_and_fields(rt: HostRuntime) -> Result<(), Fail> {
         of.drops.items.push((index, reason))?;
     }
     for (name, value) in [("up_pkts", 5), ("t0", u64::MAX), ("_", 0)] {
-        of.fields.items.push((bytes(alloc, name.as_bytes())?, value))?;
+        of.fields
+            .items
+            .push((bytes(alloc, name.as_bytes())?, value))?;
     }
     let mut out = sink(alloc, 99)?;
     let records = [of];
@@ -307,7 +311,10 @@ fn records_that_are_not_tidy(rt: HostRuntime) -> Result<(), Fail> {
     let alloc = rt.alloc();
     for event in [0, 264, u16::MAX] {
         let items = vec![in alloc; entry(0, Hook::Snd, event, 1, Seen::Nothing)]?;
-        assert!(rt; !is_tidy(&[record(alloc, 0, OVER_IPV4, 0, items)]), "event {event}");
+        assert!(rt;
+            !is_tidy(&[record(alloc, 0, OVER_IPV4, 0, items)]),
+            "event {event}"
+        );
     }
     let seen = peekat(alloc, &[(0, b"A"), (4, b"")])?;
     let items = vec![in alloc; entry(0, Hook::Snd, 1, 1, seen)]?;
@@ -326,7 +333,13 @@ fn records_that_are_not_tidy(rt: HostRuntime) -> Result<(), Fail> {
         let other = record(alloc, second, OVER_IPV4, 0, Vec::new(alloc));
         assert!(rt; !is_tidy(&[one, other]), "names {first} {second}");
     }
-    let mut orphan = record(alloc, 0, RecordKind::Orphan { class: Class::Bad }, 0, Vec::new(alloc));
+    let mut orphan = record(
+        alloc,
+        0,
+        RecordKind::Orphan { class: Class::Bad },
+        0,
+        Vec::new(alloc),
+    );
     orphan.fields.items.push((bytes(alloc, b"up_pkts")?, 0))?;
     assert!(rt; !is_tidy(&[orphan]));
     Ok(())

@@ -1,4 +1,4 @@
-use Rattle.std.proofs.Common.{◌∙◌, ◌≡◌, ℕ, List, ◌++◌, drop, ap, ◌+◌, sym, subst, true}
+use Rattle.std.proofs.Common.{◌∙◌, ◌≡◌, ◌++◌, drop, ◌+◌, sym, subst, true}
 use Rattle.app_api.specs.App.{is_field_name}
 use Rattle.report_text.specs.Lines.{field_line}
 use Rattle.report_text.specs.Report.{fields_text}

@@ -1,6 +1,4 @@
-use Rattle.std.proofs.Common.{◌++◌, subst, sym}
 use Rattle.mos_bytes.proofs.Writes.{AppendsFront-more, AppendsFront-after}
-use Rattle.report_text.specs.Report.{callbacks_text, drops_text, fields_text}
 use Rattle.report_text.proofs.Writing.{WriteAdds-err, WriteAdds-after}
 use Rattle.report_text.proofs.write.write_rest.Goals as goal
 
