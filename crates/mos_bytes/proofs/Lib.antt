@@ -1,4 +1,5 @@
 pub mod Ahead
 pub mod Causes
 pub mod Moves
+pub mod Shelves
 pub mod Writes

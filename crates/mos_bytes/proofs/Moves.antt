@@ -15,6 +15,13 @@ pub record Filling {S L : Type 0} (left : S → Option (List ℕ)) (faults : S �
   pub later : faults old ≤ faults now
   pub lasts : lasting now ≡ lasting old
 
+-- a loop that keeps what it reads from a source, within a limit
+pub record Reading {S L : Type 0} (left : S → Option (List ℕ)) (faults : S → ℕ) (lasting : S → L) (old now : S) (bytes : List ℕ) (limit : ℕ) : Type 0 where
+  pub within : length bytes ≤ limit
+  pub consumed : Consumes (left old) (left now) bytes
+  pub later : faults old ≤ faults now
+  pub lasts : lasting now ≡ lasting old
+
 -- a list loses the front that was copied over the front of another
 pub front_copied : (n place : ℕ) (xs rest : List ℕ) → n ≤ length (drop place xs)
     → drop place xs ≡ take n (take n (drop place xs) ++ rest) ++ drop (place + n) xs

@@ -1,7 +1,8 @@
--- What the adapters over std tell: what their reader or writer tells.
+-- What the adapters over std tell: their faults, and what their reader or writer tells.
 use Rattle.std.specs.Prelude.{ℕ, List, slice_range}
 use Rattle.std.specs.declared.option.Option.{Option}
 use Rattle.std.specs.Io.KnownBytes.{prepend_known}
+use Rattle.mos_bytes.specs.declared.folder_shelf.FolderShelf.{FolderShelf}
 use Rattle.mos_bytes.specs.declared.read_source.ReadSource.{ReadSource}
 use Rattle.mos_bytes.specs.declared.write_sink.WriteSink.{WriteSink}
 
@@ -12,6 +13,10 @@ source_faults s = s.faults
 -- how often a sink over a writer has failed
 abbrev pub sink_faults : {W : Type 0} → WriteSink W → ℕ
 sink_faults s = s.faults
+
+-- how often a shelf over a folder has failed
+abbrev pub shelf_faults : {R : Type 0} → FolderShelf R → ℕ
+shelf_faults s = s.faults
 
 -- the bytes that were read ahead
 abbrev pub ahead_of : {R : Type 0} → ReadSource R → List ℕ

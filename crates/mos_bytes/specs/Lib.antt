@@ -1,5 +1,6 @@
 pub mod Adapters
 pub mod Causes
+pub mod Fetches
 pub mod Memory
 pub mod Reads
 pub mod Writes

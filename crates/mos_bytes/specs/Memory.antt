@@ -1,5 +1,7 @@
--- What a source and a sink in memory hold.
+-- What a source, a sink and a shelf in memory hold.
 use Rattle.std.specs.Prelude.{ℕ, List}
+use Rattle.std.specs.declared.option.Option.{Option}
+use Rattle.mos_bytes.specs.Fetches.{content_of}
 
 -- a source: the bytes left, the calls that are to fail (numbered from 0), the number of the next call, the faults so far
 pub record SourceState : Type 0 where
@@ -21,3 +23,15 @@ pub record SinkState : Type 0 where
   pub fails : List ℕ
   pub calls : ℕ
   pub faults : ℕ
+
+-- a shelf: its names, the contents beside them, the calls that are to fail (numbered from 0), the number of the next call, the faults so far
+pub record ShelfState : Type 0 where
+  pub names : List (List ℕ)
+  pub contents : List (List ℕ)
+  pub fails : List ℕ
+  pub calls : ℕ
+  pub faults : ℕ
+
+-- what it holds under a name
+abbrev pub shelf_content : ShelfState → List ℕ → Option (List ℕ)
+shelf_content shelf name = content_of shelf.names shelf.contents name

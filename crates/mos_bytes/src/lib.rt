@@ -1,4 +1,5 @@
-//! The outside world as a program sees it: sources of bytes, sinks of bytes, and what their faults mean.
+//! The outside world as a program sees it: sources of bytes, sinks of bytes, shelves of
+//! whole contents, and what their faults mean.
 //!
 //! A source tells, where it can, the bytes that are left in it, and a sink those that it has taken.
 //! Each keeps a count of faults that never falls, and answers `Failed` only where that count rose.
@@ -6,9 +7,12 @@
 
 mod copy;
 mod failed;
+mod folder_shelf;
+mod memory_shelf;
 mod memory_sink;
 mod memory_source;
 mod read_source;
+mod shelf;
 mod sink;
 mod source;
 #[cfg(test)]
@@ -16,9 +20,12 @@ mod tests;
 mod write_sink;
 
 pub use failed::Failed;
+pub use folder_shelf::FolderShelf;
+pub use memory_shelf::MemShelf;
 pub use memory_sink::MemSink;
 pub use memory_source::MemSource;
 pub use read_source::ReadSource;
+pub use shelf::{FetchError, Shelf};
 pub use sink::Sink;
 pub use source::{Source, fill};
 pub use write_sink::WriteSink;

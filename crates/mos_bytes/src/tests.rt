@@ -1,5 +1,8 @@
 // What a caller sees of each source and sink.
-use crate::{Failed, MemSink, MemSource, ReadSource, Sink, Source, WriteSink, fill};
+use crate::{
+    Failed, FetchError, FolderShelf, MemShelf, MemSink, MemSource, ReadSource, Shelf, Sink, Source,
+    WriteSink, fill,
+};
 use std::io::{Error, ErrorKind, Read, Result, Write};
 use std::test::Fail;
 
@@ -90,4 +93,59 @@ fn a_writer_as_a_sink(rt: HostRuntime) {
     assert_eq!(rt; sink.write_all(b"de"), Err(Failed));
     assert_eq!(rt; WriteSink::new(Broken).write_all(b"abc"), Err(Failed));
     assert_eq!(rt; room, *b"abcd");
+}
+
+fn shown(fetched: &std::result::Result<Vec<u8>, FetchError>) -> std::result::Result<&[u8], FetchError> {
+    match fetched {
+        Ok(bytes) => Ok(bytes.as_slice()),
+        Err(error) => Err(*error),
+    }
+}
+
+// The call of number 1 fails. Of two contents under one name the first counts.
+#[test]
+fn a_memory_shelf_fails_at_listed_calls(rt: HostRuntime) -> std::result::Result<(), Fail> {
+    let alloc = rt.alloc();
+    let mut names = Vec::new(alloc);
+    let mut contents = Vec::new(alloc);
+    for (name, content) in [("rules", b"abc".as_slice()), ("empty", b""), ("rules", b"de")] {
+        names.push(String::from_str(alloc, name)?)?;
+        contents.push(content.to_vec(alloc)?)?;
+    }
+    let mut shelf = MemShelf::new(names, contents, [1].to_vec(alloc)?);
+    for (name, limit, want) in [
+        ("rules", 3, Ok(b"abc".as_slice())),
+        ("rules", 3, Err(FetchError::Failed)),
+        ("rules", 2, Err(FetchError::TooLong)),
+        ("rule", 3, Err(FetchError::Failed)),
+        ("empty", 0, Ok(b"")),
+        ("rules", 3, Ok(b"abc")),
+    ] {
+        let fetched = shelf.fetch(alloc, name, limit);
+        assert_eq!(rt; shown(&fetched), want, "{name} within {limit}");
+    }
+    Ok(())
+}
+
+// The files lie where the test runs: one of 15 bytes, one of 5,000 and one of none.
+#[test]
+fn a_folder_as_a_shelf(rt: HostRuntime) -> std::result::Result<(), Fail> {
+    let alloc = rt.alloc();
+    let mut shelf = FolderShelf::new(&rt);
+    let mut long = Vec::new(alloc);
+    for _ in 0..625 {
+        long.extend_from_slice(b"# 5678\n\n")?;
+    }
+    for (name, limit, want) in [
+        ("short.mos", 15, Ok(b"at 0 rbuf 4096\n".as_slice())),
+        ("short.mos", 14, Err(FetchError::TooLong)),
+        ("long.mos", 5000, Ok(long.as_slice())),
+        ("long.mos", 4999, Err(FetchError::TooLong)),
+        ("empty.mos", 0, Ok(b"")),
+        ("gone.mos", 5000, Err(FetchError::Failed)),
+    ] {
+        let fetched = shelf.fetch(alloc, name, limit);
+        assert_eq!(rt; shown(&fetched), want, "{name} within {limit}");
+    }
+    Ok(())
 }

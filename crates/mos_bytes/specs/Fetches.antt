@@ -1,0 +1,27 @@
+-- What a fetch gives of the content of a name, where the shelf tells it.
+use Rattle.std.specs.Prelude.{◌≡◌, ℕ, ◌<◌, List, [], ◌∷◌, length, bytes_eq, if◌then◌else◌, ⊤}
+use Rattle.std.specs.declared.option.Option.{Option}
+use Rattle.std.specs.declared.option.Option.TheVariants.{None, Some}
+use Rattle.std.specs.Io.KnownBytes.{Consumes}
+
+-- these bytes are the whole content
+abbrev pub IsContent : Option (List ℕ) → List ℕ → Type 0
+IsContent None bytes = ⊤
+IsContent (Some content) bytes = bytes ≡ content
+
+-- the content has more bytes than the limit
+abbrev pub IsLonger : Option (List ℕ) → ℕ → Type 0
+IsLonger None limit = ⊤
+IsLonger (Some content) limit = limit < length content
+
+-- more bytes than the limit were consumed
+pub record ReadsOver (old new : Option (List ℕ)) (limit : ℕ) : Type 0 where
+  pub bytes : List ℕ
+  pub consumed : Consumes old new bytes
+  pub over : limit < length bytes
+
+-- the content beside the first name that is this one
+unfoldable pub content_of : List (List ℕ) → List (List ℕ) → List ℕ → Option (List ℕ)
+content_of [] contents name = None
+content_of (first ∷ names) [] name = None
+content_of (first ∷ names) (content ∷ contents) name = if bytes_eq first name then Some content else content_of names contents name
