@@ -5,6 +5,7 @@ ghost use Rattle.filter_lang.specs.Meaning.{meaning, all_mean, any_means, sum_va
 ghost use Rattle.filter_lang.specs.Shape.{shape, shapes, IsWithin, AreWithin, SumIsWithin, AtomIsWithin};
 
 use crate::expr::Expr;
+use crate::natives::Natives;
 use crate::term::{Atom, Join, Op, Sum, Term};
 use native_filters::{Facts, NativeBook};
 
@@ -19,14 +20,14 @@ pub fn eval(e: &Expr, facts: &Facts, natives: &NativeBook) -> bool
 
 /// Whether a term is true of the facts.
 #[cycle(truth)]
-fn truth(term: &Term, facts: &Facts, natives: &NativeBook) -> bool
+fn truth<N: Natives>(term: &Term, facts: &Facts, natives: &N) -> bool
     requires { IsWithin (shape term.now) }
     ensures { result ≡ meaning (shape term.now) facts.now }
 {
     match term {
         Term::True => true,
         Term::False => false,
-        Term::Native(which) => natives.call(*which, facts),
+        Term::Native(which) => natives.ask(*which, facts),
         Term::Cmp(left, op, right) => compare(value(left, facts), *op, value(right, facts)),
         Term::Not(inner) => !truth(inner, facts, natives),
         Term::And(members) => all_true(&members.items, facts, natives),
@@ -36,7 +37,7 @@ fn truth(term: &Term, facts: &Facts, natives: &NativeBook) -> bool
 
 /// Whether all terms are true of the facts.
 #[cycle(truth)]
-fn all_true(terms: &[Term], facts: &Facts, natives: &NativeBook) -> bool
+fn all_true<N: Natives>(terms: &[Term], facts: &Facts, natives: &N) -> bool
     requires { AreWithin (shapes terms.now) }
     ensures { result ≡ all_mean (shapes terms.now) facts.now }
 {
@@ -50,7 +51,7 @@ fn all_true(terms: &[Term], facts: &Facts, natives: &NativeBook) -> bool
 
 /// Whether one or more terms are true of the facts.
 #[cycle(truth)]
-fn any_true(terms: &[Term], facts: &Facts, natives: &NativeBook) -> bool
+fn any_true<N: Natives>(terms: &[Term], facts: &Facts, natives: &N) -> bool
     requires { AreWithin (shapes terms.now) }
     ensures { result ≡ any_means (shapes terms.now) facts.now }
 {

@@ -7,6 +7,7 @@ pub mod expr;
 mod law;
 mod lexeme;
 mod lexer;
+mod natives;
 mod parser;
 mod printer;
 pub mod term;

@@ -10,7 +10,7 @@ use Rattle.tcp_emulation.specs.declared.segment.Side.{Side}
 use Rattle.flow_socket.specs.Emulation.{sent, sent_answer, got_of}
 use Rattle.flow_socket.specs.declared.answers.Sent.{Sent}
 use Rattle.flow_socket.specs.declared.answers.Got.{Got}
-use Rattle.app_api.specs.declared.events.TheConstants.{START, PKT_IN, REXMIT, NEW_DATA, ERROR, STATE, END, ORPHAN}
+use Rattle.app_api.specs.Events.{START, PKT_IN, REXMIT, NEW_DATA, ERROR, STATE, END, ORPHAN}
 use Rattle.app_api.specs.Log.{log}
 use Rattle.app_api.specs.declared.entry.Entry.{Entry}
 use Rattle.builtin_events.specs.declared.raise.Raise.{Raise}

@@ -6,7 +6,7 @@ use Rattle.native_filters.specs.declared.facts.Hook.TheVariants.{Snd, Rcv}
 use Rattle.app_api.specs.Log.{log}
 use Rattle.app_api.specs.declared.entry.Entry.{Entry}
 use Rattle.app_api.specs.declared.entry.Seen.TheVariants.{Nothing}
-use Rattle.app_api.specs.declared.events.TheConstants.{PKT_IN, ORPHAN}
+use Rattle.app_api.specs.Events.{PKT_IN, ORPHAN}
 use Rattle.flow_table.specs.Key.{EndpointPair}
 use Rattle.forest_versions.specs.State.{ControlState, start, active as first_active}
 use Rattle.lane_core.specs.Sight.{Segment, Sight, Tcp, Other, key_of_segment}
