@@ -95,7 +95,9 @@ fn a_writer_as_a_sink(rt: HostRuntime) {
     assert_eq!(rt; room, *b"abcd");
 }
 
-fn shown(fetched: &std::result::Result<Vec<u8>, FetchError>) -> std::result::Result<&[u8], FetchError> {
+fn shown(
+    fetched: &std::result::Result<Vec<u8>, FetchError>,
+) -> std::result::Result<&[u8], FetchError> {
     match fetched {
         Ok(bytes) => Ok(bytes.as_slice()),
         Err(error) => Err(*error),
@@ -108,7 +110,11 @@ fn a_memory_shelf_fails_at_listed_calls(rt: HostRuntime) -> std::result::Result<
     let alloc = rt.alloc();
     let mut names = Vec::new(alloc);
     let mut contents = Vec::new(alloc);
-    for (name, content) in [("rules", b"abc".as_slice()), ("empty", b""), ("rules", b"de")] {
+    for (name, content) in [
+        ("rules", b"abc".as_slice()),
+        ("empty", b""),
+        ("rules", b"de"),
+    ] {
         names.push(String::from_str(alloc, name)?)?;
         contents.push(content.to_vec(alloc)?)?;
     }

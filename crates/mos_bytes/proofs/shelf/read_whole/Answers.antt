@@ -1,5 +1,5 @@
 -- What was kept, and then what came beyond the limit.
-use Rattle.std.proofs.Common.{◌++◌, length, take, arith, length-take-le}
+use Rattle.std.proofs.Common.{◌++◌, take, arith, length-take-le}
 use Rattle.std.proofs.lemmas.List.{length-append}
 use Rattle.std.proofs.KnownBytes.{Consumes-trans}
 use Rattle.mos_bytes.proofs.shelf.read_whole.Goals as goal

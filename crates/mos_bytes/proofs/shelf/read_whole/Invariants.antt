@@ -1,5 +1,5 @@
 -- What was kept so far is what was consumed.
-use Rattle.std.proofs.Common.{◌≡◌, ◌≤◌, ◌-◌, length}
+use Rattle.std.proofs.Common.{◌-◌, length}
 use Rattle.mos_bytes.proofs.Moves.{Reading}
 use Rattle.mos_bytes.proofs.shelf.read_whole.Given as goal
 
