@@ -55,6 +55,22 @@ fn worked_segments(rt: HostRuntime) -> Result<(), Fail> {
     Ok(())
 }
 
+// Bytes on both sides of position 2,048 wait for those before them, and are read as one run once these have come.
+#[test]
+fn reads_across_a_page(rt: HostRuntime) -> Result<(), Fail> {
+    let mut stream = Stream::new(rt.alloc(), 8192);
+    assert!(rt; stream.next() == 0);
+    stream.place(2046, b"wxyz", Policy::First)?;
+    let before = vec![in rt.alloc(); b'.'; 2046]?;
+    assert!(rt; stream.next() == 0);
+    stream.place(0, &before, Policy::First)?;
+    assert_eq!(rt; stream.next(), 2050);
+    let mut read = [0; 4];
+    assert_eq!(rt; stream.read_at(2046, &mut read), 4);
+    assert_eq!(rt; &read[..], b"wxyz".as_slice());
+    Ok(())
+}
+
 fn moved<T: Send>(value: T) -> T {
     value
 }
