@@ -85,7 +85,7 @@ after-tidy : (control : ControlState) (opener : Sight) (a : Arrival) (h : Histor
 unfolding history_after
 after-tidy control opener a h t = by a.sight
   where
-    by : (s : Sight) → IsTidyHistory (elim s [ | Tcp segment ↦ followed control a.number (side_in opener segment) segment h | Other class ↦ h ])
+    by : (s : Sight) → IsTidyHistory (elim s [ Tcp segment ↦ followed control a.number (side_in opener segment) segment h | Other class ↦ h ])
     by (Tcp segment) = followed-tidy control a.number (side_in opener segment) segment h t
     by (Other class) = t
 

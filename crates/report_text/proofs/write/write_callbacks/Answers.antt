@@ -5,9 +5,10 @@ use Rattle.report_text.proofs.write.write_callbacks.Goals as goal
 
 pub loop-entry-preserved : goal.loop-entry-preserved
 loop-entry-preserved g c =
-    let next = callbacks_text-drop c.args.entries.now c.loop-entry.entry-index c.entry-item.result c.loop-entry-test.true c.entry-item.is in
-    (Writing-more g.O.Sink.taken g.O.Sink.faults _ _ _ _ _ _ _ c.loop-entry.invariant.0 next c.in_ok-write_callback.ensures.text c.write_callback.ensures.cause.later,
-    c.write_callback.ensures.lasts ∙ c.loop-entry.invariant.1)
+    let next = callbacks_text-drop c.args.entries.now c.loop-entry.entry-index c.entry-item.result c.loop-entry-test.true c.entry-item.is in (
+      Writing-more g.O.Sink.taken g.O.Sink.faults _ _ _ _ _ _ _ c.loop-entry.invariant.0 next c.in_ok-write_callback.ensures.text c.write_callback.ensures.cause.later,
+      c.write_callback.ensures.lasts ∙ c.loop-entry.invariant.1,
+    )
 
 pub returns-in_err-write_callback-clause-text : goal.returns-in_err-write_callback-clause-text
 returns-in_err-write_callback-clause-text g c =

@@ -6,9 +6,10 @@ use Rattle.report_text.proofs.write.write_drops.Goals as goal
 
 pub loop-index-preserved : goal.loop-index-preserved
 loop-index-preserved g c =
-    let next = drops_text-drop c.args.drops.now c.loop-index.index-index (0, Reg 0) c.loop-index-test.true in
-    (Writing-more g.O.Sink.taken g.O.Sink.faults _ _ _ _ _ _ _ c.loop-index.invariant.0 next c.in_ok-write_drop.ensures.text c.write_drop.ensures.cause.later,
-    c.write_drop.ensures.lasts ∙ c.loop-index.invariant.1)
+    let next = drops_text-drop c.args.drops.now c.loop-index.index-index (0, Reg 0) c.loop-index-test.true in (
+      Writing-more g.O.Sink.taken g.O.Sink.faults _ _ _ _ _ _ _ c.loop-index.invariant.0 next c.in_ok-write_drop.ensures.text c.write_drop.ensures.cause.later,
+      c.write_drop.ensures.lasts ∙ c.loop-index.invariant.1,
+    )
 
 pub returns-in_err-write_drop-clause-text : goal.returns-in_err-write_drop-clause-text
 returns-in_err-write_drop-clause-text g c =

@@ -16,9 +16,10 @@ pub loop-name-preserved : goal.loop-name-preserved
 loop-name-preserved g c =
     let next = fields_text-drop c.args.fields.now c.loop-name.name-index c.loop-name-item.result c.loop-name-test.true c.loop-name-item.is in
     let read = subst (λ n. fields_text (drop c.loop-name.name-index c.args.fields.now) ≡ field_line (n, c.loop-name-item.result.1) ++ fields_text (drop (c.loop-name.name-index + 1) c.args.fields.now))
-    (sym c.as_slice.ensures) next in
-    (Writing-more g.O.Sink.taken g.O.Sink.faults _ _ _ _ _ _ _ c.loop-name.invariant.0 read c.in_ok-write_field.ensures.text c.write_field.ensures.cause.later,
-    c.write_field.ensures.lasts ∙ c.loop-name.invariant.1)
+    (sym c.as_slice.ensures) next in (
+      Writing-more g.O.Sink.taken g.O.Sink.faults _ _ _ _ _ _ _ c.loop-name.invariant.0 read c.in_ok-write_field.ensures.text c.write_field.ensures.cause.later,
+      c.write_field.ensures.lasts ∙ c.loop-name.invariant.1,
+    )
 
 pub returns-in_err-write_field-clause-text : goal.returns-in_err-write_field-clause-text
 returns-in_err-write_field-clause-text g c =
