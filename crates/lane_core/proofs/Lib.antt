@@ -8,3 +8,4 @@ pub mod Lanes
 pub mod Restricted
 pub mod Growing
 pub mod Sights
+pub mod Seeding

@@ -21,7 +21,7 @@ use crate::monitor::Monitor;
 use crate::segment::Segment;
 use app_api::{DropList, EntryList, FieldList};
 use builtin_events::orphan_raise;
-use flow_table::{FlowTable, Key};
+use flow_table::{FlowTable, Key, seed_of};
 use packet_views::{Class, Head, View, view_of};
 use pcap_source::Frame;
 use report_text::{Record, RecordKind, RecordList};
@@ -84,7 +84,7 @@ fn is_opening(segment: &Segment<'_>) -> bool
 impl<F: Forests + Drop> Lane<F> {
     ghost use Rattle.lane_core.specs.Sight.{Tcp, Other, Moment, arrival_of, key_of_segment};
     ghost use Rattle.lane_core.specs.Seen.{seen};
-    ghost use Rattle.lane_core.specs.Records.{opens};
+    ghost use Rattle.lane_core.specs.Records.{RecordSoFar, opens};
     ghost use Rattle.lane_core.specs.Lane.{StandsFor, Adds, AddsStray};
 
     /// A lane that has seen no packet.
@@ -209,8 +209,32 @@ impl<F: Forests + Drop> Lane<F> {
         self.stray(alloc, number, class, None)
     }
 
-    /// One more packet, of a number above all before. At an `Err` nothing is known of the lane.
-    pub fn packet(&mut self, alloc: Global, number: u64, frame: &Frame) -> Result<(), AllocError>
+    // A table that begins its hashes with a seed of the first frame, in place of the one without a connection.
+    #[tactic(auto, using(crate::proofs::Seeding::seeded))]
+    fn draw_seed(&mut self, alloc: Global, frame: &Frame)
+        requires none { self.old.kept.records.items ≡ [] }
+        ensures stands { (so_far : List RecordSoFar) → StandsFor (start log.presets) (F.content self.old.monitor.store) self.old.kept so_far
+            → StandsFor (start log.presets) (F.content self.new.monitor.store) self.new.kept so_far }
+        ensures next { self.new.next ≡ self.old.next }
+    {
+        let seed = seed_of(frame.seconds, frame.fraction, frame.bytes.as_slice());
+        self.kept.flows = FlowTable::with_seed(alloc, seed);
+    }
+
+    // Draws the table's seed before the first record: who sends packets from afar doesn't know the first frame and its time,
+    // and so can't choose endpoints that collide.
+    fn prepare(&mut self, alloc: Global, frame: &Frame)
+        ensures stands { (so_far : List RecordSoFar) → StandsFor (start log.presets) (F.content self.old.monitor.store) self.old.kept so_far
+            → StandsFor (start log.presets) (F.content self.new.monitor.store) self.new.kept so_far }
+        ensures next { self.new.next ≡ self.old.next }
+    {
+        if self.kept.records.is_empty() {
+            self.draw_seed(alloc, frame);
+        }
+    }
+
+    // The packet, in a table that is prepared for it.
+    fn take(&mut self, alloc: Global, number: u64, frame: &Frame) -> Result<(), AllocError>
         requires rising { self.old.next ≤ number }
         requires bound { number < PACKETS }
         ensures stands { OnOk result (Adds (arrival_of number frame.now) (start log.presets)
@@ -221,6 +245,18 @@ impl<F: Forests + Drop> Lane<F> {
             View::Tcp(view) => self.segment(alloc, number, &Segment::of(&view)),
             View::Other(class) => self.other(alloc, number, class),
         }
+    }
+
+    /// One more packet, of a number above all before. At an `Err` nothing is known of the lane.
+    pub fn packet(&mut self, alloc: Global, number: u64, frame: &Frame) -> Result<(), AllocError>
+        requires rising { self.old.next ≤ number }
+        requires bound { number < PACKETS }
+        ensures stands { OnOk result (Adds (arrival_of number frame.now) (start log.presets)
+            (F.content self.old.monitor.store) self.old.kept (F.content self.new.monitor.store) self.new.kept) }
+        ensures next { self.new.next ≡ number + 1 }
+    {
+        self.prepare(alloc, frame);
+        self.take(alloc, number, frame)
     }
 
     /// The records, and how many callbacks were made.

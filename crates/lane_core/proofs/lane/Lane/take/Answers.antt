@@ -8,7 +8,7 @@ use Rattle.lane_core.specs.Seen.{seen}
 use Rattle.lane_core.specs.Lane.{Adds}
 use Rattle.lane_core.proofs.Calling.{from_start}
 use Rattle.lane_core.proofs.Sights.{sight_tcp, sight_other}
-use Rattle.lane_core.proofs.lane.Lane.packet.Goals as goal
+use Rattle.lane_core.proofs.lane.Lane.take.Goals as goal
 
 pub returns-in-Tcp-clause-stands : goal.returns-in-Tcp-clause-stands
 returns-in-Tcp-clause-stands g c =
