@@ -1,5 +1,5 @@
 -- Runs that are kept whole, and their bytes.
-use Rattle.std.proofs.Common.{◌≡◌, ℕ, Option, List, [], ◌∷◌, length, map, All, refl, ap₂}
+use Rattle.std.proofs.Common.{◌≡◌, ℕ, Option, List, [], ◌∷◌, length, map, refl, ap₂}
 use Rattle.std.proofs.lemmas.List.Elements.{All-head, All-tail}
 use Rattle.reassembly.specs.Kept.{bytes_from, AreWhole}
 
