@@ -4,9 +4,9 @@ ghost use Rattle.std.specs.Prelude.{◌≡◌, ◌+◌, ◌-◌, ◌^◌, min, I
 ghost use Rattle.std.specs.Arc.{arc_value};
 ghost use Rattle.shared_forest.specs.Lists.{TreeLists};
 
+use crate::Tree;
 use crate::forest_store::ForestStore;
 use crate::store::{ForestView, Forests, Shared};
-use crate::Tree;
 use std::alloc::{AllocError, Global};
 use std::marker::Model;
 use std::sync::{Arc, Wait};
