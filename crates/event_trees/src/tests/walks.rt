@@ -49,14 +49,21 @@ fn paths_come_before_numbers(rt: HostRuntime) -> Result<(), Fail> {
     let mut defs = Defs::new(alloc);
     define(alloc, &mut defs, 1, PKT_IN, "true")?;
     define(alloc, &mut defs, 2, PKT_IN, "true")?;
-    let regs = [
+    let three = [
+        reg(20, PKT_IN, Hook::Snd),
+        reg(18, 1, Hook::Snd),
+        reg(19, 2, Hook::Snd),
+    ];
+    let numbers = called_of(alloc, &defs, &three, Hook::Snd, 0)?;
+    assert_eq!(rt; numbers.as_slice(), [20, 18, 19].as_slice());
+    let five = [
         reg(20, PKT_IN, Hook::Snd),
         reg(18, 1, Hook::Snd),
         reg(19, 1, Hook::Snd),
         reg(17, 2, Hook::Snd),
         reg(16, END, Hook::Snd),
     ];
-    let numbers = called_of(alloc, &defs, &regs, Hook::Snd, 0)?;
+    let numbers = called_of(alloc, &defs, &five, Hook::Snd, 0)?;
     assert_eq!(rt; numbers.as_slice(), [20, 18, 19, 17].as_slice());
     Ok(())
 }
