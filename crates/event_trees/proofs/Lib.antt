@@ -4,6 +4,7 @@ pub mod EditSteps
 pub mod Firing
 pub mod Growth
 pub mod InOrder
+pub mod Later
 pub mod Lists
 pub mod NodeSteps
 pub mod Order
@@ -13,6 +14,7 @@ pub mod ReadOffs
 pub mod Rises
 pub mod Rows
 pub mod Short
+pub mod SlotsInOrder
 pub mod Sorted
 pub mod Switches
 pub mod WalkLaw

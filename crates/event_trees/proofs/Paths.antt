@@ -89,13 +89,13 @@ not_event defs event low absent h =
     let e : is_event defs event ≡ false = ap (λ (b : Bool). b || is_some (found defs event)) (not_root event low) ∙ ap (λ (o : Option EventDef). is_some o) absent in
     cc
 
-is_event-push : (defs : List EventDef) (d : EventDef) (event : ℕ) → found defs d.number ≡ None → IsTrue (is_event defs event) → IsTrue (is_event (defs ++ d ∷ []) event)
+pub is_event-push : (defs : List EventDef) (d : EventDef) (event : ℕ) → found defs d.number ≡ None → IsTrue (is_event defs event) → IsTrue (is_event (defs ++ d ∷ []) event)
 is_event-push defs d event absent h =
     ⊎_elim (λ t. subst (λ (e : ℕ). IsTrue (is_event (defs ++ d ∷ []) e)) t.1 (subst (λ (o : Option EventDef). IsTrue (is_root d.number || is_some o)) (sym (found-push_same defs d absent)) (or_true (is_root d.number))))
     (λ t. subst (λ (o : Option EventDef). IsTrue (is_root event || is_some o)) (sym (found-push_other defs d event t.1)) h) (eqb_tells d.number event)
 
 -- an event that is there isn't the one that is added
-apart : (defs : List EventDef) (d : EventDef) (event : ℕ) → IsAddable defs d → IsTrue (is_event defs event) → d.number ≢ event
+pub apart : (defs : List EventDef) (d : EventDef) (event : ℕ) → IsAddable defs d → IsTrue (is_event defs event) → d.number ≢ event
 apart defs d event a h = λ e. not_event defs d.number a.high a.absent (subst (λ (n : ℕ). IsTrue (is_event defs n)) (sym e) h)
 
 found-is_event : (defs : List EventDef) (event : ℕ) → IsTrue (is_some (found defs event)) → IsTrue (is_event defs event)

@@ -13,7 +13,7 @@ use Rattle.std.specs.Ordering.{ordering_then, is_gt, nat_cmp}
 use Rattle.app_api.specs.declared.registration.Reg.{Reg}
 use Rattle.event_trees.specs.declared.defs.EventDef.{EventDef}
 use Rattle.event_trees.specs.Defs.{path}
-use Rattle.event_trees.specs.Private.{path_cmp, reg_cmp, numbers_of}
+use Rattle.event_trees.specs.Private.{path_cmp, reg_cmp, numbers_of, IsPrivate}
 use Rattle.event_trees.specs.Canon.{placed}
 use Rattle.event_trees.proofs.Rises.{IsUpTo, Rises}
 
@@ -56,3 +56,6 @@ few list numbers distinct =
     let h : AllByRecursion (λ r. (1 ≤ r.number) × (r.number ≤ 255)) list = recursion_from_All (λ (r : Reg). (1 ≤ r.number) × (r.number ≤ 255)) list numbers in
     let one : length (numbers_of list) ≡ length list = length-map list (λ (r : Reg). r.number) in
     omega (arith, length-le_from_distinct_below (0 ∷ numbers_of list) 256 (IsDistinct-cons eqb 0 (numbers_of list) (apart_from_0 list h) distinct) (with_0_low list h))
+
+pub private-few : (defs : List EventDef) (list : List Reg) → IsPrivate defs list → length list ≤ 255
+private-few defs list p = few list p.numbers p.distinct

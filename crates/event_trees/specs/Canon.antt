@@ -13,8 +13,12 @@ pub record Placed : Type 0 where
   pub path : List ℕ
   pub slot : Slot
 
+-- a registration as a tree keeps it
+abbrev pub slot_of : Reg → Slot
+slot_of r = record { number = r.number; hook = r.hook }
+
 abbrev pub placed_of : List EventDef → Reg → Placed
-placed_of defs r = record { path = path defs r.event; slot = record { number = r.number; hook = r.hook } }
+placed_of defs r = record { path = path defs r.event; slot = slot_of r }
 
 abbrev pub placed : List EventDef → List Reg → List Placed
 placed defs list = map (placed_of defs) list

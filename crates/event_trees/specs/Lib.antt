@@ -9,3 +9,4 @@ pub mod Fires
 pub mod Private
 pub mod Place
 pub mod Walk
+pub mod Later

@@ -1,6 +1,6 @@
 //! The user-defined events.
 
-ghost use Rattle.std.specs.Prelude.{◌≡◌, ◌≤◌, ◌++◌, [], ◌∷◌, ◌↔◌, length, slice_index, IsTrue, IsSome, IfSome, OnOk, OnErr, None, Some, ℕ, ◌==◌, if◌then◌else◌};
+ghost use Rattle.std.specs.Prelude.{◌≡◌, ◌≤◌, ◌++◌, [], ◌∷◌, ◌↔◌, length, slice_index, IsTrue, IsSome, IfSome, OnOk, OnErr, None, Some, List, ℕ, ◌==◌, if◌then◌else◌};
 ghost use Rattle.std.specs.Option.{option_copied};
 ghost use Rattle.event_trees.specs.Defs.{found, is_root, is_event, path, AreDefs};
 ghost use Rattle.event_trees.specs.Rows.{row_of};
@@ -60,6 +60,8 @@ impl Model for Defs {
 impl Defs {
     ghost use Rattle.event_trees.specs.declared.defs.EventDef.{EventDef};
     ghost use Rattle.event_trees.specs.EventPath.{path_of};
+    ghost use Rattle.app_api.specs.declared.registration.Reg.{Reg};
+    ghost use Rattle.event_trees.specs.Private.{IsPrivate};
 
     /// No user-defined events.
     pub fn new(alloc: Global) -> Defs
@@ -80,6 +82,10 @@ impl Defs {
         ensures ok { OnOk result (self.new ≡ self.old ++ d ∷ []) }
         ensures map { OnOk result ((event : ℕ) → found self.new event
             ≡ (if d.number == event then Some d else found self.old event)) }
+
+        // What was there stays: the paths of events, and private lists.
+        ensures paths { OnOk result ((event : ℕ) → IsTrue (is_event self.old event) → path self.new event ≡ path self.old event) }
+        ensures private { OnOk result ((list : List Reg) → IsPrivate self.old list → IsPrivate self.new list) }
         ensures err { OnErr result (self.new ≡ self.old) }
     {
         let path = self.path_of(d.parent).with(d.number);

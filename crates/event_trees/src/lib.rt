@@ -4,6 +4,7 @@
 mod defs;
 mod edits;
 mod forest;
+mod laws;
 mod nodes;
 mod path;
 mod place;
@@ -15,5 +16,6 @@ mod walk;
 
 pub use defs::{Defs, EventDef};
 pub use forest::{build, edit};
+pub use laws::{later_events_change_nothing, slots_in_order};
 pub use private::{is_private, switch};
 pub use walk::Walk;

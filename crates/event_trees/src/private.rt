@@ -19,7 +19,8 @@ use std::alloc::AllocError;
 /// Whether a list may be the registrations that are on for a connection: numbers from 1 on, each once, of events
 /// that are there, in the order in which they are called.
 pub fn is_private(defs: &Defs, active: &ActiveList) -> bool
-    ensures { IsTrue result ↔ IsPrivate defs.now active.now }
+    ensures is { IsTrue result ↔ IsPrivate defs.now active.now }
+    ensures few { IsTrue result → length active.now ≤ 255 }
 {
     let list = active.as_slice();
     have_numbers(list) && have_events(defs, list) && are_distinct(list) && rise(defs, list)
@@ -35,6 +36,7 @@ pub fn switch(defs: &Defs, active: &mut ActiveList, reg: &Reg, on: bool) -> Resu
     ensures ok { OnOk result (active.new ≡ edited defs.now active.old reg.now on) }
     ensures off { on ≡ false → IsOk result }
     ensures private { IsPrivate defs.now active.new }
+    ensures few { length active.new ≤ 255 }
     ensures err { OnErr result (active.new ≡ active.old) }
 {
     let number = reg.number;

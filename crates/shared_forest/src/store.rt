@@ -37,6 +37,9 @@ pub trait ForestView {
     /// Whether the store answered this Shared.
     ghost answered: { Self → Shared → Type 0 };
 
+    /// It can't hold in two ways, so a ghost field may keep it.
+    ghost answered_once: { (f : Self) (s : Shared) → IsProp (answered f s) };
+
     /// The tree of a Shared that the store answered.
     ghost content: { Self → Shared → TreeLists };
 

@@ -55,9 +55,11 @@ impl Table {
 }
 
 impl ForestView for Table {
-    ghost use Rattle.shared_forest.specs.Rows.{HasRow, tree_at};
+    ghost use Rattle.shared_forest.specs.Rows.{HasRow, HasRow-once, tree_at};
 
     ghost answered = { HasRow };
+
+    ghost answered_once = { HasRow-once };
 
     ghost content = { tree_at };
 

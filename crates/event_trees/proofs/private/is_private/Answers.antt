@@ -7,6 +7,7 @@ use Rattle.app_api.specs.declared.registration.Reg.{Reg}
 use Rattle.event_trees.specs.declared.defs.EventDef.{EventDef}
 use Rattle.event_trees.specs.Defs.{is_event}
 use Rattle.event_trees.specs.Private.{reg_cmp, numbers_of, IsPrivate}
+use Rattle.event_trees.proofs.Sorted.{private-few}
 use Rattle.event_trees.proofs.private.is_private.Goals.{then-have_numbers, else-have_numbers, then-have_events, else-have_events}
 use Rattle.event_trees.proofs.private.is_private.Goals as goal
 
@@ -16,11 +17,14 @@ whole defs list active last same numbers events distinct sorted = (
   λ p. sorted.1 (subst (IsStrictlySortedBy (reg_cmp defs)) (sym same) p.sorted),
 )
 
-pub returns-then-are_distinct : goal.returns-then-are_distinct
-returns-then-are_distinct c = elim c.if-have_events.branch [
+pub returns-then-are_distinct-clause-is : goal.returns-then-are_distinct-clause-is
+returns-then-are_distinct-clause-is c = elim c.if-have_events.branch [
   | then-have_events v ↦ elim c.if-have_numbers.branch [
     | then-have_numbers w ↦ whole c.args.defs.now c.as_slice-list.result.now c.args.active.now c.rise.result c.as_slice-list.ensures (c.have_numbers.ensures.0 w.if-have_numbers.true) (w.have_events.ensures.0 (sym w.value-is ∙ v.if-have_events.true)) (v.are_distinct.ensures.0 (sym v.value-is ∙ c.if-are_distinct.true)) c.rise.ensures
     | else-have_numbers w ↦ absurd (false≢true (sym w.if-have_numbers.false ∙ (sym w.value-is ∙ v.if-have_events.true)))
   ]
   | else-have_events v ↦ absurd (false≢true (sym v.if-have_events.false ∙ (sym v.value-is ∙ c.if-are_distinct.true)))
 ]
+
+pub returns-then-are_distinct-clause-few : goal.returns-then-are_distinct-clause-few
+returns-then-are_distinct-clause-few c = λ e. private-few c.args.defs.now c.args.active.now ((returns-then-are_distinct-clause-is c).0 e)

@@ -1,0 +1,46 @@
+//! What a caller may rest on: laws of private lists, their trees and definitions. These functions do nothing.
+
+ghost use Rattle.std.specs.Prelude.{◌≡◌, ◌≤◌, length, map, IsTrue, Bool, List, ℕ};
+ghost use Rattle.native_filters.specs.declared.facts.Facts.{Facts};
+ghost use Rattle.native_filters.specs.declared.facts.Hook.{Hook};
+ghost use Rattle.app_api.specs.declared.registration.Reg.{Reg};
+ghost use Rattle.shared_forest.specs.Listing.{listing};
+ghost use Rattle.event_trees.specs.declared.defs.EventDef.{EventDef};
+ghost use Rattle.event_trees.specs.Defs.{is_event, path, AreDefs};
+ghost use Rattle.event_trees.specs.Private.{IsPrivate, edited};
+ghost use Rattle.event_trees.specs.Canon.{slot_of, canon};
+ghost use Rattle.event_trees.specs.Fires.{fires};
+ghost use Rattle.event_trees.specs.Edit.{IsForestOf};
+ghost use Rattle.event_trees.specs.Later.{IsEarlier};
+
+use crate::defs::Defs;
+use shared_forest::Tree;
+
+/// The registrations of the tree of a private list are those of the list, in its order, and at most 255.
+pub fn slots_in_order(tree: &Tree)
+    ensures slots { (defs : List EventDef) (list : List Reg) → IsForestOf defs list (listing tree.now)
+        → tree.now.slots ≡ map slot_of list }
+    ensures few { (defs : List EventDef) (list : List Reg) → IsForestOf defs list (listing tree.now)
+        → length tree.now.slots ≤ 255 }
+{
+    let _nodes = tree.nodes();
+}
+
+/// For registrations of events that were there before, events that were added later change nothing.
+pub fn later_events_change_nothing(defs: &Defs)
+    ensures defs { (earlier : List EventDef) → IsEarlier earlier defs.now → AreDefs earlier }
+    ensures events { (earlier : List EventDef) (event : ℕ) → IsEarlier earlier defs.now → IsTrue (is_event earlier event)
+        → IsTrue (is_event defs.now event) }
+    ensures paths { (earlier : List EventDef) (event : ℕ) → IsEarlier earlier defs.now → IsTrue (is_event earlier event)
+        → path defs.now event ≡ path earlier event }
+    ensures private { (earlier : List EventDef) (list : List Reg) → IsEarlier earlier defs.now → IsPrivate earlier list
+        → IsPrivate defs.now list }
+    ensures listing { (earlier : List EventDef) (list : List Reg) → IsEarlier earlier defs.now → IsPrivate earlier list
+        → canon defs.now list ≡ canon earlier list }
+    ensures fires { (earlier : List EventDef) (list : List Reg) → IsEarlier earlier defs.now → IsPrivate earlier list
+        → (facts : Facts) (hook : Hook) (event : ℕ) → fires defs.now facts hook event list ≡ fires earlier facts hook event list }
+    ensures edited { (earlier : List EventDef) (list : List Reg) → IsEarlier earlier defs.now → IsPrivate earlier list
+        → (r : Reg) (on : Bool) → IsTrue (is_event earlier r.event) → edited defs.now list r on ≡ edited earlier list r on }
+{
+    defs.paths();
+}
