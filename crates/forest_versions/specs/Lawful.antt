@@ -1,5 +1,5 @@
 -- Which commands may be given, and why another may not.
-use Rattle.std.specs.Prelude.{ℕ, ◌&&◌, not, Bool, true, if◌then◌else◌, nat_le, nat_lt, is_some, is_none, Option, Some, None, List, [], ◌∷◌, length, slice_index}
+use Rattle.std.specs.Prelude.{◌≡◌, ℕ, ◌≤◌, IsTrue, false, ◌&&◌, not, Bool, true, if◌then◌else◌, nat_le, nat_lt, is_some, is_none, Option, Some, None, List, [], ◌∷◌, length, slice_index}
 use Rattle.std.specs.List.{list_all}
 use Rattle.app_api.specs.declared.registration.Reg.{Reg}
 use Rattle.app_api.specs.declared.rule.Rule.{Rule}
@@ -47,35 +47,42 @@ is_within (RemoveRule number) = may_be_number number
 abbrev pub root : List EventDef → ℕ → ℕ
 root defs event = slice_index (path defs event) 0
 
--- whether a registration's hook is one of its root's, and its action may stand at that hook
-abbrev pub hook_fits : List EventDef → Reg → Bool
-hook_fits defs r = allows_hook (root defs r.event) r.hook && not (is_rcv r.hook && r.action.drop)
+-- whether a registration may stand under a built-in event: the event is raised at its hook, and only a hook at the sender drops
+abbrev pub hook_may_be : ℕ → Reg → Bool
+hook_may_be event r = allows_hook event r.hook && not (is_rcv r.hook && r.action.drop)
 
 -- why an event can't be defined
-abbrev pub event_refusal : ControlState → EventDef → Option Refusal
-event_refusal s d =
-    if is_some (found s.defs d.number) then Some Duplicate else
-    if not (is_event s.defs d.parent) then Some NoSuchNumber else
-    if nat_lt 7 (length (path s.defs d.parent)) then Some TooDeep else
+abbrev pub event_refusal : List EventDef → EventDef → Option Refusal
+event_refusal defs d =
+    if is_some (found defs d.number) then Some Duplicate else
+    if not (is_event defs d.parent) then Some NoSuchNumber else
+    if nat_lt 7 (length (path defs d.parent)) then Some TooDeep else
     None
 
 -- why a registration can't be made
-abbrev pub reg_refusal : ControlState → Reg → Option Refusal
-reg_refusal s r =
-    if is_some (reg_of s.regs r.number) then Some Duplicate else
-    if not (is_event s.defs r.event) then Some NoSuchNumber else
-    if not (hook_fits s.defs r) then Some WrongHook else
+abbrev pub reg_refusal : List EventDef → List Reg → Reg → Option Refusal
+reg_refusal defs regs r =
+    if is_some (reg_of regs r.number) then Some Duplicate else
+    if not (is_event defs r.event) then Some NoSuchNumber else
+    if not (hook_may_be (root defs r.event) r) then Some WrongHook else
     None
+
+-- why a number can't be taken, and why it can't be removed
+abbrev pub taken : Bool → Option Refusal
+taken there = if there then Some Duplicate else None
+
+abbrev pub missing : Bool → Option Refusal
+missing there = if there then None else Some NoSuchNumber
 
 -- why a command can't be given in a state: the first reason that holds
 unfoldable pub refusal : ControlState → Command → Option Refusal
-refusal s (Event d) = event_refusal s d
-refusal s (Register r) = reg_refusal s r
-refusal s (Unregister number) = if is_some (reg_of s.regs number) then None else Some NoSuchNumber
+refusal s (Event d) = event_refusal s.defs d
+refusal s (Register r) = reg_refusal s.defs s.regs r
+refusal s (Unregister number) = missing (is_some (reg_of s.regs number))
 refusal s (Buffer bytes) = None
 refusal s (Overlap policy) = None
-refusal s (AddRule r) = if is_some (rule_of s.rules r.number) then Some Duplicate else None
-refusal s (RemoveRule number) = if is_some (rule_of s.rules number) then None else Some NoSuchNumber
+refusal s (AddRule r) = taken (is_some (rule_of s.rules r.number))
+refusal s (RemoveRule number) = missing (is_some (rule_of s.rules number))
 
 -- whether a command may be given in a state
 unfoldable pub is_lawful : ControlState → Command → Bool
@@ -85,3 +92,21 @@ is_lawful s c = is_within c && is_none (refusal s c)
 abbrev pub are_lawful : ControlState → List Command → Bool
 are_lawful s [] = true
 are_lawful s (c ∷ commands) = is_lawful s c && are_lawful (after s c) commands
+
+-- a registration that may be added, and needs its hook no more
+pub record IsRegistrable (s : ControlState) (r : Reg) : Type 0 where
+  pub low : 1 ≤ r.number
+  pub high : r.number ≤ 255
+  pub absent : reg_of s.regs r.number ≡ None
+  pub event : IsTrue (is_event s.defs r.event)
+  pub peek : IsTrue (peek_fits r.peek)
+
+-- whether a command leaves events and registrations as they are
+abbrev pub is_setting : Command → Bool
+is_setting (Event d) = false
+is_setting (Register r) = false
+is_setting (Unregister number) = false
+is_setting (Buffer bytes) = true
+is_setting (Overlap policy) = true
+is_setting (AddRule r) = true
+is_setting (RemoveRule number) = true

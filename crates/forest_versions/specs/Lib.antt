@@ -1,3 +1,9 @@
 pub mod Rules
 pub mod State
 pub mod Lawful
+pub mod Sound
+pub mod StateCode
+pub mod Timeline
+pub mod Past
+pub mod Master
+pub mod MasterCode

@@ -1,0 +1,10 @@
+pub mod Timelines
+pub mod Regs
+pub mod RuleLists
+pub mod Presets
+pub mod LawfulFacts
+pub mod Pasts
+pub mod Masters
+pub mod Results
+pub mod Forests
+pub mod Finds
