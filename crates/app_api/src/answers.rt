@@ -34,7 +34,7 @@ pub fn fields_of<A: App>(alloc: Global, app: &A, t: &Tally) -> Result<FieldList,
     Ok(FieldList { items })
 }
 
-/// The bytes of a text.
+// The bytes of a text.
 fn bytes_of(alloc: Global, text: &str) -> Result<Bytes, AllocError>
     ensures { IfOk result (λ bytes. bytes ≡ text.now) }
 {

@@ -45,7 +45,7 @@ fn changes_stand_in_order(rt: HostRuntime) {
     assert_eq!(rt; changes.as_slice(), rows.as_slice());
 }
 
-/// The fields of a registration without a peek and without changes.
+// The fields of a registration without a peek and without changes.
 fn told(reg: &Reg) -> (u8, u16, Hook, bool, bool) {
     (reg.number, reg.event, reg.hook, reg.on, reg.action.drop)
 }

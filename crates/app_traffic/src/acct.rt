@@ -68,14 +68,14 @@ impl App for AcctApp {
     }
 }
 
-/// Whether a call tells of a new state of the client: as the sender of a packet, or as its receiver.
+// Whether a call tells of a new state of the client: as the sender of a packet, or as its receiver.
 fn is_client_step(call: &Call) -> bool
     ensures { result ≡ is_client_step call.now }
 {
     is_snd_call_of(call, 3, 0) || is_rcv_call_of(call, 4, 1)
 }
 
-/// Whether a call tells of a new state of the server.
+// Whether a call tells of a new state of the server.
 fn is_server_step(call: &Call) -> bool
     ensures { result ≡ is_server_step call.now }
 {

@@ -54,7 +54,7 @@ impl App for RexmitApp {
     }
 }
 
-/// A reaction that asks to switch a registration on.
+// A reaction that asks to switch a registration on.
 fn switches_on(number: u8) -> Reaction
     ensures { result ≡ switches_on number }
 {

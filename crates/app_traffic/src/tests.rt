@@ -3,7 +3,7 @@ use app_api::{App, Call, Tally, fields_of, presets_of};
 use native_filters::{Facts, Hook};
 use std::test::Fail;
 
-/// The call of a preset with these facts.
+// The call of a preset with these facts.
 fn call(reg: u8, hook: Hook, event: u16, facts: Facts) -> Call {
     Call {
         reg,

@@ -54,7 +54,7 @@ pub(crate) fn orphan_facts(class: Class, h: Option<&Head>) -> Facts
     }
 }
 
-/// What the headers tell of an orphan of class tcp; of another they tell nothing.
+// What the headers tell of an orphan of class tcp; of another they tell nothing.
 fn known_facts(class: Class, h: Option<&Head>) -> Facts
     ensures { result ≡ known_facts class (option_copied h.entry) }
 {
@@ -64,7 +64,7 @@ fn known_facts(class: Class, h: Option<&Head>) -> Facts
     }
 }
 
-/// What the headers tell; all else is 0.
+// What the headers tell; all else is 0.
 #[tactic(auto, unfolding(crate::specs::Facts::head_facts))]
 fn head_facts(h: &Head) -> Facts
     ensures { result ≡ head_facts h.now }
@@ -84,7 +84,7 @@ fn head_facts(h: &Head) -> Facts
     }
 }
 
-/// A count of payload bytes, of which a segment with RST has none that is read.
+// A count of payload bytes, of which a segment with RST has none that is read.
 fn read_bytes(h: &Head, count: u32) -> u64
     ensures { result ≡ read_bytes h.now count }
 {

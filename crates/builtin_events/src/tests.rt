@@ -25,7 +25,7 @@ const QUIET: Got = Got {
     over: false,
 };
 
-/// A packet of the handshake's client, port 1000 to port 80.
+// A packet of the handshake's client, port 1000 to port 80.
 fn head(seq: u32, flags: u8, len: u32) -> Head {
     Head {
         src: 0x0a00_0001,
@@ -84,7 +84,7 @@ fn changed(old: State, new: State) -> Got {
     }
 }
 
-/// Four bytes are new, of which some let `next` rise, or lie past the window.
+// Four bytes are new, of which some let `next` rise, or lie past the window.
 fn accepted(rose: bool, over: u32, fault: u8) -> Got {
     let placed = Placed {
         new: 4,

@@ -37,7 +37,7 @@ impl<A: App> Terms<'_, A> {
     }
 }
 
-/// What the action of a script's registration asks.
+// What the action of a script's registration asks.
 fn asked_by(reg: &Reg) -> Reaction
     ensures { result ≡ asked_by reg.now }
 {

@@ -144,7 +144,7 @@ impl Defs {
         (FIRST_ROOT..=LAST_ROOT).contains(&event) || self.find(event).is_some()
     }
 
-    /// How many events there are, before one more is added.
+    // How many events there are, before one more is added.
     fn count(&self) -> u8
         ensures { result ≡ length self.now }
     {
@@ -166,7 +166,7 @@ impl Defs {
     }
 }
 
-/// The row of an event.
+// The row of an event.
 fn find_row<'a>(rows: &'a [Row], places: &[Option<u8>], number: u16) -> Option<&'a Row>
     requires rows { AreRows rows.now }
     requires places { ArePlaces rows.now places.now }

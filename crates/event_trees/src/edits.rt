@@ -25,7 +25,7 @@ pub(crate) fn is_before(a: &PlacedReg, b: &PlacedReg) -> bool
     }
 }
 
-/// Where a registration belongs.
+// Where a registration belongs.
 fn place_for(regs: &[PlacedReg], reg: &PlacedReg) -> usize
     ensures within { result ≤ length regs.now }
     ensures place { put_placed (seen reg.now) (all_seen regs.now)
@@ -39,7 +39,7 @@ fn place_for(regs: &[PlacedReg], reg: &PlacedReg) -> usize
     regs.len()
 }
 
-/// Puts a registration in at its place.
+// Puts a registration in at its place.
 fn put(regs: &mut Vec<PlacedReg>, reg: PlacedReg) -> Result<(), AllocError>
     ensures { OnOk result (all_seen regs.new.items ≡ put_placed (seen reg) (all_seen regs.old.items)) }
 {
@@ -48,7 +48,7 @@ fn put(regs: &mut Vec<PlacedReg>, reg: PlacedReg) -> Result<(), AllocError>
     Ok(())
 }
 
-/// The registrations but for that with a number.
+// The registrations but for that with a number.
 fn without(alloc: Global, regs: &[PlacedReg], number: u8) -> Result<Vec<PlacedReg>, AllocError>
     ensures { IfOk result (λ kept. all_seen kept.items ≡ without_placed number (all_seen regs.now)) }
 {
@@ -61,7 +61,7 @@ fn without(alloc: Global, regs: &[PlacedReg], number: u8) -> Result<Vec<PlacedRe
     Ok(kept)
 }
 
-/// Adds the registrations of one node.
+// Adds the registrations of one node.
 fn push_slots(regs: &mut Vec<PlacedReg>, path: EventPath, slots: &[Slot]) -> Result<(), AllocError>
     ensures { OnOk result (all_seen regs.new.items ≡ all_seen regs.old.items ++ all_at (path_of path) slots.now) }
 {
@@ -71,7 +71,7 @@ fn push_slots(regs: &mut Vec<PlacedReg>, path: EventPath, slots: &[Slot]) -> Res
     Ok(())
 }
 
-/// Adds the registrations of one node.
+// Adds the registrations of one node.
 fn push_node(
     regs: &mut Vec<PlacedReg>,
     path: EventPath,
@@ -85,7 +85,7 @@ fn push_node(
     push_slots(regs, path, &slots[first..first + node.count as usize])
 }
 
-/// The path of a node that stands after a node with this path.
+// The path of a node that stands after a node with this path.
 fn after(path: &EventPath, node: &Node) -> EventPath
     requires low { 1 ≤ node.now.depth }
     requires near { node.now.depth ≤ length (path_of path.now) + 1 }

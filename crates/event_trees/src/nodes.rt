@@ -13,7 +13,7 @@ use crate::placed::PlacedReg;
 use shared_forest::{Node, Slot, Tree};
 use std::alloc::{AllocError, Global};
 
-/// How many events two paths have in common at their beginnings.
+// How many events two paths have in common at their beginnings.
 fn common_len(last: &[u16], path: &[u16]) -> usize
     ensures common { result ≡ common last.now path.now }
     ensures last { result ≤ length last.now }
@@ -28,7 +28,7 @@ fn common_len(last: &[u16], path: &[u16]) -> usize
     shorter
 }
 
-/// Adds the nodes of a path that the path of the last node doesn't have.
+// Adds the nodes of a path that the path of the last node doesn't have.
 fn push_nodes(
     nodes: &mut Vec<Node>,
     last: &[u16],
@@ -50,7 +50,7 @@ fn push_nodes(
     Ok(())
 }
 
-/// Gives the last node one registration more.
+// Gives the last node one registration more.
 fn count_last(nodes: &mut [Node])
     requires some { 0 < length nodes.old }
     requires room { (slice_index_or nodes.old (length nodes.old - 1) (record { event = 0; depth = 0; below = 0; first = 0; count = 0 })).count < 255 }
@@ -60,7 +60,7 @@ fn count_last(nodes: &mut [Node])
     nodes[last].count += 1;
 }
 
-/// How many nodes at the front are deeper.
+// How many nodes at the front are deeper.
 fn count_under(depth: u8, nodes: &[Node]) -> u32
     requires { length nodes.now < 2 ^ 32 }
     ensures { result ≡ under depth nodes.now }
@@ -75,7 +75,7 @@ fn count_under(depth: u8, nodes: &[Node]) -> u32
     count
 }
 
-/// Counts the nodes under each node.
+// Counts the nodes under each node.
 fn count_below(nodes: &mut [Node])
     requires { length nodes.old < 2 ^ 32 }
     ensures { nodes.new ≡ counted nodes.old }
@@ -85,7 +85,7 @@ fn count_below(nodes: &mut [Node])
     }
 }
 
-/// The nodes of registrations in the order of their paths, and then of their numbers.
+// The nodes of registrations in the order of their paths, and then of their numbers.
 fn nodes_of(alloc: Global, regs: &[PlacedReg]) -> Result<Vec<Node>, AllocError>
     requires order { IsStrictlySortedBy placed_cmp (all_seen regs.now) }
     requires few { length regs.now ≤ 255 }
@@ -111,7 +111,7 @@ fn nodes_of(alloc: Global, regs: &[PlacedReg]) -> Result<Vec<Node>, AllocError>
     Ok(nodes)
 }
 
-/// The registrations alone.
+// The registrations alone.
 fn slots_of(alloc: Global, regs: &[PlacedReg]) -> Result<Vec<Slot>, AllocError>
     ensures { IfOk result (λ slots. slots.items ≡ seen_slots regs.now) }
 {

@@ -49,7 +49,7 @@ pub fn switch(defs: &Defs, active: &mut ActiveList, reg: &Reg, on: bool) -> Resu
     Ok(())
 }
 
-/// Whether each number is from 1 to 255.
+// Whether each number is from 1 to 255.
 fn have_numbers(list: &[Reg]) -> bool
     ensures { IsTrue result ↔ All (λ r. (1 ≤ r.number) × (r.number ≤ 255)) list.now }
 {
@@ -61,7 +61,7 @@ fn have_numbers(list: &[Reg]) -> bool
     true
 }
 
-/// Whether each event is there.
+// Whether each event is there.
 fn have_events(defs: &Defs, list: &[Reg]) -> bool
     ensures { IsTrue result ↔ All (λ r. IsTrue (is_event defs.now r.event)) list.now }
 {
@@ -85,7 +85,7 @@ pub(crate) fn has_number(list: &[Reg], number: u8) -> bool
     false
 }
 
-/// Whether no two have one number.
+// Whether no two have one number.
 fn are_distinct(list: &[Reg]) -> bool
     ensures { IsTrue result ↔ IsDistinct eqb (numbers_of list.now) }
 {
@@ -97,7 +97,7 @@ fn are_distinct(list: &[Reg]) -> bool
     true
 }
 
-/// Whether each comes before the next.
+// Whether each comes before the next.
 fn rise(defs: &Defs, list: &[Reg]) -> bool
     requires { All (λ r. IsTrue (is_event defs.now r.event)) list.now }
     ensures { IsTrue result ↔ IsStrictlySortedBy (reg_cmp defs.now) list.now }
@@ -110,7 +110,7 @@ fn rise(defs: &Defs, list: &[Reg]) -> bool
     true
 }
 
-/// Whether a registration with its path comes before another: by path, and then by number.
+// Whether a registration with its path comes before another: by path, and then by number.
 fn comes_before(defs: &Defs, a: &PlacedReg, b: &Reg) -> bool
     requires { IsTrue (is_event defs.now b.now.event) }
     ensures { result ≡ is_lt (placed_cmp (seen a.now) (placed_of defs.now b.now)) }
@@ -118,7 +118,7 @@ fn comes_before(defs: &Defs, a: &PlacedReg, b: &Reg) -> bool
     is_before(a, &place(defs, b))
 }
 
-/// Where a registration belongs in a private list.
+// Where a registration belongs in a private list.
 fn place_in(defs: &Defs, list: &[Reg], reg: &Reg) -> usize
     requires list { All (λ r. IsTrue (is_event defs.now r.event)) list.now }
     requires event { IsTrue (is_event defs.now reg.now.event) }

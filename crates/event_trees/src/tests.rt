@@ -21,7 +21,7 @@ const PKT_IN: u16 = 257;
 
 const END: u16 = 262;
 
-/// Adds an event.
+// Adds an event.
 fn define(
     alloc: Global,
     defs: &mut Defs,
@@ -42,7 +42,7 @@ fn define(
     Ok(())
 }
 
-/// Events 1 to 7, the first under pkt_in and each other under the one before.
+// Events 1 to 7, the first under pkt_in and each other under the one before.
 fn chain(alloc: Global, first: &str) -> Result<Defs, Fail> {
     let mut defs = Defs::new(alloc);
     define(alloc, &mut defs, 1, PKT_IN, first)?;
@@ -52,7 +52,7 @@ fn chain(alloc: Global, first: &str) -> Result<Defs, Fail> {
     Ok(defs)
 }
 
-/// A registration that does nothing.
+// A registration that does nothing.
 fn reg(number: u8, event: u16, hook: Hook) -> Reg {
     Reg {
         number,
@@ -67,7 +67,7 @@ fn reg(number: u8, event: u16, hook: Hook) -> Reg {
     }
 }
 
-/// A list of these registrations.
+// A list of these registrations.
 fn list_of(alloc: Global, regs: &[Reg]) -> Result<ActiveList, AllocError>
     ensures { IfOk result (λ list. list ≡ regs.now) }
 {
@@ -76,7 +76,7 @@ fn list_of(alloc: Global, regs: &[Reg]) -> Result<ActiveList, AllocError>
     Ok(ActiveList { items })
 }
 
-/// What a walk gives.
+// What a walk gives.
 fn called(
     alloc: Global,
     defs: &Defs,
@@ -97,7 +97,7 @@ fn called(
     Ok(called)
 }
 
-/// Facts of a packet of this length.
+// Facts of a packet of this length.
 fn facts_of(len: u64) -> Facts {
     let mut facts = Facts::none();
     facts.len = len;
@@ -120,7 +120,7 @@ fn every_number_is_found(rt: HostRuntime) -> Result<(), Fail> {
     Ok(())
 }
 
-/// Asks that a type may be shared by threads, and handed from one to another.
+// Asks that a type may be shared by threads, and handed from one to another.
 fn shared<T: Send + Sync>(value: T) -> T {
     value
 }

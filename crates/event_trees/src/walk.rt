@@ -25,7 +25,7 @@ struct Question<'a> {
 }
 
 impl Question<'_> {
-    /// Whether the raise passes a node with this event.
+    // Whether the raise passes a node with this event.
     fn keeps(&self, event: u16) -> bool
         ensures { result ≡ keeps self.now.defs.now self.now.facts.now self.now.root event }
     {
@@ -35,7 +35,7 @@ impl Question<'_> {
         }
     }
 
-    /// The next node that passes, and the place after it. What stands under a node that doesn't pass is left out.
+    // The next node that passes, and the place after it. What stands under a node that doesn't pass is left out.
     fn next_kept(&self, nodes: &[Node], from: usize) -> Option<(Node, usize)>
         ensures some { IfSome result (λ r. (hook : HookOf) (slots : List SlotOf) →
             walked (keeps self.now.defs.now self.now.facts.now self.now.root) hook 0 (drop from nodes.now) slots
@@ -57,7 +57,7 @@ impl Question<'_> {
     }
 }
 
-/// The next registration that fires from a place on, and the place after it.
+// The next registration that fires from a place on, and the place after it.
 fn next_called_in(tree: &Tree, hook: Hook, question: &Question, from: Place) -> Option<(u8, Place)>
     requires { from.end ≤ length tree.now.slots }
     ensures some { IfSome result (λ r.

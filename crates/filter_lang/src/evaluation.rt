@@ -18,7 +18,7 @@ pub fn eval(e: &Expr, facts: &Facts, natives: &NativeBook) -> bool
     truth(e.term(), facts, natives)
 }
 
-/// Whether a term is true of the facts.
+// Whether a term is true of the facts.
 #[cycle(truth)]
 fn truth<N: Natives>(term: &Term, facts: &Facts, natives: &N) -> bool
     requires { IsWithin (shape term.now) }
@@ -35,7 +35,7 @@ fn truth<N: Natives>(term: &Term, facts: &Facts, natives: &N) -> bool
     }
 }
 
-/// Whether all terms are true of the facts.
+// Whether all terms are true of the facts.
 #[cycle(truth)]
 fn all_true<N: Natives>(terms: &[Term], facts: &Facts, natives: &N) -> bool
     requires { AreWithin (shapes terms.now) }
@@ -49,7 +49,7 @@ fn all_true<N: Natives>(terms: &[Term], facts: &Facts, natives: &N) -> bool
     true
 }
 
-/// Whether one or more terms are true of the facts.
+// Whether one or more terms are true of the facts.
 #[cycle(truth)]
 fn any_true<N: Natives>(terms: &[Term], facts: &Facts, natives: &N) -> bool
     requires { AreWithin (shapes terms.now) }
@@ -63,7 +63,7 @@ fn any_true<N: Natives>(terms: &[Term], facts: &Facts, natives: &N) -> bool
     false
 }
 
-/// The number that a sum makes, from the left.
+// The number that a sum makes, from the left.
 fn value(sum: &Sum, facts: &Facts) -> u64
     requires { SumIsWithin sum.now }
     ensures { result ≡ sum_value facts.now sum.now }
@@ -75,7 +75,7 @@ fn value(sum: &Sum, facts: &Facts) -> u64
     value
 }
 
-/// The number that an atom names.
+// The number that an atom names.
 fn atom(atom: &Atom, facts: &Facts) -> u64
     requires { AtomIsWithin atom.now }
     ensures { result ≡ atom_value facts.now atom.now }
@@ -86,7 +86,7 @@ fn atom(atom: &Atom, facts: &Facts) -> u64
     }
 }
 
-/// A number joined to what stands left of it.
+// A number joined to what stands left of it.
 fn join(left: u64, join: Join, right: u64) -> u64
     ensures { result ≡ joined_value left join right }
 {
@@ -97,7 +97,7 @@ fn join(left: u64, join: Join, right: u64) -> u64
     }
 }
 
-/// Whether two numbers compare so.
+// Whether two numbers compare so.
 fn compare(left: u64, op: Op, right: u64) -> bool
     ensures { result ≡ compared left op right }
 {

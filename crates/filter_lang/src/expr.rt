@@ -55,7 +55,7 @@ impl Expr {
     }
 }
 
-/// The same term once more.
+// The same term once more.
 #[cycle(copied)]
 fn copy_term(alloc: Global, term: &Term) -> Result<Term, AllocError>
     ensures { IfOk result (λ t. shape t ≡ shape term.now) }
@@ -84,7 +84,7 @@ fn copy_term(alloc: Global, term: &Term) -> Result<Term, AllocError>
     }
 }
 
-/// The same terms once more.
+// The same terms once more.
 #[cycle(copied)]
 fn copy_terms(alloc: Global, terms: &[Term]) -> Result<Vec<Term>, AllocError>
     ensures { IfOk result (λ ts. shapes ts.items ≡ shapes terms.now) }
@@ -97,7 +97,7 @@ fn copy_terms(alloc: Global, terms: &[Term]) -> Result<Vec<Term>, AllocError>
     Ok(copies)
 }
 
-/// The same sum once more.
+// The same sum once more.
 fn copy_sum(alloc: Global, sum: &Sum) -> Result<Sum, AllocError>
     ensures { IfOk result (λ s. s ≡ sum.now) }
 {

@@ -23,7 +23,7 @@ pub struct Lexeme {
 impl Lexeme {
     ghost use Rattle.filter_lang.specs.Tokens.{lexeme};
 
-    /// A token of so many bytes.
+    // A token of so many bytes.
     fn new(token: Token, len: usize) -> Lexeme
         ensures { result ≡ lexeme token len }
     {
@@ -59,28 +59,28 @@ pub(crate) fn blanks(bytes: &[u8]) -> usize
         .count()
 }
 
-/// How many decimal digits the text begins with.
+// How many decimal digits the text begins with.
 fn digits(bytes: &[u8]) -> usize
     ensures { result ≡ prefix_len is_ascii_digit bytes.now }
 {
     bytes.iter().take_while(|b| b.is_ascii_digit()).count()
 }
 
-/// How many hexadecimal digits the text begins with.
+// How many hexadecimal digits the text begins with.
 fn hex_digits(bytes: &[u8]) -> usize
     ensures { result ≡ prefix_len is_ascii_hexdigit bytes.now }
 {
     bytes.iter().take_while(|b| b.is_ascii_hexdigit()).count()
 }
 
-/// How many lower-case letters the text begins with.
+// How many lower-case letters the text begins with.
 fn letters(bytes: &[u8]) -> usize
     ensures { result ≡ prefix_len is_ascii_lowercase bytes.now }
 {
     bytes.iter().take_while(|b| b.is_ascii_lowercase()).count()
 }
 
-/// The name at the front of the text.
+// The name at the front of the text.
 fn name_at(bytes: &[u8]) -> Lexeme
     requires { 0 < prefix_len is_ascii_lowercase bytes.now }
     ensures value { result ≡ name_at bytes.now }
@@ -91,7 +91,7 @@ fn name_at(bytes: &[u8]) -> Lexeme
     Lexeme::new(word_token(&bytes[..len]), len)
 }
 
-/// The token that a name is.
+// The token that a name is.
 fn word_token(name: &[u8]) -> Token
     ensures { result ≡ word_token name.now }
 {
@@ -110,7 +110,7 @@ fn word_token(name: &[u8]) -> Token
     fact_token(name)
 }
 
-/// Whether the name is this word.
+// Whether the name is this word.
 fn is(name: &[u8], word: &str) -> bool
     ensures { result ≡ bytes_eq name.now word.now }
 {
@@ -123,7 +123,7 @@ pub(crate) const FACTS: [&str; 20] = [
     "old", "new", "fresh", "rexlen", "rexdiff", "fault", "next", "class",
 ];
 
-/// The token of a name that is no word of the grammar.
+// The token of a name that is no word of the grammar.
 fn fact_token(name: &[u8]) -> Token
     ensures { result ≡ fact_token 0 fact_names name.now }
 {
@@ -135,7 +135,7 @@ fn fact_token(name: &[u8]) -> Token
     Token::UnknownWord
 }
 
-/// The number, or the dotted address, at the front of the text.
+// The number, or the dotted address, at the front of the text.
 fn number_at(bytes: &[u8]) -> Lexeme
     requires { 0 < prefix_len is_ascii_digit bytes.now }
     ensures value { result ≡ number_at bytes.now }
@@ -149,7 +149,7 @@ fn number_at(bytes: &[u8]) -> Lexeme
     }
 }
 
-/// Whether the text begins with `0x` and a hexadecimal digit.
+// Whether the text begins with `0x` and a hexadecimal digit.
 fn begins_hex(bytes: &[u8]) -> bool
     ensures value { result ≡ begins_hex bytes.now }
     ensures within { IsTrue result → 3 ≤ length bytes.now }
@@ -157,7 +157,7 @@ fn begins_hex(bytes: &[u8]) -> bool
     bytes.len() > 2 && bytes[0] == b'0' && bytes[1] == b'x' && bytes[2].is_ascii_hexdigit()
 }
 
-/// The hexadecimal number at the front of the text.
+// The hexadecimal number at the front of the text.
 fn hex_at(bytes: &[u8]) -> Lexeme
     requires { 3 ≤ length bytes.now }
     ensures value { result ≡ hex_at bytes.now }
@@ -169,7 +169,7 @@ fn hex_at(bytes: &[u8]) -> Lexeme
     Lexeme::new(numeral_token(&rest[..len], 16), len + 2)
 }
 
-/// The decimal number, or the dotted address, at the front of the text.
+// The decimal number, or the dotted address, at the front of the text.
 fn decimal_at(bytes: &[u8]) -> Lexeme
     requires { 0 < prefix_len is_ascii_digit bytes.now }
     ensures value { result ≡ decimal_at bytes.now }
@@ -183,7 +183,7 @@ fn decimal_at(bytes: &[u8]) -> Lexeme
     Lexeme::new(numeral_token(&bytes[..len], 10), len)
 }
 
-/// Whether a dot stands at this offset.
+// Whether a dot stands at this offset.
 fn is_dot(bytes: &[u8], at: usize) -> bool
     ensures value { result ≡ (slice_index bytes.now at == 46) }
     ensures within { IsTrue result → at < length bytes.now }
@@ -191,7 +191,7 @@ fn is_dot(bytes: &[u8], at: usize) -> bool
     at < bytes.len() && bytes[at] == b'.'
 }
 
-/// The token of a number with these digits.
+// The token of a number with these digits.
 fn numeral_token(digits: &[u8], radix: u64) -> Token
     requires low { 2 ≤ radix }
     requires high { radix ≤ 16 }
@@ -203,7 +203,7 @@ fn numeral_token(digits: &[u8], radix: u64) -> Token
     }
 }
 
-/// The number that the digits write, where it is below 2^64.
+// The number that the digits write, where it is below 2^64.
 fn value(digits: &[u8], radix: u64) -> Option<u64>
     requires low { 2 ≤ radix }
     requires high { radix ≤ 16 }
@@ -217,14 +217,14 @@ fn value(digits: &[u8], radix: u64) -> Option<u64>
     Some(value)
 }
 
-/// What a digit stands for, in any radix up to 36, and 36 for any other byte.
+// What a digit stands for, in any radix up to 36, and 36 for any other byte.
 fn digit(byte: u8) -> u64
     ensures { result ≡ digit_value byte }
 {
     char::from(byte).to_digit(36).map_or(36, u64::from)
 }
 
-/// The dotted address at the front of the text, or a bad token of one byte where there is none.
+// The dotted address at the front of the text, or a bad token of one byte where there is none.
 fn quad_at(bytes: &[u8]) -> Lexeme
     requires { 0 < length bytes.now }
     ensures value { result ≡ quad_from 3 0 0 bytes.now }
@@ -246,7 +246,7 @@ fn quad_at(bytes: &[u8]) -> Lexeme
     }
 }
 
-/// A part of a dotted address with the dot behind it: its number, and the length of both.
+// A part of a dotted address with the dot behind it: its number, and the length of both.
 fn dotted_part(bytes: &[u8]) -> Option<(u32, usize)>
     ensures { MatchOption result (is_dotted bytes.now ≡ false)
         (λ found. IsDottedPart bytes.now found.0 found.1) }
@@ -256,7 +256,7 @@ fn dotted_part(bytes: &[u8]) -> Option<(u32, usize)>
     is_dot(bytes, len).then_some((number, len + 1))
 }
 
-/// The last part of a dotted address: its number and its length, the longest that fits.
+// The last part of a dotted address: its number and its length, the longest that fits.
 fn last_part(bytes: &[u8]) -> Option<(u32, usize)>
     ensures { MatchOption result (is_part (take (last_part_len bytes.now) bytes.now) ≡ false)
         (λ found. IsLastPart bytes.now found.0 found.1) }
@@ -266,7 +266,7 @@ fn last_part(bytes: &[u8]) -> Option<(u32, usize)>
     Some((number, len))
 }
 
-/// The number of one part of a dotted address: one to three digits of at most 255.
+// The number of one part of a dotted address: one to three digits of at most 255.
 fn part(digits: &[u8]) -> Option<u32>
     ensures { MatchOption result (is_part digits.now ≡ false) (λ n. IsPart digits.now n) }
 {
@@ -276,7 +276,7 @@ fn part(digits: &[u8]) -> Option<u32>
     }
 }
 
-/// How many digits the last part of a dotted address has: the most that fit.
+// How many digits the last part of a dotted address has: the most that fit.
 fn last_part_len(bytes: &[u8]) -> usize
     ensures value { result ≡ last_part_len bytes.now }
     ensures within { result ≤ length bytes.now }
@@ -288,7 +288,7 @@ fn last_part_len(bytes: &[u8]) -> usize
     }
 }
 
-/// The sign at the front of the text.
+// The sign at the front of the text.
 fn sign_at(bytes: &[u8]) -> Lexeme
     requires { 0 < length bytes.now }
     ensures value { result ≡ sign_at bytes.now }
@@ -313,7 +313,7 @@ fn sign_at(bytes: &[u8]) -> Lexeme
     Lexeme::new(short_sign(bytes), 1)
 }
 
-/// The sign of one byte at the front of the text.
+// The sign of one byte at the front of the text.
 fn short_sign(bytes: &[u8]) -> Token
     ensures { lexeme result 1 ≡ short_sign_at bytes.now }
 {

@@ -41,7 +41,7 @@ impl<'a> Lexer<'a> {
         *self = Lexer::behind(self.text, self.place);
     }
 
-    /// A lexer at the first token from an offset on.
+    // A lexer at the first token from an offset on.
     fn behind(text: &'a [u8], place: usize) -> Lexer<'a>
         requires { place ≤ length text.now }
         ensures { ahead result ≡ tokens_behind 0 place (drop place text.now) }

@@ -17,7 +17,7 @@ use std::alloc::Global;
 /// How many `!` and `(` may be open at once.
 const MAX_OPEN: u32 = 32;
 
-/// An atom.
+// An atom.
 fn atom(lexer: &mut Lexer) -> Result<Atom, FilterError>
     ensures ok { IfOk result (λ a. ReadsAtom lexer.old lexer.new a) }
     ensures within { IfOk result (λ a. AtomIsWithin a) }
@@ -36,7 +36,7 @@ fn atom(lexer: &mut Lexer) -> Result<Atom, FilterError>
     Ok(atom)
 }
 
-/// The atom of a number.
+// The atom of a number.
 fn number(n: u64) -> Atom
     ensures value { result ≡ Atom.Number n }
     ensures within { AtomIsWithin result }
@@ -44,7 +44,7 @@ fn number(n: u64) -> Atom
     Atom::Number(n)
 }
 
-/// The sign, or the word, of a comparison.
+// The sign, or the word, of a comparison.
 fn operator(lexer: &mut Lexer) -> Result<Op, FilterError>
     ensures ok { IfOk result (λ op. ReadsOp lexer.old lexer.new op) }
     ensures err { IfErr result (λ e. RefusesOp lexer.old e) }
@@ -57,7 +57,7 @@ fn operator(lexer: &mut Lexer) -> Result<Op, FilterError>
     Ok(op)
 }
 
-/// A sum: atoms, joined from the left. It is read without recursion.
+// A sum: atoms, joined from the left. It is read without recursion.
 fn sum(alloc: Global, lexer: &mut Lexer) -> Result<Sum, FilterError>
     ensures ok { IfOk result (λ s. ReadsSum lexer.old lexer.new s) }
     ensures within { IfOk result (λ s. SumIsWithin s) }
@@ -74,7 +74,7 @@ fn sum(alloc: Global, lexer: &mut Lexer) -> Result<Sum, FilterError>
     Ok(Sum { first, rest })
 }
 
-/// A comparison of two sums.
+// A comparison of two sums.
 fn comparison(alloc: Global, lexer: &mut Lexer) -> Result<Term, FilterError>
     ensures ok { IfOk result (λ t. ReadsComparison lexer.old lexer.new (shape t)) }
     ensures within { IfOk result (λ t. IsWithin (shape t)) }
@@ -87,7 +87,7 @@ fn comparison(alloc: Global, lexer: &mut Lexer) -> Result<Term, FilterError>
     Ok(Term::Cmp(left, op, right))
 }
 
-/// The number of a native filter.
+// The number of a native filter.
 fn native(lexer: &mut Lexer) -> Result<Term, FilterError>
     ensures ok { IfOk result (λ t. ReadsNative lexer.old lexer.new (shape t)) }
     ensures within { IfOk result (λ t. IsWithin (shape t)) }
@@ -104,7 +104,7 @@ fn native(lexer: &mut Lexer) -> Result<Term, FilterError>
     Ok(Term::Native(which))
 }
 
-/// A unit of an `&&` chain, inside `depth` constructs that are open.
+// A unit of an `&&` chain, inside `depth` constructs that are open.
 #[cycle(parse)]
 fn unit(alloc: Global, lexer: &mut Lexer, depth: u32) -> Result<Term, FilterError>
     requires { depth ≤ 32 }
@@ -141,7 +141,7 @@ fn unit(alloc: Global, lexer: &mut Lexer, depth: u32) -> Result<Term, FilterErro
     }
 }
 
-/// The `!` or `(` that opens one construct more.
+// The `!` or `(` that opens one construct more.
 fn enter(lexer: &mut Lexer, depth: u32) -> Result<(), FilterError>
     requires { is_end lexer.old.token ≡ false }
     ensures ok { OnOk result ((depth ≢ 32) × (later lexer.old ≡ ahead lexer.new)) }
@@ -155,7 +155,7 @@ fn enter(lexer: &mut Lexer, depth: u32) -> Result<(), FilterError>
     Ok(())
 }
 
-/// The `)` behind an expression.
+// The `)` behind an expression.
 fn close(lexer: &mut Lexer) -> Result<(), FilterError>
     ensures ok { OnOk result (Closes lexer.old lexer.new) }
     ensures err { IfErr result (λ e. RefusesClose lexer.old e) }
@@ -168,7 +168,7 @@ fn close(lexer: &mut Lexer) -> Result<(), FilterError>
     Ok(())
 }
 
-/// A chain of units joined by `&&`, inside `depth` constructs that are open.
+// A chain of units joined by `&&`, inside `depth` constructs that are open.
 #[cycle(parse)]
 fn conjunction(alloc: Global, lexer: &mut Lexer, depth: u32) -> Result<Term, FilterError>
     requires { depth ≤ 32 }
@@ -191,7 +191,7 @@ fn conjunction(alloc: Global, lexer: &mut Lexer, depth: u32) -> Result<Term, Fil
     Ok(Term::And(TermList { items }))
 }
 
-/// A chain of conjunctions joined by `||`, inside `depth` constructs that are open.
+// A chain of conjunctions joined by `||`, inside `depth` constructs that are open.
 #[cycle(parse)]
 fn expr(alloc: Global, lexer: &mut Lexer, depth: u32) -> Result<Term, FilterError>
     requires { depth ≤ 32 }

@@ -25,7 +25,7 @@ pub fn print(alloc: Global, e: &Expr) -> Result<String, AllocError>
     Ok(out)
 }
 
-/// Puts the text of a term at the end.
+// Puts the text of a term at the end.
 #[cycle(write)]
 fn write_term(out: &mut String, term: &Term) -> Result<(), AllocError>
     requires { IsWithin (shape term.now) }
@@ -52,7 +52,7 @@ fn write_term(out: &mut String, term: &Term) -> Result<(), AllocError>
     }
 }
 
-/// Puts the text of a term at the end, in parentheses where `wide` is true.
+// Puts the text of a term at the end, in parentheses where `wide` is true.
 #[cycle(write)]
 fn write_wrapped(out: &mut String, term: &Term, wide: bool) -> Result<(), AllocError>
     requires { IsWithin (shape term.now) }
@@ -67,7 +67,7 @@ fn write_wrapped(out: &mut String, term: &Term, wide: bool) -> Result<(), AllocE
     out.push_str(")")
 }
 
-/// Puts the members of an `&&` chain at the end.
+// Puts the members of an `&&` chain at the end.
 #[cycle(write)]
 fn write_all(out: &mut String, terms: &[Term]) -> Result<(), AllocError>
     requires { AreWithin (shapes terms.now) }
@@ -81,7 +81,7 @@ fn write_all(out: &mut String, terms: &[Term]) -> Result<(), AllocError>
     Ok(())
 }
 
-/// Puts the members of an `||` chain at the end.
+// Puts the members of an `||` chain at the end.
 #[cycle(write)]
 fn write_any(out: &mut String, terms: &[Term]) -> Result<(), AllocError>
     requires { AreWithin (shapes terms.now) }
@@ -95,7 +95,7 @@ fn write_any(out: &mut String, terms: &[Term]) -> Result<(), AllocError>
     Ok(())
 }
 
-/// Puts the separator of a chain at the end, unless its first member comes next.
+// Puts the separator of a chain at the end, unless its first member comes next.
 fn separate(out: &mut String, i: usize, separator: &str) -> Result<(), AllocError>
     ensures { OnOk result
         (string_bytes out.new ≡ string_bytes out.old ++ separator_text i separator.now) }
@@ -106,28 +106,28 @@ fn separate(out: &mut String, i: usize, separator: &str) -> Result<(), AllocErro
     out.push_str(separator)
 }
 
-/// Whether the term is an `||` chain.
+// Whether the term is an `||` chain.
 fn is_or(term: &Term) -> bool
     ensures { result ≡ is_or (shape term.now) }
 {
     matches!(term, Term::Or(_))
 }
 
-/// Whether the term is a chain.
+// Whether the term is a chain.
 fn is_chain(term: &Term) -> bool
     ensures { result ≡ is_chain (shape term.now) }
 {
     matches!(term, Term::And(_) | Term::Or(_))
 }
 
-/// Whether the term is a comparison or a chain.
+// Whether the term is a comparison or a chain.
 fn is_wide(term: &Term) -> bool
     ensures { result ≡ is_wide (shape term.now) }
 {
     matches!(term, Term::Cmp(_, _, _) | Term::And(_) | Term::Or(_))
 }
 
-/// Puts the text of a sum at the end.
+// Puts the text of a sum at the end.
 fn write_sum(out: &mut String, sum: &Sum) -> Result<(), AllocError>
     requires { SumIsWithin sum.now }
     ensures { OnOk result (string_bytes out.new ≡ string_bytes out.old ++ sum_text sum.now) }
@@ -139,7 +139,7 @@ fn write_sum(out: &mut String, sum: &Sum) -> Result<(), AllocError>
     Ok(())
 }
 
-/// Puts one atom more of a sum at the end, with how it is joined on.
+// Puts one atom more of a sum at the end, with how it is joined on.
 fn write_step(out: &mut String, step: &Step) -> Result<(), AllocError>
     requires { AtomIsWithin step.now.1 }
     ensures { OnOk result
@@ -150,7 +150,7 @@ fn write_step(out: &mut String, step: &Step) -> Result<(), AllocError>
     write_atom(out, &step.1)
 }
 
-/// Puts the text of an atom at the end.
+// Puts the text of an atom at the end.
 fn write_atom(out: &mut String, atom: &Atom) -> Result<(), AllocError>
     requires { AtomIsWithin atom.now }
     ensures { OnOk result (string_bytes out.new ≡ string_bytes out.old ++ atom_text atom.now) }
@@ -161,14 +161,14 @@ fn write_atom(out: &mut String, atom: &Atom) -> Result<(), AllocError>
     }
 }
 
-/// Puts a number at the end, in decimal.
+// Puts a number at the end, in decimal.
 fn write_number(out: &mut String, n: u64) -> Result<(), AllocError>
     ensures { OnOk result (string_bytes out.new ≡ string_bytes out.old ++ decimal n) }
 {
     write!(out, "{n}")
 }
 
-/// The text that joins an atom on, with the blanks beside it.
+// The text that joins an atom on, with the blanks beside it.
 fn join_text(join: Join) -> &'static str
     ensures { result.now ≡ join_text join }
 {
@@ -179,7 +179,7 @@ fn join_text(join: Join) -> &'static str
     }
 }
 
-/// The text of a comparison, with the blanks beside it.
+// The text of a comparison, with the blanks beside it.
 fn op_text(op: Op) -> &'static str
     ensures { result.now ≡ op_text op }
 {

@@ -52,7 +52,7 @@ pub(crate) fn take_segment(
     })
 }
 
-/// The position after `len` bytes that begin at a distance from `next`.
+// The position after `len` bytes that begin at a distance from `next`.
 fn end_position(next: u64, distance: i64, len: usize) -> i64
     requires next { next ≤ 2 ^ 62 }
     requires low { (pos 0 -ℤ pos (2 ^ 31)) ≤ℤ distance }

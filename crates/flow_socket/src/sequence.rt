@@ -77,7 +77,7 @@ pub(crate) fn acks_of(ack: u32, next: u64, origin: Option<Origin>, fin: Option<u
     }
 }
 
-/// Whether a position lies above that of a noted FIN.
+// Whether a position lies above that of a noted FIN.
 fn is_past(position: i64, fin: Option<u64>) -> bool
     ensures { result ≡ is_past_fin position fin }
 {

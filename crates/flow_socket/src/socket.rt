@@ -114,7 +114,7 @@ impl FlowSocket {
         })
     }
 
-    /// Steps the end that receives a packet.
+    // Steps the end that receives a packet.
     fn step_receiver(&mut self, of: Side, facts: &SegFacts) -> Change
         ensures stands { (e : Emulation) → SocketStandsFor self.old e → SocketStandsFor self.new (record e { ends = ends_after_receive of facts.now e.ends }) }
         ensures change { (e : Emulation) → SocketStandsFor self.old e → result ≡ change_of (end_at of e.ends) (end_at of (ends_after_receive of facts.now e.ends)) }
@@ -125,7 +125,7 @@ impl FlowSocket {
         tcp_emulation::recv_step(&mut self.ends, of, facts)
     }
 
-    /// Which of the SYN and the FIN of `of` a number acknowledges.
+    // Which of the SYN and the FIN of `of` a number acknowledges.
     fn acks(&self, of: Side, ack: u32) -> Acks
         requires next { next_at of self.now ≤ 2 ^ 62 }
         ensures syn { (e : Emulation) → SocketStandsFor self.now e → result.syn ≡ acks_syn ack (direction_of of e) }
@@ -137,7 +137,7 @@ impl FlowSocket {
         }
     }
 
-    /// Whether the FIN of `from` is reached.
+    // Whether the FIN of `from` is reached.
     fn is_finished(&self, from: Side) -> bool
         ensures { (e : Emulation) → SocketStandsFor self.now e → result ≡ is_finished (direction_of from e) }
     {
@@ -147,7 +147,7 @@ impl FlowSocket {
         }
     }
 
-    /// The packet's direction takes it.
+    // The packet's direction takes it.
     fn take(&mut self, from: Side, h: &Head, payload: &[u8]) -> Result<Taken, AllocError>
         requires bytes { length payload.now ≤ 65535 }
         requires next { next_at from self.old ≤ 2 ^ 62 }
@@ -224,8 +224,8 @@ impl FlowSocket {
     }
 }
 
-/// The sum of the faults of a packet: bytes that weren't accepted, an RST out of the window, a
-/// FIN that was refused.
+// The sum of the faults of a packet: bytes that weren't accepted, an RST out of the window, a
+// FIN that was refused.
 fn fault_of(h: &Head, taken: &Taken) -> u8
     ensures { result ≡ fault_of (nat_lt 0 taken.now.placed.over) (has_rst h.now && not taken.now.in_window) taken.now.fin_refused }
 {
@@ -233,7 +233,7 @@ fn fault_of(h: &Head, taken: &Taken) -> u8
     u8::from(taken.placed.over > 0) + 2 * u8::from(is_reset_out) + 4 * u8::from(taken.fin_refused)
 }
 
-/// What a step of an end reads of a packet.
+// What a step of an end reads of a packet.
 fn facts_of(h: &Head, acks: Acks, in_window: bool, fin_reached: bool) -> SegFacts
     ensures { result ≡ facts_of h.now acks.syn acks.fin in_window fin_reached }
 {
@@ -249,7 +249,7 @@ fn facts_of(h: &Head, acks: Acks, in_window: bool, fin_reached: bool) -> SegFact
     }
 }
 
-/// The sender's step reads the flags alone.
+// The sender's step reads the flags alone.
 fn sent_facts(h: &Head) -> SegFacts
     ensures { result ≡ sent_facts h.now }
 {

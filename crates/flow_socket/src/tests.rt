@@ -70,7 +70,7 @@ fn take_all(socket: &mut FlowSocket, packets: &[Packet]) -> Result<Seen, Fail> {
     Ok(seen)
 }
 
-/// A socket after the handshake and then these packets, and what the last one did.
+// A socket after the handshake and then these packets, and what the last one did.
 fn after(alloc: Global, rbuf: u32, packets: &[Packet]) -> Result<(FlowSocket, Seen), Fail>
     requires low { 1 ≤ rbuf }
     requires high { rbuf ≤ 1048576 }
@@ -172,7 +172,7 @@ fn judges_acknowledgements(rt: HostRuntime) -> Result<(), Fail> {
     Ok(())
 }
 
-/// What a peek into a buffer of eight bytes answers, and the buffer.
+// What a peek into a buffer of eight bytes answers, and the buffer.
 fn peek(socket: &mut FlowSocket, from: Side) -> (Peeked, [u8; 8]) {
     let mut buf = [0; 8];
     let peeked = socket.peek(from, &mut buf);
@@ -229,7 +229,7 @@ fn peeks_past_the_last_number(rt: HostRuntime) -> Result<(), Fail> {
     Ok(())
 }
 
-/// The runs that the server keeps of the client's first eight bytes.
+// The runs that the server keeps of the client's first eight bytes.
 fn runs(socket: &FlowSocket) -> (Option<(u64, u32)>, Option<(u64, u32)>) {
     let mut pieces = socket.ppeek(Client, 0, 8);
     (pieces.next(), pieces.next())

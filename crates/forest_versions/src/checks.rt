@@ -52,7 +52,7 @@ pub(crate) fn reg_refusal(defs: &Defs, regs: &[Reg], r: &Reg) -> Option<Refusal>
     }
 }
 
-/// Whether a registration's hook is one of this root's, and its action may stand at that hook.
+// Whether a registration's hook is one of this root's, and its action may stand at that hook.
 fn hook_may_be(root: u16, r: &Reg) -> bool
     ensures { result ≡ hook_may_be root r.now }
 {

@@ -164,7 +164,7 @@ impl Control {
         find_reg(self.regs.as_slice(), number)
     }
 
-    /// The rule of a number.
+    // The rule of a number.
     fn rule(&self, number: u8) -> Option<&Rule>
         ensures { option_copied result ≡ rule_of self.now.rules number }
     {
@@ -264,7 +264,7 @@ impl Control {
     }
 }
 
-/// The presets, each at its place.
+// The presets, each at its place.
 fn presets_in(alloc: Global, defs: &Defs, presets: &[Reg]) -> Result<ActiveList, AllocError>
     requires none { defs.now ≡ [] }
     requires lawful { IsTrue (are_presets presets.now) }
@@ -281,7 +281,7 @@ fn presets_in(alloc: Global, defs: &Defs, presets: &[Reg]) -> Result<ActiveList,
     Ok(regs)
 }
 
-/// Removes the registration of a number, if there is one.
+// Removes the registration of a number, if there is one.
 fn remove_reg(regs: &mut ActiveList, number: u8)
     ensures { regs.new ≡ without number regs.old }
 {

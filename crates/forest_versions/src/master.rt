@@ -180,8 +180,8 @@ impl Master {
     }
 }
 
-/// Gives a lawful command, which is in force from a version on: what is in force, the past and the tree change
-/// together. An error is want of memory, and changes nothing.
+// Gives a lawful command, which is in force from a version on: what is in force, the past and the tree change
+// together. An error is want of memory, and changes nothing.
 fn give<F: Forests>(
     alloc: Global,
     f: &mut F,

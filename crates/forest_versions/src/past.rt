@@ -161,7 +161,7 @@ impl Past {
     }
 }
 
-/// The line of each number before the first command.
+// The line of each number before the first command.
 fn first_regs(alloc: Global, regs: &[Reg]) -> Result<Vec<Timeline<Option<Reg>>>, AllocError>
     ensures whole { IfOk result (λ lines. length lines.items ≡ 256) }
     ensures lines { IfOk result (λ lines. (number : ℕ) → number ≤ 255 → slice_index_or lines.items number never ≡ record { first = reg_of regs.now number; steps = [] }) }

@@ -39,21 +39,21 @@ pub(crate) fn is_within(c: &Command) -> bool
     }
 }
 
-/// Whether a number may name an event.
+// Whether a number may name an event.
 fn may_be_event(event: u16) -> bool
     ensures { result ≡ may_be_event event }
 {
     event >= 1 && event <= LAST_EVENT
 }
 
-/// Whether a number may name a registration or a rule.
+// Whether a number may name a registration or a rule.
 fn may_be_number(number: u8) -> bool
     ensures { result ≡ may_be_number number }
 {
     number >= 1
 }
 
-/// Whether the numbers of a registration of a script are in their ranges.
+// Whether the numbers of a registration of a script are in their ranges.
 fn is_reg_within(r: &Reg) -> bool
     ensures { result ≡ is_reg_within r.now }
 {
@@ -63,7 +63,7 @@ fn is_reg_within(r: &Reg) -> bool
         && are_changes_within(r.action.changes.as_slice())
 }
 
-/// Whether the numbers of a peek are in their ranges.
+// Whether the numbers of a peek are in their ranges.
 fn peek_fits(peek: PeekSpec) -> bool
     ensures { result ≡ peek_fits peek }
 {
@@ -74,14 +74,14 @@ fn peek_fits(peek: PeekSpec) -> bool
     }
 }
 
-/// Whether each change names a registration.
+// Whether each change names a registration.
 fn are_changes_within(changes: &[Change1]) -> bool
     ensures { result ≡ list_all (λ c. may_be_number c.reg) changes.now }
 {
     changes.iter().all(|c| may_be_number(c.reg))
 }
 
-/// Whether the numbers of a rule are in their ranges.
+// Whether the numbers of a rule are in their ranges.
 fn is_rule_within(rule: &Rule) -> bool
     ensures { result ≡ is_rule_within rule.now }
 {

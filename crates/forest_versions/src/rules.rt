@@ -74,7 +74,7 @@ pub(crate) fn find_rule(rules: &[Rule], number: u8) -> Option<&Rule>
     rules.iter().find(|rule| rule.number == number)
 }
 
-/// Where a rule belongs.
+// Where a rule belongs.
 fn place_in(rules: &[Rule], rule: Rule) -> usize
     ensures within { result ≤ length rules.now }
     ensures place { put_rule rule rules.now ≡ take result rules.now ++ rule ∷ drop result rules.now }

@@ -67,7 +67,7 @@ pub(crate) fn change<F: Forests>(
     }
 }
 
-/// Adds a registration to what is in force, and to the tree where it is on.
+// Adds a registration to what is in force, and to the tree where it is on.
 fn register<F: Forests>(
     alloc: Global,
     f: &mut F,
@@ -104,7 +104,7 @@ fn register<F: Forests>(
     }
 }
 
-/// Removes a registration from what is in force, and from the tree where it is on.
+// Removes a registration from what is in force, and from the tree where it is on.
 fn withdraw<F: Forests>(
     alloc: Global,
     f: &mut F,
@@ -138,7 +138,7 @@ fn withdraw<F: Forests>(
     }
 }
 
-/// The registration of a number, if it is there and on.
+// The registration of a number, if it is there and on.
 fn find_on(regs: &[Reg], number: u8) -> Option<Reg>
     ensures there { IfSome result (λ r. reg_of regs.now number ≡ Some r) }
     ensures on { IfSome result (λ r. r.on ≡ true) }
@@ -150,7 +150,7 @@ fn find_on(regs: &[Reg], number: u8) -> Option<Reg>
     }
 }
 
-/// The registrations that are on.
+// The registrations that are on.
 fn active_regs(alloc: Global, regs: &[Reg]) -> Result<ActiveList, AllocError>
     ensures { IfOk result (λ list. list ≡ filter (λ r. r.on) regs.now) }
 {

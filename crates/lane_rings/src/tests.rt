@@ -28,7 +28,7 @@ fn answer(alloc: Global, index: u64) -> Answer {
     }
 }
 
-/// Asks that a type may be handed to a thread.
+// Asks that a type may be handed to a thread.
 fn handed<T: Send>(value: T) -> T
     ensures { result ≡ value }
 {

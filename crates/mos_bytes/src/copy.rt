@@ -1,4 +1,5 @@
-// Copies between slices.
+//! Copies between slices.
+
 ghost use Rattle.std.specs.Prelude.{◌≡◌, ◌++◌, length, take, drop, min};
 
 // Copies as many bytes as stand in `from` and have room in `to`, and answers how many.

@@ -1,4 +1,5 @@
-// The one answer of the outside that isn't a result.
+//! The one answer of the outside that isn't a result.
+
 use std::error::Error;
 use std::fmt;
 

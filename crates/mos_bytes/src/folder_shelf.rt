@@ -1,4 +1,5 @@
-// A shelf over the files of a folder.
+//! A shelf over the files of a folder.
+
 ghost use Rattle.std.specs.Prelude.{◌≡◌, ◌≢◌, ◌≤◌, ⊤, ℕ, List, length, None, Err, IfOk, IsErrOf};
 ghost use Rattle.mos_bytes.specs.Causes.{HasCauseOf, risen};
 

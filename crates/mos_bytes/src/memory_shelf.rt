@@ -1,4 +1,5 @@
-// A shelf over contents in memory, for tests.
+//! A shelf over contents in memory, for tests.
+
 ghost use Rattle.std.specs.Prelude.{◌≡◌, ◌≢◌, ◌<◌, ◌≤◌, ◌↔◌, ◌⊎◌, ℕ, List, length, None, Some, Err, IfOk, IsErrOf, Contains, bytes_eq, string_bytes, vec_items, map, option_map};
 ghost use Rattle.mos_bytes.specs.Causes.{HasCauseOf, risen};
 ghost use Rattle.mos_bytes.specs.Fetches.{IsContent, IsLonger, content_of};

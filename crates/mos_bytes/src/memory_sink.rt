@@ -1,4 +1,5 @@
-// A sink into memory, for tests.
+//! A sink into memory, for tests.
+
 ghost use Rattle.std.specs.Prelude.{◌≡◌, ◌+◌, ◌-◌, ◌/◌, ◌<◌, ◌≤◌, ◌↔◌, ◌⊎◌, ◌++◌, [], ℕ, List, length, take, min, Some, IsErr, OnOk, OnErr, Contains};
 ghost use Rattle.mos_bytes.specs.Causes.{HasCause, risen};
 ghost use Rattle.mos_bytes.specs.Memory.{SinkLasting, SinkState};

@@ -1,4 +1,5 @@
-// A source over bytes in memory, for tests.
+//! A source over bytes in memory, for tests.
+
 ghost use Rattle.std.specs.Prelude.{◌≡◌, ◌≤◌, ◌↔◌, ℕ, List, length, take, drop, min, Some, IfOk, IsErr, OnOk, OnErr, Contains};
 ghost use Rattle.std.specs.Io.{ReadsAtMost};
 ghost use Rattle.std.specs.Io.KnownBytes.{ReadConsumes};

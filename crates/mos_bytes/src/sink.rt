@@ -1,4 +1,5 @@
-// Where bytes go.
+//! Where bytes go.
+
 ghost use Rattle.std.specs.Prelude.{◌≡◌, ℕ, List};
 ghost use Rattle.std.specs.declared.option.Option.{Option};
 ghost use Rattle.mos_bytes.specs.Causes.{HasCause};

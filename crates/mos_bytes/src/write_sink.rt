@@ -1,4 +1,5 @@
-// A sink over any writer of std.
+//! A sink over any writer of std.
+
 ghost use Rattle.std.specs.Prelude.{◌≡◌, ⊤, OnOk, OnErr};
 ghost use Rattle.std.specs.Bool.{OnTrue, OnFalse};
 ghost use Rattle.std.specs.Io.KnownBytes.{Appends};

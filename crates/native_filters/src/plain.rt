@@ -65,14 +65,14 @@ pub fn has_differing_bytes(facts: &Facts) -> bool
     facts.rexdiff > 0
 }
 
-/// Whether all bits of a mask are set.
+// Whether all bits of a mask are set.
 fn has(bits: u64, mask: u64) -> bool
     ensures { result ≡ has_bits bits mask }
 {
     bits & mask == mask
 }
 
-/// Whether an IPv4 address is in one of the blocks for private networks (RFC 1918, 3).
+// Whether an IPv4 address is in one of the blocks for private networks (RFC 1918, 3).
 fn is_private(addr: u64) -> bool
     ensures { result ≡ is_private addr }
 {

@@ -35,7 +35,7 @@ fn again(len: u64, rexlen: u64, rexdiff: u64) -> Facts {
     }
 }
 
-/// Asks the function that is kept under a number.
+// Asks the function that is kept under a number.
 fn asked(which: u8, facts: &Facts) -> bool {
     match which {
         0 => Native::new(0, is_opening).ask(facts),

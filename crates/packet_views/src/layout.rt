@@ -1,3 +1,5 @@
+//! Where the parts of a frame lie.
+
 /// Where the parts of a frame lie that holds a whole TCP segment: offsets from the frame's start.
 #[derive(Clone, Copy)]
 pub struct Layout {

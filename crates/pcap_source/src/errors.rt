@@ -1,4 +1,5 @@
-// Why a capture can't be read on.
+//! Why a capture can't be read on.
+
 ghost use Rattle.std.specs.Prelude.{◌≡◌};
 
 use mos_bytes::Failed;

@@ -1,4 +1,5 @@
-// A captured packet.
+//! A captured packet.
+
 ghost use Rattle.std.specs.Prelude.{◌≡◌, [], replicate};
 ghost use Rattle.pcap_source.specs.Captured.{Captured};
 

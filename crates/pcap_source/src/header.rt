@@ -1,4 +1,5 @@
-// The global header of a capture.
+//! The global header of a capture.
+
 ghost use Rattle.std.specs.Prelude.{◌≡◌};
 ghost use Rattle.pcap_source.specs.Capture.{header_by, header_in, is_magic, order_of};
 

@@ -1,4 +1,5 @@
-// The order of the bytes in the numbers of a capture.
+//! The order of the bytes in the numbers of a capture.
+
 ghost use Rattle.std.specs.Prelude.{◌≡◌, ◌+◌, ◌≤◌, length, drop};
 ghost use Rattle.pcap_source.specs.Order.{number_in};
 

@@ -1,4 +1,4 @@
-// What a segment is placed by, and what placing it and noting a FIN answer.
+//! What a segment is placed by, and what placing it and noting a FIN answer.
 
 /// Which byte stays where a segment brings a byte for a position that has one and isn't read yet,
 /// that is at or above `next`. RFC 9293 leaves it open, and receivers differ.

@@ -1,4 +1,5 @@
-// What becomes of a FIN, by its position, the edge that is allowed, and whether bytes were accepted at it or past it.
+//! What becomes of a FIN, by its position, the edge that is allowed, and whether bytes were accepted at it or past it.
+
 ghost use Rattle.std.specs.Prelude.{◌≡◌};
 ghost use Rattle.reassembly.specs.Fin.{natural_of, note_with, fin_with};
 

@@ -1,4 +1,5 @@
-// Laying a segment's bytes into the buffer, one stretch after another: its positions are all accepted already, or none is.
+//! Laying a segment's bytes into the buffer, one stretch after another: its positions are all accepted already, or none is.
+
 ghost use Rattle.std.specs.Prelude.{◌≡◌, ℕ, ◌+◌, ◌<◌, ◌≤◌, ◌&&◌, ◌^◌, not, length, if◌then◌else◌, slice_index};
 ghost use Rattle.reassembly.specs.Segment.{is_last};
 ghost use Rattle.reassembly.specs.Runs.{AreOrdered, IsCursor};
@@ -39,7 +40,7 @@ pub fn differing(kept: &[u8], segment: &[u8]) -> u32
     count
 }
 
-/// The stretch that begins at `from`, cut at `stop`.
+// The stretch that begins at `from`, cut at `stop`.
 fn next_stretch(runs: &[Run], cursor: usize, from: u64, stop: u64) -> Stretch
     requires ordered { AreOrdered runs.now }
     requires cursor { IsCursor runs.now cursor from }
@@ -76,7 +77,7 @@ fn next_stretch(runs: &[Run], cursor: usize, from: u64, stop: u64) -> Stretch
     }
 }
 
-/// Lays one stretch: bytes at empty cells are copied, and others compared, and replaced where the last byte stays.
+// Lays one stretch: bytes at empty cells are copied, and others compared, and replaced where the last byte stays.
 fn lay_stretch(cells: &mut [u8], segment: &[u8], policy: Policy, is_old: bool) -> Tally
     requires length { length cells.old ≡ length segment.now }
     requires short { length segment.now ≤ 65535 }

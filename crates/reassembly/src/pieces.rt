@@ -1,4 +1,5 @@
-// The longest runs of kept positions in a range, in order.
+//! The longest runs of kept positions in a range, in order.
+
 ghost use Rattle.std.specs.Prelude.{◌≡◌, ◌≤◌};
 ghost use Rattle.std.specs.Iterator.{YieldsFirst, item_count};
 

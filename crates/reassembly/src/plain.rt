@@ -1,4 +1,5 @@
-// The receiver of the definitions, in code: slow, and it forgets nothing.
+//! The receiver of the definitions, in code: slow, and it forgets nothing.
+
 ghost use Rattle.std.specs.Prelude.{◌≡◌, ℕ, ◌+◌, ◌<◌, ◌≤◌, ◌^◌, ℤ, pos, ◌+ℤ◌, neg_ℤ, ◌≤ℤ◌, ◌<ℤ◌, max, length, drop, OnOk, OnErr, IfOk, Option, is_some, slice_index, slice_index_or, None};
 ghost use Rattle.std.specs.List.{prefix_len};
 ghost use Rattle.reassembly.specs.Receiver.{no_bytes, held, next_of, kept, limit_of};
@@ -36,7 +37,7 @@ pub struct Before {
     pub rbuf: u32,
 }
 
-/// The place of the first empty cell.
+// The place of the first empty cell.
 fn first_empty(cells: &[Option<u8>]) -> usize
     ensures { result ≡ next_of cells.now }
 {
@@ -48,7 +49,7 @@ fn first_empty(cells: &[Option<u8>]) -> usize
     cells.len()
 }
 
-/// Whether no cell at `position` or past it is filled.
+// Whether no cell at `position` or past it is filled.
 fn is_free(cells: &[Option<u8>], position: u64) -> bool
     ensures { result ≡ is_free_from cells.now position }
 {
@@ -60,7 +61,7 @@ fn is_free(cells: &[Option<u8>], position: u64) -> bool
     true
 }
 
-/// The cell at `position` after a byte of the segment.
+// The cell at `position` after a byte of the segment.
 fn written(before: Before, policy: Policy, position: u64, cell: Option<u8>, byte: u8) -> Option<u8>
     ensures { result ≡ cell_after before.next before.limit policy position cell byte }
 {
@@ -73,7 +74,7 @@ fn written(before: Before, policy: Policy, position: u64, cell: Option<u8>, byte
     }
 }
 
-/// The counts with one byte more.
+// The counts with one byte more.
 fn counted(placed: Placed, before: Before, position: u64, cell: Option<u8>, byte: u8) -> Placed
     requires few { (placed.new < 65535) × (placed.old < 65535) × (placed.differ < 65535) × (placed.over < 65535) }
     ensures { result ≡ counted_more placed before position cell byte }
@@ -92,7 +93,7 @@ fn counted(placed: Placed, before: Before, position: u64, cell: Option<u8>, byte
     }
 }
 
-/// Writes a segment's bytes from `start` on, one after another, and counts how they are judged.
+// Writes a segment's bytes from `start` on, one after another, and counts how they are judged.
 fn write_all(
     cells: &mut [Option<u8>],
     start: usize,

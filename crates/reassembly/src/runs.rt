@@ -1,4 +1,5 @@
-// The accepted positions above `next`, as runs in order.
+//! The accepted positions above `next`, as runs in order.
+
 ghost use Rattle.std.specs.Prelude.{◌≡◌, ℕ, ◌+◌, ◌<◌, ◌≤◌, ◌++◌, ◌∷◌, ◌&&◌, ◌||◌, length, take, drop, vec_len, vec_capacity, nat_le, nat_lt};
 ghost use Rattle.reassembly.specs.Runs.{AreOrdered, AreAbove, AreWithin, IsCursor, IsBegun, IsJoined, is_covered};
 
@@ -74,7 +75,7 @@ pub fn replace(runs: &mut Vec<Run>, first: usize, past: usize, run: Run)
     }
 }
 
-/// The run from `low` to `high`, joined with the runs from `first` to below `past`, which touch it.
+// The run from `low` to `high`, joined with the runs from `first` to below `past`, which touch it.
 fn joined(runs: &[Run], first: usize, past: usize, low: u64, high: u64) -> Run
     requires order { first ≤ past }
     requires within { past ≤ length runs.now }

@@ -1,4 +1,5 @@
-// Where a segment begins, and where what is accepted ends.
+//! Where a segment begins, and where what is accepted ends.
+
 ghost use Rattle.std.specs.Prelude.{◌≡◌, ◌+◌, ◌<◌, ◌≤◌, ◌^◌, pos, ◌+ℤ◌, neg_ℤ, ◌≤ℤ◌, ◌<ℤ◌};
 ghost use Rattle.reassembly.specs.Receiver.{limit_of};
 ghost use Rattle.reassembly.specs.Segment.{from_zero, below_zero};

@@ -1,4 +1,5 @@
-// A stream: its buffer, its FIN, and the size of its receive buffer.
+//! A stream: its buffer, its FIN, and the size of its receive buffer.
+
 ghost use Rattle.std.specs.Prelude.{◌≡◌, ℕ, ◌+◌, ◌-◌, ◌<◌, ◌≤◌, ◌^◌, ℤ, pos, ◌+ℤ◌, neg_ℤ, ◌≤ℤ◌, ◌<ℤ◌, ◌++◌, min, length, drop, OnOk, OnErr, IfOk, Option, None};
 ghost use Rattle.reassembly.specs.Receiver.{Receiver, no_bytes, next_of, kept, low_of};
 ghost use Rattle.reassembly.specs.Kept.{bytes_from, runs_from, positions_in, AreWhole};

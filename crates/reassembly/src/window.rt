@@ -1,4 +1,5 @@
-// The buffer of a stream: the bytes from `base` on, of which those below `next` and those in a run are accepted.
+//! The buffer of a stream: the bytes from `base` on, of which those below `next` and those in a run are accepted.
+
 ghost use Rattle.std.specs.Prelude.{◌≡◌, ℕ, ◌+◌, ◌-◌, ◌<◌, ◌≤◌, ◌^◌, ◌⊎◌, ◌||◌, ◌&&◌, [], ◌++◌, length, min, max, vec_len, vec_capacity, nat_le, nat_lt, slice_index, OnOk, OnErr, IfOk, Option, true, IsTrue, IsFalse};
 ghost use Rattle.reassembly.specs.Runs.{AreOrdered, AreAbove, AreWithin, is_accepted};
 ghost use Rattle.reassembly.specs.Laying.{laid_byte, tally_of};
@@ -16,7 +17,7 @@ pub struct Window {
     pub runs: Vec<Run>,
 }
 
-/// How many of `len` positions from `start` on lie below `position`.
+// How many of `len` positions from `start` on lie below `position`.
 fn count_under(position: u64, start: u64, len: usize) -> usize
     ensures { result ≡ min (position - start) len }
 {
@@ -42,7 +43,7 @@ impl Window {
         }
     }
 
-    /// Makes room for one run more, and lets the buffer reach up to `end`. What was there stays.
+    // Makes room for one run more, and lets the buffer reach up to `end`. What was there stays.
     fn reserve(&mut self, end: u64) -> Result<(), AllocError>
         requires { self.old.base ≤ end }
         ensures place { (self.new.base ≡ self.old.base) × (self.new.next ≡ self.old.next) }
@@ -60,7 +61,7 @@ impl Window {
         Ok(())
     }
 
-    /// Accepts the positions from `low` to below `high`, which the buffer has.
+    // Accepts the positions from `low` to below `high`, which the buffer has.
     fn accept(&mut self, low: u64, high: u64)
         requires laid { IsLaid self.old }
         requires from { self.old.next ≤ low }
@@ -80,7 +81,7 @@ impl Window {
         }
     }
 
-    /// Lays bytes from `low` on into the buffer, which has their positions.
+    // Lays bytes from `low` on into the buffer, which has their positions.
     fn lay(&mut self, low: u64, bytes: &[u8], policy: Policy) -> Tally
         requires ordered { AreOrdered self.old.runs.items }
         requires from { self.old.base ≤ low }
@@ -97,7 +98,7 @@ impl Window {
         lay(cells, &self.runs, low, bytes, policy)
     }
 
-    /// How many bytes of a segment from `start` on, which lie below `next`, differ from the kept ones.
+    // How many bytes of a segment from `start` on, which lie below `next`, differ from the kept ones.
     fn compare(&self, start: u64, bytes: &[u8], rbuf: u32) -> u32
         requires low { self.now.base ≤ self.now.next - rbuf }
         requires filled { self.now.next ≤ end_of self.now }
@@ -115,7 +116,7 @@ impl Window {
         differing(&self.bytes[from..from + bytes.len() - skip], &bytes[skip..])
     }
 
-    /// Drops the bytes that are no longer kept, once they are more than `rbuf`: each is moved over once at most.
+    // Drops the bytes that are no longer kept, once they are more than `rbuf`: each is moved over once at most.
     fn forget(&mut self, rbuf: u32)
         requires laid { IsLaid self.old }
         requires low { self.old.base ≤ self.old.next - rbuf }
@@ -134,7 +135,7 @@ impl Window {
         }
     }
 
-    /// Takes bytes from `low` on, where the buffer and all that is accepted end there: one copy.
+    // Takes bytes from `low` on, where the buffer and all that is accepted end there: one copy.
     fn append(&mut self, low: u64, bytes: &[u8]) -> Result<Tally, AllocError>
         requires laid { IsLaid self.old }
         requires in_order { self.old.runs.items ≡ [] }
@@ -158,7 +159,7 @@ impl Window {
         })
     }
 
-    /// Takes bytes from `low` on, which lie at or above `next`. Memory comes first, and nothing fails after it.
+    // Takes bytes from `low` on, which lie at or above `next`. Memory comes first, and nothing fails after it.
     fn take(&mut self, low: u64, bytes: &[u8], policy: Policy) -> Result<Tally, AllocError>
         requires laid { IsLaid self.old }
         requires base { self.old.base ≤ self.old.next }

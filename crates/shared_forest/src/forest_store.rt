@@ -56,7 +56,7 @@ impl ForestStore {
         self.rows.agrees(a, b);
     }
 
-    /// The one of these rows that holds this tree.
+    // The one of these rows that holds this tree.
     fn find(&self, rows: &[usize], tree: &Tree) -> Option<Pushed<Tree>>
         ensures { IfSome result (λ t. Shows self.now t × (t.value ≡ tree.now)) }
     {

@@ -1,3 +1,5 @@
+//! A node of a tree, and a registration at it.
+
 ghost use Rattle.std.specs.Prelude.{◌≡◌, ◌↔◌, IsTrue};
 
 use native_filters::Hook;

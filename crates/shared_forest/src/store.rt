@@ -1,3 +1,5 @@
+//! What a store of trees offers: places, and the trees at them.
+
 ghost use Rattle.std.specs.Prelude.{◌≡◌, ◌≤◌, ◌+◌, ◌↔◌, IsTrue, Option, Some, IfOk, OnOk, OnErr, ℕ};
 ghost use Rattle.std.specs.Option.{option_copied};
 ghost use Rattle.shared_forest.specs.Lists.{TreeLists};

@@ -1,3 +1,5 @@
+//! The store of one owner: each different tree once, in a row of its own.
+
 ghost use Rattle.std.specs.Prelude.{◌≡◌, ◌+◌, ◌<◌, ◌≤◌, ◌^◌, ◌-◌, ◌++◌, [], ◌∷◌, min, length, IfOk, OnOk, OnErr, IsOk, ℕ, Some, slice_get, slice_index_or, Contains};
 ghost use Rattle.shared_forest.specs.Lists.{TreeLists};
 ghost use Rattle.shared_forest.specs.Rows.{AreDifferent};
@@ -112,7 +114,7 @@ impl Forests for Table {
     }
 }
 
-/// The row that holds this tree; a tree without a row gets the next.
+// The row that holds this tree; a tree without a row gets the next.
 fn row_for(rows: &mut IndexSet<Tree>, tree: Tree) -> Result<usize, AllocError>
     ensures row { IfOk result (λ row. slice_get rows.new.keys row ≡ Some tree) }
     ensures found { Contains rows.old.keys tree → rows.new.keys ≡ rows.old.keys }

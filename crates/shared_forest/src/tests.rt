@@ -6,7 +6,7 @@ use std::test::Fail;
 use std::thread;
 use std::thread::Threads;
 
-/// A tree with one registration at one event.
+// A tree with one registration at one event.
 fn leaf(alloc: Global, event: u16, number: u8) -> Result<Tree, AllocError> {
     let nodes = vec![in alloc;
         Node {
@@ -33,14 +33,14 @@ fn leaf(alloc: Global, event: u16, number: u8) -> Result<Tree, AllocError> {
     Ok(Tree::new(nodes, slots))
 }
 
-/// Interns a tree and takes its row a second time.
+// Interns a tree and takes its row a second time.
 fn again_is_same<F: Forests>(alloc: Global, f: &mut F, tree: Tree) -> Result<bool, AllocError> {
     let first = f.intern(alloc, tree)?;
     let second = f.again(alloc, &first)?;
     Ok(f.same(&first, &second))
 }
 
-/// Asks that a type may be shared by threads.
+// Asks that a type may be shared by threads.
 fn shared<T: Send + Sync>(value: T) -> T {
     value
 }
@@ -106,12 +106,12 @@ fn threads_may_share_trees(rt: HostRuntime) -> Result<(), Fail> {
     Ok(())
 }
 
-/// Asks that a type may be handed to a thread.
+// Asks that a type may be handed to a thread.
 fn handed<T: Send>(value: T) -> T {
     value
 }
 
-/// The rows of two trees that a new user puts in, one after the other.
+// The rows of two trees that a new user puts in, one after the other.
 fn rows_of<R: Wait>(
     rt: R,
     alloc: Global,
@@ -127,7 +127,7 @@ where
     Ok((first.row(), second.row()))
 }
 
-/// Whether two threads that put in two trees in opposite orders get one pair of rows.
+// Whether two threads that put in two trees in opposite orders get one pair of rows.
 fn threads_agree<R: Threads + Wait + Sync + Send + Copy + Drop>(
     rt: R,
     alloc: Global,
@@ -175,7 +175,7 @@ fn users_find_the_trees_of_others(rt: HostRuntime) -> Result<(), Fail> {
     Ok(())
 }
 
-/// A user whose handle may be handed to a thread may be handed itself.
+// A user whose handle may be handed to a thread may be handed itself.
 fn user_is_handed<R: Wait + Send + Sync + Drop>(user: StoreUser<R>) -> StoreUser<R> {
     handed(user)
 }

@@ -1,3 +1,5 @@
+//! A tree, as two flat lists.
+
 ghost use Rattle.std.specs.Prelude.{◌≡◌, ◌↔◌, IsTrue};
 
 use crate::node::{are_same_nodes, are_same_slots};

@@ -50,7 +50,7 @@ impl Ends {
 }
 
 impl End {
-    /// The state after this end sent the segment: after an RST no other rule is read.
+    // The state after this end sent the segment: after an RST no other rule is read.
     fn state_after_send(self, f: &SegFacts) -> State
         ensures { result ≡ sent_state f.now self.has_sent_syn self.state }
     {
@@ -70,7 +70,7 @@ impl End {
         state
     }
 
-    /// The state after this end received the segment: an RST is read by its own rule alone.
+    // The state after this end received the segment: an RST is read by its own rule alone.
     fn state_after_receive(self, f: &SegFacts) -> State
         ensures { result ≡ received_state f.now self.state }
     {

@@ -53,7 +53,7 @@ pub fn bare(alloc: Global, table: &mut Table, defs: &Defs) -> Result<Forest, All
     Ok(Forest { shared, list })
 }
 
-/// The tree with one registration switched on or off, by `edit`.
+// The tree with one registration switched on or off, by `edit`.
 fn edited(
     alloc: Global,
     table: &mut Table,
@@ -78,7 +78,7 @@ fn edited(
     Ok(Forest { shared, list })
 }
 
-/// The tree with one registration more.
+// The tree with one registration more.
 fn with(
     alloc: Global,
     table: &mut Table,
@@ -102,7 +102,7 @@ fn with(
     Ok(more)
 }
 
-/// The registration of a list with this number.
+// The registration of a list with this number.
 fn find(list: &[Reg], number: u8) -> Option<Reg>
     ensures { IfSome result (Contains list.now) }
 {
@@ -114,7 +114,7 @@ fn find(list: &[Reg], number: u8) -> Option<Reg>
     None
 }
 
-/// The tree with one registration less.
+// The tree with one registration less.
 fn without(
     alloc: Global,
     table: &mut Table,
@@ -135,7 +135,7 @@ fn without(
     Ok(fewer)
 }
 
-/// The tree with one registration switched on or off.
+// The tree with one registration switched on or off.
 fn next(
     alloc: Global,
     table: &mut Table,

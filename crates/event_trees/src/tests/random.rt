@@ -22,7 +22,7 @@ struct Random {
 }
 
 impl Random {
-    /// A number below 16.
+    // A number below 16.
     fn draw(&mut self) -> u8 {
         self.state = self
             .state
@@ -47,7 +47,7 @@ impl Random {
         }
     }
 
-    /// One of those defined, or a built-in event.
+    // One of those defined, or a built-in event.
     fn event(&mut self, defs: &Defs) -> u16 {
         for _ in 0..3 {
             let number = u16::from(self.draw());
@@ -68,7 +68,7 @@ impl Random {
     }
 }
 
-/// Up to 15 events, each under a built-in event or one that was defined before it.
+// Up to 15 events, each under a built-in event or one that was defined before it.
 fn some_defs(alloc: Global, random: &mut Random) -> Result<Defs, Fail> {
     let mut defs = Defs::new(alloc);
     for _ in 0..random.draw() {
@@ -82,12 +82,12 @@ fn some_defs(alloc: Global, random: &mut Random) -> Result<Defs, Fail> {
     Ok(defs)
 }
 
-/// The number at a place. Steps of 7 go through all numbers from 16 to 31, each once.
+// The number at a place. Steps of 7 go through all numbers from 16 to 31, each once.
 fn number_at(first: u8, place: u8) -> u8 {
     16 + (first % 16 + 7 * (place % 16)) % 16
 }
 
-/// Up to eight registrations with numbers of their own, in no order.
+// Up to eight registrations with numbers of their own, in no order.
 fn some_regs(alloc: Global, defs: &Defs, random: &mut Random) -> Result<Vec<Reg>, Fail> {
     let mut regs = Vec::new(alloc);
     let first = random.draw();
@@ -97,7 +97,7 @@ fn some_regs(alloc: Global, defs: &Defs, random: &mut Random) -> Result<Vec<Reg>
     Ok(regs)
 }
 
-/// The path of an event, from its root on.
+// The path of an event, from its root on.
 fn path_of(alloc: Global, defs: &Defs, event: u16) -> Result<Vec<u16>, Fail> {
     let mut path = Vec::new(alloc);
     let mut event = event;
@@ -112,7 +112,7 @@ fn path_of(alloc: Global, defs: &Defs, event: u16) -> Result<Vec<u16>, Fail> {
     Ok(path)
 }
 
-/// How many registrations of a list come before another: by path, and then by number.
+// How many registrations of a list come before another: by path, and then by number.
 fn count_before(alloc: Global, defs: &Defs, list: &[Reg], reg: &Reg) -> Result<usize, Fail>
     ensures { IfOk result (λ count. count ≤ length list.now) }
 {
@@ -127,7 +127,7 @@ fn count_before(alloc: Global, defs: &Defs, list: &[Reg], reg: &Reg) -> Result<u
     Ok(count)
 }
 
-/// The private list of these registrations.
+// The private list of these registrations.
 fn in_order(alloc: Global, defs: &Defs, regs: &[Reg]) -> Result<ActiveList, Fail> {
     let mut list = Vec::new(alloc);
     for reg in regs {
@@ -137,7 +137,7 @@ fn in_order(alloc: Global, defs: &Defs, regs: &[Reg]) -> Result<ActiveList, Fail
     Ok(ActiveList { items: list })
 }
 
-/// Whether a raise passes a path: it begins with the raise's event, and all filters on it are true.
+// Whether a raise passes a path: it begins with the raise's event, and all filters on it are true.
 fn passes(defs: &Defs, path: &[u16], event: u16, facts: &Facts) -> bool {
     let natives = NativeBook::plain();
     for step in path {
@@ -150,7 +150,7 @@ fn passes(defs: &Defs, path: &[u16], event: u16, facts: &Facts) -> bool {
     path.first() == Some(&event)
 }
 
-/// What a check of each registration of a list gives, each alone.
+// What a check of each registration of a list gives, each alone.
 fn checked_alone(
     alloc: Global,
     defs: &Defs,
@@ -169,7 +169,7 @@ fn checked_alone(
     Ok(numbers)
 }
 
-/// Asserts that walks over the tree of a list give what checks of each registration alone give.
+// Asserts that walks over the tree of a list give what checks of each registration alone give.
 fn walks_agree(
     rt: &impl Abort,
     alloc: Global,
@@ -189,7 +189,7 @@ fn walks_agree(
     Ok(())
 }
 
-/// The tree of these registrations by `build`, once walks over it were compared.
+// The tree of these registrations by `build`, once walks over it were compared.
 fn tree_of(
     rt: &impl Abort,
     alloc: Global,
@@ -214,8 +214,8 @@ fn tree_of(
     Ok(shared)
 }
 
-/// One round: some are switched on and some of them off again, in no order, and each time the tree is that of the
-/// whole list.
+// One round: some are switched on and some of them off again, in no order, and each time the tree is that of the
+// whole list.
 fn a_round(rt: &impl Abort, alloc: Global, random: &mut Random) -> Result<(), Fail> {
     let defs = some_defs(alloc, random)?;
     let regs = some_regs(alloc, &defs, random)?;

@@ -24,7 +24,7 @@ fn slot(number: u8, hook: Hook) -> Slot {
     Slot { number, hook }
 }
 
-/// Events 1 and 4 under pkt_in, and 2 and 3 under 1.
+// Events 1 and 4 under pkt_in, and 2 and 3 under 1.
 fn family(alloc: Global) -> Result<Defs, Fail> {
     let mut defs = Defs::new(alloc);
     define(alloc, &mut defs, 1, PKT_IN, "true")?;
@@ -34,7 +34,7 @@ fn family(alloc: Global) -> Result<Defs, Fail> {
     Ok(defs)
 }
 
-/// Asserts that a list has this tree, by `build` and by `edit`s in either order.
+// Asserts that a list has this tree, by `build` and by `edit`s in either order.
 fn has_tree(
     rt: &impl Abort,
     alloc: Global,
@@ -220,7 +220,7 @@ fn an_edit_takes_away_the_nodes_that_nothing_needs(rt: HostRuntime) -> Result<()
     Ok(())
 }
 
-/// The nodes of a list with one registration at pkt_in and so many at event 1.
+// The nodes of a list with one registration at pkt_in and so many at event 1.
 fn pair_of_nodes(count: u8) -> [Node; 3] {
     [
         node(0, 0, 2, 0, 0),

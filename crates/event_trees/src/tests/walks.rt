@@ -9,7 +9,7 @@ use shared_forest::{ForestView, Table};
 use std::alloc::Global;
 use std::test::Fail;
 
-/// What a raise of pkt_in calls of a list.
+// What a raise of pkt_in calls of a list.
 fn called_of(
     alloc: Global,
     defs: &Defs,
