@@ -17,7 +17,7 @@ loop-place-init c = record {
       let at = kept (direction_of c.args.from e).receiver.cells e.rbuf in
       let all = runs_at c.args.from c.args.off c.args.len e in
       let left : c.into_iter-place-iterator.result ≡ all =
-      c.into_iter-place-iterator.ensures.into_iter_gives ∙ c.ppeek-place-items.ensures e stands ∙ ap (λ n. runs_at c.args.from c.args.off n e) c.from.ensures in
+      c.into_iter-place-iterator.ensures.into_iter_gives ∙ c.ppeek-place-items.ensures.runs e stands ∙ ap (λ n. runs_at c.args.from c.args.off n e) c.from.ensures in
       let none : c.new.result.items ≡ [] = c.new.ensures.items in
       subst (λ (l : List (ℕ × ℕ)). Looking at all c.args.keep 0 c.new.result.items l) (sym left)
       (subst (λ (p : List (ℕ × List ℕ)). Looking at all c.args.keep 0 p all) (sym none) (looking_begun c.args.from c.args.off c.args.len e c.args.keep c.requires));
