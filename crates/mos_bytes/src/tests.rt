@@ -1,7 +1,7 @@
 // What a caller sees of each source and sink.
 use crate::{
-    Failed, FetchError, FolderShelf, MemShelf, MemSink, MemSource, ReadSource, Shelf, Sink, Source,
-    WriteSink, fill,
+    Failed, FetchError, MemShelf, MemSink, MemSource, ReadSource, Shelf, Sink, Source, WriteSink,
+    fill,
 };
 use std::io::{Error, ErrorKind, Read, Result, Write};
 use std::test::Fail;
@@ -126,29 +126,6 @@ fn a_memory_shelf_fails_at_listed_calls(rt: HostRuntime) -> std::result::Result<
         ("rule", 3, Err(FetchError::Failed)),
         ("empty", 0, Ok(b"")),
         ("rules", 3, Ok(b"abc")),
-    ] {
-        let fetched = shelf.fetch(alloc, name, limit);
-        assert_eq!(rt; shown(&fetched), want, "{name} within {limit}");
-    }
-    Ok(())
-}
-
-// The files lie where the test runs: one of 15 bytes, one of 5,000 and one of none.
-#[test]
-fn a_folder_as_a_shelf(rt: HostRuntime) -> std::result::Result<(), Fail> {
-    let alloc = rt.alloc();
-    let mut shelf = FolderShelf::new(&rt);
-    let mut long = Vec::new(alloc);
-    for _ in 0..625 {
-        long.extend_from_slice(b"# 5678\n\n")?;
-    }
-    for (name, limit, want) in [
-        ("short.mos", 15, Ok(b"at 0 rbuf 4096\n".as_slice())),
-        ("short.mos", 14, Err(FetchError::TooLong)),
-        ("long.mos", 5000, Ok(long.as_slice())),
-        ("long.mos", 4999, Err(FetchError::TooLong)),
-        ("empty.mos", 0, Ok(b"")),
-        ("gone.mos", 5000, Err(FetchError::Failed)),
     ] {
         let fetched = shelf.fetch(alloc, name, limit);
         assert_eq!(rt; shown(&fetched), want, "{name} within {limit}");
