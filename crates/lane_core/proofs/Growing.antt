@@ -6,32 +6,33 @@ use Rattle.std.specs.List.{list_any}
 use Rattle.lane_core.specs.Sight.{Sight, Tcp, Other, key_of_segment}
 use Rattle.flow_table.specs.Key.{EndpointPair, same_key}
 use Rattle.flow_table.proofs.Keys.{same_key-equal}
+use Rattle.app_api.specs.App.{Meaning}
 use Rattle.forest_versions.specs.State.{ControlState}
-use Rattle.lane_core.specs.History.{is_over}
+use Rattle.connection_core.specs.History.{is_over}
 use Rattle.lane_core.specs.Records.{VersionedPacket, RecordSoFar, opens, is_between, is_open_at, belongs_to, started_by, continued_by, added, records_from}
 use Rattle.lane_core.specs.Places.{further, place_by, place_of, IsSingle}
 use Rattle.lane_core.specs.Laws.{continued_through, started_after}
 use Rattle.lane_core.proofs.Places.{none_here, place_by-within, place_by-passes, place_by-never, added-new, joins, IsSingle-none, IsSingle-append, IsSingle-set}
-use Rattle.lane_core.proofs.Lanes.{holds_before, holds_after, left_of_and}
+use Rattle.lane_core.proofs.Holding.{holds_before, holds_after, left_of_and}
 
-module _ (control_at : ℕ → ControlState) where
+module _ (app : Meaning) (control_at : ℕ → ControlState) where
   -- what a packet makes of a record
   abbrev stepped : VersionedPacket → RecordSoFar → RecordSoFar
-  stepped s past = if belongs_to s.arrival.sight past then continued_by control_at s.arrival past else past
+  stepped s past = if belongs_to s.arrival.sight past then continued_by app control_at s.arrival past else past
 
   stepped_here : (s : VersionedPacket) (ss : List VersionedPacket) (past : RecordSoFar) (b : Bool)
-      → (if b then continued_through control_at (continued_by control_at s.arrival past) ss else continued_through control_at past ss) ≡ continued_through control_at (if b then continued_by control_at s.arrival past else past) ss
+      → (if b then continued_through app control_at (continued_by app control_at s.arrival past) ss else continued_through app control_at past ss) ≡ continued_through app control_at (if b then continued_by app control_at s.arrival past else past) ss
   stepped_here s ss past true = refl
   stepped_here s ss past false = refl
 
-  grown_stepped : (s : VersionedPacket) (ss : List VersionedPacket) (past : RecordSoFar) → continued_through control_at past (s ∷ ss) ≡ continued_through control_at (stepped s past) ss
+  grown_stepped : (s : VersionedPacket) (ss : List VersionedPacket) (past : RecordSoFar) → continued_through app control_at past (s ∷ ss) ≡ continued_through app control_at (stepped s past) ss
   unfolding continued_through
   grown_stepped s ss past = stepped_here s ss past (belongs_to s.arrival.sight past)
 
   -- each record takes the packet or leaves it
-  grown_map : (s : VersionedPacket) (ss : List VersionedPacket) (pasts : List RecordSoFar) → map (λ p. continued_through control_at p ss) (map (stepped s) pasts) ≡ map (λ p. continued_through control_at p (s ∷ ss)) pasts
+  grown_map : (s : VersionedPacket) (ss : List VersionedPacket) (pasts : List RecordSoFar) → map (λ p. continued_through app control_at p ss) (map (stepped s) pasts) ≡ map (λ p. continued_through app control_at p (s ∷ ss)) pasts
   grown_map s ss [] = refl
-  grown_map s ss (past ∷ pasts) = ap (λ x. x ∷ map (λ p. continued_through control_at p ss) (map (stepped s) pasts)) (sym (grown_stepped s ss past)) ∙ ap (λ l. continued_through control_at past (s ∷ ss) ∷ l) (grown_map s ss pasts)
+  grown_map s ss (past ∷ pasts) = ap (λ x. x ∷ map (λ p. continued_through app control_at p ss) (map (stepped s) pasts)) (sym (grown_stepped s ss past)) ∙ ap (λ l. continued_through app control_at past (s ∷ ss) ∷ l) (grown_map s ss pasts)
 
   unstepped : (s : VersionedPacket) (pasts : List RecordSoFar) → place_by (belongs_to s.arrival.sight) pasts ≡ None → map (stepped s) pasts ≡ pasts
   unfolding place_by
@@ -42,14 +43,14 @@ module _ (control_at : ℕ → ControlState) where
 
   added_stepped_here : (s : VersionedPacket) (past : RecordSoFar) (pasts : List RecordSoFar) (b : Bool) (o : Option ℕ) (i : ℕ) → belongs_to s.arrival.sight past ≡ b → place_by (belongs_to s.arrival.sight) pasts ≡ o
       → MatchBool b (o ≡ None) (IsSingle (belongs_to s.arrival.sight) pasts) → (if b then Some 0 else further o) ≡ Some i
-      → ((k : ℕ) → IsSingle (belongs_to s.arrival.sight) pasts → o ≡ Some k → added control_at s pasts ≡ map (stepped s) pasts)
-      → (if b then continued_by control_at s.arrival past ∷ pasts else past ∷ added control_at s pasts) ≡ (if b then continued_by control_at s.arrival past else past) ∷ map (stepped s) pasts
-  added_stepped_here s past pasts true o i is there single e later = ap (λ l. continued_by control_at s.arrival past ∷ l) (sym (unstepped s pasts (there ∙ single)))
+      → ((k : ℕ) → IsSingle (belongs_to s.arrival.sight) pasts → o ≡ Some k → added app control_at s pasts ≡ map (stepped s) pasts)
+      → (if b then continued_by app control_at s.arrival past ∷ pasts else past ∷ added app control_at s pasts) ≡ (if b then continued_by app control_at s.arrival past else past) ∷ map (stepped s) pasts
+  added_stepped_here s past pasts true o i is there single e later = ap (λ l. continued_by app control_at s.arrival past ∷ l) (sym (unstepped s pasts (there ∙ single)))
   added_stepped_here s past pasts false None i is there single e later = absurd (cc)
   added_stepped_here s past pasts false (Some k) i is there single e later = ap (λ l. past ∷ l) (later k single refl)
 
   -- a packet that a record takes: of the records one takes it
-  added_stepped : (s : VersionedPacket) (pasts : List RecordSoFar) (i : ℕ) → IsSingle (belongs_to s.arrival.sight) pasts → place_by (belongs_to s.arrival.sight) pasts ≡ Some i → added control_at s pasts ≡ map (stepped s) pasts
+  added_stepped : (s : VersionedPacket) (pasts : List RecordSoFar) (i : ℕ) → IsSingle (belongs_to s.arrival.sight) pasts → place_by (belongs_to s.arrival.sight) pasts ≡ Some i → added app control_at s pasts ≡ map (stepped s) pasts
   unfolding added place_by IsSingle
   added_stepped s [] i single there = absurd (cc)
   added_stepped s (past ∷ pasts) i single there =
@@ -83,27 +84,27 @@ module _ (control_at : ℕ → ControlState) where
   false_is_true : false ≡ true → ⊥
   false_is_true e = cc
 
-  begun_alone : (s : VersionedPacket) (sight : Sight) (pasts : List RecordSoFar) (key : EndpointPair) → s.arrival.sight ≡ sight → place_by (belongs_to sight) pasts ≡ None → is_open_at key (started_by control_at s) ≡ true → place_of key pasts ≡ None
+  begun_alone : (s : VersionedPacket) (sight : Sight) (pasts : List RecordSoFar) (key : EndpointPair) → s.arrival.sight ≡ sight → place_by (belongs_to sight) pasts ≡ None → is_open_at key (started_by app control_at s) ≡ true → place_of key pasts ≡ None
   unfolding is_between
   begun_alone s (Tcp segment) pasts key is none passes =
-      let between = middle (opens s.arrival.sight) (is_between key s.arrival.sight) (not (is_over (started_by control_at s).history)) passes in
+      let between = middle (opens s.arrival.sight) (is_between key s.arrival.sight) (not (is_over (started_by app control_at s).history)) passes in
       let same : same_key (key_of_segment segment) key ≡ true = subst (λ p. is_between key p ≡ true) is between in
       subst (λ k. place_of k pasts ≡ None) (same_key-equal (key_of_segment segment) key same) none
   begun_alone s (Other class) pasts key is none passes =
-      let between = middle (opens s.arrival.sight) (is_between key s.arrival.sight) (not (is_over (started_by control_at s).history)) passes in
+      let between = middle (opens s.arrival.sight) (is_between key s.arrival.sight) (not (is_over (started_by app control_at s).history)) passes in
       absurd (false_is_true (subst (λ p. is_between key p ≡ true) is between))
 
   none_is_some : (i : ℕ) → None ≡ Some i → ⊥
   none_is_some i e = cc
 
   joined_alone : (s : VersionedPacket) (sight : Sight) (pasts : List RecordSoFar) (i : ℕ) (key : EndpointPair) → s.arrival.sight ≡ sight → Alone pasts → place_by (belongs_to sight) pasts ≡ Some i
-      → IsSingle (is_open_at key) (set pasts i (continued_by control_at s.arrival (get_or pasts i (started_by control_at s))))
+      → IsSingle (is_open_at key) (set pasts i (continued_by app control_at s.arrival (get_or pasts i (started_by app control_at s))))
   joined_alone s (Tcp segment) pasts i key is alone there =
       let own = key_of_segment segment in
-      let past = get_or pasts i (started_by control_at s) in
-      let next = continued_by control_at s.arrival past in
-      let passes = place_by-passes (is_open_at own) pasts i (started_by control_at s) there in
-      IsSingle-set (is_open_at key) pasts i next (started_by control_at s) (alone key) (place_by-within (is_open_at own) pasts i there)
+      let past = get_or pasts i (started_by app control_at s) in
+      let next = continued_by app control_at s.arrival past in
+      let passes = place_by-passes (is_open_at own) pasts i (started_by app control_at s) there in
+      IsSingle-set (is_open_at key) pasts i next (started_by app control_at s) (alone key) (place_by-within (is_open_at own) pasts i there)
       (λ e. holds_before past own key passes
       ∙ left_of_and (same_key own key) (not (is_over next.history)) (sym (holds_after past next own key (is_over next.history) passes refl refl) ∙ e))
   joined_alone s (Other class) pasts i key is alone there = absurd (none_is_some i (sym (place_by-never (belongs_to (Other class)) pasts (λ past. refl)) ∙ there))
@@ -113,41 +114,41 @@ module _ (control_at : ℕ → ControlState) where
   single_takes (Other class) pasts alone = IsSingle-none (belongs_to (Other class)) pasts (place_by-never (belongs_to (Other class)) pasts (λ past. refl))
 
   grow_here : (s : VersionedPacket) (ss : List VersionedPacket) (pasts : List RecordSoFar) (o : Option ℕ) → place_by (belongs_to s.arrival.sight) pasts ≡ o → Alone pasts
-      → (Alone (added control_at s pasts) → records_from control_at (added control_at s pasts) ss ≡ map (λ p. continued_through control_at p ss) (added control_at s pasts) ++ started_after control_at (added control_at s pasts) ss)
-      → records_from control_at (added control_at s pasts) ss ≡ map (λ p. continued_through control_at p (s ∷ ss)) pasts ++ started_after control_at pasts (s ∷ ss)
+      → (Alone (added app control_at s pasts) → records_from app control_at (added app control_at s pasts) ss ≡ map (λ p. continued_through app control_at p ss) (added app control_at s pasts) ++ started_after app control_at (added app control_at s pasts) ss)
+      → records_from app control_at (added app control_at s pasts) ss ≡ map (λ p. continued_through app control_at p (s ∷ ss)) pasts ++ started_after app control_at pasts (s ∷ ss)
   unfolding started_after
   grow_here s ss pasts None there alone rest =
-      let new = added-new control_at s pasts there in
+      let new = added-new app control_at s pasts there in
       let none = any_none (belongs_to s.arrival.sight) pasts there in
-      let still : Alone (added control_at s pasts) = λ key. subst (IsSingle (is_open_at key)) (sym new)
-      (IsSingle-append (is_open_at key) pasts (started_by control_at s) (alone key) (λ passes. begun_alone s s.arrival.sight pasts key refl there passes)) in
-      let last = continued_through control_at (started_by control_at s) ss in
-      let after = started_after control_at (added control_at s pasts) ss in
+      let still : Alone (added app control_at s pasts) = λ key. subst (IsSingle (is_open_at key)) (sym new)
+      (IsSingle-append (is_open_at key) pasts (started_by app control_at s) (alone key) (λ passes. begun_alone s s.arrival.sight pasts key refl there passes)) in
+      let last = continued_through app control_at (started_by app control_at s) ss in
+      let after = started_after app control_at (added app control_at s pasts) ss in
       rest still
-      ∙ ap (λ l. map (λ p. continued_through control_at p ss) l ++ after) new
-      ∙ ap (λ l. l ++ after) (map-append (λ p. continued_through control_at p ss) pasts (started_by control_at s ∷ []))
-      ∙ append_assoc (map (λ p. continued_through control_at p ss) pasts) (last ∷ []) after
-      ∙ ap (λ l. map (λ p. continued_through control_at p ss) l ++ last ∷ after) (sym (unstepped s pasts there))
+      ∙ ap (λ l. map (λ p. continued_through app control_at p ss) l ++ after) new
+      ∙ ap (λ l. l ++ after) (map-append (λ p. continued_through app control_at p ss) pasts (started_by app control_at s ∷ []))
+      ∙ append_assoc (map (λ p. continued_through app control_at p ss) pasts) (last ∷ []) after
+      ∙ ap (λ l. map (λ p. continued_through app control_at p ss) l ++ last ∷ after) (sym (unstepped s pasts there))
       ∙ ap (λ l. l ++ last ∷ after) (grown_map s ss pasts)
-      ∙ ap (λ b. map (λ p. continued_through control_at p (s ∷ ss)) pasts ++ (if b then after else last ∷ after)) (sym none)
+      ∙ ap (λ b. map (λ p. continued_through app control_at p (s ∷ ss)) pasts ++ (if b then after else last ∷ after)) (sym none)
   grow_here s ss pasts (Some i) there alone rest =
       let one = added_stepped s pasts i (single_takes s.arrival.sight pasts alone) there in
       let some = any_some (belongs_to s.arrival.sight) pasts i there in
-      let new = (joins control_at s pasts i there).changed (started_by control_at s) in
-      let still : Alone (added control_at s pasts) = λ key. subst (IsSingle (is_open_at key)) (sym new) (joined_alone s s.arrival.sight pasts i key refl alone there) in
-      let last = continued_through control_at (started_by control_at s) ss in
-      let after = started_after control_at (added control_at s pasts) ss in
+      let new = (joins app control_at s pasts i there).changed (started_by app control_at s) in
+      let still : Alone (added app control_at s pasts) = λ key. subst (IsSingle (is_open_at key)) (sym new) (joined_alone s s.arrival.sight pasts i key refl alone there) in
+      let last = continued_through app control_at (started_by app control_at s) ss in
+      let after = started_after app control_at (added app control_at s pasts) ss in
       rest still
-      ∙ ap (λ l. map (λ p. continued_through control_at p ss) l ++ after) one
+      ∙ ap (λ l. map (λ p. continued_through app control_at p ss) l ++ after) one
       ∙ ap (λ l. l ++ after) (grown_map s ss pasts)
-      ∙ ap (λ b. map (λ p. continued_through control_at p (s ∷ ss)) pasts ++ (if b then after else last ∷ after)) (sym some)
+      ∙ ap (λ b. map (λ p. continued_through app control_at p (s ∷ ss)) pasts ++ (if b then after else last ∷ after)) (sym some)
 
-  grown_none : (pasts : List RecordSoFar) → pasts ≡ map (λ p. continued_through control_at p []) pasts
+  grown_none : (pasts : List RecordSoFar) → pasts ≡ map (λ p. continued_through app control_at p []) pasts
   unfolding continued_through
   grown_none [] = refl
   grown_none (past ∷ pasts) = ap (λ l. past ∷ l) (grown_none pasts)
 
-  pub records_grown : (ss : List VersionedPacket) (pasts : List RecordSoFar) → Alone pasts → records_from control_at pasts ss ≡ map (λ p. continued_through control_at p ss) pasts ++ started_after control_at pasts ss
+  pub records_grown : (ss : List VersionedPacket) (pasts : List RecordSoFar) → Alone pasts → records_from app control_at pasts ss ≡ map (λ p. continued_through app control_at p ss) pasts ++ started_after app control_at pasts ss
   unfolding records_from started_after
-  records_grown [] pasts alone = grown_none pasts ∙ sym (append-nil (map (λ p. continued_through control_at p []) pasts))
-  records_grown (s ∷ ss) pasts alone = grow_here s ss pasts (place_by (belongs_to s.arrival.sight) pasts) refl alone (λ still. records_grown ss (added control_at s pasts) still)
+  records_grown [] pasts alone = grown_none pasts ∙ sym (append-nil (map (λ p. continued_through app control_at p []) pasts))
+  records_grown (s ∷ ss) pasts alone = grow_here s ss pasts (place_by (belongs_to s.arrival.sight) pasts) refl alone (λ still. records_grown ss (added app control_at s pasts) still)

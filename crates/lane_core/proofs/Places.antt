@@ -1,6 +1,7 @@
 -- Laws on the place of the open connection of a key.
 use Rattle.std.proofs.Common.{◌≡◌, ℕ, zero, suc, ◌<◌, Bool, true, false, Option, Some, None, List, [], ◌∷◌, ◌++◌, length, get_or, set, refl, sym, ap, subst, ◌∙◌, arith}
 use Rattle.std.specs.Prelude.{if◌then◌else◌, MatchBool}
+use Rattle.app_api.specs.App.{Meaning}
 use Rattle.forest_versions.specs.State.{ControlState}
 use Rattle.lane_core.specs.Records.{VersionedPacket, RecordSoFar, belongs_to, started_by, continued_by, added}
 use Rattle.lane_core.specs.Places.{further, place_by, IsSingle}
@@ -11,9 +12,9 @@ none_here true o e = absurd (cc)
 none_here false None e = (refl, refl)
 none_here false (Some i) e = absurd (cc)
 
-module _ (control_at : ℕ → ControlState) where
+module _ (app : Meaning) (control_at : ℕ → ControlState) where
   -- a packet that no record takes begins one
-  pub added-new : (s : VersionedPacket) (pasts : List RecordSoFar) → place_by (belongs_to s.arrival.sight) pasts ≡ None → added control_at s pasts ≡ pasts ++ started_by control_at s ∷ []
+  pub added-new : (s : VersionedPacket) (pasts : List RecordSoFar) → place_by (belongs_to s.arrival.sight) pasts ≡ None → added app control_at s pasts ≡ pasts ++ started_by app control_at s ∷ []
   unfolding added place_by
   added-new s [] none = refl
   added-new s (past ∷ pasts) none =
@@ -23,7 +24,7 @@ module _ (control_at : ℕ → ControlState) where
   -- a packet that a record takes changes that record alone
   pub record Joins (s : VersionedPacket) (pasts : List RecordSoFar) (i : ℕ) : Type 0 where
     pub within : i < length pasts
-    pub changed : (d : RecordSoFar) → added control_at s pasts ≡ set pasts i (continued_by control_at s.arrival (get_or pasts i d))
+    pub changed : (d : RecordSoFar) → added app control_at s pasts ≡ set pasts i (continued_by app control_at s.arrival (get_or pasts i d))
 
   joins_here : (s : VersionedPacket) (past : RecordSoFar) (pasts : List RecordSoFar) (b : Bool) (o : Option ℕ) (i : ℕ) → belongs_to s.arrival.sight past ≡ b → place_by (belongs_to s.arrival.sight) pasts ≡ o
       → ((k : ℕ) → o ≡ Some k → Joins s pasts k) → (if b then Some 0 else further o) ≡ Some i → Joins s (past ∷ pasts) i

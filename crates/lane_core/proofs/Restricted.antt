@@ -4,6 +4,7 @@ use Rattle.std.specs.Prelude.{if◌then◌else◌, ◌&&◌, filter}
 use Rattle.lane_core.specs.Sight.{Sight, Tcp, Other, key_of_segment}
 use Rattle.flow_table.specs.Key.{EndpointPair}
 use Rattle.flow_table.proofs.Keys.{same_key-equal}
+use Rattle.app_api.specs.App.{Meaning}
 use Rattle.forest_versions.specs.State.{ControlState}
 use Rattle.lane_core.specs.Records.{VersionedPacket, RecordSoFar, is_between, belongs_to, continued_by, added, records_from}
 use Rattle.lane_core.specs.Laws.{has_key}
@@ -13,7 +14,7 @@ second_of true true c all = refl
 second_of true false c all = absurd (cc)
 second_of false b c all = absurd (cc)
 
-module _ (control_at : ℕ → ControlState) (keys : EndpointPair → Bool) (others : Bool) where
+module _ (app : Meaning) (control_at : ℕ → ControlState) (keys : EndpointPair → Bool) (others : Bool) where
   -- whether a packet is in the set, and whether a record is by its first packet
   abbrev packet_in : VersionedPacket → Bool
   packet_in s = has_key keys others s.arrival.sight
@@ -32,43 +33,43 @@ module _ (control_at : ℕ → ControlState) (keys : EndpointPair → Bool) (oth
   taken_key (Other class) past taken = absurd (cc)
 
   outside_here : (s : VersionedPacket) (past : RecordSoFar) (pasts after : List RecordSoFar) (b : Bool) → belongs_to s.arrival.sight past ≡ b → packet_in s ≡ false → filter record_in after ≡ filter record_in pasts
-      → filter record_in (if b then continued_by control_at s.arrival past ∷ pasts else past ∷ after) ≡ filter record_in (past ∷ pasts)
+      → filter record_in (if b then continued_by app control_at s.arrival past ∷ pasts else past ∷ after) ≡ filter record_in (past ∷ pasts)
   outside_here s past pasts after true taken out rest = let fails : record_in past ≡ false = taken_key s.arrival.sight past taken ∙ out in rw fails refl
   outside_here s past pasts after false taken out rest = ap (λ l. cond (record_in past) (past ∷ l) l) rest
 
   -- a packet that isn't in the set changes no record of it
-  outside : (s : VersionedPacket) (pasts : List RecordSoFar) → packet_in s ≡ false → filter record_in (added control_at s pasts) ≡ filter record_in pasts
+  outside : (s : VersionedPacket) (pasts : List RecordSoFar) → packet_in s ≡ false → filter record_in (added app control_at s pasts) ≡ filter record_in pasts
   unfolding added
   outside s [] out = rw out refl
-  outside s (past ∷ pasts) out = outside_here s past pasts (added control_at s pasts) (belongs_to s.arrival.sight past) refl out (outside s pasts out)
+  outside s (past ∷ pasts) out = outside_here s past pasts (added app control_at s pasts) (belongs_to s.arrival.sight past) refl out (outside s pasts out)
 
-  inside_there : (s : VersionedPacket) (past : RecordSoFar) (pasts after : List RecordSoFar) (c : Bool) → record_in past ≡ c → belongs_to s.arrival.sight past ≡ false → filter record_in after ≡ added control_at s (filter record_in pasts)
-      → cond c (past ∷ filter record_in after) (filter record_in after) ≡ added control_at s (cond c (past ∷ filter record_in pasts) (filter record_in pasts))
+  inside_there : (s : VersionedPacket) (past : RecordSoFar) (pasts after : List RecordSoFar) (c : Bool) → record_in past ≡ c → belongs_to s.arrival.sight past ≡ false → filter record_in after ≡ added app control_at s (filter record_in pasts)
+      → cond c (past ∷ filter record_in after) (filter record_in after) ≡ added app control_at s (cond c (past ∷ filter record_in pasts) (filter record_in pasts))
   unfolding added
   inside_there s past pasts after true is untaken rest = rw untaken (ap (λ l. past ∷ l) rest)
   inside_there s past pasts after false is untaken rest = rest
 
-  inside_here : (s : VersionedPacket) (past : RecordSoFar) (pasts after : List RecordSoFar) (b : Bool) → belongs_to s.arrival.sight past ≡ b → packet_in s ≡ true → filter record_in after ≡ added control_at s (filter record_in pasts)
-      → filter record_in (if b then continued_by control_at s.arrival past ∷ pasts else past ∷ after) ≡ added control_at s (filter record_in (past ∷ pasts))
+  inside_here : (s : VersionedPacket) (past : RecordSoFar) (pasts after : List RecordSoFar) (b : Bool) → belongs_to s.arrival.sight past ≡ b → packet_in s ≡ true → filter record_in after ≡ added app control_at s (filter record_in pasts)
+      → filter record_in (if b then continued_by app control_at s.arrival past ∷ pasts else past ∷ after) ≡ added app control_at s (filter record_in (past ∷ pasts))
   unfolding added
   inside_here s past pasts after true taken has rest =
       let passes : record_in past ≡ true = taken_key s.arrival.sight past taken ∙ has in rw (passes, taken) refl
   inside_here s past pasts after false taken has rest = inside_there s past pasts after (record_in past) refl taken rest
 
   -- a packet of the set changes the records of it as if there were no others
-  inside : (s : VersionedPacket) (pasts : List RecordSoFar) → packet_in s ≡ true → filter record_in (added control_at s pasts) ≡ added control_at s (filter record_in pasts)
+  inside : (s : VersionedPacket) (pasts : List RecordSoFar) → packet_in s ≡ true → filter record_in (added app control_at s pasts) ≡ added app control_at s (filter record_in pasts)
   unfolding added
   inside s [] has = rw has refl
-  inside s (past ∷ pasts) has = inside_here s past pasts (added control_at s pasts) (belongs_to s.arrival.sight past) refl has (inside s pasts has)
+  inside s (past ∷ pasts) has = inside_here s past pasts (added app control_at s pasts) (belongs_to s.arrival.sight past) refl has (inside s pasts has)
 
   restricted_here : (s : VersionedPacket) (ss : List VersionedPacket) (pasts : List RecordSoFar) (b : Bool) → packet_in s ≡ b
-      → records_from control_at (filter record_in (added control_at s pasts)) (filter packet_in ss) ≡ filter record_in (records_from control_at (added control_at s pasts) ss)
-      → records_from control_at (filter record_in pasts) (cond b (s ∷ filter packet_in ss) (filter packet_in ss)) ≡ filter record_in (records_from control_at (added control_at s pasts) ss)
+      → records_from app control_at (filter record_in (added app control_at s pasts)) (filter packet_in ss) ≡ filter record_in (records_from app control_at (added app control_at s pasts) ss)
+      → records_from app control_at (filter record_in pasts) (cond b (s ∷ filter packet_in ss) (filter packet_in ss)) ≡ filter record_in (records_from app control_at (added app control_at s pasts) ss)
   unfolding records_from
-  restricted_here s ss pasts true is rest = ap (λ l. records_from control_at l (filter packet_in ss)) (sym (inside s pasts is)) ∙ rest
-  restricted_here s ss pasts false is rest = ap (λ l. records_from control_at l (filter packet_in ss)) (sym (outside s pasts is)) ∙ rest
+  restricted_here s ss pasts true is rest = ap (λ l. records_from app control_at l (filter packet_in ss)) (sym (inside s pasts is)) ∙ rest
+  restricted_here s ss pasts false is rest = ap (λ l. records_from app control_at l (filter packet_in ss)) (sym (outside s pasts is)) ∙ rest
 
-  pub restricted : (pasts : List RecordSoFar) (ss : List VersionedPacket) → records_from control_at (filter record_in pasts) (filter packet_in ss) ≡ filter record_in (records_from control_at pasts ss)
+  pub restricted : (pasts : List RecordSoFar) (ss : List VersionedPacket) → records_from app control_at (filter record_in pasts) (filter packet_in ss) ≡ filter record_in (records_from app control_at pasts ss)
   unfolding records_from
   restricted pasts [] = refl
-  restricted pasts (s ∷ ss) = restricted_here s ss pasts (packet_in s) refl (restricted (added control_at s pasts) ss)
+  restricted pasts (s ∷ ss) = restricted_here s ss pasts (packet_in s) refl (restricted (added app control_at s pasts) ss)

@@ -1,64 +1,54 @@
--- Which records a lane stands for.
-use Rattle.std.specs.Prelude.{◌≡◌, ℕ, false, Option, Some, None, List, map, get_or}
-use Rattle.packet_views.specs.declared.packet.Head.{Head}
-use Rattle.packet_views.specs.declared.packet.Class.{Class}
-use Rattle.flow_table.specs.Key.{EndpointPair}
-use Rattle.flow_table.specs.Table.{Flows, found}
-use Rattle.builtin_events.specs.Raises.{orphan_raises}
+-- What a lane stands for, in terms of its parts.
+use Rattle.std.specs.Prelude.{◌≡◌, ℕ, ◌+◌, ◌<◌, Bool, true, Option, Some, None, List, [], ◌∷◌, ◌++◌, length, map, if◌then◌else◌}
+use Rattle.app_api.specs.App.{Meaning}
+use Rattle.app_api.specs.declared.reaction.Verdict.{Verdict}
 use Rattle.shared_forest.specs.declared.store.Shared.{Shared}
 use Rattle.shared_forest.specs.Lists.{TreeLists}
-use Rattle.report_text.specs.declared.record.RecordKind.TheVariants.{Orphan}
 use Rattle.report_text.specs.declared.record.Record.{Record}
-use Rattle.lane_core.specs.declared.flow.Flow.{Flow}
+use Rattle.forest_versions.specs.Master.{Versions, StandsFor}
+use Rattle.connection_core.specs.InForce.{told_at}
+use Rattle.lane_core.specs.declared.errors.LaneError.{LaneError}
+use Rattle.lane_core.specs.declared.errors.LaneError.TheVariants.{Heavy}
 use Rattle.lane_core.specs.declared.kept.Kept.{Kept}
-use Rattle.forest_versions.specs.State.{ControlState}
-use Rattle.lane_core.specs.Sight.{Segment, Sight, Moment, Arrival}
-use Rattle.lane_core.specs.Records.{RecordSoFar, VersionedPacket, opens, belongs_to, is_open_at, side_of, side_in, orphan_raises_of, added}
-use Rattle.lane_core.specs.Shown.{record_of, callbacks_of, kind_of}
-use Rattle.lane_core.specs.Places.{place_of, place_by, IsSingle}
-use Rattle.lane_core.specs.Flows.{FlowStandsFor}
+use Rattle.lane_core.specs.Sight.{Arrival}
+use Rattle.lane_core.specs.Records.{RecordSoFar, verdict_on}
+use Rattle.lane_core.specs.Run.{LaneEvent, Gave, Arrived, commands_of, control_of, lane_run, newest_of}
+use Rattle.lane_core.specs.Shown.{record_of, callbacks_of, drops_of, weight}
+use Rattle.lane_core.specs.Kept.{Keeps}
 
--- what is kept for a connection: it stands for its history, and its client tells the side of each segment
-pub record IsFlow (control : ControlState) (content : Shared → TreeLists) (flow : Flow) (so_far : RecordSoFar) : Type 0 where
-  pub sides : (segment : Segment) → side_of flow.client segment ≡ side_in so_far.first.sight segment
-  pub stands : FlowStandsFor control content flow so_far.history.entries so_far.history
+-- one more packet, or one more command
+abbrev pub with_event : LaneEvent → List LaneEvent → List LaneEvent
+with_event event events = events ++ event ∷ []
 
--- what the table of flows has for a key: nothing where no connection of it is open, else the flow of the one that is
-abbrev pub IsFlowAt : ControlState → (Shared → TreeLists) → Option Flow → Option ℕ → List RecordSoFar → Type 0
-IsFlowAt control content None place so_far = place ≡ None
-IsFlowAt control content (Some flow) place so_far =
-    (place ≡ Some flow.place) × ((d : RecordSoFar) → IsFlow control content flow (get_or so_far flow.place d))
+-- what becomes of one more packet of a run
+abbrev pub next_verdict : Meaning → List LaneEvent → Arrival → Verdict
+next_verdict app events a =
+    verdict_on app (control_of app events) (record { version = length (commands_of events); arrival = a }) (lane_run app events)
 
--- the lane shows these records, it has the flow of each open connection, of which a key has at most one, and it has counted the
--- callbacks
-pub record AreKept (control : ControlState) (content : Shared → TreeLists) (flows : Flows Flow) (records : List Record) (callbacks : ℕ) (so_far : List RecordSoFar) : Type 0 where
-  pub shown : records ≡ map record_of so_far
-  pub placed : (key : EndpointPair) → IsFlowAt control content (found flows key) (place_of key so_far) so_far
-  pub single : (key : EndpointPair) → IsSingle (is_open_at key) so_far
-  pub counted : callbacks ≡ callbacks_of so_far
+-- the records of a run weigh more than a lane may keep
+abbrev pub IsHeavy : Meaning → List LaneEvent → Type 0
+IsHeavy app events = 134217728 < weight (lane_run app events)
 
-abbrev pub StandsFor : ControlState → (Shared → TreeLists) → Kept → List RecordSoFar → Type 0
-StandsFor control content kept so_far = AreKept control content kept.flows kept.records.items kept.callbacks so_far
+-- the number of the last packet, from one more than it
+abbrev pub newest_by : ℕ → Option ℕ
+newest_by 0 = None
+newest_by (suc n) = Some n
 
--- a packet that would start a record of version 0
-abbrev pub arrived : ℕ → Moment → Sight → VersionedPacket
-arrived number moment sight = record { version = 0; arrival = record { number = number; moment = moment; sight = sight } }
+-- a lane that hasn't failed keeps the records of these events; one that failed as heavy had records that weigh too much
+pub record IsRun (app : Meaning) (keep : Bool) (m : Versions) (content : Shared → TreeLists) (kept : Kept) (next : ℕ) (failed : Option LaneError) (events : List LaneEvent) : Type 0 where
+  pub newest : newest_of events ≡ newest_by next
+  pub commands : failed ≡ None → StandsFor m app.presets (commands_of events)
+  pub records : failed ≡ None → Keeps keep (told_at m) content kept (lane_run app events)
+  pub dropped : failed ≡ None → kept.dropped ≡ drops_of (lane_run app events)
+  pub heavy : failed ≡ Some Heavy → IsHeavy app events
 
--- adds a packet: whatever records it stands for before, it stands for those with the packet added after
-abbrev pub Adds : Arrival → ControlState → (Shared → TreeLists) → Kept → (Shared → TreeLists) → Kept → Type 0
-Adds a control content kept content' kept' =
-    (so_far : List RecordSoFar) → StandsFor control content kept so_far
-    → StandsFor control content' kept' (added (λ _. control) (record { version = 0; arrival = a }) so_far)
+-- a record without its entries, where these aren't kept
+abbrev pub shown : Bool → Meaning → RecordSoFar → Record
+shown keep app so_far = record (record_of app so_far) { entries = if keep then so_far.history.entries else [] }
 
--- a packet of this class and with this head that opens no connection and belongs to none of the open ones
-pub record IsStray (sight : Sight) (class : Class) (head : Option Head) (so_far : List RecordSoFar) : Type 0 where
-  pub kind : kind_of sight ≡ Orphan class
-  pub raises : orphan_raises_of sight ≡ orphan_raises class head
-  pub shut : opens sight ≡ false
-  pub untaken : place_by (belongs_to sight) so_far ≡ None
-
--- the same of a packet of no connection, of this class and with this head
-abbrev pub AddsStray : ℕ → Class → Option Head → ControlState → (Shared → TreeLists) → Kept → (Shared → TreeLists) → Kept → Type 0
-AddsStray number class head control content kept content' kept' =
-    (so_far : List RecordSoFar) (moment : Moment) (sight : Sight) → IsStray sight class head so_far
-    → StandsFor control content kept so_far → StandsFor control content' kept' (added (λ _. control) (arrived number moment sight) so_far)
+-- what a lane ends with, for these records
+pub record IsEnd (keep : Bool) (app : Meaning) (so_far : List RecordSoFar) (records : List Record) (versions : List (ℕ × ℕ)) (callbacks drops : ℕ) : Type 0 where
+  pub records_are : records ≡ map (shown keep app) so_far
+  pub versions_are : versions ≡ map (λ r. (r.first.number, r.version)) so_far
+  pub callbacks_are : callbacks ≡ callbacks_of so_far
+  pub drops_are : drops ≡ drops_of so_far

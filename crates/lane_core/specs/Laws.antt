@@ -7,30 +7,32 @@ use Rattle.app_api.specs.Log.{log}
 use Rattle.app_api.specs.declared.entry.Entry.{Entry}
 use Rattle.app_api.specs.declared.entry.Seen.TheVariants.{Nothing}
 use Rattle.app_api.specs.Events.{PKT_IN, ORPHAN}
+use Rattle.app_api.specs.App.{Meaning}
 use Rattle.flow_table.specs.Key.{EndpointPair}
 use Rattle.forest_versions.specs.State.{ControlState, start, active as first_active}
+use Rattle.connection_core.specs.History.{History, followed, orphaned}
 use Rattle.lane_core.specs.Sight.{Segment, Sight, Tcp, Other, key_of_segment}
-use Rattle.lane_core.specs.History.{History, followed, orphaned}
 use Rattle.lane_core.specs.Records.{VersionedPacket, RecordSoFar, belongs_to, started_by, continued_by, added, records, orphan_raises_of}
 
--- a record after later packets: it takes those that belong to it while it is open
-unfoldable pub continued_through : (ℕ → ControlState) → RecordSoFar → List VersionedPacket → RecordSoFar
-continued_through control_at so_far [] = so_far
-continued_through control_at so_far (p ∷ ps) =
-    if belongs_to p.arrival.sight so_far then continued_through control_at (continued_by control_at p.arrival so_far) ps
-    else continued_through control_at so_far ps
+module _ (app : Meaning) (control_at : ℕ → ControlState) where
+  -- a record after later packets: it takes those that belong to it while it is open
+  unfoldable pub continued_through : RecordSoFar → List VersionedPacket → RecordSoFar
+  continued_through so_far [] = so_far
+  continued_through so_far (p ∷ ps) =
+      if belongs_to p.arrival.sight so_far then continued_through (continued_by app control_at p.arrival so_far) ps
+      else continued_through so_far ps
 
--- the records that packets start: each one that belongs to no record so far starts one
-unfoldable pub started_after : (ℕ → ControlState) → List RecordSoFar → List VersionedPacket → List RecordSoFar
-started_after control_at so_far [] = []
-started_after control_at so_far (p ∷ ps) =
-    if list_any (belongs_to p.arrival.sight) so_far then started_after control_at (added control_at p so_far) ps
-    else continued_through control_at (started_by control_at p) ps ∷ started_after control_at (added control_at p so_far) ps
+  -- the records that packets start: each one that belongs to no record so far starts one
+  unfoldable pub started_after : List RecordSoFar → List VersionedPacket → List RecordSoFar
+  started_after so_far [] = []
+  started_after so_far (p ∷ ps) =
+      if list_any (belongs_to p.arrival.sight) so_far then started_after (added app control_at p so_far) ps
+      else continued_through (started_by app control_at p) ps ∷ started_after (added app control_at p so_far) ps
 
 -- each first packet starts a record, which takes the later packets of its key while it is open
 abbrev pub RecordsGrow : Type 0
-RecordsGrow = (control_at : ℕ → ControlState) (ps : List VersionedPacket)
-    → records control_at ps ≡ started_after control_at [] ps
+RecordsGrow = (app : Meaning) (control_at : ℕ → ControlState) (ps : List VersionedPacket)
+    → records app control_at ps ≡ started_after app control_at [] ps
 
 -- a set of packets by their keys; `others` says whether it has the packets without a key
 abbrev pub has_key : (EndpointPair → Bool) → Bool → Sight → Bool
@@ -39,9 +41,9 @@ has_key keys others (Other class) = others
 
 -- the records of the packets of a set of keys are the records whose first packet has such a key
 abbrev pub RecordsByKey : Type 0
-RecordsByKey = (control_at : ℕ → ControlState) (keys : EndpointPair → Bool) (others : Bool) (ps : List VersionedPacket)
-    → records control_at (filter (λ p. has_key keys others p.arrival.sight) ps)
-    ≡ filter (λ so_far. has_key keys others so_far.first.sight) (records control_at ps)
+RecordsByKey = (app : Meaning) (control_at : ℕ → ControlState) (keys : EndpointPair → Bool) (others : Bool) (ps : List VersionedPacket)
+    → records app control_at (filter (λ p. has_key keys others p.arrival.sight) ps)
+    ≡ filter (λ so_far. has_key keys others so_far.first.sight) (records app control_at ps)
 
 -- the callbacks of the log application's presets: 1 at a packet's sender, 2 at its receiver, 3 for an orphan
 abbrev pub at_sender : ℕ → Entry
@@ -57,8 +59,8 @@ at_orphan number = record { index = number; hook = Snd; event = ORPHAN; reg = 3;
 -- and each packet of no connection is called once
 pub record PresetsAreCalled : Type 0 where
   pub connection : (number : ℕ) (side : Side) (segment : Segment) (h : History) → h.active ≡ first_active (start log.presets)
-      → (followed (start log.presets) number side segment h).entries ≡ h.entries ++ at_sender number ∷ at_receiver number ∷ []
+      → (followed log (start log.presets) number side segment.head segment.payload h).entries ≡ h.entries ++ at_sender number ∷ at_receiver number ∷ []
   pub stay : (number : ℕ) (side : Side) (segment : Segment) (h : History)
-      → (followed (start log.presets) number side segment h).active ≡ h.active
+      → (followed log (start log.presets) number side segment.head segment.payload h).active ≡ h.active
   pub orphan : (number : ℕ) (sight : Sight)
-      → (orphaned (start log.presets) number (orphan_raises_of sight)).entries ≡ at_orphan number ∷ []
+      → (orphaned log (start log.presets) number (orphan_raises_of sight)).entries ≡ at_orphan number ∷ []

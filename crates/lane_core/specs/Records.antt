@@ -8,11 +8,14 @@ use Rattle.tcp_emulation.specs.declared.segment.Side.TheVariants.{Client, Server
 use Rattle.flow_table.specs.declared.endpoint.Endpoint.{Endpoint}
 use Rattle.flow_table.specs.Endpoint.{same_endpoint}
 use Rattle.flow_table.specs.Key.{EndpointPair, same_key}
+use Rattle.app_api.specs.declared.reaction.Verdict.{Verdict}
+use Rattle.app_api.specs.declared.reaction.Verdict.TheVariants.{Pass}
+use Rattle.app_api.specs.App.{Meaning}
 use Rattle.builtin_events.specs.declared.raise.Raise.{Raise}
 use Rattle.builtin_events.specs.Raises.{orphan_raises}
 use Rattle.forest_versions.specs.State.{ControlState}
+use Rattle.connection_core.specs.History.{History, fresh, followed, verdict, orphaned, orphan_verdict, is_over}
 use Rattle.lane_core.specs.Sight.{Segment, Sight, Tcp, Other, Arrival, key_of_segment}
-use Rattle.lane_core.specs.History.{History, fresh, followed, orphaned, is_over}
 
 -- a packet with the version of the record that it would start
 pub record VersionedPacket : Type 0 where
@@ -53,53 +56,77 @@ abbrev pub side_in : Sight → Segment → Side
 side_in (Tcp opener) segment = side_of opener.sender segment
 side_in (Other class) segment = Server
 
--- one more packet of the connection that a packet opened
-unfoldable pub history_after : ControlState → Sight → Arrival → History → History
-history_after control opener a h = elim a.sight [
-  | Tcp segment ↦ followed control a.number (side_in opener segment) segment h
-  | Other class ↦ h
-]
-
 -- what a packet of no connection raises
 abbrev pub orphan_raises_of : Sight → List Raise
 orphan_raises_of (Tcp segment) = orphan_raises Class.Tcp (Some segment.head)
 orphan_raises_of (Other class) = orphan_raises class None
 
+-- ---- one packet, under what is in force for its record
+
+-- one more packet of the connection that a packet opened
+unfoldable pub history_after : Meaning → ControlState → Sight → Arrival → History → History
+history_after app control opener a h = elim a.sight [
+  | Tcp segment ↦ followed app control a.number (side_in opener segment) segment.head segment.payload h
+  | Other class ↦ h
+]
+
 -- the history that a packet starts
-abbrev pub first_history : ControlState → Arrival → History
-first_history control a =
-    if opens a.sight then history_after control a.sight a (fresh control)
-    else orphaned control a.number (orphan_raises_of a.sight)
+abbrev pub first_history : Meaning → ControlState → Arrival → History
+first_history app control a =
+    if opens a.sight then history_after app control a.sight a (fresh app control)
+    else orphaned app control a.number (orphan_raises_of a.sight)
 
--- What is in force for a record is that of its version: `control_at` gives it.
+-- what becomes of a packet of the connection that a packet opened
+unfoldable pub verdict_after : Meaning → ControlState → Sight → Arrival → History → Verdict
+verdict_after app control opener a h = elim a.sight [
+  | Tcp segment ↦ verdict app control a.number (side_in opener segment) segment.head h
+  | Other class ↦ Pass
+]
 
--- the record that a packet starts
-abbrev pub started_by : (ℕ → ControlState) → VersionedPacket → RecordSoFar
-started_by control_at p =
-    record { first = p.arrival; version = p.version; history = first_history (control_at p.version) p.arrival }
+-- what becomes of a packet that belongs to no record so far
+abbrev pub first_verdict : Meaning → ControlState → Arrival → Verdict
+first_verdict app control a =
+    if opens a.sight then verdict_after app control a.sight a (fresh app control)
+    else orphan_verdict app control a.number (orphan_raises_of a.sight)
 
--- the record with one packet more
-abbrev pub continued_by : (ℕ → ControlState) → Arrival → RecordSoFar → RecordSoFar
-continued_by control_at a so_far = record {
-  first = so_far.first;
-  version = so_far.version;
-  history = history_after (control_at so_far.version) so_far.first.sight a so_far.history;
-}
+-- ---- records. What is in force for a record is that of its version: `control_at` gives it.
 
--- one more packet: it belongs to the open connection of its key, else it starts a record
-unfoldable pub added : (ℕ → ControlState) → VersionedPacket → List RecordSoFar → List RecordSoFar
-added control_at p [] = started_by control_at p ∷ []
-added control_at p (so_far ∷ others) =
-    if belongs_to p.arrival.sight so_far then continued_by control_at p.arrival so_far ∷ others
-    else so_far ∷ added control_at p others
+module _ (app : Meaning) (control_at : ℕ → ControlState) where
+  -- the record that a packet starts
+  abbrev pub started_by : VersionedPacket → RecordSoFar
+  started_by p =
+      record { first = p.arrival; version = p.version; history = first_history app (control_at p.version) p.arrival }
 
-unfoldable pub records_from : (ℕ → ControlState) → List RecordSoFar → List VersionedPacket → List RecordSoFar
-records_from control_at so_far [] = so_far
-records_from control_at so_far (p ∷ ps) = records_from control_at (added control_at p so_far) ps
+  -- the record with one packet more
+  abbrev pub continued_by : Arrival → RecordSoFar → RecordSoFar
+  continued_by a so_far = record {
+    first = so_far.first;
+    version = so_far.version;
+    history = history_after app (control_at so_far.version) so_far.first.sight a so_far.history;
+  }
 
--- the records of packets, in order of their names
-abbrev pub records : (ℕ → ControlState) → List VersionedPacket → List RecordSoFar
-records control_at ps = records_from control_at [] ps
+  -- one more packet: it belongs to the open connection of its key, else it starts a record
+  unfoldable pub added : VersionedPacket → List RecordSoFar → List RecordSoFar
+  added p [] = started_by p ∷ []
+  added p (so_far ∷ others) =
+      if belongs_to p.arrival.sight so_far then continued_by p.arrival so_far ∷ others
+      else so_far ∷ added p others
+
+  -- what becomes of it: passed on, or dropped with a reason
+  unfoldable pub verdict_on : VersionedPacket → List RecordSoFar → Verdict
+  verdict_on p [] = first_verdict app (control_at p.version) p.arrival
+  verdict_on p (so_far ∷ others) =
+      if belongs_to p.arrival.sight so_far
+      then verdict_after app (control_at so_far.version) so_far.first.sight p.arrival so_far.history
+      else verdict_on p others
+
+  unfoldable pub records_from : List RecordSoFar → List VersionedPacket → List RecordSoFar
+  records_from so_far [] = so_far
+  records_from so_far (p ∷ ps) = records_from (added p so_far) ps
+
+  -- the records of packets, in order of their names
+  abbrev pub records : List VersionedPacket → List RecordSoFar
+  records ps = records_from [] ps
 
 -- packets with the versions that a rule gives to their numbers
 abbrev pub versioned : (ℕ → ℕ) → List Arrival → List VersionedPacket

@@ -1,80 +1,110 @@
 //! The table of open connections: which one takes a segment, and what becomes of it.
 
 ghost use Rattle.std.specs.Prelude.{◌≡◌, ◌+◌, ◌<◌, ◌≤◌, ◌^◌, ℕ, OnOk, OnErr, IfOk, IfSome, length, Some, None, Ok, not, ◌&&◌, if◌then◌else◌};
-ghost use Rattle.std.specs.Option.{ForSome};
 ghost use Rattle.flow_table.specs.Key.{EndpointPair, same_key};
 ghost use Rattle.flow_table.specs.Table.{found};
-ghost use Rattle.lane_core.specs.InForce.{control_of};
-ghost use Rattle.lane_core.specs.Calls.{IsFirstForest};
-ghost use Rattle.lane_core.specs.declared.limits.TheConstants.{PACKET_CALLBACKS};
+ghost use Rattle.shared_forest.specs.Store.{Keeps};
+ghost use Rattle.forest_versions.specs.Master.{Tells};
+ghost use Rattle.forest_versions.specs.State.{ControlState};
+ghost use Rattle.connection_core.specs.InForce.{told_at};
+ghost use Rattle.connection_core.specs.Standing.{RiseBy};
 ghost use Rattle.lane_core.specs.Seen.{seen};
-ghost use Rattle.lane_core.specs.Flows.{IsStep, Steps, Follows, Keeps, with_entries};
+ghost use Rattle.lane_core.specs.Trees.{IsTree, AreAnswered, AreTrees, ArePlaced, AreSince, AreShort};
+ghost use Rattle.lane_core.specs.Opened.{IsStep, Steps, Follows};
 
-use crate::flow::Flow;
-use crate::monitor::Monitor;
-use crate::segment::Segment;
+use crate::open::Open;
+use crate::segment::{Segment, side_of};
+use crate::slot::Slot;
+use crate::world::World;
+use app_api::App;
+use connection_core::{Arrived, Ledger, Step};
 use flow_table::{FlowTable, Key};
-use report_text::Record;
+use native_filters::NativeBook;
 use shared_forest::Forests;
-use std::alloc::AllocError;
+use std::alloc::{AllocError, Global};
 
-/// What a segment did that an open connection took.
-#[derive(Clone, Copy)]
-struct Step {
-    /// Whether the connection is over.
-    over: bool,
-    /// How many callbacks were made.
-    calls: u64,
-}
-
-// Steps a connection, and adds the callbacks to its record.
-fn step_one<F: Forests + Drop>(
-    monitor: &Monitor<F>,
-    flow: &mut Flow,
-    of: &mut Record,
+/// Steps an open connection, and notes in its record what became of the packet.
+pub(crate) fn step_one<A: App, F: Forests>(
+    alloc: Global,
+    world: &World<A>,
+    natives: &NativeBook,
+    forests: &mut F,
+    open: &mut Open,
+    slot: &mut Slot,
+    ledger: &mut Ledger,
     number: u64,
     segment: &Segment<'_>,
 ) -> Result<Step, AllocError>
-    requires forest { IsFirstForest (control_of monitor.now.in_force) (F.answered monitor.now.store) (F.content monitor.now.store) flow.old.forest }
-    requires count { flow.old.count < 2 ^ 30 }
-    ensures place { flow.new.place ≡ flow.old.place }
-    ensures forest { flow.new.forest ≡ flow.old.forest }
-    ensures count { flow.new.count ≤ flow.old.count + 1 }
-    ensures step { IfOk result (λ s. IsStep (control_of monitor.now.in_force) (F.content monitor.now.store) flow.old flow.new of.old.entries of.new.entries number (seen segment.now) s.over) }
-    ensures noted { OnOk result (of.new ≡ with_entries of.new.entries of.old) }
-    ensures calls { IfOk result (λ s. length of.new.entries ≡ length of.old.entries + s.calls) }
-    ensures few { IfOk result (λ s. s.calls ≤ PACKET_CALLBACKS) }
+    requires count { open.old.flow.count < 2 ^ 30 }
+    requires answered { F.answered forests.old open.old.flow.forest }
+    requires tree { IsTree world.now.master open.old.version (F.content forests.old open.old.flow.forest) }
+    requires callbacks { ledger.old.counts.callbacks < 2 ^ 60 }
+    requires weight { ledger.old.counts.weight < 2 ^ 60 }
+    ensures place { open.new.place ≡ open.old.place }
+    ensures version { open.new.version ≡ open.old.version }
+    ensures count { open.new.flow.count ≤ open.old.flow.count + 1 }
+    ensures answered { F.answered forests.new open.new.flow.forest }
+    ensures tree { IsTree world.now.master open.new.version (F.content forests.new open.new.flow.forest) }
+    ensures kept { Keeps F.answered F.content forests.old forests.new }
+    ensures rise { RiseBy 3060 ledger.old.counts ledger.new.counts }
+    ensures stands { IfOk result (λ step. (control : ControlState) → Tells world.now.master open.old.version control
+        → IsStep (A.meaning world.now.app) world.now.keep (told_at world.now.master open.old.version) control
+        (F.content forests.old open.old.flow.forest) (F.content forests.new open.new.flow.forest) (F.interns forests.old) (F.interns forests.new)
+        open.old open.new slot.old slot.new ledger.old.counts ledger.new.counts number (seen segment.now) step) }
 {
-    let before = of.entries.items.len();
-    let over = flow.step(monitor, number, segment, &mut of.entries)?;
-    Ok(Step {
-        over,
-        calls: (of.entries.items.len() - before) as u64,
-    })
+    let terms = world.terms(open.version, natives);
+    let arrived = Arrived {
+        number,
+        from: side_of(&open.client, segment),
+        head: &segment.head,
+        payload: segment.payload,
+    };
+    let step = open
+        .flow
+        .step(alloc, &terms, forests, &arrived, &mut slot.notes, ledger)?;
+    slot.note(number, step.verdict)?;
+    Ok(step)
 }
 
-// Steps the open connection of a key, where there is one, and adds the callbacks to its record.
-fn step_flow<F: Forests + Drop>(
-    monitor: &Monitor<F>,
-    flows: &mut FlowTable<Flow>,
-    records: &mut [Record],
+// Steps the open connection of a key, where there is one.
+fn step_flow<A: App, F: Forests>(
+    alloc: Global,
+    world: &World<A>,
+    natives: &NativeBook,
+    forests: &mut F,
+    flows: &mut FlowTable<Open>,
+    slots: &mut [Slot],
+    ledger: &mut Ledger,
     key: &Key,
     number: u64,
     segment: &Segment<'_>,
 ) -> Result<Option<Step>, AllocError>
-    requires placed { (other : EndpointPair) → ForSome (found flows.old other) (λ flow. flow.place < length records.old) }
-    requires forests { (other : EndpointPair) → ForSome (found flows.old other) (λ flow. IsFirstForest (control_of monitor.now.in_force) (F.answered monitor.now.store) (F.content monitor.now.store) flow.forest) }
-    requires counts { (other : EndpointPair) → ForSome (found flows.old other) (λ flow. flow.count < 2 ^ 30) }
-    ensures none { result ≡ Ok None → (found flows.old key.now ≡ None) × (flows.new ≡ flows.old) × (records.new ≡ records.old) }
-    ensures some { IfOk result (λ step. IfSome step (λ s. Steps (control_of monitor.now.in_force) (F.content monitor.now.store) flows.old flows.new records.old records.new key.now number (seen segment.now) s.over s.calls)) }
-    ensures few { IfOk result (λ step. IfSome step (λ s. s.calls ≤ PACKET_CALLBACKS)) }
-    ensures kept { Keeps flows.old flows.new }
-    ensures len { length records.new ≡ length records.old }
+    requires placed { ArePlaced (length slots.old) flows.old }
+    requires answered { AreAnswered (F.answered forests.old) flows.old }
+    requires trees { AreTrees world.now.master (F.content forests.old) flows.old }
+    requires counts { AreShort 1048576 flows.old }
+    requires callbacks { ledger.old.counts.callbacks < 2 ^ 60 }
+    requires weight { ledger.old.counts.weight < 2 ^ 60 }
+    ensures none { result ≡ Ok None → (found flows.old key.now ≡ None) × (flows.new ≡ flows.old) × (slots.new ≡ slots.old) × (forests.new ≡ forests.old) × (ledger.new.counts ≡ ledger.old.counts) }
+    ensures some { IfOk result (λ step. IfSome step (λ s. Steps (A.meaning world.now.app) world.now.keep world.now.master
+        (F.content forests.old) (F.content forests.new) (F.interns forests.old) (F.interns forests.new)
+        flows.old flows.new slots.old slots.new ledger.old.counts ledger.new.counts key.now number (seen segment.now) s)) }
+    ensures placed { ArePlaced (length slots.new) flows.new }
+    ensures answered { AreAnswered (F.answered forests.new) flows.new }
+    ensures trees { AreTrees world.now.master (F.content forests.new) flows.new }
+    ensures since { (version : ℕ) → AreSince version flows.old → AreSince version flows.new }
+    ensures counts { (packets : ℕ) → AreShort packets flows.old → AreShort (packets + 1) flows.new }
+    ensures kept { Keeps F.answered F.content forests.old forests.new }
+    ensures rise { RiseBy 3060 ledger.old.counts ledger.new.counts }
+    ensures len { length slots.new ≡ length slots.old }
 {
     match flows.get_mut(key) {
-        Some(flow) => {
-            let place = flow.place;
-            let step = step_one(monitor, flow, &mut records[place], number, segment)?;
+        Some(open) => {
+            let place = open.place;
+            let slot = &mut slots[place];
+            let step = step_one(
+                alloc, world, natives, forests, open, slot, ledger, number, segment,
+            )?;
             Ok(Some(step))
         }
         None => Ok(None),
@@ -82,7 +112,7 @@ fn step_flow<F: Forests + Drop>(
 }
 
 // Takes the connection of a key from the table where it is over.
-fn settle(flows: &mut FlowTable<Flow>, key: &Key, over: bool)
+fn settle(flows: &mut FlowTable<Open>, key: &Key, over: bool)
     ensures { (other : EndpointPair) → found flows.new other ≡ (if over && same_key key.now other then None else found flows.old other) }
 {
     if over {
@@ -90,49 +120,62 @@ fn settle(flows: &mut FlowTable<Flow>, key: &Key, over: bool)
     }
 }
 
-/// Steps the open connection of a key, where there is one, adds the callbacks to its record, and closes it where it is
-/// over then. Answers how many callbacks were made.
-pub(crate) fn follow<F: Forests + Drop>(
-    monitor: &Monitor<F>,
-    flows: &mut FlowTable<Flow>,
-    records: &mut [Record],
+/// Steps the open connection of a key, where there is one, and closes it where it is over then.
+pub(crate) fn follow<A: App, F: Forests>(
+    alloc: Global,
+    world: &World<A>,
+    natives: &NativeBook,
+    forests: &mut F,
+    flows: &mut FlowTable<Open>,
+    slots: &mut [Slot],
+    ledger: &mut Ledger,
     key: &Key,
     number: u64,
     segment: &Segment<'_>,
-) -> Result<Option<u64>, AllocError>
-    requires placed { (other : EndpointPair) → ForSome (found flows.old other) (λ flow. flow.place < length records.old) }
-    requires forests { (other : EndpointPair) → ForSome (found flows.old other) (λ flow. IsFirstForest (control_of monitor.now.in_force) (F.answered monitor.now.store) (F.content monitor.now.store) flow.forest) }
-    requires counts { (other : EndpointPair) → ForSome (found flows.old other) (λ flow. flow.count < 2 ^ 30) }
-    ensures none { result ≡ Ok None → (found flows.old key.now ≡ None) × (flows.new ≡ flows.old) × (records.new ≡ records.old) }
-    ensures some { IfOk result (λ calls. IfSome calls (λ n. Follows (control_of monitor.now.in_force) (F.content monitor.now.store) flows.old flows.new records.old records.new key.now number (seen segment.now) n)) }
-    ensures few { IfOk result (λ calls. IfSome calls (λ n. n ≤ PACKET_CALLBACKS)) }
-    ensures kept { Keeps flows.old flows.new }
-    ensures len { length records.new ≡ length records.old }
+) -> Result<Option<Step>, AllocError>
+    requires placed { ArePlaced (length slots.old) flows.old }
+    requires answered { AreAnswered (F.answered forests.old) flows.old }
+    requires trees { AreTrees world.now.master (F.content forests.old) flows.old }
+    requires counts { AreShort 1048576 flows.old }
+    requires callbacks { ledger.old.counts.callbacks < 2 ^ 60 }
+    requires weight { ledger.old.counts.weight < 2 ^ 60 }
+    ensures none { result ≡ Ok None → (found flows.old key.now ≡ None) × (flows.new ≡ flows.old) × (slots.new ≡ slots.old) × (forests.new ≡ forests.old) × (ledger.new.counts ≡ ledger.old.counts) }
+    ensures some { IfOk result (λ step. IfSome step (λ s. Follows (A.meaning world.now.app) world.now.keep world.now.master
+        (F.content forests.old) (F.content forests.new) (F.interns forests.old) (F.interns forests.new)
+        flows.old flows.new slots.old slots.new ledger.old.counts ledger.new.counts key.now number (seen segment.now) s)) }
+    ensures placed { ArePlaced (length slots.new) flows.new }
+    ensures answered { AreAnswered (F.answered forests.new) flows.new }
+    ensures trees { AreTrees world.now.master (F.content forests.new) flows.new }
+    ensures since { (version : ℕ) → AreSince version flows.old → AreSince version flows.new }
+    ensures counts { (packets : ℕ) → AreShort packets flows.old → AreShort (packets + 1) flows.new }
+    ensures kept { Keeps F.answered F.content forests.old forests.new }
+    ensures rise { RiseBy 3060 ledger.old.counts ledger.new.counts }
+    ensures len { length slots.new ≡ length slots.old }
 {
-    match step_flow(monitor, flows, records, key, number, segment)? {
-        Some(step) => {
-            settle(flows, key, step.over);
-            Ok(Some(step.calls))
-        }
-        None => Ok(None),
+    let stepped = step_flow(
+        alloc, world, natives, forests, flows, slots, ledger, key, number, segment,
+    )?;
+    if let Some(step) = stepped {
+        settle(flows, key, step.over);
     }
+    Ok(stepped)
 }
 
 /// Puts a connection into the table, unless it is over.
 pub(crate) fn keep(
-    flows: &mut FlowTable<Flow>,
+    flows: &mut FlowTable<Open>,
     key: Key,
-    flow: Flow,
+    open: Open,
     over: bool,
 ) -> Result<(), AllocError>
     requires absent { found flows.old key ≡ None }
-    ensures left { OnOk result ((other : EndpointPair) → found flows.new other ≡ (if not over && same_key key other then Some flow else found flows.old other)) }
+    ensures left { OnOk result ((other : EndpointPair) → found flows.new other ≡ (if not over && same_key key other then Some open else found flows.old other)) }
     ensures err { OnErr result (flows.new ≡ flows.old) }
 {
     if over {
         return Ok(());
     }
-    match flows.open(key, flow) {
+    match flows.open(key, open) {
         Ok(()) => Ok(()),
         Err(_) => Err(AllocError),
     }

@@ -1,14 +1,17 @@
 //! What a lane keeps of its packets.
 
-use crate::flow::Flow;
+use crate::open::Open;
+use crate::slot::Slot;
+use connection_core::Ledger;
 use flow_table::FlowTable;
-use report_text::Record;
 
-/// The records so far, in order of name, and the open connections.
+/// The records under way, in order of name, and the open connections.
 #[derive(Drop)]
 pub(crate) struct Kept {
-    pub(crate) flows: FlowTable<Flow>,
-    pub(crate) records: Vec<Record>,
-    /// The callbacks of all records.
-    pub(crate) callbacks: u64,
+    pub(crate) flows: FlowTable<Open>,
+    pub(crate) slots: Vec<Slot>,
+    /// What the callbacks of the packet under way ask, and the counts of all callbacks.
+    pub(crate) ledger: Ledger,
+    /// The dropped packets of all records.
+    pub(crate) dropped: u64,
 }

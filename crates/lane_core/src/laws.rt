@@ -1,6 +1,6 @@
 //! Laws on the records of packets: what the definition of records says in other words.
 
-ghost use Rattle.lane_core.specs.Laws.{RecordsGrow, RecordsByKey, PresetsAreCalled};
+ghost use Rattle.lane_core.specs.Laws.{RecordsGrow, RecordsByKey};
 
 /// Each packet that no open connection takes begins a record, and a record takes each later packet of its key while it is
 /// open: the definition by one record at a time.
@@ -12,10 +12,4 @@ pub fn records_grow()
 /// connection can be followed apart from all others.
 pub fn records_by_key()
     ensures { RecordsByKey }
-{}
-
-/// What the log application's presets see: each packet of a connection once at its sender and then once at its receiver,
-/// and each packet of no connection once.
-pub fn presets_are_called()
-    ensures { PresetsAreCalled }
 {}

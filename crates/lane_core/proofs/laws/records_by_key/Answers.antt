@@ -3,4 +3,4 @@ use Rattle.lane_core.proofs.Restricted.{restricted}
 use Rattle.lane_core.proofs.laws.records_by_key.Goals as goal
 
 pub returns : goal.returns
-returns c = λ control_at keys others ps. restricted control_at keys others [] ps
+returns c = λ app control_at keys others ps. restricted app control_at keys others [] ps

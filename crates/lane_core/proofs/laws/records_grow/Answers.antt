@@ -5,4 +5,4 @@ use Rattle.lane_core.proofs.laws.records_grow.Goals as goal
 
 pub returns : goal.returns
 unfolding IsSingle
-returns c = λ control_at ps. records_grown control_at ps [] (λ key. tt)
+returns c = λ app control_at ps. records_grown app control_at ps [] (λ key. tt)

@@ -1,0 +1,208 @@
+-- A packet that starts a record: a connection that it opens, or an orphan.
+use Rattle.std.proofs.Common.{◌≡◌, ℕ, zero, ◌+◌, ◌≤◌, Bool, true, false, Option, Some, None, List, [], ◌∷◌, ◌++◌, length, refl, sym, ap, subst, ◌∙◌, arith}
+use Rattle.std.proofs.lemmas.List.{map-append}
+use Rattle.std.specs.Prelude.{if◌then◌else◌, ◌&&◌, not, map}
+use Rattle.packet_views.specs.declared.packet.Head.{Head}
+use Rattle.packet_views.specs.declared.packet.Class.{Class}
+use Rattle.flow_table.specs.Key.{EndpointPair, same_key}
+use Rattle.flow_table.specs.Table.{Flows, found}
+use Rattle.flow_table.proofs.Keys.{same_key-equal}
+use Rattle.app_api.specs.App.{Meaning}
+use Rattle.app_api.specs.declared.reaction.Verdict.{Verdict}
+use Rattle.app_api.specs.declared.registration.Reg.{Reg}
+use Rattle.shared_forest.specs.declared.store.Shared.{Shared}
+use Rattle.shared_forest.specs.Lists.{TreeLists}
+use Rattle.builtin_events.specs.Raises.{orphan_raises}
+use Rattle.report_text.specs.declared.record.RecordKind.TheVariants.{Conn, Orphan}
+use Rattle.forest_versions.specs.State.{ControlState}
+use Rattle.forest_versions.specs.Master.{Versions, Tells}
+use Rattle.connection_core.specs.declared.flow.Step.{Step}
+use Rattle.connection_core.specs.declared.ledger.Counts.{Counts}
+use Rattle.connection_core.specs.declared.ledger.Notes.{Notes}
+use Rattle.connection_core.specs.History.{History, fresh, followed, verdict, orphaned, orphan_verdict, drops_of, is_over, weight_of}
+use Rattle.connection_core.specs.InForce.{told_at}
+use Rattle.connection_core.specs.Standing.{IsFlow, IsNoted, IsConnection}
+use Rattle.connection_core.specs.Trees.{InternsWithin}
+use Rattle.lane_core.specs.declared.open.Open.{Open}
+use Rattle.lane_core.specs.declared.slot.Slot.{Slot}
+use Rattle.lane_core.specs.Sight.{Segment, Sight, Tcp, Moment, key_of_segment}
+use Rattle.lane_core.specs.Records.{RecordSoFar, VersionedPacket, opens, is_between, is_open_at, belongs_to, side_of, history_after, verdict_after, verdict_on, orphan_raises_of, started_by, added}
+use Rattle.lane_core.specs.Shown.{kind_of, alterations, drops_of as drops_in}
+use Rattle.lane_core.specs.Places.{place_by, place_of}
+use Rattle.lane_core.specs.Opened.{stepped, Stepping, IsStep, noted_in}
+use Rattle.lane_core.specs.Kept.{IsOpen, IsOpenAt, AreKept, IsStray, slot_of, arrived}
+use Rattle.lane_core.proofs.Places.{place_with, place_by-append, added-new, IsSingle-append}
+use Rattle.lane_core.proofs.Holding.{and_true, and_false, left_of_and}
+use Rattle.lane_core.proofs.Totals.{total-append, InternsWithin-others, InternsWithin-none}
+use Rattle.lane_core.proofs.OpenFlows.{unopened, opened}
+use Rattle.lane_core.proofs.Stored.{IsOpenAt-stored}
+use Rattle.lane_core.proofs.Verdicts.{verdict_on-none}
+
+is_false_true : (b : Bool) → b ≡ false → b ≡ true → ⊥
+is_false_true true fails passes = cc
+is_false_true false fails passes = cc
+
+none_kept : {T : Type 0} (keep : Bool) → [] {T} ≡ (if keep then [] else [])
+none_kept true = refl
+none_kept false = refl
+
+-- what the table has for a key, with one record more
+started_at : (told : ℕ → ℕ → Option Reg) (content : Shared → TreeLists) (flows after : Flows Open) (pasts : List RecordSoFar) (past : RecordSoFar) (open : Open) (own key : EndpointPair) (over : Bool)
+    → is_open_at key past ≡ (same_key own key && not over) → place_of own pasts ≡ None
+    → found after key ≡ (if not over && same_key own key then Some open else found flows key) → open.place ≡ length pasts → IsOpen told content open past
+    → IsOpenAt told content (found flows key) (place_of key pasts) pasts
+    → IsOpenAt told content (found after key) (place_with (place_of key pasts) (is_open_at key past) (length pasts)) (pasts ++ past ∷ [])
+started_at told content flows after pasts past open own key true own_key absent there last is at =
+    unopened told content flows after pasts past key (own_key ∙ and_false (same_key own key)) there at
+started_at told content flows after pasts past open own key false own_key absent there last is at =
+    opened told content flows after pasts past open own key (own_key ∙ and_true (same_key own key)) absent there last is at
+
+module _ (app : Meaning) (control_at : ℕ → ControlState) (keep : Bool) (m : Versions) where
+  abbrev told : ℕ → ℕ → Option Reg
+  told = told_at m
+
+  -- what is noted of a record's callbacks shows in its slot
+  pub noted_slot : (name version : ℕ) (sight : Sight) (h : History) (notes : Notes) (others counts : Counts) (slot : Slot) → slot.name ≡ name → slot.kind ≡ kind_of sight → slot.version ≡ version
+      → slot.notes ≡ notes → slot.drops ≡ h.drops → IsNoted keep others h.tally h.entries notes counts
+      → slot ≡ record { name = name; kind = kind_of sight; version = version; notes = record { tally = h.tally; entries = if keep then h.entries else [] }; drops = h.drops }
+  noted_slot name version sight h notes others counts slot name_is kind_is version_is notes_are drops_are noted =
+      let shown : notes ≡ record { tally = h.tally; entries = if keep then h.entries else [] } =
+      ap (λ t. record { tally = t; entries = notes.entries }) noted.tally ∙ ap (λ es. record { tally = h.tally; entries = es }) noted.entries in
+      ap (λ n. record slot { name = n }) name_is
+      ∙ ap (λ k. record slot { name = name; kind = k }) kind_is
+      ∙ ap (λ v. record slot { name = name; kind = kind_of sight; version = v }) version_is
+      ∙ ap (λ n. record { name = name; kind = kind_of sight; version = version; notes = n; drops = slot.drops }) (notes_are ∙ shown)
+      ∙ ap (λ ds. record { name = name; kind = kind_of sight; version = version; notes = record { tally = h.tally; entries = if keep then h.entries else [] }; drops = ds }) drops_are
+
+  -- a packet that starts a record
+  started : (content : Shared → TreeLists) (flows after : Flows Open) (slots : List Slot) (slot : Slot) (counts counts' : Counts) (p : VersionedPacket) (pasts : List RecordSoFar)
+      → AreKept keep told content flows slots counts pasts → place_by (belongs_to p.arrival.sight) pasts ≡ None → slot ≡ slot_of keep (started_by app control_at p)
+      → counts'.callbacks ≡ counts.callbacks + length (started_by app control_at p).history.entries → counts'.weight ≡ counts.weight + weight_of (started_by app control_at p).history.entries
+      → ((key : EndpointPair) → IsOpenAt told content (found after key) (place_with (place_of key pasts) (is_open_at key (started_by app control_at p)) (length pasts)) (pasts ++ started_by app control_at p ∷ []))
+      → ((key : EndpointPair) → is_open_at key (started_by app control_at p) ≡ true → place_of key pasts ≡ None)
+      → AreKept keep told content after (slots ++ slot ∷ []) counts' (added app control_at p pasts)
+  started content flows after slots slot counts counts' p pasts stands none is callbacks weight placed alone =
+      let new = added-new app control_at p pasts none in
+      let r = started_by app control_at p in
+      rw new (record {
+        shown = rw is (ap (λ ss. ss ++ slot_of keep r ∷ []) stands.shown ∙ sym (map-append (slot_of keep) pasts (r ∷ [])));
+        placed = λ key. subst (λ o. IsOpenAt told content (found after key) o (pasts ++ r ∷ [])) (sym (place_by-append (is_open_at key) pasts r)) (placed key);
+        single = λ key. IsSingle-append (is_open_at key) pasts r (stands.single key) (alone key);
+        counted = callbacks ∙ ap (λ n. n + length r.history.entries) stands.counted ∙ sym (total-append (λ q. length q.history.entries) pasts r);
+        weighed = weight ∙ ap (λ n. n + weight_of r.history.entries) stands.weighed ∙ sym (total-append (λ q. weight_of q.history.entries) pasts r);
+      })
+
+  -- the lane after a packet that starts a record
+  pub record Started (content : Shared → TreeLists) (interns interns' : Option ℕ) (after : Flows Open) (slots : List Slot) (counts : Counts) (p : VersionedPacket) (verdict : Verdict) (pasts : List RecordSoFar) : Type 0 where
+    pub stands : AreKept keep told content after slots counts (added app control_at p pasts)
+    pub interned : InternsWithin interns interns' (alterations pasts) (alterations (added app control_at p pasts))
+    pub verdict_is : verdict ≡ verdict_on app control_at p pasts
+    pub dropped : drops_in (added app control_at p pasts) ≡ drops_in pasts + length (drops_of verdict p.arrival.number)
+
+  -- ---- a packet of no connection
+
+  -- the record of a packet of no connection
+  stray_is : (version number : ℕ) (moment : Moment) (sight : Sight) → opens sight ≡ false
+      → (started_by app control_at (arrived version number moment sight)).history ≡ orphaned app (control_at version) number (orphan_raises_of sight)
+  stray_is version number moment sight shut = rw shut refl
+
+  pub stray_started : (content : Shared → TreeLists) (interns : Option ℕ) (flows : Flows Open) (slots : List Slot) (slot : Slot) (counts counts' : Counts) (version number : ℕ) (moment : Moment) (sight : Sight) (class : Class) (head : Option Head) (verdict : Verdict) (pasts : List RecordSoFar)
+      → IsStray sight class head pasts → AreKept keep told content flows slots counts pasts
+      → slot.name ≡ number → slot.kind ≡ Orphan class → slot.version ≡ version → slot.drops ≡ drops_of verdict number
+      → IsNoted keep counts (orphaned app (control_at version) number (orphan_raises class head)).tally (orphaned app (control_at version) number (orphan_raises class head)).entries slot.notes counts'
+      → (orphaned app (control_at version) number (orphan_raises class head)).drops ≡ drops_of verdict number
+      → verdict ≡ orphan_verdict app (control_at version) number (orphan_raises class head)
+      → Started content interns interns flows (slots ++ slot ∷ []) counts' (arrived version number moment sight) verdict pasts
+  stray_started content interns flows slots slot counts counts' version number moment sight class head verdict pasts stray stands name_is kind_is version_is drops_are noted dropped verdict_is =
+      let p = arrived version number moment sight in
+      let r = started_by app control_at p in
+      let h = orphaned app (control_at version) number (orphan_raises class head) in
+      let same : r.history ≡ h = stray_is version number moment sight stray.shut ∙ ap (orphaned app (control_at version) number) stray.raises in
+      let shut_at : (key : EndpointPair) → is_open_at key r ≡ false = λ key. ap (λ b. b && is_between key sight && not (is_over r.history)) stray.shut in
+      let slot_is : slot ≡ slot_of keep r =
+      noted_slot number version sight h slot.notes counts counts' slot name_is (kind_is ∙ sym stray.kind) version_is refl (drops_are ∙ sym dropped) noted
+      ∙ ap (λ (g : History). record { name = number; kind = kind_of sight; version = version; notes = record { tally = g.tally; entries = if keep then g.entries else [] }; drops = g.drops }) (sym same) in
+      record {
+        stands = started content flows flows slots slot counts counts' p pasts stands stray.untaken slot_is
+            (noted.callbacks ∙ ap (λ (g : History). counts.callbacks + length g.entries) (sym same))
+            (noted.weight ∙ ap (λ (g : History). counts.weight + weight_of g.entries) (sym same))
+            (λ key. unopened told content flows flows pasts r key (shut_at key) refl (stands.placed key))
+            (λ key passes. absurd (is_false_true (is_open_at key r) (shut_at key) passes));
+        interned = rw (added-new app control_at p pasts stray.untaken)
+            (InternsWithin-none interns (alterations pasts) (alterations (pasts ++ r ∷ [])) (rw (total-append (λ q. q.history.altered) pasts r) (omega arith)));
+        verdict_is = verdict_is ∙ ap (orphan_verdict app (control_at version) number) (sym stray.raises) ∙ sym (verdict_on-none app control_at p pasts stray.untaken ∙ (rw stray.shut refl));
+        dropped = ap drops_in (added-new app control_at p pasts stray.untaken) ∙ total-append (λ q. length q.history.drops) pasts r
+            ∙ ap (λ ds. drops_in pasts + length ds) (ap (λ (g : History). g.drops) same ∙ dropped);
+      }
+
+  -- ---- a segment that opens a connection
+
+  pub opening_started : (content content' : Shared → TreeLists) (interns interns' : Option ℕ) (flows after : Flows Open) (slots : List Slot) (open stepped_open : Open) (slot slot' : Slot) (counts counts' : Counts) (key : EndpointPair) (version number : ℕ) (moment : Moment) (segment : Segment) (step : Step) (pasts : List RecordSoFar)
+      → ((v : ℕ) → Tells m v (control_at v)) → ((k : EndpointPair) (x : Open) → found flows k ≡ Some x → content' x.flow.forest ≡ content x.flow.forest)
+      → AreKept keep told content flows slots counts pasts → key ≡ key_of_segment segment → found flows key ≡ None → opens (Tcp segment) ≡ true
+      → slot ≡ record { name = number; kind = Conn segment.sender segment.receiver; version = version; notes = record { tally = app.fresh; entries = [] }; drops = [] }
+      → open.client ≡ segment.sender → open.version ≡ version → open.place ≡ length pasts
+      → (tree : TreeLists) → IsFlow (told open.version) tree open.flow (fresh app (control_at version))
+      → ((control : ControlState) → Tells m open.version control → IsStep app keep (told open.version) control tree (content' stepped_open.flow.forest) interns interns' open stepped_open slot slot' counts counts' number segment step)
+      → ((other : EndpointPair) → found after other ≡ (if not step.over && same_key key other then Some stepped_open else found flows other))
+      → Started content' interns interns' after (slots ++ slot' ∷ []) counts' (arrived version number moment (Tcp segment)) step.verdict pasts
+  unfolding history_after verdict_after kind_of is_between
+  opening_started content content' interns interns' flows after slots open stepped_open slot slot' counts counts' key version number moment segment step pasts tells stored stands key_is absent opening slot_was client version_is last tree new step_of left =
+      let p = arrived version number moment (Tcp segment) in
+      let own = key_of_segment segment in
+      let r = started_by app control_at p in
+      let s = control_at version in
+      let h0 = fresh app s in
+      let none : place_of own pasts ≡ None = subst (λ o. IsOpenAt told content o (place_of own pasts) pasts) (ap (λ k. found flows k) (sym key_is) ∙ absent) (stands.placed own) in
+      let st = step_of s (subst (λ v. Tells m v s) (sym version_is) (tells version)) in
+      let notes_were = ap (λ (t : Slot). t.notes) slot_was in
+      let noted_before : IsNoted keep counts h0.tally [] slot.notes counts = record {
+        tally = ap (λ (n : Notes). n.tally) notes_were;
+        entries = ap (λ (n : Notes). n.entries) notes_were ∙ none_kept keep;
+        callbacks = omega arith;
+        weight = omega arith;
+      } in
+      let went = st.stands counts h0 (record { kept = new; noted = noted_before }) in
+      let h1 = stepped app s open number segment h0 in
+      let same : h1 ≡ r.history = rw opening (ap (λ c. followed app s number (side_of c segment) segment.head segment.payload h0) client) in
+      let noted = went.stands.noted in
+      let slot_is : slot' ≡ slot_of keep r =
+      noted_slot number version (Tcp segment) h1 slot'.notes counts counts' slot'
+      (ap (λ (t : Slot). t.name) st.noted ∙ ap (λ (t : Slot). t.name) slot_was)
+      (ap (λ (t : Slot). t.kind) st.noted ∙ ap (λ (t : Slot). t.kind) slot_was ∙ ap (λ b. if b then Conn segment.sender segment.receiver else Orphan Class.Tcp) (sym opening))
+      (ap (λ (t : Slot). t.version) st.noted ∙ ap (λ (t : Slot). t.version) slot_was)
+      refl
+      (ap (λ (t : Slot). t.drops) st.noted ∙ ap (λ (t : Slot). t.drops ++ drops_of step.verdict number) slot_was ∙ sym went.drops)
+      noted
+      ∙ ap (λ (g : History). record { name = number; kind = kind_of (Tcp segment); version = version; notes = record { tally = g.tally; entries = if keep then g.entries else [] }; drops = g.drops }) same in
+      let open_is : IsOpen told content' stepped_open r = record {
+        sides = λ t. ap (λ c. side_of c t) (st.client ∙ client);
+        version = st.version ∙ version_is;
+        kept = subst (λ v. IsFlow (told v) (content' stepped_open.flow.forest) stepped_open.flow r.history) (sym st.version)
+            (subst (λ g. IsFlow (told open.version) (content' stepped_open.flow.forest) stepped_open.flow g) same went.stands.kept);
+      } in
+      let own_key : (k : EndpointPair) → is_open_at k r ≡ (same_key own k && not step.over) = λ k.
+      rw opening (ap (λ b. same_key own k && not b) (ap is_over (sym (ap (λ c. followed app s number (side_of c segment) segment.head segment.payload h0) client)) ∙ sym went.over)) in
+      record {
+        stands = started content' flows after slots slot' counts counts' p pasts
+            (record {
+              shown = stands.shown;
+              placed = λ k. IsOpenAt-stored keep told content content' (found flows k) (place_of k pasts) pasts (stored k) (stands.placed k);
+              single = stands.single;
+              counted = stands.counted;
+              weighed = stands.weighed;
+            })
+            none slot_is
+            (noted.callbacks ∙ ap (λ (g : History). counts.callbacks + length g.entries) same)
+            (noted.weight ∙ ap (λ (g : History). counts.weight + weight_of g.entries) same)
+            (λ k. started_at told content' flows after pasts r stepped_open own k step.over (own_key k) none
+            (left k ∙ ap (λ w. if not step.over && same_key w k then Some stepped_open else found flows k) key_is) (st.place ∙ last) open_is
+            (IsOpenAt-stored keep told content content' (found flows k) (place_of k pasts) pasts (stored k) (stands.placed k)))
+            (λ k passes. subst (λ w. place_of w pasts ≡ None) (same_key-equal own k (left_of_and (same_key own k) (not step.over) (sym (own_key k) ∙ passes))) none);
+        interned = rw (added-new app control_at p pasts none)
+            (InternsWithin-others interns interns' (alterations pasts) 0 r.history.altered (alterations pasts) (alterations (pasts ++ r ∷ [])) (omega arith) (total-append (λ q. q.history.altered) pasts r)
+            (subst (λ (g : History). InternsWithin interns interns' 0 g.altered) same went.interned));
+        verdict_is = went.verdict_is ∙ ap (λ c. verdict app s number (side_of c segment) segment.head h0) client ∙ sym (verdict_on-none app control_at p pasts none ∙ (rw opening refl));
+        dropped = ap drops_in (added-new app control_at p pasts none) ∙ total-append (λ q. length q.history.drops) pasts r
+            ∙ ap (λ ds. drops_in pasts + length ds) (ap (λ (g : History). g.drops) (sym same) ∙ went.drops);
+      }

@@ -1,0 +1,51 @@
+-- A lane stands for the same records over a store that keeps the trees of its open connections, and before its first packet for none.
+use Rattle.std.proofs.Common.{◌≡◌, ℕ, Bool, Option, Some, None, List, [], refl, sym, subst}
+use Rattle.std.specs.FinMap as fin
+use Rattle.flow_table.specs.Key.{EndpointPair}
+use Rattle.flow_table.specs.Table.{Flows, found, key_cmp}
+use Rattle.app_api.specs.declared.registration.Reg.{Reg}
+use Rattle.shared_forest.specs.declared.store.Shared.{Shared}
+use Rattle.shared_forest.specs.Lists.{TreeLists}
+use Rattle.connection_core.specs.declared.ledger.Counts.{Counts}
+use Rattle.connection_core.specs.Standing.{IsFlow}
+use Rattle.lane_core.specs.declared.open.Open.{Open}
+use Rattle.lane_core.specs.declared.slot.Slot.{Slot}
+use Rattle.lane_core.specs.Records.{RecordSoFar, is_open_at}
+use Rattle.lane_core.specs.Shown.{total}
+use Rattle.lane_core.specs.Places.{place_by, place_of, IsSingle}
+use Rattle.lane_core.specs.Kept.{IsOpen, IsOpenAt, AreKept}
+
+module _ (keep : Bool) (told : ℕ → ℕ → Option Reg) where
+  -- no packet yet
+  pub kept-empty : (content : Shared → TreeLists) (flows : Flows Open) → ((key : EndpointPair) → found flows key ≡ None) → AreKept keep told content flows [] (record { callbacks = 0; weight = 0 }) []
+  unfolding place_by total IsSingle
+  kept-empty content flows none = record {
+    shown = refl;
+    placed = λ key. subst (λ o. IsOpenAt told content o (place_of key []) []) (sym (none key)) refl;
+    single = λ key. tt;
+    counted = refl;
+    weighed = refl;
+  }
+
+  pub IsOpen-stored : (content content' : Shared → TreeLists) (open : Open) (past : RecordSoFar) → content' open.flow.forest ≡ content open.flow.forest → IsOpen told content open past → IsOpen told content' open past
+  IsOpen-stored content content' open past same is = record {
+    sides = is.sides;
+    version = is.version;
+    kept = subst (λ t. IsFlow (told open.version) t open.flow past.history) (sym same) is.kept;
+  }
+
+  pub IsOpenAt-stored : (content content' : Shared → TreeLists) (o : Option Open) (place : Option ℕ) (pasts : List RecordSoFar)
+      → ((open : Open) → o ≡ Some open → content' open.flow.forest ≡ content open.flow.forest) → IsOpenAt told content o place pasts → IsOpenAt told content' o place pasts
+  IsOpenAt-stored content content' None place pasts same none = none
+  IsOpenAt-stored content content' (Some open) place pasts same at = (at.0, λ d. IsOpen-stored content content' open _ (same open refl) (at.1 d))
+
+  pub kept-stored : (content content' : Shared → TreeLists) (flows : Flows Open) (slots : List Slot) (counts : Counts) (pasts : List RecordSoFar)
+      → ((key : EndpointPair) (open : Open) → found flows key ≡ Some open → content' open.flow.forest ≡ content open.flow.forest)
+      → AreKept keep told content flows slots counts pasts → AreKept keep told content' flows slots counts pasts
+  kept-stored content content' flows slots counts pasts same stands = record {
+    shown = stands.shown;
+    placed = λ key. IsOpenAt-stored content content' (found flows key) (place_of key pasts) pasts (same key) (stands.placed key);
+    single = stands.single;
+    counted = stands.counted;
+    weighed = stands.weighed;
+  }

@@ -1,0 +1,34 @@
+-- Only for proofs: what holds of each open connection in the table of a lane.
+use Rattle.std.specs.Prelude.{ℕ, ◌<◌, ◌≤◌}
+use Rattle.std.specs.Option.{ForSome}
+use Rattle.flow_table.specs.Key.{EndpointPair}
+use Rattle.flow_table.specs.Table.{Flows, found}
+use Rattle.shared_forest.specs.declared.store.Shared.{Shared}
+use Rattle.shared_forest.specs.Lists.{TreeLists}
+use Rattle.forest_versions.specs.Master.{Versions, defs_of}
+use Rattle.connection_core.specs.InForce.{told_at}
+use Rattle.connection_core.specs.Trees.{IsForestIn}
+use Rattle.lane_core.specs.declared.open.Open.{Open}
+
+-- a tree by which the registrations of a version are called that it names
+abbrev pub IsTree : Versions → ℕ → TreeLists → Type 0
+IsTree m version tree = IsForestIn (defs_of m) (told_at m version) tree
+
+abbrev pub AllOpen : (Open → Type 0) → Flows Open → Type 0
+AllOpen holds flows = (key : EndpointPair) → ForSome (found flows key) holds
+
+abbrev pub AreAnswered : (Shared → Type 0) → Flows Open → Type 0
+AreAnswered answered flows = AllOpen (λ open. answered open.flow.forest) flows
+
+-- each calls the registrations of its version
+abbrev pub AreTrees : Versions → (Shared → TreeLists) → Flows Open → Type 0
+AreTrees m content flows = AllOpen (λ open. IsTree m open.version (content open.flow.forest)) flows
+
+abbrev pub ArePlaced : ℕ → Flows Open → Type 0
+ArePlaced n flows = AllOpen (λ open. open.place < n) flows
+
+abbrev pub AreSince : ℕ → Flows Open → Type 0
+AreSince version flows = AllOpen (λ open. open.version ≤ version) flows
+
+abbrev pub AreShort : ℕ → Flows Open → Type 0
+AreShort packets flows = AllOpen (λ open. open.flow.count ≤ packets) flows

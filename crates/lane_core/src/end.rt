@@ -1,0 +1,111 @@
+//! What a lane ends with.
+
+ghost use Rattle.std.specs.Prelude.{◌≡◌, IfOk, map, if◌then◌else◌, []};
+ghost use Rattle.lane_core.specs.End.{ended, is_conn};
+
+use crate::slot::Slot;
+use app_api::{App, FieldList, Tally, fields_of};
+use report_text::{Record, RecordKind, RecordList};
+use std::alloc::{AllocError, Global};
+use std::marker::Model;
+
+/// The names of records, each with its version. Contracts see the list.
+#[derive(Debug, Drop)]
+pub struct VersionOfList {
+    pub items: Vec<(u64, u32)>,
+}
+
+impl Model for VersionOfList {
+    ghost use Rattle.std.specs.Prelude.{List, ℕ};
+
+    ghost Value = { List (ℕ × ℕ) };
+
+    ghost view = { λ l. l.items.items };
+}
+
+impl VersionOfList {
+    /// The pairs in order.
+    pub fn as_slice(&self) -> &[(u64, u32)]
+        ensures { result.now ≡ self.now }
+    {
+        self.items.as_slice()
+    }
+}
+
+/// What a lane ends with.
+#[derive(Debug, Drop)]
+pub struct LaneEnd {
+    /// The connections and orphans, in order of name; without their entries where these weren't kept.
+    pub records: RecordList,
+    /// The name of each record, with the number of commands that it lived under.
+    pub versions: VersionOfList,
+    /// The callbacks of all records.
+    pub callbacks: u64,
+    /// The dropped packets of all records.
+    pub drops: u64,
+}
+
+// The fields of a record: an orphan has none.
+fn fields_in<A: App>(
+    alloc: Global,
+    app: &A,
+    kind: RecordKind,
+    tally: &Tally,
+) -> Result<FieldList, AllocError>
+    ensures { IfOk result (λ fields. fields ≡ (if is_conn kind then (A.meaning app.now).fields tally.now else [])) }
+{
+    match kind {
+        RecordKind::Conn { .. } => fields_of(alloc, app, tally),
+        RecordKind::Orphan { .. } => Ok(FieldList {
+            items: Vec::new(alloc),
+        }),
+    }
+}
+
+// A record that goes on no more.
+fn ended<A: App>(alloc: Global, app: &A, slot: Slot) -> Result<Record, AllocError>
+    ensures { IfOk result (λ r. r ≡ ended (A.meaning app.now) slot) }
+{
+    let fields = fields_in(alloc, app, slot.kind, &slot.notes.tally)?;
+    let Slot {
+        name,
+        kind,
+        version,
+        notes,
+        drops,
+    } = slot;
+    Ok(Record {
+        name,
+        kind,
+        version,
+        entries: notes.entries,
+        drops,
+        fields,
+    })
+}
+
+/// The records of a lane that goes on no more.
+pub(crate) fn records_of<A: App>(
+    alloc: Global,
+    app: &A,
+    slots: Vec<Slot>,
+) -> Result<RecordList, AllocError>
+    ensures { IfOk result (λ records. records ≡ map (ended (A.meaning app.now)) slots.items) }
+{
+    let mut items = Vec::with_capacity(alloc, slots.len())?;
+    for slot in slots {
+        items.push(ended(alloc, app, slot)?)?;
+    }
+    Ok(RecordList { items })
+}
+
+/// The name of each record, with its version.
+pub(crate) fn versions_of(alloc: Global, slots: &[Slot]) -> Result<VersionOfList, AllocError>
+    ensures { IfOk result (λ versions. versions ≡ map (λ s. (s.name, s.version)) slots.now) }
+{
+    let mut items = Vec::with_capacity(alloc, slots.len())?;
+    for slot in slots {
+        items.push((slot.name, slot.version))?;
+    }
+    Ok(VersionOfList { items })
+}

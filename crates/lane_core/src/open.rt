@@ -1,0 +1,18 @@
+//! An open connection, as a lane keeps it.
+
+ghost use Rattle.std.specs.Prelude.{◌≡◌};
+
+use connection_core::Flow;
+use flow_table::Endpoint;
+
+/// An open connection, with the place of its record under way.
+#[derive(Drop)]
+pub(crate) struct Open {
+    /// The place of its record among those of the lane.
+    pub(crate) place: usize,
+    /// Who sent the segment that opened it.
+    pub(crate) client: Endpoint,
+    /// How many commands were in force at its start. It lives under these to its end.
+    pub(crate) version: u32,
+    pub(crate) flow: Flow,
+}

@@ -1,0 +1,60 @@
+//! Records under way.
+
+ghost use Rattle.std.specs.Prelude.{◌≡◌, ◌++◌, [], OnOk};
+ghost use Rattle.app_api.specs.declared.app.Tally.{Tally as TallyOf};
+ghost use Rattle.connection_core.specs.History.{drops_of};
+
+use app_api::{DropList, Tally, Verdict};
+use connection_core::Notes;
+use report_text::RecordKind;
+use std::alloc::{AllocError, Global};
+
+/// A record under way: all that the report will tell of it, but for the fields of its application.
+#[derive(Drop)]
+pub(crate) struct Slot {
+    /// The number of its first packet.
+    pub(crate) name: u64,
+    pub(crate) kind: RecordKind,
+    /// How many commands were in force for it.
+    pub(crate) version: u32,
+    /// What the application keeps, and the callbacks where these are kept.
+    pub(crate) notes: Notes,
+    /// Its dropped packets.
+    pub(crate) drops: DropList,
+}
+
+impl Slot {
+    /// A record of no callback, with the tally of a connection that starts. It takes no memory.
+    pub(crate) fn new(
+        alloc: Global,
+        name: u64,
+        kind: RecordKind,
+        version: u32,
+        tally: Tally,
+    ) -> Slot
+        ensures { result ≡ record { name = name; kind = kind; version = version; notes = record { tally = tally; entries = [] }; drops = [] } }
+    {
+        Slot {
+            name,
+            kind,
+            version,
+            notes: Notes::new(alloc, tally),
+            drops: DropList {
+                items: Vec::new(alloc),
+            },
+        }
+    }
+
+    /// Notes what became of a packet.
+    pub(crate) fn note(&mut self, number: u64, verdict: Verdict) -> Result<(), AllocError>
+        ensures noted { OnOk result (self.new ≡ record self.old { drops = self.old.drops ++ drops_of verdict number }) }
+    {
+        match verdict {
+            Verdict::Pass => Ok(()),
+            Verdict::Drop(reason) => {
+                self.drops.items.push((number, reason))?;
+                Ok(())
+            }
+        }
+    }
+}
