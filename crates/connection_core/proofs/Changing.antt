@@ -45,9 +45,9 @@ pub forest_names : (defs : List EventDef) (at : ℕ → Option Reg) (list : List
 forest_names defs at list tree slots forest known = tree_names at list tree (slots defs list forest) known
 
 pub forest_in : (defs : List EventDef) (at : ℕ → Option Reg) (list : List Reg) (tree : TreeLists)
-    → active_in at tree ≡ list → IsForestOf defs list (listing tree) → All (λ (r : Reg). at r.number ≡ Some r) list → IsForestIn defs at tree
-forest_in defs at list tree same forest known =
-    subst (λ l. IsTreeOf defs at l tree) (sym same) (record { private = forest.private; known = known; listed = forest.listed })
+    → tree.slots ≡ map slot_of list → IsForestOf defs list (listing tree) → All (λ (r : Reg). at r.number ≡ Some r) list → IsForestIn defs at tree
+forest_in defs at list tree slots forest known =
+    subst (λ l. IsTreeOf defs at l tree) (sym (tree_names at list tree slots known)) (record { private = forest.private; slots = slots; known = known; listed = forest.listed })
 
 -- ---- whether a registration is on
 
@@ -220,7 +220,7 @@ pub edited_forest : (defs : List EventDef) (at : ℕ → Option Reg) (r : Reg) (
     → All (λ (x : Reg). at x.number ≡ Some x) list → ((d : List EventDef) (l : List Reg) → IsForestOf d l (listing tree) → tree.slots ≡ map slot_of l)
     → IsForestOf defs (edited defs list r on) (listing tree) → IsForestIn defs at tree
 edited_forest defs at r list on tree here known slots forest =
-    forest_in defs at (edited defs list r on) tree (edited_names defs at r list on tree here known slots forest) forest (edited_known at defs r list on here known)
+    forest_in defs at (edited defs list r on) tree (slots defs (edited defs list r on) forest) forest (edited_known at defs r list on here known)
 
 -- what a tree says of whether a registration is so already
 pub so_by : (at : ℕ → Option Reg) (n : ℕ) (r : Reg) (list : List Reg) (on so : Bool) (slots : List Slot) → r.number ≡ n → slots ≡ map slot_of list
