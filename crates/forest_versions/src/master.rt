@@ -152,6 +152,13 @@ impl Master {
         let _now = &self.control;
     }
 
+    /// Something is told of each version.
+    pub fn tells_each_version(&self)
+        ensures { (v : ℕ) → (s : ControlState) × Tells self.now v s }
+    {
+        let _now = &self.control;
+    }
+
     /// The registration of a number at a version. None where it isn't registered there.
     pub fn reg_at(&self, version: u32, number: u8) -> Option<&Reg>
         ensures reg { (s : ControlState) → Tells self.now version s → option_copied result ≡ reg_of s.regs number }

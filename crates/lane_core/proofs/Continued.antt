@@ -18,13 +18,13 @@ use Rattle.connection_core.specs.History.{History, followed, verdict, drops_of, 
 use Rattle.connection_core.specs.InForce.{told_at}
 use Rattle.connection_core.specs.Standing.{IsFlow, IsConnection}
 use Rattle.connection_core.specs.Trees.{InternsWithin}
-use Rattle.lane_core.specs.declared.open.Open.{Open}
+use Rattle.lane_core.specs.declared.connection.Connection.{Connection}
 use Rattle.lane_core.specs.declared.slot.Slot.{Slot}
 use Rattle.lane_core.specs.Sight.{Segment, Tcp, Moment, key_of_segment}
 use Rattle.lane_core.specs.Records.{RecordSoFar, VersionedPacket, is_open_at, side_of, side_in, history_after, verdict_after, verdict_on, started_by, continued_by, added}
 use Rattle.lane_core.specs.Shown.{total, alterations, drops_of as drops_in}
 use Rattle.lane_core.specs.Places.{place_of, IsSingle}
-use Rattle.lane_core.specs.Opened.{stepped, Stepping, IsStep, Follows, noted_in}
+use Rattle.lane_core.specs.Steps.{stepped, Stepping, IsStep, Follows, noted_in}
 use Rattle.lane_core.specs.Kept.{IsOpen, IsOpenAt, AreKept, slot_of, arrived}
 use Rattle.lane_core.proofs.Places.{place_by-within, place_by-passes, joins, IsSingle-set}
 use Rattle.lane_core.proofs.Holding.{left_of_and, holds_before, holds_after}
@@ -34,20 +34,20 @@ use Rattle.lane_core.proofs.Stored.{IsOpenAt-stored}
 use Rattle.lane_core.proofs.Verdicts.{verdict_on-some}
 
 -- what the table has for a key, after a step of one connection
-continued_at : (told : ℕ → ℕ → Option Reg) (content : Shared → TreeLists) (flows after : Flows Open) (pasts : List RecordSoFar) (i : ℕ) (past d : RecordSoFar) (open : Open) (own key : EndpointPair) (same over : Bool)
+continued_at : (told : ℕ → ℕ → Option Reg) (content : Shared → TreeLists) (flows after : Flows Connection) (pasts : List RecordSoFar) (i : ℕ) (past d : RecordSoFar) (conn : Connection) (own key : EndpointPair) (same over : Bool)
     → same_key own key ≡ same → IsSingle (is_open_at own) pasts → place_of own pasts ≡ Some i → ((k : EndpointPair) → is_open_at k (get_or pasts i d) ≡ same_key own k)
-    → ((k : EndpointPair) → is_open_at k past ≡ (same_key own k && not over)) → open.place ≡ i → IsOpen told content open past
-    → found after key ≡ (if same then (if over then None else Some open) else found flows key)
+    → ((k : EndpointPair) → is_open_at k past ≡ (same_key own k && not over)) → conn.place ≡ i → IsOpen told content conn past
+    → found after key ≡ (if same then (if over then None else Some conn) else found flows key)
     → IsOpenAt told content (found flows key) (place_of key pasts) pasts → IsOpenAt told content (found after key) (place_of key (set pasts i past)) (set pasts i past)
-continued_at told content flows after pasts i past d open own key true true same single there before afterwards at is left was =
+continued_at told content flows after pasts i past d conn own key true true same single there before afterwards at is left was =
     let one : own ≡ key = same_key-equal own key same in
     let fails : is_open_at key past ≡ false = afterwards key ∙ ap (λ b. b && false) same in
     rw left (over_flow told content key pasts i past (subst (λ k. IsSingle (is_open_at k) pasts) one single) (subst (λ k. place_of k pasts ≡ Some i) one there) fails)
-continued_at told content flows after pasts i past d open own key true false same single there before afterwards at is left was =
+continued_at told content flows after pasts i past d conn own key true false same single there before afterwards at is left was =
     let one : own ≡ key = same_key-equal own key same in
     let passes : is_open_at key past ≡ true = afterwards key ∙ ap (λ b. b && true) same in
-    rw left (stepped_flow told content key pasts i past open (subst (λ k. place_of k pasts ≡ Some i) one there) passes at is)
-continued_at told content flows after pasts i past d open own key false over same single there before afterwards at is left was =
+    rw left (stepped_flow told content key pasts i past conn (subst (λ k. place_of k pasts ≡ Some i) one there) passes at is)
+continued_at told content flows after pasts i past d conn own key false over same single there before afterwards at is left was =
     let out : is_open_at key (get_or pasts i d) ≡ false = before key ∙ same in
     let still_out : is_open_at key past ≡ false = afterwards key ∙ ap (λ b. b && not over) same in
     rw left (kept_flow told content key (found flows key) pasts i past d (place_by-within (is_open_at own) pasts i there) out still_out was)
@@ -67,10 +67,10 @@ module _ (app : Meaning) (control_at : ℕ → ControlState) (keep : Bool) (m : 
   }
 
   -- what stands for one record stands for its history
-  connection_in : (content : Shared → TreeLists) (flows : Flows Open) (slots : List Slot) (counts : Counts) (pasts : List RecordSoFar) (i : ℕ) (d : RecordSoFar) (open : Open) (slot : Slot)
-      → AreKept keep told content flows slots counts pasts → i < length pasts → IsOpen told content open (get_or pasts i d) → slot ≡ slot_of keep (get_or pasts i d)
-      → IsConnection keep (others pasts i) (told open.version) (content open.flow.forest) open.flow slot.notes counts (get_or pasts i d).history
-  connection_in content flows slots counts pasts i d open slot stands within is slot_is = record {
+  connection_in : (content : Shared → TreeLists) (flows : Flows Connection) (slots : List Slot) (counts : Counts) (pasts : List RecordSoFar) (i : ℕ) (d : RecordSoFar) (conn : Connection) (slot : Slot)
+      → AreKept keep told content flows slots counts pasts → i < length pasts → IsOpen told content conn (get_or pasts i d) → slot ≡ slot_of keep (get_or pasts i d)
+      → IsConnection keep (others pasts i) (told conn.version) (content conn.flow.forest) conn.flow slot.notes counts (get_or pasts i d).history
+  connection_in content flows slots counts pasts i d conn slot stands within is slot_is = record {
     kept = is.kept;
     noted = record {
       tally = ap (λ (s : Slot). s.notes.tally) slot_is;
@@ -81,34 +81,34 @@ module _ (app : Meaning) (control_at : ℕ → ControlState) (keep : Bool) (m : 
   }
 
   module _ (content content' : Shared → TreeLists) (interns interns' : Option ℕ) (number : ℕ) (moment : Moment) (segment : Segment) (p : VersionedPacket) (is_p : p ≡ arrived p.version number moment (Tcp segment))
-      (open after : Open) (slot slot' : Slot) (counts counts' : Counts) (step : Step) (past : RecordSoFar) (rest : Counts) where
+      (conn after : Connection) (slot slot' : Slot) (counts counts' : Counts) (step : Step) (past : RecordSoFar) (rest : Counts) where
     abbrev next : RecordSoFar
     next = continued_by app control_at p.arrival past
 
     abbrev Went : Type 0
-    Went = Stepping app keep (told open.version) (control_at open.version) rest (content open.flow.forest) (content' after.flow.forest) interns interns' open after slot slot' counts counts' number segment step past.history
+    Went = Stepping app keep (told conn.version) (control_at conn.version) rest (content conn.flow.forest) (content' after.flow.forest) interns interns' conn after slot slot' counts counts' number segment step past.history
 
     abbrev Stepped : Type 0
-    Stepped = IsStep app keep (told open.version) (control_at open.version) (content open.flow.forest) (content' after.flow.forest) interns interns' open after slot slot' counts counts' number segment step
+    Stepped = IsStep app keep (told conn.version) (control_at conn.version) (content conn.flow.forest) (content' after.flow.forest) interns interns' conn after slot slot' counts counts' number segment step
 
-    next_is : IsOpen told content open past → stepped app (control_at open.version) open number segment past.history ≡ next.history
+    next_is : IsOpen told content conn past → stepped app (control_at conn.version) conn number segment past.history ≡ next.history
     unfolding history_after
     next_is is =
-        rw is_p (ap (λ side. followed app (control_at open.version) number side segment.head segment.payload past.history) (is.sides segment)
+        rw is_p (ap (λ side. followed app (control_at conn.version) number side segment.head segment.payload past.history) (is.sides segment)
         ∙ ap (λ v. followed app (control_at v) number (side_in past.first.sight segment) segment.head segment.payload past.history) is.version)
 
-    open_is : IsOpen told content open past → Stepped → Went → IsOpen told content' after next
+    open_is : IsOpen told content conn past → Stepped → Went → IsOpen told content' after next
     open_is is st went = record {
       sides = λ h. ap (λ c. side_of c h) st.client ∙ is.sides h;
       version = st.version ∙ is.version;
       kept = subst (λ v. IsFlow (told v) (content' after.flow.forest) after.flow next.history) (sym st.version)
-          (subst (λ h. IsFlow (told open.version) (content' after.flow.forest) after.flow h) (next_is is) went.stands.kept);
+          (subst (λ h. IsFlow (told conn.version) (content' after.flow.forest) after.flow h) (next_is is) went.stands.kept);
     }
 
-    over_is : IsOpen told content open past → Went → is_over next.history ≡ step.over
+    over_is : IsOpen told content conn past → Went → is_over next.history ≡ step.over
     over_is is went = sym (went.over ∙ ap is_over (next_is is))
 
-    slot_is : IsOpen told content open past → slot ≡ slot_of keep past → Stepped → Went → slot' ≡ slot_of keep next
+    slot_is : IsOpen told content conn past → slot ≡ slot_of keep past → Stepped → Went → slot' ≡ slot_of keep next
     slot_is is was st went =
         let same = next_is is in
         let noted = went.stands.noted in
@@ -122,45 +122,45 @@ module _ (app : Meaning) (control_at : ℕ → ControlState) (keep : Bool) (m : 
         ∙ ap (λ n. record (slot_of keep past) { notes = n; drops = slot.drops ++ drops_of step.verdict number }) notes_are
         ∙ ap (λ ds. record (slot_of keep past) { notes = (slot_of keep next).notes; drops = ds }) drops_are
 
-    verdict_in : IsOpen told content open past → Went → step.verdict ≡ verdict_after app (control_at past.version) past.first.sight p.arrival past.history
+    verdict_in : IsOpen told content conn past → Went → step.verdict ≡ verdict_after app (control_at past.version) past.first.sight p.arrival past.history
     unfolding verdict_after
     verdict_in is went =
         rw is_p (went.verdict_is
-        ∙ ap (λ side. verdict app (control_at open.version) number side segment.head past.history) (is.sides segment)
+        ∙ ap (λ side. verdict app (control_at conn.version) number side segment.head past.history) (is.sides segment)
         ∙ ap (λ v. verdict app (control_at v) number (side_in past.first.sight segment) segment.head past.history) is.version)
 
   -- the lane after a packet that an open connection takes
-  pub record Continued (content' : Shared → TreeLists) (interns interns' : Option ℕ) (after : Flows Open) (slots' : List Slot) (counts' : Counts) (p : VersionedPacket) (step : Step) (pasts : List RecordSoFar) : Type 0 where
+  pub record Continued (content' : Shared → TreeLists) (interns interns' : Option ℕ) (after : Flows Connection) (slots' : List Slot) (counts' : Counts) (p : VersionedPacket) (step : Step) (pasts : List RecordSoFar) : Type 0 where
     pub stands : AreKept keep told content' after slots' counts' (added app control_at p pasts)
     pub interned : InternsWithin interns interns' (alterations pasts) (alterations (added app control_at p pasts))
     pub verdict_is : step.verdict ≡ verdict_on app control_at p pasts
     pub dropped : drops_in (added app control_at p pasts) ≡ drops_in pasts + length (drops_of step.verdict p.arrival.number)
 
-  pub continued : (content content' : Shared → TreeLists) (interns interns' : Option ℕ) (flows after : Flows Open) (slots slots' : List Slot) (counts counts' : Counts) (key : EndpointPair) (version number : ℕ) (moment : Moment) (segment : Segment) (step : Step) (pasts : List RecordSoFar)
-      → ((v : ℕ) → Tells m v (control_at v)) → ((k : EndpointPair) (x : Open) → found flows k ≡ Some x → content' x.flow.forest ≡ content x.flow.forest)
+  pub continued : (content content' : Shared → TreeLists) (interns interns' : Option ℕ) (flows after : Flows Connection) (slots slots' : List Slot) (counts counts' : Counts) (key : EndpointPair) (version number : ℕ) (moment : Moment) (segment : Segment) (step : Step) (pasts : List RecordSoFar)
+      → ((v : ℕ) → Tells m v (control_at v)) → ((k : EndpointPair) (x : Connection) → found flows k ≡ Some x → content' x.flow.forest ≡ content x.flow.forest)
       → AreKept keep told content flows slots counts pasts → key ≡ key_of_segment segment
       → Follows app keep m content content' interns interns' flows after slots slots' counts counts' key number segment step
       → Continued content' interns interns' after slots' counts' (arrived version number moment (Tcp segment)) step pasts
   continued content content' interns interns' flows after slots slots' counts counts' key version number moment segment step pasts tells stored stands key_is f =
       let p = arrived version number moment (Tcp segment) in
       let own = key_of_segment segment in
-      let i = f.open.place in
+      let i = f.conn.place in
       let d = started_by app control_at p in
-      let was : found flows own ≡ Some f.open = ap (λ k. found flows k) (sym key_is) ∙ f.was in
+      let was : found flows own ≡ Some f.conn = ap (λ k. found flows k) (sym key_is) ∙ f.was in
       let at = subst (λ o. IsOpenAt told content o (place_of own pasts) pasts) was (stands.placed own) in
       let there : place_of own pasts ≡ Some i = at.0 in
       let past = get_or pasts i d in
       let next = continued_by app control_at p.arrival past in
-      let is : IsOpen told content f.open past = at.1 d in
+      let is : IsOpen told content f.conn past = at.1 d in
       let within = place_by-within (is_open_at own) pasts i there in
       let passes = place_by-passes (is_open_at own) pasts i d there in
       let slot_was : f.slot ≡ slot_of keep past = f.slot_is ∙ ap (λ ss. get_or ss i f.slot) stands.shown ∙ get_or-map (slot_of keep) pasts i d f.slot within in
-      let st = f.step_is (control_at f.open.version) (tells f.open.version) in
-      let went = st.stands (others pasts i) past.history (connection_in content flows slots counts pasts i d f.open f.slot stands within is slot_was) in
-      let over = over_is content content' interns interns' number moment segment p refl f.open f.open_after f.slot f.slot_after counts counts' step past (others pasts i) is went in
-      let open_after = open_is content content' interns interns' number moment segment p refl f.open f.open_after f.slot f.slot_after counts counts' step past (others pasts i) is st went in
-      let shown = slot_is content content' interns interns' number moment segment p refl f.open f.open_after f.slot f.slot_after counts counts' step past (others pasts i) is slot_was st went in
-      let same = next_is content content' interns interns' number moment segment p refl f.open f.open_after f.slot f.slot_after counts counts' step past (others pasts i) is in
+      let st = f.step_is (control_at f.conn.version) (tells f.conn.version) in
+      let went = st.stands (others pasts i) past.history (connection_in content flows slots counts pasts i d f.conn f.slot stands within is slot_was) in
+      let over = over_is content content' interns interns' number moment segment p refl f.conn f.conn_after f.slot f.slot_after counts counts' step past (others pasts i) is went in
+      let conn_after = open_is content content' interns interns' number moment segment p refl f.conn f.conn_after f.slot f.slot_after counts counts' step past (others pasts i) is st went in
+      let shown = slot_is content content' interns interns' number moment segment p refl f.conn f.conn_after f.slot f.slot_after counts counts' step past (others pasts i) is slot_was st went in
+      let same = next_is content content' interns interns' number moment segment p refl f.conn f.conn_after f.slot f.slot_after counts counts' step past (others pasts i) is in
       let before = λ (k : EndpointPair). holds_before past own k passes in
       let afterwards = λ (k : EndpointPair). holds_after past next own k step.over passes refl over in
       let noted = went.stands.noted in
@@ -168,9 +168,9 @@ module _ (app : Meaning) (control_at : ℕ → ControlState) (keep : Bool) (m : 
       record {
         stands = rw new (record {
           shown = f.noted ∙ ap (λ s. set slots i s) shown ∙ ap (λ ss. set ss i (slot_of keep next)) stands.shown ∙ sym (map-set (slot_of keep) pasts i next);
-          placed = λ k. continued_at told content' flows after pasts i next d f.open_after own k (same_key own k) step.over refl (stands.single own) there before afterwards
-              st.place open_after
-              (f.left k ∙ ap (λ w. if same_key w k then (if step.over then None else Some f.open_after) else found flows k) key_is)
+          placed = λ k. continued_at told content' flows after pasts i next d f.conn_after own k (same_key own k) step.over refl (stands.single own) there before afterwards
+              st.place conn_after
+              (f.left k ∙ ap (λ w. if same_key w k then (if step.over then None else Some f.conn_after) else found flows k) key_is)
               (IsOpenAt-stored keep told content content' (found flows k) (place_of k pasts) pasts (stored k) (stands.placed k));
           single = λ k. IsSingle-set (is_open_at k) pasts i next d (stands.single k) within
               (λ e. before k ∙ left_of_and (same_key own k) (not step.over) (sym (afterwards k) ∙ e));
@@ -182,7 +182,7 @@ module _ (app : Meaning) (control_at : ℕ → ControlState) (keep : Bool) (m : 
         interned = rw new (InternsWithin-others interns interns' (others_of (λ r. r.history.altered) pasts i) past.history.altered next.history.altered (alterations pasts) (alterations (set pasts i next))
             (others_and (λ r. r.history.altered) pasts i d within) (others_with (λ r. r.history.altered) pasts i next within)
             (subst (λ (h : History). InternsWithin interns interns' past.history.altered h.altered) same went.interned));
-        verdict_is = verdict_in content content' interns interns' number moment segment p refl f.open f.open_after f.slot f.slot_after counts counts' step past (others pasts i) is went
+        verdict_is = verdict_in content content' interns interns' number moment segment p refl f.conn f.conn_after f.slot f.slot_after counts counts' step past (others pasts i) is went
             ∙ sym (verdict_on-some app control_at p pasts i d there);
         dropped =
             let longer : length next.history.drops ≡ length past.history.drops + length (drops_of step.verdict number) =

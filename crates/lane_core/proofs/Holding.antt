@@ -50,4 +50,3 @@ holds_after past after own key over passes first is =
     let h = holding (opens past.first.sight) (is_between own past.first.sight) (is_over past.history) passes in
     let opening = h.first in
     rw (first, opening, is) (ap (λ b. b && not over) (between_own past.first.sight own key h.second))
-

@@ -9,3 +9,14 @@ pub mod Verdicts
 pub mod Stored
 pub mod Continued
 pub mod Started
+pub mod Presets
+pub mod Sights
+pub mod Pieces
+pub mod Weighing
+pub mod Tidiness
+pub mod Runs
+pub mod Noting
+pub mod Settling
+pub mod Commands
+pub mod Standing
+pub mod Ending

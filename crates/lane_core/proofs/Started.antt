@@ -9,6 +9,7 @@ use Rattle.flow_table.specs.Table.{Flows, found}
 use Rattle.flow_table.proofs.Keys.{same_key-equal}
 use Rattle.app_api.specs.App.{Meaning}
 use Rattle.app_api.specs.declared.reaction.Verdict.{Verdict}
+use Rattle.app_api.specs.declared.entry.Entry.{Entry}
 use Rattle.app_api.specs.declared.registration.Reg.{Reg}
 use Rattle.shared_forest.specs.declared.store.Shared.{Shared}
 use Rattle.shared_forest.specs.Lists.{TreeLists}
@@ -23,13 +24,13 @@ use Rattle.connection_core.specs.History.{History, fresh, followed, verdict, orp
 use Rattle.connection_core.specs.InForce.{told_at}
 use Rattle.connection_core.specs.Standing.{IsFlow, IsNoted, IsConnection}
 use Rattle.connection_core.specs.Trees.{InternsWithin}
-use Rattle.lane_core.specs.declared.open.Open.{Open}
+use Rattle.lane_core.specs.declared.connection.Connection.{Connection}
 use Rattle.lane_core.specs.declared.slot.Slot.{Slot}
 use Rattle.lane_core.specs.Sight.{Segment, Sight, Tcp, Moment, key_of_segment}
 use Rattle.lane_core.specs.Records.{RecordSoFar, VersionedPacket, opens, is_between, is_open_at, belongs_to, side_of, history_after, verdict_after, verdict_on, orphan_raises_of, started_by, added}
 use Rattle.lane_core.specs.Shown.{kind_of, alterations, drops_of as drops_in}
 use Rattle.lane_core.specs.Places.{place_by, place_of}
-use Rattle.lane_core.specs.Opened.{stepped, Stepping, IsStep, noted_in}
+use Rattle.lane_core.specs.Steps.{stepped, Stepping, IsStep, IsLone, Opens, noted_in}
 use Rattle.lane_core.specs.Kept.{IsOpen, IsOpenAt, AreKept, IsStray, slot_of, arrived}
 use Rattle.lane_core.proofs.Places.{place_with, place_by-append, added-new, IsSingle-append}
 use Rattle.lane_core.proofs.Holding.{and_true, and_false, left_of_and}
@@ -42,20 +43,20 @@ is_false_true : (b : Bool) → b ≡ false → b ≡ true → ⊥
 is_false_true true fails passes = cc
 is_false_true false fails passes = cc
 
-none_kept : {T : Type 0} (keep : Bool) → [] {T} ≡ (if keep then [] else [])
-none_kept true = refl
-none_kept false = refl
+none_kept : (keep : Bool) (es : List Entry) → es ≡ [] → es ≡ (if keep then [] else [])
+none_kept true es none = none
+none_kept false es none = none
 
 -- what the table has for a key, with one record more
-started_at : (told : ℕ → ℕ → Option Reg) (content : Shared → TreeLists) (flows after : Flows Open) (pasts : List RecordSoFar) (past : RecordSoFar) (open : Open) (own key : EndpointPair) (over : Bool)
+started_at : (told : ℕ → ℕ → Option Reg) (content : Shared → TreeLists) (flows after : Flows Connection) (pasts : List RecordSoFar) (past : RecordSoFar) (conn : Connection) (own key : EndpointPair) (over : Bool)
     → is_open_at key past ≡ (same_key own key && not over) → place_of own pasts ≡ None
-    → found after key ≡ (if not over && same_key own key then Some open else found flows key) → open.place ≡ length pasts → IsOpen told content open past
+    → found after key ≡ (if not over && same_key own key then Some conn else found flows key) → conn.place ≡ length pasts → IsOpen told content conn past
     → IsOpenAt told content (found flows key) (place_of key pasts) pasts
     → IsOpenAt told content (found after key) (place_with (place_of key pasts) (is_open_at key past) (length pasts)) (pasts ++ past ∷ [])
-started_at told content flows after pasts past open own key true own_key absent there last is at =
+started_at told content flows after pasts past conn own key true own_key absent there last is at =
     unopened told content flows after pasts past key (own_key ∙ and_false (same_key own key)) there at
-started_at told content flows after pasts past open own key false own_key absent there last is at =
-    opened told content flows after pasts past open own key (own_key ∙ and_true (same_key own key)) absent there last is at
+started_at told content flows after pasts past conn own key false own_key absent there last is at =
+    opened told content flows after pasts past conn own key (own_key ∙ and_true (same_key own key)) absent there last is at
 
 module _ (app : Meaning) (control_at : ℕ → ControlState) (keep : Bool) (m : Versions) where
   abbrev told : ℕ → ℕ → Option Reg
@@ -75,7 +76,7 @@ module _ (app : Meaning) (control_at : ℕ → ControlState) (keep : Bool) (m : 
       ∙ ap (λ ds. record { name = name; kind = kind_of sight; version = version; notes = record { tally = h.tally; entries = if keep then h.entries else [] }; drops = ds }) drops_are
 
   -- a packet that starts a record
-  started : (content : Shared → TreeLists) (flows after : Flows Open) (slots : List Slot) (slot : Slot) (counts counts' : Counts) (p : VersionedPacket) (pasts : List RecordSoFar)
+  started : (content : Shared → TreeLists) (flows after : Flows Connection) (slots : List Slot) (slot : Slot) (counts counts' : Counts) (p : VersionedPacket) (pasts : List RecordSoFar)
       → AreKept keep told content flows slots counts pasts → place_by (belongs_to p.arrival.sight) pasts ≡ None → slot ≡ slot_of keep (started_by app control_at p)
       → counts'.callbacks ≡ counts.callbacks + length (started_by app control_at p).history.entries → counts'.weight ≡ counts.weight + weight_of (started_by app control_at p).history.entries
       → ((key : EndpointPair) → IsOpenAt told content (found after key) (place_with (place_of key pasts) (is_open_at key (started_by app control_at p)) (length pasts)) (pasts ++ started_by app control_at p ∷ []))
@@ -93,7 +94,7 @@ module _ (app : Meaning) (control_at : ℕ → ControlState) (keep : Bool) (m : 
       })
 
   -- the lane after a packet that starts a record
-  pub record Started (content : Shared → TreeLists) (interns interns' : Option ℕ) (after : Flows Open) (slots : List Slot) (counts : Counts) (p : VersionedPacket) (verdict : Verdict) (pasts : List RecordSoFar) : Type 0 where
+  pub record Started (content : Shared → TreeLists) (interns interns' : Option ℕ) (after : Flows Connection) (slots : List Slot) (counts : Counts) (p : VersionedPacket) (verdict : Verdict) (pasts : List RecordSoFar) : Type 0 where
     pub stands : AreKept keep told content after slots counts (added app control_at p pasts)
     pub interned : InternsWithin interns interns' (alterations pasts) (alterations (added app control_at p pasts))
     pub verdict_is : verdict ≡ verdict_on app control_at p pasts
@@ -106,64 +107,85 @@ module _ (app : Meaning) (control_at : ℕ → ControlState) (keep : Bool) (m : 
       → (started_by app control_at (arrived version number moment sight)).history ≡ orphaned app (control_at version) number (orphan_raises_of sight)
   stray_is version number moment sight shut = rw shut refl
 
-  pub stray_started : (content : Shared → TreeLists) (interns : Option ℕ) (flows : Flows Open) (slots : List Slot) (slot : Slot) (counts counts' : Counts) (version number : ℕ) (moment : Moment) (sight : Sight) (class : Class) (head : Option Head) (verdict : Verdict) (pasts : List RecordSoFar)
-      → IsStray sight class head pasts → AreKept keep told content flows slots counts pasts
-      → slot.name ≡ number → slot.kind ≡ Orphan class → slot.version ≡ version → slot.drops ≡ drops_of verdict number
-      → IsNoted keep counts (orphaned app (control_at version) number (orphan_raises class head)).tally (orphaned app (control_at version) number (orphan_raises class head)).entries slot.notes counts'
-      → (orphaned app (control_at version) number (orphan_raises class head)).drops ≡ drops_of verdict number
-      → verdict ≡ orphan_verdict app (control_at version) number (orphan_raises class head)
-      → Started content interns interns flows (slots ++ slot ∷ []) counts' (arrived version number moment sight) verdict pasts
-  stray_started content interns flows slots slot counts counts' version number moment sight class head verdict pasts stray stands name_is kind_is version_is drops_are noted dropped verdict_is =
+  pub stray_started : (content : Shared → TreeLists) (interns : Option ℕ) (flows : Flows Connection) (slots : List Slot) (slot slot' : Slot) (counts counts' : Counts) (number : ℕ) (moment : Moment) (sight : Sight) (class : Class) (head : Option Head) (verdict : Verdict) (pasts : List RecordSoFar)
+      → control_at m.version ≡ m.now → IsStray sight class head pasts → AreKept keep told content flows slots counts pasts
+      → slot ≡ record { name = number; kind = Orphan class; version = m.version; notes = record { tally = app.fresh; entries = [] }; drops = [] }
+      → IsLone app keep m.now slot slot' counts counts' number (orphan_raises class head) verdict
+      → Started content interns interns flows (slots ++ slot' ∷ []) counts' (arrived m.version number moment sight) verdict pasts
+  stray_started content interns flows slots slot slot' counts counts' number moment sight class head verdict pasts now_is stray stands slot_was lone =
+      let version = m.version in
       let p = arrived version number moment sight in
       let r = started_by app control_at p in
-      let h = orphaned app (control_at version) number (orphan_raises class head) in
-      let same : r.history ≡ h = stray_is version number moment sight stray.shut ∙ ap (orphaned app (control_at version) number) stray.raises in
+      let h = orphaned app m.now number (orphan_raises class head) in
+      let notes_were = ap (λ (t : Slot). t.notes) slot_was in
+      let before : IsNoted keep counts app.fresh [] slot.notes counts = record {
+        tally = ap (λ (n : Notes). n.tally) notes_were;
+        entries = none_kept keep slot.notes.entries (ap (λ (n : Notes). n.entries) notes_were);
+        callbacks = omega arith;
+        weight = omega arith;
+      } in
+      let noted = lone.noted counts before in
+      let dropped = lone.dropped counts before in
+      let same : r.history ≡ h =
+      stray_is version number moment sight stray.shut ∙ ap (orphaned app (control_at version) number) stray.raises
+      ∙ ap (λ c. orphaned app c number (orphan_raises class head)) now_is in
       let shut_at : (key : EndpointPair) → is_open_at key r ≡ false = λ key. ap (λ b. b && is_between key sight && not (is_over r.history)) stray.shut in
-      let slot_is : slot ≡ slot_of keep r =
-      noted_slot number version sight h slot.notes counts counts' slot name_is (kind_is ∙ sym stray.kind) version_is refl (drops_are ∙ sym dropped) noted
+      let slot_is : slot' ≡ slot_of keep r =
+      noted_slot number version sight h slot'.notes counts counts' slot'
+      (lone.name ∙ ap (λ (t : Slot). t.name) slot_was)
+      (lone.kind ∙ ap (λ (t : Slot). t.kind) slot_was ∙ sym stray.kind)
+      (lone.version ∙ ap (λ (t : Slot). t.version) slot_was)
+      refl
+      (lone.drops ∙ ap (λ (t : Slot). t.drops ++ drops_of verdict number) slot_was ∙ sym dropped) noted
       ∙ ap (λ (g : History). record { name = number; kind = kind_of sight; version = version; notes = record { tally = g.tally; entries = if keep then g.entries else [] }; drops = g.drops }) (sym same) in
       record {
-        stands = started content flows flows slots slot counts counts' p pasts stands stray.untaken slot_is
+        stands = started content flows flows slots slot' counts counts' p pasts stands stray.untaken slot_is
             (noted.callbacks ∙ ap (λ (g : History). counts.callbacks + length g.entries) (sym same))
             (noted.weight ∙ ap (λ (g : History). counts.weight + weight_of g.entries) (sym same))
             (λ key. unopened told content flows flows pasts r key (shut_at key) refl (stands.placed key))
             (λ key passes. absurd (is_false_true (is_open_at key r) (shut_at key) passes));
         interned = rw (added-new app control_at p pasts stray.untaken)
             (InternsWithin-none interns (alterations pasts) (alterations (pasts ++ r ∷ [])) (rw (total-append (λ q. q.history.altered) pasts r) (omega arith)));
-        verdict_is = verdict_is ∙ ap (orphan_verdict app (control_at version) number) (sym stray.raises) ∙ sym (verdict_on-none app control_at p pasts stray.untaken ∙ (rw stray.shut refl));
+        verdict_is = lone.passes counts before ∙ ap (orphan_verdict app m.now number) (sym stray.raises) ∙ ap (λ c. orphan_verdict app c number (orphan_raises_of sight)) (sym now_is)
+            ∙ sym (verdict_on-none app control_at p pasts stray.untaken ∙ (rw stray.shut refl));
         dropped = ap drops_in (added-new app control_at p pasts stray.untaken) ∙ total-append (λ q. length q.history.drops) pasts r
             ∙ ap (λ ds. drops_in pasts + length ds) (ap (λ (g : History). g.drops) same ∙ dropped);
       }
 
   -- ---- a segment that opens a connection
 
-  pub opening_started : (content content' : Shared → TreeLists) (interns interns' : Option ℕ) (flows after : Flows Open) (slots : List Slot) (open stepped_open : Open) (slot slot' : Slot) (counts counts' : Counts) (key : EndpointPair) (version number : ℕ) (moment : Moment) (segment : Segment) (step : Step) (pasts : List RecordSoFar)
-      → ((v : ℕ) → Tells m v (control_at v)) → ((k : EndpointPair) (x : Open) → found flows k ≡ Some x → content' x.flow.forest ≡ content x.flow.forest)
+  pub opening_started : (content content' : Shared → TreeLists) (interns interns' : Option ℕ) (flows after : Flows Connection) (slots : List Slot) (conn' : Connection) (slot' : Slot) (counts counts' : Counts) (key : EndpointPair) (number : ℕ) (moment : Moment) (segment : Segment) (step : Step) (pasts : List RecordSoFar)
+      → ((v : ℕ) → Tells m v (control_at v)) → control_at m.version ≡ m.now → ((k : EndpointPair) (x : Connection) → found flows k ≡ Some x → content' x.flow.forest ≡ content x.flow.forest)
       → AreKept keep told content flows slots counts pasts → key ≡ key_of_segment segment → found flows key ≡ None → opens (Tcp segment) ≡ true
-      → slot ≡ record { name = number; kind = Conn segment.sender segment.receiver; version = version; notes = record { tally = app.fresh; entries = [] }; drops = [] }
-      → open.client ≡ segment.sender → open.version ≡ version → open.place ≡ length pasts
-      → (tree : TreeLists) → IsFlow (told open.version) tree open.flow (fresh app (control_at version))
-      → ((control : ControlState) → Tells m open.version control → IsStep app keep (told open.version) control tree (content' stepped_open.flow.forest) interns interns' open stepped_open slot slot' counts counts' number segment step)
-      → ((other : EndpointPair) → found after other ≡ (if not step.over && same_key key other then Some stepped_open else found flows other))
-      → Started content' interns interns' after (slots ++ slot' ∷ []) counts' (arrived version number moment (Tcp segment)) step.verdict pasts
+      → (o : Opens app keep m content' interns interns' counts counts' (length pasts) number segment conn' slot' step)
+      → ((other : EndpointPair) → found after other ≡ (if not step.over && same_key key other then Some conn' else found flows other))
+      → Started content' interns interns' after (slots ++ slot' ∷ []) counts' (arrived m.version number moment (Tcp segment)) step.verdict pasts
   unfolding history_after verdict_after kind_of is_between
-  opening_started content content' interns interns' flows after slots open stepped_open slot slot' counts counts' key version number moment segment step pasts tells stored stands key_is absent opening slot_was client version_is last tree new step_of left =
+  opening_started content content' interns interns' flows after slots stepped_open slot' counts counts' key number moment segment step pasts tells now_is stored stands key_is absent opening o left =
+      let version = m.version in
+      let conn = o.conn in
+      let slot = o.slot in
+      let slot_was = o.slot_is in
+      let client = o.client in
+      let version_is = o.version in
+      let last = o.place_is in
+      let new : IsFlow (told conn.version) o.tree conn.flow (fresh app (control_at version)) = subst (λ c. IsFlow (told conn.version) o.tree conn.flow (fresh app c)) (sym now_is) o.new in
       let p = arrived version number moment (Tcp segment) in
       let own = key_of_segment segment in
       let r = started_by app control_at p in
       let s = control_at version in
       let h0 = fresh app s in
       let none : place_of own pasts ≡ None = subst (λ o. IsOpenAt told content o (place_of own pasts) pasts) (ap (λ k. found flows k) (sym key_is) ∙ absent) (stands.placed own) in
-      let st = step_of s (subst (λ v. Tells m v s) (sym version_is) (tells version)) in
+      let st = o.step_is s (subst (λ v. Tells m v s) (sym version_is) (tells version)) in
       let notes_were = ap (λ (t : Slot). t.notes) slot_was in
       let noted_before : IsNoted keep counts h0.tally [] slot.notes counts = record {
         tally = ap (λ (n : Notes). n.tally) notes_were;
-        entries = ap (λ (n : Notes). n.entries) notes_were ∙ none_kept keep;
+        entries = none_kept keep slot.notes.entries (ap (λ (n : Notes). n.entries) notes_were);
         callbacks = omega arith;
         weight = omega arith;
       } in
       let went = st.stands counts h0 (record { kept = new; noted = noted_before }) in
-      let h1 = stepped app s open number segment h0 in
+      let h1 = stepped app s conn number segment h0 in
       let same : h1 ≡ r.history = rw opening (ap (λ c. followed app s number (side_of c segment) segment.head segment.payload h0) client) in
       let noted = went.stands.noted in
       let slot_is : slot' ≡ slot_of keep r =
@@ -179,7 +201,7 @@ module _ (app : Meaning) (control_at : ℕ → ControlState) (keep : Bool) (m : 
         sides = λ t. ap (λ c. side_of c t) (st.client ∙ client);
         version = st.version ∙ version_is;
         kept = subst (λ v. IsFlow (told v) (content' stepped_open.flow.forest) stepped_open.flow r.history) (sym st.version)
-            (subst (λ g. IsFlow (told open.version) (content' stepped_open.flow.forest) stepped_open.flow g) same went.stands.kept);
+            (subst (λ g. IsFlow (told conn.version) (content' stepped_open.flow.forest) stepped_open.flow g) same went.stands.kept);
       } in
       let own_key : (k : EndpointPair) → is_open_at k r ≡ (same_key own k && not step.over) = λ k.
       rw opening (ap (λ b. same_key own k && not b) (ap is_over (sym (ap (λ c. followed app s number (side_of c segment) segment.head segment.payload h0) client)) ∙ sym went.over)) in

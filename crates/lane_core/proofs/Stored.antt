@@ -8,7 +8,7 @@ use Rattle.shared_forest.specs.declared.store.Shared.{Shared}
 use Rattle.shared_forest.specs.Lists.{TreeLists}
 use Rattle.connection_core.specs.declared.ledger.Counts.{Counts}
 use Rattle.connection_core.specs.Standing.{IsFlow}
-use Rattle.lane_core.specs.declared.open.Open.{Open}
+use Rattle.lane_core.specs.declared.connection.Connection.{Connection}
 use Rattle.lane_core.specs.declared.slot.Slot.{Slot}
 use Rattle.lane_core.specs.Records.{RecordSoFar, is_open_at}
 use Rattle.lane_core.specs.Shown.{total}
@@ -17,7 +17,7 @@ use Rattle.lane_core.specs.Kept.{IsOpen, IsOpenAt, AreKept}
 
 module _ (keep : Bool) (told : ℕ → ℕ → Option Reg) where
   -- no packet yet
-  pub kept-empty : (content : Shared → TreeLists) (flows : Flows Open) → ((key : EndpointPair) → found flows key ≡ None) → AreKept keep told content flows [] (record { callbacks = 0; weight = 0 }) []
+  pub kept-empty : (content : Shared → TreeLists) (flows : Flows Connection) → ((key : EndpointPair) → found flows key ≡ None) → AreKept keep told content flows [] (record { callbacks = 0; weight = 0 }) []
   unfolding place_by total IsSingle
   kept-empty content flows none = record {
     shown = refl;
@@ -27,20 +27,20 @@ module _ (keep : Bool) (told : ℕ → ℕ → Option Reg) where
     weighed = refl;
   }
 
-  pub IsOpen-stored : (content content' : Shared → TreeLists) (open : Open) (past : RecordSoFar) → content' open.flow.forest ≡ content open.flow.forest → IsOpen told content open past → IsOpen told content' open past
-  IsOpen-stored content content' open past same is = record {
+  pub IsOpen-stored : (content content' : Shared → TreeLists) (conn : Connection) (past : RecordSoFar) → content' conn.flow.forest ≡ content conn.flow.forest → IsOpen told content conn past → IsOpen told content' conn past
+  IsOpen-stored content content' conn past same is = record {
     sides = is.sides;
     version = is.version;
-    kept = subst (λ t. IsFlow (told open.version) t open.flow past.history) (sym same) is.kept;
+    kept = subst (λ t. IsFlow (told conn.version) t conn.flow past.history) (sym same) is.kept;
   }
 
-  pub IsOpenAt-stored : (content content' : Shared → TreeLists) (o : Option Open) (place : Option ℕ) (pasts : List RecordSoFar)
-      → ((open : Open) → o ≡ Some open → content' open.flow.forest ≡ content open.flow.forest) → IsOpenAt told content o place pasts → IsOpenAt told content' o place pasts
+  pub IsOpenAt-stored : (content content' : Shared → TreeLists) (o : Option Connection) (place : Option ℕ) (pasts : List RecordSoFar)
+      → ((conn : Connection) → o ≡ Some conn → content' conn.flow.forest ≡ content conn.flow.forest) → IsOpenAt told content o place pasts → IsOpenAt told content' o place pasts
   IsOpenAt-stored content content' None place pasts same none = none
-  IsOpenAt-stored content content' (Some open) place pasts same at = (at.0, λ d. IsOpen-stored content content' open _ (same open refl) (at.1 d))
+  IsOpenAt-stored content content' (Some conn) place pasts same at = (at.0, λ d. IsOpen-stored content content' conn _ (same conn refl) (at.1 d))
 
-  pub kept-stored : (content content' : Shared → TreeLists) (flows : Flows Open) (slots : List Slot) (counts : Counts) (pasts : List RecordSoFar)
-      → ((key : EndpointPair) (open : Open) → found flows key ≡ Some open → content' open.flow.forest ≡ content open.flow.forest)
+  pub kept-stored : (content content' : Shared → TreeLists) (flows : Flows Connection) (slots : List Slot) (counts : Counts) (pasts : List RecordSoFar)
+      → ((key : EndpointPair) (conn : Connection) → found flows key ≡ Some conn → content' conn.flow.forest ≡ content conn.flow.forest)
       → AreKept keep told content flows slots counts pasts → AreKept keep told content' flows slots counts pasts
   kept-stored content content' flows slots counts pasts same stands = record {
     shown = stands.shown;

@@ -10,19 +10,19 @@ total-append of [] past = omega arith
 total-append of (first ∷ pasts) past = let rest = total-append of pasts past in omega arith
 
 -- the sum over all records but one
-pub others_of : (RecordSoFar → ℕ) → List RecordSoFar → ℕ → ℕ
+unfoldable pub others_of : (RecordSoFar → ℕ) → List RecordSoFar → ℕ → ℕ
 others_of of [] i = 0
 others_of of (first ∷ pasts) zero = total of pasts
 others_of of (first ∷ pasts) (suc i) = of first + others_of of pasts i
 
 pub others_and : (of : RecordSoFar → ℕ) (pasts : List RecordSoFar) (i : ℕ) (d : RecordSoFar) → i < length pasts → total of pasts ≡ others_of of pasts i + of (get_or pasts i d)
-unfolding total
+unfolding total others_of
 others_and of [] i d within = absurd (omega arith)
 others_and of (first ∷ pasts) zero d within = omega arith
 others_and of (first ∷ pasts) (suc i) d within = let below : i < length pasts = omega arith in let rest = others_and of pasts i d below in omega arith
 
 pub others_with : (of : RecordSoFar → ℕ) (pasts : List RecordSoFar) (i : ℕ) (past : RecordSoFar) → i < length pasts → total of (set pasts i past) ≡ others_of of pasts i + of past
-unfolding total
+unfolding total others_of
 others_with of [] i past within = absurd (omega arith)
 others_with of (first ∷ pasts) zero past within = omega arith
 others_with of (first ∷ pasts) (suc i) past within = let below : i < length pasts = omega arith in let rest = others_with of pasts i past below in omega arith

@@ -1,5 +1,5 @@
 -- Which records what a lane keeps stands for.
-use Rattle.std.specs.Prelude.{◌≡◌, ℕ, Bool, false, Option, Some, None, List, [], map, get_or, if◌then◌else◌}
+use Rattle.std.specs.Prelude.{◌≡◌, ℕ, Bool, false, Option, Some, None, List, [], ◌+◌, length, map, get_or, if◌then◌else◌}
 use Rattle.packet_views.specs.declared.packet.Head.{Head}
 use Rattle.packet_views.specs.declared.packet.Class.{Class}
 use Rattle.flow_table.specs.Key.{EndpointPair}
@@ -12,15 +12,18 @@ use Rattle.app_api.specs.declared.registration.Reg.{Reg}
 use Rattle.shared_forest.specs.declared.store.Shared.{Shared}
 use Rattle.shared_forest.specs.Lists.{TreeLists}
 use Rattle.forest_versions.specs.State.{ControlState}
+use Rattle.forest_versions.specs.Master.{Versions, Tells}
+use Rattle.connection_core.specs.History.{drops_of}
+use Rattle.connection_core.specs.InForce.{told_at}
 use Rattle.connection_core.specs.declared.ledger.Counts.{Counts}
 use Rattle.connection_core.specs.Standing.{IsFlow}
 use Rattle.connection_core.specs.Trees.{InternsWithin}
-use Rattle.lane_core.specs.declared.open.Open.{Open}
+use Rattle.lane_core.specs.declared.connection.Connection.{Connection}
 use Rattle.lane_core.specs.declared.slot.Slot.{Slot}
 use Rattle.lane_core.specs.declared.kept.Kept.{Kept}
 use Rattle.lane_core.specs.Sight.{Segment, Sight, Moment}
 use Rattle.lane_core.specs.Records.{RecordSoFar, VersionedPacket, opens, belongs_to, is_open_at, side_of, side_in, orphan_raises_of, added, verdict_on}
-use Rattle.lane_core.specs.Shown.{kind_of, callbacks_of, weight, alterations}
+use Rattle.lane_core.specs.Shown.{kind_of, callbacks_of, weight, alterations, drops_of as drops_in}
 use Rattle.lane_core.specs.Places.{place_by, place_of, IsSingle}
 
 -- the record under way of a record so far; without `keep` it has no entries
@@ -35,20 +38,20 @@ slot_of keep so_far = record {
 
 -- What is kept of an open connection: it stands for its history, and its client tells the side of each segment. `told` looks up the
 -- registrations of a version, and `content` is the tree of what a store answered.
-pub record IsOpen (told : ℕ → ℕ → Option Reg) (content : Shared → TreeLists) (open : Open) (so_far : RecordSoFar) : Type 0 where
-  pub sides : (segment : Segment) → side_of open.client segment ≡ side_in so_far.first.sight segment
-  pub version : open.version ≡ so_far.version
-  pub kept : IsFlow (told open.version) (content open.flow.forest) open.flow so_far.history
+pub record IsOpen (told : ℕ → ℕ → Option Reg) (content : Shared → TreeLists) (conn : Connection) (so_far : RecordSoFar) : Type 0 where
+  pub sides : (segment : Segment) → side_of conn.client segment ≡ side_in so_far.first.sight segment
+  pub version : conn.version ≡ so_far.version
+  pub kept : IsFlow (told conn.version) (content conn.flow.forest) conn.flow so_far.history
 
 -- what the table has for a key: nothing where no connection of it is open, else the one that is
-abbrev pub IsOpenAt : (ℕ → ℕ → Option Reg) → (Shared → TreeLists) → Option Open → Option ℕ → List RecordSoFar → Type 0
+abbrev pub IsOpenAt : (ℕ → ℕ → Option Reg) → (Shared → TreeLists) → Option Connection → Option ℕ → List RecordSoFar → Type 0
 IsOpenAt told content None place so_far = place ≡ None
-IsOpenAt told content (Some open) place so_far =
-    (place ≡ Some open.place) × ((d : RecordSoFar) → IsOpen told content open (get_or so_far open.place d))
+IsOpenAt told content (Some conn) place so_far =
+    (place ≡ Some conn.place) × ((d : RecordSoFar) → IsOpen told content conn (get_or so_far conn.place d))
 
 -- the records under way are these, each open connection is in the table, a key has at most one, and the callbacks are counted and
 -- weighed
-pub record AreKept (keep : Bool) (told : ℕ → ℕ → Option Reg) (content : Shared → TreeLists) (flows : Flows Open) (slots : List Slot) (counts : Counts) (so_far : List RecordSoFar) : Type 0 where
+pub record AreKept (keep : Bool) (told : ℕ → ℕ → Option Reg) (content : Shared → TreeLists) (flows : Flows Connection) (slots : List Slot) (counts : Counts) (so_far : List RecordSoFar) : Type 0 where
   pub shown : slots ≡ map (slot_of keep) so_far
   pub placed : (key : EndpointPair) → IsOpenAt told content (found flows key) (place_of key so_far) so_far
   pub single : (key : EndpointPair) → IsSingle (is_open_at key) so_far
@@ -65,6 +68,13 @@ pub record Adds (app : Meaning) (control_at : ℕ → ControlState) (p : Version
   pub stands : Keeps keep told content kept (added app control_at p so_far)
   pub interned : InternsWithin interns_before interns (alterations so_far) (alterations (added app control_at p so_far))
   pub verdict_is : verdict ≡ verdict_on app control_at p so_far
+  pub dropped : drops_in (added app control_at p so_far) ≡ drops_in so_far + length (drops_of verdict p.arrival.number)
+
+-- the same of every list of records that was kept, and of whatever the master tells of each version
+abbrev pub AddsTo : Meaning → Bool → Versions → VersionedPacket → (Shared → TreeLists) → Option ℕ → Kept → (Shared → TreeLists) → Option ℕ → Kept → Verdict → Type 0
+AddsTo app keep m p content interns kept content_after interns_after kept_after verdict =
+    (control_at : ℕ → ControlState) (so_far : List RecordSoFar) → ((v : ℕ) → Tells m v (control_at v)) → control_at m.version ≡ m.now → Keeps keep (told_at m) content kept so_far
+    → Adds app control_at p so_far keep (told_at m) content_after kept_after interns_after interns verdict
 
 -- a packet of this version, with its number, its time and what is seen of it
 abbrev pub arrived : ℕ → ℕ → Moment → Sight → VersionedPacket
@@ -76,3 +86,10 @@ pub record IsStray (sight : Sight) (class : Class) (head : Option Head) (so_far 
   pub raises : orphan_raises_of sight ≡ orphan_raises class head
   pub shut : opens sight ≡ false
   pub untaken : place_by (belongs_to sight) so_far ≡ None
+
+-- the same of a packet of no connection, of this class and with this head
+abbrev pub AddsStray : Meaning → Bool → Versions → ℕ → Class → Option Head → (Shared → TreeLists) → Option ℕ → Kept → (Shared → TreeLists) → Option ℕ → Kept → Verdict → Type 0
+AddsStray app keep m number class head content interns kept content_after interns_after kept_after verdict =
+    (control_at : ℕ → ControlState) (so_far : List RecordSoFar) (moment : Moment) (sight : Sight) → IsStray sight class head so_far
+    → ((v : ℕ) → Tells m v (control_at v)) → control_at m.version ≡ m.now → Keeps keep (told_at m) content kept so_far
+    → Adds app control_at (arrived m.version number moment sight) so_far keep (told_at m) content_after kept_after interns_after interns verdict

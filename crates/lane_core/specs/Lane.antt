@@ -1,5 +1,5 @@
 -- What a lane stands for, in terms of its parts.
-use Rattle.std.specs.Prelude.{◌≡◌, ℕ, ◌+◌, ◌<◌, Bool, true, Option, Some, None, List, [], ◌∷◌, ◌++◌, length, map, if◌then◌else◌}
+use Rattle.std.specs.Prelude.{◌≡◌, ℕ, ◌+◌, ◌<◌, Bool, true, Option, Some, None, List, [], ◌∷◌, ◌++◌, length, map, if◌then◌else◌, zero, suc, ⊤}
 use Rattle.app_api.specs.App.{Meaning}
 use Rattle.app_api.specs.declared.reaction.Verdict.{Verdict}
 use Rattle.shared_forest.specs.declared.store.Shared.{Shared}
@@ -31,7 +31,7 @@ IsHeavy app events = 134217728 < weight (lane_run app events)
 
 -- the number of the last packet, from one more than it
 abbrev pub newest_by : ℕ → Option ℕ
-newest_by 0 = None
+newest_by zero = None
 newest_by (suc n) = Some n
 
 -- a lane that hasn't failed keeps the records of these events; one that failed as heavy had records that weigh too much
@@ -41,6 +41,11 @@ pub record IsRun (app : Meaning) (keep : Bool) (m : Versions) (content : Shared 
   pub records : failed ≡ None → Keeps keep (told_at m) content kept (lane_run app events)
   pub dropped : failed ≡ None → kept.dropped ≡ drops_of (lane_run app events)
   pub heavy : failed ≡ Some Heavy → IsHeavy app events
+
+-- a packet comes after these: its number is above that of the last
+abbrev pub IsAfter : Option ℕ → ℕ → Type 0
+IsAfter None number = ⊤
+IsAfter (Some last) number = last < number
 
 -- a record without its entries, where these aren't kept
 abbrev pub shown : Bool → Meaning → RecordSoFar → Record

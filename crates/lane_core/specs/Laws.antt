@@ -1,17 +1,24 @@
 -- Laws on the records of packets, in the subject's own words.
-use Rattle.std.specs.Prelude.{◌≡◌, ℕ, Bool, if◌then◌else◌, List, [], ◌∷◌, ◌++◌, filter}
-use Rattle.std.specs.List.{list_any}
+use Rattle.std.specs.Prelude.{◌≡◌, ◌≤◌, ℕ, Bool, IsTrue, if◌then◌else◌, List, [], ◌∷◌, ◌++◌, filter, length, map}
+use Rattle.std.specs.List.{list_any, list_all}
 use Rattle.tcp_emulation.specs.declared.segment.Side.{Side}
 use Rattle.native_filters.specs.declared.facts.Hook.TheVariants.{Snd, Rcv}
 use Rattle.app_api.specs.Log.{log}
 use Rattle.app_api.specs.declared.entry.Entry.{Entry}
 use Rattle.app_api.specs.declared.entry.Seen.TheVariants.{Nothing}
 use Rattle.app_api.specs.Events.{PKT_IN, ORPHAN}
-use Rattle.app_api.specs.App.{Meaning}
+use Rattle.app_api.specs.App.{Meaning, IsLawful}
+use Rattle.app_api.specs.Numbers.{rise_from}
+use Rattle.app_api.specs.declared.registration.Reg.{Reg}
+use Rattle.report_text.specs.Tidy.{is_event, tidy}
 use Rattle.flow_table.specs.Key.{EndpointPair}
 use Rattle.forest_versions.specs.State.{ControlState, start, active as first_active}
 use Rattle.connection_core.specs.History.{History, followed, orphaned}
-use Rattle.lane_core.specs.Sight.{Segment, Sight, Tcp, Other, key_of_segment}
+use Rattle.forest_versions.specs.declared.command.Command.{Command}
+use Rattle.lane_core.specs.Sight.{Segment, Sight, Tcp, Other, Arrival, key_of_segment}
+use Rattle.lane_core.specs.Run.{LaneEvent, Gave, Arrived, commands_of, control_of, lane_run}
+use Rattle.lane_core.specs.Lane.{IsHeavy, with_event}
+use Rattle.lane_core.specs.Shown.{record_of, weight}
 use Rattle.lane_core.specs.Records.{VersionedPacket, RecordSoFar, belongs_to, started_by, continued_by, added, records, orphan_raises_of}
 
 module _ (app : Meaning) (control_at : ℕ → ControlState) where
@@ -60,7 +67,42 @@ at_orphan number = record { index = number; hook = Snd; event = ORPHAN; reg = 3;
 pub record PresetsAreCalled : Type 0 where
   pub connection : (number : ℕ) (side : Side) (segment : Segment) (h : History) → h.active ≡ first_active (start log.presets)
       → (followed log (start log.presets) number side segment.head segment.payload h).entries ≡ h.entries ++ at_sender number ∷ at_receiver number ∷ []
-  pub stay : (number : ℕ) (side : Side) (segment : Segment) (h : History)
+  pub stay : (number : ℕ) (side : Side) (segment : Segment) (h : History) → h.active ≡ first_active (start log.presets)
       → (followed log (start log.presets) number side segment.head segment.payload h).active ≡ h.active
   pub orphan : (number : ℕ) (sight : Sight)
       → (orphaned log (start log.presets) number (orphan_raises_of sight)).entries ≡ at_orphan number ∷ []
+
+-- ---- the records of a lawful application
+
+-- the events of the registrations are user-defined ones, or built-in ones with a name
+abbrev pub AreEvents : List Reg → Type 0
+AreEvents regs = IsTrue (list_all (λ r. is_event r.event) regs)
+
+-- numbers of packets, which rise and are at least this
+abbrev pub rise : ℕ → List VersionedPacket → Bool
+rise least ps = rise_from least (map (λ p. p.arrival.number) ps)
+
+-- packets whose numbers rise make records that a report may have
+abbrev pub RecordsAreTidy : Type 0
+RecordsAreTidy = (app : Meaning) (control_at : ℕ → ControlState) (ps : List VersionedPacket) → IsLawful app → ((v : ℕ) → AreEvents (control_at v).regs)
+    → IsTrue (rise 0 ps) → IsTrue (tidy (map (record_of app) (records app control_at ps)))
+
+-- one more packet never makes the records weigh less
+abbrev pub WeightNeverFalls : Type 0
+WeightNeverFalls = (app : Meaning) (control_at : ℕ → ControlState) (p : VersionedPacket) (so_far : List RecordSoFar)
+    → weight so_far ≤ weight (added app control_at p so_far)
+
+-- ---- runs
+
+-- one packet more, under the commands before it
+abbrev pub PacketIsAdded : Type 0
+PacketIsAdded = (app : Meaning) (events : List LaneEvent) (a : Arrival)
+    → lane_run app (with_event (Arrived a) events) ≡ added app (control_of app events) (record { version = length (commands_of events); arrival = a }) (lane_run app events)
+
+-- one command more changes no record
+abbrev pub CommandChangesNone : Type 0
+CommandChangesNone = (app : Meaning) (events : List LaneEvent) (c : Command) → lane_run app (with_event (Gave c) events) ≡ lane_run app events
+
+-- a run that weighs too much stays so
+abbrev pub HeavyStays : Type 0
+HeavyStays = (app : Meaning) (events : List LaneEvent) (event : LaneEvent) → IsHeavy app events → IsHeavy app (with_event event events)

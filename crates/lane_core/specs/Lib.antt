@@ -7,6 +7,6 @@ pub mod Seen
 pub mod Places
 pub mod End
 pub mod Trees
-pub mod Opened
+pub mod Steps
 pub mod Kept
 pub mod Lane

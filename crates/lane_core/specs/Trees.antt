@@ -8,27 +8,27 @@ use Rattle.shared_forest.specs.Lists.{TreeLists}
 use Rattle.forest_versions.specs.Master.{Versions, defs_of}
 use Rattle.connection_core.specs.InForce.{told_at}
 use Rattle.connection_core.specs.Trees.{IsForestIn}
-use Rattle.lane_core.specs.declared.open.Open.{Open}
+use Rattle.lane_core.specs.declared.connection.Connection.{Connection}
 
 -- a tree by which the registrations of a version are called that it names
 abbrev pub IsTree : Versions → ℕ → TreeLists → Type 0
 IsTree m version tree = IsForestIn (defs_of m) (told_at m version) tree
 
-abbrev pub AllOpen : (Open → Type 0) → Flows Open → Type 0
+abbrev pub AllOpen : (Connection → Type 0) → Flows Connection → Type 0
 AllOpen holds flows = (key : EndpointPair) → ForSome (found flows key) holds
 
-abbrev pub AreAnswered : (Shared → Type 0) → Flows Open → Type 0
-AreAnswered answered flows = AllOpen (λ open. answered open.flow.forest) flows
+abbrev pub AreAnswered : (Shared → Type 0) → Flows Connection → Type 0
+AreAnswered answered flows = AllOpen (λ conn. answered conn.flow.forest) flows
 
 -- each calls the registrations of its version
-abbrev pub AreTrees : Versions → (Shared → TreeLists) → Flows Open → Type 0
-AreTrees m content flows = AllOpen (λ open. IsTree m open.version (content open.flow.forest)) flows
+abbrev pub AreTrees : Versions → (Shared → TreeLists) → Flows Connection → Type 0
+AreTrees m content flows = AllOpen (λ conn. IsTree m conn.version (content conn.flow.forest)) flows
 
-abbrev pub ArePlaced : ℕ → Flows Open → Type 0
-ArePlaced n flows = AllOpen (λ open. open.place < n) flows
+abbrev pub ArePlaced : ℕ → Flows Connection → Type 0
+ArePlaced n flows = AllOpen (λ conn. conn.place < n) flows
 
-abbrev pub AreSince : ℕ → Flows Open → Type 0
-AreSince version flows = AllOpen (λ open. open.version ≤ version) flows
+abbrev pub AreSince : ℕ → Flows Connection → Type 0
+AreSince version flows = AllOpen (λ conn. conn.version ≤ version) flows
 
-abbrev pub AreShort : ℕ → Flows Open → Type 0
-AreShort packets flows = AllOpen (λ open. open.flow.count ≤ packets) flows
+abbrev pub AreShort : ℕ → Flows Connection → Type 0
+AreShort packets flows = AllOpen (λ conn. conn.flow.count ≤ packets) flows

@@ -4,67 +4,22 @@ ghost use Rattle.std.specs.Prelude.{◌≡◌, ◌+◌, ◌<◌, ◌≤◌, ◌^
 ghost use Rattle.flow_table.specs.Key.{EndpointPair, same_key};
 ghost use Rattle.flow_table.specs.Table.{found};
 ghost use Rattle.shared_forest.specs.Store.{Keeps};
-ghost use Rattle.forest_versions.specs.Master.{Tells};
-ghost use Rattle.forest_versions.specs.State.{ControlState};
-ghost use Rattle.connection_core.specs.InForce.{told_at};
 ghost use Rattle.connection_core.specs.Standing.{RiseBy};
 ghost use Rattle.lane_core.specs.Seen.{seen};
-ghost use Rattle.lane_core.specs.Trees.{IsTree, AreAnswered, AreTrees, ArePlaced, AreSince, AreShort};
-ghost use Rattle.lane_core.specs.Opened.{IsStep, Steps, Follows};
+ghost use Rattle.lane_core.specs.Trees.{AreAnswered, AreTrees, ArePlaced, AreSince, AreShort};
+ghost use Rattle.lane_core.specs.Steps.{Steps, Follows};
 
-use crate::open::Open;
-use crate::segment::{Segment, side_of};
+use crate::connection::Connection;
+use crate::packet::step_one;
+use crate::segment::Segment;
 use crate::slot::Slot;
 use crate::world::World;
 use app_api::App;
-use connection_core::{Arrived, Ledger, Step};
+use connection_core::{Ledger, Step};
 use flow_table::{FlowTable, Key};
 use native_filters::NativeBook;
 use shared_forest::Forests;
 use std::alloc::{AllocError, Global};
-
-/// Steps an open connection, and notes in its record what became of the packet.
-pub(crate) fn step_one<A: App, F: Forests>(
-    alloc: Global,
-    world: &World<A>,
-    natives: &NativeBook,
-    forests: &mut F,
-    open: &mut Open,
-    slot: &mut Slot,
-    ledger: &mut Ledger,
-    number: u64,
-    segment: &Segment<'_>,
-) -> Result<Step, AllocError>
-    requires count { open.old.flow.count < 2 ^ 30 }
-    requires answered { F.answered forests.old open.old.flow.forest }
-    requires tree { IsTree world.now.master open.old.version (F.content forests.old open.old.flow.forest) }
-    requires callbacks { ledger.old.counts.callbacks < 2 ^ 60 }
-    requires weight { ledger.old.counts.weight < 2 ^ 60 }
-    ensures place { open.new.place ≡ open.old.place }
-    ensures version { open.new.version ≡ open.old.version }
-    ensures count { open.new.flow.count ≤ open.old.flow.count + 1 }
-    ensures answered { F.answered forests.new open.new.flow.forest }
-    ensures tree { IsTree world.now.master open.new.version (F.content forests.new open.new.flow.forest) }
-    ensures kept { Keeps F.answered F.content forests.old forests.new }
-    ensures rise { RiseBy 3060 ledger.old.counts ledger.new.counts }
-    ensures stands { IfOk result (λ step. (control : ControlState) → Tells world.now.master open.old.version control
-        → IsStep (A.meaning world.now.app) world.now.keep (told_at world.now.master open.old.version) control
-        (F.content forests.old open.old.flow.forest) (F.content forests.new open.new.flow.forest) (F.interns forests.old) (F.interns forests.new)
-        open.old open.new slot.old slot.new ledger.old.counts ledger.new.counts number (seen segment.now) step) }
-{
-    let terms = world.terms(open.version, natives);
-    let arrived = Arrived {
-        number,
-        from: side_of(&open.client, segment),
-        head: &segment.head,
-        payload: segment.payload,
-    };
-    let step = open
-        .flow
-        .step(alloc, &terms, forests, &arrived, &mut slot.notes, ledger)?;
-    slot.note(number, step.verdict)?;
-    Ok(step)
-}
 
 // Steps the open connection of a key, where there is one.
 fn step_flow<A: App, F: Forests>(
@@ -72,7 +27,7 @@ fn step_flow<A: App, F: Forests>(
     world: &World<A>,
     natives: &NativeBook,
     forests: &mut F,
-    flows: &mut FlowTable<Open>,
+    flows: &mut FlowTable<Connection>,
     slots: &mut [Slot],
     ledger: &mut Ledger,
     key: &Key,
@@ -99,11 +54,11 @@ fn step_flow<A: App, F: Forests>(
     ensures len { length slots.new ≡ length slots.old }
 {
     match flows.get_mut(key) {
-        Some(open) => {
-            let place = open.place;
+        Some(conn) => {
+            let place = conn.place;
             let slot = &mut slots[place];
             let step = step_one(
-                alloc, world, natives, forests, open, slot, ledger, number, segment,
+                alloc, world, natives, forests, conn, slot, ledger, number, segment,
             )?;
             Ok(Some(step))
         }
@@ -112,7 +67,7 @@ fn step_flow<A: App, F: Forests>(
 }
 
 // Takes the connection of a key from the table where it is over.
-fn settle(flows: &mut FlowTable<Open>, key: &Key, over: bool)
+fn settle(flows: &mut FlowTable<Connection>, key: &Key, over: bool)
     ensures { (other : EndpointPair) → found flows.new other ≡ (if over && same_key key.now other then None else found flows.old other) }
 {
     if over {
@@ -126,7 +81,7 @@ pub(crate) fn follow<A: App, F: Forests>(
     world: &World<A>,
     natives: &NativeBook,
     forests: &mut F,
-    flows: &mut FlowTable<Open>,
+    flows: &mut FlowTable<Connection>,
     slots: &mut [Slot],
     ledger: &mut Ledger,
     key: &Key,
@@ -163,19 +118,19 @@ pub(crate) fn follow<A: App, F: Forests>(
 
 /// Puts a connection into the table, unless it is over.
 pub(crate) fn keep(
-    flows: &mut FlowTable<Open>,
+    flows: &mut FlowTable<Connection>,
     key: Key,
-    open: Open,
+    conn: Connection,
     over: bool,
 ) -> Result<(), AllocError>
     requires absent { found flows.old key ≡ None }
-    ensures left { OnOk result ((other : EndpointPair) → found flows.new other ≡ (if not over && same_key key other then Some open else found flows.old other)) }
+    ensures left { OnOk result ((other : EndpointPair) → found flows.new other ≡ (if not over && same_key key other then Some conn else found flows.old other)) }
     ensures err { OnErr result (flows.new ≡ flows.old) }
 {
     if over {
         return Ok(());
     }
-    match flows.open(key, open) {
+    match flows.open(key, conn) {
         Ok(()) => Ok(()),
         Err(_) => Err(AllocError),
     }

@@ -1,18 +1,20 @@
 //! The records of one worker's packets, with the table of its open connections.
 
-ghost use Rattle.std.specs.Prelude.{◌≡◌, ◌+◌, ◌*◌, ◌<◌, ◌≤◌, ℕ, List, Option, vec_len};
+ghost use Rattle.std.specs.Prelude.{◌≡◌, ◌+◌, ◌*◌, ◌<◌, ◌≤◌, vec_len};
 ghost use Rattle.std.specs.Coded.{Π_prop};
+ghost use Rattle.std.proofs.Props.{props};
 ghost use Rattle.shared_forest.specs.Listing.{listing};
 ghost use Rattle.event_trees.specs.Edit.{IsForestOf};
-ghost use Rattle.app_api.specs.App.{Meaning};
-ghost use Rattle.forest_versions.specs.State.{ControlState, active};
+ghost use Rattle.forest_versions.specs.State.{active};
 ghost use Rattle.lane_core.specs.Trees.{AreAnswered, AreTrees, ArePlaced, AreSince, AreShort};
-ghost use Rattle.lane_core.specs.Run.{LaneEvent};
 
 use crate::errors::LaneError;
 use crate::kept::Kept;
 use crate::world::World;
 use shared_forest::Forests;
+
+mod calls;
+mod steps;
 
 /// A lane: the records of its packets, each under the control commands that stand before its first packet.
 #[derive(Drop)]
@@ -24,8 +26,8 @@ pub struct Lane<A, F: Forests> {
     pub(crate) next: u64,
     pub(crate) failed: Option<LaneError>,
     ghost placed: { ArePlaced (vec_len kept.slots) kept.flows },
-    ghost answered: { AreAnswered (F.answered forests) kept.flows } by { Π_prop (λ key. Π_prop (λ open. Π_prop (λ _. F.answered_once forests open.flow.forest))) },
-    ghost trees: { AreTrees world.master (F.content forests) kept.flows },
+    ghost answered: { AreAnswered (F.answered forests) kept.flows } by { Π_prop (λ key. Π_prop (λ conn. Π_prop (λ _. F.answered_once forests conn.flow.forest))) },
+    ghost trees: { AreTrees world.master (F.content forests) kept.flows } by { Prim.hlevel props },
     ghost since: { AreSince world.master.version kept.flows },
     ghost short: { AreShort next kept.flows },
     ghost callbacks: { kept.ledger.counts.callbacks ≤ 3060 * next },
@@ -33,37 +35,5 @@ pub struct Lane<A, F: Forests> {
     ghost dropped: { kept.dropped ≤ next },
     ghost numbered: { next ≤ 1048576 },
     ghost first: { F.answered forests world.master.forest } by { F.answered_once forests world.master.forest },
-    ghost first_tree: { IsForestOf world.master.now.defs (active world.master.now) (listing (F.content forests world.master.forest)) },
-}
-
-/// What contracts see of a lane.
-pub trait LaneView {
-    ghost use Rattle.app_api.specs.App.{Meaning};
-    ghost use Rattle.forest_versions.specs.State.{ControlState};
-    ghost use Rattle.lane_core.specs.declared.errors.LaneError.{LaneError};
-    ghost use Rattle.lane_core.specs.Run.{LaneEvent};
-
-    /// The packets and commands that it stands for.
-    ghost stands: { Self → List LaneEvent → Type 0 };
-
-    /// What its application answers.
-    ghost app: { Self → Meaning };
-
-    /// Whether it keeps entries.
-    ghost keeps: { Self → Bool };
-
-    /// What is in force now, for a record that begins.
-    ghost control: { Self → ControlState };
-
-    /// The commands so far.
-    ghost version: { Self → ℕ };
-
-    /// The number of its last packet.
-    ghost newest: { Self → Option ℕ };
-
-    /// Why it failed.
-    ghost failed: { Self → Option LaneError };
-
-    /// How often its store interned so far, where the store tells it.
-    ghost interns: { Self → Option ℕ };
+    ghost first_tree: { IsForestOf world.master.now.defs (active world.master.now) (listing (F.content forests world.master.forest)) } by { Prim.hlevel props },
 }

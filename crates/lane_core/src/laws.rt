@@ -1,6 +1,6 @@
 //! Laws on the records of packets: what the definition of records says in other words.
 
-ghost use Rattle.lane_core.specs.Laws.{RecordsGrow, RecordsByKey};
+ghost use Rattle.lane_core.specs.Laws.{RecordsGrow, RecordsByKey, PresetsAreCalled, RecordsAreTidy, WeightNeverFalls, PacketIsAdded, CommandChangesNone, HeavyStays};
 
 /// Each packet that no open connection takes begins a record, and a record takes each later packet of its key while it is
 /// open: the definition by one record at a time.
@@ -12,4 +12,36 @@ pub fn records_grow()
 /// connection can be followed apart from all others.
 pub fn records_by_key()
     ensures { RecordsByKey }
+{}
+
+/// What the log application's presets see: each packet of a connection once at its sender and then once at its receiver,
+/// and each packet of no connection once.
+pub fn presets_are_called()
+    ensures { PresetsAreCalled }
+{}
+
+/// The records of packets whose numbers rise are such as a report may have, where the application is a lawful one and
+/// each registration is one of an event.
+pub fn records_are_tidy()
+    ensures { RecordsAreTidy }
+{}
+
+/// Callbacks are never taken back: one more packet never makes the records weigh less.
+pub fn weight_never_falls()
+    ensures { WeightNeverFalls }
+{}
+
+/// One packet more of a run is added to its records, under the commands that stand before it.
+pub fn packet_is_added()
+    ensures { PacketIsAdded }
+{}
+
+/// One command more of a run changes none of its records.
+pub fn command_changes_none()
+    ensures { CommandChangesNone }
+{}
+
+/// A run that weighs too much stays so, whatever comes.
+pub fn heavy_stays()
+    ensures { HeavyStays }
 {}

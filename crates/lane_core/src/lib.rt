@@ -1,9 +1,23 @@
 //! One lane: the records of its packets, with their callbacks, as connections open, go on and end.
 #![tactic(auto)]
 
+mod command;
+mod connection;
+pub mod end;
+pub mod errors;
+mod flows;
 mod kept;
+pub mod lane;
 pub mod laws;
 pub mod limits;
-mod open;
+mod packet;
+pub mod recorder;
 mod segment;
+mod sides;
 mod slot;
+mod world;
+
+pub use end::{LaneEnd, VersionOfList};
+pub use errors::LaneError;
+pub use lane::Lane;
+pub use recorder::Recorder;

@@ -1,3 +1,2 @@
-pub mod Onward
+pub mod Reading
 pub mod Replaying
-pub mod Tidiness

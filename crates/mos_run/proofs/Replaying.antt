@@ -1,9 +1,7 @@
--- What a replay keeps while it reads: how the run ends follows from the records so far and what is left.
-use Rattle.std.proofs.Common.{◌≡◌, ℕ, ◌+◌, ◌-◌, Option, Some, None, List, [], ◌∷◌, length, drop, map, Result, Ok, Err, refl, sym, ap, subst, ◌∙◌, arith}
-use Rattle.std.proofs.lemmas.List.{length-map}
-use Rattle.report_text.specs.declared.record.Record.{Record}
+-- What a replay keeps while it reads: how the run ends follows from the frames so far and what is left.
+use Rattle.std.proofs.Common.{◌≡◌, ℕ, ◌+◌, ◌-◌, Option, Some, None, List, [], ◌∷◌, ◌++◌, drop, Result, Ok, Err, refl, sym, ap, subst, ◌∙◌, arith, append_assoc, append-nil}
 use Rattle.pcap_source.specs.Captured.{Captured}
-use Rattle.pcap_source.specs.Capture.{Frames, tail, ended, with_frame, frames_from, frames_by, header_of}
+use Rattle.pcap_source.specs.Capture.{Frames, tail, too_long, too_many, ended, with_frame, frames_from, frames_by, header_of}
 use Rattle.pcap_source.specs.Reading.{CaptureState, OpenGives, NextGives, StepsAs, frames_at}
 use Rattle.pcap_source.specs.declared.capture.Step.{Step}
 use Rattle.pcap_source.specs.declared.capture.Step.TheVariants.{Frame}
@@ -11,28 +9,23 @@ use Rattle.pcap_source.specs.declared.errors.NextError.{NextError}
 use Rattle.pcap_source.specs.declared.errors.NextError.TheVariants as Next
 use Rattle.pcap_source.specs.declared.errors.OpenError.{OpenError}
 use Rattle.pcap_source.specs.declared.errors.OpenError.TheVariants as Open
+use Rattle.mos_run.specs.declared.refusal.RunError.{RunError}
+use Rattle.mos_run.specs.declared.refusal.RunError.TheVariants as Run
 use Rattle.mos_run.specs.declared.report.Report.{Report}
-use Rattle.shared_forest.specs.declared.store.Shared.{Shared}
-use Rattle.shared_forest.specs.Lists.{TreeLists}
-use Rattle.lane_core.specs.declared.kept.Kept.{Kept}
-use Rattle.lane_core.specs.declared.lane.LaneEnd.{LaneEnd}
-use Rattle.lane_core.specs.Records.{RecordSoFar, added}
-use Rattle.lane_core.specs.Shown.{record_of, callbacks_of}
-use Rattle.lane_core.specs.Sight.{arrival_of}
-use Rattle.lane_core.specs.Lane.{StandsFor, Adds}
-use Rattle.mos_run.specs.Report.{control_at}
 use Rattle.mos_run.specs.Refusal.{record_refusal}
-use Rattle.mos_run.specs.Outcome.{outcome, outcome_by, outcome_of_frames, report_of, header_refusal}
+use Rattle.mos_run.specs.Outcome.{outcome, outcome_by, outcome_of_frames, followed_to, header_refusal}
+use Rattle.mos_run.specs.Reading.{EndsWith}
 use Rattle.mos_run.specs.Replay.{ReplaysAs}
-use Rattle.mos_run.proofs.Onward.{incoming, onward, onward_all}
 
--- the run over these bytes, of which some are left, ends as these records and what is left say
-pub record Replaying (bytes : List ℕ) (left : Option (List ℕ)) (capture : CaptureState) (content : Shared → TreeLists) (kept : Kept) (packets : ℕ) : Type 0 where
-  pub pasts : List RecordSoFar
+-- these frames, and then others
+abbrev pub behind : List Captured → Frames → Frames
+behind frames f = record { frames = frames ++ f.frames; ending = f.ending }
+
+-- the run over these bytes, of which some are left, ends as the frames so far and what is left say
+pub record Replaying (bytes : List ℕ) (left : Option (List ℕ)) (capture : CaptureState) (frames : List Captured) : Type 0 where
   pub rest : List ℕ
   pub told : left ≡ Some rest
-  pub stands : StandsFor (control_at 0) content kept pasts
-  pub ends : outcome bytes ≡ onward pasts packets (frames_at capture rest).frames (frames_at capture rest).ending
+  pub ends : outcome bytes ≡ outcome_of_frames (behind frames (frames_at capture rest))
 
 -- ---- the global header
 
@@ -40,12 +33,10 @@ outcome_of_header : (bytes : List ℕ) (h : Result _ OpenError) → header_of by
 unfolding outcome
 outcome_of_header bytes h is = ap (λ r. outcome_by (frames_by r bytes)) is
 
-pub opened_replay : (old new : Option (List ℕ)) (capture : CaptureState) (content : Shared → TreeLists) (kept : Kept) (bytes : List ℕ)
-    → OpenGives old new (Ok capture) → capture.count ≡ 0 → capture.offset ≡ 24 → StandsFor (control_at 0) content kept [] → old ≡ Some bytes
-    → Replaying bytes new capture content kept 0
-opened_replay None new capture content kept bytes gives count offset stands told = absurd (cc)
-opened_replay (Some b) None capture content kept bytes gives count offset stands told = absurd gives
-opened_replay (Some b) (Some after) capture content kept bytes gives count offset stands told =
+pub opened_replay : (old new : Option (List ℕ)) (capture : CaptureState) (bytes : List ℕ) → OpenGives old new (Ok capture) → capture.count ≡ 0 → capture.offset ≡ 24 → old ≡ Some bytes → Replaying bytes new capture []
+opened_replay None new capture bytes gives count offset told = absurd (cc)
+opened_replay (Some b) None capture bytes gives count offset told = absurd gives
+opened_replay (Some b) (Some after) capture bytes gives count offset told =
     let same : b ≡ bytes = cc in
     let all : 1048576 - capture.count ≡ 1048576 = omega arith in
     let start : frames_at capture after ≡ frames_from capture.order 1048576 24 (drop 24 b) =
@@ -55,11 +46,9 @@ opened_replay (Some b) (Some after) capture content kept bytes gives count offse
     let whole : outcome b ≡ outcome_of_frames (frames_at capture after) =
     outcome_of_header b (Ok capture.order) gives.0 ∙ ap outcome_of_frames (sym start) in
     record {
-      pasts = [];
       rest = after;
       told = refl;
-      stands = stands;
-      ends = ap outcome (sym same) ∙ whole ∙ sym (onward_all (frames_at capture after));
+      ends = ap outcome (sym same) ∙ whole;
     }
 
 refused_as : (bytes after : List ℕ) (new : Option (List ℕ)) (e : OpenError) → OpenGives (Some bytes) (Some after) (Err e) → ReplaysAs bytes new (Err (header_refusal e))
@@ -76,7 +65,7 @@ refused_header (Some b) None e bytes gives told = absurd gives
 refused_header (Some b) (Some after) e bytes gives told =
     let same : b ≡ bytes = cc in subst (λ l. ReplaysAs l (Some after) (Err (header_refusal e))) same (refused_as b after (Some after) e gives)
 
--- ---- the records
+-- ---- the frames
 
 -- a step over bytes that the source tells
 pub record StepTold (old new : CaptureState) (bytes : List ℕ) (after : Option (List ℕ)) (frame : Captured) (result : Result Step NextError) : Type 0 where
@@ -92,49 +81,40 @@ step_told old new (Some b) (Some rest) bytes frame result gives told =
     let same : b ≡ bytes = cc in
     subst (λ l. StepTold old new l (Some rest) frame result) same (record { rest = rest; told = refl; steps = gives })
 
--- what is left begins with a frame
-pub framed : (pasts : List RecordSoFar) (n : ℕ) (before others : Frames) (frame : Captured) → before ≡ with_frame frame others
-    → onward pasts n before.frames before.ending ≡ onward pasts n (frame ∷ others.frames) others.ending
-framed pasts n before others frame is = ap (λ (f : Frames). onward pasts n f.frames f.ending) is
-
--- one more packet
-pub replayed : (bytes : List ℕ) (left after : Option (List ℕ)) (old new : CaptureState) (content content' : Shared → TreeLists) (kept kept' : Kept) (n : ℕ) (frame : Captured)
-    → (r : Replaying bytes left old content kept n) → StepTold old new r.rest after frame (Ok Frame)
-    → Adds (arrival_of n frame) (control_at 0) content kept content' kept'
-    → Replaying bytes after new content' kept' (n + 1)
-replayed bytes left after old new content content' kept kept' n frame r step stands = record {
-  pasts = added control_at (incoming n frame) r.pasts;
-  rest = step.rest;
-  told = step.told;
-  stands = stands r.pasts r.stands;
-  ends = r.ends ∙ framed r.pasts n (frames_at old r.rest) (frames_at new step.rest) frame step.steps;
-}
+-- one more frame
+pub replayed : (bytes : List ℕ) (left after : Option (List ℕ)) (old new : CaptureState) (frames : List Captured) (frame : Captured)
+    → (r : Replaying bytes left old frames) → StepTold old new r.rest after frame (Ok Frame) → Replaying bytes after new (frames ++ frame ∷ [])
+replayed bytes left after old new frames frame r step =
+    let others = frames_at new step.rest in
+    record {
+      rest = step.rest;
+      told = step.told;
+      ends = r.ends ∙ ap (λ f. outcome_of_frames (behind frames f)) step.steps
+          ∙ ap (λ l. outcome_of_frames (record { frames = l; ending = others.ending })) (sym (append_assoc frames (frame ∷ []) others.frames));
+    }
 
 -- the end of the capture
-abbrev pub made : List Record → ℕ → ℕ → ℕ → Report
-made records callbacks n k = record { records = records; totals = record { packets = n; records = length records; callbacks = callbacks; drops = 0; tail = k } }
+pub ended_at : (bytes : List ℕ) (left : Option (List ℕ)) (capture : CaptureState) (frames : List Captured) (k : ℕ) → (r : Replaying bytes left capture frames) → frames_at capture r.rest ≡ ended (tail k)
+    → outcome bytes ≡ followed_to frames (tail k)
+unfolding outcome_of_frames
+ended_at bytes left capture frames k r is =
+    r.ends ∙ ap (λ f. outcome_of_frames (behind frames f)) is ∙ ap (λ l. followed_to l (tail k)) (append-nil frames)
 
-report_is : (content : Shared → TreeLists) (kept : Kept) (n k : ℕ) (pasts : List RecordSoFar) → StandsFor (control_at 0) content kept pasts
-    → report_of pasts n k ≡ made kept.records.items kept.callbacks n k
-report_is content kept n k pasts stands =
-    ap (λ m. record { records = map record_of pasts; totals = record { packets = n; records = m; callbacks = callbacks_of pasts; drops = 0; tail = k } }) (sym (length-map pasts record_of))
-    ∙ ap (λ rs. made rs (callbacks_of pasts) n k) (sym stands.shown) ∙ ap (λ m. made kept.records.items m n k) (sym stands.counted)
-
-pub ended_replay : (bytes : List ℕ) (left after : Option (List ℕ)) (old new : CaptureState) (content : Shared → TreeLists) (kept : Kept) (n k : ℕ) (report : Report) (end : LaneEnd)
-    → (r : Replaying bytes left old content kept n) → frames_at old r.rest ≡ ended (tail k)
-    → end.records ≡ kept.records.items → end.callbacks ≡ kept.callbacks → report ≡ made end.records end.callbacks n k
-    → outcome bytes ≡ Ok report
-ended_replay bytes left after old new content kept n k report end r is records callbacks reported =
-    r.ends ∙ ap (λ (f : Frames). onward r.pasts n f.frames f.ending) is
-    ∙ ap Ok (report_is content kept n k r.pasts r.stands ∙ ap (λ rs. made rs kept.callbacks n k) (sym records) ∙ ap (λ m. made end.records m n k) (sym callbacks) ∙ sym reported)
+pub ends_as : (bytes : List ℕ) (after : Option (List ℕ)) (end : Result Report RunError) (result : Result Report RunError) → outcome bytes ≡ end → after ≡ Some [] → EndsWith end result → ReplaysAs bytes after result
+ends_as bytes after end (Ok report) is all ends = (is ∙ ends, all)
+ends_as bytes after end (Err Run.NoMemory) is all ends = tt
+ends_as bytes after end (Err Run.ReadFault) is all ends = tt
+ends_as bytes after end (Err Run.WriteFault) is all ends = is ∙ ends
+ends_as bytes after end (Err Run.NotBuilt) is all ends = is ∙ ends
+ends_as bytes after end (Err Run.Heavy) is all ends = is ∙ ends
+ends_as bytes after end (Err (Run.Capture fault offset)) is all ends = is ∙ ends
+ends_as bytes after end (Err (Run.TooMany offset)) is all ends = is ∙ ends
 
 -- a record that can't be read
-pub refused_record : (bytes : List ℕ) (left after : Option (List ℕ)) (old new : CaptureState) (content : Shared → TreeLists) (kept : Kept) (n : ℕ) (frame : Captured) (e : NextError)
-    → (r : Replaying bytes left old content kept n) → StepTold old new r.rest after frame (Err e)
-    → ReplaysAs bytes after (Err (record_refusal e))
-refused_record bytes left after old new content kept n frame (Next.TooLong offset) r step =
-    r.ends ∙ ap (λ (f : Frames). onward r.pasts n f.frames f.ending) step.steps
-refused_record bytes left after old new content kept n frame (Next.TooMany offset) r step =
-    r.ends ∙ ap (λ (f : Frames). onward r.pasts n f.frames f.ending) step.steps
-refused_record bytes left after old new content kept n frame Next.ReadFault r step = tt
-refused_record bytes left after old new content kept n frame Next.NoMemory r step = tt
+pub refused_record : (bytes : List ℕ) (left after : Option (List ℕ)) (old new : CaptureState) (frames : List Captured) (frame : Captured) (e : NextError)
+    → (r : Replaying bytes left old frames) → StepTold old new r.rest after frame (Err e) → ReplaysAs bytes after (Err (record_refusal e))
+unfolding outcome_of_frames
+refused_record bytes left after old new frames frame (Next.TooLong offset) r step = r.ends ∙ ap (λ f. outcome_of_frames (behind frames f)) step.steps
+refused_record bytes left after old new frames frame (Next.TooMany offset) r step = r.ends ∙ ap (λ f. outcome_of_frames (behind frames f)) step.steps
+refused_record bytes left after old new frames frame Next.ReadFault r step = tt
+refused_record bytes left after old new frames frame Next.NoMemory r step = tt

@@ -3,3 +3,4 @@ pub mod Refusal
 pub mod Outcome
 pub mod Replay
 pub mod Run
+pub mod Reading

@@ -1,23 +1,28 @@
 -- How a run over the bytes of a capture ends.
-use Rattle.std.specs.Prelude.{ℕ, List, length, map, Result, Ok, Err}
+use Rattle.std.specs.Prelude.{ℕ, List, length, map, nat_lt, if◌then◌else◌, Result, Ok, Err}
+use Rattle.app_api.specs.Log.{log}
 use Rattle.pcap_source.specs.Captured.{Captured}
 use Rattle.pcap_source.specs.Capture.{Frames, Ending, tail, too_long, too_many, capture_of}
 use Rattle.pcap_source.specs.declared.errors.OpenError.{OpenError}
 use Rattle.pcap_source.specs.declared.errors.OpenError.TheVariants as Open
 use Rattle.pcap_source.specs.declared.errors.CaptureFault.TheVariants as Fault
 use Rattle.mos_run.specs.declared.refusal.RunError.{RunError}
-use Rattle.mos_run.specs.declared.refusal.RunError.TheVariants.{Capture, TooMany, ReadFault}
+use Rattle.mos_run.specs.declared.refusal.RunError.TheVariants.{Capture, TooMany, Heavy, ReadFault}
 use Rattle.mos_run.specs.declared.report.Report.{Report}
 use Rattle.lane_core.specs.Records.{RecordSoFar}
-use Rattle.lane_core.specs.Shown.{record_of}
+use Rattle.lane_core.specs.Shown.{record_of, weight}
 use Rattle.mos_run.specs.Report.{records_of, totals_of}
 
 abbrev pub report_of : List RecordSoFar → ℕ → ℕ → Report
-report_of records packets rest = record { records = map record_of records; totals = totals_of records packets rest }
+report_of records packets rest = record { records = map (record_of log) records; totals = totals_of records packets rest }
+
+-- a report may weigh at most 134,217,728: 32 for each callback, and the bytes that it saw
+abbrev pub weighed : List RecordSoFar → Report → Result Report RunError
+weighed records report = if nat_lt 134217728 (weight records) then Err Heavy else Ok report
 
 -- whole records that were followed to the end of the capture, or to where it is refused
 abbrev pub followed_to : List Captured → Ending → Result Report RunError
-followed_to frames (tail n) = Ok (report_of (records_of (λ _. 0) frames) (length frames) n)
+followed_to frames (tail n) = weighed (records_of (λ _. 0) frames) (report_of (records_of (λ _. 0) frames) (length frames) n)
 followed_to frames (too_long offset) = Err (Capture Fault.TooLong offset)
 followed_to frames (too_many offset) = Err (TooMany offset)
 

@@ -5,10 +5,12 @@ use Rattle.pcap_source.specs.declared.errors.CaptureFault.{CaptureFault}
 use Rattle.pcap_source.specs.declared.errors.CaptureFault.TheVariants as Fault
 use Rattle.pcap_source.specs.declared.errors.NextError.{NextError}
 use Rattle.pcap_source.specs.declared.errors.NextError.TheVariants as Next
+use Rattle.lane_core.specs.declared.errors.LaneError.{LaneError}
+use Rattle.lane_core.specs.declared.errors.LaneError.TheVariants as Lane
 use Rattle.report_text.specs.declared.write.TextError.{TextError}
 use Rattle.report_text.specs.declared.write.TextError.TheVariants as Text
 use Rattle.mos_run.specs.declared.refusal.RunError.{RunError}
-use Rattle.mos_run.specs.declared.refusal.RunError.TheVariants.{NotBuilt, Capture, TooMany, ReadFault, WriteFault, NoMemory}
+use Rattle.mos_run.specs.declared.refusal.RunError.TheVariants.{NotBuilt, Capture, TooMany, Heavy, ReadFault, WriteFault, NoMemory}
 
 abbrev pub status_of : RunError → ℕ
 status_of (Capture fault offset) = 3
@@ -16,6 +18,7 @@ status_of ReadFault = 4
 status_of WriteFault = 5
 status_of NoMemory = 6
 status_of (TooMany offset) = 7
+status_of Heavy = 7
 status_of NotBuilt = 8
 
 abbrev pub fault_text : CaptureFault → List ℕ
@@ -29,6 +32,7 @@ unfoldable pub refusal_text : RunError → List ℕ
 refusal_text NotBuilt = codes "mos: not built\n"
 refusal_text (Capture fault offset) = codes "mos: capture: " ++ (fault_text fault ++ (codes " at " ++ (decimal offset ++ codes "\n")))
 refusal_text (TooMany offset) = codes "mos: too many packets at " ++ (decimal offset ++ codes "\n")
+refusal_text Heavy = codes "mos: log too large\n"
 refusal_text ReadFault = codes "mos: read fault\n"
 refusal_text WriteFault = codes "mos: write fault\n"
 refusal_text NoMemory = codes "mos: no memory\n"
@@ -44,3 +48,8 @@ record_refusal Next.NoMemory = NoMemory
 abbrev pub text_refusal : TextError → RunError
 text_refusal Text.WriteFault = WriteFault
 text_refusal Text.NoMemory = NoMemory
+
+-- a lane that failed
+abbrev pub lane_refusal : LaneError → RunError
+lane_refusal Lane.NoMemory = NoMemory
+lane_refusal Lane.Heavy = Heavy

@@ -3,6 +3,7 @@
 ghost use Rattle.std.specs.Prelude.{◌≡◌, ◌∷◌, IfOk, string_bytes};
 ghost use Rattle.mos_run.specs.Refusal.{status_of, refusal_text, fault_text};
 
+use lane_core::LaneError;
 use pcap_source::{CaptureFault, NextError, OpenError};
 use report_text::TextError;
 use std::alloc::{AllocError, AllocFailed, Global};
@@ -16,6 +17,8 @@ pub enum RunError {
     Capture(CaptureFault, u64),
     /// More than 1,048,576 packets: a further record begins at this offset.
     TooMany(u64),
+    /// The callbacks weigh more than 134,217,728: for each of them 32, and the bytes that it saw.
+    Heavy,
     /// The capture's source failed.
     ReadFault,
     /// The sink failed.
@@ -68,6 +71,19 @@ impl From<TextError> for RunError {
     }
 }
 
+impl From<LaneError> for RunError {
+    ghost use Rattle.mos_run.specs.Refusal.{lane_refusal};
+
+    ghost from_gives = { λ e r. r ≡ lane_refusal e };
+
+    fn from(error: LaneError) -> Self {
+        match error {
+            LaneError::NoMemory => RunError::NoMemory,
+            LaneError::Heavy => RunError::Heavy,
+        }
+    }
+}
+
 impl From<AllocError> for RunError {
     ghost use Rattle.mos_run.specs.declared.refusal.RunError.TheVariants.{NoMemory};
 
@@ -98,7 +114,7 @@ impl RunError {
             RunError::ReadFault => 4,
             RunError::WriteFault => 5,
             RunError::NoMemory => 6,
-            RunError::TooMany(_) => 7,
+            RunError::TooMany(_) | RunError::Heavy => 7,
             RunError::NotBuilt => 8,
         }
     }

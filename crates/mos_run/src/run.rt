@@ -96,6 +96,7 @@ fn tell<E: Sink>(alloc: Global, err: &mut E, error: RunError) -> RunError
         RunError::TooMany(offset) => {
             return tell_line(err, too_many_line(alloc, offset), error);
         }
+        RunError::Heavy => write_text(err, "mos: log too large\n"),
         RunError::ReadFault => write_text(err, "mos: read fault\n"),
         RunError::WriteFault => write_text(err, "mos: write fault\n"),
         RunError::NoMemory => write_text(err, "mos: no memory\n"),
@@ -116,7 +117,7 @@ fn tell<E: Sink>(alloc: Global, err: &mut E, error: RunError) -> RunError
 /// | 4 | the capture's source failed |
 /// | 5 | `out` failed; it has gained a front of the report |
 /// | 6 | memory was refused; `out` has gained a front of the report, or nothing |
-/// | 7 | the capture has more than 1,048,576 packets |
+/// | 7 | the capture has more than 1,048,576 packets, or its callbacks weigh more than 134,217,728 |
 /// | 8 | a word, which is not built yet |
 pub fn run_mos<S: Source, O: Sink, E: Sink>(
     alloc: Global,

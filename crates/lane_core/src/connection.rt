@@ -7,7 +7,7 @@ use flow_table::Endpoint;
 
 /// An open connection, with the place of its record under way.
 #[derive(Drop)]
-pub(crate) struct Open {
+pub(crate) struct Connection {
     /// The place of its record among those of the lane.
     pub(crate) place: usize,
     /// Who sent the segment that opened it.

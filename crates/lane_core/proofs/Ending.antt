@@ -1,0 +1,36 @@
+-- Records under way, as they are shown at the end.
+use Rattle.std.proofs.Common.{◌≡◌, ℕ, Bool, true, false, List, [], ◌∷◌, map, refl, ap, ◌∙◌}
+use Rattle.std.specs.Prelude.{if◌then◌else◌}
+use Rattle.app_api.specs.App.{Meaning}
+use Rattle.report_text.specs.declared.record.Record.{Record}
+use Rattle.report_text.specs.declared.record.RecordKind.TheVariants.{Conn, Orphan}
+use Rattle.packet_views.specs.declared.packet.Class.TheVariants as Class
+use Rattle.lane_core.specs.Sight.{Segment, Sight, Tcp, Other}
+use Rattle.lane_core.specs.Records.{RecordSoFar, opens}
+use Rattle.lane_core.specs.Shown.{kind_of, record_of}
+use Rattle.lane_core.specs.Kept.{slot_of}
+use Rattle.lane_core.specs.End.{ended, is_conn}
+use Rattle.lane_core.specs.Lane.{shown}
+
+conn_where : (b : Bool) (segment : Segment) → is_conn (if b then Conn segment.sender segment.receiver else Orphan Class.Tcp) ≡ b
+conn_where true segment = refl
+conn_where false segment = refl
+
+-- a record is that of a connection where its first packet opens one
+conn_opens : (sight : Sight) → is_conn (kind_of sight) ≡ opens sight
+unfolding kind_of opens
+conn_opens (Tcp segment) = conn_where (opens (Tcp segment)) segment
+conn_opens (Other class) = refl
+
+ended_shown : (keep : Bool) (app : Meaning) (one : RecordSoFar) → ended app (slot_of keep one) ≡ shown keep app one
+ended_shown keep app one =
+    ap (λ b. record (shown keep app one) { fields = if b then app.fields one.history.tally else [] }) (conn_opens one.first.sight)
+
+pub all_ended : (keep : Bool) (app : Meaning) (so_far : List RecordSoFar) → map (ended app) (map (slot_of keep) so_far) ≡ map (shown keep app) so_far
+all_ended keep app [] = refl
+all_ended keep app (one ∷ others) =
+    ap (λ r. r ∷ map (ended app) (map (slot_of keep) others)) (ended_shown keep app one) ∙ ap (λ rs. shown keep app one ∷ rs) (all_ended keep app others)
+
+pub versions_named : (keep : Bool) (so_far : List RecordSoFar) → map {B = ℕ × ℕ} (λ s. (s.name, s.version)) (map (slot_of keep) so_far) ≡ map {B = ℕ × ℕ} (λ r. (r.first.number, r.version)) so_far
+versions_named keep [] = refl
+versions_named keep (one ∷ others) = ap (λ ps. (one.first.number, one.version) ∷ ps) (versions_named keep others)

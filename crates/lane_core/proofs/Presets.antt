@@ -1,0 +1,237 @@
+-- The callbacks of the log application's presets.
+use Rattle.std.proofs.Common.{◌≡◌, ℕ, ◌++◌, eqb, Bool, true, false, not, nat_lt, Option, Some, None, List, [], ◌∷◌, refl, sym, ap, subst, ◌∙◌, append_assoc, append-nil}
+use Rattle.native_filters.specs.declared.facts.Facts.{Facts}
+use Rattle.native_filters.specs.declared.facts.Hook.{Hook}
+use Rattle.native_filters.specs.declared.facts.Hook.TheVariants.{Snd, Rcv}
+use Rattle.packet_views.specs.declared.packet.Class.TheVariants as Class
+use Rattle.packet_views.specs.declared.packet.Head.{Head}
+use Rattle.tcp_emulation.specs.declared.segment.Side.{Side}
+use Rattle.tcp_emulation.specs.declared.segment.Side.TheVariants.{Client}
+use Rattle.flow_socket.specs.Emulation.{Emulation, sent, sent_answer, received, got_of}
+use Rattle.flow_socket.specs.declared.answers.Sent.{Sent}
+use Rattle.flow_socket.specs.declared.answers.Got.{Got}
+use Rattle.app_api.specs.Events.{START, PKT_IN, REXMIT, NEW_DATA, ERROR, STATE, END, ORPHAN}
+use Rattle.app_api.specs.Log.{log}
+use Rattle.app_api.specs.Reg.{preset_reg}
+use Rattle.app_api.specs.declared.entry.Entry.{Entry}
+use Rattle.app_api.specs.declared.reaction.Reason.{Reason}
+use Rattle.app_api.specs.declared.registration.Reg.{Reg}
+use Rattle.builtin_events.specs.declared.raise.Raise.{Raise}
+use Rattle.builtin_events.specs.Facts.{sender_facts, receiver_facts, orphan_facts}
+use Rattle.builtin_events.specs.Raises.{raise_if, is_changed, sender_raises, receiver_raises, orphan_raises}
+use Rattle.event_trees.specs.Defs.{path}
+use Rattle.event_trees.specs.Fires.{fires}
+use Rattle.forest_versions.specs.State.{ControlState, start, active as first_active}
+use Rattle.connection_core.specs.Course.{Course, first_reason, called, called_all, called_at, raised, changed_all, settled, phase}
+use Rattle.connection_core.specs.History.{History, followed, sender_phase, receiver_phase, received_unless, begin, go_on, orphaned, lone_course}
+use Rattle.lane_core.specs.Sight.{Segment, Sight, Tcp, Other}
+use Rattle.lane_core.specs.Records.{orphan_raises_of}
+use Rattle.lane_core.specs.Laws.{at_sender, at_receiver, at_orphan, PresetsAreCalled}
+
+abbrev from_start : ControlState
+from_start = start log.presets
+
+abbrev on : List Reg
+on = first_active from_start
+
+abbrev raise_of : Hook → Facts → ℕ → Raise
+raise_of hook facts event = record { hook = hook; event = event; facts = facts }
+
+-- ---- what a callback of the log does to a course: it leaves an entry, and asks nothing
+
+record Logs (c d : Course) (more : List Entry) : Type 0 where
+  active : d.active ≡ c.active
+  entries : d.entries ≡ c.entries ++ more
+  asked : d.asked ≡ c.asked
+  drop : d.drop ≡ c.drop
+
+logs-none : (c : Course) → Logs c c []
+logs-none c = record { active = refl; entries = sym (append-nil c.entries); asked = refl; drop = refl }
+
+logs-then : (c d e : Course) (es fs : List Entry) → Logs c d es → Logs d e fs → Logs c e (es ++ fs)
+logs-then c d e es fs one two = record {
+  active = two.active ∙ one.active;
+  entries = two.entries ∙ ap (λ l. l ++ fs) one.entries ∙ append_assoc c.entries es fs;
+  asked = two.asked ∙ one.asked;
+  drop = two.drop ∙ one.drop;
+}
+
+same_reason : (r : Option Reason) → first_reason r None ≡ r
+same_reason None = refl
+same_reason (Some reason) = refl
+
+module _ (number : ℕ) (from : Side) where
+  silent : (raise : Raise) (c : Course) → c.active ≡ on → fires from_start.defs raise.facts raise.hook raise.event on ≡ [] → Logs c (called_at log from_start number from raise c) []
+  unfolding called_at
+  silent raise c is none =
+      subst (λ l. Logs c (called_all log from_start number from raise c l) []) (sym (ap (fires from_start.defs raise.facts raise.hook raise.event) is ∙ none)) (logs-none c)
+
+  logged : (raise : Raise) (c : Course) (r : Reg) (entry : Entry) → Logs c (called log from_start number from raise c r) (entry ∷ []) → c.active ≡ on
+      → fires from_start.defs raise.facts raise.hook raise.event on ≡ r ∷ [] → Logs c (called_at log from_start number from raise c) (entry ∷ [])
+  unfolding called_at
+  logged raise c r entry made is one =
+      subst (λ l. Logs c (called_all log from_start number from raise c l) (entry ∷ [])) (sym (ap (fires from_start.defs raise.facts raise.hook raise.event) is ∙ one)) made
+
+  sender_logs : (facts : Facts) (c : Course) → c.active ≡ on → Logs c (called_at log from_start number from (raise_of Snd facts PKT_IN) c) (at_sender number ∷ [])
+  unfolding called log start path
+  sender_logs facts c is =
+      logged (raise_of Snd facts PKT_IN) c (preset_reg 1 PKT_IN Snd true) (at_sender number)
+      (record { active = refl; entries = refl; asked = append-nil c.asked; drop = same_reason c.drop }) is refl
+
+  receiver_logs : (facts : Facts) (c : Course) → c.active ≡ on → Logs c (called_at log from_start number from (raise_of Rcv facts PKT_IN) c) (at_receiver number ∷ [])
+  unfolding called log start path
+  receiver_logs facts c is =
+      logged (raise_of Rcv facts PKT_IN) c (preset_reg 2 PKT_IN Rcv true) (at_receiver number)
+      (record { active = refl; entries = refl; asked = append-nil c.asked; drop = same_reason c.drop }) is refl
+
+  orphan_logs : (facts : Facts) (c : Course) → c.active ≡ on → Logs c (called_at log from_start number from (raise_of Snd facts ORPHAN) c) (at_orphan number ∷ [])
+  unfolding called log start path
+  orphan_logs facts c is =
+      logged (raise_of Snd facts ORPHAN) c (preset_reg 3 ORPHAN Snd true) (at_orphan number)
+      (record { active = refl; entries = refl; asked = append-nil c.asked; drop = same_reason c.drop }) is refl
+
+  -- ---- raises, one after the other
+
+  abbrev LogsOn : List Raise → List Entry → Type 0
+  LogsOn raises entries = (c : Course) → c.active ≡ on → Logs c (raised log from_start number from raises c) entries
+
+  raised-append : (xs ys : List Raise) (c : Course) → raised log from_start number from (xs ++ ys) c ≡ raised log from_start number from ys (raised log from_start number from xs c)
+  unfolding raised
+  raised-append [] ys c = refl
+  raised-append (x ∷ xs) ys c = raised-append xs ys (called_at log from_start number from x c)
+
+  logs-append : (xs ys : List Raise) (es fs : List Entry) → LogsOn xs es → LogsOn ys fs → LogsOn (xs ++ ys) (es ++ fs)
+  logs-append xs ys es fs one two c is =
+      let d = raised log from_start number from xs c in
+      let first = one c is in
+      subst (λ e. Logs c e (es ++ fs)) (sym (raised-append xs ys c))
+      (logs-then c d (raised log from_start number from ys d) es fs first (two d (first.active ∙ is)))
+
+  quiet : (b : Bool) (raise : Raise) → ((c : Course) → c.active ≡ on → Logs c (called_at log from_start number from raise c) []) → LogsOn (raise_if b raise) []
+  unfolding raised
+  quiet true raise none c is = none c is
+  quiet false raise none c is = logs-none c
+
+  loud : (raise : Raise) (entry : Entry) → ((c : Course) → c.active ≡ on → Logs c (called_at log from_start number from raise c) (entry ∷ [])) → LogsOn (raise_if true raise) (entry ∷ [])
+  unfolding raised
+  loud raise entry one c is = one c is
+
+  quiet_start : (facts : Facts) (c : Course) → c.active ≡ on → Logs c (called_at log from_start number from (raise_of Snd facts START) c) []
+  unfolding log start path
+  quiet_start facts c is = silent (raise_of Snd facts START) c is refl
+
+  quiet_sender_state : (facts : Facts) (c : Course) → c.active ≡ on → Logs c (called_at log from_start number from (raise_of Snd facts STATE) c) []
+  unfolding log start path
+  quiet_sender_state facts c is = silent (raise_of Snd facts STATE) c is refl
+
+  quiet_rexmit : (facts : Facts) (c : Course) → c.active ≡ on → Logs c (called_at log from_start number from (raise_of Rcv facts REXMIT) c) []
+  unfolding log start path
+  quiet_rexmit facts c is = silent (raise_of Rcv facts REXMIT) c is refl
+
+  quiet_new_data : (facts : Facts) (c : Course) → c.active ≡ on → Logs c (called_at log from_start number from (raise_of Rcv facts NEW_DATA) c) []
+  unfolding log start path
+  quiet_new_data facts c is = silent (raise_of Rcv facts NEW_DATA) c is refl
+
+  quiet_error : (facts : Facts) (c : Course) → c.active ≡ on → Logs c (called_at log from_start number from (raise_of Rcv facts ERROR) c) []
+  unfolding log start path
+  quiet_error facts c is = silent (raise_of Rcv facts ERROR) c is refl
+
+  quiet_state : (facts : Facts) (c : Course) → c.active ≡ on → Logs c (called_at log from_start number from (raise_of Rcv facts STATE) c) []
+  unfolding log start path
+  quiet_state facts c is = silent (raise_of Rcv facts STATE) c is refl
+
+  quiet_end : (facts : Facts) (c : Course) → c.active ≡ on → Logs c (called_at log from_start number from (raise_of Rcv facts END) c) []
+  unfolding log start path
+  quiet_end facts c is = silent (raise_of Rcv facts END) c is refl
+
+  sender_calls : (head : Head) (nth : ℕ) (first : Bool) (s : Sent) → LogsOn (sender_raises head from nth first s) (at_sender number ∷ [])
+  unfolding sender_raises
+  sender_calls head nth first s =
+      let facts = sender_facts head from nth s in
+      let start_if = raise_if first (raise_of Snd facts START) in
+      let pkt_in = raise_if true (raise_of Snd facts PKT_IN) in
+      let state_if = raise_if (is_changed facts) (raise_of Snd facts STATE) in
+      logs-append (start_if ++ pkt_in) state_if (at_sender number ∷ []) []
+      (logs-append start_if pkt_in [] (at_sender number ∷ [])
+      (quiet first (raise_of Snd facts START) (quiet_start facts))
+      (loud (raise_of Snd facts PKT_IN) (at_sender number) (sender_logs facts)))
+      (quiet (is_changed facts) (raise_of Snd facts STATE) (quiet_sender_state facts))
+
+  receiver_calls : (head : Head) (nth : ℕ) (g : Got) → LogsOn (receiver_raises head from nth g) (at_receiver number ∷ [])
+  unfolding receiver_raises
+  receiver_calls head nth g =
+      let facts = receiver_facts head from nth g in
+      let one = at_receiver number ∷ [] in
+      let again = nat_lt 0 facts.rexlen in
+      let faulty = not (eqb facts.fault 0) in
+      let changed = is_changed facts in
+      let pkt_in = raise_if true (raise_of Rcv facts PKT_IN) in
+      let rexmit = raise_if again (raise_of Rcv facts REXMIT) in
+      let new_data = raise_if g.rose (raise_of Rcv facts NEW_DATA) in
+      let error = raise_if faulty (raise_of Rcv facts ERROR) in
+      let state = raise_if changed (raise_of Rcv facts STATE) in
+      let end = raise_if g.over (raise_of Rcv facts END) in
+      logs-append (pkt_in ++ rexmit ++ new_data ++ error ++ state) end one []
+      (logs-append (pkt_in ++ rexmit ++ new_data ++ error) state one []
+      (logs-append (pkt_in ++ rexmit ++ new_data) error one []
+      (logs-append (pkt_in ++ rexmit) new_data one []
+      (logs-append pkt_in rexmit one []
+      (loud (raise_of Rcv facts PKT_IN) (at_receiver number) (receiver_logs facts))
+      (quiet again (raise_of Rcv facts REXMIT) (quiet_rexmit facts)))
+      (quiet g.rose (raise_of Rcv facts NEW_DATA) (quiet_new_data facts)))
+      (quiet faulty (raise_of Rcv facts ERROR) (quiet_error facts)))
+      (quiet changed (raise_of Rcv facts STATE) (quiet_state facts)))
+      (quiet g.over (raise_of Rcv facts END) (quiet_end facts))
+
+  -- where nothing is asked, nothing is changed at the phase's end
+  phase_logs : (raises : List Raise) (entries : List Entry) (c : Course) → LogsOn raises entries → c.active ≡ on → c.asked ≡ [] → Logs c (phase log from_start number from raises c) entries
+  unfolding phase settled
+  phase_logs raises entries c logs is asked =
+      let d = raised log from_start number from raises c in
+      let l = logs c is in
+      let nothing : d.asked ≡ [] = l.asked ∙ asked in
+      subst (λ cs. Logs c (record (changed_all from_start cs d) { asked = [] }) entries) (sym nothing)
+      (record { active = l.active; entries = l.entries; asked = sym asked; drop = l.drop })
+
+-- ---- both phases of a packet
+
+module _ (number : ℕ) (from : Side) (segment : Segment) (h : History) (is : h.active ≡ on) where
+  abbrev at_s : Course
+  at_s = sender_phase log from_start number from segment.head h
+
+  abbrev at_r : Course
+  at_r = receiver_phase log from_start number from segment.head segment.payload h.count at_s
+
+  sent_logs : Logs (begin (sent from segment.head h.emulation) h) at_s (at_sender number ∷ [])
+  unfolding sender_phase
+  sent_logs =
+      phase_logs number from (sender_raises segment.head from h.count (eqb h.count 0) (sent_answer from segment.head h.emulation)) (at_sender number ∷ [])
+      (begin (sent from segment.head h.emulation) h)
+      (sender_calls number from segment.head h.count (eqb h.count 0) (sent_answer from segment.head h.emulation)) is refl
+
+  received_logs : Logs (go_on (received from segment.head segment.payload at_s.emulation) at_s) at_r (at_receiver number ∷ [])
+  unfolding receiver_phase
+  received_logs =
+      phase_logs number from (receiver_raises segment.head from h.count (got_of from segment.head segment.payload at_s.emulation)) (at_receiver number ∷ [])
+      (go_on (received from segment.head segment.payload at_s.emulation) at_s)
+      (receiver_calls number from segment.head h.count (got_of from segment.head segment.payload at_s.emulation)) (sent_logs.active ∙ is) sent_logs.asked
+
+  followed_is : followed log from_start number from segment.head segment.payload h ≡ received_unless None number at_s at_r h
+  unfolding followed
+  followed_is = ap (λ d. received_unless d number at_s at_r h) sent_logs.drop
+
+  connection_called : (followed log from_start number from segment.head segment.payload h).entries ≡ h.entries ++ at_sender number ∷ at_receiver number ∷ []
+  connection_called =
+      ap (λ (g : History). g.entries) followed_is ∙ received_logs.entries ∙ ap (λ l. l ++ at_receiver number ∷ []) sent_logs.entries
+      ∙ append_assoc h.entries (at_sender number ∷ []) (at_receiver number ∷ [])
+
+  stays : (followed log from_start number from segment.head segment.payload h).active ≡ h.active
+  stays = ap (λ (g : History). g.active) followed_is ∙ received_logs.active ∙ sent_logs.active
+
+orphan_is_called : (number : ℕ) (sight : Sight) → (orphaned log from_start number (orphan_raises_of sight)).entries ≡ at_orphan number ∷ []
+unfolding orphaned orphan_raises raised
+orphan_is_called number (Tcp segment) = (orphan_logs number Client (orphan_facts Class.Tcp (Some segment.head)) _ refl).entries
+orphan_is_called number (Other class) = (orphan_logs number Client (orphan_facts class None) _ refl).entries
+
+pub presets_are_called : PresetsAreCalled
+presets_are_called = record { connection = λ number side segment h is. connection_called number side segment h is; stay = λ number side segment h is. stays number side segment h is; orphan = orphan_is_called }

@@ -1,0 +1,131 @@
+-- One event more at the end of a run.
+use Rattle.std.proofs.Common.{◌≡◌, ℕ, zero, suc, ◌+◌, ◌<◌, ◌≤◌, Bool, true, false, Option, Some, None, List, [], ◌∷◌, ◌++◌, length, take, refl, sym, ap, subst, ◌∙◌, arith, add-zero, append_assoc, le_refl}
+use Rattle.std.specs.Prelude.{if◌then◌else◌}
+use Rattle.std.proofs.lemmas.List.{length-append}
+use Rattle.app_api.specs.App.{Meaning}
+use Rattle.app_api.specs.declared.registration.Reg.{Reg}
+use Rattle.forest_versions.specs.declared.command.Command.{Command}
+use Rattle.forest_versions.specs.State.{ControlState, control, master}
+use Rattle.lane_core.specs.Sight.{Arrival}
+use Rattle.lane_core.specs.Records.{VersionedPacket, RecordSoFar, belongs_to, first_history, history_after, continued_by, added, records_from}
+use Rattle.lane_core.specs.Run.{LaneEvent, Gave, Arrived, commands_of, versioned_from, control_of, lane_run, last_number, newest_of}
+use Rattle.lane_core.specs.Shown.{total, weight}
+use Rattle.lane_core.specs.Lane.{IsHeavy, with_event}
+use Rattle.lane_core.proofs.Weighing.{weight_never_falls}
+
+-- ---- the events, one more at the end
+
+pub commands-arrived : (es : List LaneEvent) (a : Arrival) → commands_of (es ++ Arrived a ∷ []) ≡ commands_of es
+commands-arrived [] a = refl
+commands-arrived (Gave c ∷ es) a = ap (λ cs. c ∷ cs) (commands-arrived es a)
+commands-arrived (Arrived b ∷ es) a = commands-arrived es a
+
+pub commands-gave : (es : List LaneEvent) (c : Command) → commands_of (es ++ Gave c ∷ []) ≡ commands_of es ++ c ∷ []
+commands-gave [] c = refl
+commands-gave (Gave d ∷ es) c = ap (λ cs. d ∷ cs) (commands-gave es c)
+commands-gave (Arrived b ∷ es) c = commands-gave es c
+
+pub newest-arrived : (last : Option ℕ) (es : List LaneEvent) (a : Arrival) → last_number last (es ++ Arrived a ∷ []) ≡ Some a.number
+newest-arrived last [] a = refl
+newest-arrived last (Gave d ∷ es) a = newest-arrived last es a
+newest-arrived last (Arrived b ∷ es) a = newest-arrived (Some b.number) es a
+
+pub newest-gave : (last : Option ℕ) (es : List LaneEvent) (c : Command) → last_number last (es ++ Gave c ∷ []) ≡ last_number last es
+newest-gave last [] c = refl
+newest-gave last (Gave d ∷ es) c = newest-gave last es c
+newest-gave last (Arrived b ∷ es) c = newest-gave (Some b.number) es c
+
+versioned-gave : (v : ℕ) (es : List LaneEvent) (c : Command) → versioned_from v (es ++ Gave c ∷ []) ≡ versioned_from v es
+versioned-gave v [] c = refl
+versioned-gave v (Gave d ∷ es) c = versioned-gave (v + 1) es c
+versioned-gave v (Arrived b ∷ es) c = ap (λ ps. record { version = v; arrival = b } ∷ ps) (versioned-gave v es c)
+
+versioned-arrived : (v : ℕ) (es : List LaneEvent) (a : Arrival) → versioned_from v (es ++ Arrived a ∷ []) ≡ versioned_from v es ++ record { version = v + length (commands_of es); arrival = a } ∷ []
+versioned-arrived v [] a = ap (λ n. record { version = n; arrival = a } ∷ []) (sym (add-zero v))
+versioned-arrived v (Gave d ∷ es) a =
+    let count : (v + 1) + length (commands_of es) ≡ v + length (d ∷ commands_of es) = omega arith in
+    versioned-arrived (v + 1) es a ∙ ap (λ n. versioned_from (v + 1) es ++ record { version = n; arrival = a } ∷ []) count
+versioned-arrived v (Arrived b ∷ es) a = ap (λ ps. record { version = v; arrival = b } ∷ ps) (versioned-arrived v es a)
+
+-- ---- the records
+
+records-last : (app : Meaning) (control_at : ℕ → ControlState) (so_far : List RecordSoFar) (ps : List VersionedPacket) (p : VersionedPacket)
+    → records_from app control_at so_far (ps ++ p ∷ []) ≡ added app control_at p (records_from app control_at so_far ps)
+unfolding records_from
+records-last app control_at so_far [] p = refl
+records-last app control_at so_far (q ∷ ps) p = records-last app control_at (added app control_at q so_far) ps p
+
+-- each version is at most this
+abbrev AreAtMost : ℕ → List RecordSoFar → Type 0
+AreAtMost most [] = Unit {0}
+AreAtMost most (r ∷ rs) = (r.version ≤ most) × AreAtMost most rs
+
+abbrev PacketsAtMost : ℕ → List VersionedPacket → Type 0
+PacketsAtMost most [] = Unit {0}
+PacketsAtMost most (p ∷ ps) = (p.version ≤ most) × PacketsAtMost most ps
+
+-- records depend on what is in force at the versions that are used alone
+module _ (app : Meaning) (most : ℕ) (one two : ℕ → ControlState) (agree : (v : ℕ) → v ≤ most → one v ≡ two v) where
+  added-agrees : (p : VersionedPacket) (rs : List RecordSoFar) → p.version ≤ most → AreAtMost most rs → added app one p rs ≡ added app two p rs
+  unfolding added
+  added-agrees p [] low all = ap (λ c. record { first = p.arrival; version = p.version; history = first_history app c p.arrival } ∷ []) (agree p.version low)
+  added-agrees p (r ∷ rs) low all =
+      let rest = added-agrees p rs low all.1 in
+      let same : continued_by app one p.arrival r ≡ continued_by app two p.arrival r =
+      ap (λ c. record { first = r.first; version = r.version; history = history_after app c r.first.sight p.arrival r.history }) (agree r.version all.0) in
+      elim (belongs_to p.arrival.sight r) as (λ b. (if b then continued_by app one p.arrival r ∷ rs else r ∷ added app one p rs) ≡ (if b then continued_by app two p.arrival r ∷ rs else r ∷ added app two p rs)) [
+        | true ↦ ap (λ x. x ∷ rs) same
+        | false ↦ ap (λ l. r ∷ l) rest
+      ]
+
+  added-at_most : (p : VersionedPacket) (rs : List RecordSoFar) → p.version ≤ most → AreAtMost most rs → AreAtMost most (added app one p rs)
+  unfolding added
+  added-at_most p [] low all = (low, tt)
+  added-at_most p (r ∷ rs) low all =
+      elim (belongs_to p.arrival.sight r) as (λ b. AreAtMost most (if b then continued_by app one p.arrival r ∷ rs else r ∷ added app one p rs)) [
+        | true ↦ (all.0, all.1)
+        | false ↦ (all.0, added-at_most p rs low all.1)
+      ]
+
+  records-agree : (ps : List VersionedPacket) (rs : List RecordSoFar) → PacketsAtMost most ps → AreAtMost most rs → records_from app one rs ps ≡ records_from app two rs ps
+  unfolding records_from
+  records-agree [] rs low all = refl
+  records-agree (p ∷ ps) rs low all =
+      records-agree ps (added app one p rs) low.1 (added-at_most p rs low.0 all) ∙ ap (λ l. records_from app two l ps) (added-agrees p rs low.0 all)
+
+packets_at_most : (v : ℕ) (es : List LaneEvent) → PacketsAtMost (v + length (commands_of es)) (versioned_from v es)
+packets_at_most v [] = tt
+packets_at_most v (Gave d ∷ es) =
+    let count : (v + 1) + length (commands_of es) ≡ v + length (d ∷ commands_of es) = omega arith in
+    subst (λ n. PacketsAtMost n (versioned_from (v + 1) es)) count (packets_at_most (v + 1) es)
+packets_at_most v (Arrived b ∷ es) = (omega arith, packets_at_most v es)
+
+take-front : {T : Type 0} (xs : List T) (x : T) (n : ℕ) → n ≤ length xs → take n (xs ++ x ∷ []) ≡ take n xs
+take-front xs x zero within = refl
+take-front [] x (suc n) within = absurd (omega arith)
+take-front (y ∷ xs) x (suc n) within = let below : n ≤ length xs = omega arith in ap (λ l. y ∷ l) (take-front xs x n below)
+
+-- ---- a run
+
+pub packet_is_added : (app : Meaning) (es : List LaneEvent) (a : Arrival)
+    → lane_run app (with_event (Arrived a) es) ≡ added app (control_of app es) (record { version = length (commands_of es); arrival = a }) (lane_run app es)
+unfolding lane_run
+packet_is_added app es a =
+    ap (λ cs. records_from app (master app.presets cs) [] (versioned_from 0 (es ++ Arrived a ∷ []))) (commands-arrived es a)
+    ∙ ap (records_from app (control_of app es) []) (versioned-arrived 0 es a ∙ ap (λ n. versioned_from 0 es ++ record { version = n; arrival = a } ∷ []) (let none_more : 0 + length (commands_of es) ≡ length (commands_of es) = omega arith in none_more))
+    ∙ records-last app (control_of app es) [] (versioned_from 0 es) (record { version = length (commands_of es); arrival = a })
+
+pub command_changes_none : (app : Meaning) (es : List LaneEvent) (c : Command) → lane_run app (with_event (Gave c) es) ≡ lane_run app es
+unfolding lane_run
+command_changes_none app es c =
+    let cs = commands_of es in
+    ap (λ ds. records_from app (master app.presets ds) [] (versioned_from 0 (es ++ Gave c ∷ []))) (commands-gave es c)
+    ∙ ap (records_from app (master app.presets (cs ++ c ∷ [])) []) (versioned-gave 0 es c)
+    ∙ records-agree app (length cs) (master app.presets (cs ++ c ∷ [])) (master app.presets cs)
+    (λ v low. ap (control app.presets) (take-front cs c v low)) (versioned_from 0 es) [] (subst (λ n. PacketsAtMost n (versioned_from 0 es)) (let none_more : 0 + length cs ≡ length cs = omega arith in none_more) (packets_at_most 0 es)) tt
+
+pub heavy_stays : (app : Meaning) (es : List LaneEvent) (event : LaneEvent) → IsHeavy app es → IsHeavy app (with_event event es)
+heavy_stays app es (Gave c) heavy = subst (λ rs. 134217728 < weight rs) (sym (command_changes_none app es c)) heavy
+heavy_stays app es (Arrived a) heavy =
+    let more = weight_never_falls app (control_of app es) (record { version = length (commands_of es); arrival = a }) (lane_run app es) in
+    subst (λ rs. 134217728 < weight rs) (sym (packet_is_added app es a)) (omega (arith, heavy, more))

@@ -1,0 +1,115 @@
+-- One more packet never makes records weigh less: callbacks are added, and none is taken back.
+use Rattle.std.proofs.Common.{◌≡◌, ℕ, ◌+◌, ◌≤◌, Bool, true, false, Option, Some, None, List, [], ◌∷◌, ◌++◌, refl, sym, ap, subst, ◌∙◌, arith, append_assoc, append-nil}
+use Rattle.std.specs.Prelude.{if◌then◌else◌}
+use Rattle.tcp_emulation.specs.declared.segment.Side.{Side}
+use Rattle.packet_views.specs.declared.packet.Head.{Head}
+use Rattle.app_api.specs.App.{Meaning}
+use Rattle.app_api.specs.declared.changes.Change1.{Change1}
+use Rattle.app_api.specs.declared.entry.Entry.{Entry}
+use Rattle.app_api.specs.declared.reaction.Reason.{Reason}
+use Rattle.app_api.specs.declared.registration.Reg.{Reg}
+use Rattle.app_api.specs.Reg.{reg_of}
+use Rattle.builtin_events.specs.declared.raise.Raise.{Raise}
+use Rattle.builtin_events.specs.Raises.{sender_raises, receiver_raises}
+use Rattle.event_trees.specs.Fires.{fires}
+use Rattle.event_trees.specs.Private.{edited}
+use Rattle.flow_socket.specs.Emulation.{Emulation}
+use Rattle.forest_versions.specs.State.{ControlState}
+use Rattle.connection_core.specs.Course.{Course, bytes_seen, is_on, is_so, altered_to, switched, changed, changed_all, settled, called, called_all, called_at, raised, phase}
+use Rattle.connection_core.specs.History.{History, begin, go_on, sender_phase, receiver_phase, received_unless, followed, weight_of}
+use Rattle.lane_core.specs.Sight.{Sight, Tcp, Other, Arrival}
+use Rattle.lane_core.specs.Records.{VersionedPacket, RecordSoFar, belongs_to, side_in, history_after, continued_by, added}
+use Rattle.lane_core.specs.Shown.{total, weight}
+
+weight_of-append : (es fs : List Entry) → weight_of (es ++ fs) ≡ weight_of es + weight_of fs
+weight_of-append [] fs = omega arith
+weight_of-append (e ∷ es) fs = let rest = weight_of-append es fs in omega (arith, rest)
+
+-- ---- entries are added at the end
+
+abbrev Extends : List Entry → List Entry → Type 0
+Extends es fs = (more : List Entry) × (fs ≡ es ++ more)
+
+same : (es : List Entry) → Extends es es
+same es = ([], sym (append-nil es))
+
+following : (es fs gs : List Entry) → Extends es fs → Extends fs gs → Extends es gs
+following es fs gs one two = (one.0 ++ two.0, two.1 ∙ ap (λ l. l ++ two.0) one.1 ∙ append_assoc es one.0 two.0)
+
+heavier : (es fs : List Entry) → Extends es fs → weight_of es ≤ weight_of fs
+heavier es fs more =
+    let sum = ap weight_of more.1 ∙ weight_of-append es more.0 in omega (arith, sum)
+
+module _ (app : Meaning) (control : ControlState) (number : ℕ) (from : Side) where
+  called_more : (raise : Raise) (c : Course) (r : Reg) → Extends c.entries (called app control number from raise c r).entries
+  unfolding called
+  called_more raise c r = (_, refl)
+
+  all_more : (raise : Raise) (rs : List Reg) (c : Course) → Extends c.entries (called_all app control number from raise c rs).entries
+  all_more raise [] c = same c.entries
+  all_more raise (r ∷ rs) c =
+      let d = called app control number from raise c r in
+      following c.entries d.entries (called_all app control number from raise d rs).entries (called_more raise c r) (all_more raise rs d)
+
+  raised_more : (raises : List Raise) (c : Course) → Extends c.entries (raised app control number from raises c).entries
+  unfolding raised called_at
+  raised_more [] c = same c.entries
+  raised_more (raise ∷ raises) c =
+      let d = called_at app control number from raise c in
+      following c.entries d.entries (raised app control number from raises d).entries
+      (all_more raise (fires control.defs raise.facts raise.hook raise.event c.active) c) (raised_more raises d)
+
+  switched_same : (o : Option Reg) (on : Bool) (c : Course) → (switched control o on c).entries ≡ c.entries
+  switched_same None on c = refl
+  switched_same (Some r) on c = elim (is_so (is_on r.number c.active) on) as (λ b. (if b then c else altered_to (edited control.defs c.active r on) c).entries ≡ c.entries) [ true ↦ refl | false ↦ refl ]
+
+  changed_same : (changes : List Change1) (c : Course) → (changed_all control changes c).entries ≡ c.entries
+  unfolding changed
+  changed_same [] c = refl
+  changed_same (change ∷ changes) c =
+      changed_same changes (changed control change c) ∙ switched_same (reg_of control.regs change.reg) change.on c
+
+  phase_more : (raises : List Raise) (c : Course) → Extends c.entries (phase app control number from raises c).entries
+  unfolding phase settled
+  phase_more raises c =
+      let d = raised app control number from raises c in
+      subst (Extends c.entries) (sym (changed_same d.asked d)) (raised_more raises c)
+
+  unless_more : (o : Option Reason) (s r : Course) (h : History) → Extends h.entries s.entries → Extends s.entries r.entries → Extends h.entries (received_unless o number s r h).entries
+  unless_more None s r h one two = following h.entries s.entries r.entries one two
+  unless_more (Some reason) s r h one two = one
+
+  followed_more : (head : Head) (payload : List ℕ) (h : History) → Extends h.entries (followed app control number from head payload h).entries
+  unfolding followed sender_phase receiver_phase
+  followed_more head payload h =
+      let s = sender_phase app control number from head h in
+      unless_more s.drop s (receiver_phase app control number from head payload h.count s) h (phase_more _ _) (phase_more _ _)
+
+-- one more packet, by what is seen of it
+abbrev after_packet : Meaning → ControlState → Sight → Arrival → Sight → History → History
+after_packet app control opener a sight h = elim sight [
+  | Tcp segment ↦ followed app control a.number (side_in opener segment) segment.head segment.payload h
+  | Other class ↦ h
+]
+
+after_heavier : (app : Meaning) (control : ControlState) (opener : Sight) (a : Arrival) (sight : Sight) (h : History)
+    → weight_of h.entries ≤ weight_of (after_packet app control opener a sight h).entries
+after_heavier app control opener a (Tcp segment) h = heavier _ _ (followed_more app control a.number (side_in opener segment) segment.head segment.payload h)
+after_heavier app control opener a (Other class) h = omega arith
+
+added_here : (b : Bool) (past next : RecordSoFar) (pasts after : List RecordSoFar) → weight_of past.history.entries ≤ weight_of next.history.entries → weight pasts ≤ weight after
+    → weight (past ∷ pasts) ≤ weight (if b then next ∷ pasts else past ∷ after)
+unfolding total
+added_here true past next pasts after here later = omega (arith, here)
+added_here false past next pasts after here later = omega (arith, later)
+
+none_weighs_least : (pasts : List RecordSoFar) → weight [] ≤ weight pasts
+unfolding total
+none_weighs_least pasts = omega arith
+
+pub weight_never_falls : (app : Meaning) (control_at : ℕ → ControlState) (p : VersionedPacket) (pasts : List RecordSoFar) → weight pasts ≤ weight (added app control_at p pasts)
+unfolding added history_after
+weight_never_falls app control_at p [] = none_weighs_least (added app control_at p [])
+weight_never_falls app control_at p (past ∷ pasts) =
+    added_here (belongs_to p.arrival.sight past) past (continued_by app control_at p.arrival past) pasts (added app control_at p pasts)
+    (after_heavier app (control_at past.version) past.first.sight p.arrival p.arrival.sight past.history) (weight_never_falls app control_at p pasts)

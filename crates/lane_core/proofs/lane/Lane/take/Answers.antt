@@ -1,0 +1,33 @@
+use Rattle.std.proofs.Common.{◌≡◌, sym, subst}
+use Rattle.lane_core.specs.declared.kept.Kept.{Kept}
+use Rattle.lane_core.specs.declared.world.World.{World}
+use Rattle.connection_core.specs.InForce.{told_at}
+use Rattle.lane_core.specs.Kept.{Keeps, Adds, AddsTo}
+use Rattle.lane_core.specs.Records.{VersionedPacket, added}
+use Rattle.lane_core.specs.Sight.{arrival_of}
+use Rattle.lane_core.proofs.lane.Lane.take.Goals as goal
+
+pub returns-clause-stands : goal.returns-clause-stands
+returns-clause-stands g c = λ control_at so_far tells now stands.
+    let self = c.args.self.now in
+    let ready = c.prepare.new.self in
+    let met = c.arrive.new.self in
+    let new = c.count.new.self in
+    let content = g.F.ForestView.content in
+    let interns = g.F.ForestView.interns in
+    let verdict = c.in_ok-verdict.verdict in
+    let m = self.world.master in
+    let app = g.A.App.meaning self.world.app in
+    let arrival = arrival_of c.args.number c.args.frame.now in
+    let packet : VersionedPacket = record { version = m.version; arrival = arrival } in
+    let one = subst (λ (w : World _). AddsTo (g.A.App.meaning w.app) w.keep w.master (record { version = w.master.version; arrival = arrival })
+    (content ready.forests) (interns ready.forests) ready.kept (content met.forests) (interns met.forests) met.kept verdict) c.prepare.ensures.world c.in_ok-verdict.ensures.stands in
+    let two = subst (λ f. AddsTo app self.world.keep m packet (content f) (interns f) ready.kept (content met.forests) (interns met.forests) met.kept verdict) c.prepare.ensures.forests one in
+    let adds = two control_at so_far tells now (c.prepare.ensures.stands so_far stands) in
+    subst (λ f. Adds app control_at packet so_far self.world.keep (told_at m) (content f) new.kept (interns f) (interns self.forests) verdict) (sym c.count.ensures.forests)
+    (record {
+      stands = subst (λ (k : Kept). Keeps self.world.keep (told_at m) (content met.forests) k (added app control_at packet so_far)) (sym c.count.ensures.kept) adds.stands;
+      interned = adds.interned;
+      verdict_is = adds.verdict_is;
+      dropped = adds.dropped;
+    })

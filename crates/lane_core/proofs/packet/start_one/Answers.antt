@@ -1,0 +1,48 @@
+use Rattle.std.proofs.Common.{◌≡◌, [], refl, sym, ap, subst, ◌∙◌}
+use Rattle.forest_versions.specs.Master.{Tells}
+use Rattle.forest_versions.specs.State.{ControlState, active}
+use Rattle.shared_forest.specs.Listing.{listing}
+use Rattle.shared_forest.specs.Lists.{TreeLists}
+use Rattle.report_text.specs.declared.record.RecordKind.TheVariants.{Conn}
+use Rattle.event_trees.specs.Edit.{IsForestOf}
+use Rattle.connection_core.specs.InForce.{told_at}
+use Rattle.connection_core.specs.Trees.{active_in}
+use Rattle.lane_core.specs.declared.connection.Connection.{Connection}
+use Rattle.lane_core.specs.declared.slot.Slot.{Slot}
+use Rattle.lane_core.specs.Seen.{seen}
+use Rattle.lane_core.specs.Steps.{IsStep}
+use Rattle.lane_core.proofs.packet.start_one.Goals as goal
+
+pub returns-clause-stands : goal.returns-clause-stands
+returns-clause-stands g c =
+    let m = c.args.world.now.master in
+    let app = g.A.App.meaning c.args.world.now.app in
+    let segment = seen c.args.segment.now in
+    let version = c.version-version.ensures.version in
+    let store = c.again.new.self in
+    let content = g.F.ForestView.content store in
+    let tree = content c.in_ok-forest.forest in
+    let same : c.tree_of.result.now ≡ g.F.ForestView.content c.args.forests.now m.forest =
+    c.tree_of.ensures ∙ c.in_ok-forest.ensures.content ∙ ap (g.F.ForestView.content c.args.forests.now) c.forest.ensures in
+    let tells : Tells m c.version-version.result m.now = subst (λ v. Tells m v m.now) (sym version) c.tells_the_present.ensures in
+    let shown : IsForestOf m.now.defs (active m.now) (listing c.tree_of.result.now) = subst (λ t. IsForestOf m.now.defs (active m.now) (listing t)) (sym same) c.requires.tree in
+    let first : active_in (told_at m c.version-version.result) tree ≡ active m.now =
+    subst (λ (t : TreeLists). active_in (told_at m c.version-version.result) t ≡ active m.now) c.tree_of.ensures (c.first_tree_names_the_first_list.ensures.list m.now tells shown) in
+    let conn : Connection = record { place = c.args.place; client = segment.sender; version = c.version-version.result; flow = c.new.result } in
+    record {
+      conn = conn;
+      slot = c.new-slot.result;
+      tree = tree;
+      slot_is = c.new-slot.ensures
+          ∙ ap (λ t. record { name = c.args.number; kind = Conn segment.sender segment.receiver; version = c.version-version.result; notes = record { tally = t; entries = [] }; drops = [] }) c.fresh.ensures
+          ∙ ap (λ v. record { name = c.args.number; kind = Conn segment.sender segment.receiver; version = v; notes = record { tally = app.fresh; entries = [] }; drops = [] }) version;
+      client = refl;
+      version = version;
+      place_is = refl;
+      new = c.new.ensures.opened m.now tree tells first app;
+      step_is = λ control told.
+          subst (λ n. IsStep app c.args.world.now.keep (told_at m conn.version) control tree (g.F.ForestView.content c.step_one.new.forests c.step_one.new.conn.flow.forest) n (g.F.ForestView.interns c.step_one.new.forests)
+          conn c.step_one.new.conn c.new-slot.result c.step_one.new.slot c.args.ledger.now.counts c.step_one.new.ledger.counts c.args.number segment c.in_ok-step.step) c.again.ensures.uncounted
+          (subst (λ s. IsStep app c.args.world.now.keep (told_at m conn.version) control (content s) (g.F.ForestView.content c.step_one.new.forests c.step_one.new.conn.flow.forest) (g.F.ForestView.interns store) (g.F.ForestView.interns c.step_one.new.forests)
+          conn c.step_one.new.conn c.new-slot.result c.step_one.new.slot c.args.ledger.now.counts c.step_one.new.ledger.counts c.args.number segment c.in_ok-step.step) c.new.ensures.forest (c.in_ok-step.ensures.stands control told));
+    }

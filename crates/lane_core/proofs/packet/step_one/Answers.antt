@@ -1,0 +1,40 @@
+use Rattle.std.proofs.Common.{◌≡◌, ◌++◌, refl, sym, ap, subst, ◌∙◌}
+use Rattle.connection_core.specs.History.{followed, verdict, drops_of, is_over}
+use Rattle.connection_core.specs.InForce.{told_at}
+use Rattle.connection_core.specs.Standing.{IsConnection}
+use Rattle.connection_core.specs.Trees.{InternsWithin}
+use Rattle.lane_core.specs.Records.{side_of}
+use Rattle.lane_core.specs.Seen.{seen}
+use Rattle.lane_core.proofs.Noting.{noted, notes_after}
+use Rattle.lane_core.proofs.packet.step_one.Goals as goal
+
+pub returns-clause-stands : goal.returns-clause-stands
+returns-clause-stands g c = λ control tells.
+    let e = c.in_ok-step.ensures in
+    let conn = c.args.conn.now in
+    let slot = c.args.slot.now in
+    let segment = seen c.args.segment.now in
+    let at = told_at c.args.world.now.master conn.version in
+    let app = g.A.App.meaning c.args.world.now.app in
+    let number = c.args.number in
+    let from = c.side_of.ensures in
+    let is = c.in_ok-note.ensures.noted in
+    let notes = notes_after slot c.note.new.self c.step.new.notes (drops_of c.in_ok-step.step.verdict number) is in
+    record {
+      place = refl;
+      client = refl;
+      version = refl;
+      noted = noted slot c.note.new.self c.step.new.notes c.in_ok-step.step number is;
+      stands = λ others h connected. record {
+        stands = subst (λ n. IsConnection c.args.world.now.keep others at (g.F.ForestView.content c.step.new.forests c.step.new.self.forest) c.step.new.self n c.step.new.ledger.counts
+            (followed app control number (side_of conn.client segment) segment.head segment.payload h)) (sym notes)
+            (subst (λ side. IsConnection c.args.world.now.keep others at (g.F.ForestView.content c.step.new.forests c.step.new.self.forest) c.step.new.self c.step.new.notes c.step.new.ledger.counts
+            (followed app control number side segment.head segment.payload h)) from (e.stands control others h tells connected));
+        interned = subst (λ side. InternsWithin (g.F.ForestView.interns c.args.forests.now) (g.F.ForestView.interns c.step.new.forests) h.altered
+            (followed app control number side segment.head segment.payload h).altered) from (e.interned control others h tells connected);
+        over = subst (λ side. c.in_ok-step.step.over ≡ is_over (followed app control number side segment.head segment.payload h)) from (e.over control others h tells connected);
+        verdict_is = subst (λ side. c.in_ok-step.step.verdict ≡ verdict app control number side segment.head h) from (e.verdict control others h tells connected);
+        drops = subst (λ side. (followed app control number side segment.head segment.payload h).drops ≡ h.drops ++ drops_of c.in_ok-step.step.verdict number) from
+            (e.drops control others h tells connected);
+      };
+    }

@@ -1,0 +1,300 @@
+//! What a packet or a command does to a lane that hasn't failed.
+
+ghost use Rattle.std.specs.Prelude.{◌≡◌, ◌+◌, ◌*◌, ◌<◌, ◌≤◌, ◌&&◌, nat_lt, ℕ, List, [], ◌∷◌, ◌++◌, length, OnOk, IfOk, IsTrue, None, true};
+ghost use Rattle.std.specs.Option.{option_copied};
+ghost use Rattle.flow_table.specs.Table.{found};
+ghost use Rattle.app_api.specs.declared.registration.Reg.{Reg as RegOf};
+ghost use Rattle.shared_forest.specs.Store.{CountsAtMost};
+ghost use Rattle.forest_versions.specs.Lawful.{is_lawful};
+ghost use Rattle.forest_versions.specs.Master.{StandsFor};
+ghost use Rattle.forest_versions.specs.State.{after};
+ghost use Rattle.forest_versions.specs.declared.command.Command.{Command as CommandOf};
+ghost use Rattle.connection_core.specs.History.{drops_of};
+ghost use Rattle.connection_core.specs.InForce.{told_at};
+ghost use Rattle.lane_core.specs.Sight.{Tcp, Other, Moment, arrival_of, key_of_segment};
+ghost use Rattle.lane_core.specs.Seen.{seen};
+ghost use Rattle.lane_core.specs.Records.{RecordSoFar, opens};
+ghost use Rattle.lane_core.specs.Kept.{Keeps, AddsTo, AddsStray, arrived};
+
+use crate::command::give_to;
+use crate::flows::{follow, keep};
+use crate::lane::Lane;
+use crate::limits::WEIGHT;
+use crate::packet::{Opened, lone_at, start_one};
+use crate::segment::Segment;
+use crate::sides::is_opening;
+use crate::slot::Slot;
+use app_api::{App, Verdict};
+use builtin_events::raised_by_orphan;
+use flow_table::{FlowTable, Key, seed_of};
+use forest_versions::Command;
+use native_filters::NativeBook;
+use packet_views::{Class, Head, View, view_of};
+use pcap_source::Frame;
+use report_text::RecordKind;
+use shared_forest::Forests;
+use std::alloc::{AllocError, Global};
+
+impl<A: App + Drop, F: Forests + Drop> Lane<A, F> {
+    // A segment that opens a connection.
+    fn begin(
+        &mut self,
+        alloc: Global,
+        natives: &NativeBook,
+        key: Key,
+        number: u64,
+        segment: &Segment<'_>,
+    ) -> Result<Verdict, AllocError>
+        requires key { key ≡ key_of_segment (seen segment.now) }
+        requires absent { found self.old.kept.flows key ≡ None }
+        requires opens { opens (Tcp (seen segment.now)) ≡ true }
+        requires next { 0 < self.old.next }
+        requires callbacks { self.old.kept.ledger.counts.callbacks + 3060 ≤ 3060 * self.old.next }
+        requires weight { self.old.kept.ledger.counts.weight + 881280 ≤ 881280 * self.old.next }
+        ensures stands { IfOk result (λ verdict. (moment : Moment)
+            → AddsTo (A.meaning self.old.world.app) self.old.world.keep self.old.world.master (arrived self.old.world.master.version number moment (Tcp (seen segment.now)))
+            (F.content self.old.forests) (F.interns self.old.forests) self.old.kept (F.content self.new.forests) (F.interns self.new.forests) self.new.kept verdict) }
+        ensures world { self.new.world ≡ self.old.world }
+        ensures next { self.new.next ≡ self.old.next }
+        ensures failed { self.new.failed ≡ self.old.failed }
+        ensures dropped { self.new.kept.dropped ≡ self.old.kept.dropped }
+    {
+        let opened = start_one(
+            alloc,
+            &self.world,
+            natives,
+            &mut self.forests,
+            &mut self.kept.ledger,
+            self.kept.slots.len(),
+            number,
+            segment,
+        )?;
+        let Opened { conn, slot, step } = opened;
+        self.kept.slots.push(slot)?;
+        keep(&mut self.kept.flows, key, conn, step.over)?;
+        Ok(step.verdict)
+    }
+
+    // A packet of no connection; of class tcp it has a head.
+    fn stray(
+        &mut self,
+        alloc: Global,
+        natives: &NativeBook,
+        number: u64,
+        class: Class,
+        head: Option<&Head>,
+    ) -> Result<Verdict, AllocError>
+        requires callbacks { self.old.kept.ledger.counts.callbacks + 3060 ≤ 3060 * self.old.next }
+        requires weight { self.old.kept.ledger.counts.weight + 881280 ≤ 881280 * self.old.next }
+        ensures stands { IfOk result (λ verdict. AddsStray (A.meaning self.old.world.app) self.old.world.keep self.old.world.master number class (option_copied head.entry)
+            (F.content self.old.forests) (F.interns self.old.forests) self.old.kept (F.content self.new.forests) (F.interns self.new.forests) self.new.kept verdict) }
+        ensures world { self.new.world ≡ self.old.world }
+        ensures next { self.new.next ≡ self.old.next }
+        ensures failed { self.new.failed ≡ self.old.failed }
+        ensures dropped { self.new.kept.dropped ≡ self.old.kept.dropped }
+    {
+        let version = self.world.master.version();
+        let kind = RecordKind::Orphan { class };
+        let mut slot = Slot::new(alloc, number, kind, version, self.world.app.fresh());
+        let verdict = lone_at(
+            alloc,
+            &self.world,
+            natives,
+            &self.forests,
+            number,
+            raised_by_orphan(class, head),
+            &mut slot,
+            &mut self.kept.ledger,
+        )?;
+        self.kept.slots.push(slot)?;
+        Ok(verdict)
+    }
+
+    // A packet that is a segment.
+    fn segment(
+        &mut self,
+        alloc: Global,
+        natives: &NativeBook,
+        number: u64,
+        segment: &Segment<'_>,
+    ) -> Result<Verdict, AllocError>
+        requires rising { self.old.next ≤ number }
+        requires bound { number < 1048576 }
+        ensures stands { IfOk result (λ verdict. (moment : Moment)
+            → AddsTo (A.meaning self.old.world.app) self.old.world.keep self.old.world.master (arrived self.old.world.master.version number moment (Tcp (seen segment.now)))
+            (F.content self.old.forests) (F.interns self.old.forests) self.old.kept (F.content self.new.forests) (F.interns self.new.forests) self.new.kept verdict) }
+        ensures world { self.new.world ≡ self.old.world }
+        ensures next { self.new.next ≡ number + 1 }
+        ensures failed { self.new.failed ≡ self.old.failed }
+        ensures dropped { self.new.kept.dropped ≡ self.old.kept.dropped }
+    {
+        self.next = number + 1;
+        let key = segment.key();
+        let followed = follow(
+            alloc,
+            &self.world,
+            natives,
+            &mut self.forests,
+            &mut self.kept.flows,
+            &mut self.kept.slots,
+            &mut self.kept.ledger,
+            &key,
+            number,
+            segment,
+        )?;
+        match followed {
+            Some(step) => Ok(step.verdict),
+            None => {
+                if is_opening(segment) {
+                    self.begin(alloc, natives, key, number, segment)
+                } else {
+                    self.stray(alloc, natives, number, Class::Tcp, Some(&segment.head))
+                }
+            }
+        }
+    }
+
+    // A packet that is no segment.
+    fn other(
+        &mut self,
+        alloc: Global,
+        natives: &NativeBook,
+        number: u64,
+        class: Class,
+    ) -> Result<Verdict, AllocError>
+        requires rising { self.old.next ≤ number }
+        requires bound { number < 1048576 }
+        ensures stands { IfOk result (λ verdict. (moment : Moment)
+            → AddsTo (A.meaning self.old.world.app) self.old.world.keep self.old.world.master (arrived self.old.world.master.version number moment (Other class))
+            (F.content self.old.forests) (F.interns self.old.forests) self.old.kept (F.content self.new.forests) (F.interns self.new.forests) self.new.kept verdict) }
+        ensures world { self.new.world ≡ self.old.world }
+        ensures next { self.new.next ≡ number + 1 }
+        ensures failed { self.new.failed ≡ self.old.failed }
+        ensures dropped { self.new.kept.dropped ≡ self.old.kept.dropped }
+    {
+        self.next = number + 1;
+        self.stray(alloc, natives, number, class, None)
+    }
+
+    // A table that begins its hashes with a seed of the first frame, in place of the one without a connection.
+    fn draw_seed(&mut self, alloc: Global, frame: &Frame)
+        requires none { self.old.kept.slots.items ≡ [] }
+        ensures stands { (so_far : List RecordSoFar) → Keeps self.old.world.keep (told_at self.old.world.master) (F.content self.old.forests) self.old.kept so_far
+            → Keeps self.old.world.keep (told_at self.old.world.master) (F.content self.old.forests) self.new.kept so_far }
+        ensures world { self.new.world ≡ self.old.world }
+        ensures forests { self.new.forests ≡ self.old.forests }
+        ensures next { self.new.next ≡ self.old.next }
+        ensures failed { self.new.failed ≡ self.old.failed }
+        ensures dropped { self.new.kept.dropped ≡ self.old.kept.dropped }
+    {
+        let seed = seed_of(frame.seconds, frame.fraction, frame.bytes.as_slice());
+        self.kept.flows = FlowTable::with_seed(alloc, seed);
+    }
+
+    // Draws the table's seed before the first record: who sends packets from afar doesn't know the first frame and its time,
+    // and so can't choose endpoints that collide.
+    fn prepare(&mut self, alloc: Global, frame: &Frame)
+        ensures stands { (so_far : List RecordSoFar) → Keeps self.old.world.keep (told_at self.old.world.master) (F.content self.old.forests) self.old.kept so_far
+            → Keeps self.old.world.keep (told_at self.old.world.master) (F.content self.old.forests) self.new.kept so_far }
+        ensures world { self.new.world ≡ self.old.world }
+        ensures forests { self.new.forests ≡ self.old.forests }
+        ensures next { self.new.next ≡ self.old.next }
+        ensures failed { self.new.failed ≡ self.old.failed }
+        ensures dropped { self.new.kept.dropped ≡ self.old.kept.dropped }
+    {
+        if self.kept.slots.is_empty() {
+            self.draw_seed(alloc, frame);
+        }
+    }
+
+    // The packet, in a table that is prepared for it.
+    fn arrive(
+        &mut self,
+        alloc: Global,
+        natives: &NativeBook,
+        number: u64,
+        frame: &Frame,
+    ) -> Result<Verdict, AllocError>
+        requires rising { self.old.next ≤ number }
+        requires bound { number < 1048576 }
+        ensures stands { IfOk result (λ verdict.
+            AddsTo (A.meaning self.old.world.app) self.old.world.keep self.old.world.master (record { version = self.old.world.master.version; arrival = arrival_of number frame.now })
+            (F.content self.old.forests) (F.interns self.old.forests) self.old.kept (F.content self.new.forests) (F.interns self.new.forests) self.new.kept verdict) }
+        ensures world { self.new.world ≡ self.old.world }
+        ensures next { self.new.next ≡ number + 1 }
+        ensures failed { self.new.failed ≡ self.old.failed }
+        ensures dropped { self.new.kept.dropped ≡ self.old.kept.dropped }
+    {
+        match view_of(frame.bytes.as_slice()) {
+            View::Tcp(view) => self.segment(alloc, natives, number, &Segment::of(&view)),
+            View::Other(class) => self.other(alloc, natives, number, class),
+        }
+    }
+
+    // Counts a dropped packet.
+    fn count(&mut self, verdict: Verdict)
+        requires room { self.old.kept.dropped < self.old.next }
+        ensures dropped { self.new.kept.dropped ≡ self.old.kept.dropped + length (drops_of verdict 0) }
+        ensures kept { self.new.kept ≡ record self.old.kept { dropped = self.new.kept.dropped } }
+        ensures world { self.new.world ≡ self.old.world }
+        ensures forests { self.new.forests ≡ self.old.forests }
+        ensures next { self.new.next ≡ self.old.next }
+        ensures failed { self.new.failed ≡ self.old.failed }
+    {
+        if let Verdict::Drop(_) = verdict {
+            self.kept.dropped += 1;
+        }
+    }
+
+    /// One more packet.
+    pub(crate) fn take(
+        &mut self,
+        alloc: Global,
+        natives: &NativeBook,
+        number: u64,
+        frame: &Frame,
+    ) -> Result<Verdict, AllocError>
+        requires rising { self.old.next ≤ number }
+        requires bound { number < 1048576 }
+        ensures stands { IfOk result (λ verdict.
+            AddsTo (A.meaning self.old.world.app) self.old.world.keep self.old.world.master (record { version = self.old.world.master.version; arrival = arrival_of number frame.now })
+            (F.content self.old.forests) (F.interns self.old.forests) self.old.kept (F.content self.new.forests) (F.interns self.new.forests) self.new.kept verdict) }
+        ensures dropped { IfOk result (λ verdict. self.new.kept.dropped ≡ self.old.kept.dropped + length (drops_of verdict 0)) }
+        ensures world { self.new.world ≡ self.old.world }
+        ensures next { self.new.next ≡ number + 1 }
+        ensures failed { self.new.failed ≡ self.old.failed }
+    {
+        self.prepare(alloc, frame);
+        let verdict = self.arrive(alloc, natives, number, frame)?;
+        self.count(verdict);
+        Ok(verdict)
+    }
+
+    /// Whether the entries that are kept weigh too much.
+    pub(crate) fn is_heavy(&self) -> bool
+        ensures { result ≡ (self.now.world.keep && nat_lt 134217728 self.now.kept.ledger.counts.weight) }
+    {
+        let weight = self.kept.ledger.counts.weight;
+        self.world.keep && weight > WEIGHT
+    }
+
+    /// One more command.
+    pub(crate) fn give(&mut self, alloc: Global, c: &Command) -> Result<(), AllocError>
+        requires lawful { IsTrue (is_lawful self.old.world.master.now c.now) }
+        requires below { self.old.world.master.version < 4096 }
+        ensures stands { (presets : List RegOf) (commands : List CommandOf) → StandsFor self.old.world.master presets commands
+            → OnOk result (StandsFor self.new.world.master presets (commands ++ c.now ∷ [])) }
+        ensures kept { (so_far : List RecordSoFar) → Keeps self.old.world.keep (told_at self.old.world.master) (F.content self.old.forests) self.old.kept so_far
+            → OnOk result (Keeps self.new.world.keep (told_at self.new.world.master) (F.content self.new.forests) self.new.kept so_far) }
+        ensures now { OnOk result (self.new.world.master.now ≡ after self.old.world.master.now c.now) }
+        ensures version { OnOk result (self.new.world.master.version ≡ self.old.world.master.version + 1) }
+        ensures app { self.new.world.app ≡ self.old.world.app }
+        ensures keep { self.new.world.keep ≡ self.old.world.keep }
+        ensures same { self.new.kept ≡ self.old.kept }
+        ensures interned { CountsAtMost (F.interns self.old.forests) (F.interns self.new.forests) }
+        ensures next { self.new.next ≡ self.old.next }
+        ensures failed { self.new.failed ≡ self.old.failed }
+    {
+        give_to(alloc, &mut self.world.master, &mut self.forests, c)
+    }
+}

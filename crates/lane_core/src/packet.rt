@@ -1,0 +1,175 @@
+//! What a packet does to one record: to that of an open connection, of one that it opens, or of its own.
+
+ghost use Rattle.std.specs.Prelude.{◌≡◌, ◌+◌, ◌<◌, ◌≤◌, ◌^◌, IfOk};
+ghost use Rattle.shared_forest.specs.Listing.{listing};
+ghost use Rattle.shared_forest.specs.Store.{Keeps};
+ghost use Rattle.event_trees.specs.Edit.{IsForestOf};
+ghost use Rattle.builtin_events.specs.Raised.{raises_of};
+ghost use Rattle.forest_versions.specs.Master.{Tells};
+ghost use Rattle.forest_versions.specs.State.{ControlState, active};
+ghost use Rattle.connection_core.specs.InForce.{told_at};
+ghost use Rattle.connection_core.specs.Standing.{RiseBy};
+ghost use Rattle.lane_core.specs.Seen.{seen};
+ghost use Rattle.lane_core.specs.Trees.{IsTree};
+ghost use Rattle.lane_core.specs.Steps.{IsStep, IsLone, Opens};
+
+use crate::connection::Connection;
+use crate::segment::Segment;
+use crate::sides::side_of;
+use crate::slot::Slot;
+use crate::world::World;
+use app_api::{App, Verdict};
+use builtin_events::Raised;
+use connection_core::laws::first_tree_names_the_first_list;
+use connection_core::{Arrived, Flow, InForce, Ledger, Step, Terms, lone};
+use native_filters::NativeBook;
+use report_text::RecordKind;
+use shared_forest::Forests;
+use std::alloc::{AllocError, Global};
+
+/// A connection that a segment opened, after this segment.
+#[derive(Drop)]
+pub(crate) struct Opened {
+    pub(crate) conn: Connection,
+    pub(crate) slot: Slot,
+    pub(crate) step: Step,
+}
+
+/// Steps an open connection, and notes in its record what became of the packet.
+pub(crate) fn step_one<A: App, F: Forests>(
+    alloc: Global,
+    world: &World<A>,
+    natives: &NativeBook,
+    forests: &mut F,
+    conn: &mut Connection,
+    slot: &mut Slot,
+    ledger: &mut Ledger,
+    number: u64,
+    segment: &Segment<'_>,
+) -> Result<Step, AllocError>
+    requires count { conn.old.flow.count < 2 ^ 30 }
+    requires answered { F.answered forests.old conn.old.flow.forest }
+    requires tree { IsTree world.now.master conn.old.version (F.content forests.old conn.old.flow.forest) }
+    requires callbacks { ledger.old.counts.callbacks < 2 ^ 60 }
+    requires weight { ledger.old.counts.weight < 2 ^ 60 }
+    ensures place { conn.new.place ≡ conn.old.place }
+    ensures version { conn.new.version ≡ conn.old.version }
+    ensures count { conn.new.flow.count ≤ conn.old.flow.count + 1 }
+    ensures answered { F.answered forests.new conn.new.flow.forest }
+    ensures tree { IsTree world.now.master conn.new.version (F.content forests.new conn.new.flow.forest) }
+    ensures kept { Keeps F.answered F.content forests.old forests.new }
+    ensures rise { RiseBy 3060 ledger.old.counts ledger.new.counts }
+    ensures stands { IfOk result (λ step. (control : ControlState) → Tells world.now.master conn.old.version control
+        → IsStep (A.meaning world.now.app) world.now.keep (told_at world.now.master conn.old.version) control
+        (F.content forests.old conn.old.flow.forest) (F.content forests.new conn.new.flow.forest) (F.interns forests.old) (F.interns forests.new)
+        conn.old conn.new slot.old slot.new ledger.old.counts ledger.new.counts number (seen segment.now) step) }
+{
+    let terms = Terms {
+        app: &world.app,
+        in_force: InForce {
+            master: &world.master,
+            version: conn.version,
+        },
+        natives,
+        keep: world.keep,
+    };
+    let arrived = Arrived {
+        number,
+        from: side_of(&conn.client, segment),
+        head: &segment.head,
+        payload: segment.payload,
+    };
+    let step = conn
+        .flow
+        .step(alloc, &terms, forests, &arrived, &mut slot.notes, ledger)?;
+    slot.note(number, step.verdict)?;
+    Ok(step)
+}
+
+/// A connection that a segment opens: its record will stand at a place.
+pub(crate) fn start_one<A: App, F: Forests>(
+    alloc: Global,
+    world: &World<A>,
+    natives: &NativeBook,
+    forests: &mut F,
+    ledger: &mut Ledger,
+    place: usize,
+    number: u64,
+    segment: &Segment<'_>,
+) -> Result<Opened, AllocError>
+    requires answered { F.answered forests.old world.now.master.forest }
+    requires tree { IsForestOf world.now.master.now.defs (active world.now.master.now) (listing (F.content forests.old world.now.master.forest)) }
+    requires callbacks { ledger.old.counts.callbacks < 2 ^ 60 }
+    requires weight { ledger.old.counts.weight < 2 ^ 60 }
+    ensures kept { Keeps F.answered F.content forests.old forests.new }
+    ensures rise { RiseBy 3060 ledger.old.counts ledger.new.counts }
+    ensures place { IfOk result (λ opened. opened.conn.place ≡ place) }
+    ensures version { IfOk result (λ opened. opened.conn.version ≡ world.now.master.version) }
+    ensures count { IfOk result (λ opened. opened.conn.flow.count ≤ 1) }
+    ensures answered { IfOk result (λ opened. F.answered forests.new opened.conn.flow.forest) }
+    ensures tree { IfOk result (λ opened. IsTree world.now.master opened.conn.version (F.content forests.new opened.conn.flow.forest)) }
+    ensures stands { IfOk result (λ opened. Opens (A.meaning world.now.app) world.now.keep world.now.master (F.content forests.new) (F.interns forests.old) (F.interns forests.new)
+        ledger.old.counts ledger.new.counts place number (seen segment.now) opened.conn opened.slot opened.step) }
+{
+    let version = world.master.version();
+    let kind = RecordKind::Conn {
+        client: segment.sender,
+        server: segment.receiver,
+    };
+    let mut slot = Slot::new(alloc, number, kind, version, world.app.fresh());
+    let in_force = InForce {
+        master: &world.master,
+        version,
+    };
+    let forest = forests.again(alloc, world.master.forest())?;
+    first_tree_names_the_first_list(&in_force, forests.tree_of(&forest));
+    world.master.tells_the_present();
+    let mut conn = Connection {
+        place,
+        client: segment.sender,
+        version,
+        flow: Flow::new(alloc, &in_force, forest),
+    };
+    let step = step_one(
+        alloc, world, natives, forests, &mut conn, &mut slot, ledger, number, segment,
+    )?;
+    Ok(Opened { conn, slot, step })
+}
+
+/// The callbacks of a packet of no connection, noted in a record that has none before.
+pub(crate) fn lone_at<A: App, F: Forests>(
+    alloc: Global,
+    world: &World<A>,
+    natives: &NativeBook,
+    forests: &F,
+    number: u64,
+    raised: Raised,
+    slot: &mut Slot,
+    ledger: &mut Ledger,
+) -> Result<Verdict, AllocError>
+    requires answered { F.answered forests.now world.now.master.forest }
+    requires tree { IsForestOf world.now.master.now.defs (active world.now.master.now) (listing (F.content forests.now world.now.master.forest)) }
+    requires callbacks { ledger.old.counts.callbacks < 2 ^ 60 }
+    requires weight { ledger.old.counts.weight < 2 ^ 60 }
+    ensures rise { RiseBy 1530 ledger.old.counts ledger.new.counts }
+    ensures stands { IfOk result (λ verdict. IsLone (A.meaning world.now.app) world.now.keep world.now.master.now slot.old slot.new ledger.old.counts ledger.new.counts number (raises_of raised) verdict) }
+{
+    let terms = Terms {
+        app: &world.app,
+        in_force: InForce {
+            master: &world.master,
+            version: world.master.version(),
+        },
+        natives,
+        keep: world.keep,
+    };
+    let forest = world.master.forest();
+    first_tree_names_the_first_list(&terms.in_force, forests.tree_of(forest));
+    world.master.tells_the_present();
+    let notes = &mut slot.notes;
+    let verdict = lone(
+        alloc, &terms, forests, forest, number, raised, notes, ledger,
+    )?;
+    slot.note(number, verdict)?;
+    Ok(verdict)
+}

@@ -1,0 +1,126 @@
+//! What a lane promises.
+
+ghost use Rattle.std.specs.Prelude.{◌≡◌, ◌≢◌, ◌+◌, ◌<◌, ◌↔◌, OnOk, IfOk, IfErr, IsTrue, Err, Some, None, true};
+ghost use Rattle.forest_versions.specs.Lawful.{is_lawful};
+ghost use Rattle.forest_versions.specs.State.{after};
+ghost use Rattle.connection_core.specs.Trees.{InternsWithin};
+ghost use Rattle.shared_forest.specs.Store.{CountsAtMost};
+ghost use Rattle.lane_core.specs.Sight.{arrival_of};
+ghost use Rattle.lane_core.specs.Run.{Gave, Arrived, lane_run};
+ghost use Rattle.lane_core.specs.Shown.{alterations};
+ghost use Rattle.lane_core.specs.Lane.{IsEnd, IsHeavy, IsAfter, next_verdict, with_event};
+
+use crate::end::LaneEnd;
+use crate::errors::LaneError;
+use app_api::Verdict;
+use forest_versions::{Command, Control};
+use native_filters::NativeBook;
+use pcap_source::Frame;
+use std::alloc::Global;
+
+/// Keeps the records of packets, each under the control commands that stand before its first packet.
+///
+/// It stands for a list of packets and commands. Whatever list that is before a call, it is that list with one event more
+/// after it. The first error is for good: from then on the calls answer it and change nothing.
+pub trait Recorder {
+    ghost use Rattle.std.specs.Prelude.{ℕ, Bool, List, Option};
+    ghost use Rattle.app_api.specs.App.{Meaning};
+    ghost use Rattle.forest_versions.specs.State.{ControlState};
+    ghost use Rattle.lane_core.specs.declared.errors.LaneError.{LaneError as Error};
+    ghost use Rattle.lane_core.specs.Run.{LaneEvent};
+
+    /// The packets and commands that it stands for.
+    ghost stands: { Self → List LaneEvent → Type 0 };
+
+    /// What its application answers.
+    ghost app: { Self → Meaning };
+
+    /// Whether it keeps entries.
+    ghost keeps: { Self → Bool };
+
+    /// What is in force now, for a record that begins.
+    ghost control: { Self → ControlState };
+
+    /// The commands so far.
+    ghost given: { Self → ℕ };
+
+    /// The number of its last packet.
+    ghost last: { Self → Option ℕ };
+
+    /// Why it failed.
+    ghost failed: { Self → Option Error };
+
+    /// How often its store interned so far, where the store tells it.
+    ghost interns: { Self → Option ℕ };
+
+    /// One more command, which may be given now. Records that begin later live under it.
+    ///
+    /// An error is want of memory, or that for which the lane failed before.
+    fn command(&mut self, alloc: Global, c: &Command) -> Result<(), LaneError>
+        requires lawful { IsTrue (is_lawful (Self.control self.old) c.now) }
+        requires few { Self.given self.old < 4096 }
+        ensures stands { Self.failed self.old ≡ None → (events : List LaneEvent) → Self.stands self.old events → Self.stands self.new (with_event (Gave c.now) events) }
+        ensures failed_before { (e : Error) → Self.failed self.old ≡ Some e → (result ≡ Err e) × (self.new ≡ self.old) }
+        ensures ok { OnOk result (Self.failed self.new ≡ None) }
+        ensures fails { IfErr result (λ e. Self.failed self.new ≡ Some e) }
+        ensures no_memory { Self.failed self.old ≡ None → IfErr result (λ e. e ≡ Error.NoMemory) }
+        ensures control { OnOk result (Self.control self.new ≡ after (Self.control self.old) c.now) }
+        ensures version { OnOk result (Self.given self.new ≡ Self.given self.old + 1) }
+        ensures newest { Self.last self.new ≡ Self.last self.old }
+        ensures app { Self.app self.new ≡ Self.app self.old }
+        ensures keeps { Self.keeps self.new ≡ Self.keeps self.old }
+        ensures interned { CountsAtMost (Self.interns self.old) (Self.interns self.new) };
+
+    /// One more packet, of a number above all before. Answers what becomes of it.
+    ///
+    /// An error is want of memory; that the lane keeps entries and its callbacks weigh more than 134,217,728 with this
+    /// packet; or that for which the lane failed before.
+    fn packet(
+        &mut self,
+        alloc: Global,
+        number: u64,
+        frame: &Frame,
+        natives: &NativeBook,
+    ) -> Result<Verdict, LaneError>
+        requires rising { IsAfter (Self.last self.old) number }
+        requires bound { number < 1048576 }
+        ensures stands { Self.failed self.old ≡ None → (events : List LaneEvent) → Self.stands self.old events → Self.stands self.new (with_event (Arrived (arrival_of number frame.now)) events) }
+        ensures failed_before { (e : Error) → Self.failed self.old ≡ Some e → (result ≡ Err e) × (self.new ≡ self.old) }
+        ensures ok { OnOk result (Self.failed self.new ≡ None) }
+        ensures fails { IfErr result (λ e. Self.failed self.new ≡ Some e) }
+        ensures verdict { IfOk result (λ verdict. (events : List LaneEvent) → Self.stands self.old events → verdict ≡ next_verdict (Self.app self.old) events (arrival_of number frame.now)) }
+        ensures light { OnOk result (Self.keeps self.old ≡ true → (events : List LaneEvent) → Self.stands self.old events
+            → IsHeavy (Self.app self.old) (with_event (Arrived (arrival_of number frame.now)) events) → ⊥) }
+        ensures heavy { Self.failed self.old ≡ None → result ≡ Err Error.Heavy → (Self.keeps self.old ≡ true) × ((events : List LaneEvent) → Self.stands self.old events
+            → IsHeavy (Self.app self.old) (with_event (Arrived (arrival_of number frame.now)) events)) }
+        ensures interned { OnOk result ((events : List LaneEvent) → Self.stands self.old events → InternsWithin (Self.interns self.old) (Self.interns self.new)
+            (alterations (lane_run (Self.app self.old) events)) (alterations (lane_run (Self.app self.old) (with_event (Arrived (arrival_of number frame.now)) events)))) }
+        ensures newest { Self.failed self.old ≡ None → Self.last self.new ≡ Some number }
+        ensures version { Self.given self.new ≡ Self.given self.old }
+        ensures control { Self.control self.new ≡ Self.control self.old }
+        ensures app { Self.app self.new ≡ Self.app self.old }
+        ensures keeps { Self.keeps self.new ≡ Self.keeps self.old };
+
+    /// The commands so far.
+    fn version(&self) -> u32
+        ensures { result ≡ Self.given self.now };
+
+    /// The number of the last packet, that at which it failed included; `None` before the first.
+    fn newest(&self) -> Option<u64>
+        ensures { result ≡ Self.last self.now };
+
+    /// What is in force now, for a record that begins.
+    fn in_force(&self) -> &Control
+        ensures { result.now ≡ Self.control self.now };
+
+    /// Whether it failed.
+    fn has_failed(&self) -> bool
+        ensures { IsTrue result ↔ (Self.failed self.now ≢ None) };
+
+    /// The records, their versions, and what is counted over them. A lane that failed answers why.
+    fn finish(self, alloc: Global) -> Result<LaneEnd, LaneError>
+        ensures failed { (e : Error) → Self.failed self ≡ Some e → result ≡ Err e }
+        ensures ended { Self.failed self ≡ None → IfOk result (λ end. (events : List LaneEvent) → Self.stands self events
+            → IsEnd (Self.keeps self) (Self.app self) (lane_run (Self.app self) events) end.records end.versions end.callbacks end.drops) }
+        ensures no_memory { Self.failed self ≡ None → IfErr result (λ e. e ≡ Error.NoMemory) };
+}
