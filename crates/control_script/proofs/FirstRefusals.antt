@@ -3,8 +3,7 @@ use Rattle.std.proofs.Common.{◌≡◌, ℕ, zero, suc, ◌+◌, ◌<◌, ◌�
 use Rattle.std.specs.Prelude.{Result, Ok, Err}
 use Rattle.std.proofs.lemmas.Bool.{le-leb}
 use Rattle.app_api.specs.declared.registration.Reg.{Reg}
-use Rattle.forest_versions.specs.declared.command.Stamp.{Stamp}
-use Rattle.forest_versions.specs.declared.command.Stamp.TheVariants.{At, Live}
+use Rattle.forest_versions.specs.declared.command.Stamp.TheVariants.{At}
 use Rattle.control_script.specs.declared.error.ScriptError.{ScriptError}
 use Rattle.control_script.specs.declared.stamped.Stamped.{Stamped}
 use Rattle.control_script.specs.Laws.{number_behind, IsFirstRefused, SeesWhatItMust}

@@ -14,7 +14,7 @@ use Rattle.control_script.specs.declared.script.Row.{Row}
 use Rattle.control_script.specs.declared.stamped.Stamped.{Stamped}
 use Rattle.control_script.specs.Order.{commands_of, is_later, is_before, are_in_order}
 use Rattle.control_script.specs.Rows.{stamped_of, latest_with, forced_with, AreMarked, AreRows, last_latest, last_forced}
-use Rattle.control_script.specs.Versions.{is_forced, is_barred, behind_one, floor, ceil, is_live}
+use Rattle.control_script.specs.Versions.{is_forced, behind_one, floor, ceil, is_live}
 
 latest_with-least : (l : ℕ) (s : Stamp) → l ≤ latest_with l s
 latest_with-least l (At k) = omega arith

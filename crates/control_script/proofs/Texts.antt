@@ -1,11 +1,11 @@
 -- Words and lines, cut off at the front of a text as the code does.
-use Rattle.std.proofs.Common.{◌≡◌, ℕ, zero, suc, ◌+◌, ◌-◌, ◌<◌, ◌≤◌, Bool, true, false, cond, not, ◌&&◌, List, [], ◌∷◌, ◌++◌, length, length-drop, get_or, take, take_all, drop, refl, ap, sym, subst, ◌∙◌, arith}
+use Rattle.std.proofs.Common.{◌≡◌, ℕ, zero, suc, ◌+◌, ◌-◌, ◌<◌, ◌≤◌, Bool, true, false, cond, not, ◌&&◌, List, [], ◌∷◌, ◌++◌, length, length-drop, get_or, take, take_all, drop, refl, ap, sym, ◌∙◌, arith}
 use Rattle.std.proofs.lemmas.Bool.Decides.{nat_tests}
 use Rattle.std.proofs.lemmas.List.{drop_all}
 use Rattle.std.specs.Prelude.{◌==◌}
 use Rattle.std.specs.List.{prefix_len, list_all}
 use Rattle.control_script.specs.Reader.{behind}
-use Rattle.control_script.specs.Lines.{lines, with_byte, without_return, is_text}
+use Rattle.control_script.specs.Lines.{lines, without_return, is_text}
 use Rattle.control_script.specs.Numbers.{place_of}
 use Rattle.control_script.specs.Words.{Word, is_blank, is_in_word, words_behind, words}
 

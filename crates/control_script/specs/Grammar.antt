@@ -9,11 +9,10 @@
 --
 -- For each place and word, `next` says what stands next, or why the word can't stand there. The filter of an event is
 -- the text behind the event's word.
-use Rattle.std.specs.Prelude.{ℕ, ◌==◌, ◌^◌, ◌++◌, Bool, true, false, if◌then◌else◌, nat_lt, List, [], ◌∷◌, length, codes, Option, Some, None, Result, Ok, Err}
+use Rattle.std.specs.Prelude.{ℕ, ◌==◌, ◌++◌, Bool, true, false, if◌then◌else◌, nat_lt, List, [], ◌∷◌, length, codes, Option, Some, None, Result, Ok, Err}
 use Rattle.std.specs.Str.{bytes_eq}
 use Rattle.native_filters.specs.declared.facts.Hook.{Hook}
 use Rattle.native_filters.specs.declared.facts.Hook.TheVariants.{Snd, Rcv}
-use Rattle.reassembly.specs.declared.answers.Policy.{Policy}
 use Rattle.reassembly.specs.declared.answers.Policy.TheVariants.{First, Last}
 use Rattle.app_api.specs.declared.registration.PeekSpec.{PeekSpec}
 use Rattle.app_api.specs.declared.registration.PeekSpec.TheVariants.{Nothing, Next as NextBytes, At as BytesAt}

@@ -1,10 +1,9 @@
 -- What the definitions of scripts say in other words.
-use Rattle.std.specs.Prelude.{◌≡◌, ℕ, ◌+◌, ◌<◌, ◌≤◌, suc, min, IsTrue, List, [], ◌∷◌, ◌++◌, length, Some, slice_get, Ok, Err}
+use Rattle.std.specs.Prelude.{◌≡◌, ℕ, ◌+◌, ◌<◌, ◌≤◌, min, IsTrue, List, [], ◌∷◌, ◌++◌, length, Some, slice_get, Ok, Err}
 use Rattle.app_api.specs.declared.registration.Reg.{Reg}
 use Rattle.control_script.specs.declared.error.ScriptError.{ScriptError}
 use Rattle.control_script.specs.declared.stamped.Stamped.{Stamped}
 use Rattle.control_script.specs.Lines.{lines, without_return}
-use Rattle.control_script.specs.Order.{are_in_order}
 use Rattle.control_script.specs.Script.{line_read, lines_read}
 use Rattle.control_script.specs.Versions.{is_forced, is_barred, floor, ceil}
 

@@ -36,11 +36,7 @@ pub(crate) fn command(alloc: Global, words: &mut Words<'_>) -> Result<Stamped, S
 }
 
 // The command behind a stamp.
-fn unstamped(
-    alloc: Global,
-    words: &mut Words<'_>,
-    stamp: Stamp,
-) -> Result<Stamped, ScriptError>
+fn unstamped(alloc: Global, words: &mut Words<'_>, stamp: Stamp) -> Result<Stamped, ScriptError>
     ensures ok { IfOk result (λ s. reads words.old (command_place stamp) ≡ Ok s) }
     ensures within { IfOk result (λ s. IsTrue (is_within s.command)) }
     ensures err { IfErr result (λ e. e ≢ ScriptError.NoMemory → reads words.old (command_place stamp) ≡ Err e) }

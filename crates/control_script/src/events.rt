@@ -1,13 +1,13 @@
 //! The names and numbers of events, and definitions of events.
 
-ghost use Rattle.std.specs.Prelude.{◌≡◌, ◌≢◌, ◌<◌, ◌≤◌, Ok, Err, IfOk, IfErr, IfSome, IsTrue, length};
+ghost use Rattle.std.specs.Prelude.{◌≡◌, ◌≢◌, ◌<◌, ◌≤◌, ℕ, None, Ok, Err, IfOk, IfErr, IfSome, IsTrue, length};
 ghost use Rattle.filter_lang.specs.Grammar.{filter};
 ghost use Rattle.filter_lang.specs.Shape.{Shape};
 ghost use Rattle.forest_versions.specs.Lawful.{may_be_event, is_within};
 ghost use Rattle.control_script.specs.declared.stamped.Stamped.{Stamped as StampedOf};
-ghost use Rattle.control_script.specs.Grammar.{number_place, under_place, with_filter};
+ghost use Rattle.control_script.specs.Grammar.{Next, number_place, under_place, defined_next, with_filter};
 ghost use Rattle.control_script.specs.Names.{event_of, begins_with_letter};
-ghost use Rattle.control_script.specs.Reader.{reads, ReadsEvent, RefusesEvent};
+ghost use Rattle.control_script.specs.Reader.{reads, takes, ReadsEvent, RefusesEvent};
 
 use crate::error::ScriptError;
 use crate::numbers::number_in;
@@ -77,10 +77,6 @@ pub(crate) fn event(words: &Words<'_>) -> Result<u16, ScriptError>
         },
     }
 }
-
-ghost use Rattle.control_script.specs.Reader.{takes};
-ghost use Rattle.control_script.specs.Grammar.{Next, defined_next};
-ghost use Rattle.std.specs.Prelude.{ℕ, None};
 
 // Why a word is no event.
 fn unknown(words: &Words<'_>) -> ScriptError

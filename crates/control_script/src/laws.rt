@@ -1,6 +1,6 @@
 //! Laws on scripts: what their definition says in other words. These functions do nothing.
 
-ghost use Rattle.std.specs.Prelude.{◌≡◌, ℕ, List, Err, IsTrue, Some, ◌<◌, slice_get};
+ghost use Rattle.std.specs.Prelude.{◌≡◌, ℕ, List, Err, Some, ◌<◌, slice_get};
 ghost use Rattle.app_api.specs.declared.registration.Reg.{Reg};
 ghost use Rattle.forest_versions.specs.declared.command.Stamp.TheVariants.{At};
 ghost use Rattle.control_script.specs.declared.error.ScriptError.{ScriptError};

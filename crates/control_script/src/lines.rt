@@ -57,8 +57,7 @@ fn first_other(line: &[u8]) -> Option<&u8>
 fn is_text(line: &[u8]) -> bool
     ensures { result ≡ list_all is_text line.now }
 {
-    line.iter()
-        .all(|b| (*b >= 32 && *b <= 126) || *b == b'\t')
+    line.iter().all(|b| (*b >= 32 && *b <= 126) || *b == b'\t')
 }
 
 /// The command of a line.

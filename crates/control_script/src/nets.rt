@@ -1,7 +1,7 @@
 //! The nets and ports of rules.
 
-ghost use Rattle.std.specs.Prelude.{◌≡◌, ◌≤◌, ◌<◌, ◌^◌, IfSome, IfOk, IfErr, length};
-ghost use Rattle.control_script.specs.Nets.{address_of, net_of, ports_of};
+ghost use Rattle.std.specs.Prelude.{◌≡◌, ◌≤◌, ◌<◌, IfSome, IfOk, IfErr, length};
+ghost use Rattle.control_script.specs.Nets.{address_of, net_of, one_port, ports_of, span_of};
 ghost use Rattle.control_script.specs.Reader.{ReadsNet, RefusesNet, ReadsPorts, RefusesPorts};
 
 use crate::error::ScriptError;
@@ -76,8 +76,6 @@ fn ports_of(word: &[u8]) -> Option<Ports>
         Some((low, high)) => span_of(low, high),
     }
 }
-
-ghost use Rattle.control_script.specs.Nets.{one_port, span_of};
 
 // The port that a word is.
 fn one_port(word: &[u8]) -> Option<Ports>

@@ -1,8 +1,8 @@
 //! A script as far as its lines have been read.
 
-ghost use Rattle.std.specs.Prelude.{◌≡◌, [], IfOk};
-ghost use Rattle.std.specs.Prelude.{IsTrue};
+ghost use Rattle.std.specs.Prelude.{◌≡◌, [], IfOk, IsTrue};
 ghost use Rattle.app_api.specs.Reg.{are_presets};
+ghost use Rattle.control_script.specs.Script.{fault_of};
 
 use crate::error::ScriptError;
 use crate::lines::{is_skipped, said};
@@ -78,8 +78,6 @@ impl Progress {
         }
     }
 }
-
-ghost use Rattle.control_script.specs.Script.{fault_of};
 
 // Why a command can't be given, as a refusal of its line.
 fn fault_of(refusal: Refusal, n: u32) -> ScriptError

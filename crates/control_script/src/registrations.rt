@@ -1,9 +1,9 @@
 //! Registrations: their hook, whether they are on, what they peek and what they do.
 
-ghost use Rattle.std.specs.Prelude.{◌≡◌, ◌<◌, Ok, Err, IfOk, IfErr, IsTrue};
+ghost use Rattle.std.specs.Prelude.{◌≡◌, ◌<◌, ◌++◌, [], ◌∷◌, length, Ok, Err, IfOk, IfErr, IsTrue};
 ghost use Rattle.forest_versions.specs.Lawful.{is_within, is_reg_within};
-ghost use Rattle.control_script.specs.Grammar.{number_place, event_place, plain_reg};
-ghost use Rattle.control_script.specs.Reader.{reads, left, ReadsHook, RefusesHook, ReadsOff, ReadsPeek, RefusesPeek, ReadsAction, RefusesAction, ReadsActions, RefusesActions};
+ghost use Rattle.control_script.specs.Grammar.{number_place, event_place, plain_reg, dropping, changing};
+ghost use Rattle.control_script.specs.Reader.{reads, left, ReadsHook, RefusesHook, ReadsOff, ReadsPeek, RefusesPeek, ReadsAction, RefusesAction, ReadsChange, RefusesChange, ReadsActions, RefusesActions};
 
 use crate::error::ScriptError;
 use crate::events::event;
@@ -113,10 +113,6 @@ fn action(words: &mut Words<'_>, reg: Reg) -> Result<Reg, ScriptError>
     }
     Err(ScriptError::Syntax(words.line))
 }
-
-ghost use Rattle.control_script.specs.Grammar.{dropping, changing};
-ghost use Rattle.control_script.specs.Reader.{ReadsChange, RefusesChange};
-ghost use Rattle.std.specs.Prelude.{length, ◌++◌, ◌∷◌, []};
 
 // With a drop.
 fn dropping(reg: Reg) -> Reg

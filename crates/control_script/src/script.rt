@@ -1,6 +1,7 @@
 //! Scripts: commands with their stamps, in order.
 
-ghost use Rattle.std.specs.Prelude.{◌≡◌};
+ghost use Rattle.std.specs.Prelude.{◌≡◌, ◌<◌, length};
+ghost use Rattle.control_script.specs.Rows.{last_latest, last_forced, latest_with, forced_with};
 
 use crate::stamped::Stamped;
 use forest_versions::{Command, Stamp};
@@ -43,8 +44,8 @@ impl Model for Script {
 }
 
 impl Script {
-    ghost use Rattle.std.specs.Prelude.{ℕ, ◌≡◌, ◌+◌, ◌<◌, ◌≤◌, ◌↔◌, [], ◌∷◌, ◌++◌, length, map, not, true, false, IsTrue, OnOk, OnErr, slice_get, IsNone, IfSome};
-    ghost use Rattle.std.specs.Option.{option_copied, option_map};
+    ghost use Rattle.std.specs.Prelude.{◌≡◌, ◌+◌, ◌<◌, ◌≤◌, [], ◌∷◌, ◌++◌, length, map, not, true, false, IsTrue, OnOk, OnErr, slice_get};
+    ghost use Rattle.std.specs.Option.{option_copied};
     ghost use Rattle.std.specs.List.{list_any, list_all};
     ghost use Rattle.control_script.specs.Order.{commands_of, is_later, are_in_order};
     ghost use Rattle.control_script.specs.Versions.{floor, ceil, is_live};
@@ -140,9 +141,6 @@ impl Script {
         Ok(())
     }
 }
-
-ghost use Rattle.std.specs.Prelude.{◌<◌, length};
-ghost use Rattle.control_script.specs.Rows.{last_latest, last_forced, latest_with, forced_with};
 
 // What the last row has.
 fn last(rows: &[Row]) -> (u64, u32)

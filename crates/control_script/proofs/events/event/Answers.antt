@@ -1,5 +1,5 @@
 use Rattle.std.proofs.Common.{◌≡◌, ℕ, Option, None, Err, ap, sym, ◌∙◌}
-use Rattle.control_script.specs.Grammar.{Next, go, rest, hook_place, stamped, event_next, defined_next, next_event}
+use Rattle.control_script.specs.Grammar.{Next, event_next, defined_next, next_event}
 use Rattle.control_script.specs.Names.{event_of}
 use Rattle.control_script.specs.Numbers.{number_in}
 use Rattle.control_script.specs.Reader.{takes}

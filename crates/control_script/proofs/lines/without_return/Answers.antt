@@ -1,4 +1,4 @@
-use Rattle.std.proofs.Common.{◌≡◌, false, ap, sym, ◌∙◌, List, [], ◌∷◌, ◌++◌, ℕ, arith}
+use Rattle.std.proofs.Common.{◌≡◌, false, ap, sym, ◌∙◌, [], ◌∷◌, ◌++◌, ℕ, arith}
 use Rattle.std.specs.Prelude.{◌==◌}
 use Rattle.std.proofs.lemmas.Bool.Decides.{nat_tests}
 use Rattle.control_script.specs.Lines.{without_return}

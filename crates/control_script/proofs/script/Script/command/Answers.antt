@@ -1,4 +1,4 @@
-use Rattle.std.proofs.Common.{◌≡◌, List, map, length, slice_get, refl, sym, ap, ◌∙◌}
+use Rattle.std.proofs.Common.{List, length, slice_get, refl, sym, ap, ◌∙◌}
 use Rattle.std.proofs.lemmas.Bool.{ltb-true}
 use Rattle.std.proofs.lemmas.Option.{slice_get_read}
 use Rattle.control_script.specs.declared.script.Row.{Row}

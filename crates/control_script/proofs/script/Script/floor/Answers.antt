@@ -1,4 +1,4 @@
-use Rattle.std.proofs.Common.{ap, ◌∙◌, arith}
+use Rattle.std.proofs.Common.{◌∙◌, arith}
 use Rattle.control_script.proofs.Marks.{none-forced, last-forced, ordered, floor-ceil, floor-is-ceil}
 use Rattle.control_script.proofs.script.Script.floor.Goals as goal
 

@@ -1,4 +1,4 @@
-use Rattle.std.proofs.Common.{◌≡◌, leb, true, false, List, ◌∙◌, ap, sym, subst, rules, arith}
+use Rattle.std.proofs.Common.{leb, List, ◌∙◌, ap, sym, subst, rules, arith}
 use Rattle.std.specs.List.Sorted.{IsPartitionPoint, IsNonDecreasingBy}
 use Rattle.std.proofs.lemmas.List.Sorted.{IsPartitionPoint-from_clause, IsPartitionedBy-leb}
 use Rattle.control_script.specs.declared.script.Row.{Row}

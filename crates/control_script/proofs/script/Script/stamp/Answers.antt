@@ -1,9 +1,8 @@
-use Rattle.std.proofs.Common.{◌≡◌, List, map, length, slice_get, refl, sym, ap, ◌∙◌}
+use Rattle.std.proofs.Common.{List, map, length, slice_get, refl, sym, ap, ◌∙◌}
 use Rattle.std.proofs.lemmas.Bool.{ltb-true}
 use Rattle.std.proofs.lemmas.Option.{slice_get_read}
 use Rattle.control_script.specs.declared.script.Row.{Row}
 use Rattle.control_script.specs.declared.stamped.Stamped.{Stamped}
-use Rattle.control_script.specs.Order.{commands_of}
 use Rattle.control_script.specs.Rows.{stamped_of}
 use Rattle.control_script.proofs.Marks.{stamp-at}
 use Rattle.control_script.proofs.script.Script.stamp.Goals as goal
