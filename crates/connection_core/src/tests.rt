@@ -7,8 +7,8 @@ ghost use Rattle.std.specs.Prelude.{◌∷◌, [], IsTrue, IfOk};
 ghost use Rattle.app_api.specs.Reg.{are_presets};
 
 use app_api::{
-    Action, Change1, Changes, LogApp, NEW_DATA, PKT_IN, PeekSpec, REXMIT, Reason, Reg, START, STATE,
-    presets_of,
+    Action, Change1, Changes, LogApp, NEW_DATA, ORPHAN, PKT_IN, PeekSpec, REXMIT, Reason, Reg,
+    START, STATE, Verdict, presets_of,
 };
 use event_trees::EventDef;
 use filter_lang::parse;
@@ -16,7 +16,7 @@ use forest_versions::Command;
 use lines::{Line, Run, Saw, are_shown};
 use native_filters::Hook::{Rcv, Snd};
 use packet_views::ACK;
-use played::{Packet, Played, play};
+use played::{Packet, Played, play, play_orphan};
 use reassembly::Policy;
 use std::alloc::{AllocError, Global};
 use std::test::Fail;
@@ -134,9 +134,21 @@ fn next_bytes_by_policy(rt: HostRuntime) -> Result<(), Fail> {
     ];
     let packets = [data(103, b"AAAA"), data(101, b"BBBB")];
     let first = logged(rt.alloc(), &commands[..3], &packets)?;
-    assert!(rt; shows(&first, 3, &[Line(4, Rcv, NEW_DATA, 16, Saw::Next(0, 0, b"BBAAAA"))]));
+    assert!(rt;
+        shows(
+            &first,
+            3,
+            &[Line(4, Rcv, NEW_DATA, 16, Saw::Next(0, 0, b"BBAAAA"))]
+        )
+    );
     let last = logged(rt.alloc(), &commands, &packets)?;
-    assert!(rt; shows(&last, 4, &[Line(4, Rcv, NEW_DATA, 16, Saw::Next(0, 0, b"BBBBAA"))]));
+    assert!(rt;
+        shows(
+            &last,
+            4,
+            &[Line(4, Rcv, NEW_DATA, 16, Saw::Next(0, 0, b"BBBBAA"))]
+        )
+    );
     Ok(())
 }
 
@@ -232,5 +244,19 @@ fn dropped_before_its_receiver(rt: HostRuntime) -> Result<(), Fail> {
     assert!(rt; played.version == 2);
     assert!(rt; are_shown(played.notes.entries.as_slice(), &lines));
     assert!(rt; played.drops.as_slice() == [(3, Reason::Reg(16))].as_slice());
+    Ok(())
+}
+
+#[test]
+fn orphan_that_is_dropped(rt: HostRuntime) -> Result<(), Fail> {
+    let presets = log_presets(rt.alloc())?;
+    let commands = [Command::Register(dropping(16, ORPHAN))];
+    let (verdict, notes) = play_orphan(rt.alloc(), &presets, &commands)?;
+    let lines = [
+        Line(0, Snd, ORPHAN, 3, Saw::Nothing),
+        Line(0, Snd, ORPHAN, 16, Saw::Nothing),
+    ];
+    assert!(rt; verdict == Verdict::Drop(Reason::Reg(16)));
+    assert!(rt; are_shown(notes.entries.as_slice(), &lines));
     Ok(())
 }

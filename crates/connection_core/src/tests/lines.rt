@@ -54,8 +54,6 @@ fn is_seen(seen: &Seen, saw: Saw) -> bool {
 
 fn are_runs(pieces: &[(u64, Bytes)], runs: &[Run]) -> bool {
     pieces.len() == runs.len()
-        && pieces
-            .iter()
-            .zip(runs)
-            .all(|(piece, run)| piece.0 == run.0 && piece.1.as_slice() == run.1)
+        && pieces.iter().zip(runs).all(|(piece, run)| piece.0 == run.0
+            && piece.1.as_slice() == run.1)
 }

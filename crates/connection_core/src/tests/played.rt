@@ -10,11 +10,12 @@ ghost use Rattle.connection_core.specs.InForce.{told, defs_at};
 ghost use Rattle.connection_core.specs.Trees.{IsForestIn};
 
 use crate::laws::first_tree_names_the_first_list;
-use crate::{Arrived, Flow, InForce, Ledger, Notes, Terms};
+use crate::{Arrived, Flow, InForce, Ledger, Notes, Terms, lone};
 use app_api::{LogApp, Reason, Reg, Tally, Verdict};
+use builtin_events::{Raised, raised_by_orphan};
 use forest_versions::{Command, Master};
 use native_filters::NativeBook;
-use packet_views::{ACK, Head, SYN};
+use packet_views::{ACK, Class, Head, SYN};
 use shared_forest::{ForestView, Forests, Table};
 use std::alloc::Global;
 use std::test::Fail;
@@ -187,4 +188,60 @@ pub fn play(
     follow_all(alloc, &terms, &mut table, &mut played, &OPEN)?;
     follow_all(alloc, &terms, &mut table, &mut played, packets)?;
     Ok(played)
+}
+
+/// What becomes of a packet of no connection, number 0, after these commands; and what its callbacks leave.
+pub fn play_orphan(
+    alloc: Global,
+    presets: &[Reg],
+    commands: &[Command],
+) -> Result<(Verdict, Notes), Fail>
+    requires lawful { IsTrue (are_presets presets.now) }
+{
+    let mut table = Table::new(alloc);
+    let first = Master::new(alloc, &mut table, presets)?;
+    let master = give(alloc, &mut table, first, commands)?;
+    let natives = NativeBook::plain();
+    let terms = Terms {
+        app: &LogApp,
+        in_force: InForce {
+            master: &master,
+            version: master.version(),
+        },
+        natives: &natives,
+        keep: true,
+    };
+    let mut played = opened(alloc, &mut table, &terms.in_force)?;
+    let raised = raised_by_orphan(Class::Other, None);
+    let verdict = orphan(alloc, &terms, &table, &mut played, raised)?;
+    Ok((verdict, played.notes))
+}
+
+// The callbacks of a packet of no connection, over the tree of one that begins.
+fn orphan(
+    alloc: Global,
+    terms: &Terms<LogApp>,
+    table: &Table,
+    played: &mut Played,
+    raised: Raised,
+) -> Result<Verdict, Fail>
+    requires answered { HasRow table.now played.old.flow.forest }
+    requires forest { IsForestIn (defs_at terms.now.in_force) (told terms.now.in_force) (tree_at table.now played.old.flow.forest) }
+{
+    let counts = played.ledger.counts;
+    if counts.callbacks >= 1 << 60 || counts.weight >= 1 << 60 {
+        return Err(Fail::from("too much for a packet"));
+    }
+    let flow = &played.flow;
+    let verdict = lone(
+        alloc,
+        terms,
+        table,
+        &flow.forest,
+        0,
+        raised,
+        &mut played.notes,
+        &mut played.ledger,
+    )?;
+    Ok(verdict)
 }
