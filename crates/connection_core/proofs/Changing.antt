@@ -1,10 +1,10 @@
 -- One change of a connection's registrations, and the tree after it.
-use Rattle.std.proofs.Common.{◌≡◌, ℕ, suc, ◌+◌, ◌<◌, ◌≤◌, ◌==◌, ◌||◌, eqb, Bool, true, false, not, cond, is_some, Some, None, Option, List, [], ◌∷◌, ◌++◌, length, map, take, get_or, Ordering, refl, sym, ap, subst, ◌∙◌, arith}
-use Rattle.std.specs.Prelude.{◌≢◌, IsTrue, slice_index_or, if◌then◌else◌}
-use Rattle.std.specs.List.{All, AllByRecursion, Contains, list_any, filter}
+use Rattle.std.proofs.Common.{◌≡◌, ℕ, suc, ◌+◌, ◌<◌, ◌==◌, ◌||◌, Bool, true, false, not, cond, is_some, Some, None, Option, List, [], ◌∷◌, ◌++◌, length, map, take, get_or, refl, sym, ap, subst, ◌∙◌, arith}
+use Rattle.std.specs.Prelude.{◌≢◌, if◌then◌else◌}
+use Rattle.std.specs.List.{All, AllByRecursion, Contains, list_any}
 use Rattle.std.specs.Option.{option_to_list}
 use Rattle.std.specs.Ordering.{is_lt}
-use Rattle.std.proofs.lemmas.Bool.Decides.{eqb_tells, nat_tests}
+use Rattle.std.proofs.lemmas.Bool.Decides.{nat_tests}
 use Rattle.std.proofs.lemmas.Bool.{false≢true, not-false}
 use Rattle.std.proofs.lemmas.List.{take_more}
 use Rattle.std.proofs.lemmas.List.Elements.{All-from_recursion, recursion_from_All, All-filter}
@@ -16,7 +16,7 @@ use Rattle.shared_forest.specs.Lists.{TreeLists}
 use Rattle.shared_forest.specs.Listing.{listing}
 use Rattle.shared_forest.specs.Store.{CountsAtMost}
 use Rattle.event_trees.specs.declared.defs.EventDef.{EventDef}
-use Rattle.event_trees.specs.Private.{IsPrivate, reg_cmp, put_reg, edited}
+use Rattle.event_trees.specs.Private.{reg_cmp, put_reg, edited}
 use Rattle.event_trees.specs.Canon.{slot_of}
 use Rattle.event_trees.specs.Edit.{IsForestOf, IsSwitchable}
 use Rattle.forest_versions.specs.State.{ControlState}
@@ -45,9 +45,9 @@ pub forest_names : (defs : List EventDef) (at : ℕ → Option Reg) (list : List
 forest_names defs at list tree slots forest known = tree_names at list tree (slots defs list forest) known
 
 pub forest_in : (defs : List EventDef) (at : ℕ → Option Reg) (list : List Reg) (tree : TreeLists)
-    → active_in at tree ≡ list → IsForestOf defs list (listing tree) → All (λ (r : Reg). at r.number ≡ Some r) list → IsForestIn defs at tree
-forest_in defs at list tree same forest known =
-    subst (λ l. IsTreeOf defs at l tree) (sym same) (record { private = forest.private; known = known; listed = forest.listed })
+    → tree.slots ≡ map slot_of list → IsForestOf defs list (listing tree) → All (λ (r : Reg). at r.number ≡ Some r) list → IsForestIn defs at tree
+forest_in defs at list tree slots forest known =
+    subst (λ l. IsTreeOf defs at l tree) (sym (tree_names at list tree slots known)) (record { private = forest.private; slots = slots; known = known; listed = forest.listed })
 
 -- ---- whether a registration is on
 
@@ -220,7 +220,7 @@ pub edited_forest : (defs : List EventDef) (at : ℕ → Option Reg) (r : Reg) (
     → All (λ (x : Reg). at x.number ≡ Some x) list → ((d : List EventDef) (l : List Reg) → IsForestOf d l (listing tree) → tree.slots ≡ map slot_of l)
     → IsForestOf defs (edited defs list r on) (listing tree) → IsForestIn defs at tree
 edited_forest defs at r list on tree here known slots forest =
-    forest_in defs at (edited defs list r on) tree (edited_names defs at r list on tree here known slots forest) forest (edited_known at defs r list on here known)
+    forest_in defs at (edited defs list r on) tree (slots defs (edited defs list r on) forest) forest (edited_known at defs r list on here known)
 
 -- what a tree says of whether a registration is so already
 pub so_by : (at : ℕ → Option Reg) (n : ℕ) (r : Reg) (list : List Reg) (on so : Bool) (slots : List Slot) → r.number ≡ n → slots ≡ map slot_of list

@@ -1,13 +1,11 @@
 -- The tree of the registrations that are on, and trees under later definitions.
-use Rattle.std.proofs.Common.{◌≡◌, ℕ, ◌≤◌, ◌==◌, ◌||◌, eqb, Bool, true, false, not, cond, is_some, Some, None, Option, List, [], ◌∷◌, ◌++◌, map, refl, sym, ap, subst, ◌∙◌, arith}
-use Rattle.std.specs.Option.{option_to_list}
-use Rattle.std.specs.List.{All, AllByRecursion, IsDistinct, filter, list_any}
+use Rattle.std.proofs.Common.{◌≡◌, ℕ, ◌≤◌, ◌==◌, eqb, Bool, true, false, cond, Some, Option, List, [], ◌∷◌, map, refl, sym, ap, ◌∙◌, arith}
+use Rattle.std.specs.List.{All, AllByRecursion, IsDistinct}
 use Rattle.std.proofs.lemmas.Bool.Decides.{nat_tests}
 use Rattle.std.proofs.lemmas.Bool.{false≢true}
 use Rattle.std.proofs.lemmas.List.Elements.{All-from_recursion, recursion_from_All, All-filter}
 use Rattle.app_api.specs.declared.registration.Reg.{Reg}
 use Rattle.app_api.specs.Reg.{reg_of}
-use Rattle.shared_forest.specs.declared.node.Slot.{Slot}
 use Rattle.shared_forest.specs.Lists.{TreeLists}
 use Rattle.shared_forest.specs.Listing.{listing}
 use Rattle.event_trees.specs.declared.defs.EventDef.{EventDef}
@@ -15,8 +13,8 @@ use Rattle.event_trees.specs.Private.{IsPrivate, numbers_of}
 use Rattle.event_trees.specs.Canon.{slot_of, canon}
 use Rattle.event_trees.specs.Edit.{IsForestOf}
 use Rattle.forest_versions.specs.State.{ControlState, active as first_active}
-use Rattle.connection_core.specs.Trees.{regs_named, active_in, IsTreeOf, IsForestIn}
-use Rattle.connection_core.proofs.Changing.{forest_names, forest_in}
+use Rattle.connection_core.specs.Trees.{active_in, IsTreeOf, IsForestIn}
+use Rattle.connection_core.proofs.Changing.{tree_names, forest_names, forest_in}
 
 -- the first of a list with distinct numbers stands before the others
 later_found : (x r : Reg) (rest : Option Reg) (b : Bool) → (x.number == r.number) ≡ b → (x.number ≡ r.number → ⊥) → rest ≡ Some r → cond b (Some x) rest ≡ Some r
@@ -59,30 +57,33 @@ pub first_forest : (defs : List EventDef) (at : ℕ → Option Reg) (s : Control
     → ((d : List EventDef) (l : List Reg) → IsForestOf d l (listing tree) → tree.slots ≡ map slot_of l) → IsForestOf defs (first_active s) (listing tree)
     → IsForestIn defs at tree
 first_forest defs at s tree same private slots forest =
-    forest_in defs at (first_active s) tree (first_names defs at s tree same private slots forest) forest (first_known at s same private)
+    forest_in defs at (first_active s) tree (slots defs (first_active s) forest) forest (first_known at s same private)
 
 -- ---- later definitions
 
-named_same : (at now : ℕ → Option Reg) (slots : List Slot) → ((n : ℕ) → now n ≡ at n) → regs_named now slots ≡ regs_named at slots
-named_same at now [] same = refl
-named_same at now (slot ∷ slots) same =
-    ap (λ o. option_to_list o ++ regs_named now slots) (same slot.number) ∙ ap (λ l. option_to_list (at slot.number) ++ l) (named_same at now slots same)
+known_now : (at now : ℕ → Option Reg) (list : List Reg) → ((n : ℕ) → n ≤ 255 → now n ≡ at n) → AllByRecursion (λ (r : Reg). (1 ≤ r.number) × (r.number ≤ 255)) list
+    → AllByRecursion (λ (r : Reg). at r.number ≡ Some r) list → AllByRecursion (λ (r : Reg). now r.number ≡ Some r) list
+known_now at now [] same numbers known = tt
+known_now at now (r ∷ list) same numbers known = (same r.number numbers.0.1 ∙ known.0, known_now at now list same numbers.1 known.1)
 
-pub list_stays : (at now : ℕ → Option Reg) (tree : TreeLists) → ((n : ℕ) → now n ≡ at n) → active_in now tree ≡ active_in at tree
-unfolding active_in
-list_stays at now tree same = named_same at now tree.slots same
+-- the registrations of a tree are looked up as before
+known_still : (defs : List EventDef) (at now : ℕ → Option Reg) (list : List Reg) (tree : TreeLists) → ((n : ℕ) → n ≤ 255 → now n ≡ at n)
+    → IsTreeOf defs at list tree → All (λ (r : Reg). now r.number ≡ Some r) list
+known_still defs at now list tree same f =
+    let K : Reg → Type 0 = λ r. now r.number ≡ Some r in
+    let L : Reg → Type 0 = λ r. at r.number ≡ Some r in
+    let N : Reg → Type 0 = λ r. (1 ≤ r.number) × (r.number ≤ 255) in
+    All-from_recursion K list (known_now at now list same (recursion_from_All N list f.private.numbers) (recursion_from_All L list f.known))
 
-known_now : (at now : ℕ → Option Reg) (list : List Reg) → ((n : ℕ) → now n ≡ at n) → AllByRecursion (λ (r : Reg). at r.number ≡ Some r) list → AllByRecursion (λ (r : Reg). now r.number ≡ Some r) list
-known_now at now [] same known = tt
-known_now at now (r ∷ list) same known = (same r.number ∙ known.0, known_now at now list same known.1)
+pub list_stays : (earlier : List EventDef) (at now : ℕ → Option Reg) (tree : TreeLists) → ((n : ℕ) → n ≤ 255 → now n ≡ at n)
+    → IsForestIn earlier at tree → active_in now tree ≡ active_in at tree
+list_stays earlier at now tree same f = tree_names now (active_in at tree) tree f.slots (known_still earlier at now (active_in at tree) tree same f)
 
 pub forest_stays : (earlier later : List EventDef) (at now : ℕ → Option Reg) (tree : TreeLists)
     → ((list : List Reg) → IsPrivate earlier list → IsPrivate later list) → ((list : List Reg) → IsPrivate earlier list → canon later list ≡ canon earlier list)
-    → ((n : ℕ) → now n ≡ at n) → IsForestIn earlier at tree → IsForestIn later now tree
+    → ((n : ℕ) → n ≤ 255 → now n ≡ at n) → IsForestIn earlier at tree → IsForestIn later now tree
 forest_stays earlier later at now tree private canonical same f =
     let list = active_in at tree in
-    let K : Reg → Type 0 = λ r. now r.number ≡ Some r in
-    let L : Reg → Type 0 = λ r. at r.number ≡ Some r in
-    forest_in later now list tree (list_stays at now tree same)
+    forest_in later now list tree f.slots
     (record { private = private list f.private; listed = f.listed ∙ sym (canonical list f.private) })
-    (All-from_recursion K list (known_now at now list same (recursion_from_All L list f.known)))
+    (known_still earlier at now list tree same f)

@@ -1,5 +1,5 @@
 pub mod Registered
-pub mod Control
+pub mod InForce
 pub mod Course
 pub mod History
 pub mod Trees

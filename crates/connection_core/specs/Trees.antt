@@ -1,5 +1,5 @@
 -- Private lists as their trees name them. `at` looks registrations up by their numbers.
-use Rattle.std.specs.Prelude.{◌≡◌, ℕ, ◌≤◌, ◌+◌, Option, Some, None, List, [], ◌∷◌, ◌++◌, ⊤}
+use Rattle.std.specs.Prelude.{◌≡◌, ℕ, ◌≤◌, ◌+◌, Option, Some, None, List, [], ◌∷◌, ◌++◌, map, ⊤}
 use Rattle.std.specs.List.{All}
 use Rattle.std.specs.Option.{option_to_list}
 use Rattle.app_api.specs.declared.registration.Reg.{Reg}
@@ -8,7 +8,7 @@ use Rattle.shared_forest.specs.Lists.{TreeLists}
 use Rattle.shared_forest.specs.Listing.{listing}
 use Rattle.event_trees.specs.declared.defs.EventDef.{EventDef}
 use Rattle.event_trees.specs.Private.{IsPrivate}
-use Rattle.event_trees.specs.Canon.{canon}
+use Rattle.event_trees.specs.Canon.{slot_of, canon}
 
 -- the registrations with the numbers of a tree's slots
 abbrev pub regs_named : (ℕ → Option Reg) → List Slot → List Reg
@@ -22,6 +22,7 @@ active_in at tree = regs_named at tree.slots
 -- a tree by which the registrations of a private list are called
 pub record IsTreeOf (defs : List EventDef) (at : ℕ → Option Reg) (active : List Reg) (tree : TreeLists) : Type 0 where
   pub private : IsPrivate defs active
+  pub slots : tree.slots ≡ map slot_of active
   pub known : All (λ r. at r.number ≡ Some r) active
   pub listed : listing tree ≡ canon defs active
 

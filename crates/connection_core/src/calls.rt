@@ -5,7 +5,7 @@ ghost use Rattle.app_api.specs.Reg.{peek_fits, reg_of};
 ghost use Rattle.builtin_events.specs.Raised.{raises_of};
 ghost use Rattle.app_api.specs.declared.registration.Reg.{Reg as RegOf};
 ghost use Rattle.forest_versions.specs.State.{ControlState};
-ghost use Rattle.connection_core.specs.Control.{told, defs_at, IsInForce};
+ghost use Rattle.connection_core.specs.InForce.{told, defs_at, IsInForce};
 ghost use Rattle.connection_core.specs.Course.{called, called_at, raised};
 ghost use Rattle.connection_core.specs.Trees.{active_in, IsForestIn};
 ghost use Rattle.connection_core.specs.Numbers.{called_by};
@@ -35,7 +35,7 @@ impl<A: App> Terms<'_, A> {
         requires peek { IsTrue (peek_fits reg.now.peek) }
         requires callbacks { ledger.old.counts.callbacks < 2 ^ 63 }
         requires weight { ledger.old.counts.weight < 2 ^ 63 }
-        ensures stands { OnOk result ((s : ControlState) (list : List RegOf) → IsInForce self.now.control s → Steps self.now.keep list socket.old notes.old ledger.old socket.new notes.new ledger.new
+        ensures stands { OnOk result ((s : ControlState) (list : List RegOf) → IsInForce self.now.in_force s → Steps self.now.keep list socket.old notes.old ledger.old socket.new notes.new ledger.new
             (λ c. called (A.meaning self.now.app.now) s moment.now.number moment.now.from (raise_of moment.now) c reg.now)) }
         ensures rise { RiseBy 1 ledger.old.counts ledger.new.counts }
         ensures as_far { IsAsFar socket.old socket.new }
@@ -60,12 +60,12 @@ impl<A: App> Terms<'_, A> {
     ) -> Result<(), AllocError>
         requires callbacks { ledger.old.counts.callbacks < 2 ^ 63 }
         requires weight { ledger.old.counts.weight < 2 ^ 63 }
-        ensures stands { OnOk result ((s : ControlState) (list : List RegOf) → IsInForce self.now.control s → Steps self.now.keep list socket.old notes.old ledger.old socket.new notes.new ledger.new
+        ensures stands { OnOk result ((s : ControlState) (list : List RegOf) → IsInForce self.now.in_force s → Steps self.now.keep list socket.old notes.old ledger.old socket.new notes.new ledger.new
             (λ c. called_by (A.meaning self.now.app.now) s moment.now.number moment.now.from (raise_of moment.now) c (reg_of s.regs number))) }
         ensures rise { RiseBy 1 ledger.old.counts ledger.new.counts }
         ensures as_far { IsAsFar socket.old socket.new }
     {
-        match self.control.reg_at(number) {
+        match self.in_force.reg_at(number) {
             Some(reg) => self.call(alloc, moment, reg, socket, notes, ledger),
             None => Ok(()),
         }
@@ -81,15 +81,15 @@ impl<A: App> Terms<'_, A> {
         notes: &mut Notes,
         ledger: &mut Ledger,
     ) -> Result<(), AllocError>
-        requires forest { IsForestIn (defs_at self.now.control) (told self.now.control) tree.now }
+        requires forest { IsForestIn (defs_at self.now.in_force) (told self.now.in_force) tree.now }
         requires callbacks { ledger.old.counts.callbacks < 2 ^ 62 }
         requires weight { ledger.old.counts.weight < 2 ^ 62 }
-        ensures stands { OnOk result ((s : ControlState) → IsInForce self.now.control s → Steps self.now.keep (active_in (told self.now.control) tree.now) socket.old notes.old ledger.old socket.new notes.new ledger.new
+        ensures stands { OnOk result ((s : ControlState) → IsInForce self.now.in_force s → Steps self.now.keep (active_in (told self.now.in_force) tree.now) socket.old notes.old ledger.old socket.new notes.new ledger.new
             (called_at (A.meaning self.now.app.now) s moment.now.number moment.now.from (raise_of moment.now))) }
         ensures rise { RiseBy 255 ledger.old.counts ledger.new.counts }
         ensures as_far { IsAsFar socket.old socket.new }
     {
-        let defs = self.control.defs();
+        let defs = self.in_force.defs();
         slots_in_order(tree);
         later_events_change_nothing(defs);
         let mut walk = Walk::start(tree, moment.hook, moment.event, moment.facts);
@@ -109,10 +109,10 @@ impl<A: App> Terms<'_, A> {
         notes: &mut Notes,
         ledger: &mut Ledger,
     ) -> Result<(), AllocError>
-        requires forest { IsForestIn (defs_at self.now.control) (told self.now.control) tree.now }
+        requires forest { IsForestIn (defs_at self.now.in_force) (told self.now.in_force) tree.now }
         requires callbacks { ledger.old.counts.callbacks < 2 ^ 61 }
         requires weight { ledger.old.counts.weight < 2 ^ 61 }
-        ensures stands { OnOk result ((s : ControlState) → IsInForce self.now.control s → Steps self.now.keep (active_in (told self.now.control) tree.now) socket.old notes.old ledger.old socket.new notes.new ledger.new
+        ensures stands { OnOk result ((s : ControlState) → IsInForce self.now.in_force s → Steps self.now.keep (active_in (told self.now.in_force) tree.now) socket.old notes.old ledger.old socket.new notes.new ledger.new
             (raised (A.meaning self.now.app.now) s phase.now.number phase.now.from (raises_of phase.now.raised))) }
         ensures rise { RiseBy 1530 ledger.old.counts ledger.new.counts }
         ensures as_far { IsAsFar socket.old socket.new }

@@ -4,12 +4,12 @@ ghost use Rattle.std.specs.Prelude.{◌≡◌, ◌==◌, OnOk};
 ghost use Rattle.std.specs.List.{list_any};
 ghost use Rattle.shared_forest.specs.Store.{Keeps};
 ghost use Rattle.forest_versions.specs.State.{ControlState};
-ghost use Rattle.connection_core.specs.Control.{told, defs_at, IsInForce};
+ghost use Rattle.connection_core.specs.InForce.{told, defs_at, IsInForce};
 ghost use Rattle.connection_core.specs.Course.{is_so, changed, changed_all};
 ghost use Rattle.connection_core.specs.Trees.{active_in, IsForestIn};
 ghost use Rattle.connection_core.specs.Standing.{Alters};
 
-use crate::control::Control;
+use crate::in_force::InForce;
 use app_api::Change1;
 use event_trees::{edit, later_events_change_nothing, slots_in_order};
 use shared_forest::{Forests, Shared, Tree};
@@ -36,20 +36,20 @@ fn is_so(tree: &Tree, change: Change1) -> bool
 // Makes one change, where its number is registered and isn't so already.
 fn change<F: Forests>(
     alloc: Global,
-    control: &Control,
+    in_force: &InForce,
     forests: &mut F,
     forest: &mut Shared,
     change: Change1,
 ) -> Result<(), AllocError>
     requires answered { F.answered forests.old forest.old }
-    requires forest { IsForestIn (defs_at control.now) (told control.now) (F.content forests.old forest.old) }
+    requires forest { IsForestIn (defs_at in_force.now) (told in_force.now) (F.content forests.old forest.old) }
     ensures answered { F.answered forests.new forest.new }
-    ensures forest { IsForestIn (defs_at control.now) (told control.now) (F.content forests.new forest.new) }
+    ensures forest { IsForestIn (defs_at in_force.now) (told in_force.now) (F.content forests.new forest.new) }
     ensures kept { Keeps F.answered F.content forests.old forests.new }
-    ensures made { OnOk result ((s : ControlState) → IsInForce control.now s → Alters (active_in (told control.now) (F.content forests.old forest.old)) (active_in (told control.now) (F.content forests.new forest.new))
+    ensures made { OnOk result ((s : ControlState) → IsInForce in_force.now s → Alters (active_in (told in_force.now) (F.content forests.old forest.old)) (active_in (told in_force.now) (F.content forests.new forest.new))
         (F.interns forests.old) (F.interns forests.new) (changed s change)) }
 {
-    let Some(reg) = control.reg_at(change.reg) else {
+    let Some(reg) = in_force.reg_at(change.reg) else {
         return Ok(());
     };
     let tree = forests.tree_of(forest);
@@ -57,7 +57,7 @@ fn change<F: Forests>(
     if is_so(tree, change) {
         return Ok(());
     }
-    let defs = control.defs();
+    let defs = in_force.defs();
     later_events_change_nothing(defs);
     let edited = edit(alloc, forests, forest, defs, reg, change.on)?;
     slots_in_order(forests.tree_of(&edited));
@@ -68,21 +68,21 @@ fn change<F: Forests>(
 /// Makes changes in the order in which they were asked. At an error some of them are made.
 pub(crate) fn change_all<F: Forests>(
     alloc: Global,
-    control: &Control,
+    in_force: &InForce,
     forests: &mut F,
     forest: &mut Shared,
     changes: &[Change1],
 ) -> Result<(), AllocError>
     requires answered { F.answered forests.old forest.old }
-    requires forest { IsForestIn (defs_at control.now) (told control.now) (F.content forests.old forest.old) }
+    requires forest { IsForestIn (defs_at in_force.now) (told in_force.now) (F.content forests.old forest.old) }
     ensures answered { F.answered forests.new forest.new }
-    ensures forest { IsForestIn (defs_at control.now) (told control.now) (F.content forests.new forest.new) }
+    ensures forest { IsForestIn (defs_at in_force.now) (told in_force.now) (F.content forests.new forest.new) }
     ensures kept { Keeps F.answered F.content forests.old forests.new }
-    ensures made { OnOk result ((s : ControlState) → IsInForce control.now s → Alters (active_in (told control.now) (F.content forests.old forest.old)) (active_in (told control.now) (F.content forests.new forest.new))
+    ensures made { OnOk result ((s : ControlState) → IsInForce in_force.now s → Alters (active_in (told in_force.now) (F.content forests.old forest.old)) (active_in (told in_force.now) (F.content forests.new forest.new))
         (F.interns forests.old) (F.interns forests.new) (changed_all s changes.now)) }
 {
     for asked in changes {
-        change(alloc, control, forests, forest, *asked)?;
+        change(alloc, in_force, forests, forest, *asked)?;
     }
     Ok(())
 }

@@ -5,11 +5,11 @@ ghost use Rattle.shared_forest.specs.Store.{Keeps};
 ghost use Rattle.app_api.specs.declared.reaction.Verdict.{Verdict as VerdictOf};
 ghost use Rattle.connection_core.specs.Trees.{active_in, IsForestIn, InternsWithin};
 ghost use Rattle.forest_versions.specs.State.{ControlState, active as first_active};
-ghost use Rattle.connection_core.specs.Control.{told, defs_at, IsInForce};
+ghost use Rattle.connection_core.specs.InForce.{told, defs_at, IsInForce};
 ghost use Rattle.connection_core.specs.Reach.{Reaches};
 
 use crate::changes::change_all;
-use crate::control::Control;
+use crate::in_force::InForce;
 use crate::ledger::{Ledger, Notes};
 use crate::moment::{Arrived, Phase};
 use crate::terms::Terms;
@@ -53,14 +53,14 @@ impl Flow {
     ghost use Rattle.connection_core.specs.Standing.{IsFlow, IsConnection, IsUnder, RiseBy, Alters, Makes, Reached, Stepped};
 
     /// A connection before its first packet, with the tree of the registrations that are on at its start. It takes no memory.
-    pub fn new(alloc: Global, control: &Control, forest: Shared) -> Flow
+    pub fn new(alloc: Global, in_force: &InForce, forest: Shared) -> Flow
         ensures forest { result.forest ≡ forest }
         ensures count { result.count ≡ 0 }
-        ensures opened { (s : ControlState) (tree : TreeLists) → IsInForce control.now s → active_in (told control.now) tree ≡ first_active s
-            → (app : Meaning) → IsFlow (told control.now) tree result (fresh app s) }
+        ensures opened { (s : ControlState) (tree : TreeLists) → IsInForce in_force.now s → active_in (told in_force.now) tree ≡ first_active s
+            → (app : Meaning) → IsFlow (told in_force.now) tree result (fresh app s) }
     {
         Flow {
-            socket: FlowSocket::new(alloc, control.rbuf(), control.policy()),
+            socket: FlowSocket::new(alloc, in_force.rbuf(), in_force.policy()),
             forest,
             count: 0,
         }
@@ -70,17 +70,17 @@ impl Flow {
     fn settle<F: Forests>(
         &mut self,
         alloc: Global,
-        control: &Control,
+        in_force: &InForce,
         forests: &mut F,
         ledger: &mut Ledger,
     ) -> Result<(), AllocError>
         requires answered { F.answered forests.old self.old.forest }
-        requires forest { IsForestIn (defs_at control.now) (told control.now) (F.content forests.old self.old.forest) }
+        requires forest { IsForestIn (defs_at in_force.now) (told in_force.now) (F.content forests.old self.old.forest) }
         ensures answered { F.answered forests.new self.new.forest }
-        ensures forest { IsForestIn (defs_at control.now) (told control.now) (F.content forests.new self.new.forest) }
+        ensures forest { IsForestIn (defs_at in_force.now) (told in_force.now) (F.content forests.new self.new.forest) }
         ensures kept { Keeps F.answered F.content forests.old forests.new }
-        ensures made { OnOk result ((s : ControlState) → IsInForce control.now s
-            → Alters (active_in (told control.now) (F.content forests.old self.old.forest)) (active_in (told control.now) (F.content forests.new self.new.forest))
+        ensures made { OnOk result ((s : ControlState) → IsInForce in_force.now s
+            → Alters (active_in (told in_force.now) (F.content forests.old self.old.forest)) (active_in (told in_force.now) (F.content forests.new self.new.forest))
             (F.interns forests.old) (F.interns forests.new) (changed_all s ledger.old.changes.items)) }
         ensures asked { OnOk result (ledger.new.changes.items ≡ []) }
         ensures drop { ledger.new.drop ≡ ledger.old.drop }
@@ -90,7 +90,7 @@ impl Flow {
     {
         change_all(
             alloc,
-            control,
+            in_force,
             forests,
             &mut self.forest,
             ledger.changes.as_slice(),
@@ -110,15 +110,15 @@ impl Flow {
         ledger: &mut Ledger,
     ) -> Result<(), AllocError>
         requires answered { F.answered forests.old self.old.forest }
-        requires forest { IsForestIn (defs_at terms.now.control) (told terms.now.control) (F.content forests.old self.old.forest) }
+        requires forest { IsForestIn (defs_at terms.now.in_force) (told terms.now.in_force) (F.content forests.old self.old.forest) }
         requires callbacks { ledger.old.counts.callbacks < 2 ^ 61 }
         requires weight { ledger.old.counts.weight < 2 ^ 61 }
         ensures answered { F.answered forests.new self.new.forest }
-        ensures forest { IsForestIn (defs_at terms.now.control) (told terms.now.control) (F.content forests.new self.new.forest) }
+        ensures forest { IsForestIn (defs_at terms.now.in_force) (told terms.now.in_force) (F.content forests.new self.new.forest) }
         ensures kept { Keeps F.answered F.content forests.old forests.new }
-        ensures made { OnOk result ((s : ControlState) → IsInForce terms.now.control s
-            → Makes terms.now.keep (active_in (told terms.now.control) (F.content forests.old self.old.forest)) self.old.socket notes.old ledger.old (F.interns forests.old)
-            (active_in (told terms.now.control) (F.content forests.new self.new.forest)) self.new.socket notes.new ledger.new (F.interns forests.new)
+        ensures made { OnOk result ((s : ControlState) → IsInForce terms.now.in_force s
+            → Makes terms.now.keep (active_in (told terms.now.in_force) (F.content forests.old self.old.forest)) self.old.socket notes.old ledger.old (F.interns forests.old)
+            (active_in (told terms.now.in_force) (F.content forests.new self.new.forest)) self.new.socket notes.new ledger.new (F.interns forests.new)
             (made (A.meaning terms.now.app.now) s phase.now.number phase.now.from (raises_of phase.now.raised))) }
         ensures rise { RiseBy 1530 ledger.old.counts ledger.new.counts }
         ensures count { self.new.count ≡ self.old.count }
@@ -126,7 +126,7 @@ impl Flow {
         let tree = forests.tree_of(&self.forest);
         ledger.make_room(MOST)?;
         terms.raise_all(alloc, tree, phase, &mut self.socket, notes, ledger)?;
-        self.settle(alloc, &terms.control, forests, ledger)?;
+        self.settle(alloc, &terms.in_force, forests, ledger)?;
         Ok(())
     }
 
@@ -141,15 +141,15 @@ impl Flow {
         ledger: &mut Ledger,
     ) -> Result<(), AllocError>
         requires answered { F.answered forests.old self.old.forest }
-        requires forest { IsForestIn (defs_at terms.now.control) (told terms.now.control) (F.content forests.old self.old.forest) }
+        requires forest { IsForestIn (defs_at terms.now.in_force) (told terms.now.in_force) (F.content forests.old self.old.forest) }
         requires callbacks { ledger.old.counts.callbacks < 2 ^ 61 }
         requires weight { ledger.old.counts.weight < 2 ^ 61 }
         ensures answered { F.answered forests.new self.new.forest }
-        ensures forest { IsForestIn (defs_at terms.now.control) (told terms.now.control) (F.content forests.new self.new.forest) }
+        ensures forest { IsForestIn (defs_at terms.now.in_force) (told terms.now.in_force) (F.content forests.new self.new.forest) }
         ensures kept { Keeps F.answered F.content forests.old forests.new }
-        ensures stands { OnOk result ((s : ControlState) (others : Counts) (h : History) → IsInForce terms.now.control s
-            → IsConnection terms.now.keep others (told terms.now.control) (F.content forests.old self.old.forest) self.old notes.old ledger.old.counts h
-            → Reached terms.now.keep others (active_in (told terms.now.control) (F.content forests.new self.new.forest)) self.new.socket notes.new ledger.new
+        ensures stands { OnOk result ((s : ControlState) (others : Counts) (h : History) → IsInForce terms.now.in_force s
+            → IsConnection terms.now.keep others (told terms.now.in_force) (F.content forests.old self.old.forest) self.old notes.old ledger.old.counts h
+            → Reached terms.now.keep others (active_in (told terms.now.in_force) (F.content forests.new self.new.forest)) self.new.socket notes.new ledger.new
             (F.interns forests.old) (F.interns forests.new) h.altered (sender_phase (A.meaning terms.now.app.now) s arrived.now.number arrived.now.from arrived.now.head.now h)) }
         ensures rise { RiseBy 1530 ledger.old.counts ledger.new.counts }
         ensures count { self.new.count ≡ self.old.count }
@@ -183,15 +183,15 @@ impl Flow {
     ) -> Result<(), AllocError>
         requires count { self.old.count < 2 ^ 30 }
         requires answered { F.answered forests.old self.old.forest }
-        requires forest { IsForestIn (defs_at terms.now.control) (told terms.now.control) (F.content forests.old self.old.forest) }
+        requires forest { IsForestIn (defs_at terms.now.in_force) (told terms.now.in_force) (F.content forests.old self.old.forest) }
         requires callbacks { ledger.old.counts.callbacks < 2 ^ 61 }
         requires weight { ledger.old.counts.weight < 2 ^ 61 }
         ensures answered { F.answered forests.new self.new.forest }
-        ensures forest { IsForestIn (defs_at terms.now.control) (told terms.now.control) (F.content forests.new self.new.forest) }
+        ensures forest { IsForestIn (defs_at terms.now.in_force) (told terms.now.in_force) (F.content forests.new self.new.forest) }
         ensures kept { Keeps F.answered F.content forests.old forests.new }
-        ensures stands { OnOk result ((s : ControlState) (others : Counts) (c : Course) → IsInForce terms.now.control s
-            → IsUnder terms.now.keep others (active_in (told terms.now.control) (F.content forests.old self.old.forest)) self.old.socket notes.old ledger.old c
-            → Reached terms.now.keep others (active_in (told terms.now.control) (F.content forests.new self.new.forest)) self.new.socket notes.new ledger.new
+        ensures stands { OnOk result ((s : ControlState) (others : Counts) (c : Course) → IsInForce terms.now.in_force s
+            → IsUnder terms.now.keep others (active_in (told terms.now.in_force) (F.content forests.old self.old.forest)) self.old.socket notes.old ledger.old c
+            → Reached terms.now.keep others (active_in (told terms.now.in_force) (F.content forests.new self.new.forest)) self.new.socket notes.new ledger.new
             (F.interns forests.old) (F.interns forests.new) c.altered (receiver_phase (A.meaning terms.now.app.now) s arrived.now.number arrived.now.from arrived.now.head.now arrived.now.payload.now self.old.count c)) }
         ensures rise { RiseBy 1530 ledger.old.counts ledger.new.counts }
         ensures count { self.new.count ≤ self.old.count + 1 }
@@ -222,15 +222,15 @@ impl Flow {
     ) -> Result<(), AllocError>
         requires count { self.old.count < 2 ^ 30 }
         requires answered { F.answered forests.old self.old.forest }
-        requires forest { IsForestIn (defs_at terms.now.control) (told terms.now.control) (F.content forests.old self.old.forest) }
+        requires forest { IsForestIn (defs_at terms.now.in_force) (told terms.now.in_force) (F.content forests.old self.old.forest) }
         requires callbacks { ledger.old.counts.callbacks < 2 ^ 61 }
         requires weight { ledger.old.counts.weight < 2 ^ 61 }
         ensures answered { F.answered forests.new self.new.forest }
-        ensures forest { IsForestIn (defs_at terms.now.control) (told terms.now.control) (F.content forests.new self.new.forest) }
+        ensures forest { IsForestIn (defs_at terms.now.in_force) (told terms.now.in_force) (F.content forests.new self.new.forest) }
         ensures kept { Keeps F.answered F.content forests.old forests.new }
-        ensures stands { OnOk result ((s : ControlState) (others : Counts) (h : History) (c : Course) → IsInForce terms.now.control s → self.old.count ≡ h.count
-            → IsUnder terms.now.keep others (active_in (told terms.now.control) (F.content forests.old self.old.forest)) self.old.socket notes.old ledger.old c
-            → Stepped terms.now.keep others (told terms.now.control) (F.content forests.new self.new.forest) self.new notes.new ledger.new.counts (F.interns forests.old) (F.interns forests.new) c.altered
+        ensures stands { OnOk result ((s : ControlState) (others : Counts) (h : History) (c : Course) → IsInForce terms.now.in_force s → self.old.count ≡ h.count
+            → IsUnder terms.now.keep others (active_in (told terms.now.in_force) (F.content forests.old self.old.forest)) self.old.socket notes.old ledger.old c
+            → Stepped terms.now.keep others (told terms.now.in_force) (F.content forests.new self.new.forest) self.new notes.new ledger.new.counts (F.interns forests.old) (F.interns forests.new) c.altered
             (received_unless c.drop arrived.now.number c (receiver_phase (A.meaning terms.now.app.now) s arrived.now.number arrived.now.from arrived.now.head.now arrived.now.payload.now h.count c) h)) }
         ensures rise { RiseBy 1530 ledger.old.counts ledger.new.counts }
         ensures count { self.new.count ≤ self.old.count + 1 }
@@ -259,29 +259,29 @@ impl Flow {
     ) -> Result<Step, AllocError>
         requires count { self.old.count < 2 ^ 30 }
         requires answered { F.answered forests.old self.old.forest }
-        requires forest { IsForestIn (defs_at terms.now.control) (told terms.now.control) (F.content forests.old self.old.forest) }
+        requires forest { IsForestIn (defs_at terms.now.in_force) (told terms.now.in_force) (F.content forests.old self.old.forest) }
         requires callbacks { ledger.old.counts.callbacks < 2 ^ 60 }
         requires weight { ledger.old.counts.weight < 2 ^ 60 }
         ensures answered { F.answered forests.new self.new.forest }
-        ensures forest { IsForestIn (defs_at terms.now.control) (told terms.now.control) (F.content forests.new self.new.forest) }
+        ensures forest { IsForestIn (defs_at terms.now.in_force) (told terms.now.in_force) (F.content forests.new self.new.forest) }
         ensures kept { Keeps F.answered F.content forests.old forests.new }
-        ensures stands { OnOk result ((s : ControlState) (others : Counts) (h : History) → IsInForce terms.now.control s
-            → IsConnection terms.now.keep others (told terms.now.control) (F.content forests.old self.old.forest) self.old notes.old ledger.old.counts h
-            → IsConnection terms.now.keep others (told terms.now.control) (F.content forests.new self.new.forest) self.new notes.new ledger.new.counts (followed (A.meaning terms.now.app.now) s arrived.now.number arrived.now.from arrived.now.head.now arrived.now.payload.now h)) }
+        ensures stands { OnOk result ((s : ControlState) (others : Counts) (h : History) → IsInForce terms.now.in_force s
+            → IsConnection terms.now.keep others (told terms.now.in_force) (F.content forests.old self.old.forest) self.old notes.old ledger.old.counts h
+            → IsConnection terms.now.keep others (told terms.now.in_force) (F.content forests.new self.new.forest) self.new notes.new ledger.new.counts (followed (A.meaning terms.now.app.now) s arrived.now.number arrived.now.from arrived.now.head.now arrived.now.payload.now h)) }
 
         // At most one intern for each change that altered the private list.
-        ensures interned { OnOk result ((s : ControlState) (others : Counts) (h : History) → IsInForce terms.now.control s
-            → IsConnection terms.now.keep others (told terms.now.control) (F.content forests.old self.old.forest) self.old notes.old ledger.old.counts h
+        ensures interned { OnOk result ((s : ControlState) (others : Counts) (h : History) → IsInForce terms.now.in_force s
+            → IsConnection terms.now.keep others (told terms.now.in_force) (F.content forests.old self.old.forest) self.old notes.old ledger.old.counts h
             → InternsWithin (F.interns forests.old) (F.interns forests.new) h.altered (followed (A.meaning terms.now.app.now) s arrived.now.number arrived.now.from arrived.now.head.now arrived.now.payload.now h).altered) }
 
-        ensures over { IfOk result (λ step. (s : ControlState) (others : Counts) (h : History) → IsInForce terms.now.control s
-            → IsConnection terms.now.keep others (told terms.now.control) (F.content forests.old self.old.forest) self.old notes.old ledger.old.counts h
+        ensures over { IfOk result (λ step. (s : ControlState) (others : Counts) (h : History) → IsInForce terms.now.in_force s
+            → IsConnection terms.now.keep others (told terms.now.in_force) (F.content forests.old self.old.forest) self.old notes.old ledger.old.counts h
             → step.over ≡ is_over (followed (A.meaning terms.now.app.now) s arrived.now.number arrived.now.from arrived.now.head.now arrived.now.payload.now h)) }
-        ensures verdict { IfOk result (λ step. (s : ControlState) (others : Counts) (h : History) → IsInForce terms.now.control s
-            → IsConnection terms.now.keep others (told terms.now.control) (F.content forests.old self.old.forest) self.old notes.old ledger.old.counts h
+        ensures verdict { IfOk result (λ step. (s : ControlState) (others : Counts) (h : History) → IsInForce terms.now.in_force s
+            → IsConnection terms.now.keep others (told terms.now.in_force) (F.content forests.old self.old.forest) self.old notes.old ledger.old.counts h
             → step.verdict ≡ verdict (A.meaning terms.now.app.now) s arrived.now.number arrived.now.from arrived.now.head.now h) }
-        ensures drops { IfOk result (λ step. (s : ControlState) (others : Counts) (h : History) → IsInForce terms.now.control s
-            → IsConnection terms.now.keep others (told terms.now.control) (F.content forests.old self.old.forest) self.old notes.old ledger.old.counts h
+        ensures drops { IfOk result (λ step. (s : ControlState) (others : Counts) (h : History) → IsInForce terms.now.in_force s
+            → IsConnection terms.now.keep others (told terms.now.in_force) (F.content forests.old self.old.forest) self.old notes.old ledger.old.counts h
             → (followed (A.meaning terms.now.app.now) s arrived.now.number arrived.now.from arrived.now.head.now arrived.now.payload.now h).drops ≡ h.drops ++ drops_of step.verdict arrived.now.number) }
         ensures rise { RiseBy 3060 ledger.old.counts ledger.new.counts }
         ensures count { self.new.count ≤ self.old.count + 1 }

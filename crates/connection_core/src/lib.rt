@@ -5,8 +5,8 @@
 
 mod calls;
 mod changes;
-mod control;
 mod flow;
+mod in_force;
 pub mod laws;
 mod ledger;
 mod look;
@@ -14,9 +14,12 @@ mod moment;
 mod orphan;
 mod terms;
 
-pub use control::Control;
 pub use flow::{Flow, Step};
+pub use in_force::InForce;
 pub use ledger::{Counts, Ledger, Notes};
 pub use moment::Arrived;
 pub use orphan::lone;
 pub use terms::Terms;
+
+#[cfg(test)]
+mod tests;

@@ -20,8 +20,6 @@ use tcp_emulation::Side;
 /// The most bytes that one peek sees.
 const LONGEST: usize = 256;
 
-const MOST: u32 = LONGEST as u32;
-
 /// What a callback saw.
 #[derive(Drop)]
 pub(crate) struct Looked {
@@ -90,12 +88,10 @@ fn look_into(
     ensures stands { (e : Emulation) → SocketStandsFor socket.old e → SocketStandsFor socket.new (after_seen from (PeekSpecOf.Next (length buf.old)) e) }
     ensures as_far { IsAsFar socket.old socket.new }
 {
-    let most = buf.len() as u32;
     let peeked = socket.peek(from, buf);
-    let got = peeked.len.min(most);
-    let bytes = kept_bytes(alloc, keep, &buf[..got as usize])?;
+    let bytes = kept_bytes(alloc, keep, &buf[..peeked.len as usize])?;
     Ok(Looked {
-        got,
+        got: peeked.len,
         seen: Seen::Next {
             at: peeked.at,
             missed: peeked.missed,
@@ -138,7 +134,6 @@ fn look_at(
     let mut got = 0;
     let stream = socket.stream(from);
     for (place, run) in socket.ppeek(from, off, u32::from(len)) {
-        let run = run.min(MOST - got);
         got += run;
         note_piece(alloc, keep, stream, place, run, &mut pieces)?;
     }

@@ -4,7 +4,7 @@ ghost use Rattle.std.specs.Prelude.{◌≡◌, ◌<◌, ◌^◌, [], OnOk, IfOk}
 ghost use Rattle.builtin_events.specs.Raised.{raises_of};
 ghost use Rattle.forest_versions.specs.State.{ControlState, active as first_active};
 ghost use Rattle.connection_core.specs.declared.ledger.Counts.{Counts};
-ghost use Rattle.connection_core.specs.Control.{told, defs_at, IsInForce};
+ghost use Rattle.connection_core.specs.InForce.{told, defs_at, IsInForce};
 ghost use Rattle.connection_core.specs.Trees.{active_in, IsForestIn};
 ghost use Rattle.connection_core.specs.History.{orphaned, orphan_verdict, drops_of};
 ghost use Rattle.connection_core.specs.Standing.{IsNoted, RiseBy};
@@ -33,19 +33,19 @@ pub fn lone<A: App, F: ForestView>(
     ledger: &mut Ledger,
 ) -> Result<Verdict, AllocError>
     requires answered { F.answered forests.now forest.now }
-    requires forest { IsForestIn (defs_at terms.now.control) (told terms.now.control) (F.content forests.now forest.now) }
+    requires forest { IsForestIn (defs_at terms.now.in_force) (told terms.now.in_force) (F.content forests.now forest.now) }
     requires callbacks { ledger.old.counts.callbacks < 2 ^ 60 }
     requires weight { ledger.old.counts.weight < 2 ^ 60 }
-    ensures stands { OnOk result ((s : ControlState) (others : Counts) → IsInForce terms.now.control s
-        → active_in (told terms.now.control) (F.content forests.now forest.now) ≡ first_active s
+    ensures stands { OnOk result ((s : ControlState) (others : Counts) → IsInForce terms.now.in_force s
+        → active_in (told terms.now.in_force) (F.content forests.now forest.now) ≡ first_active s
         → IsNoted terms.now.keep others (A.meaning terms.now.app.now).fresh [] notes.old ledger.old.counts
         → IsNoted terms.now.keep others (orphaned (A.meaning terms.now.app.now) s number (raises_of raised)).tally (orphaned (A.meaning terms.now.app.now) s number (raises_of raised)).entries notes.new ledger.new.counts) }
-    ensures verdict { IfOk result (λ verdict. (s : ControlState) (others : Counts) → IsInForce terms.now.control s
-        → active_in (told terms.now.control) (F.content forests.now forest.now) ≡ first_active s
+    ensures verdict { IfOk result (λ verdict. (s : ControlState) (others : Counts) → IsInForce terms.now.in_force s
+        → active_in (told terms.now.in_force) (F.content forests.now forest.now) ≡ first_active s
         → IsNoted terms.now.keep others (A.meaning terms.now.app.now).fresh [] notes.old ledger.old.counts
         → verdict ≡ orphan_verdict (A.meaning terms.now.app.now) s number (raises_of raised)) }
-    ensures drops { IfOk result (λ verdict. (s : ControlState) (others : Counts) → IsInForce terms.now.control s
-        → active_in (told terms.now.control) (F.content forests.now forest.now) ≡ first_active s
+    ensures drops { IfOk result (λ verdict. (s : ControlState) (others : Counts) → IsInForce terms.now.in_force s
+        → active_in (told terms.now.in_force) (F.content forests.now forest.now) ≡ first_active s
         → IsNoted terms.now.keep others (A.meaning terms.now.app.now).fresh [] notes.old ledger.old.counts
         → (orphaned (A.meaning terms.now.app.now) s number (raises_of raised)).drops ≡ drops_of verdict number) }
     ensures rise { RiseBy 1530 ledger.old.counts ledger.new.counts }
@@ -56,7 +56,7 @@ pub fn lone<A: App, F: ForestView>(
         from: Side::Client,
         raised,
     };
-    let mut socket = FlowSocket::new(alloc, terms.control.rbuf(), terms.control.policy());
+    let mut socket = FlowSocket::new(alloc, terms.in_force.rbuf(), terms.in_force.policy());
     let tree = forests.tree_of(forest);
     terms.raise_all(alloc, tree, &phase, &mut socket, notes, ledger)?;
     Ok(verdict_of(ledger.drop))

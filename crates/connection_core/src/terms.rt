@@ -2,10 +2,10 @@
 
 ghost use Rattle.std.specs.Prelude.{◌≡◌, IsTrue};
 ghost use Rattle.forest_versions.specs.State.{ControlState};
-ghost use Rattle.connection_core.specs.Control.{IsInForce};
+ghost use Rattle.connection_core.specs.InForce.{IsInForce};
 ghost use Rattle.connection_core.specs.Course.{reaction_of, asked_by};
 
-use crate::control::Control;
+use crate::in_force::InForce;
 use app_api::{App, Call, Reaction, Reason, Reg, Tally};
 use native_filters::NativeBook;
 
@@ -14,7 +14,7 @@ use native_filters::NativeBook;
 pub struct Terms<'a, A> {
     pub app: &'a A,
     /// What is in force for the connection.
-    pub control: Control<'a>,
+    pub in_force: InForce<'a>,
     pub natives: &'a NativeBook,
     /// Whether entries are kept.
     pub keep: bool,
@@ -26,11 +26,11 @@ const FIRST_OF_SCRIPTS: u8 = 16;
 impl<A: App> Terms<'_, A> {
     /// Runs a callback: a preset's application, or the action of a script's registration.
     pub(crate) fn react(&self, reg: &Reg, call: &Call, tally: &mut Tally) -> Reaction
-        ensures tally { (s : ControlState) → IsInForce self.now.control s → tally.new ≡ (reaction_of (A.meaning self.now.app.now) s.rules reg.now call.now tally.old).0 }
-        ensures reaction { (s : ControlState) → IsInForce self.now.control s → result ≡ (reaction_of (A.meaning self.now.app.now) s.rules reg.now call.now tally.old).1 }
+        ensures tally { (s : ControlState) → IsInForce self.now.in_force s → tally.new ≡ (reaction_of (A.meaning self.now.app.now) s.rules reg.now call.now tally.old).0 }
+        ensures reaction { (s : ControlState) → IsInForce self.now.in_force s → result ≡ (reaction_of (A.meaning self.now.app.now) s.rules reg.now call.now tally.old).1 }
     {
         if reg.number < FIRST_OF_SCRIPTS {
-            self.app.react(tally, call, self.control.rules())
+            self.app.react(tally, call, self.in_force.rules())
         } else {
             asked_by(reg)
         }

@@ -12,7 +12,8 @@ ghost use Rattle.event_trees.specs.Edit.{IsForestOf};
 ghost use Rattle.forest_versions.specs.declared.command.Command.{Command as CommandOf};
 ghost use Rattle.forest_versions.specs.State.{ControlState, active, after};
 ghost use Rattle.forest_versions.specs.Lawful.{is_lawful};
-ghost use Rattle.forest_versions.specs.Past.{noted, AreBefore};
+ghost use Rattle.forest_versions.specs.Past.{line_of, noted, AreBefore};
+ghost use Rattle.forest_versions.specs.Timeline.{as_of};
 ghost use Rattle.forest_versions.specs.Master.{defs_of, Tells, StandsFor};
 
 use crate::command::Command;
@@ -144,9 +145,17 @@ impl Master {
         &self.control
     }
 
+    /// What is told of the present version is what is in force now.
+    pub fn tells_the_present(&self)
+        ensures { Tells self.now self.now.version self.now.now }
+    {
+        let _now = &self.control;
+    }
+
     /// The registration of a number at a version. None where it isn't registered there.
     pub fn reg_at(&self, version: u32, number: u8) -> Option<&Reg>
         ensures reg { (s : ControlState) → Tells self.now version s → option_copied result ≡ reg_of s.regs number }
+        ensures line { option_copied result ≡ as_of (line_of self.now.past number) version }
         ensures number { IfSome result (λ r. r.now.number ≡ number) }
         ensures low { IfSome result (λ r. 1 ≤ r.now.number) }
         ensures event { IfSome result (λ r. IsTrue (is_event (defs_of self.now) r.now.event)) }

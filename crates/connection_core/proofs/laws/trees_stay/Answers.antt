@@ -7,4 +7,4 @@ returns-clause-forest c = λ earlier at now tree more same forest.
     forest_stays earlier c.args.defs.now at now tree (λ list. later.private earlier list more) (λ list. later.listing earlier list more) same forest
 
 pub returns-clause-list : goal.returns-clause-list
-returns-clause-list c = λ at now tree same. list_stays at now tree same
+returns-clause-list c = λ earlier at now tree same forest. list_stays earlier at now tree same forest

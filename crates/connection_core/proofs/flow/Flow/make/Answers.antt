@@ -2,7 +2,7 @@ use Rattle.std.proofs.Common.{sym, subst}
 use Rattle.flow_socket.specs.View.{SocketView}
 use Rattle.shared_forest.specs.Lists.{TreeLists}
 use Rattle.builtin_events.specs.Raised.{raises_of}
-use Rattle.connection_core.specs.Control.{told}
+use Rattle.connection_core.specs.InForce.{told}
 use Rattle.connection_core.specs.Course.{raised}
 use Rattle.connection_core.specs.Trees.{active_in}
 use Rattle.connection_core.specs.Standing.{Steps}
@@ -12,7 +12,7 @@ use Rattle.connection_core.proofs.flow.Flow.make.Goals as goal
 pub returns-clause-made : goal.returns-clause-made
 returns-clause-made g c = λ s force.
     let app = g.A.App.meaning c.args.terms.now.app.now in
-    let at = told c.args.terms.now.control in
+    let at = told c.args.terms.now.in_force in
     let keep = c.args.terms.now.keep in
     let step = raised app s c.args.phase.now.number c.args.phase.now.from (raises_of c.args.phase.now.raised) in
     let steps = subst (λ (t : TreeLists). Steps keep (active_in at t) c.args.self.now.socket c.args.notes.now c.make_room.new.self c.raise_all.new.socket c.raise_all.new.notes c.raise_all.new.ledger step)

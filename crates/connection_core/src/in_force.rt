@@ -1,56 +1,27 @@
 //! What is in force for a connection.
 
 ghost use Rattle.std.specs.Prelude.{◌≡◌, ◌≤◌, IsTrue, IfSome};
-ghost use Rattle.std.specs.List.{All};
 ghost use Rattle.std.specs.Option.{option_copied};
 ghost use Rattle.app_api.specs.App.{are_rules};
 ghost use Rattle.connection_core.specs.Registered.{IsRegistered};
 
 use app_api::{Reg, Rule};
 use event_trees::Defs;
+use forest_versions::Master;
 use reassembly::Policy;
 
-/// What is in force for a connection.
+/// What is in force for a connection: what the master tells of the connection's version.
 #[derive(Clone, Copy)]
-pub struct Control<'a> {
-    defs: &'a Defs,
-    regs: &'a [Reg],
-    policy: Policy,
-    rbuf: u32,
-    rules: &'a [Rule],
-    ghost registered: { All (IsRegistered defs.now) regs.now },
-    ghost least: { 1 ≤ rbuf },
-    ghost most: { rbuf ≤ 1048576 },
-    ghost rising: { IsTrue (are_rules rules.now) },
+pub struct InForce<'a> {
+    /// The commands so far.
+    pub master: &'a Master,
+    /// How many of them were given when the connection began.
+    pub version: u32,
 }
 
-impl<'a> Control<'a> {
-    ghost use Rattle.std.specs.Prelude.{ℕ};
+impl InForce<'_> {
     ghost use Rattle.forest_versions.specs.State.{ControlState};
-    ghost use Rattle.connection_core.specs.Control.{told, defs_at, IsInForce};
-
-    /// These definitions, registrations and rules, and these settings of the streams.
-    pub fn new(
-        defs: &'a Defs,
-        regs: &'a [Reg],
-        policy: Policy,
-        rbuf: u32,
-        rules: &'a [Rule],
-    ) -> Control<'a>
-        requires regs { All (IsRegistered defs.now) regs.now }
-        requires least { 1 ≤ rbuf }
-        requires most { rbuf ≤ 1048576 }
-        requires rules { IsTrue (are_rules rules.now) }
-        ensures regs { result.regs.now ≡ regs.now }
-    {
-        Control {
-            defs,
-            regs,
-            policy,
-            rbuf,
-            rules,
-        }
-    }
+    ghost use Rattle.connection_core.specs.InForce.{told, defs_at, IsInForce};
 
     /// The registration of a number.
     pub(crate) fn reg_at(&self, number: u8) -> Option<&Reg>
@@ -58,14 +29,14 @@ impl<'a> Control<'a> {
         ensures number { IfSome result (λ r. r.now.number ≡ number) }
         ensures lawful { IfSome result (λ r. IsRegistered (defs_at self.now) r.now) }
     {
-        self.regs.iter().find(|reg| reg.number == number)
+        self.master.reg_at(self.version, number)
     }
 
-    /// The definitions, by which registrations are called and trees are edited.
+    /// The present definitions, by which registrations are called and trees are edited.
     pub(crate) fn defs(&self) -> &Defs
         ensures { result.now ≡ defs_at self.now }
     {
-        self.defs
+        self.master.defs()
     }
 
     /// The rules of the application.
@@ -73,14 +44,14 @@ impl<'a> Control<'a> {
         ensures rules { (s : ControlState) → IsInForce self.now s → result.now ≡ s.rules }
         ensures lawful { IsTrue (are_rules result.now) }
     {
-        self.rules
+        self.master.rules_at(self.version)
     }
 
     /// Which byte stays where segments overlap.
     pub(crate) fn policy(&self) -> Policy
         ensures { (s : ControlState) → IsInForce self.now s → result ≡ s.policy }
     {
-        self.policy
+        self.master.policy_at(self.version)
     }
 
     /// The receive buffer of each end, in bytes.
@@ -89,6 +60,6 @@ impl<'a> Control<'a> {
         ensures least { 1 ≤ result }
         ensures most { result ≤ 1048576 }
     {
-        self.rbuf
+        self.master.rbuf_at(self.version)
     }
 }
