@@ -1,13 +1,13 @@
 -- What was taken from the lanes, under the right answers.
-use Rattle.std.proofs.Common.{◌≡◌, ◌+◌, ◌<◌, ◌≤◌, ℕ, zero, suc, refl, sym, ap, ◌∙◌, subst, Bool, true, false, Option, Some, None, List, [], ◌∷◌, ◌++◌, length, get_or, take, map, arith, inl, inr, ⊎_elim, append_assoc}
+use Rattle.std.proofs.Common.{◌≡◌, ◌+◌, ◌<◌, ◌≤◌, ℕ, zero, suc, refl, sym, ap, ◌∙◌, subst, true, false, Some, None, List, [], ◌∷◌, ◌++◌, length, get_or, take, map, arith, ⊎_elim, append_assoc}
 use Rattle.std.specs.Prelude.{if◌then◌else◌, nat_lt}
-use Rattle.std.proofs.lemmas.List.{length_push, length-append, length-map, get_or_append_left, get_or_push, map-append, take-append-le, take_at, get_or-take, get_or-map}
-use Rattle.std.proofs.lemmas.Bool.{cases_eq, cases_lt, lt-ltb, le-ltb, ltb-true, ltb-false}
+use Rattle.std.proofs.lemmas.List.{length_push, length-map, get_or_push, map-append, take-append-le, take_at, get_or-take, get_or-map}
+use Rattle.std.proofs.lemmas.Bool.{cases_eq, cases_lt, lt-ltb, le-ltb}
 use mathlib.Core.List.{IsPrefix}
 use Rattle.lane_rings.specs.declared.items.Answer.{Answer}
 use Rattle.lane_rings.specs.Share.{share, rank}
 use Rattle.lane_rings.specs.Forward.{AreFronts, is_taken, answer_of}
-use Rattle.lane_rings.proofs.Shares.{share-more, share-longer, rank-within, rank-one, IsRanked, ranked}
+use Rattle.lane_rings.proofs.Shares.{share-more, rank-one}
 
 -- a test below one number more
 lt_more : (r t u : ℕ) → u ≡ t + 1 → (r ≡ t → ⊥) → nat_lt r u ≡ nat_lt r t

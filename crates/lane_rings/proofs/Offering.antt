@@ -1,13 +1,13 @@
 -- An answer that is offered under the right answers isn't handed back, and all stays right.
-use Rattle.std.proofs.Common.{◌≡◌, ◌+◌, ◌-◌, ◌<◌, ◌≤◌, ℕ, suc, refl, sym, ap, ◌∙◌, subst, Bool, true, false, Option, Some, None, List, [], ◌∷◌, ◌++◌, length, get_or, set, take, map, arith, ⊎_elim, get_or-set_same, get_or-set_other}
-use Rattle.std.specs.Prelude.{if◌then◌else◌, nat_lt, nat_le, is_some, ◌||◌}
+use Rattle.std.proofs.Common.{◌≡◌, ◌+◌, ◌-◌, ◌<◌, ◌≤◌, ℕ, refl, sym, ap, ◌∙◌, subst, Bool, true, false, Some, None, List, [], ◌∷◌, ◌++◌, length, get_or, set, arith, ⊎_elim, get_or-set_same, get_or-set_other}
+use Rattle.std.specs.Prelude.{if◌then◌else◌, is_some}
 use Rattle.std.proofs.lemmas.List.{length-set}
 use Rattle.std.proofs.lemmas.Bool.{cases_eq, cases_lt, le-ltb, lt-leb, both_ways}
 use Rattle.lane_rings.specs.declared.items.Answer.{Answer}
 use Rattle.lane_rings.specs.Waiting.{Waiting, is_refused, holding}
 use Rattle.lane_rings.specs.Share.{share, rank}
-use Rattle.lane_rings.specs.Forward.{Leaving, offered, AreFronts, AreIndexed, is_taken, answer_of, IsRight, Keeps}
-use Rattle.lane_rings.proofs.Shares.{IsRanked, ranked}
+use Rattle.lane_rings.specs.Forward.{Leaving, offered, is_taken, answer_of, IsRight, Keeps}
+use Rattle.lane_rings.proofs.Shares.{ranked}
 use Rattle.lane_rings.proofs.Fronts.{fronts_before, taken_is, sent_after, was_not_taken, is_taken_now, no_other, other_answer}
 
 -- an answer whose place is free is taken up

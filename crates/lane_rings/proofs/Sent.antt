@@ -1,10 +1,10 @@
 -- What a run keeps depends on the lanes of the packets that were sent alone.
-use Rattle.std.proofs.Common.{◌≡◌, ◌+◌, ◌<◌, ◌≤◌, ℕ, zero, suc, refl, sym, ap, ◌∙◌, subst, Bool, true, false, Option, Some, None, List, [], ◌∷◌, ◌++◌, length, take, map, get_or, arith, ⊎_elim}
+use Rattle.std.proofs.Common.{◌≡◌, ◌+◌, ◌<◌, ◌≤◌, ℕ, zero, suc, refl, sym, ap, ◌∙◌, subst, Some, None, List, [], ◌∷◌, ◌++◌, length, take, map, arith, ⊎_elim}
 use Rattle.std.specs.Prelude.{if◌then◌else◌, ◌==◌, nat_lt}
-use Rattle.std.proofs.lemmas.Bool.{cases_lt, le-ltb, both_ways, false_from_ne_true}
+use Rattle.std.proofs.lemmas.Bool.{cases_lt, false_from_ne_true}
 use Rattle.lane_rings.specs.declared.items.Answer.{Answer}
-use Rattle.lane_rings.specs.Share.{share, rank}
-use Rattle.lane_rings.specs.Forward.{Leaving, AreFronts, AreIndexed, is_taken, answer_of, IsRight, Keeps}
+use Rattle.lane_rings.specs.Share.{share}
+use Rattle.lane_rings.specs.Forward.{Leaving, AreFronts, is_taken, answer_of, IsRight, Keeps}
 use Rattle.lane_rings.proofs.Shares.{share-own, share-other}
 use Rattle.lane_rings.proofs.Writing.{taken_sent}
 

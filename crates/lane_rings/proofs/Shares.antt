@@ -1,8 +1,7 @@
 -- The shares of lanes: a longer one begins with a shorter one, and a packet is found in its lane's share by its rank.
-use Rattle.std.proofs.Common.{◌≡◌, ◌+◌, ◌-◌, ◌<◌, ◌≤◌, ℕ, zero, suc, refl, sym, ap, ◌∙◌, subst, Bool, true, false, List, [], ◌∷◌, ◌++◌, length, get_or, take, map, arith, inl, inr, ⊎_elim, eqb, append_assoc, append-nil}
-use Rattle.std.specs.Prelude.{if◌then◌else◌, ◌==◌}
-use Rattle.std.proofs.lemmas.List.{length_push, length-append, get_or_append_left, get_or_push, map-append, take-append-le, length-map}
-use Rattle.std.proofs.lemmas.Bool.{cases_eq, cases_lt, cases_order, cases_Bool, eqb-true, eq-eqb, ne_eqb}
+use Rattle.std.proofs.Common.{◌≡◌, ◌+◌, ◌-◌, ◌<◌, ◌≤◌, ℕ, zero, suc, refl, sym, ap, ◌∙◌, subst, List, [], ◌∷◌, ◌++◌, length, get_or, arith, ⊎_elim, append_assoc, append-nil}
+use Rattle.std.proofs.lemmas.List.{length_push, length-append, get_or_append_left, get_or_push}
+use Rattle.std.proofs.lemmas.Bool.{cases_eq, cases_lt, cases_order, eq-eqb, ne_eqb}
 use Rattle.lane_rings.specs.Share.{share, rank}
 
 module _ (lane : ℕ → ℕ) where

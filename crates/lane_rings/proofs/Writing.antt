@@ -1,13 +1,13 @@
 -- An answer whose turn it is leaves with its bytes.
-use Rattle.std.proofs.Common.{◌≡◌, ◌+◌, ◌-◌, ◌<◌, ◌≤◌, ℕ, zero, suc, refl, sym, ap, ◌∙◌, subst, Bool, true, false, Option, Some, None, List, [], ◌∷◌, ◌++◌, length, get_or, drop, arith, ⊎_elim, append-nil}
+use Rattle.std.proofs.Common.{◌≡◌, ◌+◌, ◌<◌, ◌≤◌, ℕ, zero, suc, refl, sym, ap, ◌∙◌, subst, Bool, true, false, Option, Some, None, List, [], ◌∷◌, ◌++◌, length, get_or, drop, arith, ⊎_elim, append-nil}
 use Rattle.std.specs.Prelude.{if◌then◌else◌, is_some}
 use Rattle.std.proofs.lemmas.List.{length_push}
-use Rattle.std.proofs.lemmas.Bool.{cases_eq, cases_lt, cases_Bool, ltb-true}
+use Rattle.std.proofs.lemmas.Bool.{cases_lt, ltb-true}
 use Rattle.lane_rings.specs.declared.items.Answer.{Answer}
 use Rattle.lane_rings.specs.Waiting.{Waiting, first_of, moved_on}
 use Rattle.lane_rings.specs.Share.{share, rank}
 use Rattle.lane_rings.specs.Forwarded.{bytes_out, forwarded}
-use Rattle.lane_rings.specs.Forward.{Leaving, bytes_of_first, left_first, AreFronts, AreIndexed, is_taken, answer_of, IsRight, Keeps}
+use Rattle.lane_rings.specs.Forward.{Leaving, bytes_of_first, left_first, is_taken, answer_of, IsRight, Keeps}
 use Rattle.lane_rings.proofs.Windows.{appended}
 use Rattle.lane_rings.proofs.Shares.{share-longer}
 
