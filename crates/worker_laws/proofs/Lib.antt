@@ -1,0 +1,12 @@
+mod Restricted
+mod Naming
+mod Joining
+mod Merging
+mod Rising
+mod Allowing
+mod Counting
+mod Judging
+mod Single
+mod Histories
+mod Stamps
+mod Composed
