@@ -1,7 +1,7 @@
 mod Restricted
 mod Naming
 mod Joining
-mod Merging
+mod Parts
 mod Rising
 mod Allowing
 mod Counting
@@ -10,3 +10,6 @@ mod Single
 mod Histories
 mod Stamps
 mod Composed
+mod Lowest
+mod Merged
+mod Reported

@@ -11,12 +11,12 @@ use Rattle.worker_laws.specs.Members.{Members, begun_by, joined_by, name_of, tak
 use Rattle.worker_laws.specs.Rising.{Rises, NeverFalls}
 use Rattle.worker_laws.proofs.Naming.{added_new, added_anyhow}
 
-All-unmap : {T X : Type 0} (P : T → Type 0) (f : X → T) (xs : List X) → All P (map f xs) → All (λ x. P (f x)) xs
+pub All-unmap : {T X : Type 0} (P : T → Type 0) (f : X → T) (xs : List X) → All P (map f xs) → All (λ x. P (f x)) xs
 All-unmap P f [] all = All-nil (λ x. P (f x))
 All-unmap P f (x ∷ xs) all = All-cons (λ y. P (f y)) x xs (All-head P (f x) (map f xs) all) (All-unmap P f xs (All-tail P (f x) (map f xs) all))
 
 -- one left out of the middle
-All-without : {T : Type 0} (P : T → Type 0) (xs : List T) (y : T) (ys : List T) → All P (xs ++ y ∷ ys) → All P (xs ++ ys)
+pub All-without : {T : Type 0} (P : T → Type 0) (xs : List T) (y : T) (ys : List T) → All P (xs ++ y ∷ ys) → All P (xs ++ ys)
 All-without P [] y ys all = All-tail P y ys all
 All-without P (x ∷ xs) y ys all = All-cons P x (xs ++ ys) (All-head P x (xs ++ y ∷ ys) all) (All-without P xs y ys (All-tail P x (xs ++ y ∷ ys) all))
 

@@ -8,3 +8,5 @@ pub mod Allowed
 pub mod Runs
 pub mod Histories
 pub mod Stamps
+pub mod Merge
+pub mod Queues

@@ -4,6 +4,9 @@
 #![tactic(auto)]
 
 pub mod counts;
+mod merging;
 pub mod shares;
 pub mod verdicts;
 pub mod versions;
+
+pub use merging::merge;

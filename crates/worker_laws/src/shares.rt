@@ -5,14 +5,17 @@ ghost use Rattle.std.specs.List.{All};
 ghost use Rattle.flow_table.specs.Key.{EndpointPair};
 ghost use Rattle.app_api.specs.declared.reaction.Verdict.{Verdict};
 ghost use Rattle.forest_versions.specs.State.{ControlState};
+ghost use Rattle.report_text.specs.declared.record.Record.{Record};
 ghost use Rattle.lane_core.specs.Sight.{Arrival};
 ghost use Rattle.lane_core.specs.Records.{VersionedPacket, versioned, records as lane_records};
 ghost use Rattle.worker_laws.specs.Members.{Members, name_of, records};
 ghost use Rattle.worker_laws.specs.Lanes.{lane_of, share, part};
+ghost use Rattle.worker_laws.specs.Named.{records_under};
 ghost use Rattle.worker_laws.specs.Judged.{judged};
 ghost use Rattle.worker_laws.specs.Rising.{Rises};
 ghost use Rattle.worker_laws.specs.Allowed.{arrivals_of};
 ghost use Rattle.worker_laws.specs.Runs.{judged_part, AreRuns};
+ghost use Rattle.worker_laws.specs.Merge.{list_at, names_in, AreOfLanes, IsMerge, lane_at};
 ghost use Rattle.worker_laws.specs.Histories.{over_by, with_history};
 
 /// The records of a lane are those by their packets, each with the history of these.
@@ -53,6 +56,22 @@ pub fn names_differ()
 
 /// A list of records whose names rise is known by its parts: two such lists with the same part for each lane are equal.
 pub fn parts_make_the_whole()
-    ensures equal { (lane : EndpointPair → ℕ) (ms ns : List Members) → Rises (map name_of ms) → Rises (map name_of ns)
+    ensures records { (lane : EndpointPair → ℕ) (ms ns : List Members) → Rises (map name_of ms) → Rises (map name_of ns)
         → ((l : ℕ) → part lane l ms ≡ part lane l ns) → ms ≡ ns }
+    ensures shown { (of : ℕ → ℕ) (rs ss : List Record) → Rises (names_in rs) → Rises (names_in ss)
+        → ((l : ℕ) → filter (λ r. of r.name == l) rs ≡ filter (λ r. of r.name == l) ss) → rs ≡ ss }
+{}
+
+/// What a report shows of the lanes' records can be merged, and merged it is what the report shows of one run over all
+/// packets. `shown` makes of a record what the report shows of it, under its name.
+pub fn merged_lanes_are_one_run()
+    ensures mergeable { (over : ℕ → List Arrival → Bool) (lane : EndpointPair → ℕ) (packets : List Arrival) (parts : ℕ → List VersionedPacket)
+        (vs : List ℕ) (shown : Members → Record) (lists : List (List Record)) → AreRuns over lane packets parts vs
+        → Rises (map (λ a. a.number) packets) → ((m : Members) → (shown m).name ≡ name_of m)
+        → ((l : ℕ) → list_at lists l ≡ map shown (records over (parts l))) → AreOfLanes (lane_at lane packets) lists }
+    ensures merged { (over : ℕ → List Arrival → Bool) (lane : EndpointPair → ℕ) (packets : List Arrival) (parts : ℕ → List VersionedPacket)
+        (vs : List ℕ) (shown : Members → Record) (lists : List (List Record)) (merged : List Record) → AreRuns over lane packets parts vs
+        → Rises (map (λ a. a.number) packets) → ((m : Members) → (shown m).name ≡ name_of m)
+        → ((l : ℕ) → list_at lists l ≡ map shown (records over (parts l))) → IsMerge (lane_at lane packets) lists merged
+        → merged ≡ map shown (records_under over vs packets) }
 {}
