@@ -1,25 +1,24 @@
 -- Versions of lanes make one allowed list.
-use Rattle.std.proofs.Common.{◌≡◌, ◌<◌, ◌≤◌, ◌+◌, ℕ, suc, Bool, true, false, cond, List, [], ◌∷◌, ◌++◌, length, get_or, take, refl, sym, ap, ◌∙◌, subst, map, arith, ⊎_elim, append_assoc}
-use Rattle.std.specs.Prelude.{if◌then◌else◌, ◌==◌, filter}
-use Rattle.std.specs.List.{All, list_any}
-use Rattle.std.proofs.lemmas.List.{length-map, map-append, length-append, length_push, take_more, take_all}
-use Rattle.std.proofs.lemmas.Bool.{cases_Bool, eq-eqb}
-use Rattle.std.proofs.lemmas.List.Elements.{All-nil, All-cons, All-head, All-tail, All-append, All-map, All-weaker}
+use Rattle.std.proofs.Common.{◌≡◌, ◌<◌, ◌≤◌, ℕ, Bool, true, false, cond, List, [], ◌∷◌, ◌++◌, length, refl, sym, ap, ◌∙◌, subst, map, arith}
+use Rattle.std.specs.Prelude.{◌==◌, filter}
+use Rattle.std.specs.List.{All}
+use Rattle.std.proofs.lemmas.List.{length-map, map-append}
+use Rattle.std.proofs.lemmas.Bool.{eq-eqb}
+use Rattle.std.proofs.lemmas.List.Elements.{All-nil, All-cons, All-head, All-tail, All-append}
 use Rattle.flow_table.specs.Key.{EndpointPair}
-use Rattle.app_api.specs.declared.reaction.Verdict.{Verdict}
 use Rattle.lane_core.specs.Sight.{Arrival}
 use Rattle.lane_core.specs.Records.{VersionedPacket, versioned}
-use Rattle.worker_laws.specs.Members.{Members, begun_by, name_of, takes, added, records_from, records}
-use Rattle.worker_laws.specs.Lanes.{lane_of, share, part}
-use Rattle.worker_laws.specs.Named.{named_by, named_from, records_under}
+use Rattle.worker_laws.specs.Members.{name_of, records_from, records}
+use Rattle.worker_laws.specs.Lanes.{lane_of, part}
+use Rattle.worker_laws.specs.Named.{named_from, records_under}
 use Rattle.worker_laws.specs.Judged.{judged_from}
 use Rattle.worker_laws.specs.Rising.{Rises, NeverFalls}
-use Rattle.worker_laws.specs.Allowed.{versions_of, arrivals_of, IsWithin, IsAllowed, AreStamped}
+use Rattle.worker_laws.specs.Allowed.{versions_of, IsWithin, IsAllowed, AreStamped}
 use Rattle.worker_laws.specs.Runs.{judged_part, AreRuns}
 use Rattle.worker_laws.proofs.Restricted.{restricted, judged_restricted}
-use Rattle.worker_laws.proofs.Naming.{added_new, added_anyhow, named_again, judged_again}
-use Rattle.worker_laws.proofs.Joining.{of_lane, IsJoined, lanes_join}
-use Rattle.worker_laws.proofs.Rising.{All-front, of_front, versions_along, all_of_records, numbers_of}
+use Rattle.worker_laws.proofs.Naming.{named_again, judged_again}
+use Rattle.worker_laws.proofs.Joining.{of_lane, IsJoined}
+use Rattle.worker_laws.proofs.Rising.{versions_along, all_of_records, numbers_of}
 
 all_behind : (P : VersionedPacket → Type 0) (p : VersionedPacket) (ps : List VersionedPacket) (b : Bool) → All P (cond b (p ∷ ps) ps) → All P ps
 all_behind P p ps true all = All-tail P p ps all

@@ -1,5 +1,5 @@
 -- The laws on shares, put together.
-use Rattle.std.proofs.Common.{◌≡◌, ◌<◌, ◌≤◌, ◌≢◌, ℕ, Bool, true, false, cond, List, [], ◌∷◌, ◌++◌, refl, sym, ap, ◌∙◌, subst, map, arith, ⊎_elim, append-nil}
+use Rattle.std.proofs.Common.{◌≡◌, ◌<◌, ◌≤◌, ◌≢◌, ℕ, Bool, true, false, cond, List, [], ◌∷◌, ◌++◌, refl, sym, ap, ◌∙◌, subst, map, arith}
 use Rattle.std.specs.Prelude.{◌==◌, filter}
 use Rattle.std.specs.List.{All}
 use Rattle.std.proofs.lemmas.List.{map-append}
@@ -21,8 +21,8 @@ use Rattle.worker_laws.specs.Allowed.{versions_of, arrivals_of, IsWithin, IsAllo
 use Rattle.worker_laws.specs.Runs.{judged_part, AreRuns}
 use Rattle.worker_laws.specs.Histories.{over_by, with_history}
 use Rattle.worker_laws.proofs.Restricted.{restricted, judged_restricted}
-use Rattle.worker_laws.proofs.Joining.{of_lane, IsJoined, lanes_join, versioned_share}
-use Rattle.worker_laws.proofs.Rising.{All-front, Rises-front, names_of, numbers_of}
+use Rattle.worker_laws.proofs.Joining.{of_lane, lanes_join, versioned_share}
+use Rattle.worker_laws.proofs.Rising.{names_of, numbers_of}
 use Rattle.worker_laws.proofs.Allowing.{lanes_are_runs, joined_allowed, continued_stamped}
 use Rattle.worker_laws.proofs.Counting.{more_packets, part_at_most}
 use Rattle.worker_laws.proofs.Judging.{judged_more}

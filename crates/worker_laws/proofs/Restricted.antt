@@ -1,6 +1,6 @@
 -- The records of some lanes' packets alone.
 use Rattle.std.proofs.Common.{◌≡◌, ℕ, Bool, true, false, cond, List, [], ◌∷◌, refl, sym, ap, ◌∙◌}
-use Rattle.std.specs.Prelude.{if◌then◌else◌, ◌&&◌, filter}
+use Rattle.std.specs.Prelude.{if◌then◌else◌, filter}
 use Rattle.std.proofs.lemmas.Bool.{and_parts}
 use Rattle.app_api.specs.declared.reaction.Verdict.{Verdict}
 use Rattle.lane_core.specs.Sight.{Sight, Tcp, Other, Arrival, key_of_segment}

@@ -1,5 +1,5 @@
 -- Numbers that rise, or don't fall, still do where some are left out.
-use Rattle.std.proofs.Common.{◌≡◌, ◌<◌, ◌≤◌, ℕ, Bool, true, false, cond, List, [], ◌∷◌, ◌++◌, refl, sym, ap, ◌∙◌, subst, map, ⊎_elim, append_assoc, append-nil}
+use Rattle.std.proofs.Common.{◌≡◌, ◌<◌, ◌≤◌, ℕ, Bool, true, false, List, [], ◌∷◌, ◌++◌, refl, sym, ap, ◌∙◌, subst, map, ⊎_elim, append_assoc, append-nil}
 use Rattle.std.specs.Prelude.{if◌then◌else◌, ◌||◌}
 use Rattle.std.specs.List.{All, list_any}
 use Rattle.std.proofs.lemmas.List.{map-append}
@@ -9,7 +9,7 @@ use Rattle.lane_core.specs.Sight.{Arrival}
 use Rattle.lane_core.specs.Records.{VersionedPacket}
 use Rattle.worker_laws.specs.Members.{Members, begun_by, joined_by, name_of, takes, added, records_from}
 use Rattle.worker_laws.specs.Rising.{Rises, NeverFalls}
-use Rattle.worker_laws.proofs.Naming.{added_new, added_anyhow}
+use Rattle.worker_laws.proofs.Naming.{added_new}
 
 pub All-unmap : {T X : Type 0} (P : T → Type 0) (f : X → T) (xs : List X) → All P (map f xs) → All (λ x. P (f x)) xs
 All-unmap P f [] all = All-nil (λ x. P (f x))

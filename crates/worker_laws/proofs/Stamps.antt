@@ -1,13 +1,13 @@
 -- Floors and ceilings by stamps.
-use Rattle.std.proofs.Common.{◌≡◌, ◌<◌, ◌≤◌, ◌+◌, ℕ, zero, suc, Bool, true, false, List, [], ◌∷◌, refl, sym, ap, ◌∙◌, subst, arith, ⊎_elim}
-use Rattle.std.specs.Prelude.{if◌then◌else◌, nat_le, nat_lt}
+use Rattle.std.proofs.Common.{◌≡◌, ◌<◌, ◌≤◌, ℕ, zero, suc, Bool, true, false, List, [], ◌∷◌, refl, sym, ap, ◌∙◌, arith, ⊎_elim}
+use Rattle.std.specs.Prelude.{if◌then◌else◌}
 use Rattle.std.specs.List.{All}
 use Rattle.std.proofs.lemmas.Bool.{cases_lt, le-leb, lt-leb, lt-ltb, le-ltb}
 use Rattle.std.proofs.lemmas.List.Elements.{All-cons, All-head, All-tail, All-weaker}
 use Rattle.forest_versions.specs.declared.command.Stamp.{Stamp}
 use Rattle.forest_versions.specs.declared.command.Stamp.TheVariants.{At, Live}
 use Rattle.worker_laws.specs.Rising.{NeverFalls}
-use Rattle.worker_laws.specs.Stamps.{is_forced, is_barred, behind_one, floor, ceil, named_packets, is_live}
+use Rattle.worker_laws.specs.Stamps.{behind_one, floor, ceil, named_packets, is_live}
 
 -- where all stamps name later packets, none is forced
 none_forced : (n : ℕ) (stamps : List Stamp) → All (λ k. n < k) (named_packets stamps) → floor stamps n ≡ 0

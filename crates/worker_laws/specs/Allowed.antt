@@ -6,7 +6,7 @@ use Rattle.flow_table.specs.Key.{EndpointPair}
 use Rattle.lane_core.specs.Sight.{Arrival}
 use Rattle.lane_core.specs.Records.{VersionedPacket}
 use Rattle.worker_laws.specs.Members.{Members, name_of}
-use Rattle.worker_laws.specs.Lanes.{part, share}
+use Rattle.worker_laws.specs.Lanes.{part}
 use Rattle.worker_laws.specs.Named.{records_under}
 use Rattle.worker_laws.specs.Rising.{NeverFalls}
 

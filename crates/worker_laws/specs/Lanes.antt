@@ -1,8 +1,7 @@
 -- Which packets go to which lane: those of a key all to one, which `lane` tells, and those without a key to lane 0.
-use Rattle.std.specs.Prelude.{ℕ, ◌==◌, Bool, List, filter}
+use Rattle.std.specs.Prelude.{ℕ, ◌==◌, List, filter}
 use Rattle.flow_table.specs.Key.{EndpointPair}
 use Rattle.lane_core.specs.Sight.{Sight, Tcp, Other, Arrival, key_of_segment}
-use Rattle.lane_core.specs.Records.{VersionedPacket}
 use Rattle.worker_laws.specs.Members.{Members}
 
 module _ (lane : EndpointPair → ℕ) where

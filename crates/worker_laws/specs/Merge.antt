@@ -1,5 +1,5 @@
 -- The records of several lanes, each lane's by rising name, as one list.
-use Rattle.std.specs.Prelude.{◌≡◌, ℕ, ◌==◌, Bool, if◌then◌else◌, List, [], ◌∷◌, map, get_or, filter}
+use Rattle.std.specs.Prelude.{◌≡◌, ℕ, ◌==◌, if◌then◌else◌, List, [], ◌∷◌, map, get_or, filter}
 use Rattle.std.specs.List.{All}
 use Rattle.flow_table.specs.Key.{EndpointPair}
 use Rattle.report_text.specs.declared.record.Record.{Record}

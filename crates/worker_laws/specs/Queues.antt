@@ -1,5 +1,5 @@
 -- Only for proofs: the lists of lanes while they are merged.
-use Rattle.std.specs.Prelude.{◌≡◌, ◌<◌, ◌≤◌, ℕ, nat_le, Bool, if◌then◌else◌, Option, Some, None, MatchOption, List, [], ◌∷◌, ◌++◌, length, map, slice_set}
+use Rattle.std.specs.Prelude.{◌≡◌, ◌<◌, ◌≤◌, ℕ, nat_le, if◌then◌else◌, Option, Some, None, MatchOption, List, [], ◌∷◌, ◌++◌, length, map, slice_set}
 use Rattle.report_text.specs.declared.record.Record.{Record}
 use Rattle.worker_laws.specs.declared.merging.Queue.{Queue}
 use Rattle.worker_laws.specs.Merge.{list_at}

@@ -6,6 +6,8 @@
 pub mod counts;
 mod merging;
 pub mod shares;
+#[cfg(test)]
+mod tests;
 pub mod verdicts;
 pub mod versions;
 

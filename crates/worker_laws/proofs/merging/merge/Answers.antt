@@ -1,7 +1,7 @@
 use Rattle.std.proofs.Common.{◌≡◌, sym, subst, [], length}
-use Rattle.std.proofs.lemmas.Bool.{MatchBool-at_true, MatchBool-at_false}
+use Rattle.std.proofs.lemmas.Bool.{MatchBool-at_true}
 use Rattle.worker_laws.specs.Queues.{waiting, Moves, AreEmpty}
-use Rattle.worker_laws.proofs.Merged.{left_moved, IsSoFar, so_far_none, so_far_moved, so_far_all}
+use Rattle.worker_laws.proofs.Merged.{left_moved, IsSoFar, so_far_none, so_far_moved}
 use Rattle.worker_laws.proofs.merging.merge.Goals as goal
 use Rattle.worker_laws.proofs.merging.merge.Goals.{Then-branch}
 

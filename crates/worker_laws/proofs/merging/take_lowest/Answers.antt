@@ -1,6 +1,5 @@
-use Rattle.std.proofs.Common.{◌≡◌, ◌∙◌, ◌∷◌, [], ap, sym, subst, map, get_or, length}
+use Rattle.std.proofs.Common.{◌∙◌, [], ap, sym, subst, length}
 use Rattle.std.proofs.lemmas.List.{map-set, get_or-map, length-map}
-use Rattle.worker_laws.specs.Merge.{list_at}
 use Rattle.worker_laws.specs.Queues.{waiting, IsLowest}
 use Rattle.worker_laws.proofs.merging.take_lowest.Goals as goal
 

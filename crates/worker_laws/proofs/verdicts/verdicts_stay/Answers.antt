@@ -1,4 +1,4 @@
-use Rattle.std.proofs.Common.{[], ap, sym, ◌∙◌}
+use Rattle.std.proofs.Common.{[], ap, ◌∙◌}
 use Rattle.worker_laws.specs.Members.{records}
 use Rattle.worker_laws.specs.Named.{named, named_from}
 use Rattle.worker_laws.specs.Judged.{judged, judged_from}
