@@ -12,15 +12,11 @@ use Rattle.event_trees.proofs.Rises.{IsUpTo, Rises}
 use Rattle.event_trees.specs.Canon.{Placed, longer, canon_of}
 use Rattle.event_trees.specs.declared.placed.PlacedReg.{PlacedReg}
 use Rattle.event_trees.specs.EventPath.{path_of}
+use Rattle.event_trees.specs.Insert.{end_path, last_path}
 use Rattle.event_trees.specs.Build.{seen, all_seen, seen_slots, common, fresh, fresh_nodes, bumped, counted}
 use Rattle.event_trees.proofs.Growth.{Grown, grown-none, grown-push, Step, step, bare, newer}
 
--- the path of the last node
-abbrev pub end_path : List ℕ → List Node → List ℕ
-end_path before [] = before
-end_path before (n ∷ ns) = end_path (path_after before n) ns
-
-listing_after-append : (before : List ℕ) (ns ms : List Node) (slots : List Slot) → listing_after before (ns ++ ms) slots ≡ listing_after before ns slots ++ listing_after (end_path before ns) ms slots
+pub listing_after-append : (before : List ℕ) (ns ms : List Node) (slots : List Slot) → listing_after before (ns ++ ms) slots ≡ listing_after before ns slots ++ listing_after (end_path before ns) ms slots
 listing_after-append before [] ms slots = refl
 listing_after-append before (n ∷ ns) ms slots = ap (λ (l : List Shown). record { path = path_after before n; slots = slots_of n slots } ∷ l) (listing_after-append (path_after before n) ns ms slots)
 
@@ -108,7 +104,7 @@ bumped-steps depth [] h = tt
 bumped-steps depth (n ∷ []) h = h
 bumped-steps depth (n ∷ m ∷ ns) h = (h.0, h.1, bumped-steps n.depth (m ∷ ns) h.2)
 
-bumped-packed : (place end : ℕ) (n : Node) (ns : List Node) → ArePacked place (n ∷ ns) end → ArePacked place (bumped (n ∷ ns)) (end + 1)
+pub bumped-packed : (place end : ℕ) (n : Node) (ns : List Node) → ArePacked place (n ∷ ns) end → ArePacked place (bumped (n ∷ ns)) (end + 1)
 bumped-packed place end n [] h = (h.0, omega (arith, h.1))
 bumped-packed place end n (m ∷ ns) h = (h.0, bumped-packed (place + n.count) end m ns h.1)
 
@@ -180,10 +176,6 @@ shown-end path n (m ∷ rest) slots (f ∷ fs) p held e =
     shown-end (path_after path m) m rest slots fs p held (tail_of (record { path = path; slots = slots_of n slots }) f (shown_from (path_after path m) m rest slots) (ending fs p held) e)
 
 -- ---- the nodes of the registrations so far
-abbrev pub last_path : List Node → List ℕ
-last_path [] = []
-last_path (top ∷ ns) = end_path [] ns
-
 abbrev pub AreSteppedFrom : List Node → Type 0
 AreSteppedFrom [] = ⊥
 AreSteppedFrom (top ∷ ns) = (top.event ≡ 0) × (top.depth ≡ 0) × AreSteps 0 ns

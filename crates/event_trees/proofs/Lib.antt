@@ -1,9 +1,16 @@
 pub mod Built
+pub mod CanonFrom
 pub mod EditLaw
 pub mod EditSteps
 pub mod Firing
 pub mod Growth
 pub mod InOrder
+pub mod InsertLaid
+pub mod InsertLaw
+pub mod InsertListing
+pub mod InsertPaths
+pub mod InsertTree
+pub mod InsertPacked
 pub mod Later
 pub mod Lists
 pub mod NodeSteps
@@ -12,6 +19,8 @@ pub mod Paths
 pub mod Places
 pub mod Privates
 pub mod ReadOffs
+pub mod Reach
+pub mod Reaching
 pub mod Rises
 pub mod Rows
 pub mod Short

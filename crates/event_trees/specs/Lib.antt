@@ -10,3 +10,4 @@ pub mod Private
 pub mod Place
 pub mod Walk
 pub mod Later
+pub mod Insert

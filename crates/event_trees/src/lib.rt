@@ -4,6 +4,7 @@
 mod defs;
 mod edits;
 mod forest;
+mod insert;
 mod laws;
 mod nodes;
 mod path;
