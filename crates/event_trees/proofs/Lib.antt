@@ -26,6 +26,7 @@ pub mod Rows
 pub mod Short
 pub mod SlotsInOrder
 pub mod Sorted
+pub mod Sparse
 pub mod Switches
 pub mod WalkLaw
 pub mod Walks

@@ -36,7 +36,7 @@ slots-after before place (n ∷ ns) slots packed =
     (ap (λ (l : List Slot). slots_of n slots ++ l) rest ∙
     (ap (λ (k : ℕ). take n.count (drop k slots) ++ drop (place + n.count) slots) packed.0 ∙ split place n.count slots)))
 
-slots-tree : (nodes : List Node) (slots : List Slot) → IsTree nodes slots → bare_slots (read_off (listing_of nodes slots)) ≡ slots
+pub slots-tree : (nodes : List Node) (slots : List Slot) → IsTree nodes slots → bare_slots (read_off (listing_of nodes slots)) ≡ slots
 slots-tree [] slots tree = absurd tree.topped
 slots-tree (top ∷ ns) slots tree =
     let rest : bare_slots (read_off (listing_after [] ns slots)) ≡ drop (0 + top.count) slots = slots-after [] (0 + top.count) ns slots tree.packed.1 in

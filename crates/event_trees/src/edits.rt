@@ -1,13 +1,17 @@
-//! Registrations read off a tree, with one more or one less.
+//! A copy of a tree with one registration more or one less.
 
-ghost use Rattle.std.specs.Prelude.{◌≡◌, ◌≤◌, ◌++◌, ◌+◌, [], ◌∷◌, length, take, drop, map, IfOk, OnOk, if◌then◌else◌};
+ghost use Rattle.std.specs.Prelude.{◌≡◌, ◌≤◌, ◌++◌, ◌+◌, length, IfOk, OnOk};
 ghost use Rattle.std.specs.Ordering.{is_lt};
 ghost use Rattle.event_trees.specs.EventPath.{path_of};
 ghost use Rattle.event_trees.specs.Build.{seen, all_seen};
 ghost use Rattle.shared_forest.specs.Listing.{listing, slots_of, path_after};
 ghost use Rattle.event_trees.specs.ReadOff.{all_at, read_off, AreShort};
-ghost use Rattle.event_trees.specs.Edit.{placed_cmp, put_placed, without_placed};
+ghost use Rattle.event_trees.specs.Edit.{placed_cmp, switched, without_placed};
+ghost use Rattle.event_trees.specs.Canon.{canon_of};
+ghost use Rattle.std.specs.List.Sorted.{IsStrictlySortedBy};
 
+use crate::insert::tree_with;
+use crate::nodes::tree_of;
 use crate::path::EventPath;
 use crate::placed::PlacedReg;
 use shared_forest::{Node, Slot, Tree};
@@ -23,29 +27,6 @@ pub(crate) fn is_before(a: &PlacedReg, b: &PlacedReg) -> bool
         Ordering::Equal => a.slot.number < b.slot.number,
         Ordering::Greater => false,
     }
-}
-
-// Where a registration belongs.
-fn place_for(regs: &[PlacedReg], reg: &PlacedReg) -> usize
-    ensures within { result ≤ length regs.now }
-    ensures place { put_placed (seen reg.now) (all_seen regs.now)
-        ≡ take result (all_seen regs.now) ++ seen reg.now ∷ drop result (all_seen regs.now) }
-{
-    for i in 0..regs.len() {
-        if is_before(reg, &regs[i]) {
-            return i;
-        }
-    }
-    regs.len()
-}
-
-// Puts a registration in at its place.
-fn put(regs: &mut Vec<PlacedReg>, reg: PlacedReg) -> Result<(), AllocError>
-    ensures { OnOk result (all_seen regs.new.items ≡ put_placed (seen reg) (all_seen regs.old.items)) }
-{
-    let place = place_for(regs, &reg);
-    regs.insert(place, reg)?;
-    Ok(())
 }
 
 // The registrations but for that with a number.
@@ -112,20 +93,33 @@ pub(crate) fn regs_of(alloc: Global, tree: &Tree) -> Result<Vec<PlacedReg>, Allo
     Ok(regs)
 }
 
-/// Registrations with one more or one less.
-pub(crate) fn switched(
-    alloc: Global,
-    regs: Vec<PlacedReg>,
-    reg: PlacedReg,
-    on: bool,
-) -> Result<Vec<PlacedReg>, AllocError>
-    ensures { IfOk result (λ more. all_seen more.items
-        ≡ (if on then put_placed (seen reg) (all_seen regs.items) else without_placed reg.slot.number (all_seen regs.items))) }
+// The tree of a tree's registrations but for that with a number.
+fn tree_without(alloc: Global, tree: &Tree, number: u8) -> Result<Tree, AllocError>
+    requires short { AreShort (listing tree.now) }
+    requires order { IsStrictlySortedBy placed_cmp (without_placed number (read_off (listing tree.now))) }
+    requires few { length (without_placed number (read_off (listing tree.now))) ≤ 255 }
+    ensures { IfOk result (λ fewer. listing fewer ≡ canon_of (without_placed number (read_off (listing tree.now)))) }
 {
-    if !on {
-        return without(alloc, &regs, reg.slot.number);
+    let regs = regs_of(alloc, tree)?;
+    let kept = without(alloc, &regs, number)?;
+    tree_of(alloc, &kept)
+}
+
+/// A copy of a tree with one registration more or one less.
+pub(crate) fn tree_switched(
+    alloc: Global,
+    tree: &Tree,
+    reg: &PlacedReg,
+    on: bool,
+) -> Result<Tree, AllocError>
+    requires short { AreShort (listing tree.now) }
+    requires canon { listing tree.now ≡ canon_of (read_off (listing tree.now)) }
+    requires order { IsStrictlySortedBy placed_cmp (switched (seen reg.now) on (read_off (listing tree.now))) }
+    requires few { length (switched (seen reg.now) on (read_off (listing tree.now))) ≤ 255 }
+    ensures { IfOk result (λ new. listing new ≡ canon_of (switched (seen reg.now) on (read_off (listing tree.now)))) }
+{
+    if on {
+        return tree_with(alloc, tree, reg);
     }
-    let mut more = regs;
-    put(&mut more, reg)?;
-    Ok(more)
+    tree_without(alloc, tree, reg.slot.number)
 }

@@ -11,7 +11,7 @@ ghost use Rattle.event_trees.specs.EventPath.{path_of};
 ghost use Rattle.event_trees.specs.Private.{path_cmp};
 ghost use Rattle.event_trees.specs.Canon.{canon_of};
 ghost use Rattle.event_trees.specs.Build.{seen, common};
-ghost use Rattle.event_trees.specs.ReadOff.{read_off};
+ghost use Rattle.event_trees.specs.ReadOff.{read_off, AreShort};
 ghost use Rattle.event_trees.specs.Edit.{placed_cmp, put_placed};
 ghost use Rattle.event_trees.specs.Insert.{IsReach, IsBetween, IsSpot, IsUpTo, chain, raised, raised_by, moved, with_path};
 
@@ -189,8 +189,8 @@ fn nodes_with(alloc: Global, nodes: &[Node], reach: Reach, first: u32, path: &[u
 pub(crate) fn tree_with(alloc: Global, tree: &Tree, reg: &PlacedReg) -> Result<Tree, AllocError>
     requires canon { listing tree.now ≡ canon_of (read_off (listing tree.now)) }
     requires order { IsStrictlySortedBy placed_cmp (put_placed (seen reg.now) (read_off (listing tree.now))) }
-    requires few { length tree.now.slots < 255 }
-    requires sparse { length tree.now.nodes < 2 ^ 16 }
+    requires short { AreShort (listing tree.now) }
+    requires few { length (read_off (listing tree.now)) < 255 }
     ensures { IfOk result (λ more. listing more ≡ canon_of (put_placed (seen reg.now) (read_off (listing tree.now)))) }
 {
     let nodes = tree.nodes();

@@ -12,6 +12,7 @@ use Rattle.std.proofs.Common.{take}
 use Rattle.event_trees.proofs.Reach.{common-right}
 use Rattle.event_trees.proofs.InsertLaw.{Inserted}
 use Rattle.event_trees.proofs.InsertTree.{tree-made, same-tree, all-raise, all-room, all-firsts, node-inside}
+use Rattle.event_trees.proofs.Sparse.{size-nodes, size-slots}
 use Rattle.event_trees.proofs.insert.tree_with.Goals as goal
 
 pub slot_place-place-requires : goal.slot_place-place-requires
@@ -23,20 +24,20 @@ nodes_with-requires-clause-depth c = omega (arith, c.reach_of-reach.ensures.shar
 
 pub nodes_with-requires-clause-raise : goal.nodes_with-requires-clause-raise
 nodes_with-requires-clause-raise c =
-    all-raise c.nodes-nodes.result.now c.slots-slots.result.now (same-tree c.args.tree.now.nodes c.nodes-nodes.result.now c.args.tree.now.slots c.slots-slots.result.now c.nodes-nodes.ensures.nodes c.slots-slots.ensures.slots c.nodes-nodes.ensures.tree) (omega (arith, c.requires.sparse, ap length c.nodes-nodes.ensures.nodes))
+    all-raise c.nodes-nodes.result.now c.slots-slots.result.now (same-tree c.args.tree.now.nodes c.nodes-nodes.result.now c.args.tree.now.slots c.slots-slots.result.now c.nodes-nodes.ensures.nodes c.slots-slots.ensures.slots c.nodes-nodes.ensures.tree) (omega (arith, c.requires.few, ap length c.nodes-nodes.ensures.nodes, size-nodes c.args.tree.now.nodes c.args.tree.now.slots c.requires.canon c.requires.short))
 
 pub nodes_with-requires-clause-room : goal.nodes_with-requires-clause-room
 nodes_with-requires-clause-room c =
-    all-room c.nodes-nodes.result.now c.slots-slots.result.now (same-tree c.args.tree.now.nodes c.nodes-nodes.result.now c.args.tree.now.slots c.slots-slots.result.now c.nodes-nodes.ensures.nodes c.slots-slots.ensures.slots c.nodes-nodes.ensures.tree) (omega (arith, c.requires.few, ap length c.slots-slots.ensures.slots))
+    all-room c.nodes-nodes.result.now c.slots-slots.result.now (same-tree c.args.tree.now.nodes c.nodes-nodes.result.now c.args.tree.now.slots c.slots-slots.result.now c.nodes-nodes.ensures.nodes c.slots-slots.ensures.slots c.nodes-nodes.ensures.tree) (omega (arith, c.requires.few, ap length c.slots-slots.ensures.slots, size-slots c.args.tree.now.nodes c.args.tree.now.slots c.slots-slots.ensures.tree))
 
 pub nodes_with-requires-clause-firsts : goal.nodes_with-requires-clause-firsts
 nodes_with-requires-clause-firsts c =
-    all-firsts c.nodes-nodes.result.now c.slots-slots.result.now (same-tree c.args.tree.now.nodes c.nodes-nodes.result.now c.args.tree.now.slots c.slots-slots.result.now c.nodes-nodes.ensures.nodes c.slots-slots.ensures.slots c.nodes-nodes.ensures.tree) (omega (arith, c.requires.few, ap length c.slots-slots.ensures.slots))
+    all-firsts c.nodes-nodes.result.now c.slots-slots.result.now (same-tree c.args.tree.now.nodes c.nodes-nodes.result.now c.args.tree.now.slots c.slots-slots.result.now c.nodes-nodes.ensures.nodes c.slots-slots.ensures.slots c.nodes-nodes.ensures.tree) (omega (arith, c.requires.few, ap length c.slots-slots.ensures.slots, size-slots c.args.tree.now.nodes c.args.tree.now.slots c.slots-slots.ensures.tree))
 
 pub overflow_add-first : goal.overflow_add-first
 overflow_add-first c =
     let tree : IsTree c.nodes-nodes.result.now c.slots-slots.result.now = same-tree c.args.tree.now.nodes c.nodes-nodes.result.now c.args.tree.now.slots c.slots-slots.result.now c.nodes-nodes.ensures.nodes c.slots-slots.ensures.slots c.nodes-nodes.ensures.tree in
-    omega (arith, node-inside c.nodes-nodes.result.now c.slots-slots.result.now (c.reach_of-reach.result.node - 1) (record { event = 0; depth = 0; below = 0; first = 0; count = 0 }) tree refl, c.requires.few, ap length c.slots-slots.ensures.slots)
+    omega (arith, node-inside c.nodes-nodes.result.now c.slots-slots.result.now (c.reach_of-reach.result.node - 1) (record { event = 0; depth = 0; below = 0; first = 0; count = 0 }) tree refl, c.requires.few, ap length c.slots-slots.ensures.slots, size-slots c.args.tree.now.nodes c.args.tree.now.slots c.slots-slots.ensures.tree)
 
 pub slots_with-requires : goal.slots_with-requires
 slots_with-requires c =
