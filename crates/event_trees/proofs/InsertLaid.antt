@@ -95,7 +95,7 @@ laid-in d0 c first es (n ∷ ns) back s h laid = (
 )
 
 -- ---- registrations are no matter of the layout
-under-bumped : (d : ℕ) (ns rest : List Node) → under d (bumped ns ++ rest) ≡ under d (ns ++ rest)
+pub under-bumped : (d : ℕ) (ns rest : List Node) → under d (bumped ns ++ rest) ≡ under d (ns ++ rest)
 under-bumped d [] rest = refl
 under-bumped d (n ∷ []) rest = refl
 under-bumped d (n ∷ m ∷ ns) rest = ap (λ (u : ℕ). cond (nat_lt d n.depth) (u + 1) 0) (under-bumped d (m ∷ ns) rest)
@@ -105,7 +105,7 @@ laid-bumped d0 [] rest h = h
 laid-bumped d0 (n ∷ []) rest h = h
 laid-bumped d0 (n ∷ m ∷ ns) rest h = (h.0, h.1, h.2 ∙ sym (under-bumped n.depth (m ∷ ns) rest), laid-bumped n.depth (m ∷ ns) rest h.3)
 
-under-moved : (d : ℕ) (ns back : List Node) → under d (ns ++ moved back) ≡ under d (ns ++ back)
+pub under-moved : (d : ℕ) (ns back : List Node) → under d (ns ++ moved back) ≡ under d (ns ++ back)
 under-moved d [] [] = refl
 under-moved d [] (n ∷ ns) = ap (λ (u : ℕ). cond (nat_lt d n.depth) (u + 1) 0) (under-moved d [] ns)
 under-moved d (n ∷ ns) back = ap (λ (u : ℕ). cond (nat_lt d n.depth) (u + 1) 0) (under-moved d ns back)
@@ -115,12 +115,12 @@ laid-moved d0 [] [] h = tt
 laid-moved d0 [] (n ∷ ns) h = (h.0, h.1, h.2 ∙ sym (under-moved n.depth [] ns), laid-moved n.depth [] ns h.3)
 laid-moved d0 (n ∷ ns) back h = (h.0, h.1, h.2 ∙ sym (under-moved n.depth ns back), laid-moved n.depth ns back h.3)
 
-bumped-size : (ns : List Node) → length (bumped ns) ≡ length ns
+pub bumped-size : (ns : List Node) → length (bumped ns) ≡ length ns
 bumped-size [] = refl
 bumped-size (n ∷ []) = refl
 bumped-size (n ∷ m ∷ ns) = ap (λ (k : ℕ). suc k) (bumped-size (m ∷ ns))
 
-moved-size : (ns : List Node) → length (moved ns) ≡ length ns
+pub moved-size : (ns : List Node) → length (moved ns) ≡ length ns
 moved-size [] = refl
 moved-size (n ∷ ns) = ap (λ (k : ℕ). suc k) (moved-size ns)
 

@@ -29,7 +29,7 @@ use Rattle.event_trees.proofs.InsertPaths.{node_paths, paths-after, node_paths-a
 use Rattle.event_trees.proofs.InsertListing.{put_at, final, shown_from, shown_all, Put, put-is, put-listing}
 
 -- ---- the nodes before the place
-length-after : (before : List ℕ) (n : Node) → 1 ≤ n.depth → n.depth ≤ length before + 1 → length (path_after before n) ≡ n.depth
+pub length-after : (before : List ℕ) (n : Node) → 1 ≤ n.depth → n.depth ≤ length before + 1 → length (path_after before n) ≡ n.depth
 length-after before n low high = omega (arith, length_push (take (n.depth - 1) before) n.event, length-take-le (n.depth - 1) before (omega (arith, high)))
 
 length-end : (before : List ℕ) (depth : ℕ) (ns rest : List Node) → length before ≡ depth → AreLaidOut depth (ns ++ rest) → length (end_path before ns) ≡ end_depth depth ns
@@ -46,11 +46,11 @@ snoc-end before (n ∷ ns) =
     let r = snoc-end (path_after before n) ns in
     (before ∷ r.0, ap (λ (l : List (List ℕ)). before ∷ l) r.1)
 
-has_left : (p : List ℕ) (xs ys : List (List ℕ)) → Has p xs → Has p (xs ++ ys)
+pub has_left : (p : List ℕ) (xs ys : List (List ℕ)) → Has p xs → Has p (xs ++ ys)
 has_left p [] ys h = absurd h
 has_left p (x ∷ xs) ys h = ⊎_elim (λ e. inl e) (λ k. inr (has_left p xs ys k)) h
 
-has_last : (p : List ℕ) (xs : List (List ℕ)) → Has p (xs ++ p ∷ [])
+pub has_last : (p : List ℕ) (xs : List (List ℕ)) → Has p (xs ++ p ∷ [])
 has_last p [] = inl refl
 has_last p (x ∷ xs) = inr (has_last p xs)
 
@@ -72,7 +72,7 @@ above-front : (x : List ℕ) (xs ys : List (List ℕ)) → AllAbove x (xs ++ ys)
 above-front x [] ys h = tt
 above-front x (z ∷ xs) ys h = (h.0, above-front x xs ys h.1)
 
-sorted-front : (xs ys : List (List ℕ)) → IsStrictlySortedBy path_cmp (xs ++ ys) → IsStrictlySortedBy path_cmp xs
+pub sorted-front : (xs ys : List (List ℕ)) → IsStrictlySortedBy path_cmp (xs ++ ys) → IsStrictlySortedBy path_cmp xs
 unfolding IsStrictlySortedBy
 sorted-front [] ys s = tt
 sorted-front (x ∷ xs) ys s = (above-front x xs ys s.0, sorted-front xs ys s.1)
@@ -215,7 +215,7 @@ pub record Inserted (nodes : List Node) (slots : List Slot) (list : List Placed)
 put_at-length : (i : ℕ) (s : Slot) (slots : List Slot) → i ≤ length slots → length (put_at i s slots) ≡ length slots + 1
 put_at-length i s slots within = omega (arith, length-append (take i slots) (s ∷ drop i slots), length-take-le i slots within, length-drop i slots)
 
-bumped-shown_all : (top : Node) (ms back : List Node) (slots : List Slot) → shown_all [] (bumped (top ∷ ms) ++ back) slots ≡ listing_of (bumped (top ∷ ms) ++ back) slots
+pub bumped-shown_all : (top : Node) (ms back : List Node) (slots : List Slot) → shown_all [] (bumped (top ∷ ms) ++ back) slots ≡ listing_of (bumped (top ∷ ms) ++ back) slots
 bumped-shown_all top [] back slots = refl
 bumped-shown_all top (m ∷ ms) back slots = refl
 

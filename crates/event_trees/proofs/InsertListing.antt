@@ -26,7 +26,7 @@ abbrev pub put_at : ℕ → Slot → List Slot → List Slot
 put_at i s slots = take i slots ++ s ∷ drop i slots
 
 -- ---- the registrations of a node before the place, at it and behind it
-slots-before : (n : Node) (slots : List Slot) (s : Slot) (i : ℕ) → i ≤ length slots → n.first + n.count ≤ i → slots_of n (put_at i s slots) ≡ slots_of n slots
+pub slots-before : (n : Node) (slots : List Slot) (s : Slot) (i : ℕ) → i ≤ length slots → n.first + n.count ≤ i → slots_of n (put_at i s slots) ≡ slots_of n slots
 slots-before n slots s i within before =
     let front : List Slot = take i slots in
     let long : length front ≡ i = length-take-le i slots within in
@@ -56,7 +56,7 @@ take-put (suc j) (suc count) s [] h k = absurd (omega (arith, k))
 take-put (suc j) (suc count) s (x ∷ xs) h k =
     ap (λ (m : ℕ). take m (x ∷ put_at j s xs)) (let m : suc count + 1 ≡ suc (count + 1) = omega arith in m) ∙ ap (λ (l : List Slot). x ∷ l) (take-put j count s xs (omega (arith, h)) (omega (arith, k)))
 
-slots-at : (n : Node) (slots : List Slot) (s : Slot) (i : ℕ) → n.first ≤ i → i ≤ n.first + n.count → n.first + n.count ≤ length slots → slots_of (record n { count = n.count + 1 }) (put_at i s slots) ≡ put_at (i - n.first) s (slots_of n slots)
+pub slots-at : (n : Node) (slots : List Slot) (s : Slot) (i : ℕ) → n.first ≤ i → i ≤ n.first + n.count → n.first + n.count ≤ length slots → slots_of (record n { count = n.count + 1 }) (put_at i s slots) ≡ put_at (i - n.first) s (slots_of n slots)
 slots-at n slots s i low high within =
     let j : ℕ = i - n.first in
     let rest : List Slot = drop n.first slots in
@@ -119,7 +119,7 @@ number_later r (s ∷ slots) h =
     ap (λ (o : Ordering). is_lt (ordering_then o (nat_cmp r.slot.number s.number))) (itself r.path) ∙ ap is_lt (sym (nat_cmp_is r.slot.number s.number Less h))
 
 -- ---- the nodes behind
-moved-after : (before : List ℕ) (place end : ℕ) (ns : List Node) (slots : List Slot) (s : Slot) (i : ℕ) → ArePacked place ns end → i ≤ place → i ≤ length slots → listing_after before (moved ns) (put_at i s slots) ≡ listing_after before ns slots
+pub moved-after : (before : List ℕ) (place end : ℕ) (ns : List Node) (slots : List Slot) (s : Slot) (i : ℕ) → ArePacked place ns end → i ≤ place → i ≤ length slots → listing_after before (moved ns) (put_at i s slots) ≡ listing_after before ns slots
 moved-after before place end [] slots s i packed behind within = refl
 moved-after before place end (n ∷ ns) slots s i packed behind within =
     ap (λ (l : List Slot). record { path = path_after before n; slots = l } ∷ listing_after (path_after before n) (moved ns) (put_at i s slots)) (slots-behind n slots s i within (omega (arith, packed.0, behind))) ∙
@@ -187,16 +187,16 @@ at_final n back slots r i mid ends low high packed within between above =
       rest = all_at p (drop j held) ++ rest;
       was = ap (λ (l : List Slot). all_at p l ++ rest) (sym (take-append-drop j held)) ∙ (ap (λ (l : List Placed). l ++ rest) (map-append (λ (x : Slot). record { path = p; slot = x }) (take j held) (drop j held)) ∙ append_assoc (all_at p (take j held)) (all_at p (drop j held)) rest);
       is = ap (λ (l : List Slot). all_at p l ++ read_off (listing_after p (moved back) (put_at i r.slot slots))) here ∙ (ap (λ (l : List Shown). all_at p (put_at j r.slot held) ++ read_off l) behind ∙
-      (ap (λ (l : List Placed). l ++ rest) (map-append (λ (x : Slot). record { path = p; slot = x }) (take j held) (r.slot ∷ drop j held)) ∙ append_assoc (all_at p (take j held)) (r ∷ all_at p (drop j held)) rest));
+          (ap (λ (l : List Placed). l ++ rest) (map-append (λ (x : Slot). record { path = p; slot = x }) (take j held) (r.slot ∷ drop j held)) ∙ append_assoc (all_at p (take j held)) (r ∷ all_at p (drop j held)) rest));
       before = number_before r (take j held) between.low;
       after = starts_later-both r (all_at p (drop j held)) rest (number_later r (drop j held) between.high) (behind-later r p back slots above);
     }
 
-first-le : (place : ℕ) (n : Node) (ns : List Node) (mid : ℕ) → ArePacked place (n ∷ ns) mid → place ≤ (final n ns).first
+pub first-le : (place : ℕ) (n : Node) (ns : List Node) (mid : ℕ) → ArePacked place (n ∷ ns) mid → place ≤ (final n ns).first
 first-le place n [] mid h = omega (arith, h.0)
 first-le place n (m ∷ ns) mid h = omega (arith, first-le (place + n.count) m ns mid h.1)
 
-bumped-on : (path : List ℕ) (m : Node) (ns rest : List Node) (slots : List Slot) → listing_after path (bumped (m ∷ ns) ++ rest) slots ≡ shown_all (path_after path m) (bumped (m ∷ ns) ++ rest) slots
+pub bumped-on : (path : List ℕ) (m : Node) (ns rest : List Node) (slots : List Slot) → listing_after path (bumped (m ∷ ns) ++ rest) slots ≡ shown_all (path_after path m) (bumped (m ∷ ns) ++ rest) slots
 bumped-on path m [] rest slots = refl
 bumped-on path m (x ∷ ns) rest slots = refl
 
@@ -204,7 +204,7 @@ pub put-listing : (path : List ℕ) (n : Node) (ns back : List Node) (slots : Li
 unfolding IsStrictlySortedBy
 put-listing path n [] back slots r i place mid ends packed behind within low high between sorted =
     subst (λ (p : List ℕ). Put (read_off (shown_from p n back slots)) (read_off (shown_from p (record n { count = n.count + 1 }) (moved back) (put_at i r.slot slots))) r) (sym ends)
-        (at_final n back slots r i mid (omega (arith, packed.0, packed.1)) low high behind within between (subst (λ (p : List ℕ). AllAbove p (node_paths r.path back)) ends sorted.0))
+    (at_final n back slots r i mid (omega (arith, packed.0, packed.1)) low high behind within between (subst (λ (p : List ℕ). AllAbove p (node_paths r.path back)) ends sorted.0))
 put-listing path n (m ∷ ns) back slots r i place mid ends packed behind within low high between sorted =
     let on : List ℕ = path_after path m in
     let new : List Slot = put_at i r.slot slots in
@@ -216,4 +216,4 @@ put-listing path n (m ∷ ns) back slots r i place mid ends packed behind within
     let same : read_off (shown_all path (n ∷ (bumped (m ∷ ns) ++ moved back)) new) ≡ all_at path (slots_of n slots) ++ read_off (shown_all on (bumped (m ∷ ns) ++ moved back) new) =
     ap (λ (l : List Slot). all_at path l ++ read_off (listing_after path (bumped (m ∷ ns) ++ moved back) new)) here ∙ ap (λ (l : List Shown). all_at path (slots_of n slots) ++ read_off l) (bumped-on path m ns (moved back) new) in
     subst (λ (l : List Placed). Put (all_at path (slots_of n slots) ++ read_off (shown_from on m (ns ++ back) slots)) l r) (sym same)
-        (put-more (read_off (shown_from on m (ns ++ back) slots)) (read_off (shown_all on (bumped (m ∷ ns) ++ moved back) new)) r (all_at path (slots_of n slots)) (path_before r path (slots_of n slots) less) rest)
+    (put-more (read_off (shown_from on m (ns ++ back) slots)) (read_off (shown_all on (bumped (m ∷ ns) ++ moved back) new)) r (all_at path (slots_of n slots)) (path_before r path (slots_of n slots) less) rest)

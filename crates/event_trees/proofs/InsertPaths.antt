@@ -124,7 +124,7 @@ paths-in q p c more mid ns back is ends le s =
     (ap (λ (l : List ℕ). node_paths [] ns ++ node_paths l (ch ++ moved back)) ends ∙ ap (λ (l : List (List ℕ)). node_paths [] ns ++ l) middle)))
 
 -- the registration counted: the same paths
-after-bump : (top : Node) (ms back : List Node) (slots : List Slot) → map (λ s. s.path) (listing_of (bumped (top ∷ ms) ++ moved back) slots) ≡ [] ∷ node_paths [] (ms ++ moved back)
+pub after-bump : (top : Node) (ms back : List Node) (slots : List Slot) → map (λ s. s.path) (listing_of (bumped (top ∷ ms) ++ moved back) slots) ≡ [] ∷ node_paths [] (ms ++ moved back)
 after-bump top [] back slots = ap (λ (l : List (List ℕ)). [] ∷ l) (paths-after [] (moved back) slots)
 after-bump top (m ∷ ms) back slots = ap (λ (l : List (List ℕ)). [] ∷ l) (paths-after [] (bumped (m ∷ ms) ++ moved back) slots ∙ paths-bumped [] (m ∷ ms) (moved back))
 

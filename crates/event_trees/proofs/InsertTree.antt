@@ -23,11 +23,11 @@ use Rattle.event_trees.proofs.InsertPacked.{packed-front}
 use Rattle.event_trees.proofs.InsertListing.{put_at, final}
 use Rattle.event_trees.proofs.InsertLaw.{IsLater, IsPlaced, Inserted, inserted, final-end}
 
-packed-up : (place : ℕ) (ns : List Node) (end : ℕ) → ArePacked place ns end → place ≤ end
+pub packed-up : (place : ℕ) (ns : List Node) (end : ℕ) → ArePacked place ns end → place ≤ end
 packed-up place [] end h = omega (arith, h)
 packed-up place (n ∷ ns) end h = omega (arith, packed-up (place + n.count) ns end h.1)
 
-final-get : (k : ℕ) (n : Node) (ns : List Node) (d : Node) → k ≤ length ns → get_or (n ∷ ns) k d ≡ final n (take k ns)
+pub final-get : (k : ℕ) (n : Node) (ns : List Node) (d : Node) → k ≤ length ns → get_or (n ∷ ns) k d ≡ final n (take k ns)
 final-get zero n ns d h = refl
 final-get (suc k) n [] d h = absurd (omega (arith, h))
 final-get (suc k) n (m ∷ ns) d h = final-get k m ns d (omega (arith, h))
@@ -67,8 +67,8 @@ tree-inserted (top ∷ ns) slots r (suc k) depth first place d tree canon order 
     let law : Inserted (bumped (raised depth (length (drop depth r.path)) (top ∷ fs) ++ chain mid depth (drop depth r.path)) ++ moved bs) (put_at place r.slot slots) (put_placed r (read_off (listing_of (top ∷ (fs ++ bs)) slots))) =
     inserted top fs bs slots r depth mid place tree_split (subst (λ (l : List Node). listing_of (top ∷ l) slots ≡ canon_of (read_off (listing_of (top ∷ l) slots))) (sym split) canon) (subst (λ (l : List Node). IsStrictlySortedBy placed_cmp (put_placed r (read_off (listing_of (top ∷ l) slots)))) (sym split) order) reach.up_to reach.shared (later-drop top ns k r.path reach.later) parts.1.0 parts.1.1 (placed-spot r depth (final top fs) slots place spot_at) (packed-up mid bs (length slots) parts.1.1) in
     subst (λ (l : List Node). Inserted (bumped (raised depth (length r.path - depth) (top ∷ fs) ++ chain first depth (drop depth r.path)) ++ moved bs) (put_at place r.slot slots) (put_placed r (read_off (listing_of (top ∷ l) slots)))) split
-        (subst (λ (m : ℕ). Inserted (bumped (raised depth (length r.path - depth) (top ∷ fs) ++ chain m depth (drop depth r.path)) ++ moved bs) (put_at place r.slot slots) (put_placed r (read_off (listing_of (top ∷ (fs ++ bs)) slots)))) first_is
-        (subst (λ (m : ℕ). Inserted (bumped (raised depth m (top ∷ fs) ++ chain mid depth (drop depth r.path)) ++ moved bs) (put_at place r.slot slots) (put_placed r (read_off (listing_of (top ∷ (fs ++ bs)) slots)))) more law))
+    (subst (λ (m : ℕ). Inserted (bumped (raised depth (length r.path - depth) (top ∷ fs) ++ chain m depth (drop depth r.path)) ++ moved bs) (put_at place r.slot slots) (put_placed r (read_off (listing_of (top ∷ (fs ++ bs)) slots)))) first_is
+    (subst (λ (m : ℕ). Inserted (bumped (raised depth m (top ∷ fs) ++ chain mid depth (drop depth r.path)) ++ moved bs) (put_at place r.slot slots) (put_placed r (read_off (listing_of (top ∷ (fs ++ bs)) slots)))) more law))
 
 -- the same for lists that equal the tree's
 pub tree-made : (nodes ns : List Node) (slots ss : List Slot) (r : Placed) (p : List ℕ) (node depth first place : ℕ) (d : Node) (more : List Node) (all : List Slot) → ns ≡ nodes → ss ≡ slots → p ≡ r.path → IsTree nodes slots → listing_of nodes slots ≡ canon_of (read_off (listing_of nodes slots)) → IsStrictlySortedBy placed_cmp (put_placed r (read_off (listing_of nodes slots))) → IsReach nodes p node depth → IsSpot r.slot.number (nat_lt depth (length p)) (get_or ns (node - 1) d) ss place → first ≡ (get_or ns (node - 1) d).first + (get_or ns (node - 1) d).count → more ≡ with_path node depth first p ns → all ≡ put_at place r.slot ss → Inserted more all (put_placed r (read_off (listing_of nodes slots)))
@@ -76,8 +76,8 @@ tree-made nodes ns slots ss r p node depth first place d more all nodes_is slots
     let list : List Placed = put_placed r (read_off (listing_of nodes slots)) in
     let spot_at : IsSpot r.slot.number (nat_lt depth (length r.path)) (get_or nodes (node - 1) d) slots place =
     subst (λ (l : List ℕ). IsSpot r.slot.number (nat_lt depth (length l)) (get_or nodes (node - 1) d) slots place) path_is
-        (subst (λ (l : List Slot). IsSpot r.slot.number (nat_lt depth (length p)) (get_or nodes (node - 1) d) l place) slots_is
-        (subst (λ (l : List Node). IsSpot r.slot.number (nat_lt depth (length p)) (get_or l (node - 1) d) ss place) nodes_is spot)) in
+    (subst (λ (l : List Slot). IsSpot r.slot.number (nat_lt depth (length p)) (get_or nodes (node - 1) d) l place) slots_is
+    (subst (λ (l : List Node). IsSpot r.slot.number (nat_lt depth (length p)) (get_or l (node - 1) d) ss place) nodes_is spot)) in
     let law : Inserted (with_path node depth first r.path nodes) (put_at place r.slot slots) list =
     tree-inserted nodes slots r node depth first place d tree canon order (subst (λ (l : List ℕ). IsReach nodes l node depth) path_is reach) spot_at (first_is ∙ ap (λ (l : List Node). (get_or l (node - 1) d).first + (get_or l (node - 1) d).count) nodes_is) in
     let nodes_made : with_path node depth first r.path nodes ≡ more = sym (more_is ∙ (ap (λ (l : List ℕ). with_path node depth first l ns) path_is ∙ ap (with_path node depth first r.path) nodes_is)) in

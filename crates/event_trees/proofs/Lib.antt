@@ -13,6 +13,7 @@ pub mod InsertTree
 pub mod InsertPacked
 pub mod Later
 pub mod Lists
+pub mod Needed
 pub mod NodeSteps
 pub mod Order
 pub mod Paths
@@ -21,6 +22,10 @@ pub mod Privates
 pub mod ReadOffs
 pub mod Reach
 pub mod Reaching
+pub mod RemoveLaid
+pub mod RemoveListing
+pub mod RemoveLaw
+pub mod RemoveTree
 pub mod Rises
 pub mod Rows
 pub mod Short

@@ -11,3 +11,4 @@ pub mod Place
 pub mod Walk
 pub mod Later
 pub mod Insert
+pub mod Remove

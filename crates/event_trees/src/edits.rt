@@ -29,8 +29,12 @@ pub(crate) fn is_before(a: &PlacedReg, b: &PlacedReg) -> bool
     }
 }
 
-// The registrations but for that with a number.
-fn without(alloc: Global, regs: &[PlacedReg], number: u8) -> Result<Vec<PlacedReg>, AllocError>
+/// The registrations but for that with a number.
+pub(crate) fn without(
+    alloc: Global,
+    regs: &[PlacedReg],
+    number: u8,
+) -> Result<Vec<PlacedReg>, AllocError>
     ensures { IfOk result (λ kept. all_seen kept.items ≡ without_placed number (all_seen regs.now)) }
 {
     let mut kept = Vec::new(alloc);

@@ -112,7 +112,12 @@ fn raised_node(node: Node, behind: usize, depth: usize, more: u32) -> Node
 }
 
 // Adds nodes before a place at which so many come in under a node of this depth.
-fn push_raised(out: &mut Vec<Node>, nodes: &[Node], depth: usize, more: u32) -> Result<(), AllocError>
+fn push_raised(
+    out: &mut Vec<Node>,
+    nodes: &[Node],
+    depth: usize,
+    more: u32,
+) -> Result<(), AllocError>
     requires { All (λ n. n.below + more < 2 ^ 32) nodes.now }
     ensures { OnOk result (out.new.items ≡ out.old.items ++ raised depth more nodes.now) }
 {
@@ -154,7 +159,12 @@ fn push_moved(out: &mut Vec<Node>, nodes: &[Node]) -> Result<(), AllocError>
 }
 
 // The registrations with one more.
-fn slots_with(alloc: Global, slots: &[Slot], place: usize, slot: Slot) -> Result<Vec<Slot>, AllocError>
+fn slots_with(
+    alloc: Global,
+    slots: &[Slot],
+    place: usize,
+    slot: Slot,
+) -> Result<Vec<Slot>, AllocError>
     requires { place ≤ length slots.now }
     ensures { IfOk result (λ more. more.items ≡ take place slots.now ++ slot ∷ drop place slots.now) }
 {
@@ -166,7 +176,13 @@ fn slots_with(alloc: Global, slots: &[Slot], place: usize, slot: Slot) -> Result
 }
 
 // The nodes with those of a path that weren't there, and one registration more at the path's last node.
-fn nodes_with(alloc: Global, nodes: &[Node], reach: Reach, first: u32, path: &[u16]) -> Result<Vec<Node>, AllocError>
+fn nodes_with(
+    alloc: Global,
+    nodes: &[Node],
+    reach: Reach,
+    first: u32,
+    path: &[u16],
+) -> Result<Vec<Node>, AllocError>
     requires low { 1 ≤ reach.node }
     requires within { reach.node ≤ length nodes.now }
     requires depth { reach.depth ≤ length path.now }

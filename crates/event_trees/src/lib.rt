@@ -11,6 +11,7 @@ mod path;
 mod place;
 mod placed;
 mod private;
+mod remove;
 #[cfg(test)]
 mod tests;
 mod walk;

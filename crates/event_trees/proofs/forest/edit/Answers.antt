@@ -30,7 +30,7 @@ tree_switched-requires-clause-order g c =
     let list : List Reg = c.requires.forest.0 in
     let private : IsPrivate c.args.defs.now (edited c.args.defs.now list c.args.reg.now c.args.on) = private-edited c.args.defs.now c.args.reg.now c.args.on list c.requires.forest.1.private c.requires.forest.2 c.requires.low c.requires.high c.requires.event in
     subst (λ (t : TreeLists). IsStrictlySortedBy placed_cmp (switched (seen c.place-placed.result) c.args.on (read_off (listing t)))) (sym c.tree_of.ensures)
-        (edit-order c.args.defs.now (edited c.args.defs.now list c.args.reg.now c.args.on) (switched (seen c.place-placed.result) c.args.on (read_off shown)) private (edit-list c.args.defs.now list shown c.args.reg.now c.args.on (seen c.place-placed.result) c.requires.forest.1 c.place-placed.ensures.placed))
+    (edit-order c.args.defs.now (edited c.args.defs.now list c.args.reg.now c.args.on) (switched (seen c.place-placed.result) c.args.on (read_off shown)) private (edit-list c.args.defs.now list shown c.args.reg.now c.args.on (seen c.place-placed.result) c.requires.forest.1 c.place-placed.ensures.placed))
 
 pub tree_switched-requires-clause-few : goal.tree_switched-requires-clause-few
 tree_switched-requires-clause-few g c =
@@ -38,7 +38,7 @@ tree_switched-requires-clause-few g c =
     let list : List Reg = c.requires.forest.0 in
     let private : IsPrivate c.args.defs.now (edited c.args.defs.now list c.args.reg.now c.args.on) = private-edited c.args.defs.now c.args.reg.now c.args.on list c.requires.forest.1.private c.requires.forest.2 c.requires.low c.requires.high c.requires.event in
     subst (λ (t : TreeLists). length (switched (seen c.place-placed.result) c.args.on (read_off (listing t))) ≤ 255) (sym c.tree_of.ensures)
-        (edit-few c.args.defs.now (edited c.args.defs.now list c.args.reg.now c.args.on) (switched (seen c.place-placed.result) c.args.on (read_off shown)) private (edit-list c.args.defs.now list shown c.args.reg.now c.args.on (seen c.place-placed.result) c.requires.forest.1 c.place-placed.ensures.placed))
+    (edit-few c.args.defs.now (edited c.args.defs.now list c.args.reg.now c.args.on) (switched (seen c.place-placed.result) c.args.on (read_off shown)) private (edit-list c.args.defs.now list shown c.args.reg.now c.args.on (seen c.place-placed.result) c.requires.forest.1 c.place-placed.ensures.placed))
 
 pub returns-clause-listing : goal.returns-clause-listing
 returns-clause-listing g c = λ list forest switch.
