@@ -1,6 +1,8 @@
 -- The tree of an edited list.
-use Rattle.std.proofs.Common.{◌≡◌, ℕ, ◌+◌, ◌<◌, ◌≤◌, Bool, true, false, cond, List, [], ◌∷◌, length, Result, Ok, Err, refl, sym, ap, subst, ◌∙◌, arith}
-use Rattle.std.specs.Prelude.{IsTrue, IfOk}
+use Rattle.std.proofs.Common.{◌≡◌, ℕ, zero, suc, ◌+◌, ◌<◌, ◌≤◌, Bool, true, false, cond, List, [], ◌∷◌, length, get_or, Result, Ok, Err, refl, sym, ap, subst, ◌∙◌, arith}
+use Rattle.std.specs.Prelude.{IsTrue, IfOk, ◌==◌, ◌||◌, eqb, map}
+use Rattle.std.specs.List.{IsDistinct, list_any}
+use Rattle.std.proofs.lemmas.Bool.{eq-eqb}
 use Rattle.std.proofs.lemmas.List.{length-map}
 use Rattle.std.proofs.lemmas.List.Elements.{recursion_from_All}
 use Rattle.std.specs.List.Sorted.{IsStrictlySortedBy}
@@ -9,10 +11,10 @@ use Rattle.app_api.specs.declared.registration.Reg.{Reg}
 use Rattle.shared_forest.specs.Listing.{Shown}
 use Rattle.event_trees.specs.declared.defs.EventDef.{EventDef}
 use Rattle.event_trees.specs.Defs.{is_event, AreDefs}
-use Rattle.event_trees.specs.Private.{IsPrivate, edited}
+use Rattle.event_trees.specs.Private.{IsPrivate, numbers_of, edited}
 use Rattle.event_trees.specs.Canon.{Placed, placed_of, placed, canon_of}
 use Rattle.event_trees.specs.ReadOff.{read_off, AreShort}
-use Rattle.event_trees.specs.Edit.{IsForestOf, placed_cmp, put_placed, switched}
+use Rattle.event_trees.specs.Edit.{IsForestOf, IsSwitchable, placed_cmp, put_placed, switched}
 use Rattle.event_trees.proofs.Paths.{knows}
 use Rattle.event_trees.proofs.InOrder.{strict-placed}
 use Rattle.event_trees.proofs.Short.{short-placed, short-canon_of}
@@ -48,6 +50,35 @@ put-size r (s ∷ list) = elim (is_lt (placed_cmp r s)) as (λ b. length (cond b
 -- one more that makes at most 255
 pub put-few : (r : Placed) (on : Bool) (list : List Placed) → on ≡ true → length (switched r on list) ≤ 255 → length list < 255
 put-few r on list is h = omega (arith, h, ap (λ (b : Bool). length (switched r b list)) is, put-size r list)
+
+numbers-placed : (defs : List EventDef) (list : List Reg) → map (λ r. r.slot.number) (placed defs list) ≡ numbers_of list
+numbers-placed defs [] = refl
+numbers-placed defs (r ∷ list) = ap (λ (l : List ℕ). r.number ∷ l) (numbers-placed defs list)
+
+read-list : (defs : List EventDef) (list : List Reg) (shown : List Shown) → IsForestOf defs list shown → read_off shown ≡ placed defs list
+read-list defs list shown forest = ap read_off forest.listed ∙ whole (placed defs list) (rises defs list forest.private.sorted)
+
+pub old-order : (defs : List EventDef) (list : List Reg) (shown : List Shown) → IsForestOf defs list shown → IsStrictlySortedBy placed_cmp (read_off shown)
+old-order defs list shown forest = edit-order defs list (read_off shown) forest.private (read-list defs list shown forest)
+
+pub old-few : (defs : List EventDef) (list : List Reg) (shown : List Shown) → IsForestOf defs list shown → length (read_off shown) ≤ 255
+old-few defs list shown forest = edit-few defs list (read_off shown) forest.private (read-list defs list shown forest)
+
+pub old-distinct : (defs : List EventDef) (list : List Reg) (shown : List Shown) → IsForestOf defs list shown → IsDistinct eqb (map (λ r. r.slot.number) (read_off shown))
+old-distinct defs list shown forest =
+    subst (λ (l : List Placed). IsDistinct eqb (map (λ r. r.slot.number) l)) (sym (read-list defs list shown forest)) (subst (IsDistinct eqb) (sym (numbers-placed defs list)) forest.private.distinct)
+
+there-at : (defs : List EventDef) (list : List Reg) (number k : ℕ) (d : Reg) → k < length list → (get_or list k d).number ≡ number → list_any (λ r. r.slot.number == number) (placed defs list) ≡ true
+there-at defs [] number k d within is = absurd (omega (arith, within))
+there-at defs (r ∷ list) number zero d within is = ap (λ (b : Bool). b || list_any (λ s. s.slot.number == number) (placed defs list)) (eq-eqb r.number number is)
+there-at defs (r ∷ list) number (suc k) d within is =
+    elim (r.number == number) as (λ b. (b || list_any (λ s. s.slot.number == number) (placed defs list)) ≡ true) [ true ↦ refl | false ↦ there-at defs list number k d (omega (arith, within)) is ]
+
+-- one that is switched off is there
+pub old-there : (defs : List EventDef) (list : List Reg) (shown : List Shown) (r : Reg) (on : Bool) (number : ℕ) → IsForestOf defs list shown → IsSwitchable list r on → number ≡ r.number → on ≡ false → list_any (λ s. s.slot.number == number) (read_off shown) ≡ true
+old-there defs list shown r true number forest switch is off = cc
+old-there defs list shown r false number forest switch is off =
+    ap (λ (l : List Placed). list_any (λ s. s.slot.number == number) l) (read-list defs list shown forest) ∙ there-at defs list number switch.0 r switch.1 (ap (λ (x : Reg). x.number) switch.2 ∙ sym is)
 
 pub if_ok : {A E : Type 0} (result : Result A E) (P Q : A → Type 0) → IfOk result P → ((x : A) → P x → Q x) → IfOk result Q
 if_ok (Ok x) P Q h k = k x h

@@ -220,7 +220,7 @@ ending-from : (list rest : List Placed) (q : List ℕ) → Grown list q → Endi
 ending-from list [] q g e up = subst (λ (l : List Placed). Ending l q) (sym (append-nil list)) e
 ending-from list (r ∷ rest) q g e up =
     subst (λ (l : List Placed). Ending l (last_of r.path rest)) (append_assoc list (r ∷ []) rest)
-        (ending-from (list ++ r ∷ []) rest r.path (grown-push list q r g up.0) (ending-next list q r e (step list q r g up.0)) up.1)
+    (ending-from (list ++ r ∷ []) rest r.path (grown-push list q r g up.0) (ending-next list q r e (step list q r g up.0)) up.1)
 
 ending-none : Ending [] []
 unfolding canon_of
@@ -247,8 +247,8 @@ needed-from path n (m ∷ ns) slots (f ∷ front) q held long laid on is some =
     let size : length (path_after path m) ≡ m.depth = length-after path m laid.0 laid.1 in
     let rest : listing_after path (m ∷ ns) slots ≡ front ++ record { path = q; slots = held } ∷ [] = cc in (
       λ none.
-      let empty : slots_of n slots ≡ [] = ap (λ (k : ℕ). take k (drop n.first slots)) none in
-      omega (arith, on.0 empty, size, long),
+          let empty : slots_of n slots ≡ [] = ap (λ (k : ℕ). take k (drop n.first slots)) none in
+          omega (arith, on.0 empty, size, long),
       needed-from (path_after path m) m ns slots front q held size (subst (λ (k : ℕ). AreLaidOut k ns) (sym size) laid.3) on.1 rest some,
     )
 

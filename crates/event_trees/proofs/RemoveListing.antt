@@ -54,7 +54,7 @@ cut-here path n back slots s i mid ends low high packed within =
       rest = all_at path (drop j held) ++ rest;
       is = ap (λ (l : List Slot). all_at path l ++ rest) (sym (take-append-drop j held)) ∙ (ap (λ (l : List Placed). l ++ rest) (map-append (λ (x : Slot). record { path = path; slot = x }) (take j held) (drop j held)) ∙ append_assoc (all_at path (take j held)) (all_at path (drop j held)) rest);
       was = ap (λ (l : List Slot). all_at path l ++ read_off (listing_after path (moved back) (put_at i s slots))) here ∙ (ap (λ (l : List Shown). all_at path (put_at j s held) ++ read_off l) behind ∙
-      (ap (λ (l : List Placed). l ++ rest) (map-append (λ (x : Slot). record { path = path; slot = x }) (take j held) (s ∷ drop j held)) ∙ append_assoc (all_at path (take j held)) (record { path = path; slot = s } ∷ all_at path (drop j held)) rest));
+          (ap (λ (l : List Placed). l ++ rest) (map-append (λ (x : Slot). record { path = path; slot = x }) (take j held) (s ∷ drop j held)) ∙ append_assoc (all_at path (take j held)) (record { path = path; slot = s } ∷ all_at path (drop j held)) rest));
     }
 
 pub cut-listing : (path : List ℕ) (n : Node) (ns back : List Node) (slots : List Slot) (s : Slot) (i place mid : ℕ) → ArePacked place (n ∷ ns) mid → ArePacked mid back (length slots) → mid ≤ length slots → (final n ns).first ≤ i → i ≤ mid → Cut (read_off (shown_from path n (ns ++ back) slots)) (read_off (shown_all path (bumped (n ∷ ns) ++ moved back) (put_at i s slots))) (record { path = end_path path ns; slot = s })
@@ -67,7 +67,7 @@ cut-listing path n (m ∷ ns) back slots s i place mid packed behind within low 
     let same : read_off (shown_all path (n ∷ (bumped (m ∷ ns) ++ moved back)) new) ≡ all_at path (slots_of n slots) ++ read_off (shown_all on (bumped (m ∷ ns) ++ moved back) new) =
     ap (λ (l : List Slot). all_at path l ++ read_off (listing_after path (bumped (m ∷ ns) ++ moved back) new)) here ∙ ap (λ (l : List Shown). all_at path (slots_of n slots) ++ read_off l) (bumped-on path m ns (moved back) new) in
     subst (λ (l : List Placed). Cut (all_at path (slots_of n slots) ++ read_off (shown_from on m (ns ++ back) slots)) l (record { path = end_path on ns; slot = s })) (sym same)
-        (cut-more (read_off (shown_from on m (ns ++ back) slots)) (read_off (shown_all on (bumped (m ∷ ns) ++ moved back) new)) (record { path = end_path on ns; slot = s }) (all_at path (slots_of n slots)) rest)
+    (cut-more (read_off (shown_from on m (ns ++ back) slots)) (read_off (shown_all on (bumped (m ∷ ns) ++ moved back) new)) (record { path = end_path on ns; slot = s }) (all_at path (slots_of n slots)) rest)
 
 -- with numbers of their own the others are those with other numbers
 eqb-turned : (a b : ℕ) → eqb a b ≡ false → eqb b a ≡ false

@@ -114,17 +114,20 @@ before-old top fs back slots i d o =
     let rest : moved (moved_back back) ≡ back = moved-back (mid + 1) back (length fewer_slots + 1) (omega arith) behind in
     let nodes_is : bumped (head_less top fs ∷ tail_less fs) ++ moved (moved_back back) ≡ top ∷ (fs ++ back) = ap (λ (l : List Node). l ++ moved (moved_back back)) front ∙ ap (λ (l : List Node). top ∷ (fs ++ l)) rest in
     let slots_is : put_at i (get_or slots i d) fewer_slots ≡ slots = slots-back i slots d o.within in
-    let back_behind : ArePacked mid (moved_back back) (length fewer_slots) = packed-back mid back (length fewer_slots) behind in
-    (mid, record {
-      tree = subst (λ (l : List Node). IsTree l (put_at i (get_or slots i d) fewer_slots)) (sym nodes_is) (subst (λ (l : List Slot). IsTree (top ∷ (fs ++ back)) l) (sym slots_is) o.tree);
-      canon = subst (λ (l : List Node). listing_of l (put_at i (get_or slots i d) fewer_slots) ≡ canon_of (read_off (listing_of l (put_at i (get_or slots i d) fewer_slots)))) (sym nodes_is) (subst (λ (l : List Slot). listing_of (top ∷ (fs ++ back)) l ≡ canon_of (read_off (listing_of (top ∷ (fs ++ back)) l))) (sym slots_is) o.canon);
-      order = subst (λ (l : List Node). IsStrictlySortedBy placed_cmp (read_off (listing_of l (put_at i (get_or slots i d) fewer_slots)))) (sym nodes_is) (subst (λ (l : List Slot). IsStrictlySortedBy placed_cmp (read_off (listing_of (top ∷ (fs ++ back)) l))) (sym slots_is) o.order);
-      packed = subst (λ (l : List Node). ArePacked 0 l mid) (less-cons top fs) (packed-less 0 top fs mid (subst (ArePacked 0 (top ∷ fs)) mid_is parts.1.0) some);
-      behind = back_behind;
-      low = omega (arith, first-less top fs, o.low);
-      high = omega (arith, mid_is, ends, o.high);
-      within = packed-up mid (moved_back back) (length fewer_slots) back_behind;
-    }, nodes_is)
+    let back_behind : ArePacked mid (moved_back back) (length fewer_slots) = packed-back mid back (length fewer_slots) behind in (
+      mid,
+      record {
+        tree = subst (λ (l : List Node). IsTree l (put_at i (get_or slots i d) fewer_slots)) (sym nodes_is) (subst (λ (l : List Slot). IsTree (top ∷ (fs ++ back)) l) (sym slots_is) o.tree);
+        canon = subst (λ (l : List Node). listing_of l (put_at i (get_or slots i d) fewer_slots) ≡ canon_of (read_off (listing_of l (put_at i (get_or slots i d) fewer_slots)))) (sym nodes_is) (subst (λ (l : List Slot). listing_of (top ∷ (fs ++ back)) l ≡ canon_of (read_off (listing_of (top ∷ (fs ++ back)) l))) (sym slots_is) o.canon);
+        order = subst (λ (l : List Node). IsStrictlySortedBy placed_cmp (read_off (listing_of l (put_at i (get_or slots i d) fewer_slots)))) (sym nodes_is) (subst (λ (l : List Slot). IsStrictlySortedBy placed_cmp (read_off (listing_of (top ∷ (fs ++ back)) l))) (sym slots_is) o.order);
+        packed = subst (λ (l : List Node). ArePacked 0 l mid) (less-cons top fs) (packed-less 0 top fs mid (subst (ArePacked 0 (top ∷ fs)) mid_is parts.1.0) some);
+        behind = back_behind;
+        low = omega (arith, first-less top fs, o.low);
+        high = omega (arith, mid_is, ends, o.high);
+        within = packed-up mid (moved_back back) (length fewer_slots) back_behind;
+      },
+      nodes_is,
+    )
 
 -- the list that is read off, once the nodes and registrations are those of the tree
 old-all : (top : Node) (fs back : List Node) (slots : List Slot) (i : ℕ) (d : Slot) → i < length slots → bumped (head_less top fs ∷ tail_less fs) ++ moved (moved_back back) ≡ top ∷ (fs ++ back) → read_off (listing_of (bumped (head_less top fs ∷ tail_less fs) ++ moved (moved_back back)) (put_at i (get_or slots i d) (take i slots ++ drop (i + 1) slots))) ≡ read_off (listing_of (top ∷ (fs ++ back)) slots)
@@ -193,7 +196,7 @@ removed-kept top fs back slots i d o distinct keeps =
     let out = out-kept (head_less top fs) (tail_less fs) (moved_back back) fewer_slots (get_or slots i d) i b.0 b.1 (tail-stays top fs back o.tree.topped.3 keeps) in
     let out_old = subst (λ (l : List Placed). Outcome (head_less top fs ∷ (tail_less fs ++ moved_back back)) fewer_slots l (get_or slots i d) (end_path [] (tail_less fs))) all_is out in
     subst (λ (l : List Node). Removed (l ++ moved_back back) fewer_slots (get_or slots i d).number (read_off (listing_of (top ∷ (fs ++ back)) slots))) (sym (less-cons top fs))
-        (removed-from (head_less top fs ∷ (tail_less fs ++ moved_back back)) fewer_slots (read_off (listing_of (top ∷ (fs ++ back)) slots)) (get_or slots i d) (end_path [] (tail_less fs)) out_old distinct)
+    (removed-from (head_less top fs ∷ (tail_less fs ++ moved_back back)) fewer_slots (read_off (listing_of (top ∷ (fs ++ back)) slots)) (get_or slots i d) (end_path [] (tail_less fs)) out_old distinct)
 
 -- the nodes that stay before the run, and the run
 less-both : (fs : List Node) (m : Node) (rs : List Node) → uncounted (fs ++ m ∷ rs) ≡ fs ++ (head_less m rs ∷ tail_less rs)
@@ -239,7 +242,7 @@ removed-run top fs m rs back slots i d o distinct some bare is stop =
     let out = out-run top fs h t (moved_back back) fewer_slots s i b.0 before below none stays in
     let size : length (h ∷ t) ≡ length (m ∷ rs) = ap (λ (k : ℕ). suc k) (tail-size rs) in
     subst (λ (k : ℕ). Removed (lowered k (top ∷ fs) ++ moved_back back) fewer_slots s.number all) size
-        (removed-from (lowered (length (h ∷ t)) (top ∷ fs) ++ moved_back back) fewer_slots all s (end_path [] (fs ++ h ∷ t)) (subst (λ (l : List Placed). Outcome (lowered (length (h ∷ t)) (top ∷ fs) ++ moved_back back) fewer_slots l s (end_path [] (fs ++ h ∷ t))) same out) distinct)
+    (removed-from (lowered (length (h ∷ t)) (top ∷ fs) ++ moved_back back) fewer_slots all s (end_path [] (fs ++ h ∷ t)) (subst (λ (l : List Placed). Outcome (lowered (length (h ∷ t)) (top ∷ fs) ++ moved_back back) fewer_slots l s (end_path [] (fs ++ h ∷ t))) same out) distinct)
 
 -- ---- by places
 run-case : (top : Node) (fs run back : List Node) (slots : List Slot) (i : ℕ) (d : Slot) → 1 ≤ length run → Old top (fs ++ run) back slots i → IsDistinct eqb (map (λ r. r.slot.number) (read_off (listing_of (top ∷ ((fs ++ run) ++ back)) slots))) → read_off (listing_of (top ∷ ((fs ++ run) ++ back)) slots) ≢ [] → IsBare run → IsRun run → (1 ≤ length fs → (final top fs).count ≡ 0 → (final top fs).below ≢ length run) → Removed (lowered (length run) (top ∷ fs) ++ moved_back back) (take i slots ++ drop (i + 1) slots) (get_or slots i d).number (read_off (listing_of (top ∷ ((fs ++ run) ++ back)) slots))
@@ -289,8 +292,8 @@ by_run top ns slots i j (suc k) d w within owner bare o distinct =
     let law = run-case top (take k ns) run (drop j ns) slots i d (omega (arith, size, less)) (subst (λ (l : List Node). Old top l (drop j ns) slots i) front o) (subst (λ (l : List Node). IsDistinct eqb (map (λ r. r.slot.number) (read_off (listing_of (top ∷ l) slots)))) (sym split_run) w.distinct) (subst (λ (l : List Node). read_off (listing_of (top ∷ l) slots) ≢ []) (sym split_run) w.some) (subst IsBare run_is bare.bare) (subst IsRun run_is bare.run) stop in
     let test : nat_lt (suc k) (suc j) ≡ true = grind (arith, nat_tests) in
     subst (λ (b : Bool). Removed (cond b (lowered (suc j - suc k) (top ∷ take k ns)) (uncounted (top ∷ take j ns)) ++ moved_back (drop j ns)) (take i slots ++ drop (i + 1) slots) (get_or slots i d).number (read_off (listing_of (top ∷ ns) slots))) (sym test)
-        (subst (λ (n : ℕ). Removed (lowered n (top ∷ take k ns) ++ moved_back (drop j ns)) (take i slots ++ drop (i + 1) slots) (get_or slots i d).number (read_off (listing_of (top ∷ ns) slots))) (size ∙ sym gone)
-        (subst (λ (l : List Node). Removed (lowered (length run) (top ∷ take k ns) ++ moved_back (drop j ns)) (take i slots ++ drop (i + 1) slots) (get_or slots i d).number (read_off (listing_of (top ∷ l) slots))) split_run law))
+    (subst (λ (n : ℕ). Removed (lowered n (top ∷ take k ns) ++ moved_back (drop j ns)) (take i slots ++ drop (i + 1) slots) (get_or slots i d).number (read_off (listing_of (top ∷ ns) slots))) (size ∙ sym gone)
+    (subst (λ (l : List Node). Removed (lowered (length run) (top ∷ take k ns) ++ moved_back (drop j ns)) (take i slots ++ drop (i + 1) slots) (get_or slots i d).number (read_off (listing_of (top ∷ l) slots))) split_run law))
 
 by_keep : (top : Node) (ns : List Node) (slots : List Slot) (i j keep : ℕ) (d : Slot) → Whole (top ∷ ns) slots → i < length slots → IsOwner (top ∷ ns) i j → IsKeep (top ∷ ns) (suc j) keep → Removed (without_nodes keep (suc j) (top ∷ ns)) (take i slots ++ drop (i + 1) slots) (get_or slots i d).number (read_off (listing_of (top ∷ ns) slots))
 by_keep top ns slots i j keep d w within owner keeps =
@@ -310,14 +313,37 @@ by_keep top ns slots i j keep d w within owner keeps =
     subst (λ (n : Node). 0 < n.below) last (subst (λ (k : ℕ). 0 < (get_or (top ∷ ns) k none).below) at (keeps.all whole (omega (arith, more, long)) (subst (λ (k : ℕ). (get_or (top ∷ ns) k none).count ≤ 1) (sym at) (subst (λ (n : Node). n.count ≤ 1) (sym last) one)))) in
     let law = removed-kept top (take j ns) (drop j ns) slots i d o distinct stays in
     subst (λ (b : Bool). Removed (cond b (lowered (suc j - keep) (take keep (top ∷ ns))) (uncounted (top ∷ take j ns)) ++ moved_back (drop j ns)) (take i slots ++ drop (i + 1) slots) (get_or slots i d).number (read_off (listing_of (top ∷ ns) slots))) (sym test)
-        (subst (λ (l : List Node). Removed (uncounted (top ∷ take j ns) ++ moved_back (drop j ns)) (take i slots ++ drop (i + 1) slots) (get_or slots i d).number (read_off (listing_of (top ∷ l) slots))) split law)) (cases_lt keep (suc j))
+    (subst (λ (l : List Node). Removed (uncounted (top ∷ take j ns) ++ moved_back (drop j ns)) (take i slots ++ drop (i + 1) slots) (get_or slots i d).number (read_off (listing_of (top ∷ l) slots))) split law)) (cases_lt keep (suc j))
 
 pub tree-removed : (nodes : List Node) (slots : List Slot) (i j keep : ℕ) (d : Slot) → Whole nodes slots → i < length slots → IsOwner nodes i j → IsKeep nodes (j + 1) keep → Removed (without_nodes keep (j + 1) nodes) (take i slots ++ drop (i + 1) slots) (get_or slots i d).number (read_off (listing_of nodes slots))
 tree-removed [] slots i j keep d w within owner keeps = absurd w.tree.topped
 tree-removed (top ∷ ns) slots i j keep d w within owner keeps =
     let one : j + 1 ≡ suc j = omega arith in
     subst (λ (e : ℕ). Removed (without_nodes keep e (top ∷ ns)) (take i slots ++ drop (i + 1) slots) (get_or slots i d).number (read_off (listing_of (top ∷ ns) slots))) (sym one)
-        (by_keep top ns slots i j keep d w within owner (subst (λ (e : ℕ). IsKeep (top ∷ ns) e keep) one keeps))
+    (by_keep top ns slots i j keep d w within owner (subst (λ (e : ℕ). IsKeep (top ∷ ns) e keep) one keeps))
+
+pub place-number : (number : ℕ) (slots : List Slot) (place : ℕ) (d : Slot) → IsPlaceOf number slots place → place < length slots → (get_or slots place d).number ≡ number
+place-number number slots place d p within = subst (StartsWith number) (drop_more slots place d within) p.here
+
+slot_of_some : (i : ℕ) (slots : List Slot) → i < length slots → Slot
+slot_of_some i [] h = absurd (omega (arith, h))
+slot_of_some i (s ∷ slots) h = s
+
+list_other : (list : List Placed) (number : ℕ) → list_any (λ r. r.slot.number == number) list ≡ true → list ≢ []
+list_other [] number h e = cc
+list_other (r ∷ list) number h e = cc
+
+-- the same for lists that equal the tree's
+pub removed-made : (nodes ns : List Node) (slots ss : List Slot) (i j keep number : ℕ) (more : List Node) (rest : List Slot) → ns ≡ nodes → ss ≡ slots → IsTree nodes slots → listing_of nodes slots ≡ canon_of (read_off (listing_of nodes slots)) → IsStrictlySortedBy placed_cmp (read_off (listing_of nodes slots)) → IsDistinct eqb (map (λ r. r.slot.number) (read_off (listing_of nodes slots))) → list_any (λ r. r.slot.number == number) (read_off (listing_of nodes slots)) ≡ true → IsPlaceOf number ss i → i < length slots → IsOwner nodes i j → IsKeep ns (j + 1) keep → more ≡ without_nodes keep (j + 1) ns → rest ≡ take i ss ++ drop (i + 1) ss → Removed more rest number (read_off (listing_of nodes slots))
+removed-made nodes ns slots ss i j keep number more rest nodes_is slots_is tree canon order distinct there place within owner keeps more_is rest_is =
+    let d : Slot = slot_of_some i slots within in
+    let all : List Placed = read_off (listing_of nodes slots) in
+    let law : Removed (without_nodes keep (j + 1) nodes) (take i slots ++ drop (i + 1) slots) (get_or slots i d).number all =
+    tree-removed nodes slots i j keep d (record { tree = tree; canon = canon; order = order; distinct = distinct; some = list_other all number there }) within owner (subst (λ (l : List Node). IsKeep l (j + 1) keep) nodes_is keeps) in
+    let same : (get_or slots i d).number ≡ number = place-number number slots i d (subst (λ (l : List Slot). IsPlaceOf number l i) slots_is place) within in
+    subst (λ (l : List Node). Removed l rest number all) (sym (more_is ∙ ap (without_nodes keep (j + 1)) nodes_is))
+    (subst (λ (l : List Slot). Removed (without_nodes keep (j + 1) nodes) l number all) (sym (rest_is ∙ ap (λ (l : List Slot). take i l ++ drop (i + 1) l) slots_is))
+    (subst (λ (k : ℕ). Removed (without_nodes keep (j + 1) nodes) (take i slots ++ drop (i + 1) slots) k all) same law))
 
 -- ---- steps of the loops
 bare-cons : (n : Node) (ns : List Node) → 1 ≤ length ns → n.count ≡ 0 → IsBare ns → IsBare (n ∷ ns)
@@ -345,6 +371,3 @@ place-there number slots list place is p there =
     let all : AllByRecursion (λ s. s.number ≢ number) slots = subst (AllByRecursion (λ (s : Slot). s.number ≢ number)) (take_all place slots g) p.before in
     let none : list_any (λ r. r.slot.number == number) list ≡ false = none-there number list (subst (AllByRecursion (λ (s : Slot). s.number ≢ number)) (sym is) all) in
     cc) (cases_lt place (length slots))
-
-pub place-number : (number : ℕ) (slots : List Slot) (place : ℕ) (d : Slot) → IsPlaceOf number slots place → place < length slots → (get_or slots place d).number ≡ number
-place-number number slots place d p within = subst (StartsWith number) (drop_more slots place d within) p.here

@@ -5,7 +5,7 @@ ghost use Rattle.std.specs.List.{IsDistinct, list_any};
 ghost use Rattle.std.specs.List.Sorted.{IsStrictlySortedBy};
 ghost use Rattle.shared_forest.specs.Listing.{listing};
 ghost use Rattle.event_trees.specs.Canon.{canon_of};
-ghost use Rattle.event_trees.specs.ReadOff.{read_off};
+ghost use Rattle.event_trees.specs.ReadOff.{read_off, AreShort};
 ghost use Rattle.event_trees.specs.Edit.{placed_cmp, without_placed};
 ghost use Rattle.event_trees.specs.Remove.{IsPlaceOf, IsOwner, IsBareFrom, IsKeep, no_node, lowered, moved_back, uncounted, kept_nodes as kept_of, without_nodes};
 
@@ -111,7 +111,12 @@ fn uncount_last(nodes: &mut [Node])
 }
 
 // The nodes that stay of those up to the registration's.
-fn kept_nodes(alloc: Global, nodes: &[Node], keep: usize, end: usize) -> Result<Vec<Node>, AllocError>
+fn kept_nodes(
+    alloc: Global,
+    nodes: &[Node],
+    keep: usize,
+    end: usize,
+) -> Result<Vec<Node>, AllocError>
     requires low { 1 ≤ end }
     requires high { keep ≤ end }
     requires within { end ≤ length nodes.now }
@@ -129,7 +134,12 @@ fn kept_nodes(alloc: Global, nodes: &[Node], keep: usize, end: usize) -> Result<
 }
 
 // The nodes without one registration of the last of so many, and without those that nothing needs.
-fn nodes_without(alloc: Global, nodes: &[Node], keep: usize, end: usize) -> Result<Vec<Node>, AllocError>
+fn nodes_without(
+    alloc: Global,
+    nodes: &[Node],
+    keep: usize,
+    end: usize,
+) -> Result<Vec<Node>, AllocError>
     requires low { 1 ≤ end }
     requires high { keep ≤ end }
     requires within { end ≤ length nodes.now }
@@ -158,7 +168,8 @@ pub(crate) fn tree_without(alloc: Global, tree: &Tree, number: u8) -> Result<Tre
     requires order { IsStrictlySortedBy placed_cmp (read_off (listing tree.now)) }
     requires distinct { IsDistinct eqb (map (λ r. r.slot.number) (read_off (listing tree.now))) }
     requires there { IsTrue (list_any (λ r. r.slot.number == number) (read_off (listing tree.now))) }
-    requires sparse { length tree.now.nodes < 65536 }
+    requires short { AreShort (listing tree.now) }
+    requires few { length (read_off (listing tree.now)) ≤ 255 }
     ensures { IfOk result (λ fewer. listing fewer ≡ canon_of (without_placed number (read_off (listing tree.now)))) }
 {
     let nodes = tree.nodes();

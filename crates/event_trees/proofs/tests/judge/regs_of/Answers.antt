@@ -3,7 +3,7 @@ use Rattle.shared_forest.specs.declared.node.Node.{Node}
 use Rattle.shared_forest.specs.declared.node.Slot.{Slot}
 use Rattle.shared_forest.specs.Layout.{IsTree}
 use Rattle.event_trees.proofs.Walks.{node-at_within}
-use Rattle.event_trees.proofs.edits.regs_of.Goals as goal
+use Rattle.event_trees.proofs.tests.judge.regs_of.Goals as goal
 
 pub push_node-requires : goal.push_node-requires
 push_node-requires c =
