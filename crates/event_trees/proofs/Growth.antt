@@ -16,7 +16,7 @@ use Rattle.event_trees.proofs.Rises.{IsUpTo}
 use Rattle.event_trees.specs.Canon.{Placed, longer, prefixes, put_path, put_paths, paths_with, slots_at, shown_at, canon_of}
 use Rattle.event_trees.proofs.Order.{Has, AllBelow, AllAbove, itself, flip_less, below_trans, below_push, put-has, puts-above, sorted-puts, has-puts_old, has-puts_new, cmp-front}
 
-cons_same : (a b : ℕ) (q p : List ℕ) → a ≡ b → q ≡ p → a ∷ q ≡ b ∷ p
+pub cons_same : (a b : ℕ) (q p : List ℕ) → a ≡ b → q ≡ p → a ∷ q ≡ b ∷ p
 cons_same a b q p e f = cc
 
 -- the prefixes of a path that another path doesn't begin with
@@ -139,7 +139,7 @@ pub record Grown (list : List Placed) (q : List ℕ) : Type 0 where
   pub ends : EndsAt (paths_with ([] ∷ []) list) q
   pub held : AllByRecursion (λ r. Has r.path (paths_with ([] ∷ []) list)) list
 
-take_none : (k : ℕ) → take k (let none : List ℕ = [] in none) ≡ []
+pub take_none : (k : ℕ) → take k (let none : List ℕ = [] in none) ≡ []
 take_none zero = refl
 take_none (suc k) = refl
 

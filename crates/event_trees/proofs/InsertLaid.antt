@@ -7,6 +7,7 @@ use Rattle.shared_forest.specs.declared.node.Node.{Node}
 use Rattle.shared_forest.specs.Layout.{under, AreLaidOut, AreTopped}
 use Rattle.event_trees.specs.Build.{bumped}
 use Rattle.event_trees.specs.Insert.{chain, raised, moved}
+use Rattle.event_trees.proofs.Built.{bumped-length}
 
 -- the depth of the last node
 abbrev pub end_depth : ℕ → List Node → ℕ
@@ -115,11 +116,6 @@ laid-moved d0 [] [] h = tt
 laid-moved d0 [] (n ∷ ns) h = (h.0, h.1, h.2 ∙ sym (under-moved n.depth [] ns), laid-moved n.depth [] ns h.3)
 laid-moved d0 (n ∷ ns) back h = (h.0, h.1, h.2 ∙ sym (under-moved n.depth ns back), laid-moved n.depth ns back h.3)
 
-pub bumped-size : (ns : List Node) → length (bumped ns) ≡ length ns
-bumped-size [] = refl
-bumped-size (n ∷ []) = refl
-bumped-size (n ∷ m ∷ ns) = ap (λ (k : ℕ). suc k) (bumped-size (m ∷ ns))
-
 pub moved-size : (ns : List Node) → length (moved ns) ≡ length ns
 moved-size [] = refl
 moved-size (n ∷ ns) = ap (λ (k : ℕ). suc k) (moved-size ns)
@@ -129,7 +125,7 @@ topped-bumped top [] back h = (h.0, h.1, h.2 ∙ sym (moved-size back), laid-mov
 topped-bumped top (m ∷ ns) back h = (
   h.0,
   h.1,
-  omega (arith, h.2, length-append (bumped (m ∷ ns)) (moved back), length-append (m ∷ ns) back, bumped-size (m ∷ ns), moved-size back),
+  omega (arith, h.2, length-append (bumped (m ∷ ns)) (moved back), length-append (m ∷ ns) back, bumped-length (m ∷ ns), moved-size back),
   laid-moved 0 (bumped (m ∷ ns)) back (laid-bumped 0 (m ∷ ns) back h.3),
 )
 

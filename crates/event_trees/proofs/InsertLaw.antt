@@ -17,24 +17,21 @@ use Rattle.event_trees.specs.Edit.{placed_cmp, put_placed}
 use Rattle.event_trees.specs.Insert.{end_path, last_path, IsReach, IsBetween, chain, raised, moved, with_path}
 use Rattle.event_trees.proofs.Rises.{IsUpTo}
 use Rattle.event_trees.proofs.Order.{Has, AllAbove, above_trans, sorted-puts}
-use Rattle.event_trees.proofs.Growth.{EndsAt, newer}
+use Rattle.event_trees.proofs.Growth.{EndsAt, newer, take_none}
 use Rattle.event_trees.proofs.InOrder.{canon-order}
 use Rattle.event_trees.proofs.Whole.{read_off-append}
-use Rattle.event_trees.proofs.Built.{listing_after-append}
+use Rattle.event_trees.proofs.Built.{listing_after-append, length-path_after}
 use Rattle.event_trees.proofs.Reach.{common-left, common-right, take-common, later-shallow}
 use Rattle.event_trees.proofs.CanonFrom.{paths_of, paths-put, canon-from, paths-canon}
 use Rattle.event_trees.proofs.InsertLaid.{end_depth, IsShallow, topped-in}
 use Rattle.event_trees.proofs.InsertPacked.{packed-front, packed-path, packed-in}
 use Rattle.event_trees.proofs.InsertPaths.{node_paths, paths-after, node_paths-append, end_path-append, end-raised, paths-moved, end-chain, paths-in, paths-with_path, puts-in}
-use Rattle.event_trees.proofs.InsertListing.{put_at, final, shown_from, shown_all, Put, put-is, put-listing}
+use Rattle.event_trees.proofs.InsertListing.{above_front, put_at, final, shown_from, shown_all, Put, put-is, put-listing}
 
 -- ---- the nodes before the place
-pub length-after : (before : List ℕ) (n : Node) → 1 ≤ n.depth → n.depth ≤ length before + 1 → length (path_after before n) ≡ n.depth
-length-after before n low high = omega (arith, length_push (take (n.depth - 1) before) n.event, length-take-le (n.depth - 1) before (omega (arith, high)))
-
 length-end : (before : List ℕ) (depth : ℕ) (ns rest : List Node) → length before ≡ depth → AreLaidOut depth (ns ++ rest) → length (end_path before ns) ≡ end_depth depth ns
 length-end before depth [] rest is laid = is
-length-end before depth (n ∷ ns) rest is laid = length-end (path_after before n) n.depth ns rest (length-after before n laid.0 (omega (arith, is, laid.1))) laid.3
+length-end before depth (n ∷ ns) rest is laid = length-end (path_after before n) n.depth ns rest (length-path_after before n laid.0 (omega (arith, is, laid.1))) laid.3
 
 laid-behind : (depth : ℕ) (ns rest : List Node) → AreLaidOut depth (ns ++ rest) → AreLaidOut (end_depth depth ns) rest
 laid-behind depth [] rest laid = laid
@@ -46,45 +43,43 @@ snoc-end before (n ∷ ns) =
     let r = snoc-end (path_after before n) ns in
     (before ∷ r.0, ap (λ (l : List (List ℕ)). before ∷ l) r.1)
 
-pub has_left : (p : List ℕ) (xs ys : List (List ℕ)) → Has p xs → Has p (xs ++ ys)
+has_left : (p : List ℕ) (xs ys : List (List ℕ)) → Has p xs → Has p (xs ++ ys)
 has_left p [] ys h = absurd h
 has_left p (x ∷ xs) ys h = ⊎_elim (λ e. inl e) (λ k. inr (has_left p xs ys k)) h
 
-pub has_last : (p : List ℕ) (xs : List (List ℕ)) → Has p (xs ++ p ∷ [])
+has_last : (p : List ℕ) (xs : List (List ℕ)) → Has p (xs ++ p ∷ [])
 has_last p [] = inl refl
 has_last p (x ∷ xs) = inr (has_last p xs)
+
+-- the prefixes of the next node's path
+pub begun-next : (before : List ℕ) (n : Node) (xs : List (List ℕ)) → 1 ≤ n.depth → n.depth ≤ length before + 1 → ((k : ℕ) → Has (take k before) xs) → (k : ℕ) → Has (take k (path_after before n)) (xs ++ path_after before n ∷ [])
+begun-next before n xs low near h k =
+    let path : List ℕ = path_after before n in
+    let short : List ℕ = take (n.depth - 1) before in
+    let size : length short ≡ n.depth - 1 = length-take-le (n.depth - 1) before (omega (arith, near)) in
+    ⊎_elim (λ l.
+    let same : take k path ≡ take k before = take-append-le k short (n.event ∷ []) (omega (arith, l, size)) ∙ take-take k (n.depth - 1) before (omega (arith, l)) in
+    subst (λ (p : List ℕ). Has p (xs ++ path ∷ [])) (sym same) (has_left (take k before) xs (path ∷ []) (h k)))
+    (λ g. subst (λ (p : List ℕ). Has p (xs ++ path ∷ [])) (sym (take_all k path (omega (arith, g, length-path_after before n low near, low)))) (has_last path xs)) (cases_lt k n.depth)
 
 -- each prefix of the path of the last node has a node
 begun : (before : List ℕ) (front : List (List ℕ)) (ns rest : List Node) (depth : ℕ) → length before ≡ depth → ((k : ℕ) → Has (take k before) front) → AreLaidOut depth (ns ++ rest) → (k : ℕ) → Has (take k (end_path before ns)) (front ++ node_paths before ns)
 begun before front [] rest depth is h laid = λ k. subst (Has (take k before)) (sym (append-nil front)) (h k)
 begun before front (n ∷ ns) rest depth is h laid =
     let path : List ℕ = path_after before n in
-    let short : List ℕ = take (n.depth - 1) before in
-    let size : length short ≡ n.depth - 1 = length-take-le (n.depth - 1) before (omega (arith, is, laid.1)) in
-    let here : (k : ℕ) → Has (take k path) (front ++ path ∷ []) = λ k. ⊎_elim (λ l.
-    let same : take k path ≡ take k before = take-append-le k short (n.event ∷ []) (omega (arith, l, size)) ∙ take-take k (n.depth - 1) before (omega (arith, l)) in
-    subst (λ (p : List ℕ). Has p (front ++ path ∷ [])) (sym same) (has_left (take k before) front (path ∷ []) (h k)))
-    (λ g. subst (λ (p : List ℕ). Has p (front ++ path ∷ [])) (sym (take_all k path (omega (arith, g, length-after before n laid.0 (omega (arith, is, laid.1)), laid.0)))) (has_last path front)) (cases_lt k n.depth) in
-    let on = begun path (front ++ path ∷ []) ns rest n.depth (length-after before n laid.0 (omega (arith, is, laid.1))) here laid.3 in
+    let near : n.depth ≤ length before + 1 = omega (arith, is, laid.1) in
+    let on = begun path (front ++ path ∷ []) ns rest n.depth (length-path_after before n laid.0 near) (begun-next before n front laid.0 near h) laid.3 in
     λ k. subst (Has (take k (end_path path ns))) (append_assoc front (path ∷ []) (node_paths path ns)) (on k)
-
-above-front : (x : List ℕ) (xs ys : List (List ℕ)) → AllAbove x (xs ++ ys) → AllAbove x xs
-above-front x [] ys h = tt
-above-front x (z ∷ xs) ys h = (h.0, above-front x xs ys h.1)
 
 pub sorted-front : (xs ys : List (List ℕ)) → IsStrictlySortedBy path_cmp (xs ++ ys) → IsStrictlySortedBy path_cmp xs
 unfolding IsStrictlySortedBy
 sorted-front [] ys s = tt
-sorted-front (x ∷ xs) ys s = (above-front x xs ys s.0, sorted-front xs ys s.1)
+sorted-front (x ∷ xs) ys s = (above_front x xs ys s.0, sorted-front xs ys s.1)
 
 sorted-behind : (xs ys : List (List ℕ)) → IsStrictlySortedBy path_cmp (xs ++ ys) → IsStrictlySortedBy path_cmp ys
 unfolding IsStrictlySortedBy
 sorted-behind [] ys s = s
 sorted-behind (x ∷ xs) ys s = sorted-behind xs ys s.1
-
-take_nothing : (k : ℕ) → take k (let none : List ℕ = [] in none) ≡ []
-take_nothing zero = refl
-take_nothing (suc k) = refl
 
 ends-front : (ns rest : List Node) → AreLaidOut 0 (ns ++ rest) → IsStrictlySortedBy path_cmp ([] ∷ node_paths [] (ns ++ rest)) → EndsAt ([] ∷ node_paths [] ns) (end_path [] ns)
 ends-front ns rest laid sorted =
@@ -93,7 +88,7 @@ ends-front ns rest laid sorted =
       sorted = sorted-front ([] ∷ node_paths [] ns) (node_paths (end_path [] ns) rest) (subst (λ (l : List (List ℕ)). IsStrictlySortedBy path_cmp ([] ∷ l)) (node_paths-append [] ns rest) sorted);
       before = r.0;
       ends = r.1;
-      begun = begun [] ([] ∷ []) ns rest 0 refl (λ k. inl (sym (take_nothing k))) laid;
+      begun = begun [] ([] ∷ []) ns rest 0 refl (λ k. inl (sym (take_none k))) laid;
     }
 
 -- ---- the nodes behind it
@@ -208,7 +203,8 @@ at-final r c more mid (e ∷ es) top new ns slots i f g is short packed at =
     })
 
 -- ---- the law
-pub record Inserted (nodes : List Node) (slots : List Slot) (list : List Placed) : Type 0 where
+-- a tree, and the listing of a list
+pub record IsTreeOf (nodes : List Node) (slots : List Slot) (list : List Placed) : Type 0 where
   pub tree : IsTree nodes slots
   pub listed : listing_of nodes slots ≡ canon_of list
 
@@ -219,7 +215,7 @@ pub bumped-shown_all : (top : Node) (ms back : List Node) (slots : List Slot) �
 bumped-shown_all top [] back slots = refl
 bumped-shown_all top (m ∷ ms) back slots = refl
 
-pub inserted : (top : Node) (ns back : List Node) (slots : List Slot) (r : Placed) (c mid i : ℕ) → IsTree (top ∷ (ns ++ back)) slots → listing_of (top ∷ (ns ++ back)) slots ≡ canon_of (read_off (listing_of (top ∷ (ns ++ back)) slots)) → IsStrictlySortedBy placed_cmp (put_placed r (read_off (listing_of (top ∷ (ns ++ back)) slots))) → IsUpTo (end_path [] ns) r.path → c ≡ common (end_path [] ns) r.path → IsLater (end_path [] ns) r.path back → ArePacked 0 (top ∷ ns) mid → ArePacked mid back (length slots) → IsPlaced r c (final top ns) slots i → mid ≤ length slots → Inserted (bumped (raised c (length (drop c r.path)) (top ∷ ns) ++ chain mid c (drop c r.path)) ++ moved back) (put_at i r.slot slots) (put_placed r (read_off (listing_of (top ∷ (ns ++ back)) slots)))
+pub inserted : (top : Node) (ns back : List Node) (slots : List Slot) (r : Placed) (c mid i : ℕ) → IsTree (top ∷ (ns ++ back)) slots → listing_of (top ∷ (ns ++ back)) slots ≡ canon_of (read_off (listing_of (top ∷ (ns ++ back)) slots)) → IsStrictlySortedBy placed_cmp (put_placed r (read_off (listing_of (top ∷ (ns ++ back)) slots))) → IsUpTo (end_path [] ns) r.path → c ≡ common (end_path [] ns) r.path → IsLater (end_path [] ns) r.path back → ArePacked 0 (top ∷ ns) mid → ArePacked mid back (length slots) → IsPlaced r c (final top ns) slots i → mid ≤ length slots → IsTreeOf (bumped (raised c (length (drop c r.path)) (top ∷ ns) ++ chain mid c (drop c r.path)) ++ moved back) (put_at i r.slot slots) (put_placed r (read_off (listing_of (top ∷ (ns ++ back)) slots)))
 inserted top ns back slots r c mid i tree canon order le is later front behind at within =
     let p : List ℕ = r.path in
     let q : List ℕ = end_path [] ns in

@@ -170,7 +170,7 @@ final-path : (path : List ℕ) (n : Node) (ns : List Node) → Has (end_path pat
 final-path path n [] = inl refl
 final-path path n (m ∷ ns) = inr (final-path (path_after path n) m ns)
 
-above_front : (x : List ℕ) (xs ys : List (List ℕ)) → AllAbove x (xs ++ ys) → AllAbove x xs
+pub above_front : (x : List ℕ) (xs ys : List (List ℕ)) → AllAbove x (xs ++ ys) → AllAbove x xs
 above_front x [] ys h = tt
 above_front x (z ∷ xs) ys h = (h.0, above_front x xs ys h.1)
 

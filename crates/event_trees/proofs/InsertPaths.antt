@@ -15,7 +15,7 @@ use Rattle.event_trees.specs.Build.{common, fresh, bumped}
 use Rattle.event_trees.specs.Insert.{end_path, chain, raised, moved}
 use Rattle.event_trees.proofs.Rises.{IsUpTo}
 use Rattle.event_trees.proofs.Order.{Has, AllAbove, by_order, put-less, put-equal, put-greater, above_trans, front_less}
-use Rattle.event_trees.proofs.Growth.{EndsAt, puts, newer, bare, rest_up_to}
+use Rattle.event_trees.proofs.Growth.{EndsAt, puts, newer, bare, rest_up_to, cons_same}
 use Rattle.event_trees.proofs.Built.{listing-fresh}
 use Rattle.event_trees.proofs.Reach.{common-left, common-right, take-common}
 use Rattle.event_trees.proofs.InsertLaid.{IsShallow}
@@ -80,9 +80,6 @@ end-chain_some before first d e (x ∷ es) h =
     let whole : take (d + 1) path ≡ take d before ++ e ∷ [] = ap (take (d + 1)) is ∙ take_all (d + 1) (take d before ++ e ∷ []) (omega (arith, long)) in
     end-chain_some path first (d + 1) x es (omega (arith, long, ap length is)) ∙ (ap (λ (l : List ℕ). l ++ x ∷ es) whole ∙ append_assoc (take d before) (e ∷ []) (x ∷ es))
 
-cons_both : (a b : ℕ) (q p : List ℕ) → a ≡ b → q ≡ p → a ∷ q ≡ b ∷ p
-cons_both a b q p e f = cc
-
 -- a path that is no later than one that it begins with is that one
 pub same-whole : (q p : List ℕ) → IsUpTo q p → common q p ≡ length p → q ≡ p
 same-whole [] [] le all = refl
@@ -90,7 +87,7 @@ same-whole [] (b ∷ p) le all = absurd (omega (arith, all))
 same-whole (a ∷ q) [] le all = absurd (false≢true (sym le))
 same-whole (a ∷ q) (b ∷ p) le all =
     ⊎_elim (λ t. let at : common (a ∷ q) (b ∷ p) ≡ suc (common q p) = ap (λ (x : Bool). cond x (suc (common q p)) 0) t.0 in
-    cons_both a b q p t.1 (same-whole q p (rest_up_to a b q p t.1 le) (omega (arith, at, all))))
+    cons_same a b q p t.1 (same-whole q p (rest_up_to a b q p t.1 le) (omega (arith, at, all))))
     (λ t. let at : common (a ∷ q) (b ∷ p) ≡ 0 = ap (λ (x : Bool). cond x (suc (common q p)) 0) t.0 in absurd (omega (arith, at, all))) (eqb_tells a b)
 
 end-chain_rest : (q p : List ℕ) (first d : ℕ) (es : List ℕ) → IsUpTo q p → d ≡ common q p → take d p ++ es ≡ p → end_path q (chain first d es) ≡ p

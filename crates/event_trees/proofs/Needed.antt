@@ -15,11 +15,12 @@ use Rattle.event_trees.specs.Canon.{Placed, longer, prefixes, put_path, put_path
 use Rattle.event_trees.specs.ReadOff.{all_at, read_off}
 use Rattle.event_trees.proofs.Rises.{Rises}
 use Rattle.event_trees.proofs.Order.{Has, AllAbove, AllBelow, put-has, put-above}
-use Rattle.event_trees.proofs.Growth.{Grown, grown-none, grown-push, Step, step, bare, newer, sorted-before}
+use Rattle.event_trees.proofs.Growth.{Grown, grown-none, grown-push, Step, step, bare, newer, sorted-before, take_none}
 use Rattle.event_trees.proofs.CanonFrom.{paths_of, canon-from}
+use Rattle.event_trees.proofs.Built.{length-path_after}
 use Rattle.event_trees.proofs.InsertPaths.{node_paths, paths-after}
-use Rattle.event_trees.proofs.InsertLaw.{length-after, has_left, has_last, sorted-front}
-use Rattle.event_trees.proofs.InsertTree.{packed-up}
+use Rattle.event_trees.proofs.InsertLaw.{begun-next, sorted-front}
+use Rattle.event_trees.proofs.Walks.{packed-le}
 
 -- a node and those after it: one without registrations has the next under it, and the last has registrations
 abbrev pub IsNeeded : Node → List Node → Type 0
@@ -56,17 +57,6 @@ with-more p (s ∷ slots) xs h = ap (λ (l : List (List ℕ)). paths_with l (all
 with-some : (p : List ℕ) (slots : List Slot) (xs ys : List (List ℕ)) → 1 ≤ length slots → put_paths (prefixes p) xs ≡ ys → put_paths (prefixes p) ys ≡ ys → paths_with xs (all_at p slots) ≡ ys
 with-some p [] xs ys some h k = absurd (omega (arith, some))
 with-some p (s ∷ slots) xs ys some h k = ap (λ (l : List (List ℕ)). paths_with l (all_at p slots)) h ∙ with-more p slots ys k
-
--- the prefixes of the next node's path
-begun-next : (before : List ℕ) (n : Node) (xs : List (List ℕ)) → 1 ≤ n.depth → n.depth ≤ length before + 1 → ((k : ℕ) → Has (take k before) xs) → (k : ℕ) → Has (take k (path_after before n)) (xs ++ path_after before n ∷ [])
-begun-next before n xs low near h k =
-    let path : List ℕ = path_after before n in
-    let short : List ℕ = take (n.depth - 1) before in
-    let size : length short ≡ n.depth - 1 = length-take-le (n.depth - 1) before (omega (arith, near)) in
-    ⊎_elim (λ l.
-    let same : take k path ≡ take k before = take-append-le k short (n.event ∷ []) (omega (arith, l, size)) ∙ take-take k (n.depth - 1) before (omega (arith, l)) in
-    subst (λ (p : List ℕ). Has p (xs ++ path ∷ [])) (sym same) (has_left (take k before) xs (path ∷ []) (h k)))
-    (λ g. subst (λ (p : List ℕ). Has p (xs ++ path ∷ [])) (sym (take_all k path (omega (arith, g, length-after before n low near, low)))) (has_last path xs)) (cases_lt k n.depth)
 
 slots-some : (n : Node) (slots : List Slot) → n.first + n.count ≤ length slots → 1 ≤ n.count → 1 ≤ length (slots_of n slots)
 slots-some n slots within some = omega (arith, length-take-le n.count (drop n.first slots) (omega (arith, within, length-drop n.first slots)), some)
@@ -106,18 +96,18 @@ paths-needed path n (m ∷ ns) slots so_far all place s needed laid packed sorte
     let on : List ℕ = path_after path m in
     let here : List Placed = all_at path (slots_of n slots) in
     let rest : List Placed = read_off (listing_after path (m ∷ ns) slots) in
-    let within : n.first + n.count ≤ length slots = omega (arith, packed.0, packed-up (place + n.count) (m ∷ ns) (length slots) packed.1) in
+    let within : n.first + n.count ≤ length slots = omega (arith, packed.0, packed-le (place + n.count) (m ∷ ns) (length slots) packed.1) in
     let split : (all ++ on ∷ []) ++ node_paths on ns ≡ all ++ on ∷ node_paths on ns = append_assoc all (on ∷ []) (node_paths on ns) in
     let sorted_on : IsStrictlySortedBy path_cmp ((all ++ on ∷ []) ++ node_paths on ns) = subst (IsStrictlySortedBy path_cmp) (sym split) sorted in
     let sorted_all : IsStrictlySortedBy path_cmp (all ++ on ∷ []) = sorted-front (all ++ on ∷ []) (node_paths on ns) sorted_on in
     let below : AllBelow all on = sorted-before all on sorted_all in
     let next : (xs : List (List ℕ)) → put_paths (prefixes on) xs ≡ all ++ on ∷ [] → paths_with xs rest ≡ all ++ node_paths path (m ∷ ns) = λ xs h.
     paths-needed on m ns slots xs (all ++ on ∷ []) (place + n.count) (record {
-      long = length-after path m laid.0 laid.1;
+      long = length-path_after path m laid.0 laid.1;
       begun = begun-next path m all laid.0 laid.1 s.begun;
       sorted = sorted_all;
       puts = h;
-    }) needed.1 (subst (λ (k : ℕ). AreLaidOut k ns) (sym (length-after path m laid.0 laid.1)) laid.3) packed.1 sorted_on ∙ split in
+    }) needed.1 (subst (λ (k : ℕ). AreLaidOut k ns) (sym (length-path_after path m laid.0 laid.1)) laid.3) packed.1 sorted_on ∙ split in
     paths-both so_far here rest ∙ ⊎_elim (λ none.
     let zero_count : n.count ≡ 0 = omega (arith, none) in
     let same : paths_with so_far here ≡ so_far = ap (λ (k : ℕ). paths_with so_far (all_at path (take k (drop n.first slots)))) zero_count in
@@ -130,10 +120,6 @@ one_path : IsStrictlySortedBy path_cmp ([] ∷ [])
 unfolding IsStrictlySortedBy
 one_path = (tt, tt)
 
-take_empty : (k : ℕ) → take k (let none : List ℕ = [] in none) ≡ []
-take_empty zero = refl
-take_empty (suc k) = refl
-
 top-needed : (top : Node) (ns : List Node) → top.depth ≡ 0 → AreLaidOut 0 ns → AreNeeded ns → (1 ≤ length ns) → IsNeeded top ns
 top-needed top [] is laid needed some = absurd (omega (arith, some))
 top-needed top (m ∷ ns) is laid needed some = (λ _. omega (arith, is, laid.0), needed)
@@ -144,7 +130,7 @@ listing-needed top [] slots is laid packed sorted needed = canon-from (read_off 
 listing-needed top (m ∷ ns) slots is laid packed sorted needed =
     let paths : paths_of (listing_of (top ∷ m ∷ ns) slots) ≡ [] ∷ node_paths [] (m ∷ ns) = ap (λ (l : List (List ℕ)). [] ∷ l) (paths-after [] (m ∷ ns) slots) in
     let held : paths_with ([] ∷ []) (read_off (listing_of (top ∷ m ∷ ns) slots)) ≡ ([] ∷ []) ++ node_paths [] (m ∷ ns) =
-    paths-needed [] top (m ∷ ns) slots ([] ∷ []) ([] ∷ []) 0 (record { long = sym is; begun = λ k. inl (sym (take_empty k)); sorted = one_path; puts = refl }) (top-needed top (m ∷ ns) is laid needed (omega arith)) laid packed sorted in
+    paths-needed [] top (m ∷ ns) slots ([] ∷ []) ([] ∷ []) 0 (record { long = sym is; begun = λ k. inl (sym (take_none k)); sorted = one_path; puts = refl }) (top-needed top (m ∷ ns) is laid needed (omega arith)) laid packed sorted in
     canon-from (read_off (listing_of (top ∷ m ∷ ns) slots)) (listing_of (top ∷ m ∷ ns) slots) (subst (IsStrictlySortedBy path_cmp) (sym paths) sorted) (paths ∙ sym held) refl
 
 -- ---- in the listing of a list a path without registrations goes on at once
@@ -244,7 +230,7 @@ needed-from path n [] slots (f ∷ []) q held long laid on is some = cc
 needed-from path n [] slots (f ∷ g ∷ front) q held long laid on is some = cc
 needed-from path n (m ∷ ns) slots [] q held long laid on is some = cc
 needed-from path n (m ∷ ns) slots (f ∷ front) q held long laid on is some =
-    let size : length (path_after path m) ≡ m.depth = length-after path m laid.0 laid.1 in
+    let size : length (path_after path m) ≡ m.depth = length-path_after path m laid.0 laid.1 in
     let rest : listing_after path (m ∷ ns) slots ≡ front ++ record { path = q; slots = held } ∷ [] = cc in (
       λ none.
           let empty : slots_of n slots ≡ [] = ap (λ (k : ℕ). take k (drop n.first slots)) none in

@@ -10,6 +10,7 @@ use Rattle.event_trees.specs.Private.{path_cmp}
 use Rattle.event_trees.specs.Build.{common}
 use Rattle.event_trees.specs.Insert.{IsUpTo, end_path, last_path, IsReach}
 use Rattle.event_trees.proofs.Reach.{common-right, later-under, later-greater, on-path, off-path, past-path, Next}
+use Rattle.event_trees.proofs.Built.{length-path_after}
 use Rattle.event_trees.proofs.InsertPaths.{end_path-append}
 
 -- ---- one node
@@ -55,9 +56,6 @@ last-more (top ∷ ns) zero d low within = absurd (omega (arith, low))
 last-more (top ∷ ns) (suc i) d low within =
     ap last_path (take_more (top ∷ ns) (suc i) d within) ∙ end_path-append [] (take i ns) (get_or ns i d ∷ [])
 
-length-on : (before : List ℕ) (n : Node) → 1 ≤ n.depth → n.depth ≤ length before + 1 → length (path_after before n) ≡ n.depth
-length-on before n low near = omega (arith, length_push (take (n.depth - 1) before) n.event, length-take-le (n.depth - 1) before (omega (arith, near)))
-
 at_node : (nodes : List Node) (path : List ℕ) (i depth : ℕ) (d : Node) → i < length nodes → Reaching nodes path i depth → AreLaidOut (length (last_path (take i nodes))) (get_or nodes i d ∷ drop (i + 1) nodes)
 at_node nodes path i depth d within r = subst (AreLaidOut (length (last_path (take i nodes)))) (drop_more nodes i d within) r.laid
 
@@ -79,7 +77,7 @@ reaching-next nodes path i depth next d low within r on =
     record {
       up_to = subst (λ (p : List ℕ). IsUpTo p path) is on.0;
       shared = on.1 ∙ ap (λ (p : List ℕ). common p path) is;
-      laid = subst (λ (k : ℕ). AreLaidOut k (drop (i + 1) nodes)) (sym (length-on q n at.0 at.1) ∙ ap length is) at.3;
+      laid = subst (λ (k : ℕ). AreLaidOut k (drop (i + 1) nodes)) (sym (length-path_after q n at.0 at.1) ∙ ap length is) at.3;
     }
 
 pub reach-here : (nodes : List Node) (path : List ℕ) (i depth : ℕ) (d : Node) → 1 ≤ i → i < length nodes → Reaching nodes path i depth → path_cmp path (path_after (last_path (take i nodes)) (get_or nodes i d)) ≡ Less → IsReach nodes path i depth

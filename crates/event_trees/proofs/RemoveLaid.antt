@@ -9,7 +9,8 @@ use Rattle.shared_forest.specs.Layout.{under, AreLaidOut, AreTopped}
 use Rattle.event_trees.specs.Build.{bumped}
 use Rattle.event_trees.specs.Insert.{moved}
 use Rattle.event_trees.specs.Remove.{lowered, IsRun}
-use Rattle.event_trees.proofs.InsertLaid.{under-bumped, under-moved, bumped-size, moved-size}
+use Rattle.event_trees.proofs.InsertLaid.{under-bumped, under-moved, moved-size}
+use Rattle.event_trees.proofs.Built.{bumped-length}
 
 -- the first node is no deeper than this
 abbrev pub IsLow : ℕ → List Node → Type 0
@@ -143,6 +144,6 @@ topped-back top [] back h = (h.0, h.1, h.2 ∙ moved-size back, unmoved-laid 0 [
 topped-back top (m ∷ ns) back h = (
   h.0,
   h.1,
-  omega (arith, h.2, length-append (bumped (m ∷ ns)) (moved back), length-append (m ∷ ns) back, bumped-size (m ∷ ns), moved-size back),
+  omega (arith, h.2, length-append (bumped (m ∷ ns)) (moved back), length-append (m ∷ ns) back, bumped-length (m ∷ ns), moved-size back),
   unmoved-laid 0 (m ∷ ns) back (unbumped-laid 0 (m ∷ ns) (moved back) h.3),
 )

@@ -21,10 +21,9 @@ use Rattle.event_trees.specs.Insert.{end_path, moved}
 use Rattle.event_trees.specs.Remove.{lowered}
 use Rattle.event_trees.proofs.Order.{AllAbove}
 use Rattle.event_trees.proofs.Whole.{read_off-append}
-use Rattle.event_trees.proofs.Built.{listing_after-append}
+use Rattle.event_trees.proofs.Built.{listing_after-append, length-path_after}
 use Rattle.event_trees.proofs.InsertPaths.{node_paths, node_paths-append}
 use Rattle.event_trees.proofs.InsertListing.{put_at, final, shown_from, shown_all, slots-before, slots-at, moved-after, bumped-on, first-le}
-use Rattle.event_trees.proofs.InsertLaw.{length-after}
 use Rattle.event_trees.proofs.RemoveLaid.{IsLow, AllDeeper, run-deeper}
 
 -- ---- one registration out
@@ -122,7 +121,7 @@ deep-take e j before (x ∷ xs) ys h le within laid =
     ⊎_elim (λ deeper.
     let test : nat_lt e x.depth ≡ true = grind (arith, nat_tests) in
     let rest : under e (xs ++ ys) ≡ length xs = omega (arith, h, ap (λ (b : Bool). cond b (under e (xs ++ ys) + 1) 0) test) in
-    let long : length (path_after before x) ≡ x.depth = length-after before x laid.0 laid.1 in
+    let long : length (path_after before x) ≡ x.depth = length-path_after before x laid.0 laid.1 in
     let size : length (take (x.depth - 1) before) ≡ x.depth - 1 = length-take-le (x.depth - 1) before (omega (arith, laid.1)) in
     deep-take e j (path_after before x) xs ys rest le (omega (arith, long, deeper)) (subst (λ (k : ℕ). AreLaidOut k (xs ++ ys)) (sym long) laid.3) ∙ (take-append-le j (take (x.depth - 1) before) (x.event ∷ []) (omega (arith, size, le, deeper)) ∙ take-take j (x.depth - 1) before (omega (arith, le, deeper))))
     (λ g.
@@ -134,7 +133,7 @@ run-same q m rs [] is laid = tt
 run-same q m rs (b ∷ bs) is laid =
     let all : AllDeeper m.depth rs (b ∷ bs) = run-deeper (length q) m rs (b ∷ bs) is laid in
     let low : b.depth ≤ m.depth = all.low in
-    let long : length (path_after q m) ≡ m.depth = length-after q m laid.0 laid.1 in
+    let long : length (path_after q m) ≡ m.depth = length-path_after q m laid.0 laid.1 in
     let size : length (take (m.depth - 1) q) ≡ m.depth - 1 = length-take-le (m.depth - 1) q (omega (arith, laid.1)) in
     sym (deep-take m.depth (b.depth - 1) (path_after q m) rs (b ∷ bs) (sym laid.2 ∙ is) (omega (arith, low)) (omega (arith, long)) (subst (λ (k : ℕ). AreLaidOut k (rs ++ b ∷ bs)) (sym long) laid.3) ∙
     (take-append-le (b.depth - 1) (take (m.depth - 1) q) (m.event ∷ []) (omega (arith, size, low)) ∙ take-take (b.depth - 1) (m.depth - 1) q (omega (arith, low))))
@@ -158,7 +157,7 @@ read-none before (n ∷ ns) slots h =
 
 length-ends : (before : List ℕ) (ns rest : List Node) → AreLaidOut (length before) (ns ++ rest) → AreLaidOut (length (end_path before ns)) rest
 length-ends before [] rest laid = laid
-length-ends before (n ∷ ns) rest laid = length-ends (path_after before n) ns rest (subst (λ (k : ℕ). AreLaidOut k (ns ++ rest)) (sym (length-after before n laid.0 laid.1)) laid.3)
+length-ends before (n ∷ ns) rest laid = length-ends (path_after before n) ns rest (subst (λ (k : ℕ). AreLaidOut k (ns ++ rest)) (sym (length-path_after before n laid.0 laid.1)) laid.3)
 
 -- the same registrations
 pub read-out : (fs : List Node) (m : Node) (rs back : List Node) (slots : List Slot) (less : ℕ) → AreLaidOut 0 (fs ++ ((m ∷ rs) ++ back)) → m.below ≡ length rs → HaveNone (m ∷ rs) → read_off (listing_after [] (lowered less fs ++ back) slots) ≡ read_off (listing_after [] (fs ++ ((m ∷ rs) ++ back)) slots)

@@ -19,8 +19,9 @@ use Rattle.event_trees.specs.Remove.{lowered, moved_back, uncounted, without_nod
 use Rattle.event_trees.proofs.InOrder.{strict-rises}
 use Rattle.event_trees.proofs.InsertPacked.{packed-front}
 use Rattle.event_trees.proofs.InsertListing.{put_at, final}
-use Rattle.event_trees.proofs.InsertLaw.{final-end}
-use Rattle.event_trees.proofs.InsertTree.{packed-up, final-get}
+use Rattle.event_trees.proofs.InsertLaw.{IsTreeOf, final-end}
+use Rattle.event_trees.proofs.InsertTree.{final-get}
+use Rattle.event_trees.proofs.Walks.{packed-le}
 use Rattle.event_trees.proofs.Needed.{IsNeeded, AreNeeded, needed-canon}
 use Rattle.event_trees.proofs.RemoveLaid.{Fewer, fewer}
 use Rattle.event_trees.proofs.RemoveListing.{Cut, cut-without, HaveNone}
@@ -124,7 +125,7 @@ before-old top fs back slots i d o =
         behind = back_behind;
         low = omega (arith, first-less top fs, o.low);
         high = omega (arith, mid_is, ends, o.high);
-        within = packed-up mid (moved_back back) (length fewer_slots) back_behind;
+        within = packed-le mid (moved_back back) (length fewer_slots) back_behind;
       },
       nodes_is,
     )
@@ -173,9 +174,8 @@ bare-none n [] h = (omega (arith, h), tt)
 bare-none n (m ∷ ns) h = (h.0, bare-none m ns h.1)
 
 -- ---- the outcome
-pub record Removed (nodes : List Node) (slots : List Slot) (number : ℕ) (all : List Placed) : Type 0 where
-  pub tree : IsTree nodes slots
-  pub listed : listing_of nodes slots ≡ canon_of (without_placed number all)
+abbrev pub Removed : List Node → List Slot → ℕ → List Placed → Type 0
+Removed nodes slots number all = IsTreeOf nodes slots (without_placed number all)
 
 removed-from : (nodes : List Node) (slots : List Slot) (all : List Placed) (s : Slot) (path : List ℕ) → Outcome nodes slots all s path → IsDistinct eqb (map (λ r. r.slot.number) all) → Removed nodes slots s.number all
 removed-from nodes slots all s path o distinct =

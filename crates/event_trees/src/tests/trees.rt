@@ -190,7 +190,8 @@ fn an_edit_leaves_the_old_tree(rt: HostRuntime) -> Result<(), Fail> {
     let whole = built(alloc, &mut table, &defs, &list)?;
     let empty = bare(alloc, &mut table, &defs)?;
     let on = switched(alloc, &mut table, &defs, empty, regs.as_slice(), true)?;
-    let off = switched(alloc, &mut table, &defs, on, &regs.as_slice()[..1], false)?;
+    let first = regs_of(alloc, &ROOTS[..1])?;
+    let off = switched(alloc, &mut table, &defs, on, first.as_slice(), false)?;
     assert!(rt; is_tree(table.tree_of(&off.shared), &ROOTS[1..], &LAST_NODES));
     assert!(rt; is_tree(table.tree_of(&whole), &ROOTS, &ROOTS_NODES));
     Ok(())

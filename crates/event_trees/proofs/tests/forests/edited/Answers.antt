@@ -20,10 +20,10 @@ pub rebuilt-requires-clause-order : goal.rebuilt-requires-clause-order
 rebuilt-requires-clause-order c =
     let private : IsPrivate c.args.defs.now (edited c.args.defs.now c.args.forest.now.list c.args.reg.now c.args.on) = private-edited c.args.defs.now c.args.reg.now c.args.on c.args.forest.now.list c.requires.forest.private c.requires.switchable c.requires.low c.requires.high c.requires.event in
     subst (λ (t : TreeLists). IsStrictlySortedBy placed_cmp (switched (seen c.place.result) c.args.on (read_off (listing t)))) (sym c.tree_of.ensures)
-        (edit-order c.args.defs.now (edited c.args.defs.now c.args.forest.now.list c.args.reg.now c.args.on) (switched (seen c.place.result) c.args.on (read_off (listing (tree_at c.args.table.now c.args.forest.now.shared)))) private (edit-list c.args.defs.now c.args.forest.now.list (listing (tree_at c.args.table.now c.args.forest.now.shared)) c.args.reg.now c.args.on (seen c.place.result) c.requires.forest c.place.ensures.placed))
+    (edit-order c.args.defs.now (edited c.args.defs.now c.args.forest.now.list c.args.reg.now c.args.on) (switched (seen c.place.result) c.args.on (read_off (listing (tree_at c.args.table.now c.args.forest.now.shared)))) private (edit-list c.args.defs.now c.args.forest.now.list (listing (tree_at c.args.table.now c.args.forest.now.shared)) c.args.reg.now c.args.on (seen c.place.result) c.requires.forest c.place.ensures.placed))
 
 pub rebuilt-requires-clause-few : goal.rebuilt-requires-clause-few
 rebuilt-requires-clause-few c =
     let private : IsPrivate c.args.defs.now (edited c.args.defs.now c.args.forest.now.list c.args.reg.now c.args.on) = private-edited c.args.defs.now c.args.reg.now c.args.on c.args.forest.now.list c.requires.forest.private c.requires.switchable c.requires.low c.requires.high c.requires.event in
     subst (λ (t : TreeLists). length (switched (seen c.place.result) c.args.on (read_off (listing t))) ≤ 255) (sym c.tree_of.ensures)
-        (edit-few c.args.defs.now (edited c.args.defs.now c.args.forest.now.list c.args.reg.now c.args.on) (switched (seen c.place.result) c.args.on (read_off (listing (tree_at c.args.table.now c.args.forest.now.shared)))) private (edit-list c.args.defs.now c.args.forest.now.list (listing (tree_at c.args.table.now c.args.forest.now.shared)) c.args.reg.now c.args.on (seen c.place.result) c.requires.forest c.place.ensures.placed))
+    (edit-few c.args.defs.now (edited c.args.defs.now c.args.forest.now.list c.args.reg.now c.args.on) (switched (seen c.place.result) c.args.on (read_off (listing (tree_at c.args.table.now c.args.forest.now.shared)))) private (edit-list c.args.defs.now c.args.forest.now.list (listing (tree_at c.args.table.now c.args.forest.now.shared)) c.args.reg.now c.args.on (seen c.place.result) c.requires.forest c.place.ensures.placed))
