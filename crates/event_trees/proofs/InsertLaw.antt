@@ -1,9 +1,9 @@
 -- A tree with one registration more is the tree of the list with one more.
-use Rattle.std.proofs.Common.{◌≡◌, ℕ, zero, suc, ◌+◌, ◌-◌, ◌<◌, ◌≤◌, cond, List, [], ◌∷◌, ◌++◌, length, take, drop, map, get_or, refl, sym, ap, subst, ◌∙◌, arith, append_assoc, append-nil, inl, inr, ⊎_elim}
-use Rattle.std.specs.Prelude.{⊤, ◌⊎◌, ◌&&◌, nat_le}
+use Rattle.std.proofs.Common.{◌≡◌, ℕ, ◌+◌, ◌-◌, ◌<◌, ◌≤◌, cond, List, [], ◌∷◌, ◌++◌, length, take, drop, refl, sym, ap, subst, ◌∙◌, arith, append_assoc, append-nil, inl, inr, ⊎_elim}
+use Rattle.std.specs.Prelude.{⊤, ◌&&◌, nat_le}
 use Rattle.std.specs.declared.cmp.Ordering.TheVariants.{Less}
 use Rattle.std.specs.List.Sorted.{IsStrictlySortedBy}
-use Rattle.std.proofs.lemmas.List.{length-take-le, length-drop, length-append, length_push, take-append-drop, take_all, take-take, take-append-le}
+use Rattle.std.proofs.lemmas.List.{length-take-le, length-drop, length-append, take_all, take-take, take-append-le}
 use Rattle.std.proofs.lemmas.Bool.{cases_lt}
 use Rattle.shared_forest.specs.declared.node.Node.{Node}
 use Rattle.shared_forest.specs.declared.node.Slot.{Slot}
@@ -14,17 +14,17 @@ use Rattle.event_trees.specs.Canon.{Placed, prefixes, put_paths, paths_with, can
 use Rattle.event_trees.specs.Build.{common, bumped}
 use Rattle.event_trees.specs.ReadOff.{all_at, read_off}
 use Rattle.event_trees.specs.Edit.{placed_cmp, put_placed}
-use Rattle.event_trees.specs.Insert.{end_path, last_path, IsReach, IsBetween, chain, raised, moved, with_path}
+use Rattle.event_trees.specs.Insert.{end_path, IsBetween, chain, raised, moved}
 use Rattle.event_trees.proofs.Rises.{IsUpTo}
 use Rattle.event_trees.proofs.Order.{Has, AllAbove, above_trans, sorted-puts}
-use Rattle.event_trees.proofs.Growth.{EndsAt, newer, take_none}
+use Rattle.event_trees.proofs.Growth.{EndsAt, take_none}
 use Rattle.event_trees.proofs.InOrder.{canon-order}
 use Rattle.event_trees.proofs.Whole.{read_off-append}
 use Rattle.event_trees.proofs.Built.{listing_after-append, length-path_after}
 use Rattle.event_trees.proofs.Reach.{common-left, common-right, take-common, later-shallow}
 use Rattle.event_trees.proofs.CanonFrom.{paths_of, paths-put, canon-from, paths-canon}
 use Rattle.event_trees.proofs.InsertLaid.{end_depth, IsShallow, topped-in}
-use Rattle.event_trees.proofs.InsertPacked.{packed-front, packed-path, packed-in}
+use Rattle.event_trees.proofs.InsertPacked.{packed-path, packed-in}
 use Rattle.event_trees.proofs.InsertPaths.{node_paths, paths-after, node_paths-append, end_path-append, end-raised, paths-moved, end-chain, paths-in, paths-with_path, puts-in}
 use Rattle.event_trees.proofs.InsertListing.{above_front, put_at, final, shown_from, shown_all, Put, put-is, put-listing}
 

@@ -1,17 +1,17 @@
 -- The registrations of a tree with one more, read off node by node.
-use Rattle.std.proofs.Common.{◌≡◌, ℕ, zero, suc, ◌+◌, ◌-◌, ◌<◌, ◌≤◌, Bool, true, false, cond, List, [], ◌∷◌, ◌++◌, length, take, drop, map, Ordering, refl, sym, ap, subst, ◌∙◌, arith, append_assoc, append-nil, inl, inr, ⊎_elim}
+use Rattle.std.proofs.Common.{◌≡◌, ℕ, zero, suc, ◌+◌, ◌-◌, ◌≤◌, Bool, true, false, cond, List, [], ◌∷◌, ◌++◌, length, take, drop, Ordering, refl, sym, ap, subst, ◌∙◌, arith, append_assoc, inl, inr, ⊎_elim}
 use Rattle.std.specs.Prelude.{⊤}
 use Rattle.std.specs.declared.cmp.Ordering.TheVariants.{Less, Equal, Greater}
 use Rattle.std.specs.List.{AllByRecursion}
 use Rattle.std.specs.List.Sorted.{IsStrictlySortedBy}
 use Rattle.std.specs.Ordering.{nat_cmp, is_lt, ordering_then}
 use Rattle.std.specs.Cmp.{nat_cmp_is}
-use Rattle.std.proofs.lemmas.List.{length-take-le, length-take, length-drop, take-append-le, take-take, take-append-drop, drop-append-le, drop-drop, drop-take, drop_at, take_at, length-append, map-append}
+use Rattle.std.proofs.lemmas.List.{length-take-le, length-drop, take-append-le, take-append-drop, drop-append-le, drop-drop, drop-take, drop_at, length-append, map-append}
 use Rattle.std.proofs.lemmas.Bool.{cases_order}
 use Rattle.shared_forest.specs.declared.node.Node.{Node}
 use Rattle.shared_forest.specs.declared.node.Slot.{Slot}
 use Rattle.shared_forest.specs.Layout.{ArePacked}
-use Rattle.shared_forest.specs.Listing.{Shown, slots_of, path_after, listing_after, listing_of}
+use Rattle.shared_forest.specs.Listing.{Shown, slots_of, path_after, listing_after}
 use Rattle.event_trees.specs.Private.{path_cmp}
 use Rattle.event_trees.specs.Canon.{Placed}
 use Rattle.event_trees.specs.Build.{bumped}

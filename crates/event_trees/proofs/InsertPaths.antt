@@ -1,20 +1,16 @@
 -- The paths of a tree with the missing nodes of one more path.
-use Rattle.std.proofs.Common.{◌≡◌, ℕ, zero, suc, ◌+◌, ◌-◌, ◌<◌, ◌≤◌, Bool, cond, List, [], ◌∷◌, ◌++◌, length, take, drop, map, refl, sym, ap, subst, ◌∙◌, arith, append_assoc, append-nil, inl, inr, ⊎_elim}
-use Rattle.std.specs.declared.cmp.Ordering.TheVariants.{Less}
-use Rattle.std.specs.List.Sorted.{IsStrictlySortedBy}
-use Rattle.std.proofs.lemmas.List.{length-take-le, length_push, length-append, take_all, take_at, take-append-le, take-take, take-append-drop, nil_from_length}
+use Rattle.std.proofs.Common.{◌≡◌, ℕ, suc, ◌+◌, ◌-◌, ◌≤◌, Bool, cond, List, [], ◌∷◌, ◌++◌, length, take, drop, map, refl, sym, ap, subst, ◌∙◌, arith, append_assoc, append-nil, ⊎_elim}
+use Rattle.std.proofs.lemmas.List.{length-take-le, length_push, take_all, take-append-drop}
 use Rattle.std.proofs.lemmas.Bool.{false≢true}
 use Rattle.std.proofs.lemmas.Bool.Decides.{eqb_tells}
 use Rattle.shared_forest.specs.declared.node.Node.{Node}
 use Rattle.shared_forest.specs.declared.node.Slot.{Slot}
-use Rattle.shared_forest.specs.Layout.{AreLaidOut}
 use Rattle.shared_forest.specs.Listing.{Shown, path_after, listing_after, listing_of}
-use Rattle.event_trees.specs.Private.{path_cmp}
 use Rattle.event_trees.specs.Canon.{longer, prefixes, put_path, put_paths}
 use Rattle.event_trees.specs.Build.{common, fresh, bumped}
 use Rattle.event_trees.specs.Insert.{end_path, chain, raised, moved}
 use Rattle.event_trees.proofs.Rises.{IsUpTo}
-use Rattle.event_trees.proofs.Order.{Has, AllAbove, by_order, put-less, put-equal, put-greater, above_trans, front_less}
+use Rattle.event_trees.proofs.Order.{AllAbove, by_order, put-less, put-equal, put-greater, above_trans, front_less}
 use Rattle.event_trees.proofs.Growth.{EndsAt, puts, newer, bare, rest_up_to, cons_same}
 use Rattle.event_trees.proofs.Built.{listing-fresh}
 use Rattle.event_trees.proofs.Reach.{common-left, common-right, take-common}

@@ -1,9 +1,8 @@
 -- In the tree of a list each node without registrations has nodes under it; and a tree that is so is that of a list.
-use Rattle.std.proofs.Common.{◌≡◌, ℕ, zero, suc, ◌+◌, ◌-◌, ◌<◌, ◌≤◌, Bool, cond, eqb, List, [], ◌∷◌, ◌++◌, length, take, drop, map, refl, sym, ap, subst, ◌∙◌, arith, append_assoc, append-nil, inl, inr, ⊎_elim}
+use Rattle.std.proofs.Common.{◌≡◌, ℕ, suc, ◌+◌, ◌-◌, ◌<◌, ◌≤◌, Bool, cond, List, [], ◌∷◌, ◌++◌, length, take, drop, map, refl, sym, ap, subst, ◌∙◌, arith, append_assoc, append-nil, inl, inr, ⊎_elim}
 use Rattle.std.specs.Prelude.{⊤, ◌⊎◌, ◌≢◌}
-use Rattle.std.specs.declared.cmp.Ordering.TheVariants.{Less}
 use Rattle.std.specs.List.Sorted.{IsStrictlySortedBy}
-use Rattle.std.proofs.lemmas.List.{length-take-le, length-take, length-drop, length_push, take_all, take-take, take-append-le}
+use Rattle.std.proofs.lemmas.List.{length-take-le, length-take, length-drop, length_push, take_all, take-take}
 use Rattle.std.proofs.lemmas.Bool.{cases_lt}
 use Rattle.std.proofs.lemmas.Bool.Decides.{eqb_tells}
 use Rattle.shared_forest.specs.declared.node.Node.{Node}
@@ -14,7 +13,7 @@ use Rattle.event_trees.specs.Private.{path_cmp}
 use Rattle.event_trees.specs.Canon.{Placed, longer, prefixes, put_path, put_paths, paths_with, canon_of}
 use Rattle.event_trees.specs.ReadOff.{all_at, read_off}
 use Rattle.event_trees.proofs.Rises.{Rises}
-use Rattle.event_trees.proofs.Order.{Has, AllAbove, AllBelow, put-has, put-above}
+use Rattle.event_trees.proofs.Order.{Has, AllBelow, put-has, put-above}
 use Rattle.event_trees.proofs.Growth.{Grown, grown-none, grown-push, Step, step, bare, newer, sorted-before, take_none}
 use Rattle.event_trees.proofs.CanonFrom.{paths_of, canon-from}
 use Rattle.event_trees.proofs.Built.{length-path_after}

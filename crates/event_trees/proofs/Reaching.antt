@@ -1,14 +1,14 @@
 -- How far a path leads in a tree, node by node.
 use Rattle.std.proofs.Common.{◌≡◌, ℕ, zero, suc, ◌+◌, ◌-◌, ◌<◌, ◌≤◌, List, [], ◌∷◌, ◌++◌, length, take, drop, get_or, refl, sym, ap, subst, ◌∙◌, arith}
 use Rattle.std.specs.declared.cmp.Ordering.TheVariants.{Less}
-use Rattle.std.proofs.lemmas.List.{drop_more, take_more, take_all, length-take-le, length_push}
+use Rattle.std.proofs.lemmas.List.{drop_more, take_more}
 use Rattle.shared_forest.specs.declared.node.Node.{Node}
 use Rattle.shared_forest.specs.declared.node.Slot.{Slot}
 use Rattle.shared_forest.specs.Layout.{AreLaidOut, IsTree}
 use Rattle.shared_forest.specs.Listing.{path_after}
 use Rattle.event_trees.specs.Private.{path_cmp}
 use Rattle.event_trees.specs.Build.{common}
-use Rattle.event_trees.specs.Insert.{IsUpTo, end_path, last_path, IsReach}
+use Rattle.event_trees.specs.Insert.{IsUpTo, last_path, IsReach}
 use Rattle.event_trees.proofs.Reach.{common-right, later-under, later-greater, on-path, off-path, past-path, Next}
 use Rattle.event_trees.proofs.Built.{length-path_after}
 use Rattle.event_trees.proofs.InsertPaths.{end_path-append}

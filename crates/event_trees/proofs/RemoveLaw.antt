@@ -1,13 +1,10 @@
 -- A tree with one registration less is the tree of the list with one less.
-use Rattle.std.proofs.Common.{◌≡◌, ℕ, zero, suc, ◌+◌, ◌-◌, ◌<◌, ◌≤◌, Bool, true, cond, List, [], ◌∷◌, ◌++◌, length, take, drop, refl, sym, ap, subst, ◌∙◌, arith, append_assoc, ⊎_elim}
+use Rattle.std.proofs.Common.{◌≡◌, ℕ, ◌+◌, ◌-◌, ◌<◌, ◌≤◌, cond, List, [], ◌∷◌, ◌++◌, length, sym, ap, subst, ◌∙◌, append_assoc}
 use Rattle.std.specs.Prelude.{⊤, ◌≢◌, nat_lt}
 use Rattle.std.specs.List.Sorted.{IsStrictlySortedBy}
-use Rattle.std.proofs.lemmas.List.{length-append, length-take-le, length-drop}
-use Rattle.std.proofs.lemmas.Bool.{cases_lt}
-use Rattle.std.proofs.lemmas.Bool.Decides.{nat_tests}
 use Rattle.shared_forest.specs.declared.node.Node.{Node}
 use Rattle.shared_forest.specs.declared.node.Slot.{Slot}
-use Rattle.shared_forest.specs.Layout.{under, AreLaidOut, ArePacked, AreTopped, IsTree}
+use Rattle.shared_forest.specs.Layout.{ArePacked, AreTopped, IsTree}
 use Rattle.shared_forest.specs.Listing.{Shown, slots_of, listing_after, listing_of, IsInOrder}
 use Rattle.event_trees.specs.Private.{path_cmp}
 use Rattle.event_trees.specs.Canon.{Placed, canon_of}
@@ -18,12 +15,12 @@ use Rattle.event_trees.specs.Insert.{end_path, moved}
 use Rattle.event_trees.specs.Remove.{lowered, lowered_by}
 use Rattle.event_trees.proofs.InOrder.{strict-rises, canon-order}
 use Rattle.event_trees.proofs.CanonFrom.{paths_of}
-use Rattle.event_trees.proofs.InsertPaths.{node_paths, after-bump, node_paths-append, paths-moved, paths-after}
-use Rattle.event_trees.proofs.InsertListing.{put_at, final, shown_from, shown_all}
+use Rattle.event_trees.proofs.InsertPaths.{node_paths, after-bump, node_paths-append, paths-moved}
+use Rattle.event_trees.proofs.InsertListing.{put_at, final}
 use Rattle.event_trees.proofs.InsertLaw.{bumped-shown_all}
 use Rattle.event_trees.proofs.InsertPacked.{packed-both}
 use Rattle.event_trees.proofs.Needed.{IsNeeded, AreNeeded, listing-needed, needed-canon}
-use Rattle.event_trees.proofs.RemoveLaid.{Fewer, fewer, topped-out, topped-back}
+use Rattle.event_trees.proofs.RemoveLaid.{topped-out, topped-back}
 use Rattle.event_trees.proofs.RemoveListing.{Cut, cut-listing, sorted-cut, HaveNone, read-out, sorted-out, packed-out}
 
 -- ---- nodes that need one another

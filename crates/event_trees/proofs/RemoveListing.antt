@@ -1,17 +1,17 @@
 -- The registrations of a tree with one less, read off node by node, and nodes without registrations that go.
-use Rattle.std.proofs.Common.{◌≡◌, ℕ, zero, suc, ◌+◌, ◌-◌, ◌<◌, ◌≤◌, Bool, true, false, cond, eqb, List, [], ◌∷◌, ◌++◌, length, take, drop, refl, sym, ap, subst, ◌∙◌, arith, append_assoc, ⊎_elim}
-use Rattle.std.specs.Prelude.{⊤, ◌≢◌, not, map, nat_lt}
+use Rattle.std.proofs.Common.{◌≡◌, ℕ, ◌+◌, ◌-◌, ◌≤◌, Bool, true, false, cond, eqb, List, [], ◌∷◌, ◌++◌, length, take, drop, refl, sym, ap, subst, ◌∙◌, arith, append_assoc, ⊎_elim}
+use Rattle.std.specs.Prelude.{⊤, not, map, nat_lt}
 use Rattle.std.specs.declared.cmp.Ordering.TheVariants.{Less}
 use Rattle.std.specs.List.{AllByRecursion, IsDistinct}
 use Rattle.std.specs.List.Sorted.{IsStrictlySortedBy}
 use Rattle.std.specs.declared.cmp.Ordering.{Ordering}
-use Rattle.std.proofs.lemmas.List.{length-take-le, take-append-le, take-take, length-append, length_push, take-append-drop, map-append}
+use Rattle.std.proofs.lemmas.List.{length-take-le, take-append-le, take-take, take-append-drop, map-append}
 use Rattle.std.proofs.lemmas.Bool.{cases_lt, eq-eqb, ne_eqb, eqb-false}
 use Rattle.std.proofs.lemmas.Bool.Decides.{nat_tests}
 use Rattle.shared_forest.specs.declared.node.Node.{Node}
 use Rattle.shared_forest.specs.declared.node.Slot.{Slot}
 use Rattle.shared_forest.specs.Layout.{under, AreLaidOut, ArePacked}
-use Rattle.shared_forest.specs.Listing.{Shown, slots_of, path_after, listing_after, listing_of}
+use Rattle.shared_forest.specs.Listing.{Shown, slots_of, path_after, listing_after}
 use Rattle.event_trees.specs.Private.{path_cmp}
 use Rattle.event_trees.specs.Canon.{Placed}
 use Rattle.event_trees.specs.Build.{bumped}
@@ -19,12 +19,11 @@ use Rattle.event_trees.specs.ReadOff.{all_at, read_off}
 use Rattle.event_trees.specs.Edit.{without_placed}
 use Rattle.event_trees.specs.Insert.{end_path, moved}
 use Rattle.event_trees.specs.Remove.{lowered}
-use Rattle.event_trees.proofs.Order.{AllAbove}
 use Rattle.event_trees.proofs.Whole.{read_off-append}
 use Rattle.event_trees.proofs.Built.{listing_after-append, length-path_after}
 use Rattle.event_trees.proofs.InsertPaths.{node_paths, node_paths-append}
 use Rattle.event_trees.proofs.InsertListing.{put_at, final, shown_from, shown_all, slots-before, slots-at, moved-after, bumped-on, first-le}
-use Rattle.event_trees.proofs.RemoveLaid.{IsLow, AllDeeper, run-deeper}
+use Rattle.event_trees.proofs.RemoveLaid.{AllDeeper, run-deeper}
 
 -- ---- one registration out
 pub record Cut (less all : List Placed) (r : Placed) : Type 0 where

@@ -1,10 +1,10 @@
 -- A tree with one registration less, by the places from which the code takes it and its nodes out.
 use Rattle.std.proofs.Common.{◌≡◌, ℕ, zero, suc, ◌+◌, ◌-◌, ◌<◌, ◌≤◌, Bool, true, false, cond, eqb, List, [], ◌∷◌, ◌++◌, length, take, drop, get_or, refl, sym, ap, subst, ◌∙◌, arith, append_assoc, ⊎_elim}
-use Rattle.std.specs.Prelude.{⊤, ◌≢◌, ◌==◌, ◌||◌, nat_lt, map}
+use Rattle.std.specs.Prelude.{◌≢◌, ◌==◌, ◌||◌, nat_lt, map}
 use Rattle.std.specs.List.{AllByRecursion, IsDistinct, list_any}
 use Rattle.std.specs.List.Sorted.{IsStrictlySortedBy}
-use Rattle.std.proofs.lemmas.List.{length-append, length-take-le, length-drop, take_at, drop_at, take_more, drop_more, take-append-drop, take-take, drop-take, take_all}
-use Rattle.std.proofs.lemmas.Bool.{cases_lt, ne_eqb, eq-eqb}
+use Rattle.std.proofs.lemmas.List.{length-append, length-take-le, length-drop, take_at, drop_at, drop_more, take-append-drop, take-take, drop-take, take_all}
+use Rattle.std.proofs.lemmas.Bool.{cases_lt, ne_eqb}
 use Rattle.std.proofs.lemmas.Bool.Decides.{nat_tests}
 use Rattle.shared_forest.specs.declared.node.Node.{Node}
 use Rattle.shared_forest.specs.declared.node.Slot.{Slot}
@@ -22,9 +22,9 @@ use Rattle.event_trees.proofs.InsertListing.{put_at, final}
 use Rattle.event_trees.proofs.InsertLaw.{IsTreeOf, final-end}
 use Rattle.event_trees.proofs.InsertTree.{final-get}
 use Rattle.event_trees.proofs.Walks.{packed-le}
-use Rattle.event_trees.proofs.Needed.{IsNeeded, AreNeeded, needed-canon}
+use Rattle.event_trees.proofs.Needed.{IsNeeded, needed-canon}
 use Rattle.event_trees.proofs.RemoveLaid.{Fewer, fewer}
-use Rattle.event_trees.proofs.RemoveListing.{Cut, cut-without, HaveNone}
+use Rattle.event_trees.proofs.RemoveListing.{cut-without, HaveNone}
 use Rattle.event_trees.proofs.RemoveLaw.{IsHeld, Stays, Before, Outcome, out-kept, out-run}
 
 -- ---- the last node without one registration, as a head and a tail

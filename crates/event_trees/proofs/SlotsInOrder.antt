@@ -7,8 +7,7 @@ use Rattle.shared_forest.specs.declared.node.Slot.{Slot}
 use Rattle.shared_forest.specs.Layout.{ArePacked, IsTree}
 use Rattle.shared_forest.specs.Listing.{Shown, slots_of, path_after, listing_after, listing_of}
 use Rattle.event_trees.specs.declared.defs.EventDef.{EventDef}
-use Rattle.event_trees.specs.Private.{IsPrivate}
-use Rattle.event_trees.specs.Canon.{Placed, slot_of, placed, canon}
+use Rattle.event_trees.specs.Canon.{Placed, slot_of, placed}
 use Rattle.event_trees.specs.ReadOff.{all_at, read_off}
 use Rattle.event_trees.specs.Edit.{IsForestOf}
 use Rattle.event_trees.proofs.Sorted.{rises, few}

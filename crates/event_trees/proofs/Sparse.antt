@@ -1,7 +1,7 @@
 -- How many nodes and registrations the tree of a list has.
-use Rattle.std.proofs.Common.{◌≡◌, ℕ, suc, ◌+◌, ◌*◌, ◌<◌, ◌≤◌, List, [], ◌∷◌, ◌++◌, length, map, refl, sym, ap, subst, ◌∙◌, arith}
+use Rattle.std.proofs.Common.{◌≡◌, ℕ, suc, ◌+◌, ◌*◌, ◌≤◌, List, [], ◌∷◌, ◌++◌, length, refl, sym, ap, ◌∙◌, arith}
 use Rattle.std.specs.List.{AllByRecursion}
-use Rattle.std.proofs.lemmas.List.{length-map, length-append}
+use Rattle.std.proofs.lemmas.List.{length-map}
 use Rattle.shared_forest.specs.declared.node.Node.{Node}
 use Rattle.shared_forest.specs.declared.node.Slot.{Slot}
 use Rattle.shared_forest.specs.Layout.{IsTree}
@@ -9,7 +9,7 @@ use Rattle.shared_forest.specs.Listing.{Shown, path_after, listing_after, listin
 use Rattle.event_trees.specs.Canon.{Placed, longer, prefixes, put_path, put_paths, paths_with, canon_of}
 use Rattle.event_trees.specs.ReadOff.{all_at, read_off, AreShort}
 use Rattle.event_trees.proofs.Order.{by_order, put-less, put-equal, put-greater}
-use Rattle.event_trees.proofs.CanonFrom.{paths_of, paths-canon}
+use Rattle.event_trees.proofs.CanonFrom.{paths-canon}
 use Rattle.event_trees.proofs.SlotsInOrder.{slots-tree}
 
 size-put : (p : List ℕ) (xs : List (List ℕ)) → length (put_path p xs) ≤ length xs + 1

@@ -1,4 +1,4 @@
-use Rattle.std.proofs.Common.{sym, arith}
+use Rattle.std.proofs.Common.{arith}
 use Rattle.event_trees.proofs.Reaching.{depth-past, depth-on, depth-off, later-whole, later-event}
 use Rattle.event_trees.proofs.insert.next_depth.Goals as goal
 

@@ -1,4 +1,4 @@
-use Rattle.std.proofs.Common.{◌≡◌, ◌∙◌, ◌-◌, ◌++◌, List, ap, sym, drop, take, length, refl}
+use Rattle.std.proofs.Common.{◌≡◌, ◌∙◌, ◌-◌, ◌++◌, List, ap, drop, take, length, refl}
 use Rattle.std.proofs.lemmas.List.{take_rest}
 use Rattle.shared_forest.specs.declared.node.Node.{Node}
 use Rattle.event_trees.specs.Build.{bumped}

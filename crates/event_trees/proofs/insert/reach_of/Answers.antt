@@ -2,7 +2,7 @@ use Rattle.std.proofs.Common.{subst, List, arith}
 use Rattle.shared_forest.specs.declared.node.Node.{Node}
 use Rattle.event_trees.specs.Insert.{IsReach, last_path}
 use Rattle.std.proofs.Common.{take}
-use Rattle.event_trees.proofs.Reaching.{reaching-low, reaching-near, reaching-within, reaching-next, reach-here}
+use Rattle.event_trees.proofs.Reaching.{reaching-near, reaching-within, reaching-next, reach-here}
 use Rattle.event_trees.proofs.insert.reach_of.Goals as goal
 
 pub next_depth-requires-clause-within : goal.next_depth-requires-clause-within

@@ -1,10 +1,9 @@
-use Rattle.std.proofs.Common.{◌≡◌, ◌∙◌, ◌+◌, ◌-◌, List, ap, sym, subst, refl, length, arith}
+use Rattle.std.proofs.Common.{◌∙◌, ◌-◌, List, ap, refl, length, arith}
 use Rattle.shared_forest.specs.declared.node.Node.{Node}
 use Rattle.shared_forest.specs.declared.node.Slot.{Slot}
 use Rattle.shared_forest.specs.Layout.{IsTree}
 use Rattle.shared_forest.specs.Listing.{listing_of}
 use Rattle.event_trees.specs.Build.{seen}
-use Rattle.event_trees.specs.Canon.{Placed}
 use Rattle.event_trees.specs.ReadOff.{read_off}
 use Rattle.event_trees.specs.Edit.{put_placed}
 use Rattle.event_trees.specs.Insert.{last_path}

@@ -1,5 +1,4 @@
-use Rattle.std.proofs.Common.{◌-◌, take, drop, arith}
-use Rattle.event_trees.specs.Remove.{IsBare, IsRun}
+use Rattle.std.proofs.Common.{arith}
 use Rattle.event_trees.proofs.RemoveTree.{bare-step}
 use Rattle.event_trees.proofs.remove.first_bare.Goals as goal
 

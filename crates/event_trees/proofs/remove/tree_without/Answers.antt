@@ -1,16 +1,11 @@
-use Rattle.std.proofs.Common.{◌≡◌, ◌∙◌, ◌+◌, ◌<◌, List, [], ◌++◌, ap, sym, subst, length, take, drop, get_or, arith}
-use Rattle.std.specs.Prelude.{◌≢◌, ◌==◌, map}
-use Rattle.std.specs.List.{list_any}
+use Rattle.std.proofs.Common.{◌∙◌, List, ap, subst, length, arith}
 use Rattle.shared_forest.specs.declared.node.Node.{Node}
 use Rattle.shared_forest.specs.declared.node.Slot.{Slot}
-use Rattle.shared_forest.specs.Layout.{IsTree}
-use Rattle.shared_forest.specs.Listing.{listing, listing_of}
-use Rattle.event_trees.specs.Canon.{Placed, canon_of}
+use Rattle.shared_forest.specs.Listing.{listing_of}
 use Rattle.event_trees.specs.ReadOff.{read_off}
-use Rattle.event_trees.specs.Edit.{without_placed}
-use Rattle.event_trees.specs.Remove.{IsPlaceOf, IsKeep, without_nodes}
+use Rattle.event_trees.specs.Remove.{IsPlaceOf}
 use Rattle.event_trees.proofs.SlotsInOrder.{slots-tree}
-use Rattle.event_trees.proofs.Sparse.{size-nodes, size-slots}
+use Rattle.event_trees.proofs.Sparse.{size-nodes}
 use Rattle.event_trees.proofs.RemoveTree.{Removed, removed-made, place-there}
 use Rattle.event_trees.proofs.remove.tree_without.Goals as goal
 

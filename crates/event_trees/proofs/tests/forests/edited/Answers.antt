@@ -1,8 +1,7 @@
-use Rattle.std.proofs.Common.{◌≡◌, ◌≤◌, List, length, sym, subst}
+use Rattle.std.proofs.Common.{◌≤◌, length, sym, subst}
 use Rattle.std.specs.List.Sorted.{IsStrictlySortedBy}
-use Rattle.app_api.specs.declared.registration.Reg.{Reg}
 use Rattle.shared_forest.specs.Lists.{TreeLists}
-use Rattle.shared_forest.specs.Listing.{Shown, listing}
+use Rattle.shared_forest.specs.Listing.{listing}
 use Rattle.shared_forest.specs.Rows.{tree_at}
 use Rattle.event_trees.specs.Private.{IsPrivate, edited}
 use Rattle.event_trees.specs.Build.{seen}
