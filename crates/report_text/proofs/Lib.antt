@@ -1,3 +1,5 @@
 pub mod Writing
 pub mod Pieces
 pub mod Each
+pub mod ReadLoops
+pub mod ReadBack

@@ -2,6 +2,7 @@
 #![tactic(auto)]
 
 mod lines;
+mod read;
 pub mod record;
 pub mod tidy;
 mod words;

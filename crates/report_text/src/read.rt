@@ -1,0 +1,6 @@
+//! Reads a report back.
+
+mod line;
+mod parts;
+mod taker;
+mod words;
