@@ -4,7 +4,7 @@ use Rattle.std.proofs.lemmas.List.{drop_more, take_more}
 use Rattle.std.specs.Prelude.{◌==◌}
 use Rattle.std.specs.Char.{digit_value}
 use Rattle.std.proofs.lemmas.Bool.Decides.{nat_tests}
-use Rattle.report_text.specs.ReadWords.{is_mark, first_word, after_word, skip, number_from, decimal_of, bytes_of, pieces_of}
+use Rattle.report_text.specs.ReadWords.{is_mark, first_word, after_word, skip, number_from, decimal_of, bytes_of, pieces_of, joined}
 
 pub first_word-at_mark : (t : List ℕ) (i : ℕ) → i < length t → is_mark (get_or t i 0) ≡ true → first_word (drop i t) ≡ []
 unfolding first_word
@@ -45,7 +45,7 @@ pieces_of-none zero t none = refl
 pieces_of-none (suc most) [] none = refl
 pieces_of-none (suc most) (b ∷ t) none = absurd (omega arith)
 
-pieces_of-suc : (most : ℕ) (t : List ℕ) → 0 < length t → pieces_of (suc most) t ≡ (decimal_of t, bytes_of (skip 1 t)) ∷ pieces_of most (skip 2 t)
+pub pieces_of-suc : (most : ℕ) (t : List ℕ) → 0 < length t → pieces_of (suc most) t ≡ (decimal_of t, bytes_of (skip 1 t)) ∷ pieces_of most (skip 2 t)
 unfolding pieces_of
 pieces_of-suc most [] some = absurd (omega arith)
 pieces_of-suc most (b ∷ t) some = refl
@@ -85,3 +85,15 @@ some-left t h = grind (arith, nat_tests)
 pub pieces_of-zero : (t : List ℕ) → pieces_of 0 t ≡ []
 unfolding pieces_of
 pieces_of-zero t = refl
+
+pub joined-none : (n : ℕ) → joined n [] ≡ n
+unfolding joined
+joined-none n = refl
+
+pub joined-on : (n group : ℕ) (groups : List ℕ) → joined n (group ∷ groups) ≡ joined (n % 2 ^ 112 * 2 ^ 16 + group) groups
+unfolding joined
+joined-on n group groups = refl
+
+pub joined-more : (n : ℕ) (groups : List ℕ) (i : ℕ) → i < length groups
+    → joined n (drop i groups) ≡ joined (n % 2 ^ 112 * 2 ^ 16 + get_or groups i 0) (drop (i + 1) groups)
+joined-more n groups i within = ap (joined n) (drop_more groups i 0 within) ∙ joined-on n (get_or groups i 0) (drop (i + 1) groups)

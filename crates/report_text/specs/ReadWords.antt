@@ -1,8 +1,7 @@
 -- How the words of a line are read: tolerantly, since what is read is written again and compared with the line.
 use Rattle.std.specs.Prelude.{ℕ, zero, suc, ◌+◌, ◌*◌, ◌%◌, ◌^◌, ◌==◌, ◌||◌, Bool, true, false, if◌then◌else◌, List, [], ◌∷◌, codes, nat_lt, slice_index, drop, bytes_eq, length, Result, Ok, Err}
 use Rattle.std.specs.Char.{digit_value}
-use Rattle.std.specs.Int.{w32, w128, from_be_bytes}
-use Rattle.std.specs.Net.Addr.{octets_of}
+use Rattle.std.specs.Int.{w32, from_be_bytes}
 use Rattle.hex.specs.Hex.{decode_of}
 use Rattle.hex.specs.declared.error.FromHexError.{FromHexError}
 use Rattle.flow_table.specs.declared.endpoint.Endpoint.{Endpoint}
@@ -80,11 +79,16 @@ v4_of text =
 abbrev pub group_of : ℕ → List ℕ → ℕ
 group_of words text = number 16 (skip words text) % 2 ^ 16
 
+-- groups behind those of a number, as 128 bits keep it
+unfoldable pub joined : ℕ → List ℕ → ℕ
+joined n [] = n
+joined n (group ∷ groups) = joined (n % 2 ^ 112 * 2 ^ 16 + group) groups
+
 -- behind the bracket the groups, and behind the empty word between the other bracket and the colon the port
 abbrev pub v6_of : List ℕ → Endpoint
 v6_of text =
-    V6 (from_be_bytes w128 (octets_of (group_of 1 text ∷ group_of 2 text ∷ group_of 3 text ∷ group_of 4 text
-    ∷ group_of 5 text ∷ group_of 6 text ∷ group_of 7 text ∷ group_of 8 text ∷ [])))
+    V6 (joined 0 (group_of 1 text ∷ group_of 2 text ∷ group_of 3 text ∷ group_of 4 text
+    ∷ group_of 5 text ∷ group_of 6 text ∷ group_of 7 text ∷ group_of 8 text ∷ []))
     (decimal_of (skip 10 text) % 2 ^ 16)
 
 abbrev pub is_v6 : List ℕ → Bool

@@ -1,7 +1,7 @@
 //! Reads the parts of a line, tolerantly: names of classes, hooks and events, endpoints, and what a callback saw.
 
 ghost use Rattle.std.specs.Prelude.{◌≡◌, ◌%◌, ◌^◌, IfOk, bytes_eq};
-ghost use Rattle.report_text.specs.ReadWords.{first_word, skip, decimal_of, class_of, hook_of, number_named, event_of, reason_of, v4_of, group_of, v6_of, is_v6, endpoint_of, after_endpoint, bytes_of, pieces_of, seen_of};
+ghost use Rattle.report_text.specs.ReadWords.{first_word, skip, decimal_of, class_of, hook_of, number_named, event_of, reason_of, v4_of, group_of, joined, v6_of, is_v6, endpoint_of, after_endpoint, bytes_of, pieces_of, seen_of};
 ghost use Rattle.report_text.specs.Words.{event_names};
 
 use super::words::{decimal, decimal_u8, decimal_u16, first, first_word, number, second, skip};
@@ -11,7 +11,7 @@ use hex::FromHexError;
 use native_filters::Hook;
 use packet_views::Class;
 use std::alloc::{AllocError, Global};
-use std::net::{Ipv4Addr, Ipv6Addr};
+use std::net::Ipv4Addr;
 
 pub(super) fn class_of(text: &[u8]) -> Class
     ensures { result ≡ class_of text.now }
@@ -104,11 +104,21 @@ fn group_of(text: &[u8], words: u8) -> u16
     (number(skip(text, words), 16) % 0x1_0000) as u16
 }
 
-#[tactic(auto, unfolding(std::specs::Net::Addr::ipv6_bits))]
+// The number of groups of 16 bits, the highest first, as 128 bits keep it.
+fn joined(groups: &[u16]) -> u128
+    ensures { result ≡ joined 0 groups.now }
+{
+    let mut addr: u128 = 0;
+    for group in groups {
+        addr = addr % (1 << 112) * 0x1_0000 + u128::from(*group);
+    }
+    addr
+}
+
 fn v6_of(text: &[u8]) -> Endpoint
     ensures { result ≡ v6_of text.now }
 {
-    let addr = Ipv6Addr::new(
+    let addr = joined(&[
         group_of(text, 1),
         group_of(text, 2),
         group_of(text, 3),
@@ -117,11 +127,9 @@ fn v6_of(text: &[u8]) -> Endpoint
         group_of(text, 6),
         group_of(text, 7),
         group_of(text, 8),
-    );
-    Endpoint::V6 {
-        addr: addr.to_bits(),
-        port: decimal_u16(skip(text, 10)),
-    }
+    ]);
+    let port = decimal_u16(skip(text, 10));
+    Endpoint::V6 { addr, port }
 }
 
 fn is_v6(text: &[u8]) -> bool
