@@ -6,3 +6,4 @@ pub mod ReadBack
 pub mod ReadParts
 pub mod ReadSeen
 pub mod ReadEndpoints
+pub mod ReadLine
