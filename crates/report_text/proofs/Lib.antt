@@ -7,3 +7,5 @@ pub mod ReadParts
 pub mod ReadSeen
 pub mod ReadEndpoints
 pub mod ReadLine
+pub mod ReadCut
+pub mod ReadFits

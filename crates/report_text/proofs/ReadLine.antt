@@ -26,13 +26,13 @@ use Rattle.report_text.proofs.ReadSeen.{below, reason-read, seen-marked, seen-re
 use Rattle.report_text.proofs.ReadEndpoints.{endpoint-read}
 
 -- the numbers of an entry
-record EntryParts (e : Entry) : Type 0 where
-  index : e.index < 2 ^ 64
-  event : is_event e.event ≡ true
-  reg : e.reg < 2 ^ 8
-  seen : seen_fits e.seen ≡ true
+pub record EntryParts (e : Entry) : Type 0 where
+  pub index : e.index < 2 ^ 64
+  pub event : is_event e.event ≡ true
+  pub reg : e.reg < 2 ^ 8
+  pub seen : seen_fits e.seen ≡ true
 
-entry-parts : (e : Entry) → entry_fits e ≡ true → is_tidy_entry e ≡ true → EntryParts e
+pub entry-parts : (e : Entry) → entry_fits e ≡ true → is_tidy_entry e ≡ true → EntryParts e
 entry-parts e fits tidy =
     let a = and_parts (is_u64 e.index && is_u16 e.event && is_u8 e.reg) (seen_fits e.seen) fits in
     let b = and_parts (is_u64 e.index && is_u16 e.event) (is_u8 e.reg) a.0 in
@@ -199,6 +199,28 @@ totals-kind : (t : Totals) → line_of (totals_line t) ≡ Last (totals_of (tota
 unfolding line_of totals_line
 totals-kind t = refl
 
+-- the numbers of totals
+pub record TotalsParts (t : Totals) : Type 0 where
+  pub packets : t.packets < 2 ^ 64
+  pub records : t.records < 2 ^ 64
+  pub callbacks : t.callbacks < 2 ^ 64
+  pub drops : t.drops < 2 ^ 64
+  pub tail : t.tail < 2 ^ 32
+
+pub totals-parts : (t : Totals) → totals_fit t ≡ true → TotalsParts t
+totals-parts t fits =
+    let a = and_parts (is_u64 t.packets && is_u64 t.records && is_u64 t.callbacks && is_u64 t.drops) (is_u32 t.tail) fits in
+    let b = and_parts (is_u64 t.packets && is_u64 t.records && is_u64 t.callbacks) (is_u64 t.drops) a.0 in
+    let c = and_parts (is_u64 t.packets && is_u64 t.records) (is_u64 t.callbacks) b.0 in
+    let d = and_parts (is_u64 t.packets) (is_u64 t.records) c.0 in
+    record {
+      packets = below t.packets (2 ^ 64) d.0;
+      records = below t.records (2 ^ 64) d.1;
+      callbacks = below t.callbacks (2 ^ 64) c.1;
+      drops = below t.drops (2 ^ 64) b.1;
+      tail = below t.tail (2 ^ 32) a.1;
+    }
+
 -- what is written of a line is read as the line
 pub line-read : (l : Line) → line_fits l ≡ true → is_tidy_line l ≡ true → line_of (line_text l) ≡ l
 line-read (First name (Conn client server) version) fits tidy =
@@ -218,9 +240,5 @@ line-read (Field name value) fits tidy =
     let a = and_parts (are_bytes name) (is_u64 value) fits in
     field-kind name value ∙ field-read name value (field-plain name tidy) (below value (2 ^ 64) a.1)
 line-read (Last t) fits tidy =
-    let a = and_parts (is_u64 t.packets && is_u64 t.records && is_u64 t.callbacks && is_u64 t.drops) (is_u32 t.tail) fits in
-    let b = and_parts (is_u64 t.packets && is_u64 t.records && is_u64 t.callbacks) (is_u64 t.drops) a.0 in
-    let c = and_parts (is_u64 t.packets && is_u64 t.records) (is_u64 t.callbacks) b.0 in
-    let d = and_parts (is_u64 t.packets) (is_u64 t.records) c.0 in
-    totals-kind t ∙ ap Last (totals-read t (below t.packets (2 ^ 64) d.0) (below t.records (2 ^ 64) d.1) (below t.callbacks (2 ^ 64) c.1)
-    (below t.drops (2 ^ 64) b.1) (below t.tail (2 ^ 32) a.1))
+    let h = totals-parts t fits in
+    totals-kind t ∙ ap Last (totals-read t h.packets h.records h.callbacks h.drops h.tail)
