@@ -9,3 +9,4 @@ pub mod ReadEndpoints
 pub mod ReadLine
 pub mod ReadCut
 pub mod ReadFits
+pub mod ReadRun

@@ -5,6 +5,7 @@ use Rattle.std.specs.Fmt.{decimal, digits}
 use Rattle.std.specs.Int.{w32, to_be_bytes}
 use Rattle.std.specs.List.{list_all, position, position_or_len}
 use Rattle.std.specs.Net.Text.{dotted_text}
+use Rattle.std.proofs.Math.Numerals.{one-add}
 use Rattle.std.proofs.lemmas.Bool.{cases_eq}
 use Rattle.std.proofs.lemmas.Bool.Decides.{nat_tests}
 use Rattle.flow_table.specs.declared.endpoint.Endpoint.{Endpoint}
@@ -273,5 +274,5 @@ front-ends (b ∷ t) h =
       | inr other ↦
           let nope : (b == 10) ≡ false = no-newline b other in
           let more : position_or_len (λ c. c == 10) t < length t = omega (arith, rw nope at h) in
-          rw nope (front-ends t more)
+          rw nope (rw one-add (front-ends t more))
     ]
