@@ -10,3 +10,4 @@ pub mod ReadLine
 pub mod ReadCut
 pub mod ReadFits
 pub mod ReadRun
+pub mod ReadPut

@@ -236,9 +236,12 @@ line-ends (Field name value) fits tidy =
 line-ends (Last t) fits tidy =
     let h = totals-parts t fits in totals-end t h.packets h.records h.callbacks h.drops h.tail
 
-nil-of : (w : List ℕ) → (length w == 0) ≡ true → w ≡ []
+not-empty : (n : ℕ) → (suc n == 0) ≡ true → ⊥
+not-empty n h = grind (arith, nat_tests)
+
+pub nil-of : {X : Type 0} (w : List X) → (length w == 0) ≡ true → w ≡ []
 nil-of [] h = refl
-nil-of (b ∷ w) h = let none = none-left (b ∷ w) h in absurd (omega arith)
+nil-of (b ∷ w) h = absurd (not-empty (length w) h)
 
 is-newline : (b : ℕ) → b ≡ 10 → (b == 10) ≡ true
 is-newline b h = rw h refl
