@@ -2,7 +2,7 @@ pub mod Writing
 pub mod Pieces
 pub mod Each
 pub mod ReadLoops
-pub mod ReadBack
+pub mod ReadNumbers
 pub mod ReadParts
 pub mod ReadSeen
 pub mod ReadEndpoints
@@ -11,3 +11,4 @@ pub mod ReadCut
 pub mod ReadFits
 pub mod ReadRun
 pub mod ReadPut
+pub mod ReadFault

@@ -26,7 +26,7 @@ use Rattle.report_text.specs.Lines.{kind_text, first_line, callback_line, drop_l
 use Rattle.report_text.specs.Ranges.{is_u8, is_u16, is_u32, is_u64, are_bytes, endpoint_fits, kind_fits, seen_fits, reason_fits}
 use Rattle.report_text.specs.ReadWords.{is_mark}
 use Rattle.report_text.specs.ReadLines.{bare, line_text, is_tidy_line, line_fits}
-use Rattle.report_text.proofs.ReadBack.{plain, plain-head, and_parts, not_true, plain-decimal, plain-hex}
+use Rattle.report_text.proofs.ReadNumbers.{plain, plain-head, and_parts, not_true, plain-decimal, plain-hex}
 use Rattle.report_text.proofs.ReadLoops.{none-left}
 use Rattle.report_text.proofs.ReadParts.{plain-class, plain-hook, event-read}
 use Rattle.report_text.proofs.ReadSeen.{below, plain-bytes, fit_pieces}
@@ -243,10 +243,10 @@ pub nil-of : {X : Type 0} (w : List X) → (length w == 0) ≡ true → w ≡ []
 nil-of [] h = refl
 nil-of (b ∷ w) h = absurd (not-empty (length w) h)
 
-is-newline : (b : ℕ) → b ≡ 10 → (b == 10) ≡ true
+pub is-newline : (b : ℕ) → b ≡ 10 → (b == 10) ≡ true
 is-newline b h = rw h refl
 
-no-newline : (b : ℕ) → (b ≡ 10 → ⊥) → (b == 10) ≡ false
+pub no-newline : (b : ℕ) → (b ≡ 10 → ⊥) → (b == 10) ≡ false
 no-newline b h = grind (arith, nat_tests)
 
 -- what stands before and behind the first newline

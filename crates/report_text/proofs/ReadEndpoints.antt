@@ -16,7 +16,7 @@ use Rattle.flow_table.specs.declared.endpoint.Endpoint.TheVariants.{V4, V6}
 use Rattle.report_text.specs.Words.{groups_of, groups_text, v6_text, endpoint_text}
 use Rattle.report_text.specs.Ranges.{endpoint_fits, is_u16, is_u32}
 use Rattle.report_text.specs.ReadWords.{skip, number, decimal_of, v4_of, group_of, joined, v6_of, is_v6, endpoint_of, after_endpoint}
-use Rattle.report_text.proofs.ReadBack.{plain, marked, and_parts, plain-decimal, decimal_of-decimal, plain-hex, number-hex}
+use Rattle.report_text.proofs.ReadNumbers.{plain, marked, and_parts, plain-decimal, decimal_of-decimal, plain-hex, number-hex}
 use Rattle.report_text.proofs.ReadLoops.{joined-none, joined-on}
 use Rattle.report_text.proofs.ReadParts.{skip-on, skip-zero, small-read}
 use Rattle.report_text.proofs.ReadSeen.{below}

@@ -19,7 +19,7 @@ use Rattle.report_text.specs.Words.{event_names}
 use Rattle.report_text.specs.Ranges.{is_u8, is_u16, is_u32, is_u64, are_bytes, endpoint_fits, kind_fits, seen_fits, entry_fits, reason_fits, totals_fit}
 use Rattle.report_text.specs.ReadWords.{is_mark, first_word, skip, number_from, number, decimal_of, class_of, number_named, event_of, reason_of, group_of, joined, v4_of, v6_of, endpoint_of, is_v6, decoded, bytes_of, pieces_of, seen_of}
 use Rattle.report_text.specs.ReadLines.{is_tidy_line, line_fits, entry_of, totals_of, orphan_of, server_at, conn_of, line_of}
-use Rattle.report_text.proofs.ReadBack.{and_parts}
+use Rattle.report_text.proofs.ReadNumbers.{and_parts}
 use Rattle.report_text.proofs.ReadSeen.{below, fit_pieces}
 
 -- what holds of both branches

@@ -20,7 +20,7 @@ use Rattle.report_text.specs.Ranges.{is_u8, is_u16, is_u32, is_u64, are_bytes, e
 use Rattle.report_text.specs.Tidy.{is_event, is_tidy_seen, is_tidy_entry}
 use Rattle.report_text.specs.ReadWords.{is_mark, first_word, skip, decimal_of, class_of, hook_of, event_of, reason_of, endpoint_of, after_endpoint, seen_of}
 use Rattle.report_text.specs.ReadLines.{bare, line_text, is_tidy_line, line_fits, entry_of, totals_of, orphan_of, server_at, conn_of, line_of}
-use Rattle.report_text.proofs.ReadBack.{plain, marked, and_parts, first-word, plain-decimal, decimal_of-decimal}
+use Rattle.report_text.proofs.ReadNumbers.{plain, marked, and_parts, first-word, plain-decimal, decimal_of-decimal}
 use Rattle.report_text.proofs.ReadParts.{skip-on, skip-zero, class-read, plain-class, hook-read, plain-hook, small-read, event-read}
 use Rattle.report_text.proofs.ReadSeen.{below, reason-read, seen-marked, seen-read}
 use Rattle.report_text.proofs.ReadEndpoints.{endpoint-read}

@@ -26,7 +26,7 @@ use Rattle.report_text.specs.Words.{class_text, hook_text, event_names, event_te
 use Rattle.report_text.specs.Ranges.{is_u8, is_u64, are_bytes, reason_fits, seen_fits}
 use Rattle.report_text.specs.Tidy.{is_event}
 use Rattle.report_text.specs.ReadWords.{is_mark, first_word, after_word, skip, decimal_of, class_of, hook_of, number_named, event_of, reason_of, bytes_of, pieces_of, seen_of}
-use Rattle.report_text.proofs.ReadBack.{plain, marked, and_parts, plain-head, after-word, first-word, plain-decimal, decimal_of-decimal}
+use Rattle.report_text.proofs.ReadNumbers.{plain, marked, and_parts, plain-head, after-word, first-word, plain-decimal, decimal_of-decimal}
 use Rattle.report_text.proofs.ReadLoops.{pieces_of-none, pieces_of-suc}
 
 -- one word more is behind

@@ -19,7 +19,7 @@ use Rattle.report_text.specs.declared.read.taker.Taker.{Taker}
 use Rattle.report_text.specs.Ranges.{is_u32, is_u64, kind_fits, entry_fits, drop_fits, field_fits, record_fits, totals_fit}
 use Rattle.report_text.specs.Tidy.{is_tidy_entry, are_named, may_have, is_tidy_record, tidy}
 use Rattle.report_text.specs.ReadLines.{bare, is_tidy_line, line_fits, least_name, least_from, is_conn, with_entry, with_drop, with_field, reopened, with_record, go_on, on_open, put_more, put_unless, put, start}
-use Rattle.report_text.proofs.ReadBack.{and_parts}
+use Rattle.report_text.proofs.ReadNumbers.{and_parts}
 use Rattle.report_text.proofs.ReadCut.{nil-of}
 use Rattle.report_text.proofs.ReadFits.{both}
 use Rattle.report_text.proofs.ReadRun.{dropped, field, rest_lines, record_lines, records_lines, totals_lines, lines_of, run, put_to, run-append, fit, all-append, TidyParts, tidy-parts, tidy-whole, FitParts, fit-parts, fit-whole, at_record, least-push}
@@ -50,7 +50,7 @@ ran-more : (s now : Taker) (l : Line) → run (Some start) (lines s) ≡ Some s 
 ran-more s now l ran more is =
     ap (run (Some start)) more ∙ run-append (Some start) (lines s) (l ∷ []) ∙ ap (λ o. run o (l ∷ [])) ran ∙ is
 
-all-split : {X : Type 0} (p : X → Bool) (xs ys : List X) → list_all p (xs ++ ys) ≡ true → (list_all p xs ≡ true) × (list_all p ys ≡ true)
+pub all-split : {X : Type 0} (p : X → Bool) (xs ys : List X) → list_all p (xs ++ ys) ≡ true → (list_all p xs ≡ true) × (list_all p ys ≡ true)
 all-split p [] ys h = (refl, h)
 all-split p (x ∷ xs) ys h =
     let parts = and_parts (p x) (list_all p (xs ++ ys)) h in

@@ -20,7 +20,7 @@ use Rattle.report_text.specs.Ranges.{is_u32, is_u64, kind_fits, entry_fits, drop
 use Rattle.report_text.specs.Report.{callbacks_text, drops_text, fields_text, rest_text, record_text, records_text, report_text}
 use Rattle.report_text.specs.Tidy.{is_tidy_entry, are_named, may_have, is_tidy_record, tidy}
 use Rattle.report_text.specs.ReadLines.{bare, line_text, is_tidy_line, line_fits, least_name, least_from, is_conn, with_entry, with_drop, with_field, reopened, with_record, go_on, on_open, put_more, put_unless, put, start}
-use Rattle.report_text.proofs.ReadBack.{and_parts}
+use Rattle.report_text.proofs.ReadNumbers.{and_parts}
 use Rattle.report_text.proofs.ReadFits.{both}
 
 -- each line's text with its newline

@@ -14,7 +14,7 @@ use Rattle.app_api.specs.declared.reaction.Reason.TheVariants.{Reg, Rule}
 use Rattle.report_text.specs.Words.{bytes_text, piece_text, pieces_text, seen_text, reason_text}
 use Rattle.report_text.specs.Ranges.{is_u8, is_u64, are_bytes, reason_fits, seen_fits}
 use Rattle.report_text.specs.ReadWords.{is_mark, first_word, after_word, skip, decimal_of, reason_of, decoded, bytes_of, pieces_of, seen_of}
-use Rattle.report_text.proofs.ReadBack.{plain, marked, and_parts, not_true, after-word, first-word, plain-decimal, decimal_of-decimal}
+use Rattle.report_text.proofs.ReadNumbers.{plain, marked, and_parts, not_true, after-word, first-word, plain-decimal, decimal_of-decimal}
 use Rattle.report_text.proofs.ReadLoops.{pieces_of-none, pieces_of-suc}
 use Rattle.report_text.proofs.ReadParts.{skip-on, skip-zero, small-read}
 

@@ -1,5 +1,5 @@
 -- The lines of a report as data, how one is read, and where one may stand.
-use Rattle.std.specs.Prelude.{ℕ, ◌+◌, ◌%◌, ◌^◌, ◌==◌, ◌&&◌, Bool, true, false, if◌then◌else◌, List, [], ◌∷◌, ◌++◌, length, nat_le, slice_index, Option, Some, None}
+use Rattle.std.specs.Prelude.{ℕ, ◌+◌, ◌%◌, ◌^◌, ◌==◌, ◌&&◌, Bool, true, false, if◌then◌else◌, List, [], ◌∷◌, ◌++◌, length, nat_le, slice_index, bytes_eq, Option, Some, None}
 use Rattle.std.specs.Option.{option_to_list}
 use Rattle.app_api.specs.App.{is_field_name}
 use Rattle.app_api.specs.declared.entry.Entry.{Entry}
@@ -147,3 +147,15 @@ put s line = put_unless s.totals s.done s.last line
 -- nothing yet
 abbrev pub start : Taker
 start = record { done = []; last = None; totals = None }
+
+abbrev pub finished_with : List Record → Option Totals → Option (List Record × Totals)
+finished_with rs None = None
+finished_with rs (Some t) = Some (rs, t)
+
+-- the records and the totals, where these were read
+abbrev pub finished : Taker → Option (List Record × Totals)
+finished s = finished_with (s.done ++ option_to_list s.last) s.totals
+
+-- what stands after one more line of text: what is read of it is written again and compared
+unfoldable pub taken : Taker → List ℕ → Option Taker
+taken s text = if is_tidy_line (line_of text) && bytes_eq (line_text (line_of text)) text then put s (line_of text) else None

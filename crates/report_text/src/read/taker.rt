@@ -1,8 +1,9 @@
 //! The records so far, and which line may stand behind them.
 
-ghost use Rattle.std.specs.Prelude.{◌≡◌, IfOk, nat_le};
+ghost use Rattle.std.specs.Prelude.{◌≡◌, ◌++◌, IfOk, nat_le};
+ghost use Rattle.std.specs.Option.{option_to_list};
 ghost use Rattle.report_text.specs.Tidy.{least_after};
-ghost use Rattle.report_text.specs.ReadLines.{least_name, least_from, with_entry, with_drop, is_conn, with_field, reopened, with_record, go_on, start, put};
+ghost use Rattle.report_text.specs.ReadLines.{least_name, least_from, with_entry, with_drop, is_conn, with_field, reopened, go_on, start, put, finished};
 
 use super::line::{Line, bare};
 use crate::record::{Record, RecordKind, RecordList, Totals};
@@ -88,23 +89,15 @@ fn reopened(done: RecordList, of: Option<Record>) -> Option<Taker>
     }
 }
 
-// A record behind those so far.
-fn with_record(
-    done: RecordList,
-    last: Option<Record>,
-    of: Record,
-) -> Result<Taker, AllocError>
-    ensures { IfOk result (λ s. s ≡ with_record done last of) }
+// All records so far.
+fn with_last(done: RecordList, last: Option<Record>) -> Result<RecordList, AllocError>
+    ensures { IfOk result (λ rs. rs ≡ done ++ option_to_list last) }
 {
     let mut done = done;
-    if let Some(before) = last {
-        done.items.push(before)?;
+    if let Some(of) = last {
+        done.items.push(of)?;
     }
-    Ok(Taker {
-        done,
-        last: Some(of),
-        totals: None,
-    })
+    Ok(done)
 }
 
 fn name_rises(last: &Option<Record>, name: u64) -> bool
@@ -156,13 +149,28 @@ impl Taker {
                 if !name_rises(&last, name) {
                     return Ok(None);
                 }
-                Ok(Some(with_record(done, last, bare(alloc, name, kind, version))?))
+                Ok(Some(Taker {
+                    done: with_last(done, last)?,
+                    last: Some(bare(alloc, name, kind, version)),
+                    totals: None,
+                }))
             }
             Line::Last(totals) => Ok(Some(Taker { done, last, totals: Some(totals) })),
             line => match last {
                 None => Ok(None),
                 Some(of) => go_on(done, of, line),
             },
+        }
+    }
+
+    /// The records and the totals, where these were read.
+    pub(super) fn finish(self) -> Result<Option<(RecordList, Totals)>, AllocError>
+        ensures { IfOk result (λ p. p ≡ finished self) }
+    {
+        let Taker { done, last, totals } = self;
+        match totals {
+            None => Ok(None),
+            Some(totals) => Ok(Some((with_last(done, last)?, totals))),
         }
     }
 }
