@@ -1,11 +1,11 @@
 -- Where reading stops: each exit of the reader.
-use Rattle.std.proofs.Common.{◌≡◌, ℕ, zero, suc, ◌+◌, ◌-◌, ◌<◌, ◌≤◌, Bool, true, false, ◌&&◌, cond, List, [], ◌∷◌, ◌++◌, length, take, drop, get_or, map, refl, ap, sym, subst, ◌∙◌, arith, append_assoc, append-nil, Option, Some, None, inl, inr, add-one, get_or-drop, take-append-drop, length-take-le, length-append, drop-drop}
+use Rattle.std.proofs.Common.{◌≡◌, ℕ, zero, suc, ◌+◌, ◌-◌, ◌<◌, ◌≤◌, Bool, true, false, ◌&&◌, cond, List, [], ◌∷◌, ◌++◌, length, take, drop, get_or, map, refl, ap, sym, subst, ◌∙◌, arith, append_assoc, append-nil, Option, Some, None, inl, inr, add-one, get_or-drop, take-append-drop, length-take-le, length-append, length-drop, drop-drop}
 use Rattle.std.specs.Prelude.{nat_lt, nat_le, ◌==◌, if◌then◌else◌, bytes_eq}
 use Rattle.std.specs.List.{list_all, position, position_or_len}
 use Rattle.std.specs.Option.{option_to_list}
 use Rattle.std.proofs.Math.Numerals.{one-add}
 use Rattle.std.proofs.Math.Seq.{take-add}
-use Rattle.std.proofs.lemmas.List.{drop_all}
+use Rattle.std.proofs.lemmas.List.{drop_all, take_all}
 use Rattle.std.proofs.lemmas.Bool.{cases_eq}
 use Rattle.std.proofs.lemmas.Bool.Decides.{nat_tests}
 use Rattle.std.proofs.lemmas.Slice.Eq.{bytes_eq-Decides}
@@ -20,7 +20,7 @@ use Rattle.report_text.specs.Ranges.{record_fits, totals_fit}
 use Rattle.report_text.specs.Report.{records_text, report_text}
 use Rattle.report_text.specs.Tidy.{is_tidy_record, tidy}
 use Rattle.report_text.specs.Reports.{IsReport, BeginsReport, NoReportAt}
-use Rattle.report_text.specs.ReadLines.{line_text, is_tidy_line, line_fits, line_of, put, start, taken}
+use Rattle.report_text.specs.ReadLines.{line_text, is_tidy_line, line_fits, line_of, put, start, taken, finished_with, finished}
 use Rattle.report_text.proofs.ReadNumbers.{and_parts}
 use Rattle.report_text.proofs.ReadLine.{line-read}
 use Rattle.report_text.proofs.ReadCut.{one_line, line-ends, line-cut, front-ends, is-newline, no-newline}
@@ -361,3 +361,44 @@ one-report text rs ss t u a b =
     let taker : end_b.taker ≡ end_a.taker = cc in
     let counts : Some u ≡ Some t = sym end_b.totals ∙ ap (λ x. x.totals) taker ∙ end_a.totals in
     (sym end_b.records ∙ ap all_of taker ∙ end_a.records, cc)
+
+-- ---- the loop's own words
+
+pub rest-all : (text : List ℕ) (at : ℕ) → take (length text - at) (drop at text) ≡ drop at text
+rest-all text at = take_all (length text - at) (drop at text) (omega (arith, length-drop at text))
+
+pub line-taken : (text : List ℕ) (at k : ℕ) → take (at + k + 1 - at) (drop at text) ≡ take (k + 1) (drop at text)
+line-taken text at k = let same : at + k + 1 - at ≡ k + 1 = omega arith in ap (λ n. take n (drop at text)) same
+
+-- a line that can't stand
+pub exit-line : (text : List ℕ) (at : ℕ) (s : Taker) (k : ℕ) → Reached text at s → position (λ b. b == 10) (drop at text) ≡ Some k
+    → taken s (take (k + 1) (drop at text)) ≡ None → NoReportAt text at
+exit-line text at s k r found none =
+    fault text at s r (refuses-line s (drop at text) k found none)
+    (λ e. let gone = sym found ∙ ap (position (λ b. b == 10)) e in cc)
+
+-- a last line without a newline
+pub exit-part : (text : List ℕ) (at : ℕ) (s : Taker) → Reached text at s → position (λ b. b == 10) (drop at text) ≡ None → at < length text → NoReportAt text at
+exit-part text at s r none part =
+    fault text at s r (refuses-none s (drop at text) none)
+    (λ e. let empty = ap length e in absurd (omega (arith, empty, length-drop at text)))
+
+finished-none : (rs : List Record) (o : Option Totals) → finished_with rs o ≡ None → o ≡ None
+finished-none rs None h = refl
+finished-none rs (Some t) h = cc
+
+-- lines are missing
+pub exit-end : (text : List ℕ) (at : ℕ) (s : Taker) → Reached text at s → position (λ b. b == 10) (drop at text) ≡ None → finished s ≡ None → NoReportAt text at
+exit-end text at s r none open_end =
+    fault text at s r (refuses-none s (drop at text) none) (λ e. finished-none (all_of s) s.totals open_end)
+
+finished-some : (rs ss : List Record) (o : Option Totals) (t : Totals) → finished_with rs o ≡ Some (ss, t) → (rs ≡ ss) × (o ≡ Some t)
+finished-some rs ss None t h = cc
+finished-some rs ss (Some u) t h = let pair : ◌≡◌ {A = List Record × Totals} (rs, u) (ss, t) = cc in (ap (λ p. p.0) pair, ap (λ p. Some p.1) pair)
+
+-- the report is whole
+pub exit-whole : (text : List ℕ) (at : ℕ) (s : Taker) (rs : List Record) (t : Totals) → Reached text at s → length text ≤ at → finished s ≡ Some (rs, t)
+    → IsReport text rs t
+exit-whole text at s rs t r all end =
+    let parts = finished-some (all_of s) rs s.totals t end in
+    subst (λ x. IsReport text x t) parts.0 (reached-end text at s t r all parts.1)
