@@ -12,3 +12,4 @@ pub mod ReadFits
 pub mod ReadRun
 pub mod ReadPut
 pub mod ReadFault
+pub mod ReadLaws

@@ -6,3 +6,4 @@ pub mod Ranges
 pub mod Reports
 pub mod ReadWords
 pub mod ReadLines
+pub mod ReadLaws

@@ -1,6 +1,7 @@
 //! The report of a run and its exact text: one line for each record, each callback and the totals.
 #![tactic(auto)]
 
+pub mod laws;
 mod lines;
 mod read;
 pub mod record;
