@@ -1,5 +1,5 @@
 -- One callback, and the callbacks of a raise as a walk over the tree gives them.
-use Rattle.std.proofs.Common.{◌≡◌, ℕ, ◌+◌, ◌*◌, ◌<◌, ◌≤◌, Bool, true, false, cond, Some, None, Option, List, [], ◌∷◌, ◌++◌, length, map, refl, sym, ap, subst, ◌∙◌, arith, append_assoc, append-nil}
+use Rattle.std.proofs.Common.{◌≡◌, ℕ, ◌+◌, ◌≤◌, Bool, true, false, cond, Some, List, [], ◌∷◌, ◌++◌, length, map, refl, sym, ap, subst, ◌∙◌, arith, append-nil}
 use Rattle.std.specs.Prelude.{if◌then◌else◌}
 use Rattle.std.specs.List.{All, AllByRecursion, filter}
 use Rattle.std.proofs.lemmas.List.{length-append, length-map}
@@ -8,13 +8,9 @@ use Rattle.native_filters.specs.declared.facts.Facts.{Facts}
 use Rattle.native_filters.specs.declared.facts.Hook.{Hook}
 use Rattle.tcp_emulation.specs.declared.segment.Side.{Side}
 use Rattle.flow_socket.specs.View.{SocketView, SocketStandsFor}
-use Rattle.app_api.specs.declared.app.Call.{Call}
-use Rattle.app_api.specs.declared.app.Tally.{Tally}
-use Rattle.app_api.specs.declared.changes.Change1.{Change1}
 use Rattle.app_api.specs.declared.entry.Entry.{Entry}
 use Rattle.app_api.specs.declared.entry.Seen.{Seen}
 use Rattle.app_api.specs.declared.reaction.Reaction.{Reaction}
-use Rattle.app_api.specs.declared.reaction.Reason.{Reason}
 use Rattle.app_api.specs.declared.registration.Reg.{Reg}
 use Rattle.app_api.specs.App.{Meaning}
 use Rattle.app_api.specs.Reg.{reg_of}
@@ -34,7 +30,7 @@ use Rattle.connection_core.specs.declared.ledger.Counts.{Counts}
 use Rattle.connection_core.specs.declared.ledger.Ledger.{Ledger}
 use Rattle.connection_core.specs.Course.{Course, seen_by, after_seen, bytes_seen, call_of, entry_of, reaction_of, first_reason, called, called_all, called_at}
 use Rattle.connection_core.specs.History.{weight_of}
-use Rattle.connection_core.specs.Standing.{IsNoted, IsUnder, Steps}
+use Rattle.connection_core.specs.Standing.{IsUnder, Steps}
 use Rattle.connection_core.specs.Numbers.{called_by, called_numbers}
 
 pub weight-append : (xs ys : List Entry) → weight_of (xs ++ ys) ≡ weight_of xs + weight_of ys

@@ -9,7 +9,7 @@ use Rattle.builtin_events.specs.declared.raise.Raise.{Raise}
 use Rattle.event_trees.specs.Private.{reg_cmp}
 use Rattle.event_trees.specs.Fires.{fires, is_called}
 use Rattle.forest_versions.specs.State.{ControlState}
-use Rattle.connection_core.specs.Course.{Course, called, called_all, called_at, raised, changed_all, settled, phase}
+use Rattle.connection_core.specs.Course.{Course, called, called_all, called_at, raised, settled, phase}
 use Rattle.connection_core.specs.Laws.{Callback, callbacks_in, callback_of, callbacks_at, callbacks_of, CallsWhatFires}
 use Rattle.connection_core.proofs.Phases.{entries-changed_all}
 

@@ -1,13 +1,11 @@
 -- The tree of the registrations that are on, and trees under later definitions.
-use Rattle.std.proofs.Common.{◌≡◌, ℕ, ◌≤◌, ◌==◌, ◌||◌, eqb, Bool, true, false, not, cond, is_some, Some, None, Option, List, [], ◌∷◌, ◌++◌, map, refl, sym, ap, subst, ◌∙◌, arith}
-use Rattle.std.specs.Option.{option_to_list}
-use Rattle.std.specs.List.{All, AllByRecursion, IsDistinct, filter, list_any}
+use Rattle.std.proofs.Common.{◌≡◌, ℕ, ◌≤◌, ◌==◌, eqb, Bool, true, false, cond, Some, Option, List, [], ◌∷◌, map, refl, sym, ap, ◌∙◌, arith}
+use Rattle.std.specs.List.{All, AllByRecursion, IsDistinct}
 use Rattle.std.proofs.lemmas.Bool.Decides.{nat_tests}
 use Rattle.std.proofs.lemmas.Bool.{false≢true}
 use Rattle.std.proofs.lemmas.List.Elements.{All-from_recursion, recursion_from_All, All-filter}
 use Rattle.app_api.specs.declared.registration.Reg.{Reg}
 use Rattle.app_api.specs.Reg.{reg_of}
-use Rattle.shared_forest.specs.declared.node.Slot.{Slot}
 use Rattle.shared_forest.specs.Lists.{TreeLists}
 use Rattle.shared_forest.specs.Listing.{listing}
 use Rattle.event_trees.specs.declared.defs.EventDef.{EventDef}
@@ -15,7 +13,7 @@ use Rattle.event_trees.specs.Private.{IsPrivate, numbers_of}
 use Rattle.event_trees.specs.Canon.{slot_of, canon}
 use Rattle.event_trees.specs.Edit.{IsForestOf}
 use Rattle.forest_versions.specs.State.{ControlState, active as first_active}
-use Rattle.connection_core.specs.Trees.{regs_named, active_in, IsTreeOf, IsForestIn}
+use Rattle.connection_core.specs.Trees.{active_in, IsTreeOf, IsForestIn}
 use Rattle.connection_core.proofs.Changing.{tree_names, forest_names, forest_in}
 
 -- the first of a list with distinct numbers stands before the others

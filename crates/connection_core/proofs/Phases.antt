@@ -1,8 +1,7 @@
 -- The phases of a packet: its raises, the changes that they ask, and what its connection has come to.
-use Rattle.std.proofs.Common.{◌≡◌, ℕ, ◌+◌, eqb, Bool, true, false, cond, Some, None, Option, List, [], ◌∷◌, ◌++◌, refl, sym, ap, subst, ◌∙◌, arith, append-nil}
+use Rattle.std.proofs.Common.{◌≡◌, ℕ, ◌+◌, eqb, Bool, true, false, cond, Some, None, Option, List, [], ◌∷◌, ◌++◌, refl, sym, ap, subst, ◌∙◌, append-nil}
 use Rattle.packet_views.specs.declared.packet.Head.{Head}
 use Rattle.tcp_emulation.specs.declared.segment.Side.{Side}
-use Rattle.tcp_emulation.specs.Ends.{is_over as are_over}
 use Rattle.flow_socket.specs.View.{SocketView, SocketStandsFor}
 use Rattle.reassembly.specs.declared.answers.Policy.{Policy}
 use Rattle.tcp_emulation.specs.declared.segment.Side.TheVariants.{Client}
@@ -25,10 +24,10 @@ use Rattle.connection_core.specs.declared.ledger.Notes.{Notes}
 use Rattle.connection_core.specs.declared.ledger.Counts.{Counts}
 use Rattle.connection_core.specs.declared.ledger.Ledger.{Ledger}
 use Rattle.connection_core.specs.Course.{Course, is_on, is_so, altered_to, called, called_all, called_at, raised, switched, changed, changed_all, settled, phase}
-use Rattle.connection_core.specs.History.{History, fresh, lone_course, begin, go_on, done, sender_phase, receiver_phase, received_unless, followed, verdict_of, drops_of, is_over}
-use Rattle.connection_core.specs.Trees.{active_in, InternsWithin}
-use Rattle.connection_core.specs.Standing.{IsNoted, IsFlow, IsConnection, IsUnder, Steps, Alters, Reached, Makes, Stepped}
-use Rattle.connection_core.proofs.Changing.{within-same, within-on}
+use Rattle.connection_core.specs.History.{History, fresh, lone_course, begin, go_on, done, sender_phase, receiver_phase, received_unless, verdict_of, drops_of}
+use Rattle.connection_core.specs.Trees.{active_in}
+use Rattle.connection_core.specs.Standing.{IsNoted, IsConnection, IsUnder, Steps, Alters, Reached, Makes, Stepped}
+use Rattle.connection_core.proofs.Changing.{within-same}
 
 -- ---- what callbacks and changes leave alone
 

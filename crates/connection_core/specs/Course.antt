@@ -1,7 +1,6 @@
 -- A packet's callbacks, one after the other. What they have come to is a course: each callback is one step of it, a raise calls all
 -- registrations that fire, and a phase makes its raises in order.
 use Rattle.std.specs.Prelude.{ℕ, ◌+◌, Bool, true, false, not, nat_lt, Option, Some, None, is_some, List, [], ◌∷◌, ◌++◌, length, if◌then◌else◌}
-use Rattle.native_filters.specs.declared.facts.Facts.{Facts}
 use Rattle.tcp_emulation.specs.declared.segment.Side.{Side}
 use Rattle.flow_socket.specs.Emulation.{Emulation}
 use Rattle.flow_socket.specs.Peek.{peeked, bytes_peeked, after_peek, pieces_at}

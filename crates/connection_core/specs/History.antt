@@ -1,5 +1,5 @@
 -- What a connection, or a packet of none, has come to.
-use Rattle.std.specs.Prelude.{ℕ, ◌+◌, ◌==◌, Bool, Option, Some, None, List, [], ◌∷◌, ◌++◌, length}
+use Rattle.std.specs.Prelude.{ℕ, ◌+◌, ◌==◌, Bool, Option, Some, None, List, [], ◌∷◌, ◌++◌}
 use Rattle.packet_views.specs.declared.packet.Head.{Head}
 use Rattle.tcp_emulation.specs.declared.segment.Side.{Side}
 use Rattle.tcp_emulation.specs.declared.segment.Side.TheVariants.{Client}

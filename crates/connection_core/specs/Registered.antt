@@ -1,5 +1,5 @@
 -- What holds of each registration.
-use Rattle.std.specs.Prelude.{ℕ, ◌≤◌, IsTrue, List}
+use Rattle.std.specs.Prelude.{◌≤◌, IsTrue, List}
 use Rattle.app_api.specs.declared.registration.Reg.{Reg}
 use Rattle.app_api.specs.Reg.{peek_fits}
 use Rattle.event_trees.specs.declared.defs.EventDef.{EventDef}

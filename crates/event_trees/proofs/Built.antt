@@ -12,15 +12,12 @@ use Rattle.event_trees.proofs.Rises.{IsUpTo, Rises}
 use Rattle.event_trees.specs.Canon.{Placed, longer, canon_of}
 use Rattle.event_trees.specs.declared.placed.PlacedReg.{PlacedReg}
 use Rattle.event_trees.specs.EventPath.{path_of}
+use Rattle.event_trees.specs.Insert.{end_path, last_path}
 use Rattle.event_trees.specs.Build.{seen, all_seen, seen_slots, common, fresh, fresh_nodes, bumped, counted}
+use Rattle.event_trees.proofs.Reach.{common-left}
 use Rattle.event_trees.proofs.Growth.{Grown, grown-none, grown-push, Step, step, bare, newer}
 
--- the path of the last node
-abbrev pub end_path : List ℕ → List Node → List ℕ
-end_path before [] = before
-end_path before (n ∷ ns) = end_path (path_after before n) ns
-
-listing_after-append : (before : List ℕ) (ns ms : List Node) (slots : List Slot) → listing_after before (ns ++ ms) slots ≡ listing_after before ns slots ++ listing_after (end_path before ns) ms slots
+pub listing_after-append : (before : List ℕ) (ns ms : List Node) (slots : List Slot) → listing_after before (ns ++ ms) slots ≡ listing_after before ns slots ++ listing_after (end_path before ns) ms slots
 listing_after-append before [] ms slots = refl
 listing_after-append before (n ∷ ns) ms slots = ap (λ (l : List Shown). record { path = path_after before n; slots = slots_of n slots } ∷ l) (listing_after-append (path_after before n) ns ms slots)
 
@@ -77,7 +74,7 @@ fresh-steps : (first depth above : ℕ) (es : List ℕ) → depth ≤ above → 
 fresh-steps first depth above [] h = tt
 fresh-steps first depth above (e ∷ es) h = (omega arith, omega arith, fresh-steps first (depth + 1) (depth + 1) es (omega arith))
 
-length-path_after : (before : List ℕ) (n : Node) → 1 ≤ n.depth → n.depth ≤ length before + 1 → length (path_after before n) ≡ n.depth
+pub length-path_after : (before : List ℕ) (n : Node) → 1 ≤ n.depth → n.depth ≤ length before + 1 → length (path_after before n) ≡ n.depth
 length-path_after before n low high = omega (arith, length_push (take (n.depth - 1) before) n.event, length-take (n.depth - 1) before)
 
 steps-append : (before : List ℕ) (ns ms : List Node) → AreSteps (length before) ns → AreSteps (length (end_path before ns)) ms → AreSteps (length before) (ns ++ ms)
@@ -85,13 +82,6 @@ steps-append before [] ms h k = k
 steps-append before (n ∷ ns) ms h k =
     let long : length (path_after before n) ≡ n.depth = length-path_after before n h.0 h.1 in
     (h.0, h.1, subst (λ (d : ℕ). AreSteps d (ns ++ ms)) long (steps-append (path_after before n) ns ms (subst (λ (d : ℕ). AreSteps d ns) (sym long) h.2) k))
-
-common-le : (q p : List ℕ) → common q p ≤ length q
-common-le [] p = omega arith
-common-le (a ∷ q) [] = omega arith
-common-le (a ∷ q) (b ∷ p) =
-    ⊎_elim (λ t. let at : common (a ∷ q) (b ∷ p) ≡ suc (common q p) = ap (λ (x : Bool). cond x (suc (common q p)) 0) t.0 in omega (arith, common-le q p))
-    (λ t. let at : common (a ∷ q) (b ∷ p) ≡ 0 = ap (λ (x : Bool). cond x (suc (common q p)) 0) t.0 in omega arith) (eqb_tells a b)
 
 packed-fresh : (place first depth : ℕ) (ns : List Node) (es : List ℕ) → ArePacked place ns first → ArePacked place (ns ++ fresh first depth es) first
 packed-fresh place first depth [] [] h = h
@@ -108,7 +98,7 @@ bumped-steps depth [] h = tt
 bumped-steps depth (n ∷ []) h = h
 bumped-steps depth (n ∷ m ∷ ns) h = (h.0, h.1, bumped-steps n.depth (m ∷ ns) h.2)
 
-bumped-packed : (place end : ℕ) (n : Node) (ns : List Node) → ArePacked place (n ∷ ns) end → ArePacked place (bumped (n ∷ ns)) (end + 1)
+pub bumped-packed : (place end : ℕ) (n : Node) (ns : List Node) → ArePacked place (n ∷ ns) end → ArePacked place (bumped (n ∷ ns)) (end + 1)
 bumped-packed place end n [] h = (h.0, omega (arith, h.1))
 bumped-packed place end n (m ∷ ns) h = (h.0, bumped-packed (place + n.count) end m ns h.1)
 
@@ -180,10 +170,6 @@ shown-end path n (m ∷ rest) slots (f ∷ fs) p held e =
     shown-end (path_after path m) m rest slots fs p held (tail_of (record { path = path; slots = slots_of n slots }) f (shown_from (path_after path m) m rest slots) (ending fs p held) e)
 
 -- ---- the nodes of the registrations so far
-abbrev pub last_path : List Node → List ℕ
-last_path [] = []
-last_path (top ∷ ns) = end_path [] ns
-
 abbrev pub AreSteppedFrom : List Node → Type 0
 AreSteppedFrom [] = ⊥
 AreSteppedFrom (top ∷ ns) = (top.event ≡ 0) × (top.depth ≡ 0) × AreSteps 0 ns
@@ -234,7 +220,7 @@ built-push slots list q (top ∷ ns) r b le within is short =
     (ap (λ (l : List Shown). listing_of (top ∷ ns) slots ++ l) (ap (λ (p : List ℕ). listing_after p new slots) b.ends ∙ listing-fresh q r.path (length list) slots) ∙
     (ap (λ (l : List Shown). l ++ map bare (newer [] q r.path)) b.listed ∙ s.was)) in
     let packed : ArePacked 0 (top ∷ (ns ++ new)) (length list) = packed-fresh 0 (length list) k (top ∷ ns) (drop k r.path) b.packed in
-    let steps : AreSteps 0 (ns ++ new) = steps-append [] ns new b.stepped.2 (fresh-steps (length list) k (length (end_path [] ns)) (drop k r.path) (omega (arith, common-le q r.path, ap length b.ends))) in
+    let steps : AreSteps 0 (ns ++ new) = steps-append [] ns new b.stepped.2 (fresh-steps (length list) k (length (end_path [] ns)) (drop k r.path) (omega (arith, common-left q r.path, ap length b.ends))) in
     let bump : listing_of (bumped (top ∷ (ns ++ new))) slots ≡ ending s.front r.path (s.slots ++ r.slot ∷ []) =
     bumped-listing top (ns ++ new) slots ∙ (bumped-shown [] top (ns ++ new) slots s.front r.path s.slots 0 (length list) r.slot listed packed within ∙ ap (λ (x : Slot). ending s.front r.path (s.slots ++ x ∷ [])) is) in
     record {

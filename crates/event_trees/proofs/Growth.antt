@@ -16,7 +16,7 @@ use Rattle.event_trees.proofs.Rises.{IsUpTo}
 use Rattle.event_trees.specs.Canon.{Placed, longer, prefixes, put_path, put_paths, paths_with, slots_at, shown_at, canon_of}
 use Rattle.event_trees.proofs.Order.{Has, AllBelow, AllAbove, itself, flip_less, below_trans, below_push, put-has, puts-above, sorted-puts, has-puts_old, has-puts_new, cmp-front}
 
-cons_same : (a b : ℕ) (q p : List ℕ) → a ≡ b → q ≡ p → a ∷ q ≡ b ∷ p
+pub cons_same : (a b : ℕ) (q p : List ℕ) → a ≡ b → q ≡ p → a ∷ q ≡ b ∷ p
 cons_same a b q p e f = cc
 
 -- the prefixes of a path that another path doesn't begin with
@@ -58,13 +58,13 @@ below_next paths q p e less =
     let all : AllBelow (e.before ++ q ∷ []) p = below_push e.before q p (below_trans q p e.before less (sorted-before e.before q (subst (IsStrictlySortedBy path_cmp) e.ends e.sorted))) less in
     subst (λ (l : List (List ℕ)). AllBelow l p) (sym e.ends) all
 
-first_less : (a b : ℕ) (q p : List ℕ) → a ≢ b → IsUpTo (a ∷ q) (b ∷ p) → nat_cmp a b ≡ Less
+pub first_less : (a b : ℕ) (q p : List ℕ) → a ≢ b → IsUpTo (a ∷ q) (b ∷ p) → nat_cmp a b ≡ Less
 first_less a b q p other le =
     ⊎_elim (λ e. absurd (other e))
     (λ h. ⊎_elim (λ l. sym (nat_cmp_is a b Less l))
     (λ g. let e : is_gt (path_cmp (a ∷ q) (b ∷ p)) ≡ true = ap (λ (o : Ordering). is_gt (ordering_then o (path_cmp q p))) (sym (nat_cmp_is a b Greater g)) in absurd (false≢true (sym le ∙ e))) h) (cases_order a b)
 
-rest_up_to : (a b : ℕ) (q p : List ℕ) → a ≡ b → IsUpTo (a ∷ q) (b ∷ p) → IsUpTo q p
+pub rest_up_to : (a b : ℕ) (q p : List ℕ) → a ≡ b → IsUpTo (a ∷ q) (b ∷ p) → IsUpTo q p
 rest_up_to a b q p same le =
     let tied : nat_cmp a b ≡ Equal = sym (nat_cmp_is a b Equal same) in
     sym (ap (λ (o : Ordering). is_gt (ordering_then o (path_cmp q p))) tied) ∙ le
@@ -139,7 +139,7 @@ pub record Grown (list : List Placed) (q : List ℕ) : Type 0 where
   pub ends : EndsAt (paths_with ([] ∷ []) list) q
   pub held : AllByRecursion (λ r. Has r.path (paths_with ([] ∷ []) list)) list
 
-take_none : (k : ℕ) → take k (let none : List ℕ = [] in none) ≡ []
+pub take_none : (k : ℕ) → take k (let none : List ℕ = [] in none) ≡ []
 take_none zero = refl
 take_none (suc k) = refl
 

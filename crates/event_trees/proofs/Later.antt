@@ -1,7 +1,7 @@
 -- What one definition more, or several, leave as it was.
 use Rattle.std.proofs.Common.{◌≡◌, ℕ, Bool, true, false, cond, List, [], ◌∷◌, ◌++◌, Option, Ordering, refl, sym, ap, subst, ◌∙◌, append_assoc, append-nil}
 use Rattle.std.specs.Prelude.{IsTrue, ◌||◌, ◌&&◌, is_some}
-use Rattle.std.specs.List.{All, AllByRecursion}
+use Rattle.std.specs.List.{AllByRecursion}
 use Rattle.std.specs.List.Sorted.{IsStrictlySortedBy}
 use Rattle.std.specs.declared.cmp.Ordering.TheVariants.{Less}
 use Rattle.std.specs.Ordering.{nat_cmp, ordering_then, is_lt}
@@ -9,10 +9,9 @@ use Rattle.std.proofs.lemmas.List.Elements.{recursion_from_All, All-from_recursi
 use Rattle.native_filters.specs.declared.facts.Facts.{Facts}
 use Rattle.native_filters.specs.declared.facts.Hook.{Hook}
 use Rattle.app_api.specs.declared.registration.Reg.{Reg}
-use Rattle.shared_forest.specs.Listing.{Shown}
 use Rattle.event_trees.specs.declared.defs.EventDef.{EventDef}
 use Rattle.event_trees.specs.Defs.{found, is_root, is_event, path, IsAddable, AreAddable, AreDefs}
-use Rattle.event_trees.specs.Private.{path_cmp, reg_cmp, IsPrivate, put_reg, without, edited}
+use Rattle.event_trees.specs.Private.{path_cmp, reg_cmp, IsPrivate, put_reg, edited}
 use Rattle.event_trees.specs.Canon.{Placed, slot_of, placed_of, placed, canon_of, canon}
 use Rattle.event_trees.specs.Fires.{is_hook, filter_means, filters_mean, begins_with, is_called, fires}
 use Rattle.event_trees.specs.Later.{IsEarlier}

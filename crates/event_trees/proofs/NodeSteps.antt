@@ -5,6 +5,7 @@ use Rattle.std.proofs.lemmas.List.{drop_more, drop_all}
 use Rattle.std.proofs.lemmas.Bool.{ne_eqb, eq-eqb, cases_lt}
 use Rattle.shared_forest.specs.declared.node.Node.{Node}
 use Rattle.event_trees.specs.Build.{common, bumped}
+use Rattle.event_trees.specs.Remove.{uncounted}
 
 pub bumped-set : (ns : List Node) (d : Node) → 0 < length ns → set ns (length ns - 1) (record (get_or ns (length ns - 1) d) { count = (get_or ns (length ns - 1) d).count + 1 }) ≡ bumped ns
 bumped-set [] d h = absurd (omega arith)
@@ -35,3 +36,10 @@ common-differs q p i hq hp other = common-split q p i hq hp ∙ ap (λ (b : Bool
 
 pub common-more : (q p : List ℕ) (i : ℕ) → i < length q → i < length p → get_or q i 0 ≡ get_or p i 0 → common (drop i q) (drop i p) ≡ suc (common (drop (i + 1) q) (drop (i + 1) p))
 common-more q p i hq hp same = common-split q p i hq hp ∙ ap (λ (b : Bool). cond b (suc (common (drop (i + 1) q) (drop (i + 1) p))) 0) (eq-eqb (get_or q i 0) (get_or p i 0) same)
+
+pub uncounted-set : (ns : List Node) (d : Node) → 0 < length ns → set ns (length ns - 1) (record (get_or ns (length ns - 1) d) { count = (get_or ns (length ns - 1) d).count - 1 }) ≡ uncounted ns
+uncounted-set [] d h = absurd (omega arith)
+uncounted-set (n ∷ []) d h = refl
+uncounted-set (n ∷ m ∷ ns) d h =
+    let at : length (n ∷ m ∷ ns) - 1 ≡ suc (length (m ∷ ns) - 1) = omega arith in
+    ap (λ (k : ℕ). set (n ∷ m ∷ ns) k (record (get_or (n ∷ m ∷ ns) k d) { count = (get_or (n ∷ m ∷ ns) k d).count - 1 })) at ∙ ap (λ (l : List Node). n ∷ l) (uncounted-set (m ∷ ns) d (omega arith))

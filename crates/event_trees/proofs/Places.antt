@@ -1,5 +1,5 @@
 -- Where the rows of definitions stand.
-use Rattle.std.proofs.Common.{◌≡◌, ℕ, suc, ◌+◌, ◌<◌, ◌≤◌, Bool, true, false, cond, eqb, List, [], ◌∷◌, ◌++◌, length, set, replicate, map, get_or, Option, Some, None, refl, sym, ap, subst, ◌∙◌, arith, ⊎_elim, append_assoc, append-nil}
+use Rattle.std.proofs.Common.{◌≡◌, ℕ, suc, ◌<◌, ◌≤◌, Bool, true, false, cond, eqb, List, [], ◌∷◌, ◌++◌, length, set, replicate, map, get_or, Option, Some, None, refl, sym, ap, subst, ◌∙◌, arith, ⊎_elim, append_assoc, append-nil}
 use Rattle.std.specs.Prelude.{◌≢◌}
 use Rattle.std.specs.Option.{option_map}
 use Rattle.std.specs.Cmp.{IsEquivalence}
@@ -11,9 +11,9 @@ use Rattle.std.proofs.lemmas.Map.Keys.{IsDistinct-push, IsDistinct-cons}
 use Rattle.std.proofs.lemmas.Map.Steps.{length-le_from_distinct_below}
 use Rattle.event_trees.specs.declared.defs.EventDef.{EventDef}
 use Rattle.event_trees.specs.declared.defs.Row.{Row}
-use Rattle.event_trees.specs.Defs.{found, IsAddable, AreAddable}
+use Rattle.event_trees.specs.Defs.{found, AreAddable}
 use Rattle.event_trees.specs.Rows.{defs_of, row_of, place_of, ArePlaces, AreRows}
-use Rattle.event_trees.proofs.Paths.{KnowsPaths, knows}
+use Rattle.event_trees.proofs.Paths.{knows}
 use Rattle.event_trees.proofs.Rows.{found-rows}
 
 pub place-none : (rows : List Row) (event : ℕ) → place_of rows event ≡ None → row_of rows event ≡ None

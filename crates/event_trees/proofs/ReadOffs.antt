@@ -1,10 +1,11 @@
 -- Reading a tree's registrations off, node by node.
-use Rattle.std.proofs.Common.{◌≡◌, ℕ, ◌+◌, ◌-◌, ◌<◌, ◌≤◌, List, [], ◌∷◌, ◌++◌, length, take, drop, get_or, sym, ap, subst, ◌∙◌, arith, append_assoc, append-nil}
-use Rattle.std.proofs.lemmas.List.{drop_more, drop_all, length_push, length-take}
+use Rattle.std.proofs.Common.{◌≡◌, ℕ, ◌+◌, ◌<◌, ◌≤◌, List, [], ◌∷◌, ◌++◌, length, drop, get_or, sym, ap, subst, ◌∙◌, arith, append_assoc, append-nil}
+use Rattle.std.proofs.lemmas.List.{drop_more, drop_all}
 use Rattle.shared_forest.specs.declared.node.Node.{Node}
 use Rattle.shared_forest.specs.declared.node.Slot.{Slot}
 use Rattle.shared_forest.specs.Layout.{AreLaidOut, IsTree}
 use Rattle.shared_forest.specs.Listing.{slots_of, path_after, listing_after, listing_of}
+use Rattle.event_trees.proofs.Built.{length-path_after}
 use Rattle.event_trees.specs.Canon.{Placed}
 use Rattle.event_trees.specs.ReadOff.{all_at, read_off, AreShort}
 
@@ -28,9 +29,6 @@ pub record Bounds (path : List ℕ) (n : Node) : Type 0 where
   pub low : 1 ≤ n.depth
   pub near : n.depth ≤ length path + 1
   pub short : n.depth ≤ 8
-
-length-path_after : (before : List ℕ) (n : Node) → 1 ≤ n.depth → n.depth ≤ length before + 1 → length (path_after before n) ≡ n.depth
-length-path_after before n low high = omega (arith, length_push (take (n.depth - 1) before) n.event, length-take (n.depth - 1) before)
 
 pub left-bounds : (nodes : List Node) (slots : List Slot) (d : Node) (i : ℕ) (path : List ℕ) (done : List Placed) → i < length nodes → Left nodes slots i path done → Bounds path (get_or nodes i d)
 left-bounds nodes slots d i path done within left =

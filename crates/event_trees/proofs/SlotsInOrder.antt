@@ -7,8 +7,7 @@ use Rattle.shared_forest.specs.declared.node.Slot.{Slot}
 use Rattle.shared_forest.specs.Layout.{ArePacked, IsTree}
 use Rattle.shared_forest.specs.Listing.{Shown, slots_of, path_after, listing_after, listing_of}
 use Rattle.event_trees.specs.declared.defs.EventDef.{EventDef}
-use Rattle.event_trees.specs.Private.{IsPrivate}
-use Rattle.event_trees.specs.Canon.{Placed, slot_of, placed, canon}
+use Rattle.event_trees.specs.Canon.{Placed, slot_of, placed}
 use Rattle.event_trees.specs.ReadOff.{all_at, read_off}
 use Rattle.event_trees.specs.Edit.{IsForestOf}
 use Rattle.event_trees.proofs.Sorted.{rises, few}
@@ -36,7 +35,7 @@ slots-after before place (n ∷ ns) slots packed =
     (ap (λ (l : List Slot). slots_of n slots ++ l) rest ∙
     (ap (λ (k : ℕ). take n.count (drop k slots) ++ drop (place + n.count) slots) packed.0 ∙ split place n.count slots)))
 
-slots-tree : (nodes : List Node) (slots : List Slot) → IsTree nodes slots → bare_slots (read_off (listing_of nodes slots)) ≡ slots
+pub slots-tree : (nodes : List Node) (slots : List Slot) → IsTree nodes slots → bare_slots (read_off (listing_of nodes slots)) ≡ slots
 slots-tree [] slots tree = absurd tree.topped
 slots-tree (top ∷ ns) slots tree =
     let rest : bare_slots (read_off (listing_after [] ns slots)) ≡ drop (0 + top.count) slots = slots-after [] (0 + top.count) ns slots tree.packed.1 in

@@ -29,11 +29,11 @@ walked-left_out keep hook ns i d slots within fails =
     let left : walked keep hook 0 (n ∷ rest) slots ≡ walked keep hook n.below rest slots = ap (λ (b : Bool). cond b (called hook (slots_of n slots) ++ walked keep hook 0 rest slots) (walked keep hook n.below rest slots)) fails in
     sym (ap (λ (l : List Node). walked keep hook 0 l slots) at ∙ (left ∙ (walked-skip keep hook n.below rest slots ∙ ap (λ (l : List Node). walked keep hook 0 l slots) on)))
 
-packed-le : (place : ℕ) (ns : List Node) (end : ℕ) → ArePacked place ns end → place ≤ end
+pub packed-le : (place : ℕ) (ns : List Node) (end : ℕ) → ArePacked place ns end → place ≤ end
 packed-le place [] end h = omega arith
 packed-le place (n ∷ ns) end h = omega (arith, packed-le (place + n.count) ns end h.1)
 
-packed-within : (place : ℕ) (ns : List Node) (end : ℕ) → ArePacked place ns end → AllByRecursion (λ n. n.first + n.count ≤ end) ns
+pub packed-within : (place : ℕ) (ns : List Node) (end : ℕ) → ArePacked place ns end → AllByRecursion (λ n. n.first + n.count ≤ end) ns
 packed-within place [] end h = tt
 packed-within place (n ∷ ns) end h = (omega (arith, h.0, packed-le (place + n.count) ns end h.1), packed-within (place + n.count) ns end h.1)
 

@@ -11,7 +11,7 @@ use Rattle.event_trees.proofs.Growth.{Grown, grown-none, grown-push, Step, step,
 abbrev at : List ℕ → Slot → Placed
 at p slot = record { path = p; slot = slot }
 
-read_off-append : (xs ys : List Shown) → read_off (xs ++ ys) ≡ read_off xs ++ read_off ys
+pub read_off-append : (xs ys : List Shown) → read_off (xs ++ ys) ≡ read_off xs ++ read_off ys
 read_off-append [] ys = refl
 read_off-append (x ∷ xs) ys =
     ap (λ (l : List Placed). map (at x.path) x.slots ++ l) (read_off-append xs ys) ∙ sym (append_assoc (map (at x.path) x.slots) (read_off xs) (read_off ys))

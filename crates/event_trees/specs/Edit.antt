@@ -30,3 +30,7 @@ put_placed r (s ∷ list) = if is_lt (placed_cmp r s) then r ∷ s ∷ list else
 
 abbrev pub without_placed : ℕ → List Placed → List Placed
 without_placed number list = filter (λ r. not (r.slot.number == number)) list
+
+-- the registrations after one of them is switched on or off
+abbrev pub switched : Placed → Bool → List Placed → List Placed
+switched r on list = if on then put_placed r list else without_placed r.slot.number list

@@ -10,3 +10,5 @@ pub mod Private
 pub mod Place
 pub mod Walk
 pub mod Later
+pub mod Insert
+pub mod Remove

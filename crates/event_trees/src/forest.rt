@@ -10,7 +10,7 @@ ghost use Rattle.event_trees.specs.Edit.{IsForestOf, IsSwitchable};
 ghost use Rattle.event_trees.specs.Canon.{canon};
 
 use crate::defs::Defs;
-use crate::edits::{regs_of, switched};
+use crate::edits::tree_switched;
 use crate::nodes::tree_of;
 use crate::placed::{place, place_all};
 use app_api::{ActiveList, Reg};
@@ -62,8 +62,6 @@ pub fn edit<F: Forests>(
     ensures err { OnErr result (f.new ≡ f.old) }
 {
     let placed = place(defs, reg);
-    let regs = regs_of(alloc, f.tree_of(tree))?;
-    let regs = switched(alloc, regs, placed, on)?;
-    let tree = tree_of(alloc, &regs)?;
-    f.intern(alloc, tree)
+    let new = tree_switched(alloc, f.tree_of(tree), &placed, on)?;
+    f.intern(alloc, new)
 }

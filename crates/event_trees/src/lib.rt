@@ -4,12 +4,14 @@
 mod defs;
 mod edits;
 mod forest;
+mod insert;
 mod laws;
 mod nodes;
 mod path;
 mod place;
 mod placed;
 mod private;
+mod remove;
 #[cfg(test)]
 mod tests;
 mod walk;

@@ -50,8 +50,8 @@ fn push_nodes(
     Ok(())
 }
 
-// Gives the last node one registration more.
-fn count_last(nodes: &mut [Node])
+/// Gives the last node one registration more.
+pub(crate) fn count_last(nodes: &mut [Node])
     requires some { 0 < length nodes.old }
     requires room { (slice_index_or nodes.old (length nodes.old - 1) (record { event = 0; depth = 0; below = 0; first = 0; count = 0 })).count < 255 }
     ensures { nodes.new ≡ bumped nodes.old }

@@ -1,6 +1,7 @@
 //! Trees, edits and walks on worked rows, and on pseudo-random definitions and lists.
 
 mod forests;
+mod judge;
 mod random;
 mod trees;
 mod walks;

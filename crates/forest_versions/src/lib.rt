@@ -9,6 +9,8 @@ mod past;
 mod ranges;
 mod refusal;
 mod rules;
+#[cfg(test)]
+mod tests;
 mod timeline;
 mod trees;
 

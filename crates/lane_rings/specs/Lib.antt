@@ -1,2 +1,5 @@
 pub mod Ring
 pub mod Waiting
+pub mod Share
+pub mod Forwarded
+pub mod Forward

@@ -1,3 +1,15 @@
 pub mod Writing
 pub mod Pieces
 pub mod Each
+pub mod ReadLoops
+pub mod ReadNumbers
+pub mod ReadParts
+pub mod ReadSeen
+pub mod ReadEndpoints
+pub mod ReadLine
+pub mod ReadCut
+pub mod ReadFits
+pub mod ReadRun
+pub mod ReadPut
+pub mod ReadFault
+pub mod ReadLaws

@@ -3,3 +3,7 @@ pub mod Lines
 pub mod Report
 pub mod Tidy
 pub mod Ranges
+pub mod Reports
+pub mod ReadWords
+pub mod ReadLines
+pub mod ReadLaws

@@ -1,13 +1,16 @@
 //! The report of a run and its exact text: one line for each record, each callback and the totals.
 #![tactic(auto)]
 
+pub mod laws;
 mod lines;
+mod read;
 pub mod record;
 pub mod tidy;
 mod words;
 pub mod write;
 
 pub use record::{Record, RecordKind, RecordList, Totals};
+pub use read::{ReadBack, read_report};
 pub use tidy::is_tidy;
 pub use write::{TextError, write_report, write_totals};
 

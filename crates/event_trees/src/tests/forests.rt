@@ -8,7 +8,9 @@ ghost use Rattle.shared_forest.specs.Store.{Keeps};
 ghost use Rattle.event_trees.specs.Defs.{is_event};
 ghost use Rattle.event_trees.specs.Edit.{IsForestOf, IsSwitchable};
 
+use super::judge::rebuilt;
 use super::list_of;
+use crate::placed::place;
 use crate::private::has_number;
 use crate::{Defs, build, edit, is_private, switch};
 use app_api::{ActiveList, Reg};
@@ -53,7 +55,7 @@ pub fn bare(alloc: Global, table: &mut Table, defs: &Defs) -> Result<Forest, All
     Ok(Forest { shared, list })
 }
 
-// The tree with one registration switched on or off, by `edit`.
+// The tree with one registration switched on or off, by `edit`, beside the old way to do it.
 fn edited(
     alloc: Global,
     table: &mut Table,
@@ -61,7 +63,7 @@ fn edited(
     forest: &Forest,
     reg: &Reg,
     on: bool,
-) -> Result<Forest, AllocError>
+) -> Result<Forest, Fail>
     requires answered { HasRow table.old forest.now.shared }
     requires forest { IsForestOf defs.now forest.now.list (listing (tree_at table.old forest.now.shared)) }
     requires low { 1 ≤ reg.now.number }
@@ -74,7 +76,11 @@ fn edited(
 {
     let mut list = list_of(alloc, forest.list.as_slice())?;
     switch(defs, &mut list, reg, on)?;
+    let judge = rebuilt(alloc, table.tree_of(&forest.shared), &place(defs, reg), on)?;
     let shared = edit(alloc, table, &forest.shared, defs, reg, on)?;
+    if !judge.is_same(table.tree_of(&shared)) {
+        return Err(Fail::from("an edited tree is not the tree that is built anew"));
+    }
     Ok(Forest { shared, list })
 }
 

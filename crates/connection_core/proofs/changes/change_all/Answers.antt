@@ -1,7 +1,6 @@
-use Rattle.std.proofs.Common.{◌≡◌, List, length, take, refl, subst, sym, ap, ◌∙◌}
+use Rattle.std.proofs.Common.{◌≡◌, take, refl, subst, ◌∙◌}
 use Rattle.std.proofs.lemmas.List.{take_all}
-use Rattle.app_api.specs.declared.changes.Change1.{Change1}
-use Rattle.connection_core.specs.InForce.{told, defs_at}
+use Rattle.connection_core.specs.InForce.{told}
 use Rattle.connection_core.specs.Course.{changed_all}
 use Rattle.connection_core.specs.Trees.{active_in}
 use Rattle.connection_core.specs.Standing.{Alters}

@@ -1,4 +1,4 @@
-use Rattle.std.proofs.Common.{◌≡◌, not, sym, ap, ◌∙◌}
+use Rattle.std.proofs.Common.{not, sym, ap, ◌∙◌}
 use Rattle.connection_core.proofs.Changing.{so-true, so-false}
 use Rattle.connection_core.proofs.changes.is_so.Goals as goal
 

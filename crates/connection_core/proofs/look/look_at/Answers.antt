@@ -1,4 +1,4 @@
-use Rattle.std.proofs.Common.{◌≡◌, ℕ, ◌+◌, List, [], ◌++◌, ◌∷◌, length, map, refl, sym, ap, subst, ◌∙◌, arith}
+use Rattle.std.proofs.Common.{◌≡◌, ℕ, List, [], ◌++◌, ◌∷◌, length, map, sym, ap, subst, ◌∙◌, arith}
 use Rattle.std.specs.Prelude.{if◌then◌else◌}
 use Rattle.reassembly.specs.Receiver.{kept}
 use Rattle.reassembly.specs.Kept.{bytes_from, positions_in, AreWhole}
@@ -13,8 +13,8 @@ loop-place-init c = record {
   can_next = tt;
   is_finite = tt;
   few =
-  let left : positions_in c.into_iter-place-iterator.result ≡ positions_in c.ppeek-place-items.result = ap positions_in c.into_iter-place-iterator.ensures.into_iter_gives in
-  omega (arith, left, c.ppeek-place-items.ensures.few, c.from.ensures);
+      let left : positions_in c.into_iter-place-iterator.result ≡ positions_in c.ppeek-place-items.result = ap positions_in c.into_iter-place-iterator.ensures.into_iter_gives in
+      omega (arith, left, c.ppeek-place-items.ensures.few, c.from.ensures);
   looking = λ e stands.
       let at = kept (direction_of c.args.from e).receiver.cells e.rbuf in
       let all = runs_at c.args.from c.args.off c.args.len e in

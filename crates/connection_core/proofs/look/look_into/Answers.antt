@@ -1,7 +1,7 @@
-use Rattle.std.proofs.Common.{◌≡◌, ℕ, ◌+◌, ◌≤◌, min, List, [], ◌++◌, length, take, drop, refl, sym, ap, subst, ◌∙◌, arith, rules}
+use Rattle.std.proofs.Common.{[], length, take, drop, ap, ◌∙◌}
 use Rattle.std.specs.Prelude.{if◌then◌else◌}
 use Rattle.flow_socket.specs.declared.answers.Peeked.{Peeked}
-use Rattle.flow_socket.specs.Peek.{peeked, bytes_peeked}
+use Rattle.flow_socket.specs.Peek.{peeked}
 use Rattle.app_api.specs.declared.entry.Seen.TheVariants.{Next}
 use Rattle.connection_core.proofs.Looking.{got_next, bytes_next}
 use Rattle.connection_core.proofs.look.look_into.Goals as goal

@@ -1,6 +1,5 @@
-use Rattle.std.proofs.Common.{◌≡◌, sym, ap, subst, ◌∙◌}
+use Rattle.std.proofs.Common.{sym, ap, ◌∙◌}
 use Rattle.builtin_events.specs.Raised.{raises_of}
-use Rattle.shared_forest.specs.Lists.{TreeLists}
 use Rattle.connection_core.specs.InForce.{told}
 use Rattle.connection_core.specs.Trees.{active_in}
 use Rattle.connection_core.specs.History.{orphaned, orphan_verdict, verdict_of, drops_of}

@@ -1,5 +1,5 @@
-use Rattle.std.proofs.Common.{◌≡◌, ◌++◌, sym, ap, ◌∙◌}
-use Rattle.connection_core.specs.History.{History, receiver_phase, sender_phase, followed, verdict, verdict_of, drops_of, is_over}
+use Rattle.std.proofs.Common.{◌++◌, sym, ap, ◌∙◌}
+use Rattle.connection_core.specs.History.{receiver_phase, sender_phase, followed, verdict, verdict_of, drops_of, is_over}
 use Rattle.connection_core.proofs.Changing.{within-on}
 use Rattle.connection_core.proofs.Phases.{drops_more}
 use Rattle.connection_core.proofs.flow.Flow.step.Goals as goal

@@ -1,12 +1,10 @@
-use Rattle.std.proofs.Common.{◌≡◌, ◌+◌, refl, sym, ap, subst, ◌∙◌, arith, ◌++◌, ◌∷◌, []}
+use Rattle.std.proofs.Common.{ap, ◌∙◌, ◌++◌, ◌∷◌, []}
 use Rattle.std.specs.Prelude.{if◌then◌else◌}
 use Rattle.std.proofs.lemmas.Result.{on_ok_weaker}
 use Rattle.app_api.specs.declared.app.Call.{Call}
-use Rattle.app_api.specs.declared.app.Tally.{Tally}
 use Rattle.app_api.specs.declared.entry.Entry.{Entry}
-use Rattle.app_api.specs.declared.reaction.Reaction.{Reaction}
 use Rattle.connection_core.specs.declared.ledger.Counts.{Counts}
-use Rattle.connection_core.specs.Course.{reaction_of, entry_of, first_reason}
+use Rattle.connection_core.specs.Course.{reaction_of, first_reason}
 use Rattle.connection_core.specs.Standing.{raise_of}
 use Rattle.connection_core.proofs.Callbacks.{called_under}
 use Rattle.connection_core.proofs.terms.Terms.call.Goals as goal

@@ -1,7 +1,5 @@
-use Rattle.std.proofs.Common.{◌≡◌, ℕ, ◌+◌, ◌*◌, ◌≤◌, List, [], ◌++◌, length, map, refl, sym, ap, subst, ◌∙◌, arith, append-nil}
-use Rattle.std.proofs.lemmas.List.{length-map}
-use Rattle.event_trees.specs.Canon.{slot_of, canon}
-use Rattle.event_trees.specs.Fires.{fires}
+use Rattle.std.proofs.Common.{◌≡◌, [], length, refl, sym, ap, subst, ◌∙◌, arith, append-nil}
+use Rattle.event_trees.specs.Canon.{canon}
 use Rattle.event_trees.specs.Private.{numbers_of, IsPrivate}
 use Rattle.event_trees.specs.Walk.{to_come}
 use Rattle.event_trees.specs.Later.{IsEarlier}
@@ -10,7 +8,7 @@ use Rattle.connection_core.specs.InForce.{told, defs_at}
 use Rattle.connection_core.specs.Trees.{active_in}
 use Rattle.connection_core.specs.Standing.{raise_of}
 use Rattle.connection_core.proofs.Earlier.{events_known, known_in, private_earlier}
-use Rattle.connection_core.proofs.Callbacks.{calls_begun, calls_on, calls_done, few_fire, all_few}
+use Rattle.connection_core.proofs.Callbacks.{calls_begun, calls_on, calls_done, all_few}
 use Rattle.connection_core.proofs.terms.Terms.call_at.Goals as goal
 
 pub loop-number-init : goal.loop-number-init

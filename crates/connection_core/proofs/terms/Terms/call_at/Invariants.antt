@@ -1,7 +1,7 @@
 use Rattle.std.proofs.Common.{◌+◌, ◌*◌, ◌≤◌, length}
 use Rattle.event_trees.specs.Walk.{to_come}
 use Rattle.forest_versions.specs.State.{ControlState}
-use Rattle.connection_core.specs.InForce.{told, defs_at, IsInForce}
+use Rattle.connection_core.specs.InForce.{told, IsInForce}
 use Rattle.connection_core.specs.Trees.{active_in}
 use Rattle.connection_core.specs.Standing.{IsAsFar, raise_of}
 use Rattle.connection_core.proofs.Callbacks.{CallsLeft}

@@ -1,4 +1,4 @@
-use Rattle.std.proofs.Common.{◌+◌, ◌*◌, ◌≤◌, length, take, map}
+use Rattle.std.proofs.Common.{◌*◌, take, map}
 use Rattle.forest_versions.specs.State.{ControlState}
 use Rattle.connection_core.specs.InForce.{told, IsInForce}
 use Rattle.connection_core.specs.Trees.{active_in}

@@ -1,6 +1,6 @@
-use Rattle.std.proofs.Common.{◌≡◌, ◌∙◌, ℕ, take, length, sym, ap, subst, arith}
+use Rattle.std.proofs.Common.{◌≡◌, ◌∙◌, sym, ap, subst, arith}
 use Rattle.std.proofs.lemmas.List.{take_all}
-use Rattle.forest_versions.specs.State.{ControlState, control, master}
+use Rattle.forest_versions.specs.State.{control, master}
 use Rattle.forest_versions.specs.Master.{Versions, Tells}
 use Rattle.forest_versions.proofs.master.Master.tells_the_present.Goals as goal
 

@@ -1,0 +1,13 @@
+pub mod Words
+pub mod Numbers
+pub mod Names
+pub mod Nets
+pub mod Grammar
+pub mod Lines
+pub mod Order
+pub mod Script
+pub mod Versions
+pub mod Rows
+pub mod Reader
+pub mod Progress
+pub mod Laws

@@ -1,0 +1,36 @@
+-- The lines of a text.
+use Rattle.std.specs.Prelude.{ℕ, Bool, true, ◌&&◌, ◌||◌, ◌==◌, ◌+◌, min, not, if◌then◌else◌, nat_le, List, [], ◌∷◌, Option, Some, None}
+use Rattle.std.specs.List.{find}
+use Rattle.control_script.specs.Words.{is_blank}
+
+-- a byte before a line's others
+abbrev pub with_byte : ℕ → List (List ℕ) → List (List ℕ)
+with_byte b [] = (b ∷ []) ∷ []
+with_byte b (l ∷ ls) = (b ∷ l) ∷ ls
+
+-- the lines of a text end at each 0a; an empty rest behind the last is no line
+abbrev pub lines : List ℕ → List (List ℕ)
+lines [] = []
+lines (b ∷ bs) = if b == 10 then [] ∷ lines bs else with_byte b (lines bs)
+
+-- without one 0d at the end
+abbrev pub without_return : List ℕ → List ℕ
+without_return [] = []
+without_return (b ∷ []) = if b == 13 then [] else b ∷ []
+without_return (b ∷ c ∷ bs) = b ∷ without_return (c ∷ bs)
+
+abbrev pub is_comment : Option ℕ → Bool
+is_comment None = true
+is_comment (Some b) = b == 35
+
+-- blanks alone, or `#` as the first other byte
+abbrev pub is_skipped : List ℕ → Bool
+is_skipped line = is_comment (find (λ b. not (is_blank b)) line)
+
+-- printable ASCII, or a tab
+abbrev pub is_text : ℕ → Bool
+is_text b = nat_le 32 b && nat_le b 126 || (b == 9)
+
+-- the number of the next line. Those over 2^32 - 1 are told as that number
+abbrev pub next_line : ℕ → ℕ
+next_line n = min (n + 1) 4294967295

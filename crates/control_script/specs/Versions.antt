@@ -1,0 +1,35 @@
+-- The versions that a record may live under: at least the floor and at most the ceiling of its first packet.
+use Rattle.std.specs.Prelude.{ℕ, zero, suc, Bool, true, false, if◌then◌else◌, nat_le, nat_lt, List, [], ◌∷◌}
+use Rattle.forest_versions.specs.declared.command.Stamp.{Stamp}
+use Rattle.forest_versions.specs.declared.command.Stamp.TheVariants.{At, Live}
+use Rattle.control_script.specs.declared.stamped.Stamped.{Stamped}
+
+-- whether packet n has to see a command
+abbrev pub is_forced : ℕ → Stamp → Bool
+is_forced n (At k) = nat_le k n
+is_forced n Live = false
+
+-- whether packet n may not see a command
+abbrev pub is_barred : ℕ → Stamp → Bool
+is_barred n (At k) = nat_lt n k
+is_barred n Live = false
+
+-- one more than a place behind one command more; 0 is no place
+abbrev pub behind_one : Bool → ℕ → ℕ
+behind_one forced (suc place) = suc (suc place)
+behind_one true zero = 1
+behind_one false zero = 0
+
+-- one more than the place of the last command that packet n has to see, or 0
+abbrev pub floor : List Stamped → ℕ → ℕ
+floor [] n = 0
+floor (s ∷ script) n = behind_one (is_forced n s.stamp) (floor script n)
+
+-- the place of the first command that packet n may not see, or the number of commands
+abbrev pub ceil : List Stamped → ℕ → ℕ
+ceil [] n = 0
+ceil (s ∷ script) n = if is_barred n s.stamp then 0 else suc (ceil script n)
+
+abbrev pub is_live : Stamp → Bool
+is_live (At k) = false
+is_live Live = true

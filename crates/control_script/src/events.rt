@@ -1,0 +1,137 @@
+//! The names and numbers of events, and definitions of events.
+
+ghost use Rattle.std.specs.Prelude.{◌≡◌, ◌≢◌, ◌<◌, ◌≤◌, ℕ, None, Ok, Err, IfOk, IfErr, IfSome, IsTrue, length};
+ghost use Rattle.filter_lang.specs.Grammar.{filter};
+ghost use Rattle.filter_lang.specs.Shape.{Shape};
+ghost use Rattle.forest_versions.specs.Lawful.{may_be_event, is_within};
+ghost use Rattle.control_script.specs.declared.stamped.Stamped.{Stamped as StampedOf};
+ghost use Rattle.control_script.specs.Grammar.{Next, number_place, under_place, defined_next, with_filter};
+ghost use Rattle.control_script.specs.Names.{event_of, begins_with_letter};
+ghost use Rattle.control_script.specs.Reader.{reads, takes, ReadsEvent, RefusesEvent};
+
+use crate::error::ScriptError;
+use crate::numbers::number_in;
+use crate::settings::number;
+use crate::stamped::Stamped;
+use crate::words::Words;
+use app_api::{END, ERROR, NEW_DATA, ORPHAN, PKT_IN, REXMIT, START, STATE};
+use event_trees::EventDef;
+use filter_lang::{Expr, FilterError, parse};
+use forest_versions::{Command, Stamp};
+use std::alloc::Global;
+use std::str::from_utf8;
+
+// The built-in event of a name.
+fn event_of(words: &Words<'_>) -> Option<u16>
+    ensures event { result ≡ event_of words.now.word.now }
+    ensures low { IfSome result (λ e. 256 ≤ e) }
+    ensures high { IfSome result (λ e. e ≤ 263) }
+    ensures some { IfSome result (λ e. 0 < length words.now.word.now) }
+{
+    if words.is("start") {
+        return Some(START);
+    }
+    if words.is("pkt_in") {
+        return Some(PKT_IN);
+    }
+    if words.is("rexmit") {
+        return Some(REXMIT);
+    }
+    if words.is("new_data") {
+        return Some(NEW_DATA);
+    }
+    if words.is("error") {
+        return Some(ERROR);
+    }
+    if words.is("state") {
+        return Some(STATE);
+    }
+    if words.is("end") {
+        return Some(END);
+    }
+    if words.is("orphan") {
+        return Some(ORPHAN);
+    }
+    None
+}
+
+// Whether a word begins with a letter.
+fn begins_with_letter(word: &[u8]) -> bool
+    ensures { result ≡ begins_with_letter word.now }
+{
+    !word.is_empty() && word[0].is_ascii_alphabetic()
+}
+
+/// The event that the word names. It goes no further.
+pub(crate) fn event(words: &Words<'_>) -> Result<u16, ScriptError>
+    ensures ok { IfOk result (λ e. ReadsEvent words.now e) }
+    ensures within { IfOk result (λ e. IsTrue (may_be_event e)) }
+    ensures some { IfOk result (λ e. 0 < length words.now.word.now) }
+    ensures err { IfErr result (λ e. RefusesEvent words.now e) }
+{
+    match event_of(words) {
+        Some(event) => Ok(event),
+        None => match number_in(1, 255, words.word) {
+            Some(number) => Ok(number as u16),
+            None => Err(unknown(words)),
+        },
+    }
+}
+
+// Why a word is no event.
+fn unknown(words: &Words<'_>) -> ScriptError
+    ensures { (k : ℕ → Next) → takes words.now (defined_next k words.now.word.now None) ≡ Err result }
+{
+    if begins_with_letter(words.word) {
+        ScriptError::UnknownName(words.line)
+    } else {
+        ScriptError::Syntax(words.line)
+    }
+}
+
+// The filter that the text behind the word is.
+fn filter_behind(alloc: Global, words: &Words<'_>) -> Result<Expr, ScriptError>
+    ensures ok { IfOk result (λ f. filter words.now.rest.now ≡ Ok f) }
+    ensures err { IfErr result (λ e. e ≢ ScriptError.NoMemory → (make : Shape → StampedOf) → with_filter words.now.line make (filter words.now.rest.now) ≡ Err e) }
+{
+    let line = words.line;
+    match from_utf8(words.rest) {
+        Err(_) => Err(ScriptError::Syntax(line)),
+        Ok(text) => match parse(alloc, text) {
+            Ok(filter) => Ok(filter),
+            Err(FilterError::UnknownName(_)) => Err(ScriptError::UnknownName(line)),
+            Err(FilterError::TooDeep(_)) => Err(ScriptError::TooDeep(line)),
+            Err(FilterError::Syntax(_)) => Err(ScriptError::Syntax(line)),
+            Err(FilterError::BigNumber(_)) => Err(ScriptError::Syntax(line)),
+            Err(FilterError::NoMemory) => Err(ScriptError::NoMemory),
+        },
+    }
+}
+
+/// The definition of an event, from its number on.
+#[tactic(auto, unfolding(forest_versions::specs::Lawful::is_within))]
+pub(crate) fn definition(
+    alloc: Global,
+    words: &mut Words<'_>,
+    stamp: Stamp,
+) -> Result<Stamped, ScriptError>
+    ensures ok { IfOk result (λ s. reads words.old (number_place 1 255 (under_place stamp)) ≡ Ok s) }
+    ensures within { IfOk result (λ s. IsTrue (is_within s.command)) }
+    ensures err { IfErr result (λ e. e ≢ ScriptError.NoMemory → reads words.old (number_place 1 255 (under_place stamp)) ≡ Err e) }
+{
+    let number = number(words, 1, 255)?;
+    if !words.is("under") {
+        return Err(ScriptError::Syntax(words.line));
+    }
+    words.advance();
+    let parent = event(words)?;
+    let filter = filter_behind(alloc, words)?;
+    Ok(Stamped {
+        stamp,
+        command: Command::Event(EventDef {
+            number: number as u16,
+            parent,
+            filter,
+        }),
+    })
+}

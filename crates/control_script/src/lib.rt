@@ -1,0 +1,24 @@
+//! Control scripts: the text that says what is monitored from which packet on, read into commands.
+#![tactic(auto)]
+
+mod commands;
+mod error;
+mod events;
+mod laws;
+mod lines;
+mod nets;
+mod numbers;
+mod parse;
+mod progress;
+mod registrations;
+mod script;
+mod settings;
+mod stamped;
+#[cfg(test)]
+mod tests;
+mod words;
+
+pub use error::ScriptError;
+pub use laws::{first_refusal, packets_see_what_they_must};
+pub use parse::parse_script;
+pub use script::Script;

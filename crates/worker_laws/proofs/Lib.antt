@@ -1,0 +1,15 @@
+mod Restricted
+mod Naming
+mod Joining
+mod Parts
+mod Rising
+mod Allowing
+mod Counting
+mod Judging
+mod Single
+mod Histories
+mod Stamps
+mod Composed
+mod Lowest
+mod Merged
+mod Reported

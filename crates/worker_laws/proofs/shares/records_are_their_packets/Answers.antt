@@ -1,0 +1,6 @@
+use Rattle.std.proofs.Common.{[]}
+use Rattle.worker_laws.proofs.Histories.{same_records}
+use Rattle.worker_laws.proofs.shares.records_are_their_packets.Goals as goal
+
+pub returns : goal.returns
+returns c = record { records = λ control_at ps. same_records control_at [] ps }

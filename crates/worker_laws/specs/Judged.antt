@@ -1,0 +1,32 @@
+-- What becomes of each packet. A verdict is any function `judge` of the version and the packets so far of the packet's record,
+-- and of the packet.
+use Rattle.std.specs.Prelude.{ℕ, Bool, if◌then◌else◌, List, [], ◌∷◌}
+use Rattle.std.specs.List.{flat_map}
+use Rattle.app_api.specs.declared.reaction.Verdict.{Verdict}
+use Rattle.app_api.specs.declared.reaction.Verdict.TheVariants.{Pass, Drop}
+use Rattle.lane_core.specs.Sight.{Arrival}
+use Rattle.lane_core.specs.Records.{VersionedPacket}
+use Rattle.worker_laws.specs.Members.{Members, packets_of, takes, added}
+
+module _ (over : ℕ → List Arrival → Bool) (judge : ℕ → List Arrival → Arrival → Verdict) where
+  -- the verdict of one more packet: in the record that it joins, else in the one that it begins
+  unfoldable pub verdict_of : VersionedPacket → List Members → Verdict
+  verdict_of p [] = judge p.version [] p.arrival
+  verdict_of p (m ∷ ms) = if takes over p.arrival.sight m then judge m.version (packets_of m) p.arrival else verdict_of p ms
+
+  unfoldable pub judged_from : List Members → List VersionedPacket → List (Arrival × Verdict)
+  judged_from ms [] = []
+  judged_from ms (p ∷ ps) = (p.arrival, verdict_of p ms) ∷ judged_from (added over p ms) ps
+
+  -- the packets in order, each with its verdict
+  abbrev pub judged : List VersionedPacket → List (Arrival × Verdict)
+  judged ps = judged_from [] ps
+
+-- what a packet leaves: its bytes where it passes, and nothing where it is dropped
+abbrev pub bytes_under : Verdict → List ℕ → List ℕ
+bytes_under Pass bytes = bytes
+bytes_under (Drop reason) bytes = []
+
+-- what packets leave, where `bytes` tells how each was captured
+abbrev pub forwarded : (Arrival → List ℕ) → List (Arrival × Verdict) → List ℕ
+forwarded bytes js = flat_map (λ j. bytes_under j.1 (bytes j.0)) js

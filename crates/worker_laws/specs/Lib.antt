@@ -1,0 +1,12 @@
+pub mod Members
+pub mod Lanes
+pub mod Named
+pub mod Judged
+pub mod Rising
+pub mod Counted
+pub mod Allowed
+pub mod Runs
+pub mod Histories
+pub mod Stamps
+pub mod Merge
+pub mod Queues
