@@ -9,6 +9,7 @@ use mathlib.Core.List.{IsPrefix}
 use Rattle.flow_table.specs.Key.{EndpointPair}
 use Rattle.app_api.specs.declared.reaction.Verdict.{Verdict}
 use Rattle.forest_versions.specs.State.{ControlState}
+use Rattle.app_api.specs.App.{Meaning}
 use Rattle.lane_core.specs.Sight.{Arrival}
 use Rattle.lane_core.specs.Records.{VersionedPacket, versioned, records as lane_records}
 use Rattle.worker_laws.specs.Members.{Members, name_of, joined_by, records}
@@ -66,13 +67,13 @@ module _ (lane : EndpointPair → ℕ) (l : ℕ) (u v : ℕ → ℕ) (ps : List 
       → judged over judge (versioned u (share lane l ps)) ≡ judged_part lane l (judged over judge (versioned v ps))
   share_verdicts over judge = ap (λ qs. judged over judge qs) same_share ∙ judged_restricted over lane (λ k. k == l) judge [] (versioned v ps)
 
-  pub share_histories : (control_at : ℕ → ControlState)
-      → lane_records control_at (versioned u (share lane l ps)) ≡ filter (λ r. lane_of lane r.first.sight == l) (lane_records control_at (versioned v ps))
-  share_histories control_at =
-      same_records control_at [] (versioned u (share lane l ps))
-      ∙ ap (map (with_history control_at)) (share_records (over_by control_at))
-      ∙ sym (same_part control_at (λ sight. lane_of lane sight == l) (records (over_by control_at) (versioned v ps)))
-      ∙ ap (filter (λ r. lane_of lane r.first.sight == l)) (sym (same_records control_at [] (versioned v ps)))
+  pub share_histories : (app : Meaning) (control_at : ℕ → ControlState)
+      → lane_records app control_at (versioned u (share lane l ps)) ≡ filter (λ r. lane_of lane r.first.sight == l) (lane_records app control_at (versioned v ps))
+  share_histories app control_at =
+      same_records app control_at [] (versioned u (share lane l ps))
+      ∙ ap (map (with_history app control_at)) (share_records (over_by app control_at))
+      ∙ sym (same_part app control_at (λ sight. lane_of lane sight == l) (records (over_by app control_at) (versioned v ps)))
+      ∙ ap (filter (λ r. lane_of lane r.first.sight == l)) (sym (same_records app control_at [] (versioned v ps)))
 
 pub one_list : (over : ℕ → List Arrival → Bool) (lane : EndpointPair → ℕ) (packets : List Arrival) (parts : ℕ → List VersionedPacket)
     → ((l : ℕ) → arrivals_of (parts l) ≡ share lane l packets) → (vs : List ℕ) × AreRuns over lane packets parts vs

@@ -3,6 +3,7 @@
 ghost use Rattle.std.specs.Prelude.{◌≡◌, ◌≢◌, ◌==◌, ℕ, Bool, List, map, filter};
 ghost use Rattle.std.specs.List.{All};
 ghost use Rattle.flow_table.specs.Key.{EndpointPair};
+ghost use Rattle.app_api.specs.App.{Meaning};
 ghost use Rattle.app_api.specs.declared.reaction.Verdict.{Verdict};
 ghost use Rattle.forest_versions.specs.State.{ControlState};
 ghost use Rattle.report_text.specs.declared.record.Record.{Record};
@@ -20,8 +21,8 @@ ghost use Rattle.worker_laws.specs.Histories.{over_by, with_history};
 
 /// The records of a lane are those by their packets, each with the history of these.
 pub fn records_are_their_packets()
-    ensures records { (control_at : ℕ → ControlState) (ps : List VersionedPacket)
-        → lane_records control_at ps ≡ map (with_history control_at) (records (over_by control_at) ps) }
+    ensures records { (app : Meaning) (control_at : ℕ → ControlState) (ps : List VersionedPacket)
+        → lane_records app control_at ps ≡ map (with_history app control_at) (records (over_by app control_at) ps) }
 {}
 
 /// Where two ways to give versions agree on the packets of a lane's share, what the share alone makes under the one is its
@@ -33,10 +34,10 @@ pub fn a_share_makes_its_part()
     ensures verdicts { (over : ℕ → List Arrival → Bool) (judge : ℕ → List Arrival → Arrival → Verdict) (lane : EndpointPair → ℕ) (l : ℕ)
         (u v : ℕ → ℕ) (ps : List Arrival) → All (λ a. u a.number ≡ v a.number) (share lane l ps)
         → judged over judge (versioned u (share lane l ps)) ≡ judged_part lane l (judged over judge (versioned v ps)) }
-    ensures histories { (control_at : ℕ → ControlState) (lane : EndpointPair → ℕ) (l : ℕ) (u v : ℕ → ℕ) (ps : List Arrival)
+    ensures histories { (app : Meaning) (control_at : ℕ → ControlState) (lane : EndpointPair → ℕ) (l : ℕ) (u v : ℕ → ℕ) (ps : List Arrival)
         → All (λ a. u a.number ≡ v a.number) (share lane l ps)
-        → lane_records control_at (versioned u (share lane l ps))
-        ≡ filter (λ r. lane_of lane r.first.sight == l) (lane_records control_at (versioned v ps)) }
+        → lane_records app control_at (versioned u (share lane l ps))
+        ≡ filter (λ r. lane_of lane r.first.sight == l) (lane_records app control_at (versioned v ps)) }
 {}
 
 /// Whatever versions lanes have for the packets of their shares, there is one list of versions under which the part of each

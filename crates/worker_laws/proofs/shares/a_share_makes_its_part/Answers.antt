@@ -8,4 +8,4 @@ pub returns-clause-verdicts : goal.returns-clause-verdicts
 returns-clause-verdicts c = λ over judge lane l u v ps agree. share_verdicts lane l u v ps agree over judge
 
 pub returns-clause-histories : goal.returns-clause-histories
-returns-clause-histories c = λ control_at lane l u v ps agree. share_histories lane l u v ps agree control_at
+returns-clause-histories c = λ app control_at lane l u v ps agree. share_histories lane l u v ps agree app control_at

@@ -3,4 +3,4 @@ use Rattle.worker_laws.proofs.Histories.{same_records}
 use Rattle.worker_laws.proofs.shares.records_are_their_packets.Goals as goal
 
 pub returns : goal.returns
-returns c = record { records = λ control_at ps. same_records control_at [] ps }
+returns c = record { records = λ app control_at ps. same_records app control_at [] ps }
