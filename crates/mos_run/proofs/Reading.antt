@@ -15,7 +15,7 @@ use Rattle.lane_core.specs.Sight.{Arrival, arrival_of, arrivals}
 use Rattle.lane_core.specs.Records.{VersionedPacket, records, records_from, versioned}
 use Rattle.lane_core.specs.Run.{LaneEvent, Arrived, commands_of, versioned_from, lane_run}
 use Rattle.report_text.specs.Tidy.{tidy}
-use Rattle.lane_core.specs.Shown.{record_of}
+use Rattle.lane_core.specs.Shown.{record_of, total}
 use Rattle.lane_core.specs.Lane.{IsHeavy, IsAfter, with_event}
 use Rattle.lane_core.specs.Laws.{AreEvents, HeavyStays, RecordsAreTidy, rise}
 use Rattle.mos_run.specs.Report.{control_at, records_of}
@@ -105,3 +105,16 @@ one_more app failed stands before frames frame number count was goes light heavy
       light = λ good is. light good (run_of frames) was (subst (IsHeavy app) run is);
       heavy = λ bad. subst (IsHeavy app) (sym run) (heavy bad (run_of frames) was);
     }
+
+-- ---- no frame yet
+
+light_at_first : (app : Meaning) → IsHeavy app [] → ⊥
+unfolding lane_run records_from total
+light_at_first app heavy = omega (arith, heavy)
+
+pub none_read : (failed : Option LaneError) (stands : List LaneEvent → Type 0) → failed ≡ None → stands [] → IsRead log failed stands []
+none_read failed stands good first = record {
+  stands_for = λ none. first;
+  light = λ none heavy. light_at_first log heavy;
+  heavy = λ bad. absurd (bad good);
+}
