@@ -245,7 +245,8 @@ fields_allowed app (Other class) fields named = refl
 
 record_tidy : (app : Meaning) (n : ℕ) (one : RecordSoFar) → IsLawful app → IsTidyHistory n one.history → is_tidy_record (record_of app one) ≡ true
 record_tidy app n one lawful t =
-    both _ _ t.entries (both _ _ (below_rises 0 n one.history.drops t.drops) (fields_allowed app one.first.sight (app.fields one.history.tally) (lawful.names one.history.tally)))
+    let allowed = fields_allowed app one.first.sight (app.fields one.history.tally) (lawful.names one.history.tally) in
+    both _ _ (both _ _ (both _ _ t.entries (below_rises 0 n one.history.drops t.drops)) (first_of _ _ allowed)) (rest_of _ _ allowed)
 
 all_records_tidy : (app : Meaning) (low n : ℕ) (so_far : List RecordSoFar) → IsLawful app → AreTidy low n so_far → list_all is_tidy_record (map (record_of app) so_far) ≡ true
 all_records_tidy app low n [] lawful t = refl
