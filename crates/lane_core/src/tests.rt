@@ -115,7 +115,7 @@ fn records_live_under_the_commands_before_them(rt: HostRuntime) -> Result<(), Fa
     assert_eq!(rt; lane.version(), 1);
     assert!(rt; !lane.has_failed());
     let end = end(alloc, lane)?;
-    assert_eq!(rt; end.versions.as_slice(), &[(3, 0), (4, 0), (5, 1)]);
+    assert_eq!(rt; end.versions.as_slice(), [(3, 0), (4, 0), (5, 1)].as_slice());
     assert_eq!(rt; end.callbacks, 8);
     assert_eq!(rt; end.drops, 0);
     Ok(())
