@@ -1,5 +1,6 @@
 //! Lanes under packets and commands: what a record lives under, and which trees are made.
 
+mod counting;
 mod frames;
 
 ghost use Rattle.std.specs.Prelude.{IsTrue};
@@ -7,6 +8,7 @@ ghost use Rattle.lane_core.specs.Lane.{IsAfter};
 
 use crate::{Lane, LaneEnd, Recorder};
 use app_api::{Action, Change1, Changes, LogApp, PKT_IN, Reg, START, Verdict};
+use counting::Counting;
 use forest_versions::Command;
 use frames::{ACK, ARP, SYN, SYN_ACK, captured, higher};
 use native_filters::Hook::{Rcv, Snd};
@@ -115,7 +117,10 @@ fn records_live_under_the_commands_before_them(rt: HostRuntime) -> Result<(), Fa
     assert_eq!(rt; lane.version(), 1);
     assert!(rt; !lane.has_failed());
     let end = end(alloc, lane)?;
-    assert_eq!(rt; end.versions.as_slice(), [(3, 0), (4, 0), (5, 1)].as_slice());
+    assert_eq!(rt;
+        end.versions.as_slice(),
+        [(3, 0), (4, 0), (5, 1)].as_slice()
+    );
     assert_eq!(rt; end.callbacks, 8);
     assert_eq!(rt; end.drops, 0);
     Ok(())
@@ -153,6 +158,24 @@ fn entries_are_kept_where_they_are_asked(rt: HostRuntime) -> Result<(), Fail> {
     for record in end.records.as_slice() {
         assert!(rt; record.entries.as_slice().is_empty());
     }
+    Ok(())
+}
+
+// Callbacks are found by walks over the store's trees.
+#[test]
+fn each_packet_looks_at_a_tree(rt: HostRuntime) -> Result<(), Fail> {
+    let alloc = rt.alloc();
+    let mut lane = Lane::new(alloc, LogApp, Counting::new(alloc), true)?;
+    take(alloc, &mut lane, 0, &SYN)?;
+    let first = lane.forests().looks();
+    take(alloc, &mut lane, 1, &SYN_ACK)?;
+    let second = lane.forests().looks();
+    take(alloc, &mut lane, 2, &ACK)?;
+    assert!(rt; first > 0);
+    assert!(rt; second > first);
+    assert!(rt; lane.forests().looks() > second);
+    let end = end(alloc, lane)?;
+    assert_eq!(rt; end.callbacks, 6);
     Ok(())
 }
 
