@@ -4,6 +4,7 @@ use Rattle.std.specs.Prelude.{nat_lt, ◌==◌, IfOk, IfErr, IsTrue}
 use Rattle.std.specs.List.{list_all, position, position_or_len}
 use Rattle.std.proofs.Math.Numerals.{one-add}
 use Rattle.std.proofs.lemmas.Bool.{cases_eq, cases_lt}
+use Rattle.std.proofs.lemmas.List.{take-take}
 use Rattle.report_text.specs.declared.read.ReadBack.{ReadBack}
 use Rattle.report_text.specs.declared.read.ReadBack.TheVariants.{NoReport, NoMemory}
 use Rattle.report_text.specs.declared.record.Record.{Record}
@@ -46,16 +47,10 @@ newline-by (b ∷ t) (suc i) h =
 position-there : (t : List ℕ) → position_or_len (λ b. b == 10) t < length t → position (λ b. b == 10) t ≡ Some (position_or_len (λ b. b == 10) t)
 position-there t h = let yes = within (position_or_len (λ b. b == 10) t) (length t) h in rw yes refl
 
-take-less : (c b : ℕ) (t : List ℕ) → c ≤ b → take c (take b t) ≡ take c t
-take-less zero b t h = refl
-take-less (suc c) zero t h = absurd (omega arith)
-take-less (suc c) (suc b) [] h = refl
-take-less (suc c) (suc b) (x ∷ t) h = ap (λ r. x ∷ r) (take-less c b t (omega arith))
-
 begins-less : (text : List ℕ) (c b : ℕ) → c ≤ b → BeginsReport (take b text) → BeginsReport (take c text)
 begins-less text c b h from_b =
     let split : take c text ++ drop c (take b text) ≡ take b text =
-        ap (λ x. x ++ drop c (take b text)) (sym (take-less c b text h)) ∙ take-append-drop c (take b text) in
+        ap (λ x. x ++ drop c (take b text)) (sym (take-take c b text h)) ∙ take-append-drop c (take b text) in
     let whole = from_b.whole in
     record {
       records = from_b.records;
