@@ -11,6 +11,7 @@ use std::alloc::{AllocError, Global};
 use std::test::Fail;
 
 const CONN: &str = "conn 3 10.0.0.1:1000 > 10.0.0.2:80 v 2\n";
+
 const END: &str = "end packets 3 records 1 callbacks 6 drops 0 tail 0\n";
 
 // A report with each form of a line.
@@ -217,8 +218,14 @@ fn texts_that_end_early(rt: HostRuntime) -> Result<(), Fail> {
     let alloc = rt.alloc();
     assert_eq!(rt; offset_of(alloc, b""), Some(0));
     assert_eq!(rt; offset_of(alloc, CONN.as_bytes()), Some(39));
-    assert_eq!(rt; offset_of(alloc, b"orphan 9 tcp v 5\ncb 9 snd orphan 3"), Some(17));
-    assert_eq!(rt; offset_of(alloc, b"end packets 3 records 1 callbacks 6 drops 0 tail 0"), Some(0));
+    assert_eq!(rt;
+        offset_of(alloc, b"orphan 9 tcp v 5\ncb 9 snd orphan 3"),
+        Some(17)
+    );
+    assert_eq!(rt;
+        offset_of(alloc, b"end packets 3 records 1 callbacks 6 drops 0 tail 0"),
+        Some(0)
+    );
     Ok(())
 }
 
@@ -349,8 +356,12 @@ impl Random {
             }
         }
         if let RecordKind::Conn { .. } = kind {
-            of.fields.items.push((bytes(alloc, b"up_pkts")?, self.number()))?;
-            of.fields.items.push((bytes(alloc, b"_0z")?, self.number()))?;
+            of.fields
+                .items
+                .push((bytes(alloc, b"up_pkts")?, self.number()))?;
+            of.fields
+                .items
+                .push((bytes(alloc, b"_0z")?, self.number()))?;
         }
         Ok(of)
     }
