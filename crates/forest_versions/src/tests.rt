@@ -287,24 +287,15 @@ fn commands_that_may_and_may_not_be_given(rt: HostRuntime) -> Result<(), Fail> {
     Ok(())
 }
 
-// Asks that a type may be handed to a thread.
-fn handed<T: Send>(value: T) -> T {
-    value
-}
-
 // Asks that a type may be shared by threads, and handed from one to another.
 fn shared<T: Send + Sync>(value: T) -> T {
     value
 }
 
 #[test]
-fn threads_may_take_masters_and_share_commands(rt: HostRuntime) -> Result<(), Fail> {
-    let alloc = rt.alloc();
-    let mut table = Table::new(alloc);
-    let master = handed(first(alloc, &mut table)?);
-    assert_eq!(rt; master.version(), 0);
-    let command = shared(command_of(alloc, Line::Event(1, 257))?);
-    assert!(rt; master.control().is_lawful(&command));
+fn threads_may_share_commands(rt: HostRuntime) -> Result<(), Fail> {
+    let command = shared(command_of(rt.alloc(), Line::Event(1, 257))?);
+    assert!(rt; matches!(command, Command::Event(_)));
     assert_eq!(rt; shared(Stamp::At(5)), Stamp::At(5));
     Ok(())
 }

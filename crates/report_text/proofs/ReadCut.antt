@@ -1,9 +1,9 @@
 -- A line ends at its first newline, so a text is cut into lines in one way.
-use Rattle.std.proofs.Common.{◌≡◌, ℕ, zero, suc, ◌+◌, ◌^◌, ◌<◌, ◌≤◌, Bool, true, false, not, ◌&&◌, cond, List, [], ◌∷◌, ◌++◌, length, take, drop, get_or, refl, ap, sym, subst, ◌∙◌, arith, append_assoc, codes, inl, inr, Some, None}
+use Rattle.std.proofs.Common.{◌≡◌, ℕ, suc, ◌+◌, ◌^◌, ◌<◌, Bool, true, false, not, ◌&&◌, List, [], ◌∷◌, ◌++◌, length, take, drop, refl, ap, sym, subst, ◌∙◌, arith, append_assoc, codes, inl, inr}
 use Rattle.std.specs.Prelude.{nat_lt, slice_index, ◌==◌, if◌then◌else◌, ◌*◌, ◌/◌, ◌%◌}
 use Rattle.std.specs.Fmt.{decimal, digits}
 use Rattle.std.specs.Int.{w32, to_be_bytes}
-use Rattle.std.specs.List.{list_all, position, position_or_len}
+use Rattle.std.specs.List.{list_all, position_or_len}
 use Rattle.std.specs.Net.Text.{dotted_text}
 use Rattle.std.proofs.Math.Numerals.{one-add}
 use Rattle.std.proofs.lemmas.Bool.{cases_eq}
@@ -23,11 +23,10 @@ use Rattle.report_text.specs.declared.read.line.Line.{Line}
 use Rattle.report_text.specs.declared.read.line.Line.TheVariants.{First, Callback, Dropped, Field, Last}
 use Rattle.report_text.specs.Words.{class_text, hook_text, event_text, groups_of, groups_text, v6_text, endpoint_text, bytes_text, piece_text, pieces_text, seen_text, reason_text}
 use Rattle.report_text.specs.Lines.{kind_text, first_line, callback_line, drop_line, field_line, totals_line}
-use Rattle.report_text.specs.Ranges.{is_u8, is_u16, is_u32, is_u64, are_bytes, endpoint_fits, kind_fits, seen_fits, reason_fits}
+use Rattle.report_text.specs.Ranges.{is_u16, is_u32, is_u64, are_bytes, endpoint_fits, kind_fits, seen_fits, reason_fits}
 use Rattle.report_text.specs.ReadWords.{is_mark}
 use Rattle.report_text.specs.ReadLines.{bare, line_text, is_tidy_line, line_fits}
 use Rattle.report_text.proofs.ReadNumbers.{plain, plain-head, and_parts, not_true, plain-decimal, plain-hex}
-use Rattle.report_text.proofs.ReadLoops.{none-left}
 use Rattle.report_text.proofs.ReadParts.{plain-class, plain-hook, event-read}
 use Rattle.report_text.proofs.ReadSeen.{below, plain-bytes, fit_pieces}
 use Rattle.report_text.proofs.ReadLine.{EntryParts, entry-parts, totals-parts, field-plain}
@@ -110,8 +109,16 @@ low-fits n = pair-fits (n / 256 % 256) (n % 256) (omega arith) (omega arith)
 groups-fit : (addr : ℕ) → list_all is_u16 (groups_of addr) ≡ true
 unfolding groups_of
 groups-fit addr =
-    rw (group-fits addr (2 ^ 120) (2 ^ 112), group-fits addr (2 ^ 104) (2 ^ 96), group-fits addr (2 ^ 88) (2 ^ 80), group-fits addr (2 ^ 72) (2 ^ 64),
-      group-fits addr (2 ^ 56) (2 ^ 48), group-fits addr (2 ^ 40) (2 ^ 32), group-fits addr (2 ^ 24) (2 ^ 16), low-fits addr) refl
+    rw (
+      group-fits addr (2 ^ 120) (2 ^ 112),
+      group-fits addr (2 ^ 104) (2 ^ 96),
+      group-fits addr (2 ^ 88) (2 ^ 80),
+      group-fits addr (2 ^ 72) (2 ^ 64),
+      group-fits addr (2 ^ 56) (2 ^ 48),
+      group-fits addr (2 ^ 40) (2 ^ 32),
+      group-fits addr (2 ^ 24) (2 ^ 16),
+      low-fits addr,
+    ) refl
 
 head-fits : (gs : List ℕ) → list_all is_u16 gs ≡ true → slice_index gs 0 < 2 ^ 16
 head-fits [] h = omega arith
@@ -259,9 +266,10 @@ line-cut (b ∷ w) (c ∷ v) x y hw hv same =
     elim (cases_eq b 10) [
       | inl is ↦
           let w_none = nil-of w (rw (is-newline b is) at hw) in
-          let v_none = nil-of v (rw (is-newline c (sym head ∙ is)) at hv) in
-          (ap (λ z. z ∷ w) head ∙ ap (λ z. c ∷ z) (w_none ∙ sym v_none),
-          sym (ap (λ z. z ++ x) w_none) ∙ tail ∙ ap (λ z. z ++ y) v_none)
+          let v_none = nil-of v (rw (is-newline c (sym head ∙ is)) at hv) in (
+            ap (λ z. z ∷ w) head ∙ ap (λ z. c ∷ z) (w_none ∙ sym v_none),
+            sym (ap (λ z. z ++ x) w_none) ∙ tail ∙ ap (λ z. z ++ y) v_none,
+          )
       | inr other ↦
           let there : c ≡ 10 → ⊥ = λ e. other (head ∙ e) in
           let more = line-cut w v x y (rw (no-newline b other) at hw) (rw (no-newline c there) at hv) tail in

@@ -1,11 +1,10 @@
 -- What is written is read: endpoints.
-use Rattle.std.proofs.Common.{◌≡◌, ℕ, zero, suc, ◌+◌, ◌-◌, ◌*◌, ◌/◌, ◌%◌, ◌^◌, ◌<◌, ◌≤◌, Bool, true, false, ◌&&◌, List, [], ◌∷◌, ◌++◌, length, take, drop, get_or, refl, ap, sym, subst, ◌∙◌, arith, append_assoc, codes}
+use Rattle.std.proofs.Common.{◌≡◌, ℕ, ◌+◌, ◌*◌, ◌/◌, ◌%◌, ◌^◌, ◌<◌, true, false, List, [], ◌∷◌, ◌++◌, length, drop, refl, ap, sym, ◌∙◌, arith, append_assoc, codes}
 use Rattle.std.specs.Prelude.{nat_lt, slice_index, ◌==◌}
 use Rattle.std.specs.Char.{digit_value}
 use Rattle.std.specs.Fmt.{decimal, digits}
-use Rattle.std.specs.Int.{w32, w128, to_be_bytes, from_be_bytes}
-use Rattle.std.specs.Net.Addr.{segments_of}
-use Rattle.std.specs.Net.Text.{ipv4_text, dotted_text}
+use Rattle.std.specs.Int.{w32, to_be_bytes, from_be_bytes}
+use Rattle.std.specs.Net.Text.{dotted_text}
 use Rattle.std.specs.Str.Parse.{AllDigits}
 use Rattle.std.proofs.Math.Nat as nat
 use Rattle.std.proofs.lemmas.Fmt.{decimal_is_IsNumeral}
@@ -15,8 +14,8 @@ use Rattle.flow_table.specs.declared.endpoint.Endpoint.{Endpoint}
 use Rattle.flow_table.specs.declared.endpoint.Endpoint.TheVariants.{V4, V6}
 use Rattle.report_text.specs.Words.{groups_of, groups_text, v6_text, endpoint_text}
 use Rattle.report_text.specs.Ranges.{endpoint_fits, is_u16, is_u32}
-use Rattle.report_text.specs.ReadWords.{skip, number, decimal_of, v4_of, group_of, joined, v6_of, is_v6, endpoint_of, after_endpoint}
-use Rattle.report_text.proofs.ReadNumbers.{plain, marked, and_parts, plain-decimal, decimal_of-decimal, plain-hex, number-hex}
+use Rattle.report_text.specs.ReadWords.{skip, decimal_of, v4_of, group_of, joined, v6_of, is_v6, endpoint_of, after_endpoint}
+use Rattle.report_text.proofs.ReadNumbers.{marked, and_parts, plain-decimal, plain-hex, number-hex}
 use Rattle.report_text.proofs.ReadLoops.{joined-none, joined-on}
 use Rattle.report_text.proofs.ReadParts.{skip-on, skip-zero, small-read}
 use Rattle.report_text.proofs.ReadSeen.{below}

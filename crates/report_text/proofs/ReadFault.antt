@@ -1,8 +1,7 @@
 -- Where reading stops: each exit of the reader.
-use Rattle.std.proofs.Common.{◌≡◌, ℕ, zero, suc, ◌+◌, ◌-◌, ◌<◌, ◌≤◌, Bool, true, false, ◌&&◌, cond, List, [], ◌∷◌, ◌++◌, length, take, drop, get_or, map, refl, ap, sym, subst, ◌∙◌, arith, append_assoc, append-nil, Option, Some, None, inl, inr, add-one, get_or-drop, take-append-drop, length-take-le, length-append, length-drop, drop-drop}
-use Rattle.std.specs.Prelude.{nat_lt, nat_le, ◌==◌, if◌then◌else◌, bytes_eq}
+use Rattle.std.proofs.Common.{◌≡◌, ℕ, suc, ◌+◌, ◌-◌, ◌<◌, ◌≤◌, Bool, true, false, ◌&&◌, cond, List, [], ◌∷◌, ◌++◌, length, take, drop, get_or, map, refl, ap, sym, subst, ◌∙◌, arith, append_assoc, append-nil, Option, Some, None, inl, inr, get_or-drop, take-append-drop, length-take-le, length-append, length-drop, drop-drop}
+use Rattle.std.specs.Prelude.{nat_lt, ◌==◌, if◌then◌else◌, bytes_eq}
 use Rattle.std.specs.List.{list_all, position, position_or_len}
-use Rattle.std.specs.Option.{option_to_list}
 use Rattle.std.proofs.Math.Numerals.{one-add}
 use Rattle.std.proofs.Math.Seq.{take-add}
 use Rattle.std.proofs.lemmas.List.{drop_all, take_all}
@@ -15,9 +14,7 @@ use Rattle.report_text.specs.declared.record.Totals.{Totals}
 use Rattle.report_text.specs.declared.read.line.Line.{Line}
 use Rattle.report_text.specs.declared.read.line.Line.TheVariants.{Last}
 use Rattle.report_text.specs.declared.read.taker.Taker.{Taker}
-use Rattle.report_text.specs.Lines.{totals_line}
 use Rattle.report_text.specs.Ranges.{record_fits, totals_fit}
-use Rattle.report_text.specs.Report.{records_text, report_text}
 use Rattle.report_text.specs.Tidy.{is_tidy_record, tidy}
 use Rattle.report_text.specs.Reports.{IsReport, BeginsReport, NoReportAt}
 use Rattle.report_text.specs.ReadLines.{line_text, is_tidy_line, line_fits, line_of, put, start, taken, finished_with, finished}
@@ -25,7 +22,7 @@ use Rattle.report_text.proofs.ReadNumbers.{and_parts}
 use Rattle.report_text.proofs.ReadLine.{line-read}
 use Rattle.report_text.proofs.ReadCut.{one_line, line-ends, line-cut, front-ends, is-newline, no-newline}
 use Rattle.report_text.proofs.ReadFits.{both, read-fits}
-use Rattle.report_text.proofs.ReadRun.{text_of, records_lines, totals_lines, lines_of, put_to, run, run-append, run-none, text-append, report-lines, fit, report-fits, Told, told}
+use Rattle.report_text.proofs.ReadRun.{text_of, records_lines, lines_of, run, run-append, run-none, text-append, report-lines, fit, report-fits, told}
 use Rattle.report_text.proofs.ReadPut.{all_of, lines, Stands, Grown, grown, stands-start, all-split}
 
 -- a line that may stand in some report
@@ -134,7 +131,7 @@ begins rs None rise each fits counts = record {
     records_fit = fits;
     counts_fit = refl;
     is = ap (λ ls. text_of ls ++ text_of (Last zero_totals ∷ [])) (append-nil (records_lines rs))
-    ∙ sym (text-append (records_lines rs) (Last zero_totals ∷ [])) ∙ report-lines rs zero_totals;
+        ∙ sym (text-append (records_lines rs) (Last zero_totals ∷ [])) ∙ report-lines rs zero_totals;
   };
 }
 begins rs (Some t) rise each fits counts = record {
@@ -195,7 +192,7 @@ stop-at text at s r refuses k found b =
     let tail = drop at text in
     let line = take (k + 1) tail in
     let taken_is : take (at + (k + 1)) text ≡ front ++ line =
-        ap (λ n. take (n + (k + 1)) text) r.place ∙ ap (take (length front + (k + 1))) r.is ∙ take-on front tail (k + 1) in
+    ap (λ n. take (n + (k + 1)) text) r.place ∙ ap (take (length front + (k + 1))) r.is ∙ take-on front tail (k + 1) in
     let is : take (at + (k + 1)) text ++ b.rest ≡ front ++ (line ++ b.rest) = ap (λ x. x ++ b.rest) taken_is ∙ append_assoc front line b.rest in
     let on = beyond s b.records b.totals (take (at + (k + 1)) text ++ b.rest) (line ++ b.rest) r.stands b.whole is in
     stop-more s b.records b.totals line tail b.rest on.more on.taker refuses (front-of tail k found) (drop (k + 1) tail) (sym (take-append-drop (k + 1) tail))
@@ -225,7 +222,7 @@ fault text at s r refuses open_end =
     let front = text_of (lines s) in
     let tail = drop at text in record {
       before = subst BeginsReport (sym (ap (λ n. take n text) r.place ∙ ap (take (length front)) r.is ∙ take-front front tail))
-      (begins (all_of s) s.totals h.rise h.each h.fits h.counts);
+          (begins (all_of s) s.totals h.rise h.each h.fits h.counts);
       starts = r.starts;
       stops = λ k found b. stop-at text at s r refuses k found b;
       no_report = λ rs t report. stop-whole text at s r refuses open_end rs t report;
@@ -317,7 +314,7 @@ reached-more text at s k now r found is =
     let got = took s line now r.stands is in
     let here = newline-at tail k found in
     let grown_text : text_of (lines now) ≡ front ++ line =
-        ap text_of got.grows.more ∙ text-append (lines s) (line_of line ∷ []) ∙ ap (λ x. front ++ x) (append-nil (line_text (line_of line)) ∙ got.text) in
+    ap text_of got.grows.more ∙ text-append (lines s) (line_of line ∷ []) ∙ ap (λ x. front ++ x) (append-nil (line_text (line_of line)) ∙ got.text) in
     let split : tail ≡ line ++ drop (at + (k + 1)) text = sym (take-append-drop (k + 1) tail) ∙ ap (λ x. line ++ x) (drop-on at (k + 1) text) in
     let long : length line ≡ k + 1 = length-take-le (k + 1) tail (omega (arith, here.0, here.1)) in
     let ten : get_or text (at + k) 0 ≡ 10 = sym (get_or-drop at text k 0) ∙ ap (λ n. get_or tail n 0) (sym here.1) ∙ newline-there tail here.0 in

@@ -1,5 +1,5 @@
 -- What is read has numbers in their types' ranges, and bytes.
-use Rattle.std.proofs.Common.{◌≡◌, ℕ, zero, suc, ◌+◌, ◌*◌, ◌/◌, ◌%◌, ◌^◌, ◌<◌, ◌≤◌, Bool, true, false, not, ◌&&◌, List, [], ◌∷◌, ◌++◌, length, take, drop, get_or, refl, ap, sym, subst, ◌∙◌, arith, codes, Result, Ok, Err}
+use Rattle.std.proofs.Common.{◌≡◌, ℕ, zero, suc, ◌+◌, ◌*◌, ◌%◌, ◌^◌, ◌<◌, Bool, true, false, ◌&&◌, List, [], ◌∷◌, length, refl, arith, Result, Ok, Err}
 use Rattle.std.specs.Prelude.{nat_lt, slice_index, ◌==◌, if◌then◌else◌, bytes_eq}
 use Rattle.std.specs.Char.{digit_value}
 use Rattle.std.specs.Int.{w32, from_be_bytes}
@@ -8,13 +8,12 @@ use Rattle.std.proofs.lemmas.Bool.Decides.{nat_tests}
 use Rattle.hex.specs.Hex.{decode_of, IsBytes}
 use Rattle.hex.specs.declared.error.FromHexError.{FromHexError}
 use Rattle.hex.proofs.HexLemmas.{decode_of-ok}
-use Rattle.app_api.specs.App.{is_name_byte, is_field_name}
-use Rattle.app_api.specs.declared.entry.Seen.{Seen}
+use Rattle.app_api.specs.App.{is_name_byte}
 use Rattle.app_api.specs.declared.entry.Seen.TheVariants.{Nothing, Next, At}
 use Rattle.app_api.specs.declared.reaction.Reason.TheVariants.{Reg, Rule}
 use Rattle.report_text.specs.declared.record.RecordKind.TheVariants.{Conn, Orphan}
 use Rattle.report_text.specs.declared.read.line.Line.{Line}
-use Rattle.report_text.specs.declared.read.line.Line.TheVariants.{First, Callback, Dropped, Field, Last}
+use Rattle.report_text.specs.declared.read.line.Line.TheVariants.{Callback, Dropped, Field, Last}
 use Rattle.report_text.specs.Words.{event_names}
 use Rattle.report_text.specs.Ranges.{is_u8, is_u16, is_u32, is_u64, are_bytes, endpoint_fits, kind_fits, seen_fits, entry_fits, reason_fits, totals_fit}
 use Rattle.report_text.specs.ReadWords.{is_mark, first_word, skip, number_from, number, decimal_of, class_of, number_named, event_of, reason_of, group_of, joined, v4_of, v6_of, endpoint_of, is_v6, decoded, bytes_of, pieces_of, seen_of}

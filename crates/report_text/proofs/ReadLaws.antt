@@ -1,18 +1,13 @@
 -- Reading and writing are each other's inverse, and a text stops being a report at one place.
-use Rattle.std.proofs.Common.{◌≡◌, ℕ, zero, suc, ◌+◌, ◌-◌, ◌<◌, ◌≤◌, Bool, true, false, cond, List, [], ◌∷◌, ◌++◌, length, take, drop, get_or, refl, ap, sym, subst, ◌∙◌, arith, append_assoc, inl, inr, Result, Ok, Err, Some, None, get_or-drop, length-drop, take-append-drop}
-use Rattle.std.specs.Prelude.{nat_lt, ◌==◌, IfOk, IfErr, IsTrue}
-use Rattle.std.specs.List.{list_all, position, position_or_len}
-use Rattle.std.proofs.Math.Numerals.{one-add}
+use Rattle.std.proofs.Common.{◌≡◌, ℕ, zero, suc, ◌+◌, ◌-◌, ◌<◌, ◌≤◌, true, false, List, [], ◌∷◌, ◌++◌, length, take, drop, get_or, refl, ap, sym, ◌∙◌, arith, append_assoc, inl, inr, Ok, Err, Some, get_or-drop, take-append-drop}
+use Rattle.std.specs.Prelude.{◌==◌}
+use Rattle.std.specs.List.{position, position_or_len}
 use Rattle.std.proofs.lemmas.Bool.{cases_eq, cases_lt}
-use Rattle.report_text.specs.declared.read.ReadBack.{ReadBack}
+use Rattle.std.proofs.lemmas.List.{take-take}
 use Rattle.report_text.specs.declared.read.ReadBack.TheVariants.{NoReport, NoMemory}
-use Rattle.report_text.specs.declared.record.Record.{Record}
-use Rattle.report_text.specs.declared.record.Totals.{Totals}
-use Rattle.report_text.specs.Ranges.{record_fits, totals_fit}
 use Rattle.report_text.specs.Report.{report_text}
 use Rattle.report_text.specs.Reports.{IsReport, BeginsReport, NoReportAt}
-use Rattle.report_text.specs.ReadLaws.{ReadsBack, WrittenIsRead, ReadIsWritten, OneOffset}
-use Rattle.report_text.specs.Tidy.{tidy}
+use Rattle.report_text.specs.ReadLaws.{WrittenIsRead, ReadIsWritten, OneOffset}
 use Rattle.report_text.proofs.ReadCut.{is-newline, no-newline}
 use Rattle.report_text.proofs.ReadFits.{within}
 use Rattle.report_text.proofs.ReadFault.{one-report}
@@ -46,16 +41,10 @@ newline-by (b ∷ t) (suc i) h =
 position-there : (t : List ℕ) → position_or_len (λ b. b == 10) t < length t → position (λ b. b == 10) t ≡ Some (position_or_len (λ b. b == 10) t)
 position-there t h = let yes = within (position_or_len (λ b. b == 10) t) (length t) h in rw yes refl
 
-take-less : (c b : ℕ) (t : List ℕ) → c ≤ b → take c (take b t) ≡ take c t
-take-less zero b t h = refl
-take-less (suc c) zero t h = absurd (omega arith)
-take-less (suc c) (suc b) [] h = refl
-take-less (suc c) (suc b) (x ∷ t) h = ap (λ r. x ∷ r) (take-less c b t (omega arith))
-
 begins-less : (text : List ℕ) (c b : ℕ) → c ≤ b → BeginsReport (take b text) → BeginsReport (take c text)
 begins-less text c b h from_b =
     let split : take c text ++ drop c (take b text) ≡ take b text =
-        ap (λ x. x ++ drop c (take b text)) (sym (take-less c b text h)) ∙ take-append-drop c (take b text) in
+    ap (λ x. x ++ drop c (take b text)) (sym (take-take c b text h)) ∙ take-append-drop c (take b text) in
     let whole = from_b.whole in
     record {
       records = from_b.records;
@@ -74,7 +63,7 @@ not-before text a b at_a at_b less =
     let p = position_or_len (λ c. c == 10) (drop a text) in
     let same : a + (b - 1 - a) ≡ b - 1 = omega arith in
     let ten : get_or (drop a text) (b - 1 - a) 0 ≡ 10 =
-        get_or-drop a text (b - 1 - a) 0 ∙ ap (λ n. get_or text n 0) same ∙ at_b.starts (omega arith) in
+    get_or-drop a text (b - 1 - a) 0 ∙ ap (λ n. get_or text n 0) same ∙ at_b.starts (omega arith) in
     let by = newline-by (drop a text) (b - 1 - a) ten in
     let near : p ≤ b - 1 - a = by.0 in
     at_a.stops p (position-there (drop a text) by.1) (begins-less text (a + (p + 1)) b (omega (arith, near)) at_b.before)
@@ -86,5 +75,5 @@ one-offset text a b at_a at_b =
       | inr le ↦ elim (cases_lt b a) [
         | inl more ↦ absurd (not-before text b a at_b at_a more)
         | inr ge ↦ omega arith
-        ]
+      ]
     ]

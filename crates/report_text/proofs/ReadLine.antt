@@ -1,6 +1,6 @@
 -- What is written is read: whole lines.
-use Rattle.std.proofs.Common.{◌≡◌, ℕ, zero, suc, ◌+◌, ◌%◌, ◌^◌, ◌<◌, ◌≤◌, Bool, true, false, not, ◌&&◌, List, [], ◌∷◌, ◌++◌, length, take, drop, get_or, refl, ap, sym, subst, ◌∙◌, arith, append_assoc, codes}
-use Rattle.std.specs.Prelude.{nat_lt, nat_le, slice_index, ◌==◌}
+use Rattle.std.proofs.Common.{◌≡◌, ℕ, ◌%◌, ◌^◌, ◌<◌, true, false, ◌&&◌, List, [], ◌∷◌, ◌++◌, length, refl, ap, ◌∙◌, arith, append_assoc, codes}
+use Rattle.std.specs.Prelude.{nat_lt}
 use Rattle.std.specs.Fmt.{decimal}
 use Rattle.std.specs.List.{list_all}
 use Rattle.std.proofs.lemmas.Bool.Decides.{nat_tests}
@@ -9,7 +9,6 @@ use Rattle.packet_views.specs.declared.packet.Class.{Class}
 use Rattle.app_api.specs.App.{is_name_byte, is_field_name}
 use Rattle.app_api.specs.declared.entry.Entry.{Entry}
 use Rattle.app_api.specs.declared.reaction.Reason.{Reason}
-use Rattle.report_text.specs.declared.record.RecordKind.{RecordKind}
 use Rattle.report_text.specs.declared.record.RecordKind.TheVariants.{Conn, Orphan}
 use Rattle.report_text.specs.declared.record.Totals.{Totals}
 use Rattle.report_text.specs.declared.read.line.Line.{Line}
@@ -19,8 +18,8 @@ use Rattle.report_text.specs.Lines.{first_line, callback_line, drop_line, field_
 use Rattle.report_text.specs.Ranges.{is_u8, is_u16, is_u32, is_u64, are_bytes, endpoint_fits, kind_fits, seen_fits, entry_fits, reason_fits, totals_fit}
 use Rattle.report_text.specs.Tidy.{is_event, is_tidy_seen, is_tidy_entry}
 use Rattle.report_text.specs.ReadWords.{is_mark, first_word, skip, decimal_of, class_of, hook_of, event_of, reason_of, endpoint_of, after_endpoint, seen_of}
-use Rattle.report_text.specs.ReadLines.{bare, line_text, is_tidy_line, line_fits, entry_of, totals_of, orphan_of, server_at, conn_of, line_of}
-use Rattle.report_text.proofs.ReadNumbers.{plain, marked, and_parts, first-word, plain-decimal, decimal_of-decimal}
+use Rattle.report_text.specs.ReadLines.{bare, line_text, is_tidy_line, line_fits, entry_of, totals_of, line_of}
+use Rattle.report_text.proofs.ReadNumbers.{plain, and_parts, first-word, plain-decimal, decimal_of-decimal}
 use Rattle.report_text.proofs.ReadParts.{skip-on, skip-zero, class-read, plain-class, hook-read, plain-hook, small-read, event-read}
 use Rattle.report_text.proofs.ReadSeen.{below, reason-read, seen-marked, seen-read}
 use Rattle.report_text.proofs.ReadEndpoints.{endpoint-read}

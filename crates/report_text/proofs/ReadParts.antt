@@ -1,33 +1,20 @@
 -- What is written is read: the parts of a line.
-use Rattle.std.proofs.Common.{◌≡◌, ℕ, zero, suc, ◌+◌, ◌-◌, ◌*◌, ◌/◌, ◌%◌, ◌^◌, ◌<◌, ◌≤◌, Bool, true, false, not, ◌&&◌, List, [], ◌∷◌, ◌++◌, length, take, drop, get_or, refl, ap, sym, subst, ◌∙◌, arith, append_assoc, codes, inl, inr, Ok}
-use Rattle.std.specs.Prelude.{nat_lt, nat_le, slice_index, ◌==◌}
+use Rattle.std.proofs.Common.{◌≡◌, ℕ, suc, ◌%◌, ◌^◌, ◌<◌, ◌≤◌, true, false, List, [], ◌∷◌, ◌++◌, length, drop, refl, ap, sym, subst, ◌∙◌, arith, codes, inl, inr}
+use Rattle.std.specs.Prelude.{nat_lt, slice_index, ◌==◌}
 use Rattle.std.specs.Char.{digit_value}
-use Rattle.std.specs.Fmt.{decimal, digits}
-use Rattle.std.specs.Int.{w32, w128, to_be_bytes, from_be_bytes}
-use Rattle.std.specs.List.{list_all}
-use Rattle.std.specs.Net.Addr.{segments_of, octets_of}
-use Rattle.std.specs.Net.Text.{ipv4_text}
+use Rattle.std.specs.Fmt.{decimal}
 use Rattle.std.specs.Str.Parse.{AllDigits}
 use Rattle.std.proofs.lemmas.Fmt.{decimal_is_IsNumeral}
-use Rattle.std.proofs.lemmas.List.Sums.{AllPass-from_list_all}
 use Rattle.std.proofs.lemmas.Bool.{cases_lt}
 use Rattle.std.proofs.lemmas.Bool.Decides.{nat_tests}
-use Rattle.hex.specs.Hex.{encode_with, encode_lower, lower_digits, decode_of, IsBytes}
-use Rattle.hex.proofs.HexLemmas.{decode_of-encode_lower}
 use Rattle.native_filters.specs.declared.facts.Hook.{Hook}
 use Rattle.native_filters.specs.declared.facts.Hook.TheVariants.{Snd, Rcv}
 use Rattle.packet_views.specs.declared.packet.Class.{Class}
 use Rattle.packet_views.specs.declared.packet.Class.TheVariants.{Tcp, Other, Fragment, Cut, Bad}
-use Rattle.app_api.specs.declared.entry.Seen.{Seen}
-use Rattle.app_api.specs.declared.entry.Seen.TheVariants.{Nothing, Next, At}
-use Rattle.app_api.specs.declared.reaction.Reason.{Reason}
-use Rattle.app_api.specs.declared.reaction.Reason.TheVariants.{Reg, Rule}
-use Rattle.report_text.specs.Words.{class_text, hook_text, event_names, event_text, name_or_number, bytes_text, piece_text, pieces_text, seen_text, reason_text}
-use Rattle.report_text.specs.Ranges.{is_u8, is_u64, are_bytes, reason_fits, seen_fits}
+use Rattle.report_text.specs.Words.{class_text, hook_text, event_names, event_text, name_or_number}
 use Rattle.report_text.specs.Tidy.{is_event}
-use Rattle.report_text.specs.ReadWords.{is_mark, first_word, after_word, skip, decimal_of, class_of, hook_of, number_named, event_of, reason_of, bytes_of, pieces_of, seen_of}
-use Rattle.report_text.proofs.ReadNumbers.{plain, marked, and_parts, plain-head, after-word, first-word, plain-decimal, decimal_of-decimal}
-use Rattle.report_text.proofs.ReadLoops.{pieces_of-none, pieces_of-suc}
+use Rattle.report_text.specs.ReadWords.{after_word, skip, decimal_of, class_of, hook_of, number_named, event_of}
+use Rattle.report_text.proofs.ReadNumbers.{plain, marked, after-word, first-word, plain-decimal, decimal_of-decimal}
 
 -- one word more is behind
 pub skip-on : (n : ℕ) (line w t : List ℕ) → skip n line ≡ w ++ t → plain w ≡ true → marked t ≡ true → skip (suc n) line ≡ drop 1 t
@@ -134,11 +121,11 @@ event-read n t h m =
                   | inr g ↦ elim (cases_lt n 263) [
                     | inl i ↦ event-built n 262 t (event-named 262 (codes "end") t refl refl refl refl m) (omega arith)
                     | inr i ↦ event-built n 263 t (event-named 263 (codes "orphan") t refl refl refl refl m) (omega arith)
-                    ]
                   ]
                 ]
               ]
             ]
           ]
         ]
+      ]
     ]

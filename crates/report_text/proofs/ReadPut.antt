@@ -1,10 +1,9 @@
 -- One more line: the records stay tidy, and their lines are those before and it.
-use Rattle.std.proofs.Common.{◌≡◌, ℕ, zero, suc, ◌+◌, ◌<◌, ◌≤◌, Bool, true, false, ◌&&◌, List, [], ◌∷◌, ◌++◌, length, map, refl, ap, sym, subst, ◌∙◌, arith, append_assoc, append-nil, Option, Some, None}
+use Rattle.std.proofs.Common.{◌≡◌, ℕ, ◌+◌, Bool, true, false, ◌&&◌, List, [], ◌∷◌, ◌++◌, length, map, refl, ap, sym, subst, ◌∙◌, append_assoc, append-nil, Option, Some, None}
 use Rattle.std.specs.Prelude.{nat_le, ◌==◌, if◌then◌else◌}
 use Rattle.std.specs.List.{list_all}
 use Rattle.std.specs.Option.{option_to_list}
 use Rattle.std.proofs.lemmas.List.{map-append}
-use Rattle.std.proofs.lemmas.Bool.Decides.{nat_tests}
 use Rattle.app_api.specs.App.{is_field_name}
 use Rattle.app_api.specs.Numbers.{rise_from}
 use Rattle.app_api.specs.declared.entry.Entry.{Entry}
@@ -16,13 +15,13 @@ use Rattle.report_text.specs.declared.record.Totals.{Totals}
 use Rattle.report_text.specs.declared.read.line.Line.{Line}
 use Rattle.report_text.specs.declared.read.line.Line.TheVariants.{First, Callback, Dropped, Field, Last}
 use Rattle.report_text.specs.declared.read.taker.Taker.{Taker}
-use Rattle.report_text.specs.Ranges.{is_u32, is_u64, kind_fits, entry_fits, drop_fits, field_fits, record_fits, totals_fit}
-use Rattle.report_text.specs.Tidy.{is_tidy_entry, are_named, may_have, is_tidy_record, tidy}
-use Rattle.report_text.specs.ReadLines.{bare, is_tidy_line, line_fits, least_name, least_from, is_conn, with_entry, with_drop, with_field, reopened, with_record, go_on, on_open, put_more, put_unless, put, start}
+use Rattle.report_text.specs.Ranges.{entry_fits, drop_fits, field_fits, record_fits, totals_fit}
+use Rattle.report_text.specs.Tidy.{is_tidy_entry, may_have, is_tidy_record}
+use Rattle.report_text.specs.ReadLines.{bare, line_fits, least_name, least_from, is_conn, reopened, with_record, put, start}
 use Rattle.report_text.proofs.ReadNumbers.{and_parts}
 use Rattle.report_text.proofs.ReadCut.{nil-of}
 use Rattle.report_text.proofs.ReadFits.{both}
-use Rattle.report_text.proofs.ReadRun.{dropped, field, rest_lines, record_lines, records_lines, totals_lines, lines_of, run, put_to, run-append, fit, all-append, TidyParts, tidy-parts, tidy-whole, FitParts, fit-parts, fit-whole, at_record, least-push}
+use Rattle.report_text.proofs.ReadRun.{dropped, field, record_lines, records_lines, lines_of, run, run-append, fit, all-append, TidyParts, tidy-parts, tidy-whole, FitParts, fit-parts, fit-whole, at_record}
 
 -- all records so far
 abbrev pub all_of : Taker → List Record
@@ -109,8 +108,8 @@ grown-first done last name k version h fits above is =
     let in_range = (and_parts line true fits).0 in
     let reach = ap (λ n. nat_le n name) (least-last done last h.begun) ∙ above in
     let more : lines (with_record done last new) ≡ lines (record { done = done; last = last; totals = None }) ++ First name k version ∷ [] =
-        append-nil (records_lines (rs ++ new ∷ [])) ∙ records-append rs (new ∷ [])
-        ∙ ap (λ x. x ++ First name k version ∷ []) (sym (append-nil (records_lines rs))) in
+    append-nil (records_lines (rs ++ new ∷ [])) ∙ records-append rs (new ∷ [])
+    ∙ ap (λ x. x ++ First name k version ∷ []) (sym (append-nil (records_lines rs))) in
     record {
       stands = record {
         rise = rise-push 0 rs new h.rise reach;
@@ -142,8 +141,8 @@ grown-last done r now l h same stays fits grows is =
     let of = tidy-parts r (and_parts (is_tidy_record r) true each.1).0 in
     let in_range = fit-parts r (and_parts (record_fits r) true ranges.1).0 in
     let more : lines (at_record done now) ≡ lines (at_record done r) ++ l ∷ [] =
-        last-lines done now ∙ ap (λ x. records_lines done ++ x) grows ∙ sym (append_assoc (records_lines done) (record_lines r) (l ∷ []))
-        ∙ ap (λ x. x ++ l ∷ []) (sym (last-lines done r)) in
+    last-lines done now ∙ ap (λ x. records_lines done ++ x) grows ∙ sym (append_assoc (records_lines done) (record_lines r) (l ∷ []))
+    ∙ ap (λ x. x ++ l ∷ []) (sym (last-lines done r)) in
     record {
       stands = record {
         rise = ap (rise_from 0) (names-same done r now same) ∙ h.rise;

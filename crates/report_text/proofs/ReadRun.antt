@@ -1,6 +1,6 @@
 -- Reports as lists of lines: their text, and what is put together from them.
-use Rattle.std.proofs.Common.{◌≡◌, ℕ, zero, suc, ◌+◌, ◌<◌, ◌≤◌, Bool, true, false, ◌&&◌, List, [], ◌∷◌, ◌++◌, length, map, refl, ap, sym, subst, ◌∙◌, arith, append_assoc, append-nil, Option, Some, None}
-use Rattle.std.specs.Prelude.{nat_le, ◌==◌, if◌then◌else◌}
+use Rattle.std.proofs.Common.{◌≡◌, ℕ, ◌+◌, Bool, true, ◌&&◌, List, [], ◌∷◌, ◌++◌, length, map, refl, ap, sym, ◌∙◌, arith, append_assoc, append-nil, Option, Some, None}
+use Rattle.std.specs.Prelude.{nat_le, ◌==◌}
 use Rattle.std.specs.List.{list_all}
 use Rattle.std.specs.Option.{option_to_list}
 use Rattle.std.proofs.lemmas.Bool.Decides.{nat_tests}
@@ -19,7 +19,7 @@ use Rattle.report_text.specs.Lines.{first_line, callback_line, drop_line, field_
 use Rattle.report_text.specs.Ranges.{is_u32, is_u64, kind_fits, entry_fits, drop_fits, field_fits, record_fits, totals_fit}
 use Rattle.report_text.specs.Report.{callbacks_text, drops_text, fields_text, rest_text, record_text, records_text, report_text}
 use Rattle.report_text.specs.Tidy.{is_tidy_entry, are_named, may_have, is_tidy_record, tidy}
-use Rattle.report_text.specs.ReadLines.{bare, line_text, is_tidy_line, line_fits, least_name, least_from, is_conn, with_entry, with_drop, with_field, reopened, with_record, go_on, on_open, put_more, put_unless, put, start}
+use Rattle.report_text.specs.ReadLines.{bare, line_text, is_tidy_line, line_fits, least_name, least_from, is_conn, with_entry, with_drop, with_field, reopened, with_record, put, start}
 use Rattle.report_text.proofs.ReadNumbers.{and_parts}
 use Rattle.report_text.proofs.ReadFits.{both}
 
@@ -335,7 +335,7 @@ told-from done last (r ∷ rs) t rise all =
     record {
       taker = more.taker;
       is = ap (run (Some (record { done = done; last = last; totals = None }))) (append_assoc (record_lines r) (records_lines rs) (Last t ∷ []))
-      ∙ run-record done last r (lines_of rs (Some t)) a.0 b.0 ∙ more.is;
+          ∙ run-record done last r (lines_of rs (Some t)) a.0 b.0 ∙ more.is;
       records = more.records ∙ append_assoc (done ++ option_to_list last) (r ∷ []) rs;
       totals = more.totals;
     }

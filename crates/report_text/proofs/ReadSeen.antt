@@ -1,11 +1,11 @@
 -- What is written is read: reasons, bytes and what a callback saw.
-use Rattle.std.proofs.Common.{◌≡◌, ℕ, zero, suc, ◌+◌, ◌-◌, ◌*◌, ◌/◌, ◌%◌, ◌^◌, ◌<◌, ◌≤◌, Bool, true, false, not, ◌&&◌, List, [], ◌∷◌, ◌++◌, length, take, drop, get_or, refl, ap, sym, subst, ◌∙◌, arith, append_assoc, codes, Ok, length-append}
-use Rattle.std.specs.Prelude.{nat_lt, nat_le, slice_index, ◌==◌}
+use Rattle.std.proofs.Common.{◌≡◌, ℕ, zero, suc, ◌/◌, ◌%◌, ◌^◌, ◌<◌, ◌≤◌, Bool, true, false, not, ◌&&◌, List, [], ◌∷◌, ◌++◌, length, drop, get_or, refl, ap, ◌∙◌, arith, append_assoc, codes, length-append}
+use Rattle.std.specs.Prelude.{nat_lt, slice_index}
 use Rattle.std.specs.Fmt.{decimal}
 use Rattle.std.specs.List.{list_all}
 use Rattle.std.proofs.lemmas.List.Sums.{AllPass-from_list_all}
 use Rattle.std.proofs.lemmas.Bool.Decides.{nat_tests}
-use Rattle.hex.specs.Hex.{encode_with, encode_lower, lower_digits, decode_of, IsBytes}
+use Rattle.hex.specs.Hex.{encode_with, lower_digits, decode_of, IsBytes}
 use Rattle.hex.proofs.HexLemmas.{decode_of-encode_lower}
 use Rattle.app_api.specs.declared.entry.Seen.{Seen}
 use Rattle.app_api.specs.declared.entry.Seen.TheVariants.{Nothing, Next, At}
@@ -13,8 +13,8 @@ use Rattle.app_api.specs.declared.reaction.Reason.{Reason}
 use Rattle.app_api.specs.declared.reaction.Reason.TheVariants.{Reg, Rule}
 use Rattle.report_text.specs.Words.{bytes_text, piece_text, pieces_text, seen_text, reason_text}
 use Rattle.report_text.specs.Ranges.{is_u8, is_u64, are_bytes, reason_fits, seen_fits}
-use Rattle.report_text.specs.ReadWords.{is_mark, first_word, after_word, skip, decimal_of, reason_of, decoded, bytes_of, pieces_of, seen_of}
-use Rattle.report_text.proofs.ReadNumbers.{plain, marked, and_parts, not_true, after-word, first-word, plain-decimal, decimal_of-decimal}
+use Rattle.report_text.specs.ReadWords.{is_mark, decimal_of, reason_of, decoded, bytes_of, pieces_of, seen_of}
+use Rattle.report_text.proofs.ReadNumbers.{plain, marked, and_parts, not_true, first-word, plain-decimal, decimal_of-decimal}
 use Rattle.report_text.proofs.ReadLoops.{pieces_of-none, pieces_of-suc}
 use Rattle.report_text.proofs.ReadParts.{skip-on, skip-zero, small-read}
 

@@ -9,8 +9,8 @@ pub mod tidy;
 mod words;
 pub mod write;
 
-pub use record::{Record, RecordKind, RecordList, Totals};
 pub use read::{ReadBack, read_report};
+pub use record::{Record, RecordKind, RecordList, Totals};
 pub use tidy::is_tidy;
 pub use write::{TextError, write_report, write_totals};
 

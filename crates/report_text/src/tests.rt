@@ -11,6 +11,8 @@ use packet_views::Class;
 use std::alloc::{AllocError, Global};
 use std::test::Fail;
 
+mod reading;
+
 const OVER_IPV4: RecordKind = RecordKind::Conn {
     client: Endpoint::V4 {
         addr: 0x0a00_0001,

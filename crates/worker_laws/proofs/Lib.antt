@@ -13,3 +13,4 @@ mod Composed
 mod Lowest
 mod Merged
 mod Reported
+mod Streamed

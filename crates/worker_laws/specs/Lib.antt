@@ -10,3 +10,4 @@ pub mod Histories
 pub mod Stamps
 pub mod Merge
 pub mod Queues
+pub mod Streamed

@@ -1,11 +1,12 @@
-//! Laws that join lanes: what several lanes make of their shares of a capture's packets, each with its own versions, is what
-//! one run makes of all packets under one list of versions. They are said of records by their packets, whatever comes of
-//! these: each law holds for every way to tell from a connection's version and packets whether it is over.
+//! Laws that join lanes: what several lanes make of their shares of a capture's packets, each with its own versions, is
+//! what one run makes of all packets under one list of versions. They are said of records by their packets, whatever
+//! comes of these: each law holds for every way to tell from a connection's version and packets whether it is over.
 #![tactic(auto)]
 
 pub mod counts;
 mod merging;
 pub mod shares;
+pub mod streaming;
 #[cfg(test)]
 mod tests;
 pub mod verdicts;

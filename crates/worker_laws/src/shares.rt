@@ -25,29 +25,35 @@ pub fn records_are_their_packets()
         → lane_records app control_at ps ≡ map (with_history app control_at) (records (over_by app control_at) ps) }
 {}
 
-/// Where two ways to give versions agree on the packets of a lane's share, what the share alone makes under the one is its
-/// part of what all packets make under the other: its records, and the verdicts of its packets.
+/// Where two ways to give versions agree on the packets of a lane's share, what the share alone makes under the one is
+/// its part of what all packets make under the other: its records, and the verdicts of its packets.
 pub fn a_share_makes_its_part()
-    ensures records { (over : ℕ → List Arrival → Bool) (lane : EndpointPair → ℕ) (l : ℕ) (u v : ℕ → ℕ) (ps : List Arrival)
+    ensures records { (over : ℕ → List Arrival → Bool) (lane : EndpointPair → ℕ) (l : ℕ) (u v : ℕ → ℕ)
+        (ps : List Arrival)
         → All (λ a. u a.number ≡ v a.number) (share lane l ps)
         → records over (versioned u (share lane l ps)) ≡ part lane l (records over (versioned v ps)) }
-    ensures verdicts { (over : ℕ → List Arrival → Bool) (judge : ℕ → List Arrival → Arrival → Verdict) (lane : EndpointPair → ℕ) (l : ℕ)
+    ensures verdicts { (over : ℕ → List Arrival → Bool) (judge : ℕ → List Arrival → Arrival → Verdict)
+        (lane : EndpointPair → ℕ) (l : ℕ)
         (u v : ℕ → ℕ) (ps : List Arrival) → All (λ a. u a.number ≡ v a.number) (share lane l ps)
         → judged over judge (versioned u (share lane l ps)) ≡ judged_part lane l (judged over judge (versioned v ps)) }
-    ensures histories { (app : Meaning) (control_at : ℕ → ControlState) (lane : EndpointPair → ℕ) (l : ℕ) (u v : ℕ → ℕ) (ps : List Arrival)
+    ensures histories { (app : Meaning) (control_at : ℕ → ControlState) (lane : EndpointPair → ℕ) (l : ℕ) (u v : ℕ → ℕ)
+        (ps : List Arrival)
         → All (λ a. u a.number ≡ v a.number) (share lane l ps)
         → lane_records app control_at (versioned u (share lane l ps))
         ≡ filter (λ r. lane_of lane r.first.sight == l) (lane_records app control_at (versioned v ps)) }
 {}
 
-/// Whatever versions lanes have for the packets of their shares, there is one list of versions under which the part of each
-/// lane, of all records and of all verdicts, is what that lane made.
+/// Whatever versions lanes have for the packets of their shares, there is one list of versions under which the part of
+/// each lane, of all records and of all verdicts, is what that lane made.
 pub fn lanes_make_one_run()
-    ensures list { (over : ℕ → List Arrival → Bool) (lane : EndpointPair → ℕ) (packets : List Arrival) (parts : ℕ → List VersionedPacket)
-        → ((l : ℕ) → arrivals_of (parts l) ≡ share lane l packets) → (vs : List ℕ) × AreRuns over lane packets parts vs }
+    ensures list { (over : ℕ → List Arrival → Bool) (lane : EndpointPair → ℕ) (packets : List Arrival)
+        (parts : ℕ → List VersionedPacket)
+        → ((l : ℕ) → arrivals_of (parts l) ≡ share lane l packets) → (vs : List ℕ)
+        × AreRuns over lane packets parts vs }
 {}
 
-/// Where the numbers of packets rise, so do the names of their records; so records of different lanes have different names.
+/// Where the numbers of packets rise, so do the names of their records; so records of different lanes have different
+/// names.
 pub fn names_differ()
     ensures rise { (over : ℕ → List Arrival → Bool) (ps : List VersionedPacket) → Rises (map (λ p. p.arrival.number) ps)
         → Rises (map name_of (records over ps)) }
@@ -66,12 +72,15 @@ pub fn parts_make_the_whole()
 /// What a report shows of the lanes' records can be merged, and merged it is what the report shows of one run over all
 /// packets. `shown` makes of a record what the report shows of it, under its name.
 pub fn merged_lanes_are_one_run()
-    ensures mergeable { (over : ℕ → List Arrival → Bool) (lane : EndpointPair → ℕ) (packets : List Arrival) (parts : ℕ → List VersionedPacket)
+    ensures mergeable { (over : ℕ → List Arrival → Bool) (lane : EndpointPair → ℕ) (packets : List Arrival)
+        (parts : ℕ → List VersionedPacket)
         (vs : List ℕ) (shown : Members → Record) (lists : List (List Record)) → AreRuns over lane packets parts vs
         → Rises (map (λ a. a.number) packets) → ((m : Members) → (shown m).name ≡ name_of m)
         → ((l : ℕ) → list_at lists l ≡ map shown (records over (parts l))) → AreOfLanes (lane_at lane packets) lists }
-    ensures merged { (over : ℕ → List Arrival → Bool) (lane : EndpointPair → ℕ) (packets : List Arrival) (parts : ℕ → List VersionedPacket)
-        (vs : List ℕ) (shown : Members → Record) (lists : List (List Record)) (merged : List Record) → AreRuns over lane packets parts vs
+    ensures merged { (over : ℕ → List Arrival → Bool) (lane : EndpointPair → ℕ) (packets : List Arrival)
+        (parts : ℕ → List VersionedPacket)
+        (vs : List ℕ) (shown : Members → Record) (lists : List (List Record)) (merged : List Record)
+        → AreRuns over lane packets parts vs
         → Rises (map (λ a. a.number) packets) → ((m : Members) → (shown m).name ≡ name_of m)
         → ((l : ℕ) → list_at lists l ≡ map shown (records over (parts l))) → IsMerge (lane_at lane packets) lists merged
         → merged ≡ map shown (records_under over vs packets) }

@@ -10,12 +10,14 @@ ghost use Rattle.worker_laws.specs.Named.{named};
 ghost use Rattle.worker_laws.specs.Judged.{judged, forwarded};
 ghost use Rattle.worker_laws.specs.Runs.{judged_part, AreRuns};
 
-/// A packet's verdict depends on the packets up to it alone: more packets behind change none. So what a front of the packets
-/// leaves is a front of what all leave.
+/// A packet's verdict depends on the packets up to it alone: more packets behind change none. So what a front of the
+/// packets leaves is a front of what all leave.
 pub fn verdicts_stay()
-    ensures verdicts { (over : ℕ → List Arrival → Bool) (judge : ℕ → List Arrival → Arrival → Verdict) (ps more : List VersionedPacket)
+    ensures verdicts { (over : ℕ → List Arrival → Bool) (judge : ℕ → List Arrival → Arrival → Verdict)
+        (ps more : List VersionedPacket)
         → IsPrefix (judged over judge ps) (judged over judge (ps ++ more)) }
-    ensures named { (over : ℕ → List Arrival → Bool) (judge : ℕ → List Arrival → Arrival → Verdict) (vs : List ℕ) (ps more : List Arrival)
+    ensures named { (over : ℕ → List Arrival → Bool) (judge : ℕ → List Arrival → Arrival → Verdict) (vs : List ℕ)
+        (ps more : List Arrival)
         → IsPrefix (judged over judge (named over vs ps)) (judged over judge (named over vs (ps ++ more))) }
     ensures bytes { (bytes : Arrival → List ℕ) (some all : List (Arrival × Verdict)) → IsPrefix some all
         → IsPrefix (forwarded bytes some) (forwarded bytes all) }
@@ -23,7 +25,8 @@ pub fn verdicts_stay()
 
 /// The verdicts of a front of a lane's share are a front of the lane's verdicts.
 pub fn a_front_of_a_lane()
-    ensures verdicts { (over : ℕ → List Arrival → Bool) (judge : ℕ → List Arrival → Arrival → Verdict) (lane : EndpointPair → ℕ)
+    ensures verdicts { (over : ℕ → List Arrival → Bool) (judge : ℕ → List Arrival → Arrival → Verdict)
+        (lane : EndpointPair → ℕ)
         (packets : List Arrival) (parts more : ℕ → List VersionedPacket) (vs : List ℕ) (l : ℕ)
         → AreRuns over lane packets (λ k. parts k ++ more k) vs
         → IsPrefix (judged over judge (parts l)) (judged_part lane l (judged over judge (named over vs packets))) }

@@ -20,48 +20,57 @@ ghost use Rattle.worker_laws.specs.Stamps.{floor, ceil, named_packets, is_live};
 pub fn versions_name_the_records()
     ensures records { (over : ℕ → List Arrival → Bool) (ps : List VersionedPacket)
         → records_under over (versions_of (records over ps)) (arrivals_of ps) ≡ records over ps }
-    ensures verdicts { (over : ℕ → List Arrival → Bool) (judge : ℕ → List Arrival → Arrival → Verdict) (ps : List VersionedPacket)
+    ensures verdicts { (over : ℕ → List Arrival → Bool) (judge : ℕ → List Arrival → Arrival → Verdict)
+        (ps : List VersionedPacket)
         → judged over judge (named over (versions_of (records over ps)) (arrivals_of ps)) ≡ judged over judge ps }
 {}
 
 /// Where each lane has, for each packet of its share, a version from the packet's floor to its ceiling, and these never
 /// fall along the lane, the list of all records' versions is allowed.
 pub fn lanes_give_an_allowed_list()
-    ensures list { (least most : ℕ → ℕ) (over : ℕ → List Arrival → Bool) (lane : EndpointPair → ℕ) (packets : List Arrival)
+    ensures list { (least most : ℕ → ℕ) (over : ℕ → List Arrival → Bool) (lane : EndpointPair → ℕ)
+        (packets : List Arrival)
         (parts : ℕ → List VersionedPacket) → ((l : ℕ) → arrivals_of (parts l) ≡ share lane l packets)
         → ((l : ℕ) → AreStamped least most (parts l))
         → (vs : List ℕ) × IsAllowed least most over lane packets vs × AreRuns over lane packets parts vs }
 {}
 
-/// Lanes that ran only fronts of their shares: with the ceiling for each packet that no lane has run, the versions so far go
-/// on to an allowed list.
+/// Lanes that ran only fronts of their shares: with the ceiling for each packet that no lane has run, the versions so
+/// far go on to an allowed list.
 pub fn fronts_go_on_to_an_allowed_list()
-    ensures list { (least most : ℕ → ℕ) (over : ℕ → List Arrival → Bool) (lane : EndpointPair → ℕ) (packets : List Arrival)
+    ensures list { (least most : ℕ → ℕ) (over : ℕ → List Arrival → Bool) (lane : EndpointPair → ℕ)
+        (packets : List Arrival)
         (parts : ℕ → List VersionedPacket) (rest : ℕ → List Arrival)
         → ((n : ℕ) → least n ≤ most n) → ((n m : ℕ) → n ≤ m → most n ≤ most m) → Rises (map (λ a. a.number) packets)
-        → ((l : ℕ) → arrivals_of (parts l) ++ rest l ≡ share lane l packets) → ((l : ℕ) → AreStamped least most (parts l))
+        → ((l : ℕ) → arrivals_of (parts l) ++ rest l ≡ share lane l packets)
+        → ((l : ℕ) → AreStamped least most (parts l))
         → (vs : List ℕ) × IsAllowed least most over lane packets vs
         × AreRuns over lane packets (λ l. parts l ++ versioned most (rest l)) vs }
-    ensures ceilings { (least most : ℕ → ℕ) (over : ℕ → List Arrival → Bool) (lane : EndpointPair → ℕ) (packets : List Arrival)
+    ensures ceilings { (least most : ℕ → ℕ) (over : ℕ → List Arrival → Bool) (lane : EndpointPair → ℕ)
+        (packets : List Arrival)
         → ((n : ℕ) → least n ≤ most n) → ((n m : ℕ) → n ≤ m → most n ≤ most m) → Rises (map (λ a. a.number) packets)
         → IsAllowed least most over lane packets (versions_of (records over (versioned most packets))) }
 {}
 
 /// Where each packet's floor is its ceiling, one list of versions is allowed, whatever the lanes: that of the ceilings.
 pub fn one_list_is_allowed()
-    ensures records { (least most : ℕ → ℕ) (over : ℕ → List Arrival → Bool) (lane : EndpointPair → ℕ) (packets : List Arrival) (vs : List ℕ)
+    ensures records { (least most : ℕ → ℕ) (over : ℕ → List Arrival → Bool) (lane : EndpointPair → ℕ)
+        (packets : List Arrival) (vs : List ℕ)
         → ((n : ℕ) → least n ≡ most n) → IsAllowed least most over lane packets vs
         → records_under over vs packets ≡ records over (versioned most packets) }
-    ensures list { (least most : ℕ → ℕ) (over : ℕ → List Arrival → Bool) (lane : EndpointPair → ℕ) (packets : List Arrival) (vs : List ℕ)
+    ensures list { (least most : ℕ → ℕ) (over : ℕ → List Arrival → Bool) (lane : EndpointPair → ℕ)
+        (packets : List Arrival) (vs : List ℕ)
         → ((n : ℕ) → least n ≡ most n) → IsAllowed least most over lane packets vs
         → vs ≡ versions_of (records over (versioned most packets)) }
 {}
 
-/// Floors and ceilings of stamped commands, where the packets that stamps name never fall: no floor lies above its ceiling,
-/// ceilings never fall, and where no command is live each floor is its ceiling.
+/// Floors and ceilings of stamped commands, where the packets that stamps name never fall: no floor lies above its
+/// ceiling, ceilings never fall, and where no command is live each floor is its ceiling.
 pub fn stamps_give_floors_and_ceilings()
-    ensures within { (stamps : List Stamp) (n : ℕ) → NeverFalls (named_packets stamps) → floor stamps n ≤ ceil stamps n }
+    ensures within { (stamps : List Stamp) (n : ℕ) → NeverFalls (named_packets stamps)
+        → floor stamps n ≤ ceil stamps n }
     ensures rises { (stamps : List Stamp) (n m : ℕ) → n ≤ m → ceil stamps n ≤ ceil stamps m }
-    ensures equal { (stamps : List Stamp) (n : ℕ) → NeverFalls (named_packets stamps) → All (λ s. is_live s ≡ false) stamps
+    ensures equal { (stamps : List Stamp) (n : ℕ) → NeverFalls (named_packets stamps)
+        → All (λ s. is_live s ≡ false) stamps
         → floor stamps n ≡ ceil stamps n }
 {}

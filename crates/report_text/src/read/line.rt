@@ -4,9 +4,7 @@ ghost use Rattle.std.specs.Prelude.{◌≡◌, ◌++◌, ◌%◌, ◌^◌, IfOk,
 ghost use Rattle.report_text.specs.ReadWords.{first_word, skip, decimal_of};
 ghost use Rattle.report_text.specs.ReadLines.{bare, line_text, is_tidy_line, entry_of, totals_of, orphan_of, server_at, conn_of, line_of};
 
-use super::parts::{
-    after_endpoint, class_of, endpoint_of, event_of, hook_of, reason_of, seen_of,
-};
+use super::parts::{after_endpoint, class_of, endpoint_of, event_of, hook_of, reason_of, seen_of};
 use super::words::{decimal, decimal_u8, decimal_u32, first, first_word, second, skip};
 use crate::lines::{push_callback, push_drop, push_field, push_first_line, push_totals};
 use crate::record::{Record, RecordKind, Totals};

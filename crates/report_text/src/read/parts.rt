@@ -141,14 +141,22 @@ fn is_v6(text: &[u8]) -> bool
 pub(super) fn endpoint_of(text: &[u8]) -> Endpoint
     ensures { result ≡ endpoint_of text.now }
 {
-    if is_v6(text) { v6_of(text) } else { v4_of(text) }
+    if is_v6(text) {
+        v6_of(text)
+    } else {
+        v4_of(text)
+    }
 }
 
 // The text behind an endpoint.
 pub(super) fn after_endpoint(text: &[u8]) -> &[u8]
     ensures { result.now ≡ after_endpoint text.now }
 {
-    if is_v6(text) { skip(text, 11) } else { skip(text, 5) }
+    if is_v6(text) {
+        skip(text, 11)
+    } else {
+        skip(text, 5)
+    }
 }
 
 // The bytes of pairs of digits. A dash is no such pair, and so no bytes.

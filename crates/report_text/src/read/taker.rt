@@ -145,7 +145,11 @@ impl Taker {
             return Ok(None);
         }
         match line {
-            Line::First { name, kind, version } => {
+            Line::First {
+                name,
+                kind,
+                version,
+            } => {
                 if !name_rises(&last, name) {
                     return Ok(None);
                 }
@@ -155,7 +159,11 @@ impl Taker {
                     totals: None,
                 }))
             }
-            Line::Last(totals) => Ok(Some(Taker { done, last, totals: Some(totals) })),
+            Line::Last(totals) => Ok(Some(Taker {
+                done,
+                last,
+                totals: Some(totals),
+            })),
             line => match last {
                 None => Ok(None),
                 Some(of) => go_on(done, of, line),

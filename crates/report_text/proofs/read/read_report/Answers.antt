@@ -1,11 +1,9 @@
-use Rattle.std.proofs.Common.{◌≡◌, ◌∙◌, ◌+◌, ◌≤◌, ◌<◌, ℕ, List, length, take, drop, sym, subst, ap, arith, length-drop, Some, None}
+use Rattle.std.proofs.Common.{◌≡◌, ◌∙◌, ◌+◌, drop, sym, subst, ap, arith, length-drop, Some}
 use Rattle.std.specs.Prelude.{◌==◌}
 use Rattle.std.specs.List.{position}
-use Rattle.report_text.specs.declared.record.Record.{Record}
-use Rattle.report_text.specs.declared.record.Totals.{Totals}
-use Rattle.report_text.specs.Reports.{IsReport, NoReportAt}
-use Rattle.report_text.specs.ReadLines.{taken, finished}
-use Rattle.report_text.proofs.ReadFault.{Reached, rest-all, line-taken, newline-at, reached-start, reached-more, exit-line, exit-part, exit-end, exit-whole, one-report}
+use Rattle.report_text.specs.Reports.{NoReportAt}
+use Rattle.report_text.specs.ReadLines.{taken}
+use Rattle.report_text.proofs.ReadFault.{Reached, rest-all, line-taken, newline-at, reached-more, exit-line, exit-part, exit-end, exit-whole, one-report}
 use Rattle.report_text.proofs.read.read_report.Goals as goal
 
 pub returns-in-None-clause-none : goal.returns-in-None-clause-none

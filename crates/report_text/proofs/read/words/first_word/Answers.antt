@@ -1,4 +1,4 @@
-use Rattle.std.proofs.Common.{◌∙◌, sym, ap, ◌++◌, take, drop, append-nil}
+use Rattle.std.proofs.Common.{◌∙◌, sym, ap, ◌++◌, take, append-nil}
 use Rattle.std.proofs.lemmas.List.{take_all, drop_all}
 use Rattle.report_text.specs.ReadWords.{first_word}
 use Rattle.report_text.proofs.ReadLoops.{first_word-more, first_word-at_mark, first_word-none}

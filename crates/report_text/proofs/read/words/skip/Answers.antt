@@ -1,5 +1,5 @@
-use Rattle.std.proofs.Common.{◌∙◌, ap, refl}
-use Rattle.report_text.specs.ReadWords.{skip, after_word}
+use Rattle.std.proofs.Common.{◌∙◌, ap}
+use Rattle.report_text.specs.ReadWords.{after_word}
 use Rattle.report_text.proofs.ReadLoops.{skip-more, skip-none}
 use Rattle.report_text.proofs.read.words.skip.Goals as goal
 
