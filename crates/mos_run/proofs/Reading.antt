@@ -1,8 +1,11 @@
 -- The packets of a capture as a run of a lane, one frame after the other.
 use Rattle.std.proofs.Common.{◌≡◌, ◌≢◌, ℕ, zero, suc, ◌+◌, ◌<◌, ◌≤◌, Bool, true, false, Option, Some, None, List, [], ◌∷◌, ◌++◌, length, take, map, refl, sym, ap, subst, ◌∙◌, arith, add-zero}
-use Rattle.std.proofs.lemmas.List.{map-append}
+use Rattle.std.proofs.lemmas.List.{map-append, length-map}
 use Rattle.std.proofs.lemmas.Grind.{common_steps}
-use Rattle.std.specs.Prelude.{nat_lt, nat_le}
+use Rattle.std.specs.Prelude.{nat_lt, nat_le, if◌then◌else◌, Result, Ok, Err}
+use Rattle.pcap_source.specs.Capture.{tail}
+use Rattle.report_text.specs.declared.record.Record.{Record}
+use Rattle.lane_core.specs.declared.errors.LaneError.TheVariants.{NoMemory, Heavy}
 use Rattle.app_api.specs.App.{Meaning}
 use Rattle.app_api.specs.Log.{log, log-lawful}
 use Rattle.app_api.specs.Numbers.{rise_from}
@@ -15,11 +18,14 @@ use Rattle.lane_core.specs.Sight.{Arrival, arrival_of, arrivals}
 use Rattle.lane_core.specs.Records.{VersionedPacket, records, records_from, versioned}
 use Rattle.lane_core.specs.Run.{LaneEvent, Arrived, commands_of, versioned_from, lane_run}
 use Rattle.report_text.specs.Tidy.{tidy}
-use Rattle.lane_core.specs.Shown.{record_of, total}
-use Rattle.lane_core.specs.Lane.{IsHeavy, IsAfter, with_event}
+use Rattle.lane_core.specs.Shown.{record_of, callbacks_of, drops_of, weight, total}
+use Rattle.lane_core.specs.Lane.{IsHeavy, IsAfter, IsEnd, with_event}
 use Rattle.lane_core.specs.Laws.{AreEvents, HeavyStays, RecordsAreTidy, rise}
 use Rattle.mos_run.specs.Report.{control_at, records_of}
-use Rattle.mos_run.specs.Reading.{IsRead, run_of}
+use Rattle.mos_run.specs.declared.refusal.RunError.TheVariants as Run
+use Rattle.mos_run.specs.Refusal.{lane_refusal}
+use Rattle.mos_run.specs.Outcome.{followed_to, report_of}
+use Rattle.mos_run.specs.Reading.{IsRead, EndsWith, run_of}
 
 -- ---- one frame more
 
@@ -118,3 +124,68 @@ none_read failed stands good first = record {
   light = λ none heavy. light_at_first log heavy;
   heavy = λ bad. absurd (bad good);
 }
+
+-- ---- a lane that took a packet, or failed at it
+
+-- a call that went well was made of a lane that hadn't failed
+pub was_good : {V : Type 0} (failed : Option LaneError) (result : Result V LaneError) (v : V) → ((e : LaneError) → failed ≡ Some e → result ≡ Err e) → result ≡ Ok v → failed ≡ None
+was_good None result v before ok = refl
+was_good (Some e) result v before ok = absurd (let bad = before e refl in cc)
+
+pub some_none : (failed : Option LaneError) (e : LaneError) → failed ≡ Some e → failed ≢ None
+some_none failed e is none = cc
+
+pub heavy_more : {L : Type 0} (failed_of : L → Option LaneError) (stands_of : L → List LaneEvent → Type 0) (old new : L) (app : Meaning) (frames : List Captured) (frame : Captured) (number : ℕ) → HeavyStays → length frames ≡ number
+    → (failed_of old ≡ None → IsRead app (failed_of new) (stands_of new) (frames ++ frame ∷ [])) → ((e : LaneError) → failed_of old ≡ Some e → new ≡ old)
+    → IsRead app (failed_of old) (stands_of old) frames → (o : Option LaneError) → failed_of old ≡ o → IsRead app (failed_of new) (stands_of new) (frames ++ frame ∷ [])
+heavy_more failed_of stands_of old new app frames frame number law count good bad read None is = good is
+heavy_more failed_of stands_of old new app frames frame number law count good bad read (Some e) is =
+    subst (λ l. IsRead app (failed_of l) (stands_of l) (frames ++ frame ∷ [])) (sym (bad e is))
+    (still_heavy law app (failed_of old) (stands_of old) frames frame number count (some_none (failed_of old) e is) read)
+
+-- ---- the end
+
+over_limit : (n : ℕ) → 134217728 < n → nat_lt 134217728 n ≡ true
+over_limit n over = grind (arith, common_steps)
+
+under_limit : (n : ℕ) → (134217728 < n → ⊥) → nat_lt 134217728 n ≡ false
+under_limit n under = by (nat_lt 134217728 n) refl
+  where
+    by : (b : Bool) → nat_lt 134217728 n ≡ b → b ≡ false
+    by true is = absurd (under (grind (arith, common_steps)))
+    by false is = refl
+
+-- a lane that answers why it failed
+pub ends_refused : (failed : Option LaneError) (stands : List LaneEvent → Type 0) (frames : List Captured) (k : ℕ) (e : LaneError) → IsRead log failed stands frames → (failed ≡ None → e ≡ NoMemory)
+    → EndsWith (followed_to frames (tail k)) (Err (lane_refusal e))
+ends_refused failed stands frames k NoMemory read only = tt
+ends_refused failed stands frames k Heavy read only =
+    let bad : failed ≢ None = λ none. let is = only none in cc in
+    let heavy = subst (λ rs. 134217728 < weight rs) (run_records frames) (read.heavy bad) in
+    ap (λ b. if b then Err Run.Heavy else Ok (report_of (records_of (λ _. 0) frames) (length frames) k)) (over_limit (weight (records_of (λ _. 0) frames)) heavy)
+
+-- a lane whose records are reported
+pub ends_reported : (failed : Option LaneError) (stands : List LaneEvent → Type 0) (frames : List Captured) (keep : Bool) (app : Meaning) (records : List Record) (versions : List (ℕ × ℕ)) (callbacks drops packets k len : ℕ)
+    → IsRead log failed stands frames → failed ≡ None → keep ≡ true → app ≡ log → IsEnd keep app (lane_run app (run_of frames)) records versions callbacks drops → length frames ≡ packets → len ≡ length records
+    → followed_to frames (tail k) ≡ Ok (record { records = records; totals = record { packets = packets; records = len; callbacks = callbacks; drops = drops; tail = k } })
+ends_reported failed stands frames keep app records versions callbacks drops packets k len read good keeps is_log end count is_len =
+    let rs = records_of (λ _. 0) frames in
+    let one = subst (λ a. IsEnd keep a (lane_run a (run_of frames)) records versions callbacks drops) is_log end in
+    let two = subst (λ b. IsEnd b log (lane_run log (run_of frames)) records versions callbacks drops) keeps one in
+    let is : IsEnd true log rs records versions callbacks drops = subst (λ so_far. IsEnd true log so_far records versions callbacks drops) (run_records frames) two in
+    let light = under_limit (weight rs) (λ over. read.light good (subst (λ so_far. 134217728 < weight so_far) (sym (run_records frames)) over)) in
+    let lengths : length rs ≡ len = sym (is_len ∙ ap length is.records_are ∙ length-map rs (record_of log)) in
+    ap (λ b. if b then Err Run.Heavy else Ok (report_of rs (length frames) k)) light
+    ∙ ap (λ n. Ok (record { records = map (record_of log) rs; totals = record { packets = n; records = length rs; callbacks = callbacks_of rs; drops = drops_of rs; tail = k } })) count
+    ∙ ap (λ n. Ok (record { records = map (record_of log) rs; totals = record { packets = packets; records = n; callbacks = callbacks_of rs; drops = drops_of rs; tail = k } })) lengths
+    ∙ ap (λ n. Ok (record { records = map (record_of log) rs; totals = record { packets = packets; records = len; callbacks = n; drops = drops_of rs; tail = k } })) (sym is.callbacks_are)
+    ∙ ap (λ n. Ok (record { records = map (record_of log) rs; totals = record { packets = packets; records = len; callbacks = callbacks; drops = n; tail = k } })) (sym is.drops_are)
+    ∙ ap (λ l. Ok (record { records = l; totals = record { packets = packets; records = len; callbacks = callbacks; drops = drops; tail = k } })) (sym is.records_are)
+
+pub reported_tidy : RecordsAreTidy → (frames : List Captured) (keep : Bool) (app : Meaning) (records : List Record) (versions : List (ℕ × ℕ)) (callbacks drops : ℕ) → keep ≡ true → app ≡ log
+    → IsEnd keep app (lane_run app (run_of frames)) records versions callbacks drops → tidy records ≡ true
+reported_tidy law frames keep app records versions callbacks drops keeps is_log end =
+    let one = subst (λ a. IsEnd keep a (lane_run a (run_of frames)) records versions callbacks drops) is_log end in
+    let two = subst (λ b. IsEnd b log (lane_run log (run_of frames)) records versions callbacks drops) keeps one in
+    let is : IsEnd true log (records_of (λ _. 0) frames) records versions callbacks drops = subst (λ so_far. IsEnd true log so_far records versions callbacks drops) (run_records frames) two in
+    subst (λ rs. tidy rs ≡ true) (sym is.records_are) (records_tidy law frames)

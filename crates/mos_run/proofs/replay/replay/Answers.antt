@@ -6,6 +6,7 @@ use Rattle.pcap_source.specs.Capture.{tail}
 use Rattle.lane_core.specs.Lane.{IsAfter}
 use Rattle.mos_run.specs.Outcome.{followed_to}
 use Rattle.mos_run.proofs.Reading.{none_read}
+use Rattle.mos_run.proofs.Refusals.{writes_nothing, is_built, read_fault}
 use Rattle.mos_run.proofs.Replaying.{opened_replay, refused_header, step_told, replayed, ended_at, ends_as, refused_record}
 use Rattle.mos_run.proofs.replay.replay.Goals as goal
 
@@ -28,7 +29,7 @@ loop-lane-init g c = record {
     refl,
     none_read c.in_ok-lane.lane.failed _ c.in_ok-lane.ensures.failed c.in_ok-lane.ensures.stands,
     λ bytes told. opened_replay (g.S.Source.left c.args.source.now) (g.S.Source.left c.open.new.source) c.in_ok-capture.capture bytes c.in_ok-capture.ensures.gives
-    c.in_ok-capture.ensures.start.count c.in_ok-capture.ensures.start.offset told,
+        c.in_ok-capture.ensures.start.count c.in_ok-capture.ensures.start.offset told,
   );
 }
 
@@ -77,10 +78,10 @@ loop-lane-preserved g c =
         length-append read.0 (c.next.new.frame ∷ []) ∙ ap (λ n. n + 1) read.1,
         c.in_ok-take-in-Frame.ensures.reads read.0 read.1 read.2,
         λ bytes told.
-        let r = read.3 bytes told in
-        let gives = subst (λ s. NextGives c.loop-lane.capture c.next.new.self (g.S.Source.left c.loop-lane.source) (g.S.Source.left c.next.new.source) c.next.new.frame (Ok s)) c.in-Frame.is c.in_ok-next.ensures.gives in
-        let step = step_told c.loop-lane.capture c.next.new.self _ _ r.rest c.next.new.frame _ gives r.told in
-        replayed bytes _ _ c.loop-lane.capture c.next.new.self read.0 c.next.new.frame r step,
+            let r = read.3 bytes told in
+            let gives = subst (λ s. NextGives c.loop-lane.capture c.next.new.self (g.S.Source.left c.loop-lane.source) (g.S.Source.left c.next.new.source) c.next.new.frame (Ok s)) c.in-Frame.is c.in_ok-next.ensures.gives in
+            let step = step_told c.loop-lane.capture c.next.new.self _ _ r.rest c.next.new.frame _ gives r.told in
+            replayed bytes _ _ c.loop-lane.capture c.next.new.self read.0 c.next.new.frame r step,
       );
     }
 
@@ -89,3 +90,23 @@ returns-in-Tail-clause-tidy g c = let read = c.loop-lane.invariant.read in c.rep
 
 pub returns-in-End-clause-tidy : goal.returns-in-End-clause-tidy
 returns-in-End-clause-tidy g c = let read = c.loop-lane.invariant.read in c.report-in-End.ensures.tidy read.0 read.2
+
+pub returns-in_err-next-clause-cause : goal.returns-in_err-next-clause-cause
+returns-in_err-next-clause-cause g c =
+    let p = err_from_is_err_and c.from_residual-in_err-next.result c.from_residual-in_err-next.ensures.1 in
+    read_fault _ _ _ c.in_err-next.field-0.0 p.0 c.from_residual-in_err-next.result c.next.result p.1 p.2 c.in_err-next.was c.loop-lane.invariant.faults c.next.ensures.cause
+
+pub returns-in_err-next-clause-writes_nothing : goal.returns-in_err-next-clause-writes_nothing
+returns-in_err-next-clause-writes_nothing g c =
+    let p = err_from_is_err_and c.from_residual-in_err-next.result c.from_residual-in_err-next.ensures.1 in
+    writes_nothing c.in_err-next.field-0.0 p.0 c.from_residual-in_err-next.result p.1 p.2
+
+pub returns-in_err-next-clause-built : goal.returns-in_err-next-clause-built
+returns-in_err-next-clause-built g c =
+    let p = err_from_is_err_and c.from_residual-in_err-next.result c.from_residual-in_err-next.ensures.1 in
+    is_built c.in_err-next.field-0.0 p.0 c.from_residual-in_err-next.result p.1 p.2
+
+pub returns-in_err-take-in-Frame-clause-gives : goal.returns-in_err-take-in-Frame-clause-gives
+returns-in_err-take-in-Frame-clause-gives g c = λ bytes told.
+    let p = err_from_is_err_and c.from_residual-in_err-take-in-Frame.result c.from_residual-in_err-take-in-Frame.ensures.1 in
+    rw (p.1, p.2) tt

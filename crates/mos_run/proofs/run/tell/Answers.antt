@@ -1,9 +1,13 @@
 use Rattle.mos_run.specs.Refusal.{refusal_text}
 use Rattle.mos_run.proofs.run.tell.Goals as goal
 
+pub returns-in-Heavy-clause-text : goal.returns-in-Heavy-clause-text
+unfolding refusal_text
+returns-in-Heavy-clause-text g c = rw c.in-Heavy.is c.write_text.ensures.text
+
 pub returns-in-ReadFault-clause-text : goal.returns-in-ReadFault-clause-text
 unfolding refusal_text
-returns-in-ReadFault-clause-text g c = rw c.in-ReadFault.is c.write_text.ensures.text
+returns-in-ReadFault-clause-text g c = rw c.in-ReadFault.is c.write_text-in-ReadFault.ensures.text
 
 pub returns-in-WriteFault-clause-text : goal.returns-in-WriteFault-clause-text
 unfolding refusal_text
