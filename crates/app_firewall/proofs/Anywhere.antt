@@ -1,5 +1,5 @@
 -- The rule that matches anywhere.
-use Rattle.std.proofs.Common.{◌≡◌, ℕ, ◌/◌, ◌^◌, ◌<◌, ◌≤◌, ◌&&◌, Bool, true, false, cond, eqb, ltb, leb, List, [], ◌∷◌, Some, None, find, refl, ap, sym, ◌∙◌, arith, eq-eqb}
+use Rattle.std.proofs.Common.{◌≡◌, ℕ, ◌/◌, ◌^◌, ◌<◌, ◌&&◌, Bool, true, false, cond, eqb, ltb, leb, [], ◌∷◌, Some, None, refl, ap, arith, eq-eqb}
 use Rattle.std.proofs.lemmas.Bool.{and_parts, and_from, ltb-true, le-leb}
 use Rattle.native_filters.specs.Native.{in_net}
 use Rattle.native_filters.specs.declared.facts.Facts.{Facts}
@@ -7,8 +7,8 @@ use Rattle.app_api.specs.declared.app.Call.{Call}
 use Rattle.app_api.specs.declared.app.Tally.{Tally}
 use Rattle.app_api.specs.declared.reaction.Reaction.{Reaction}
 use Rattle.app_api.specs.Reaction.{asks_nothing}
-use Rattle.app_firewall.specs.Decision.{client_of, server_of, server_port, decided_by, decision, matches}
-use Rattle.app_firewall.specs.Firewall.{is_packet, is_refused_orphan, asked, carried_out, drops_by}
+use Rattle.app_firewall.specs.Decision.{decided_by, decision, matches}
+use Rattle.app_firewall.specs.Firewall.{is_packet, is_refused_orphan, asked}
 use Rattle.app_firewall.specs.Laws.{allow_any, is_of_headers}
 
 -- each address is in the net of length 0

@@ -1,15 +1,13 @@
 -- The firewall: which presets it has, what a call changes and asks, and how its fields are named.
-use Rattle.std.specs.Prelude.{◌≡◌, ℕ, ◌+◌, ◌%◌, ◌^◌, ◌&&◌, ◌==◌, not, Bool, true, false, if◌then◌else◌, List, [], ◌∷◌, Some, None, IsTrue, refl, codes}
+use Rattle.std.specs.Prelude.{◌≡◌, ℕ, ◌+◌, ◌%◌, ◌^◌, ◌&&◌, ◌==◌, not, Bool, true, if◌then◌else◌, List, [], ◌∷◌, Some, None, IsTrue, refl, codes}
 use Rattle.std.proofs.Common.{lit≤}
 use Rattle.std.proofs.lemmas.Bool.{false≢true}
-use Rattle.native_filters.specs.declared.facts.Hook.{Hook}
 use Rattle.native_filters.specs.declared.facts.Hook.TheVariants.{Snd, Rcv}
 use Rattle.app_api.specs.declared.app.Call.{Call}
 use Rattle.app_api.specs.declared.app.Tally.{Tally}
 use Rattle.app_api.specs.declared.reaction.Reaction.{Reaction}
 use Rattle.app_api.specs.declared.reaction.Reason.TheVariants as reason
 use Rattle.app_api.specs.declared.registration.Reg.{Reg}
-use Rattle.app_api.specs.declared.rule.Rule.{Rule}
 use Rattle.app_api.specs.App.{Meaning, IsLawful}
 use Rattle.app_api.specs.Events.{PKT_IN, ORPHAN, is_snd, is_rcv, allows_hook}
 use Rattle.app_api.specs.Reaction.{asks_nothing}

@@ -1,9 +1,7 @@
-use Rattle.std.proofs.Common.{◌≡◌, true, refl, ap, arith, ◌∷◌, [], rules, ◌<◌, ◌^◌, ℕ, eq-eqb}
-use Rattle.native_filters.specs.Native.{in_net}
-use Rattle.native_filters.specs.declared.facts.Facts.{Facts}
-use Rattle.app_firewall.specs.Decision.{matches, decision}
-use Rattle.app_firewall.specs.Laws.{allow_any, is_of_headers}
-use Rattle.app_firewall.specs.Firewall.{firewall, reaction_to}
+use Rattle.std.proofs.Common.{ap, ◌∷◌, []}
+use Rattle.app_firewall.specs.Decision.{decision}
+use Rattle.app_firewall.specs.Laws.{allow_any}
+use Rattle.app_firewall.specs.Firewall.{firewall}
 use Rattle.app_firewall.proofs.Anywhere.{allowed, passes}
 use Rattle.app_firewall.proofs.laws.allow_any_refuses_no_connection.Goals as goal
 

@@ -1,6 +1,6 @@
-use Rattle.std.proofs.Common.{◌≡◌, ◌++◌, ◌∷◌, Bool, ap, arith}
+use Rattle.std.proofs.Common.{◌≡◌, ◌++◌, ◌∷◌, ap, arith}
 use Rattle.app_firewall.specs.Decision.{decision, decided_by, matches}
-use Rattle.app_firewall.specs.Firewall.{firewall, is_packet, is_refused_orphan, counted, reaction_to, drops_by}
+use Rattle.app_firewall.specs.Firewall.{firewall, reaction_to}
 use Rattle.app_firewall.proofs.Skipped.{found, skipped, never}
 use Rattle.app_firewall.proofs.laws.covered_rule_never_decides.Goals as goal
 
