@@ -17,7 +17,8 @@ use native_filters::Facts;
 pub fn decide(rules: &[Rule], facts: &Facts) -> (bool, u8)
     requires { IsTrue (are_rules rules.now) }
     ensures decision { result ≡ decision rules.now facts.now }
-    ensures matching { 0 < result.1 → Any (λ r. IsTrue (matches facts.now r) × ((r.allow, r.number) ≡ result)) rules.now }
+    ensures matching { 0 < result.1
+        → Any (λ r. IsTrue (matches facts.now r) × ((r.allow, r.number) ≡ result)) rules.now }
     ensures least { All (λ r. IsTrue (matches facts.now r) → result.1 ≤ r.number) rules.now }
     ensures none { (result ≡ (false, 0)) ↔ All (λ r. matches facts.now r ≡ false) rules.now }
 {

@@ -1,4 +1,4 @@
-//! What the firewall's rules mean, in an administrator's words. Each law is the contract of a function that does nothing.
+//! What rules mean, in an administrator's words. Each law is the contract of a function that does nothing.
 
 ghost use Rattle.std.specs.Prelude.{◌≡◌, ℕ, ◌≢◌, false, List, [], ◌∷◌, ◌++◌, None, IsTrue, Contains};
 ghost use Rattle.native_filters.specs.declared.facts.Facts.{Facts as FactsOf};
@@ -10,8 +10,9 @@ ghost use Rattle.app_firewall.specs.Decision.{decision};
 ghost use Rattle.app_firewall.specs.Firewall.{firewall, is_refused_orphan};
 ghost use Rattle.app_firewall.specs.Laws.{allow_any, is_of_headers, Covers};
 
-/// With the single rule `allow any any any` no reaction of the firewall asks a drop, whatever was called before, but
-/// for that to an orphan, which no rule speaks of.
+/// With the single rule `allow any any any` no reaction of the firewall asks a drop, whatever it has counted before,
+/// but for that to an orphan whose class isn't other: rules don't speak of orphans. Addresses are below 2^32 and
+/// ports below 2^16, as those of headers are.
 pub fn allow_any_refuses_no_connection()
     ensures { (number : ℕ) (t : TallyOf) (call : CallOf)
         → IsTrue (is_of_headers call.facts) → is_refused_orphan call ≡ false
@@ -26,5 +27,6 @@ pub fn covered_rule_never_decides()
         → (facts : FactsOf) → (decision (before ++ narrow ∷ after) facts).1 ≢ narrow.number }
     ensures without { (before after : List RuleOf) (wide narrow : RuleOf)
         → Contains before wide → Covers wide narrow
-        → (t : TallyOf) (call : CallOf) → firewall.react t call (before ++ narrow ∷ after) ≡ firewall.react t call (before ++ after) }
+        → (t : TallyOf) (call : CallOf)
+        → firewall.react t call (before ++ narrow ∷ after) ≡ firewall.react t call (before ++ after) }
 {}

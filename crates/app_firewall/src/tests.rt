@@ -1,7 +1,6 @@
 use super::*;
-use app_api::{App, Call, ORPHAN, PKT_IN, Reason, Rule, fields_of, presets_of};
+use app_api::{App, Call, ORPHAN, PKT_IN, Reason, Reg, Rule};
 use native_filters::{Facts, Hook};
-use std::test::Fail;
 
 const CLIENT: u64 = 0x0a00_0001;
 
@@ -134,7 +133,7 @@ fn both_ends_of_a_port_range(rt: HostRuntime) {
 }
 
 #[test]
-fn packets_of_a_connection_are_counted(rt: HostRuntime) -> Result<(), Fail> {
+fn packets_of_a_connection_are_counted(rt: HostRuntime) {
     let telnet = call(
         1,
         Hook::Snd,
@@ -157,20 +156,15 @@ fn packets_of_a_connection_are_counted(rt: HostRuntime) -> Result<(), Fail> {
         (arrived, None, [1, 2, 20]),
     ];
     let mut tally = FirewallApp.fresh();
-    for (call, drop, counts) in rows {
+    for (call, drop, [passed, dropped, rule]) in rows {
         let reaction = FirewallApp.react(&mut tally, &call, &[NO_TELNET, REST]);
         assert_eq!(rt; reaction.drop, drop);
         assert!(rt; reaction.changes.as_slice().is_empty());
-        assert_eq!(rt; [tally.t0, tally.t1, tally.t2], counts);
+        assert_eq!(rt; FirewallApp.field(0, &tally), Some(("passed", passed)));
+        assert_eq!(rt; FirewallApp.field(1, &tally), Some(("dropped", dropped)));
+        assert_eq!(rt; FirewallApp.field(2, &tally), Some(("rule", rule)));
     }
-    let rows = [("passed", 1), ("dropped", 2), ("rule", 20)];
-    let fields = fields_of(rt.alloc(), &FirewallApp, &tally)?;
-    assert_eq!(rt; fields.as_slice().len(), 3);
-    for (field, (name, value)) in fields.as_slice().iter().zip(rows) {
-        assert_eq!(rt; field.0.as_slice(), name.as_bytes());
-        assert_eq!(rt; field.1, value);
-    }
-    Ok(())
+    assert_eq!(rt; FirewallApp.field(3, &tally), None);
 }
 
 #[test]
@@ -195,18 +189,21 @@ fn orphans_but_those_of_class_other_are_dropped(rt: HostRuntime) {
 }
 
 #[test]
-fn presets_by_number(rt: HostRuntime) -> Result<(), Fail> {
-    let rows = [
-        (1, 257, Hook::Snd, true),
-        (2, 257, Hook::Rcv, true),
-        (3, 263, Hook::Snd, true),
-    ];
-    let presets = presets_of(rt.alloc(), &FirewallApp)?;
-    assert_eq!(rt; presets.as_slice().len(), 3);
-    for (preset, row) in presets.as_slice().iter().zip(rows) {
-        assert_eq!(rt; (preset.number, preset.event, preset.hook, preset.on), row);
-    }
-    Ok(())
+fn presets_are_on_without_peeks(rt: HostRuntime) {
+    assert_eq!(rt; FirewallApp.preset(0), None);
+    assert_eq!(rt;
+        FirewallApp.preset(1),
+        Some(Reg::preset(1, 257, Hook::Snd, true))
+    );
+    assert_eq!(rt;
+        FirewallApp.preset(2),
+        Some(Reg::preset(2, 257, Hook::Rcv, true))
+    );
+    assert_eq!(rt;
+        FirewallApp.preset(3),
+        Some(Reg::preset(3, 263, Hook::Snd, true))
+    );
+    assert_eq!(rt; FirewallApp.preset(4), None);
 }
 
 fn is_shared<T: Send + Sync>(_: &T) -> bool {
