@@ -4,6 +4,8 @@ ghost use Rattle.std.specs.Prelude.{◌<◌, ◌≤◌};
 use crate::Maker;
 use mos_bytes::{Source, fill};
 use pcap_source::{Capture, Frame, Step};
+use std::alloc::Global;
+use std::process::Abort;
 use std::test::Fail;
 
 // The client's SYN of connection 0, which is packet 0.
@@ -60,10 +62,10 @@ fn frames_are_those_of_the_table(rt: HostRuntime) -> Result<(), Fail> {
 }
 
 // A capture's size, and a number that depends on every byte and its place.
-fn whole_is(rt: &HostRuntime, n: u32, size: usize, want: u32) -> Result<(), Fail>
+fn whole_is(rt: &impl Abort, alloc: Global, n: u32, size: usize, want: u32) -> Result<(), Fail>
     requires { n ≤ 100000 }
 {
-    let mut bytes = vec![in rt.alloc(); 0; 120_000]?;
+    let mut bytes = vec![in alloc; 0; 120_000]?;
     let mut maker = Maker::new(n);
     assert_eq!(rt; maker.size(), size as u64);
     assert_eq!(rt; fill(&mut maker, &mut bytes), Ok(size));
@@ -74,21 +76,21 @@ fn whole_is(rt: &HostRuntime, n: u32, size: usize, want: u32) -> Result<(), Fail
 
 #[test]
 fn captures_are_those_of_another_program(rt: HostRuntime) -> Result<(), Fail> {
-    whole_is(&rt, 1, 1088, 2_044_074_718)?;
-    whole_is(&rt, 9, 9600, 3_194_439_541)?;
-    whole_is(&rt, 10, 10_664, 3_261_617_131)?;
-    whole_is(&rt, 11, 11_728, 2_922_506_136)?;
-    whole_is(&rt, 16, 17_048, 1_091_345_060)?;
-    whole_is(&rt, 17, 18_112, 1_784_227_150)?;
-    whole_is(&rt, 101, 107_488, 2_759_550_833)
+    whole_is(&rt, rt.alloc(), 1, 1088, 2_044_074_718)?;
+    whole_is(&rt, rt.alloc(), 9, 9600, 3_194_439_541)?;
+    whole_is(&rt, rt.alloc(), 10, 10_664, 3_261_617_131)?;
+    whole_is(&rt, rt.alloc(), 11, 11_728, 2_922_506_136)?;
+    whole_is(&rt, rt.alloc(), 16, 17_048, 1_091_345_060)?;
+    whole_is(&rt, rt.alloc(), 17, 18_112, 1_784_227_150)?;
+    whole_is(&rt, rt.alloc(), 101, 107_488, 2_759_550_833)
 }
 
 // Reads with this much room give the bytes of one read of all, and then none.
-fn pieces_are_whole(rt: &HostRuntime, len: usize) -> Result<(), Fail>
+fn pieces_are_whole(rt: &impl Abort, alloc: Global, len: usize) -> Result<(), Fail>
     requires { 0 < len }
 {
-    let mut whole = vec![in rt.alloc(); 0; 18_112]?;
-    let mut piece = vec![in rt.alloc(); 0; len]?;
+    let mut whole = vec![in alloc; 0; 18_112]?;
+    let mut piece = vec![in alloc; 0; len]?;
     assert_eq!(rt; fill(&mut Maker::new(17), &mut whole), Ok(18_112));
     let mut maker = Maker::new(17);
     for want in whole.chunks(len) {
@@ -101,11 +103,11 @@ fn pieces_are_whole(rt: &HostRuntime, len: usize) -> Result<(), Fail>
 
 #[test]
 fn reads_of_any_length_give_the_same_bytes(rt: HostRuntime) -> Result<(), Fail> {
-    pieces_are_whole(&rt, 1)?;
-    pieces_are_whole(&rt, 7)?;
-    pieces_are_whole(&rt, 25)?;
-    pieces_are_whole(&rt, 171)?;
-    pieces_are_whole(&rt, 5000)
+    pieces_are_whole(&rt, rt.alloc(), 1)?;
+    pieces_are_whole(&rt, rt.alloc(), 7)?;
+    pieces_are_whole(&rt, rt.alloc(), 25)?;
+    pieces_are_whole(&rt, rt.alloc(), 171)?;
+    pieces_are_whole(&rt, rt.alloc(), 5000)
 }
 
 #[test]
