@@ -1,5 +1,5 @@
 -- What a read gives of the piece that stands in front.
-use Rattle.std.proofs.Common.{◌≡◌, ℕ, ◌+◌, ◌-◌, ◌<◌, ◌≤◌, min, List, [], ◌++◌, length, take, drop, refl, sym, ap, subst, ◌∙◌, arith, append_assoc, length-drop, length-take-le}
+use Rattle.std.proofs.Common.{◌≡◌, ℕ, ◌+◌, ◌≤◌, List, [], ◌++◌, length, take, drop, sym, ap, ◌∙◌, arith, append_assoc, length-take-le}
 use Rattle.std.proofs.lemmas.List.{drop_all, take-append-drop}
 use Rattle.std.proofs.Math.Seq.{take-append_seam}
 use lib.Seq.{drop-drop}

@@ -1,11 +1,10 @@
 -- The turns that are left, one after another.
-use Rattle.std.proofs.Common.{◌≡◌, ℕ, zero, suc, ◌+◌, ◌-◌, ◌*◌, ◌/◌, ◌<◌, ◌≤◌, min, List, [], ◌∷◌, ◌++◌, length, map, flat_map, refl, sym, ap, subst, ◌∙◌, arith, inl, inr}
+use Rattle.std.proofs.Common.{◌≡◌, ℕ, suc, ◌+◌, ◌-◌, ◌*◌, ◌/◌, ◌<◌, ◌≤◌, min, List, [], ◌∷◌, ◌++◌, flat_map, refl, sym, ap, ◌∙◌, arith, inl, inr}
 use Rattle.std.proofs.lemmas.Bool.{cases_lt}
 use Rattle.std.specs.List.{range_with_len}
-use Rattle.capture_maker.specs.Turns.{after, group_turns, groups_from, step_turns, steps, turns_from, turns_of}
+use Rattle.capture_maker.specs.Turns.{after, group_turns, groups_from, step_turns, turns_from, turns_of}
 use Rattle.capture_maker.specs.declared.step.Step.{Step}
 use Rattle.capture_maker.specs.declared.step.Step.TheVariants.{Syn}
-use Rattle.capture_maker.specs.declared.turns.Turn.{Turn}
 
 -- no connection takes no step
 no_turns : (first count : ℕ) (xs : List Step) → count ≡ 0 → flat_map (step_turns first count) xs ≡ []

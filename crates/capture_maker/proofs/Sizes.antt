@@ -1,12 +1,12 @@
 -- How many turns there are, and how long their records are.
-use Rattle.std.proofs.Common.{◌≡◌, ℕ, zero, suc, ◌+◌, ◌-◌, ◌*◌, ◌/◌, ◌<◌, ◌≤◌, min, List, [], ◌∷◌, ◌++◌, length, map, flat_map, refl, sym, ap, ◌∙◌, arith, lit≤, length-append}
+use Rattle.std.proofs.Common.{◌≡◌, ℕ, zero, suc, ◌+◌, ◌-◌, ◌*◌, ◌/◌, ◌≤◌, min, List, [], ◌∷◌, ◌++◌, length, flat_map, refl, sym, ap, ◌∙◌, arith, lit≤, length-append}
 use Rattle.std.proofs.Math.Nat.{add-mul}
 use Rattle.std.proofs.lemmas.List.FromFn.{length-map-range_with_len}
 use Rattle.std.specs.List.{range_with_len}
-use Rattle.capture_maker.specs.Frames.{ethernet_header, four_bytes, frame_of, head_of, payload, record_of, two_bytes}
+use Rattle.capture_maker.specs.Frames.{ethernet_header, four_bytes, frame_of, head_of, record_of, two_bytes}
 use Rattle.capture_maker.specs.Made.{global_header, made, records_from}
 use Rattle.capture_maker.specs.Table.{byte_of, segment_of}
-use Rattle.capture_maker.specs.Turns.{group_turns, groups_from, step_turns, steps, turns_of}
+use Rattle.capture_maker.specs.Turns.{group_turns, step_turns, steps, turns_of}
 use Rattle.capture_maker.specs.declared.step.Sender.{Sender}
 use Rattle.capture_maker.specs.declared.step.Sender.TheVariants.{Client, Server}
 use Rattle.capture_maker.specs.declared.step.Segment.{Segment}

@@ -1,8 +1,8 @@
 -- The reader of captures takes the generated capture whole.
-use Rattle.std.proofs.Common.{◌≡◌, ℕ, zero, suc, ◌+◌, ◌-◌, ◌*◌, ◌<◌, ◌≤◌, nat_lt, List, [], ◌∷◌, ◌++◌, Bool, true, false, length, map, take, drop, Ok, refl, sym, ap, subst, ◌∙◌, arith, append_assoc, length-append, drop_at}
+use Rattle.std.proofs.Common.{◌≡◌, ℕ, zero, suc, ◌+◌, ◌≤◌, nat_lt, List, [], ◌∷◌, ◌++◌, true, false, length, map, take, drop, Ok, refl, sym, ap, ◌∙◌, arith, append_assoc, length-append, drop_at}
 use Rattle.std.proofs.lemmas.Bool.Decides.{nat_tests}
 use Rattle.std.proofs.Math.Seq.{take-append_seam}
-use Rattle.pcap_source.specs.Capture.{Frames, capture_of, captured_length, ended, ending_of, frames_from, frames_by, header_of, is_whole, record_at, record_length, tail, with_frame}
+use Rattle.pcap_source.specs.Capture.{captured_length, ended, frames_from, frames_by, header_of, is_whole, record_at, record_length, tail, with_frame}
 use Rattle.pcap_source.specs.Captured.{Captured}
 use Rattle.pcap_source.specs.Order.{number_in}
 use Rattle.pcap_source.specs.declared.order.Order.TheVariants.{Big}
@@ -13,7 +13,7 @@ use Rattle.capture_maker.specs.Table.{segment_of}
 use Rattle.capture_maker.specs.Turns.{turns_of}
 use Rattle.capture_maker.specs.declared.step.Segment.{Segment}
 use Rattle.capture_maker.specs.declared.turns.Turn.{Turn}
-use Rattle.capture_maker.proofs.Sizes.{few_payload, length-frame_of, length-head_of, length-made, length-turns_of}
+use Rattle.capture_maker.proofs.Sizes.{few_payload, length-frame_of, length-head_of, length-turns_of}
 
 -- the head tells the frame's length
 told : (index : ℕ) (s : Segment) (rest : List ℕ) → s.count ≤ 100 → captured_length Big (head_of index s ++ rest) ≡ 54 + s.count

@@ -1,5 +1,5 @@
 -- What the generated capture is, in the words of captures.
-use Rattle.std.specs.Prelude.{◌≡◌, ℕ, ◌*◌, List, length, map, Ok}
+use Rattle.std.specs.Prelude.{◌≡◌, ℕ, ◌*◌, length, map, Ok}
 use Rattle.pcap_source.specs.Capture.{Frames, capture_of, tail}
 use Rattle.capture_maker.specs.Frames.{frame_of}
 use Rattle.capture_maker.specs.Made.{made}

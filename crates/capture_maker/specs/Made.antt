@@ -1,6 +1,6 @@
 -- The generated capture of n connections.
 use Rattle.std.specs.Prelude.{ℕ, ◌+◌, List, [], ◌∷◌, ◌++◌}
-use Rattle.capture_maker.specs.Frames.{record_of, two_bytes, four_bytes}
+use Rattle.capture_maker.specs.Frames.{record_of}
 use Rattle.capture_maker.specs.Turns.{turns_of}
 use Rattle.capture_maker.specs.declared.turns.Turn.{Turn}
 

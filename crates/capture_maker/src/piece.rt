@@ -40,7 +40,10 @@ impl Piece {
     pub(crate) fn new() -> Self
         ensures { result ≡ [] }
     {
-        Piece { bytes: [0; ROOM], len: 0 }
+        Piece {
+            bytes: [0; ROOM],
+            len: 0,
+        }
     }
 
     pub(crate) fn len(&self) -> usize

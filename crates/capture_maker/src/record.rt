@@ -15,6 +15,7 @@ const FIRST_CLIENT: u32 = 0x0a00_0001;
 const SERVER: u32 = 0xc000_0201;
 
 const TO_SERVER: [u8; 14] = [2, 0, 0, 0, 0, 2, 2, 0, 0, 0, 0, 1, 8, 0];
+
 const TO_CLIENT: [u8; 14] = [2, 0, 0, 0, 0, 1, 2, 0, 0, 0, 0, 2, 8, 0];
 
 // The byte at this position of what the sender sends.

@@ -85,14 +85,28 @@ pub(crate) fn next_step(step: Step) -> Option<Step>
 fn bare(sender: Sender, flags: u8, seq: u32, ack: u32) -> Segment
     ensures { result ≡ record { sender = sender; flags = flags; seq = seq; ack = ack; first = 0; count = 0 } }
 {
-    Segment { sender, flags, seq, ack, first: 0, count: 0 }
+    Segment {
+        sender,
+        flags,
+        seq,
+        ack,
+        first: 0,
+        count: 0,
+    }
 }
 
 // A segment with PSH and ACK, and these bytes.
 fn pushed(sender: Sender, seq: u32, ack: u32, first: u32, count: u32) -> Segment
     ensures { result ≡ record { sender = sender; flags = 24; seq = seq; ack = ack; first = first; count = count } }
 {
-    Segment { sender, flags: 0x18, seq, ack, first, count }
+    Segment {
+        sender,
+        flags: 0x18,
+        seq,
+        ack,
+        first,
+        count,
+    }
 }
 
 // What a connection sends in this step.
@@ -108,12 +122,39 @@ pub(crate) fn segment_in(step: Step, connection: u32) -> Segment
     match step {
         Step::Syn => bare(Sender::Client, 0x02, client, 0),
         Step::SynAck => bare(Sender::Server, 0x12, server, client.wrapping_add(1)),
-        Step::Opened => bare(Sender::Client, 0x10, client.wrapping_add(1), server.wrapping_add(1)),
-        Step::Request => pushed(Sender::Client, client.wrapping_add(1), server.wrapping_add(1), 0, 64),
+        Step::Opened => bare(
+            Sender::Client,
+            0x10,
+            client.wrapping_add(1),
+            server.wrapping_add(1),
+        ),
+        Step::Request => pushed(
+            Sender::Client,
+            client.wrapping_add(1),
+            server.wrapping_add(1),
+            0,
+            64,
+        ),
         Step::LateHalf => pushed(Sender::Server, server.wrapping_add(101), asked, 100, 100),
-        Step::FirstHalf | Step::Repeated => pushed(Sender::Server, server.wrapping_add(1), asked, 0, 100),
+        Step::FirstHalf | Step::Repeated => pushed(
+            Sender::Server,
+            server.wrapping_add(1),
+            asked,
+            0,
+            100,
+        ),
         Step::ClientFin => bare(Sender::Client, 0x11, asked, server.wrapping_add(201)),
-        Step::ServerFin => bare(Sender::Server, 0x11, server.wrapping_add(201), client.wrapping_add(66)),
-        Step::LastAck => bare(Sender::Client, 0x10, client.wrapping_add(66), server.wrapping_add(202)),
+        Step::ServerFin => bare(
+            Sender::Server,
+            0x11,
+            server.wrapping_add(201),
+            client.wrapping_add(66),
+        ),
+        Step::LastAck => bare(
+            Sender::Client,
+            0x10,
+            client.wrapping_add(66),
+            server.wrapping_add(202),
+        ),
     }
 }

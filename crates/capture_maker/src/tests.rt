@@ -69,7 +69,10 @@ fn whole_is(rt: &impl Abort, alloc: Global, n: u32, size: usize, want: u32) -> R
     let mut maker = Maker::new(n);
     assert_eq!(rt; maker.size(), size as u64);
     assert_eq!(rt; fill(&mut maker, &mut bytes), Ok(size));
-    let mixed = bytes.iter().take(size).fold(0_u32, |sum, byte| sum.wrapping_mul(31).wrapping_add(u32::from(*byte)));
+    let mixed = bytes.iter().take(size).fold(
+        0_u32,
+        |sum, byte| sum.wrapping_mul(31).wrapping_add(u32::from(*byte)),
+    );
     assert_eq!(rt; mixed, want, "{n} connections");
     Ok(())
 }

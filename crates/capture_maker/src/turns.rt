@@ -43,7 +43,12 @@ impl Turns {
         requires { count ≤ 100000 }
         ensures { result ≡ turns_of count }
     {
-        Turns { count, group: 0, step: Step::Syn, connection: 0 }
+        Turns {
+            count,
+            group: 0,
+            step: Step::Syn,
+            connection: 0,
+        }
     }
 
     // The next turn, which is then gone.
@@ -55,7 +60,10 @@ impl Turns {
         if first >= self.count {
             return None;
         }
-        let turn = Turn { step: self.step, connection: self.connection };
+        let turn = Turn {
+            step: self.step,
+            connection: self.connection,
+        };
         if self.connection + 1 < first + GROUP.min(self.count - first) {
             self.connection += 1;
         } else if let Some(step) = next_step(self.step) {

@@ -1,6 +1,6 @@
 -- No record is empty.
-use Rattle.std.proofs.Common.{◌≡◌, ◌≤◌, length, ap, arith}
-use Rattle.capture_maker.proofs.Sizes.{length-record_of, size_of, some_bytes}
+use Rattle.std.proofs.Common.{length, ap, arith}
+use Rattle.capture_maker.proofs.Sizes.{length-record_of, some_bytes}
 use Rattle.capture_maker.proofs.maker.make_next.Goals as goal
 
 pub returns-in-Some-clause-end : goal.returns-in-Some-clause-end

@@ -1,5 +1,5 @@
 -- The header stands in front of all records.
-use Rattle.std.proofs.Common.{◌≡◌, ◌+◌, ◌≤◌, ◌++◌, length, arith, ap, refl, ◌∙◌}
+use Rattle.std.proofs.Common.{◌++◌, length, arith, ap, ◌∙◌}
 use Rattle.capture_maker.specs.Made.{global_header, made, records_from}
 use Rattle.capture_maker.specs.Turns.{turns_of}
 use Rattle.capture_maker.proofs.Sizes.{length-turns_of}

@@ -1,5 +1,5 @@
 -- The turn that is taken stood in front of the others.
-use Rattle.std.proofs.Common.{◌+◌, ◌*◌, ◌-◌, ◌<◌, ◌≤◌, ◌≡◌, min, arith, sym, ◌∙◌}
+use Rattle.std.proofs.Common.{◌+◌, ◌*◌, ◌-◌, ◌<◌, ◌≤◌, min, arith, sym, ◌∙◌}
 use Rattle.capture_maker.proofs.Rest.{next_group, same_step}
 use Rattle.capture_maker.proofs.turns.Turns.take.Goals as goal
 
