@@ -4,9 +4,21 @@ ghost use Rattle.std.specs.Prelude.{◌≡◌, ℕ, ◌≤◌, MatchOption, [], 
 ghost use Rattle.capture_maker.specs.Table.{client_number, segment_of, server_number};
 ghost use Rattle.capture_maker.specs.Turns.{after};
 
+// Flags of the TCP header.
+const SYN: u8 = 0x02;
+
+const SYN_ACK: u8 = 0x12;
+
+const ACK: u8 = 0x10;
+
+const PSH_ACK: u8 = 0x18;
+
+const FIN_ACK: u8 = 0x11;
+
 /// Who sends a packet.
 #[derive(Clone, Copy)]
 pub enum Sender {
+    /// The end that opens the connection.
     Client,
     Server,
 }
@@ -36,7 +48,7 @@ pub enum Step {
     LastAck,
 }
 
-/// What a step sends: flags and numbers of the TCP header, and which positions of the sender's bytes.
+/// What a step sends: flags, sequence and acknowledgement number of the TCP header, and which of the sender's bytes.
 #[derive(Clone, Copy)]
 pub struct Segment {
     pub sender: Sender,
@@ -101,7 +113,7 @@ fn pushed(sender: Sender, seq: u32, ack: u32, first: u32, count: u32) -> Segment
 {
     Segment {
         sender,
-        flags: 0x18,
+        flags: PSH_ACK,
         seq,
         ack,
         first,
@@ -118,43 +130,21 @@ pub(crate) fn segment_in(step: Step, connection: u32) -> Segment
 {
     let client = client_syn(connection);
     let server = server_syn(connection);
+    // The numbers behind the client's SYN, its bytes and its FIN, and behind the server's SYN and its bytes.
+    let opened = client.wrapping_add(1);
     let asked = client.wrapping_add(65);
+    let closed = client.wrapping_add(66);
+    let answered = server.wrapping_add(1);
+    let told = server.wrapping_add(201);
     match step {
-        Step::Syn => bare(Sender::Client, 0x02, client, 0),
-        Step::SynAck => bare(Sender::Server, 0x12, server, client.wrapping_add(1)),
-        Step::Opened => bare(
-            Sender::Client,
-            0x10,
-            client.wrapping_add(1),
-            server.wrapping_add(1),
-        ),
-        Step::Request => pushed(
-            Sender::Client,
-            client.wrapping_add(1),
-            server.wrapping_add(1),
-            0,
-            64,
-        ),
+        Step::Syn => bare(Sender::Client, SYN, client, 0),
+        Step::SynAck => bare(Sender::Server, SYN_ACK, server, opened),
+        Step::Opened => bare(Sender::Client, ACK, opened, answered),
+        Step::Request => pushed(Sender::Client, opened, answered, 0, 64),
         Step::LateHalf => pushed(Sender::Server, server.wrapping_add(101), asked, 100, 100),
-        Step::FirstHalf | Step::Repeated => pushed(
-            Sender::Server,
-            server.wrapping_add(1),
-            asked,
-            0,
-            100,
-        ),
-        Step::ClientFin => bare(Sender::Client, 0x11, asked, server.wrapping_add(201)),
-        Step::ServerFin => bare(
-            Sender::Server,
-            0x11,
-            server.wrapping_add(201),
-            client.wrapping_add(66),
-        ),
-        Step::LastAck => bare(
-            Sender::Client,
-            0x10,
-            client.wrapping_add(66),
-            server.wrapping_add(202),
-        ),
+        Step::FirstHalf | Step::Repeated => pushed(Sender::Server, answered, asked, 0, 100),
+        Step::ClientFin => bare(Sender::Client, FIN_ACK, asked, told),
+        Step::ServerFin => bare(Sender::Server, FIN_ACK, told, closed),
+        Step::LastAck => bare(Sender::Client, ACK, closed, server.wrapping_add(202)),
     }
 }
