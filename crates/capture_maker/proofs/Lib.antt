@@ -1,0 +1,4 @@
+pub mod Given
+pub mod Rest
+pub mod Sizes
+pub mod Taken

@@ -1,0 +1,63 @@
+-- The frames of the generated capture, byte by byte: Ethernet, IPv4 and TCP without options, checksums 0.
+use Rattle.std.specs.Prelude.{ℕ, ◌+◌, ◌*◌, ◌/◌, ◌%◌, List, [], ◌∷◌, ◌++◌, map}
+use Rattle.std.specs.Int.{w16, w32, to_be_bytes}
+use Rattle.std.specs.List.{range_with_len}
+use Rattle.capture_maker.specs.Table.{byte_of, segment_of}
+use Rattle.capture_maker.specs.declared.step.Sender.{Sender}
+use Rattle.capture_maker.specs.declared.step.Sender.TheVariants.{Client, Server}
+use Rattle.capture_maker.specs.declared.step.Segment.{Segment}
+use Rattle.capture_maker.specs.declared.turns.Turn.{Turn}
+
+-- a number in two bytes and in four, the highest first
+unfoldable pub two_bytes : ℕ → List ℕ
+two_bytes n = to_be_bytes w16 n
+
+unfoldable pub four_bytes : ℕ → List ℕ
+four_bytes n = to_be_bytes w32 n
+
+-- the client has the address 10.0.0.1 + c, the server 192.0.2.1
+abbrev pub source_address : Sender → ℕ → ℕ
+source_address Client c = 0x0a000001 + c
+source_address Server c = 0xc0000201
+
+abbrev pub target_address : Sender → ℕ → ℕ
+target_address Client c = source_address Server c
+target_address Server c = source_address Client c
+
+-- ports
+abbrev pub source_port : Sender → ℕ → ℕ
+source_port Client c = 1024 + c % 60000
+source_port Server c = 80
+
+abbrev pub target_port : Sender → ℕ → ℕ
+target_port Client c = source_port Server c
+target_port Server c = source_port Client c
+
+-- the Ethernet header: to 02:00:00:00:00:02 from 02:00:00:00:00:01, or back, of type IPv4
+abbrev pub ethernet_header : Sender → List ℕ
+ethernet_header Client = 2 ∷ 0 ∷ 0 ∷ 0 ∷ 0 ∷ 2 ∷ 2 ∷ 0 ∷ 0 ∷ 0 ∷ 0 ∷ 1 ∷ 8 ∷ 0 ∷ []
+ethernet_header Server = 2 ∷ 0 ∷ 0 ∷ 0 ∷ 0 ∷ 1 ∷ 2 ∷ 0 ∷ 0 ∷ 0 ∷ 0 ∷ 2 ∷ 8 ∷ 0 ∷ []
+
+-- the IPv4 header: version 4, 20 bytes, service 0; total length; identification 0, don't fragment, TTL 64, protocol TCP,
+-- checksum 0; source and destination
+abbrev pub ipv4_header : ℕ → Segment → List ℕ
+ipv4_header c s = 0x45 ∷ 0 ∷ two_bytes (40 + s.count) ++ 0 ∷ 0 ∷ 0x40 ∷ 0 ∷ 64 ∷ 6 ∷ 0 ∷ 0 ∷ four_bytes (source_address s.sender c) ++ four_bytes (target_address s.sender c)
+
+-- the TCP header: ports, numbers, 20 bytes, flags, window ffff, checksum 0, urgent 0
+abbrev pub tcp_header : ℕ → Segment → List ℕ
+tcp_header c s = two_bytes (source_port s.sender c) ++ two_bytes (target_port s.sender c) ++ four_bytes s.seq ++ four_bytes s.ack ++ 0x50 ∷ s.flags ∷ 0xff ∷ 0xff ∷ 0 ∷ 0 ∷ 0 ∷ 0 ∷ []
+
+abbrev pub payload : ℕ → Segment → List ℕ
+payload c s = map (byte_of s.sender c) (range_with_len s.first s.count)
+
+-- the frame of a segment
+unfoldable pub frame_of : ℕ → Segment → List ℕ
+frame_of c s = ethernet_header s.sender ++ ipv4_header c s ++ tcp_header c s ++ payload c s
+
+-- the head of the record of a packet: a thousand packets a second, one a millisecond; length of the frame, twice
+unfoldable pub head_of : ℕ → Segment → List ℕ
+head_of index s = four_bytes (index / 1000) ++ four_bytes (index % 1000 * 1000) ++ four_bytes (54 + s.count) ++ four_bytes (54 + s.count)
+
+-- the record of a packet
+abbrev pub record_of : ℕ → Turn → List ℕ
+record_of index t = head_of index (segment_of t.step t.connection) ++ frame_of t.connection (segment_of t.step t.connection)

@@ -1,0 +1,5 @@
+pub mod Table
+pub mod Turns
+pub mod Frames
+pub mod Made
+pub mod Laws

@@ -1,0 +1,149 @@
+//! The record of a packet, byte by byte.
+
+ghost use Rattle.std.specs.Prelude.{◌≡◌, ◌+◌, ◌<◌, ◌≤◌, [], ◌++◌, ℕ, length, map};
+ghost use Rattle.std.specs.List.{range_with_len};
+ghost use Rattle.capture_maker.specs.Frames.{ethernet_header, head_of, ipv4_header, payload, record_of, source_address, source_port, target_address, target_port, tcp_header};
+ghost use Rattle.capture_maker.specs.Table.{byte_of};
+
+use crate::piece::Piece;
+use crate::step::{Segment, Sender, segment_in};
+use crate::turns::Turn;
+
+// The address of connection 0's client; the others follow it.
+const FIRST_CLIENT: u32 = 0x0a00_0001;
+
+const SERVER: u32 = 0xc000_0201;
+
+const TO_SERVER: [u8; 14] = [2, 0, 0, 0, 0, 2, 2, 0, 0, 0, 0, 1, 8, 0];
+
+const TO_CLIENT: [u8; 14] = [2, 0, 0, 0, 0, 1, 2, 0, 0, 0, 0, 2, 8, 0];
+
+// The byte at this position of what the sender sends.
+fn sent_byte(sender: Sender, connection: u32, position: u32) -> u8
+    requires connection { connection < 100000 }
+    requires position { position < 200 }
+    ensures { result ≡ byte_of sender connection position }
+{
+    match sender {
+        Sender::Client => ((connection + position) % 256) as u8,
+        Sender::Server => ((connection + 3 * position) % 256) as u8,
+    }
+}
+
+fn source_of(sender: Sender, connection: u32) -> u32
+    requires { connection < 100000 }
+    ensures { result ≡ source_address sender connection }
+{
+    match sender {
+        Sender::Client => FIRST_CLIENT + connection,
+        Sender::Server => SERVER,
+    }
+}
+
+fn target_of(sender: Sender, connection: u32) -> u32
+    requires { connection < 100000 }
+    ensures { result ≡ target_address sender connection }
+{
+    match sender {
+        Sender::Client => source_of(Sender::Server, connection),
+        Sender::Server => source_of(Sender::Client, connection),
+    }
+}
+
+fn port_of(sender: Sender, connection: u32) -> u16
+    ensures { result ≡ source_port sender connection }
+{
+    match sender {
+        Sender::Client => (1024 + connection % 60_000) as u16,
+        Sender::Server => 80,
+    }
+}
+
+fn target_port_of(sender: Sender, connection: u32) -> u16
+    ensures { result ≡ target_port sender connection }
+{
+    match sender {
+        Sender::Client => port_of(Sender::Server, connection),
+        Sender::Server => port_of(Sender::Client, connection),
+    }
+}
+
+// Puts the head of the record.
+#[tactic(auto, unfolding(crate::specs::Frames::head_of))]
+fn put_head(piece: &mut Piece, index: u32, segment: &Segment)
+    requires count { segment.now.count ≤ 100 }
+    requires room { length piece.old + 16 ≤ 170 }
+    ensures bytes { piece.new ≡ piece.old ++ head_of index segment.now }
+    ensures len { length piece.new ≡ length piece.old + 16 }
+{
+    let len = 54 + segment.count;
+    piece.put_u32(index / 1000);
+    piece.put_u32(index % 1000 * 1000);
+    piece.put_u32(len);
+    piece.put_u32(len);
+}
+
+fn put_ethernet(piece: &mut Piece, sender: Sender)
+    requires room { length piece.old + 14 ≤ 170 }
+    ensures bytes { piece.new ≡ piece.old ++ ethernet_header sender }
+    ensures len { length piece.new ≡ length piece.old + 14 }
+{
+    match sender {
+        Sender::Client => piece.put(&TO_SERVER),
+        Sender::Server => piece.put(&TO_CLIENT),
+    }
+}
+
+fn put_ipv4(piece: &mut Piece, connection: u32, segment: &Segment)
+    requires connection { connection < 100000 }
+    requires count { segment.now.count ≤ 100 }
+    requires room { length piece.old + 20 ≤ 170 }
+    ensures bytes { piece.new ≡ piece.old ++ ipv4_header connection segment.now }
+    ensures len { length piece.new ≡ length piece.old + 20 }
+{
+    piece.put(&[0x45, 0]);
+    piece.put_u16((40 + segment.count) as u16);
+    piece.put(&[0, 0, 0x40, 0, 64, 6, 0, 0]);
+    piece.put_u32(source_of(segment.sender, connection));
+    piece.put_u32(target_of(segment.sender, connection));
+}
+
+fn put_tcp(piece: &mut Piece, connection: u32, segment: &Segment)
+    requires room { length piece.old + 20 ≤ 170 }
+    ensures bytes { piece.new ≡ piece.old ++ tcp_header connection segment.now }
+    ensures len { length piece.new ≡ length piece.old + 20 }
+{
+    piece.put_u16(port_of(segment.sender, connection));
+    piece.put_u16(target_port_of(segment.sender, connection));
+    piece.put_u32(segment.seq);
+    piece.put_u32(segment.ack);
+    piece.put(&[0x50, segment.flags, 0xff, 0xff, 0, 0, 0, 0]);
+}
+
+fn put_payload(piece: &mut Piece, connection: u32, segment: &Segment)
+    requires connection { connection < 100000 }
+    requires first { segment.now.first ≤ 100 }
+    requires count { segment.now.count ≤ 100 }
+    requires room { length piece.old + segment.now.count ≤ 170 }
+    ensures bytes { piece.new ≡ piece.old ++ payload connection segment.now }
+    ensures len { length piece.new ≡ length piece.old + segment.now.count }
+{
+    for i in 0..segment.count {
+        piece.put(&[sent_byte(segment.sender, connection, segment.first + i)]);
+    }
+}
+
+// Puts the record of the packet of this index.
+#[tactic(auto, unfolding(crate::specs::Frames::frame_of))]
+pub(crate) fn put_record(piece: &mut Piece, index: u32, turn: Turn)
+    requires connection { turn.connection < 100000 }
+    requires empty { piece.old ≡ [] }
+    ensures { piece.new ≡ record_of index turn }
+{
+    let sent = segment_in(turn.step, turn.connection);
+    put_head(piece, index, &sent);
+    put_ethernet(piece, sent.sender);
+    put_ipv4(piece, turn.connection, &sent);
+    put_tcp(piece, turn.connection, &sent);
+    put_payload(piece, turn.connection, &sent);
+}
