@@ -40,7 +40,7 @@ fn all_pass(matches: &ArgMatches<'_>) -> bool
 }
 
 fn passes(value: Option<&str>) -> bool
-    ensures { result ≡ passes (option_map (λ s. s.now) value) }
+    ensures { result ≡ passes (option_map (λ s. s.now) value.entry) }
 {
     match value {
         Some(text) => is_value(text.as_bytes()),

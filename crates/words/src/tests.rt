@@ -1,6 +1,6 @@
 //! Rows of words, accepted and refused.
 
-use crate::{AppKind, Emit, Settings, WordsError, read_words, usage};
+use crate::{AppKind, Emit, Settings, WordsError, read_words, usage_text};
 use std::alloc::{AllocFailed, Global};
 use std::test::Fail;
 
@@ -78,5 +78,5 @@ fn names_of_255_bytes(rt: HostRuntime) -> Result<(), Fail> {
 fn usage_names_all_options(rt: HostRuntime) {
     let line = "mos: usage: mos [--app log|acct|rexmit|firewall] [--workers N] [--script NAME] \
         [--emit report|forward] [--make N]\n";
-    assert_eq!(rt; usage(), line);
+    assert_eq!(rt; usage_text(), line);
 }

@@ -18,7 +18,7 @@ const MOST_MADE: u32 = 0;
 
 /// The application of this name, or the log.
 pub(crate) fn app_of(text: Option<&str>) -> Option<AppKind>
-    ensures { result ≡ app_of (option_map (λ s. s.now) text) }
+    ensures { result ≡ app_of (option_map (λ s. s.now) text.entry) }
 {
     let Some(text) = text else {
         return Some(AppKind::Log);
@@ -31,7 +31,7 @@ pub(crate) fn app_of(text: Option<&str>) -> Option<AppKind>
 
 /// So many workers, or one.
 pub(crate) fn workers_of(text: Option<&str>) -> Option<usize>
-    ensures { result ≡ workers_of (option_map (λ s. s.now) text) }
+    ensures { result ≡ workers_of (option_map (λ s. s.now) text.entry) }
 {
     match text {
         Some(text) => {
@@ -44,8 +44,8 @@ pub(crate) fn workers_of(text: Option<&str>) -> Option<usize>
 
 /// The script's name, of at most 255 bytes, or none.
 pub(crate) fn script_of(alloc: Global, text: Option<&str>) -> Result<Option<Name>, WordsError>
-    ensures ok { IfOk result (λ script. script_of (option_map (λ s. s.now) text) ≡ Some script) }
-    ensures usage { IfErr result (λ e. e ≡ WordsError.Usage → script_of (option_map (λ s. s.now) text) ≡ None) }
+    ensures ok { IfOk result (λ script. script_of (option_map (λ s. s.now) text.entry) ≡ Some script) }
+    ensures usage { IfErr result (λ e. e ≡ WordsError.Usage → script_of (option_map (λ s. s.now) text.entry) ≡ None) }
 {
     let Some(text) = text else {
         return Ok(None);
@@ -59,7 +59,7 @@ pub(crate) fn script_of(alloc: Global, text: Option<&str>) -> Result<Option<Name
 
 /// What is written: a summary where a capture is made, which excludes a choice; else the choice, or the report.
 pub(crate) fn emit_of(text: Option<&str>, make: Option<&str>) -> Option<Emit>
-    ensures { result ≡ emit_of (option_map (λ s. s.now) text) (option_map (λ s. s.now) make) }
+    ensures { result ≡ emit_of (option_map (λ s. s.now) text.entry) (option_map (λ s. s.now) make.entry) }
 {
     match (text, make) {
         (Some(_), Some(_)) => None,
@@ -76,7 +76,7 @@ pub(crate) fn emit_of(text: Option<&str>, make: Option<&str>) -> Option<Emit>
 
 /// How many connections are made, where any are.
 pub(crate) fn make_of(text: Option<&str>) -> Option<Option<u32>>
-    ensures { result ≡ make_of (option_map (λ s. s.now) text) }
+    ensures { result ≡ make_of (option_map (λ s. s.now) text.entry) }
 {
     match text {
         Some(text) => {
