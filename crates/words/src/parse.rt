@@ -15,7 +15,12 @@ use std::alloc::Global;
 pub(crate) fn has_dashes(words: &[String]) -> bool
     ensures { result ≡ has_dashes (map string_bytes words.now) }
 {
-    words.iter().any(|word| word.as_str() == "--")
+    for word in words {
+        if word.as_str() == "--" {
+            return true;
+        }
+    }
+    false
 }
 
 /// The matches of the words, none of which is `--`. The values are still to be tested.
