@@ -140,13 +140,13 @@ reading ns [] no_dashes done good = (
     good = good;
     tested = rw append-nil (rw (good.known, good.differ) refl);
   },
-  λ n is_known. reads-none ns _ _ refl (open-end ns (map row done) n (by_id ns n ∙ ap (λ b. cond b (Some (opt n)) None) is_known))
+  λ n is_known. reads-none ns _ _ refl (open-end ns (map row done) n (by_id ns n ∙ ap (λ b. cond b (Some (opt n)) None) is_known)),
 )
 reading ns (word ∷ ws) no_dashes done good =
     let parts = neither (bytes_eq word (45 ∷ 45 ∷ [])) (has_dashes ws) no_dashes in
     let more = reading ns ws parts.1 in (
-  reads-by ns _ _ _ _ (ap (λ l. through ns done (begun l (items_from None ws) (λ name. items_from (Some name) ws))) (same_option word parts.0))
-      (idle-word ns (held (map row done) None) word ws parts.0) (idle-at ns word ws parts.1 more done good (long_of word)),
-  λ n is_known. reads-by ns _ _ _ _ refl (option-word ns n (held (map row done) (Some (n, []))) word ws parts.0)
-      (open-at ns word ws parts.1 more done good n (long_of word) is_known refl)
-)
+      reads-by ns _ _ _ _ (ap (λ l. through ns done (begun l (items_from None ws) (λ name. items_from (Some name) ws))) (same_option word parts.0))
+          (idle-word ns (held (map row done) None) word ws parts.0) (idle-at ns word ws parts.1 more done good (long_of word)),
+      λ n is_known. reads-by ns _ _ _ _ refl (option-word ns n (held (map row done) (Some (n, []))) word ws parts.0)
+          (open-at ns word ws parts.1 more done good n (long_of word) is_known refl),
+    )

@@ -3,8 +3,8 @@
 
 mod command;
 mod parse;
-pub mod settings;
 mod read;
+pub mod settings;
 mod usage;
 mod values;
 

@@ -39,6 +39,7 @@ impl Model for Name {
     ghost use Rattle.std.specs.Prelude.{ℕ, List, string_bytes};
 
     ghost Value = { List ℕ };
+
     ghost view = { λ name. string_bytes name.text };
 }
 

@@ -29,8 +29,14 @@ fn accepted(rt: HostRuntime) -> Result<(), Fail> {
     ];
     for (line, script) in rows {
         let words = words_of(rt.alloc(), line)?;
-        let settings = read_words(rt.alloc(), words.as_slice()).ok().expect(&rt, "settings");
-        assert_eq!(rt; settings.script.as_ref().map(|name| name.as_str()), script, "of {line}");
+        let settings = read_words(rt.alloc(), words.as_slice())
+            .ok()
+            .expect(&rt, "settings");
+        assert_eq!(rt;
+            settings.script.as_ref().map(|name| name.as_str()),
+            script,
+            "of {line}"
+        );
         assert!(rt; is_plain(&settings), "for {line}");
     }
     Ok(())
@@ -47,12 +53,43 @@ fn is_plain(settings: &Settings) -> bool {
 #[test]
 fn refused(rt: HostRuntime) -> Result<(), Fail> {
     let rows = [
-        "extra", "--", "-a", "-", " ", "--app", "--app tap", "--app=", "--app log --app log",
-        "--app acct", "--workers 0", "--workers 01", "--workers +1", "--workers 2",
-        "--workers 1 --workers 1", "--workers 4294967297", "--script", "--script=", "--script ",
-        "--script -x", "--script=-x", "--script -", "--script --", "--script --app=log",
-        "--emit forward", "--make 1", "--make 0", "--make 3 --emit report", "--x 1", "--x=1", "--=1",
-        "--app log extra", "--help", "-h", "--version", "--ap log", "--App log",
+        "extra",
+        "--",
+        "-a",
+        "-",
+        " ",
+        "--app",
+        "--app tap",
+        "--app=",
+        "--app log --app log",
+        "--app acct",
+        "--workers 0",
+        "--workers 01",
+        "--workers +1",
+        "--workers 2",
+        "--workers 1 --workers 1",
+        "--workers 4294967297",
+        "--script",
+        "--script=",
+        "--script ",
+        "--script -x",
+        "--script=-x",
+        "--script -",
+        "--script --",
+        "--script --app=log",
+        "--emit forward",
+        "--make 1",
+        "--make 0",
+        "--make 3 --emit report",
+        "--x 1",
+        "--x=1",
+        "--=1",
+        "--app log extra",
+        "--help",
+        "-h",
+        "--version",
+        "--ap log",
+        "--App log",
     ];
     for line in rows {
         let words = words_of(rt.alloc(), line)?;
@@ -67,10 +104,15 @@ fn names_of_255_bytes(rt: HostRuntime) -> Result<(), Fail> {
     let name = "name of 15 byte".repeat(rt.alloc(), 17)?;
     let word = format!(in rt.alloc(); "--script={name}")?;
     let mut words = vec![in rt.alloc(); word]?;
-    let settings = read_words(rt.alloc(), words.as_slice()).ok().expect(&rt, "settings");
+    let settings = read_words(rt.alloc(), words.as_slice())
+        .ok()
+        .expect(&rt, "settings");
     assert_eq!(rt; settings.script.map(|name| name.text), Some(name));
     words[0].push('x')?;
-    assert_eq!(rt; read_words(rt.alloc(), words.as_slice()).err(), Some(WordsError::Usage));
+    assert_eq!(rt;
+        read_words(rt.alloc(), words.as_slice()).err(),
+        Some(WordsError::Usage)
+    );
     Ok(())
 }
 
