@@ -1,9 +1,9 @@
 -- Words of which one is `--` are refused: it is the value of an item, or the empty name.
-use Rattle.std.proofs.Common.{◌≡◌, ◌∙◌, ℕ, Bool, true, false, cond, not, ◌&&◌, ◌||◌, List, [], ◌∷◌, codes, Option, Some, None, IfSome, option_and_then, bytes_eq, refl, sym, ap}
+use Rattle.std.proofs.Common.{◌≡◌, ℕ, Bool, true, false, cond, ◌&&◌, ◌||◌, List, [], ◌∷◌, codes, Option, Some, None, IfSome, option_and_then, bytes_eq, refl, ap}
 use Rattle.std.specs.List.{list_all}
 use Rattle.words.specs.Found.{has_dashes}
 use Rattle.words.specs.Words.{Item, accepted, are_options, begun, differ, has_name, is_value, items_from, names, names_of, option_of, settings_of, value_of, with_item, words_settings}
-use Rattle.words.proofs.Names.{item, same_text}
+use Rattle.words.proofs.Names.{both, and_false, item, same_text}
 use Rattle.words.proofs.Items.{have_values, known}
 
 abbrev is_fine : Item → Bool
@@ -17,13 +17,9 @@ unfit-first : (n v : List ℕ) (o : Option (List Item)) → is_fine (item n v) �
 unfit-first n v None e = tt
 unfit-first n v (Some items) e = rw e refl
 
-nor : (a b : Bool) → b ≡ false → (a && b) ≡ false
-nor true b e = e
-nor false b e = refl
-
 unfit-more : (n v : List ℕ) (o : Option (List Item)) → Unfit o → Unfit (with_item n v o)
 unfit-more n v None e = tt
-unfit-more n v (Some items) e = nor (is_fine (item n v)) (list_all is_fine items) e
+unfit-more n v (Some items) e = and_false (is_fine (item n v)) (list_all is_fine items) e
 
 -- an empty name, with whatever value
 empty_name : (ws : List (List ℕ)) → Unfit (items_from (Some []) ws)
@@ -31,7 +27,7 @@ empty_name [] = tt
 empty_name (w ∷ ws) = unfit-first [] w (items_from None ws) refl
 
 dash_value : (n w : List ℕ) → w ≡ codes "--" → is_fine (item n w) ≡ false
-dash_value n w e = nor (has_name names n) (is_value w) (ap is_value e)
+dash_value n w e = and_false (has_name names n) (is_value w) (ap is_value e)
 
 abbrev Waits : List (List ℕ) → Type 0
 Waits ws = (q : Option (List ℕ)) → Unfit (items_from q ws)
@@ -52,10 +48,6 @@ unfit-at false w ws other dashes more (Some name) = unfit-more name w (items_fro
 unfit : (ws : List (List ℕ)) → has_dashes ws ≡ true → Waits ws
 unfit [] dashes = absurd (cc)
 unfit (w ∷ ws) dashes = unfit-at (bytes_eq w (codes "--")) w ws refl dashes (unfit ws)
-
-both : (a b : Bool) → (a && b) ≡ true → (a ≡ true) × (b ≡ true)
-both true b e = (refl, e)
-both false b e = absurd (cc)
 
 all_fine : (items : List Item) → known names items ≡ true → have_values items ≡ true → list_all is_fine items ≡ true
 all_fine [] knows values = refl

@@ -1,10 +1,10 @@
 -- The items that are read after others: when they are accepted with these.
-use Rattle.std.proofs.Common.{◌≡◌, ◌∙◌, ℕ, Bool, true, false, cond, not, ◌&&◌, List, [], ◌∷◌, ◌++◌, map, Option, Some, None, option_map, option_and_then, refl, sym, ap}
-use Rattle.std.specs.List.{list_all, list_any}
+use Rattle.std.proofs.Common.{◌≡◌, ◌∙◌, ℕ, Bool, true, false, cond, ◌&&◌, List, [], ◌∷◌, ◌++◌, Option, Some, None, option_map, option_and_then, refl, sym, ap}
+use Rattle.std.specs.List.{list_all}
 use Rattle.std.proofs.lemmas.List.{append_assoc, map-append}
 use Rattle.std.proofs.lemmas.List.Folds.{list_all-append}
 use Rattle.words.specs.Words.{Item, differ, has_name, is_value, names_of, with_item}
-use Rattle.words.proofs.Names.{item, differ-again, differ-more}
+use Rattle.words.proofs.Names.{item, differ-again, differ-more, and_false}
 
 abbrev pub known : List (List ℕ) → List Item → Bool
 known ns items = list_all (λ i. has_name ns i.name) items
@@ -27,12 +27,8 @@ pub record Good (ns : List (List ℕ)) (done : List Item) : Type 0 where
   pub known : known ns done ≡ true
   pub differ : differ [] (names_of done) ≡ true
 
-nor : (a : Bool) → (a && false) ≡ false
-nor true = refl
-nor false = refl
-
 all_but : (p : Item → Bool) (done : List Item) (i : Item) (more : List Item) → p i ≡ false → list_all p (done ++ i ∷ more) ≡ false
-all_but p done i more e = list_all-append p done (i ∷ more) ∙ rw e (nor (list_all p done))
+all_but p done i more e = list_all-append p done (i ∷ more) ∙ rw e (and_false (list_all p done) false refl)
 
 pub good-more : (ns : List (List ℕ)) (done : List Item) (n v : List ℕ) → Good ns done → has_name ns n ≡ true → has_name (names_of done) n ≡ false → Good ns (done ++ item n v ∷ [])
 good-more ns done n v good is_known fresh = record {
@@ -57,7 +53,7 @@ through-again ns done n v None e = refl
 through-again ns done n v (Some more) e =
     let none : differ [] (names_of (done ++ item n v ∷ more)) ≡ false =
     rw (map-append (λ (i : Item). i.name) done (item n v ∷ more)) (differ-again [] (names_of done) n (names_of more) e) in
-    rw none (ap (λ b. cond b (Some (done ++ item n v ∷ more)) None) (nor (known ns (done ++ item n v ∷ more))))
+    rw none (ap (λ b. cond b (Some (done ++ item n v ∷ more)) None) (and_false (known ns (done ++ item n v ∷ more)) false refl))
 
 pub through-bad : (ns : List (List ℕ)) (done : List Item) (n v : List ℕ) (o : Option (List Item)) → is_value v ≡ false → through ns done (with_item n v o) ≡ None
 through-bad ns done n v None e = refl
@@ -65,5 +61,5 @@ through-bad ns done n v (Some more) e =
     let all = done ++ item n v ∷ more in
     let none : have_values all ≡ false = all_but (λ i. is_value i.value) done (item n v) more e in
     ap (λ b. cond (known ns all && (differ [] (names_of all) && b)) (Some all) None) none
-    ∙ ap (λ b. cond (known ns all && b) (Some all) None) (nor (differ [] (names_of all)))
-    ∙ ap (λ b. cond b (Some all) None) (nor (known ns all))
+    ∙ ap (λ b. cond (known ns all && b) (Some all) None) (and_false (differ [] (names_of all)) false refl)
+    ∙ ap (λ b. cond b (Some all) None) (and_false (known ns all) false refl)

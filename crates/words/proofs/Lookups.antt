@@ -1,15 +1,11 @@
 -- Items whose names are known and differ have a value each exactly where the look-ups by name find none that isn't one.
-use Rattle.std.proofs.Common.{◌≡◌, ◌∙◌, ◌⊎◌, inl, inr, ℕ, Bool, true, false, cond, not, ◌&&◌, ◌||◌, List, [], ◌∷◌, ◌++◌, map, Option, Some, None, find, option_map, bytes_eq, refl, sym, ap, subst}
-use Rattle.std.specs.List.{list_all, list_any}
+use Rattle.std.proofs.Common.{◌≡◌, ◌∙◌, ℕ, Bool, true, false, cond, not, ◌||◌, List, [], ◌∷◌, ◌++◌, Option, Some, find, option_map, bytes_eq, refl, sym, ap, subst}
+use Rattle.std.specs.List.{list_all}
 use Rattle.std.proofs.lemmas.List.{append_assoc, map-append}
 use Rattle.words.specs.Found.{passes}
 use Rattle.words.specs.Words.{Item, differ, has_name, is_value, names_of, value_of}
-use Rattle.words.proofs.Names.{neither, same_text, text_itself}
+use Rattle.words.proofs.Names.{both, neither, same_text, text_itself}
 use Rattle.words.proofs.Items.{Good, have_values, known}
-
-both : (a b : Bool) → (a && b) ≡ true → (a ≡ true) × (b ≡ true)
-both true b e = (refl, e)
-both false b e = absurd (cc)
 
 not-true : (a : Bool) → not a ≡ true → a ≡ false
 not-true true e = absurd (cc)

@@ -1,9 +1,7 @@
 -- Options by name: the rules of a command are found by name, and a row stands for each item.
-use Rattle.std.proofs.Common.{◌≡◌, ◌∙◌, ℕ, Bool, true, false, cond, not, ◌&&◌, ◌||◌, List, [], ◌∷◌, ◌++◌, map, Option, Some, None, option_map, option_and_then, find, slice_get, bytes_eq, refl, sym, ap}
-use Rattle.std.specs.List.{list_all, list_any}
+use Rattle.std.proofs.Common.{◌≡◌, ◌∙◌, ℕ, Bool, true, false, cond, not, ◌&&◌, ◌||◌, List, [], ◌∷◌, ◌++◌, map, Some, None, option_map, option_and_then, find, slice_get, bytes_eq, refl, sym, ap}
 use Rattle.std.proofs.lemmas.Bool.{true≢false}
 use Rattle.std.proofs.lemmas.List.{append-nil, append_assoc, map-append}
-use Rattle.std.proofs.lemmas.List.Folds.{list_any-append}
 use Rattle.std.proofs.lemmas.Slice.Eq.{bytes_eq-Decides}
 use Rattle.clap.specs.Walk.{Row, Rule, arg_by_id, arg_by_index, arg_by_long, arg_by_short, at_row, first_of, has_row, more_values, reading_by, used, without}
 use Rattle.clap.specs.Simple.{filled}
@@ -16,6 +14,21 @@ same_text a b e = (bytes_eq-Decides a b).0 e
 
 pub text_itself : (a : List ℕ) → bytes_eq a a ≡ true
 text_itself a = (bytes_eq-Decides a a).1 refl
+
+-- ---- tests of both and of either
+
+pub both : (a b : Bool) → (a && b) ≡ true → (a ≡ true) × (b ≡ true)
+both true b e = (refl, e)
+both false b e = absurd (true≢false (sym e))
+
+pub neither : (b c : Bool) → (b || c) ≡ false → (b ≡ false) × (c ≡ false)
+neither false false e = (refl, refl)
+neither false true e = absurd (true≢false e)
+neither true c e = absurd (true≢false e)
+
+pub and_false : (a b : Bool) → b ≡ false → (a && b) ≡ false
+and_false true b e = e
+and_false false b e = refl
 
 -- the rule of an option, once the command is built
 abbrev pub opt : List ℕ → Rule
@@ -68,15 +81,10 @@ pub has_row-names : (done : List Item) (n : List ℕ) → has_row n (map row don
 has_row-names [] n = refl
 has_row-names (i ∷ done) n = ap (λ b. bytes_eq i.name n || b) (has_row-names done n)
 
-at_row-at : (b c : Bool) (id : List ℕ) (change : Row → List Row) (missing : List Row) (i : Item) (done : List Item) → b ≡ false → at_row id change missing (map row done) ≡ map row done ++ missing
+at_row-at : (b : Bool) (id : List ℕ) (change : Row → List Row) (missing : List Row) (i : Item) (done : List Item) → b ≡ false → at_row id change missing (map row done) ≡ map row done ++ missing
     → cond b (change (row i) ++ map row done) (row i ∷ at_row id change missing (map row done)) ≡ row i ∷ (map row done ++ missing)
-at_row-at true c id change missing i done e more = absurd (true≢false e)
-at_row-at false c id change missing i done e more = ap (λ rs. row i ∷ rs) more
-
-pub neither : (b c : Bool) → (b || c) ≡ false → (b ≡ false) × (c ≡ false)
-neither false false e = (refl, refl)
-neither false true e = absurd (true≢false e)
-neither true c e = absurd (true≢false e)
+at_row-at true id change missing i done e more = absurd (true≢false e)
+at_row-at false id change missing i done e more = ap (λ rs. row i ∷ rs) more
 
 -- a name that no row has is changed at the end
 pub at_row-fresh : (done : List Item) (id : List ℕ) (change : Row → List Row) (missing : List Row) → has_name (names_of done) id ≡ false
@@ -84,7 +92,7 @@ pub at_row-fresh : (done : List Item) (id : List ℕ) (change : Row → List Row
 at_row-fresh [] id change missing fresh = refl
 at_row-fresh (i ∷ done) id change missing fresh =
     let parts = neither (bytes_eq i.name id) (has_name (names_of done) id) fresh in
-    at_row-at (bytes_eq i.name id) true id change missing i done parts.0 (at_row-fresh done id change missing parts.1)
+    at_row-at (bytes_eq i.name id) id change missing i done parts.0 (at_row-fresh done id change missing parts.1)
 
 -- a use of an option that wasn't used adds its row
 pub used-fresh : (done : List Item) (n v : List ℕ) → has_name (names_of done) n ≡ false
@@ -106,17 +114,13 @@ first_of-items (i ∷ done) n = first-at (bytes_eq i.name n) n i done (first_of-
 
 -- ---- names that differ
 
-differ-at : (a b : Bool) → b ≡ false → (a && b) ≡ false
-differ-at true b e = e
-differ-at false b e = refl
-
 -- a name that stood before
 pub differ-again : (before ds : List (List ℕ)) (n : List ℕ) (ns : List (List ℕ)) → has_name (before ++ ds) n ≡ true → differ before (ds ++ n ∷ ns) ≡ false
 differ-again before [] n ns stood =
     let here : has_name before n ≡ true = rw append-nil at stood in
     rw here refl
 differ-again before (d ∷ ds) n ns stood =
-    differ-at (not (has_name before d)) _ (differ-again (before ++ d ∷ []) ds n ns (rw append_assoc stood))
+    and_false (not (has_name before d)) _ (differ-again (before ++ d ∷ []) ds n ns (rw append_assoc stood))
 
 -- a name that didn't
 pub differ-more : (before ds : List (List ℕ)) (n : List ℕ) → differ before ds ≡ true → has_name (before ++ ds) n ≡ false → differ before (ds ++ n ∷ []) ≡ true
@@ -126,7 +130,3 @@ differ-more before [] n ds_differ fresh =
 differ-more before (d ∷ ds) n ds_differ fresh =
     let parts = both (not (has_name before d)) _ ds_differ in
     rw parts.0 (differ-more (before ++ d ∷ []) ds n parts.1 (rw append_assoc fresh))
-  where
-    both : (a b : Bool) → (a && b) ≡ true → (a ≡ true) × (b ≡ true)
-    both true b e = (refl, e)
-    both false b e = absurd (true≢false (sym e))

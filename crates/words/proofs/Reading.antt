@@ -1,13 +1,13 @@
 -- The walk of `clap` reads the items of the definition, word by word.
-use Rattle.std.proofs.Common.{◌≡◌, ◌∙◌, ◌⊎◌, inl, inr, ℕ, Bool, true, false, cond, not, ◌&&◌, ◌==◌, List, [], ◌∷◌, ◌++◌, map, Option, Some, None, IfSome, option_map, option_and_then, bytes_eq, refl, sym, ap}
+use Rattle.std.proofs.Common.{◌≡◌, ◌∙◌, inl, inr, ℕ, Bool, true, false, cond, not, ◌&&◌, ◌==◌, List, [], ◌∷◌, ◌++◌, map, Option, Some, None, IfSome, option_map, option_and_then, bytes_eq, refl, ap}
 use Rattle.std.proofs.lemmas.List.{append-nil}
 use Rattle.clap.specs.Lexer.{long_of, long_of_rest, name_and_value, short_of, short_of_rest, strip_byte}
 use Rattle.clap.specs.Walk.{Row, Text, arg_by_id, arg_by_long, idle, option}
 use Rattle.words.specs.Found.{has_dashes}
-use Rattle.words.specs.Words.{Item, begun, differ, has_name, is_value, items_from, names_of, option_of, with_item}
+use Rattle.words.specs.Words.{Item, begun, has_name, is_value, items_from, names_of, option_of, with_item}
 use Rattle.words.proofs.Names.{opt, by_id, by_long, has_row-names, item, neither, row, used-fresh}
-use Rattle.words.proofs.Items.{Good, by_values, good-more, have_values, known, strict, through, through-again, through-bad, through-more, through-unknown}
-use Rattle.words.proofs.Turns.{awaiting-ends, ends, found_or_not, full-again, full-fresh, held, idle-end, idle-other, idle-word, open-end, open-long, option-short, option-word, other_ends, stands, then_ends, unknown-ends, valued-again, valued-ends}
+use Rattle.words.proofs.Items.{Good, by_values, good-more, through, through-again, through-bad, through-more, through-unknown}
+use Rattle.words.proofs.Turns.{awaiting-ends, ends, found_or_not, full-again, full-fresh, held, idle-end, idle-other, idle-word, open-end, open-long, option-short, option-word, stands, then_ends, unknown-ends, valued-again, valued-ends}
 
 -- a walk ends with the rows of items whose names are known and differ, and these are accepted where each value is one
 pub record Reads (ns : List (List ℕ)) (accepted : Option (List Item)) (end : Option (List Row)) : Type 0 where
@@ -80,21 +80,21 @@ module _ (ns : List (List ℕ)) (word : Text) (ws : List Text) (no_dashes : has_
   idle-at (Some p) = long-at p.0 p.1 (has_name ns p.0) refl
 
   -- a word where a name awaits its value
-  begins-long : (b : ℕ) (bs : Text) (t : Bool) (p : Text × Option Text) → option_and_then long_of_rest (option_and_then (strip_byte 45) (cond t (Some bs) None)) ≡ Some p → not t ≡ false
-  begins-long b bs true p e = refl
-  begins-long b bs false p e = absurd (cc)
+  begins-long : (bs : Text) (t : Bool) (p : Text × Option Text) → option_and_then long_of_rest (option_and_then (strip_byte 45) (cond t (Some bs) None)) ≡ Some p → not t ≡ false
+  begins-long bs true p e = refl
+  begins-long bs false p e = absurd (cc)
 
   long-no_value : (w : Text) (p : Text × Option Text) → long_of w ≡ Some p → is_value w ≡ false
   long-no_value [] p e = refl
-  long-no_value (b ∷ bs) p e = begins-long b bs (b == 45) p e
+  long-no_value (b ∷ bs) p e = begins-long bs (b == 45) p e
 
-  begins-short : (b : ℕ) (bs : Text) (t : Bool) (f : Text) → option_and_then short_of_rest (cond t (Some bs) None) ≡ Some f → not t ≡ false
-  begins-short b bs true f e = refl
-  begins-short b bs false f e = absurd (cc)
+  begins-short : (bs : Text) (t : Bool) (f : Text) → option_and_then short_of_rest (cond t (Some bs) None) ≡ Some f → not t ≡ false
+  begins-short bs true f e = refl
+  begins-short bs false f e = absurd (cc)
 
   short-no_value : (w f : Text) → short_of w ≡ Some f → is_value w ≡ false
   short-no_value [] f e = refl
-  short-no_value (b ∷ bs) f e = begins-short b bs (b == 45) f e
+  short-no_value (b ∷ bs) f e = begins-short bs (b == 45) f e
 
   open-at : (n : Text) (l : Option (Text × Option Text)) → has_name ns n ≡ true → long_of word ≡ l
       → Reads ns (through ns done (with_item n word (items_from None ws))) (then_ends ns (option n) word l (held (map row done) (Some (n, []))) ws)

@@ -1,9 +1,9 @@
 -- The walk of `clap`, word by word, for a command of plain options: what it ends with, where nothing fails.
-use Rattle.std.proofs.Common.{◌≡◌, ◌∙◌, ◌⊎◌, inl, inr, ℕ, zero, suc, Bool, true, false, cond, List, [], ◌∷◌, map, length, fold, Option, Some, None, slice_get, chars, bytes_eq, refl, sym, ap}
+use Rattle.std.proofs.Common.{◌≡◌, ◌∙◌, ◌⊎◌, inl, inr, ℕ, zero, suc, Bool, true, false, cond, List, [], ◌∷◌, map, length, fold, Option, Some, None, slice_get, chars, bytes_eq, refl, sym}
 use Rattle.std.specs.Option.{option_map_or}
 use Rattle.clap.specs.Lexer.{long_of, short_of}
 use Rattle.clap.specs.Kinds.{Kinds, or_else}
-use Rattle.clap.specs.Walk.{Held, Row, Rule, Text, Waiting, Walk, after_step, arg_by_id, arg_by_index, arg_by_long, arg_by_short, bundle_met, done, has_row, idle, long_or_other, option, plain, settled_rows, short_or_plain, used, walked}
+use Rattle.clap.specs.Walk.{Held, Row, Text, Waiting, Walk, after_step, arg_by_id, arg_by_long, bundle_met, has_row, idle, long_or_other, option, plain, settled_rows, short_or_plain, used, walked}
 use Rattle.clap.specs.Simple.{Shape, built}
 use Rattle.clap.specs.Faults.{bundle_fault, flag_word_fault, flags_fault, settle_fault, step_fault, turn_fault, walk_fault}
 use Rattle.clap.specs.declared.error.kind.ErrorKind.TheVariants.{UnknownArgument}

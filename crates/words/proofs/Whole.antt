@@ -1,9 +1,8 @@
 -- What `clap` finds in all the words, against the definition.
-use Rattle.std.proofs.Common.{◌≡◌, ◌∙◌, ℕ, Bool, true, false, cond, not, ◌&&◌, ◌||◌, List, [], ◌∷◌, ◌++◌, map, fold, codes, Option, Some, None, IfSome, inl, inr, subst, option_map, option_and_then, refl, sym, ap, ap₂}
-use Rattle.std.specs.List.{list_all, list_any}
+use Rattle.std.proofs.Common.{◌≡◌, ◌∙◌, Bool, true, false, cond, ◌&&◌, ◌||◌, List, [], ◌∷◌, map, fold, codes, Option, Some, None, IfSome, inl, inr, subst, option_map, option_and_then, refl, sym, ap, ap₂}
+use Rattle.std.specs.List.{list_all}
 use Rattle.std.specs.Option.{is_some}
 use Rattle.clap.specs.Walk.{Held, Row, Text, Walk, finished, first_of, idle, has_row, nothing_held, rows_of, settled, walk, with_default}
-use Rattle.clap.specs.Takes.{is_given}
 use Rattle.clap.specs.Matches.{first_value, found_of}
 use Rattle.clap.specs.Values.{kind_of}
 use Rattle.clap.specs.Kinds.{HasKind, Kinds, or_else}
@@ -19,7 +18,7 @@ use Rattle.words.specs.Found.{all_pass, found_settings, has_dashes, passes}
 use Rattle.words.specs.Words.{Item, accepted, are_options, items_from, names, settings_of, value_of, words_settings}
 use Rattle.words.specs.declared.settings.Settings.{Settings}
 use Rattle.words.proofs.Names.{first_of-items, opt, row}
-use Rattle.words.proofs.Items.{Good, by_values, have_values, strict, through}
+use Rattle.words.proofs.Items.{Good, by_values, have_values, through}
 use Rattle.words.proofs.Turns.{end_of, ends, ends_by, held, stands, the_shape}
 use Rattle.words.proofs.Lookups.{lookups}
 use Rattle.words.proofs.Reading.{Reads, reading}

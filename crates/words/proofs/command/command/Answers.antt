@@ -1,7 +1,7 @@
-use Rattle.std.proofs.Common.{◌≡◌, ◌∙◌, ap, ap₂, codes, rules}
+use Rattle.std.proofs.Common.{◌≡◌, ◌∙◌, ap₂, rules}
 use Rattle.std.proofs.lemmas.Result.{IfOk-weaker}
-use Rattle.clap.specs.Simple.{App, app_of, app_of_fields, with_rule}
-use Rattle.words.specs.Command.{bare_app, option_rule}
+use Rattle.clap.specs.Simple.{app_of, with_rule}
+use Rattle.words.specs.Command.{bare_app}
 use Rattle.words.proofs.command.command.Goals as goal
 
 pub returns : goal.returns

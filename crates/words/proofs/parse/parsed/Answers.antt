@@ -1,4 +1,4 @@
-use Rattle.std.proofs.Common.{◌≡◌, ◌∙◌, map, string_bytes, sym}
+use Rattle.std.proofs.Common.{◌∙◌, map, string_bytes}
 use Rattle.clap.specs.Simple.{app_of}
 use Rattle.words.proofs.Whole.{found_by, refused_by}
 use Rattle.words.proofs.parse.parsed.Goals as goal

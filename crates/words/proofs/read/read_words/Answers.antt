@@ -1,4 +1,4 @@
-use Rattle.std.proofs.Common.{◌≡◌, ◌∙◌, map, string_bytes, sym}
+use Rattle.std.proofs.Common.{◌∙◌, map, string_bytes, sym}
 use Rattle.words.proofs.Dashes.{dashed}
 use Rattle.words.proofs.read.read_words.Goals as goal
 
