@@ -1,7 +1,7 @@
 //! Rows of words, accepted and refused.
 
 use crate::{AppKind, Emit, Settings, WordsError, read_words, usage_text};
-use std::alloc::{AllocFailed, Global};
+use std::alloc::Global;
 use std::test::Fail;
 
 // The words of a line, between blanks.
