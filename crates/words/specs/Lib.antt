@@ -1,0 +1,5 @@
+pub mod Offers
+pub mod Words
+pub mod Usage
+pub mod Found
+pub mod Command
