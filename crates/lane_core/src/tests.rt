@@ -178,17 +178,3 @@ fn each_packet_looks_at_a_tree(rt: HostRuntime) -> Result<(), Fail> {
     assert_eq!(rt; end.callbacks, 6);
     Ok(())
 }
-
-fn is_send<T: Send>(_: &T) -> bool {
-    true
-}
-
-#[test]
-fn lanes_are_handed_to_threads(rt: HostRuntime) -> Result<(), Fail> {
-    let alloc = rt.alloc();
-    let lane = Lane::new(alloc, LogApp, Table::new(alloc), true)?;
-    assert!(rt; is_send(&lane));
-    let end = end(alloc, lane)?;
-    assert!(rt; is_send(&end));
-    Ok(())
-}
