@@ -1,10 +1,11 @@
 -- The records of a lane, with their histories, by their packets.
 use Rattle.std.specs.Prelude.{ℕ, Bool, false, List, [], ◌∷◌}
+use Rattle.app_api.specs.declared.reaction.Verdict.{Verdict}
 use Rattle.app_api.specs.App.{Meaning}
 use Rattle.forest_versions.specs.State.{ControlState}
 use Rattle.connection_core.specs.History.{History, is_over}
 use Rattle.lane_core.specs.Sight.{Sight, Arrival}
-use Rattle.lane_core.specs.Records.{RecordSoFar, history_after, first_history}
+use Rattle.lane_core.specs.Records.{RecordSoFar, history_after, first_history, verdict_after, first_verdict}
 use Rattle.worker_laws.specs.Members.{Members}
 
 -- a history with later packets, one after the other
@@ -20,6 +21,12 @@ history_of app control first later = history_through app control first.sight (fi
 abbrev pub over_by : Meaning → (ℕ → ControlState) → ℕ → List Arrival → Bool
 over_by app control_at version [] = false
 over_by app control_at version (first ∷ later) = is_over (history_of app (control_at version) first later)
+
+-- what becomes of a packet after these
+abbrev pub judge_by : Meaning → (ℕ → ControlState) → ℕ → List Arrival → Arrival → Verdict
+judge_by app control_at version [] a = first_verdict app (control_at version) a
+judge_by app control_at version (first ∷ later) a =
+    verdict_after app (control_at version) first.sight a (history_of app (control_at version) first later)
 
 abbrev pub with_history : Meaning → (ℕ → ControlState) → Members → RecordSoFar
 with_history app control_at m =

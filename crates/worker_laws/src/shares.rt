@@ -8,21 +8,25 @@ ghost use Rattle.app_api.specs.declared.reaction.Verdict.{Verdict};
 ghost use Rattle.forest_versions.specs.State.{ControlState};
 ghost use Rattle.report_text.specs.declared.record.Record.{Record};
 ghost use Rattle.lane_core.specs.Sight.{Arrival};
-ghost use Rattle.lane_core.specs.Records.{VersionedPacket, versioned, records as lane_records};
+ghost use Rattle.lane_core.specs.Records.{VersionedPacket, verdict_on, versioned, records as lane_records};
 ghost use Rattle.worker_laws.specs.Members.{Members, name_of, records};
 ghost use Rattle.worker_laws.specs.Lanes.{lane_of, share, part};
 ghost use Rattle.worker_laws.specs.Named.{records_under};
-ghost use Rattle.worker_laws.specs.Judged.{judged};
+ghost use Rattle.worker_laws.specs.Judged.{judged, verdict_of};
 ghost use Rattle.worker_laws.specs.Rising.{Rises};
 ghost use Rattle.worker_laws.specs.Allowed.{arrivals_of};
 ghost use Rattle.worker_laws.specs.Runs.{judged_part, AreRuns};
 ghost use Rattle.worker_laws.specs.Merge.{list_at, names_in, AreOfLanes, IsMerge, lane_at};
-ghost use Rattle.worker_laws.specs.Histories.{over_by, with_history};
+ghost use Rattle.worker_laws.specs.Histories.{judge_by, over_by, with_history};
 
-/// The records of a lane are those by their packets, each with the history of these.
+/// The records of a lane are those by their packets, each with the history of these; and what becomes of a packet after
+/// them is what the packets of its connection say.
 pub fn records_are_their_packets()
     ensures records { (app : Meaning) (control_at : ℕ → ControlState) (ps : List VersionedPacket)
         → lane_records app control_at ps ≡ map (with_history app control_at) (records (over_by app control_at) ps) }
+    ensures verdicts { (app : Meaning) (control_at : ℕ → ControlState) (p : VersionedPacket) (ms : List Members)
+        → verdict_on app control_at p (map (with_history app control_at) ms)
+        ≡ verdict_of (over_by app control_at) (judge_by app control_at) p ms }
 {}
 
 /// Where two ways to give versions agree on the packets of a lane's share, what the share alone makes under the one is
