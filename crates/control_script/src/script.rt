@@ -106,6 +106,7 @@ impl Script {
     pub fn ceil(&self, n: u64) -> u32
         ensures ceil { result ≡ ceil self.now n }
         ensures within { result ≤ length self.now }
+        ensures most { result ≤ 4096 }
     {
         self.seen(n) as u32
     }

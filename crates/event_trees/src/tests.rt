@@ -2,6 +2,7 @@
 
 mod forests;
 mod judge;
+mod natives;
 mod random;
 mod trees;
 mod walks;
@@ -11,7 +12,8 @@ ghost use Rattle.std.specs.Prelude.{◌≡◌, IfOk};
 use crate::{Defs, EventDef, Walk};
 use app_api::{Action, ActiveList, Changes, PeekSpec, Reg};
 use filter_lang::parse;
-use native_filters::{Facts, Hook, NativeBook};
+use native_filters::{Facts, Hook};
+use natives::next_of;
 use shared_forest::Tree;
 use std::alloc::{AllocError, Global};
 use std::test::Fail;
@@ -86,11 +88,10 @@ fn called(
     event: u16,
     facts: &Facts,
 ) -> Result<Vec<u8>, AllocError> {
-    let natives = NativeBook::plain();
     let mut walk = Walk::start(tree, hook, event, facts);
     let mut called = Vec::new(alloc);
     for _ in 0..256 {
-        match walk.next(defs, &natives) {
+        match next_of(&mut walk, defs) {
             Some(number) => called.push(number)?,
             None => break,
         }

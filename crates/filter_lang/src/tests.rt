@@ -1,8 +1,24 @@
 //! Filters as authors write them.
 
-use crate::{Atom, FilterError, Join, Op, Term, eval, parse, print};
-use native_filters::{Facts, NativeBook};
+use crate::{Atom, Expr, FilterError, Join, Op, Term, eval, parse, print};
+use native_filters::{
+    Facts, Native, NativeBook, has_differing_bytes, has_system_port, is_ending, is_keep_alive,
+    is_opening, is_private_traffic,
+};
 use std::test::Fail;
+
+// Whether a filter is true of the facts, where the native filters are the plain functions.
+fn is_true(filter: &Expr, facts: &Facts) -> bool {
+    let natives = NativeBook::new(
+        Native::new(0, is_opening),
+        Native::new(1, has_system_port),
+        Native::new(2, is_private_traffic),
+        Native::new(3, is_keep_alive),
+        Native::new(4, is_ending),
+        Native::new(5, has_differing_bytes),
+    );
+    eval(filter, facts, &natives)
+}
 
 #[test]
 fn refusals_at_their_offsets(rt: HostRuntime) {
@@ -88,11 +104,14 @@ fn true_of_the_facts(rt: HostRuntime) -> Result<(), Fail> {
         ("flags has 2 && !(flags has 16)", syn, true),
         ("flags has 2 && !(flags has 16)", syn_ack, false),
         ("7 - 2 - 1 = 4 && 7 % 0 = 0", none, true),
+        ("native 0", syn, true),
+        ("native 0", syn_ack, false),
+        ("native 1 && native 2 && !native 3", syn, true),
+        ("native 4 || native 5", syn_ack, false),
     ];
-    let natives = NativeBook::plain();
     for (text, facts, truth) in rows {
         let filter = parse(rt.alloc(), text)?;
-        assert_eq!(rt; eval(&filter, &facts, &natives), truth, "at {text}");
+        assert_eq!(rt; is_true(&filter, &facts), truth, "at {text}");
     }
     Ok(())
 }
@@ -132,6 +151,6 @@ fn long_filters_are_read(rt: HostRuntime) -> Result<(), Fail> {
     }
     text.push_str("false")?;
     let filter = parse(rt.alloc(), text.as_str())?;
-    assert!(rt; !eval(&filter, &Facts::none(), &NativeBook::plain()));
+    assert!(rt; !is_true(&filter, &Facts::none()));
     Ok(())
 }

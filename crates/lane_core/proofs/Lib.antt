@@ -2,6 +2,7 @@ pub mod Places
 pub mod Holding
 pub mod Restricted
 pub mod Growing
+pub mod Handed
 pub mod Totals
 pub mod OpenFlows
 pub mod Tables

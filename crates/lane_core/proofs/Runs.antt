@@ -7,10 +7,11 @@ use Rattle.app_api.specs.declared.registration.Reg.{Reg}
 use Rattle.forest_versions.specs.declared.command.Command.{Command}
 use Rattle.forest_versions.specs.State.{ControlState, control, master}
 use Rattle.lane_core.specs.Sight.{Arrival}
-use Rattle.lane_core.specs.Records.{VersionedPacket, RecordSoFar, belongs_to, first_history, history_after, continued_by, added, records_from}
+use Rattle.lane_core.specs.Records.{VersionedPacket, RecordSoFar, belongs_to, first_history, history_after, continued_by, added, records_from, first_verdict, verdict_after, verdict_on}
 use Rattle.lane_core.specs.Run.{LaneEvent, Gave, Arrived, commands_of, versioned_from, control_of, lane_run, last_number, newest_of}
 use Rattle.lane_core.specs.Shown.{total, weight}
-use Rattle.lane_core.specs.Lane.{IsHeavy, with_event}
+use Rattle.lane_core.specs.Lane.{IsHeavy, next_verdict, with_event}
+use Rattle.lane_core.specs.Laws.{OneEventMore, LaterCommandsChangeNone, LastPacketIsAdded}
 use Rattle.lane_core.proofs.Weighing.{weight_never_falls}
 
 -- ---- the events, one more at the end
@@ -49,7 +50,7 @@ versioned-arrived v (Arrived b ∷ es) a = ap (λ ps. record { version = v; arri
 
 -- ---- the records
 
-records-last : (app : Meaning) (control_at : ℕ → ControlState) (so_far : List RecordSoFar) (ps : List VersionedPacket) (p : VersionedPacket)
+pub records-last : (app : Meaning) (control_at : ℕ → ControlState) (so_far : List RecordSoFar) (ps : List VersionedPacket) (p : VersionedPacket)
     → records_from app control_at so_far (ps ++ p ∷ []) ≡ added app control_at p (records_from app control_at so_far ps)
 unfolding records_from
 records-last app control_at so_far [] p = refl
@@ -93,6 +94,24 @@ module _ (app : Meaning) (most : ℕ) (one two : ℕ → ControlState) (agree : 
   records-agree (p ∷ ps) rs low all =
       records-agree ps (added app one p rs) low.1 (added-at_most p rs low.0 all) ∙ ap (λ l. records_from app two l ps) (added-agrees p rs low.0 all)
 
+  records-at_most : (ps : List VersionedPacket) (rs : List RecordSoFar) → PacketsAtMost most ps → AreAtMost most rs → AreAtMost most (records_from app one rs ps)
+  unfolding records_from
+  records-at_most [] rs low all = all
+  records-at_most (p ∷ ps) rs low all = records-at_most ps (added app one p rs) low.1 (added-at_most p rs low.0 all)
+
+  verdicts-agree : (p : VersionedPacket) (rs : List RecordSoFar) → p.version ≤ most → AreAtMost most rs → verdict_on app one p rs ≡ verdict_on app two p rs
+  unfolding verdict_on
+  verdicts-agree p [] low all = ap (λ c. first_verdict app c p.arrival) (agree p.version low)
+  verdicts-agree p (r ∷ rs) low all =
+      let rest = verdicts-agree p rs low all.1 in
+      let same : verdict_after app (one r.version) r.first.sight p.arrival r.history ≡ verdict_after app (two r.version) r.first.sight p.arrival r.history =
+      ap (λ c. verdict_after app c r.first.sight p.arrival r.history) (agree r.version all.0) in
+      elim (belongs_to p.arrival.sight r) as (λ b. (if b then verdict_after app (one r.version) r.first.sight p.arrival r.history else verdict_on app one p rs)
+      ≡ (if b then verdict_after app (two r.version) r.first.sight p.arrival r.history else verdict_on app two p rs)) [
+        | true ↦ same
+        | false ↦ rest
+      ]
+
 packets_at_most : (v : ℕ) (es : List LaneEvent) → PacketsAtMost (v + length (commands_of es)) (versioned_from v es)
 packets_at_most v [] = tt
 packets_at_most v (Gave d ∷ es) =
@@ -100,10 +119,14 @@ packets_at_most v (Gave d ∷ es) =
     subst (λ n. PacketsAtMost n (versioned_from (v + 1) es)) count (packets_at_most (v + 1) es)
 packets_at_most v (Arrived b ∷ es) = (omega arith, packets_at_most v es)
 
-take-front : {T : Type 0} (xs : List T) (x : T) (n : ℕ) → n ≤ length xs → take n (xs ++ x ∷ []) ≡ take n xs
-take-front xs x zero within = refl
-take-front [] x (suc n) within = absurd (omega arith)
-take-front (y ∷ xs) x (suc n) within = let below : n ≤ length xs = omega arith in ap (λ l. y ∷ l) (take-front xs x n below)
+packets-run : (es : List LaneEvent) → PacketsAtMost (length (commands_of es)) (versioned_from 0 es)
+packets-run es =
+    subst (λ n. PacketsAtMost n (versioned_from 0 es)) (let none_more : 0 + length (commands_of es) ≡ length (commands_of es) = omega arith in none_more) (packets_at_most 0 es)
+
+take-front : {T : Type 0} (xs more : List T) (n : ℕ) → n ≤ length xs → take n (xs ++ more) ≡ take n xs
+take-front xs more zero within = refl
+take-front [] more (suc n) within = absurd (omega arith)
+take-front (y ∷ xs) more (suc n) within = let below : n ≤ length xs = omega arith in ap (λ l. y ∷ l) (take-front xs more n below)
 
 -- ---- a run
 
@@ -115,17 +138,44 @@ packet_is_added app es a =
     ∙ ap (records_from app (control_of app es) []) (versioned-arrived 0 es a ∙ ap (λ n. versioned_from 0 es ++ record { version = n; arrival = a } ∷ []) (let none_more : 0 + length (commands_of es) ≡ length (commands_of es) = omega arith in none_more))
     ∙ records-last app (control_of app es) [] (versioned_from 0 es) (record { version = length (commands_of es); arrival = a })
 
+pub later_records : (app : Meaning) (es : List LaneEvent) (more : List Command)
+    → lane_run app es ≡ records_from app (master app.presets (commands_of es ++ more)) [] (versioned_from 0 es)
+unfolding lane_run
+later_records app es more =
+    let cs = commands_of es in
+    sym (records-agree app (length cs) (master app.presets (cs ++ more)) (master app.presets cs)
+    (λ v low. ap (control app.presets) (take-front cs more v low)) (versioned_from 0 es) [] (packets-run es) tt)
+
 pub command_changes_none : (app : Meaning) (es : List LaneEvent) (c : Command) → lane_run app (with_event (Gave c) es) ≡ lane_run app es
 unfolding lane_run
 command_changes_none app es c =
-    let cs = commands_of es in
     ap (λ ds. records_from app (master app.presets ds) [] (versioned_from 0 (es ++ Gave c ∷ []))) (commands-gave es c)
-    ∙ ap (records_from app (master app.presets (cs ++ c ∷ [])) []) (versioned-gave 0 es c)
-    ∙ records-agree app (length cs) (master app.presets (cs ++ c ∷ [])) (master app.presets cs)
-    (λ v low. ap (control app.presets) (take-front cs c v low)) (versioned_from 0 es) [] (subst (λ n. PacketsAtMost n (versioned_from 0 es)) (let none_more : 0 + length cs ≡ length cs = omega arith in none_more) (packets_at_most 0 es)) tt
+    ∙ ap (records_from app (master app.presets (commands_of es ++ c ∷ [])) []) (versioned-gave 0 es c)
+    ∙ sym (later_records app es (c ∷ []))
+
+pub later_verdict : (app : Meaning) (es : List LaneEvent) (a : Arrival) (more : List Command)
+    → next_verdict app es a ≡ verdict_on app (master app.presets (commands_of es ++ more)) (record { version = length (commands_of es); arrival = a }) (lane_run app es)
+unfolding lane_run
+later_verdict app es a more =
+    let cs = commands_of es in
+    sym (verdicts-agree app (length cs) (master app.presets (cs ++ more)) (master app.presets cs) (λ v low. ap (control app.presets) (take-front cs more v low))
+    (record { version = length cs; arrival = a }) (lane_run app es) (le_refl (length cs))
+    (records-at_most app (length cs) (master app.presets cs) (master app.presets cs) (λ v low. refl) (versioned_from 0 es) [] (packets-run es) tt))
 
 pub heavy_stays : (app : Meaning) (es : List LaneEvent) (event : LaneEvent) → IsHeavy app es → IsHeavy app (with_event event es)
 heavy_stays app es (Gave c) heavy = subst (λ rs. 134217728 < weight rs) (sym (command_changes_none app es c)) heavy
 heavy_stays app es (Arrived a) heavy =
     let more = weight_never_falls app (control_of app es) (record { version = length (commands_of es); arrival = a }) (lane_run app es) in
     subst (λ rs. 134217728 < weight rs) (sym (packet_is_added app es a)) (omega (arith, heavy, more))
+
+pub one_event_more : OneEventMore
+one_event_more = record {
+  command = λ es c. (commands-gave es c, versioned-gave 0 es c);
+  packet = λ es a. (commands-arrived es a, versioned-arrived 0 es a ∙ ap (λ n. versioned_from 0 es ++ record { version = n; arrival = a } ∷ []) (let none_more : 0 + length (commands_of es) ≡ length (commands_of es) = omega arith in none_more));
+}
+
+pub later_commands_change_none : LaterCommandsChangeNone
+later_commands_change_none = record { records = later_records; verdicts = later_verdict }
+
+pub last_packet_is_added : LastPacketIsAdded
+last_packet_is_added app control_at ps p = records-last app control_at [] ps p

@@ -12,14 +12,14 @@ use Rattle.app_api.specs.Numbers.{rise_from}
 use Rattle.app_api.specs.declared.registration.Reg.{Reg}
 use Rattle.report_text.specs.Tidy.{is_event, tidy}
 use Rattle.flow_table.specs.Key.{EndpointPair}
-use Rattle.forest_versions.specs.State.{ControlState, start, active as first_active}
+use Rattle.forest_versions.specs.State.{ControlState, start, master, active as first_active}
 use Rattle.connection_core.specs.History.{History, followed, orphaned}
 use Rattle.forest_versions.specs.declared.command.Command.{Command}
 use Rattle.lane_core.specs.Sight.{Segment, Sight, Tcp, Other, Arrival, key_of_segment}
-use Rattle.lane_core.specs.Run.{LaneEvent, Gave, Arrived, commands_of, control_of, lane_run}
-use Rattle.lane_core.specs.Lane.{IsHeavy, with_event}
+use Rattle.lane_core.specs.Run.{LaneEvent, Gave, Arrived, commands_of, versioned_from, control_of, lane_run}
+use Rattle.lane_core.specs.Lane.{IsHeavy, next_verdict, with_event}
 use Rattle.lane_core.specs.Shown.{record_of, weight}
-use Rattle.lane_core.specs.Records.{VersionedPacket, RecordSoFar, belongs_to, started_by, continued_by, added, records, orphan_raises_of}
+use Rattle.lane_core.specs.Records.{VersionedPacket, RecordSoFar, belongs_to, started_by, continued_by, added, verdict_on, records, orphan_raises_of}
 
 module _ (app : Meaning) (control_at : ℕ → ControlState) where
   -- a record after later packets: it takes those that belong to it while it is open
@@ -106,3 +106,24 @@ CommandChangesNone = (app : Meaning) (events : List LaneEvent) (c : Command) →
 -- a run that weighs too much stays so
 abbrev pub HeavyStays : Type 0
 HeavyStays = (app : Meaning) (events : List LaneEvent) (event : LaneEvent) → IsHeavy app events → IsHeavy app (with_event event events)
+
+-- One event more: a command stands behind the commands of the run, a packet behind its packets, with the version of the
+-- commands before it.
+pub record OneEventMore : Type 0 where
+  pub command : (events : List LaneEvent) (c : Command) → (commands_of (with_event (Gave c) events) ≡ commands_of events ++ c ∷ [])
+      × (versioned_from 0 (with_event (Gave c) events) ≡ versioned_from 0 events)
+  pub packet : (events : List LaneEvent) (a : Arrival) → (commands_of (with_event (Arrived a) events) ≡ commands_of events)
+      × (versioned_from 0 (with_event (Arrived a) events) ≡ versioned_from 0 events ++ record { version = length (commands_of events); arrival = a } ∷ [])
+
+-- Commands behind those of a run change neither its records nor what becomes of one more packet.
+pub record LaterCommandsChangeNone : Type 0 where
+  pub records : (app : Meaning) (events : List LaneEvent) (more : List Command)
+      → lane_run app events ≡ records app (master app.presets (commands_of events ++ more)) (versioned_from 0 events)
+  pub verdicts : (app : Meaning) (events : List LaneEvent) (a : Arrival) (more : List Command)
+      → next_verdict app events a
+      ≡ verdict_on app (master app.presets (commands_of events ++ more)) (record { version = length (commands_of events); arrival = a }) (lane_run app events)
+
+-- one packet more at the end is added to the records
+abbrev pub LastPacketIsAdded : Type 0
+LastPacketIsAdded = (app : Meaning) (control_at : ℕ → ControlState) (ps : List VersionedPacket) (p : VersionedPacket)
+    → records app control_at (ps ++ p ∷ []) ≡ added app control_at p (records app control_at ps)

@@ -1,6 +1,6 @@
 //! Laws on the records of packets: what the definition of records says in other words.
 
-ghost use Rattle.lane_core.specs.Laws.{RecordsGrow, RecordsByKey, PresetsAreCalled, RecordsAreTidy, WeightNeverFalls, PacketIsAdded, CommandChangesNone, HeavyStays};
+ghost use Rattle.lane_core.specs.Laws.{RecordsGrow, RecordsByKey, PresetsAreCalled, RecordsAreTidy, WeightNeverFalls, PacketIsAdded, CommandChangesNone, HeavyStays, OneEventMore, LaterCommandsChangeNone, LastPacketIsAdded};
 
 /// Each packet that no open connection takes begins a record, and a record takes each later packet of its key while it is
 /// open: the definition by one record at a time.
@@ -44,4 +44,19 @@ pub fn command_changes_none()
 /// A run that weighs too much stays so, whatever comes.
 pub fn heavy_stays()
     ensures { HeavyStays }
+{}
+
+/// One event more at the end of a run: its commands, and its packets with their versions.
+pub fn one_event_more()
+    ensures { OneEventMore }
+{}
+
+/// Commands behind those of a run change neither its records nor what becomes of one more packet.
+pub fn later_commands_change_none()
+    ensures { LaterCommandsChangeNone }
+{}
+
+/// One packet more behind others is added to their records.
+pub fn last_packet_is_added()
+    ensures { LastPacketIsAdded }
 {}

@@ -12,7 +12,10 @@ use counting::Counting;
 use forest_versions::Command;
 use frames::{ACK, ARP, SYN, SYN_ACK, captured, higher};
 use native_filters::Hook::{Rcv, Snd};
-use native_filters::{Hook, NativeBook};
+use native_filters::{
+    Hook, Native, NativeBook, has_differing_bytes, has_system_port, is_ending, is_keep_alive,
+    is_opening, is_private_traffic,
+};
 use shared_forest::Table;
 use std::alloc::Global;
 use std::test::Fail;
@@ -27,7 +30,7 @@ fn may_come<L: Recorder>(lane: &L, number: u64) -> bool
     }
 }
 
-// One packet more.
+// One packet more, where the native filters are the plain functions.
 fn take<L: Recorder>(
     alloc: Global,
     lane: &mut L,
@@ -38,7 +41,15 @@ fn take<L: Recorder>(
     if number >= 1_048_576 || !may_come(lane, number) {
         return Err(Fail::from("no packet that may come"));
     }
-    match lane.packet(alloc, number, &frame, &NativeBook::plain()) {
+    let natives = NativeBook::new(
+        Native::new(0, is_opening),
+        Native::new(1, has_system_port),
+        Native::new(2, is_private_traffic),
+        Native::new(3, is_keep_alive),
+        Native::new(4, is_ending),
+        Native::new(5, has_differing_bytes),
+    );
+    match lane.packet(alloc, number, &frame, &natives) {
         Ok(verdict) => Ok(verdict),
         Err(_) => Err(Fail::from("a lane failed")),
     }

@@ -1,8 +1,12 @@
-//! The program `mos`: reads a capture on standard input and prints the report of its connections.
+//! The program `mos`: replays the capture on standard input as its words say, and prints what they ask for.
 #![tactic(auto)]
 
-use mos_bytes::{ReadSource, WriteSink};
+use mos_bytes::{FolderShelf, ReadSource, WriteSink};
 use mos_run::{RunError, refuse, run_mos};
+use native_filters::{
+    Native, NativeBook, has_differing_bytes, has_system_port, is_ending, is_keep_alive, is_opening,
+    is_private_traffic,
+};
 use std::env::{self, Env};
 use std::io;
 use std::process::ExitCode;
@@ -11,7 +15,7 @@ use std::process::ExitCode;
 fn words_refusal(error: &io::Error) -> RunError {
     match error.kind() {
         io::ErrorKind::OutOfMemory => RunError::NoMemory,
-        _ => RunError::NotBuilt,
+        _ => RunError::Usage,
     }
 }
 
@@ -20,8 +24,26 @@ fn main(rt: HostRuntime) -> ExitCode {
     let mut capture = ReadSource::new(rt.stdin());
     let mut out = WriteSink::new(rt.stdout());
     let mut err = WriteSink::new(rt.stderr());
-    let ended = match words(&rt) {
-        Ok(words) => run_mos(alloc, words.as_slice(), &mut capture, &mut out, &mut err),
+    let natives = NativeBook::new(
+        Native::new(0, is_opening),
+        Native::new(1, has_system_port),
+        Native::new(2, is_private_traffic),
+        Native::new(3, is_keep_alive),
+        Native::new(4, is_ending),
+        Native::new(5, has_differing_bytes),
+    );
+    let words = words(&rt);
+    let mut shelf = FolderShelf::new(rt);
+    let ended = match words {
+        Ok(words) => run_mos(
+            alloc,
+            words.as_slice(),
+            &mut capture,
+            &mut shelf,
+            &mut out,
+            &mut err,
+            &natives,
+        ),
         Err(error) => refuse(alloc, &mut err, words_refusal(&error)),
     };
     ExitCode::from(ended.status)

@@ -1,3 +1,9 @@
+pub mod Apps
+pub mod Events
+pub mod Following
+pub mod Closing
 pub mod Reading
 pub mod Replaying
 pub mod Refusals
+pub mod Scripts
+pub mod Outcomes

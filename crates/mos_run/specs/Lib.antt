@@ -1,6 +1,9 @@
-pub mod Report
+pub mod Apps
+pub mod Records
+pub mod Forward
+pub mod Summary
 pub mod Refusal
 pub mod Outcome
-pub mod Replay
-pub mod Run
+pub mod Told
 pub mod Reading
+pub mod Run

@@ -1,46 +1,96 @@
--- How a run over the bytes of a capture ends.
-use Rattle.std.specs.Prelude.{ℕ, List, length, map, nat_lt, if◌then◌else◌, Result, Ok, Err}
-use Rattle.app_api.specs.Log.{log}
+-- How a run over the bytes of a capture ends, and what it writes.
+use Rattle.std.specs.Prelude.{ℕ, Bool, true, false, not, ◌&&◌, List, [], ◌++◌, length, take, map, nat_lt, if◌then◌else◌, Option, Some, None, Result, Ok, Err}
+use Rattle.app_api.specs.App.{Meaning}
 use Rattle.pcap_source.specs.Captured.{Captured}
 use Rattle.pcap_source.specs.Capture.{Frames, Ending, tail, too_long, too_many, capture_of}
 use Rattle.pcap_source.specs.declared.errors.OpenError.{OpenError}
-use Rattle.pcap_source.specs.declared.errors.OpenError.TheVariants as Open
 use Rattle.pcap_source.specs.declared.errors.CaptureFault.TheVariants as Fault
-use Rattle.mos_run.specs.declared.refusal.RunError.{RunError}
-use Rattle.mos_run.specs.declared.refusal.RunError.TheVariants.{Capture, TooMany, Heavy, ReadFault}
-use Rattle.mos_run.specs.declared.report.Report.{Report}
-use Rattle.lane_core.specs.Records.{RecordSoFar}
+use Rattle.report_text.specs.Report.{report_text}
+use Rattle.report_text.specs.declared.record.Record.{Record}
+use Rattle.report_text.specs.declared.record.Totals.{Totals}
+use Rattle.control_script.specs.declared.stamped.Stamped.{Stamped}
 use Rattle.lane_core.specs.Shown.{record_of, weight}
-use Rattle.mos_run.specs.Report.{records_of, totals_of}
+use Rattle.words.specs.declared.settings.Emit.{Emit}
+use Rattle.words.specs.declared.settings.Emit.TheVariants as Emit
+use Rattle.words.specs.declared.settings.Settings.{Settings}
+use Rattle.mos_run.specs.declared.output.Output.{Output}
+use Rattle.mos_run.specs.declared.output.Output.TheVariants.{Report, Forward, Summary}
+use Rattle.mos_run.specs.declared.refusal.RunError.{RunError}
+use Rattle.mos_run.specs.declared.refusal.RunError.TheVariants.{Capture, TooMany, Heavy}
+use Rattle.mos_run.specs.Records.{records_of, versions_of, totals_of}
+use Rattle.mos_run.specs.Forward.{forwarded}
+use Rattle.mos_run.specs.Summary.{summary_text}
+use Rattle.mos_run.specs.Refusal.{header_refusal}
 
-abbrev pub report_of : List RecordSoFar → ℕ → ℕ → Report
-report_of records packets rest = record { records = map (record_of log) records; totals = totals_of records packets rest }
+-- ---- what is written
 
--- a report may weigh at most 134,217,728: 32 for each callback, and the bytes that it saw
-abbrev pub weighed : List RecordSoFar → Report → Result Report RunError
-weighed records report = if nat_lt 134217728 (weight records) then Err Heavy else Ok report
+abbrev pub emitted : Emit → Output
+emitted Emit.Report = Report
+emitted Emit.Forward = Forward
+emitted Emit.Summary = Report
 
--- whole records that were followed to the end of the capture, or to where it is refused
-abbrev pub followed_to : List Captured → Ending → Result Report RunError
-followed_to frames (tail n) = weighed (records_of (λ _. 0) frames) (report_of (records_of (λ _. 0) frames) (length frames) n)
-followed_to frames (too_long offset) = Err (Capture Fault.TooLong offset)
-followed_to frames (too_many offset) = Err (TooMany offset)
+-- the summary of a capture that is made, else what is emitted
+abbrev pub output_by : Option ℕ → Emit → Output
+output_by None emit = emitted emit
+output_by (Some n) emit = Summary n
 
-unfoldable pub outcome_of_frames : Frames → Result Report RunError
-outcome_of_frames f = followed_to f.frames f.ending
+abbrev pub output_of : Settings → Output
+output_of s = output_by s.make s.emit
 
--- a refused global header, with the offset of what was refused
-abbrev pub header_refusal : OpenError → RunError
-header_refusal Open.BadMagic = Capture Fault.BadMagic 0
-header_refusal Open.BadVersion = Capture Fault.BadVersion 4
-header_refusal Open.BadLink = Capture Fault.BadLink 20
-header_refusal (Open.ShortHeader n) = Capture Fault.ShortHeader n
-header_refusal Open.ReadFault = ReadFault
+abbrev pub is_forward : Output → Bool
+is_forward Report = false
+is_forward Forward = true
+is_forward (Summary n) = false
 
-abbrev pub outcome_by : Result Frames OpenError → Result Report RunError
-outcome_by (Ok f) = outcome_of_frames f
-outcome_by (Err e) = Err (header_refusal e)
+-- what is written at the end, of these records and totals
+abbrev pub closing : Output → List Record → Totals → List ℕ
+closing Report records totals = report_text records totals
+closing Forward records totals = []
+closing (Summary n) records totals = summary_text n totals
 
--- how a run over these bytes ends: with this report, or refused
-unfoldable pub outcome : List ℕ → Result Report RunError
-outcome bytes = outcome_by (capture_of bytes)
+-- ---- the outcome
+
+-- all that a run writes, of which one that doesn't end well may have written a front; and the versions of its records, or why it
+-- is refused
+pub record Outcome : Type 0 where
+  pub text : List ℕ
+  pub ends : Result (List ℕ) RunError
+
+-- refused before anything is written
+abbrev pub refused : RunError → Outcome
+refused e = record { text = []; ends = Err e }
+
+module _ (app : Meaning) (script : List Stamped) where
+  -- what is written while the capture is read
+  abbrev pub streamed : Output → List ℕ → List Captured → List ℕ
+  streamed output header frames = if is_forward output then header ++ forwarded app script frames else []
+
+  -- A report may weigh at most 134,217,728: 32 for each callback, and the bytes that it saw. So may what is summed up.
+  abbrev pub is_heavy : Output → List Captured → Bool
+  is_heavy output frames = not (is_forward output) && nat_lt 134217728 (weight (records_of app script frames))
+
+  abbrev pub ended : Output → List ℕ → List Captured → ℕ → Outcome
+  ended output header frames rest = record {
+    text = streamed output header frames ++ closing output (map (record_of app) (records_of app script frames)) (totals_of (records_of app script frames) (length frames) rest);
+    ends = Ok (versions_of (records_of app script frames));
+  }
+
+  abbrev pub weighed : Output → List ℕ → List Captured → ℕ → Outcome
+  weighed output header frames rest = if is_heavy output frames then refused Heavy else ended output header frames rest
+
+  abbrev pub cut_off : Output → List ℕ → List Captured → RunError → Outcome
+  cut_off output header frames e = record { text = streamed output header frames; ends = Err e }
+
+  -- whole records, to the end of the capture or to where it is refused
+  abbrev pub followed : Output → List ℕ → List Captured → Ending → Outcome
+  followed output header frames (tail n) = weighed output header frames n
+  followed output header frames (too_long offset) = cut_off output header frames (Capture Fault.TooLong offset)
+  followed output header frames (too_many offset) = cut_off output header frames (TooMany offset)
+
+  abbrev pub outcome_by : Output → List ℕ → Result Frames OpenError → Outcome
+  outcome_by output header (Ok f) = followed output header f.frames f.ending
+  outcome_by output header (Err e) = refused (header_refusal e)
+
+  -- a run over these bytes
+  unfoldable pub outcome : Output → List ℕ → Outcome
+  outcome output bytes = outcome_by output (take 24 bytes) (capture_of bytes)

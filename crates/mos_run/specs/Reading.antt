@@ -1,27 +1,65 @@
--- What a lane has come to after the frames of a capture.
-use Rattle.std.specs.Prelude.{◌≡◌, ◌≢◌, ℕ, ⊤, Option, None, List, map, Result, Ok, Err}
+-- Only for proofs: what a run has come to after the frames of a capture, under a script.
+use Rattle.std.specs.Prelude.{◌≡◌, ◌≢◌, ℕ, ◌<◌, ◌≤◌, true, false, List, [], ◌++◌, length, take, if◌then◌else◌, Option, None, Some, Ok}
 use Rattle.app_api.specs.App.{Meaning}
 use Rattle.pcap_source.specs.Captured.{Captured}
+use Rattle.pcap_source.specs.Capture.{Frames, capture_of}
+use Rattle.pcap_source.specs.Reading.{CaptureState, frames_at}
+use Rattle.forest_versions.specs.State.{ControlState, control as control_after}
+use Rattle.control_script.specs.declared.stamped.Stamped.{Stamped}
+use Rattle.control_script.specs.Order.{commands_of}
+use Rattle.control_script.specs.Versions.{ceil}
 use Rattle.lane_core.specs.declared.errors.LaneError.{LaneError}
-use Rattle.lane_core.specs.Sight.{arrivals}
-use Rattle.lane_core.specs.Run.{LaneEvent, Arrived}
-use Rattle.lane_core.specs.Lane.{IsHeavy}
-use Rattle.mos_run.specs.declared.refusal.RunError.{RunError}
-use Rattle.mos_run.specs.declared.refusal.RunError.TheVariants.{NoMemory}
-use Rattle.mos_run.specs.declared.report.Report.{Report}
+use Rattle.lane_core.specs.Records.{VersionedPacket, records, verdict_on}
+use Rattle.lane_core.specs.Run.{LaneEvent, versioned_from, commands_of as given_in}
+use Rattle.lane_core.specs.Shown.{weight}
+use Rattle.lane_core.specs.Lane.{IsAfter}
+use Rattle.mos_run.specs.declared.output.Output.{Output}
+use Rattle.mos_run.specs.Records.{control_at, packets_of, records_of}
+use Rattle.mos_run.specs.Forward.{left_by, packet_of}
+use Rattle.mos_run.specs.Outcome.{is_forward, is_heavy}
 
--- the packets of these frames, without a command
-abbrev pub run_of : List Captured → List LaneEvent
-run_of frames = map Arrived (arrivals 0 frames)
+-- so many commands of the script were given, and this is in force
+pub record IsUnder (app : Meaning) (script : List Stamped) (given : ℕ) (control : ControlState) : Type 0 where
+  pub within : given ≤ length script
+  pub in_force : control ≡ control_after app.presets (take given (commands_of script))
 
--- it stands for their packets, which weigh no more than they may; or it failed, and they weigh too much
-pub record IsRead (app : Meaning) (failed : Option LaneError) (stands : List LaneEvent → Type 0) (frames : List Captured) : Type 0 where
-  pub stands_for : failed ≡ None → stands (run_of frames)
-  pub light : failed ≡ None → IsHeavy app (run_of frames) → ⊥
-  pub heavy : failed ≢ None → IsHeavy app (run_of frames)
+-- the lane may take the packet of a number
+pub record IsReady (app : Meaning) (script : List Stamped) (given : ℕ) (control : ControlState) (last : Option ℕ) (number : ℕ) : Type 0 where
+  pub under : IsUnder app script given control
+  pub before : given ≤ ceil script number
+  pub after : IsAfter last number
 
--- the end is this one, where memory wasn't refused
-abbrev pub EndsWith : Result Report RunError → Result Report RunError → Type 0
-EndsWith end (Ok report) = end ≡ Ok report
-EndsWith end (Err NoMemory) = ⊤
-EndsWith end (Err e) = end ≡ Err e
+-- a lane stands for these packets, and for so many commands of the script
+pub record Follows (script : List Stamped) (given : ℕ) (stands : List LaneEvent → Type 0) (ps : List VersionedPacket) : Type 0 where
+  pub events : List LaneEvent
+  pub stands_for : stands events
+  pub commands : given_in events ≡ take given (commands_of script)
+  pub packets : versioned_from 0 events ≡ ps
+
+-- the records of these packets weigh more than a lane may keep
+abbrev pub IsOver : Meaning → List Stamped → List VersionedPacket → Type 0
+IsOver app script ps = 134217728 < weight (records app (control_at app script) ps)
+
+-- a lane follows these frames, which aren't too heavy; or it failed, and they are
+pub record IsRead (app : Meaning) (script : List Stamped) (output : Output) (given : ℕ) (failed : Option LaneError) (stands : List LaneEvent → Type 0) (frames : List Captured) : Type 0 where
+  pub follows : failed ≡ None → Follows script given stands (packets_of script frames)
+  pub light : failed ≡ None → is_heavy app script output frames ≡ false
+  pub heavy : failed ≢ None → is_heavy app script output frames ≡ true
+
+-- what one frame more adds to what is written while the capture is read
+abbrev pub gained : Meaning → List Stamped → Output → List Captured → Captured → List ℕ
+gained app script output frames frame =
+    if is_forward output
+    then left_by (verdict_on app (control_at app script) (packet_of script (length frames) frame) (records_of app script frames)) frame
+    else []
+
+-- these frames, and then others
+abbrev pub behind : List Captured → Frames → Frames
+behind frames f = record { frames = frames ++ f.frames; ending = f.ending }
+
+-- of these bytes some are left, and the frames so far and what is left are the capture
+pub record Replaying (bytes : List ℕ) (left : Option (List ℕ)) (capture : CaptureState) (frames : List Captured) : Type 0 where
+  pub rest : List ℕ
+  pub told : left ≡ Some rest
+  pub holds : capture_of bytes ≡ Ok (behind frames (frames_at capture rest))
+  pub header : capture.header ≡ take 24 bytes

@@ -1,50 +1,44 @@
 -- What the top call promises.
-use Rattle.std.specs.Prelude.{◌≡◌, ◌⊎◌, ℕ, List, [], map, Option, Some, Result, Ok, Err}
+use Rattle.std.specs.Prelude.{◌≡◌, ◌≢◌, ◌⊎◌, ℕ, Bool, false, List, [], map, ⊤, Option, Some, None, Result, Ok, Err, IsOk}
 use Rattle.std.specs.Io.KnownBytes.{Appends}
 use Rattle.mos_bytes.specs.Causes.{Rose}
 use Rattle.mos_bytes.specs.Writes.{AppendsFront}
-use Rattle.report_text.specs.Report.{report_text}
+use Rattle.words.specs.Words.{words_settings}
+use Rattle.words.specs.declared.settings.Settings.{Settings}
 use Rattle.mos_run.specs.declared.refusal.RunError.{RunError}
 use Rattle.mos_run.specs.declared.refusal.RunError.TheVariants.{ReadFault, WriteFault, NoMemory}
-use Rattle.mos_run.specs.declared.report.Report.{Report}
-use Rattle.mos_run.specs.Outcome.{outcome}
+use Rattle.mos_run.specs.Outcome.{Outcome, is_forward, output_of}
 use Rattle.mos_run.specs.Refusal.{status_of, refusal_text}
 
-abbrev pub text_of : Report → List ℕ
-text_of report = report_text report.records report.totals
+-- the run ends well, under these versions, and all of its text was written, and nothing else
+pub record Finishes (o : Outcome) (versions : List ℕ) (old new : Option (List ℕ)) : Type 0 where
+  pub answered : o.ends ≡ Ok versions
+  pub written : Appends old new o.text
 
--- these bytes were read to their end, and what was added to out is the text of their report under these versions, and
--- nothing else
-pub record Reports (bytes : List ℕ) (left old new : Option (List ℕ)) (versions : List ℕ) : Type 0 where
-  pub report : Report
-  pub found : outcome bytes ≡ Ok report
-  pub written : Appends old new (text_of report)
-  pub answered : versions ≡ map (λ r. r.version) report.records
-  pub read : left ≡ Some []
+-- why a run with this outcome stopped: its refusal, or a fault or want of memory before; a fault of writing only where
+-- something is written
+abbrev pub StopsAs : Outcome → RunError → Type 0
+StopsAs o e = (o.ends ≡ Err e) ⊎ (e ≡ ReadFault) ⊎ (e ≡ NoMemory) ⊎ ((e ≡ WriteFault) × (o.text ≢ []))
 
--- the refusal of a run over bytes with this outcome: exactly the outcome's, where neither a fault nor want of memory came
--- before
-abbrev pub RefusedAs : Result Report RunError → RunError → Type 0
-RefusedAs (Ok report) e = (e ≡ ReadFault) ⊎ (e ≡ WriteFault) ⊎ (e ≡ NoMemory)
-RefusedAs (Err refusal) e = (e ≡ refusal) ⊎ (e ≡ ReadFault) ⊎ (e ≡ NoMemory)
+-- a run that answers versions, or why it stopped, with a front of its text
+abbrev pub RunsAs : Outcome → Option (List ℕ) → Option (List ℕ) → Result (List ℕ) RunError → Type 0
+RunsAs o old new (Ok versions) = Finishes o versions old new
+RunsAs o old new (Err e) = StopsAs o e × AppendsFront old new o.text
 
--- the same of its status
-abbrev pub EndsAs : Result Report RunError → ℕ → Type 0
-EndsAs (Ok report) status = (status ≡ 0) ⊎ (status ≡ 4) ⊎ (status ≡ 5) ⊎ (status ≡ 6)
-EndsAs (Err refusal) status = (status ≡ status_of refusal) ⊎ (status ≡ 4) ⊎ (status ≡ 6)
-
--- what was added to out is a front of the outcome's report, or nothing where there is no report
-abbrev pub WritesFront : Result Report RunError → Option (List ℕ) → Option (List ℕ) → Type 0
-WritesFront (Ok report) old new = AppendsFront old new (text_of report)
-WritesFront (Err refusal) old new = new ≡ old
+-- the status of a run with this outcome
+abbrev pub EndsAs : Outcome → ℕ → Type 0
+EndsAs o status = (IsOk o.ends × (status ≡ 0)) ⊎ ((e : RunError) × StopsAs o e × (status ≡ status_of e))
 
 -- a text was added, or a front of it where the sink failed
 abbrev pub WritesText : Option (List ℕ) → Option (List ℕ) → ℕ → ℕ → List ℕ → Type 0
 WritesText old new before now text = Appends old new text ⊎ (Rose before now × AppendsFront old new text)
 
--- the statuses of refusals that come before anything is written
-abbrev pub WritesNothing : ℕ → Type 0
-WritesNothing status = (status ≡ 3) ⊎ (status ≡ 4) ⊎ (status ≡ 7) ⊎ (status ≡ 8)
+-- the refusal of this status was told on err: one that stops a run with this outcome, where there is one
+pub record Tells (outcome : Option Outcome) (status : ℕ) (old new : Option (List ℕ)) (before now : ℕ) : Type 0 where
+  pub refusal : RunError
+  pub status_is : status ≡ status_of refusal
+  pub of_outcome : (o : Outcome) → outcome ≡ Some o → StopsAs o refusal
+  pub text : WritesText old new before now (refusal_text refusal)
 
 -- a refusal was told on err with its status, or want of memory for its line in its place
 pub record TellsOf (error : RunError) (status : ℕ) (old new : Option (List ℕ)) (before now : ℕ) : Type 0 where
@@ -53,9 +47,23 @@ pub record TellsOf (error : RunError) (status : ℕ) (old new : Option (List ℕ
   pub status_is : status ≡ status_of refusal
   pub text : WritesText old new before now (refusal_text refusal)
 
--- the refusal of this status was told on err: of a refused capture that of its bytes, so with its offset
-pub record Tells {W : Type 0} (words : List W) (left : Option (List ℕ)) (status : ℕ) (old new : Option (List ℕ)) (before now : ℕ) : Type 0 where
-  pub refusal : RunError
-  pub status_is : status ≡ status_of refusal
-  pub of_bytes : words ≡ [] → (bytes : List ℕ) → left ≡ Some bytes → RefusedAs (outcome bytes) refusal
-  pub text : WritesText old new before now (refusal_text refusal)
+-- the statuses of refusals before the output of a report or a summary begins
+abbrev pub ComesBefore : ℕ → Type 0
+ComesBefore status = (status ≡ 1) ⊎ (status ≡ 2) ⊎ (status ≡ 3) ⊎ (status ≡ 4) ⊎ (status ≡ 7)
+
+-- whether the words ask for a forwarded capture
+abbrev pub forwards : Option Settings → Bool
+forwards None = false
+forwards (Some s) = is_forward (output_of s)
+
+-- the words name no script
+abbrev pub NamesNone : List (List ℕ) → Type 0
+NamesNone words = (s : Settings) → words_settings words ≡ Some s → s.script ≡ None
+
+-- the words ask for a capture to be made
+abbrev pub Makes : List (List ℕ) → Type 0
+Makes words = (s : Settings) × (words_settings words ≡ Some s) × (s.make ≢ None)
+
+-- the capture was read whole, where none is made
+abbrev pub ReadsCapture : List (List ℕ) → Option (List ℕ) → Option (List ℕ) → Type 0
+ReadsCapture words old new = (s : Settings) → words_settings words ≡ Some s → s.make ≡ None → (bytes : List ℕ) → old ≡ Some bytes → new ≡ Some []

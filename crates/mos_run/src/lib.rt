@@ -1,16 +1,24 @@
-//! The top of mos: a capture is replayed, its connections are followed, and their report is written.
+//! The top of mos: words and a script say what is wanted, a capture is replayed, and what was asked for is written.
 #![tactic(auto)]
 
+mod advance;
+mod close;
+pub mod output;
 pub mod refusal;
 mod replay;
-pub mod report;
 pub mod run;
+mod script;
+mod single;
+mod summary;
+mod telling;
 pub mod versions;
 
-pub use refusal::RunError;
-pub use report::Report;
+pub use output::Output;
+pub use refusal::{RunError, ScriptFault};
 pub use run::{Ended, refuse, run_mos};
+pub use single::run_one;
 pub use versions::VersionList;
+pub use words::{AppKind, Emit, Name, Settings, WordsError, read_words};
 
 #[cfg(test)]
 mod tests;

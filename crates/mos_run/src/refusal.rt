@@ -1,25 +1,51 @@
-//! Why a run ends without its report, with the status and the text that tell it.
+//! Why a run ends before its output is whole, with the status of each.
 
-ghost use Rattle.std.specs.Prelude.{◌≡◌, ◌∷◌, IfOk, string_bytes};
-ghost use Rattle.mos_run.specs.Refusal.{status_of, refusal_text, fault_text};
+ghost use Rattle.std.specs.Prelude.{◌≡◌};
+ghost use Rattle.mos_run.specs.Refusal.{status_of};
 
+use control_script::ScriptError;
 use lane_core::LaneError;
+use mos_bytes::{Failed, FetchError};
 use pcap_source::{CaptureFault, NextError, OpenError};
 use report_text::TextError;
-use std::alloc::{AllocError, AllocFailed, Global};
+use std::alloc::{AllocError, AllocFailed};
+use words::WordsError;
 
-/// Why a run ended without its report. Offsets count bytes from the start of the capture.
+/// Why a line of a script is refused.
+#[derive(Clone, Copy, Debug, PartialEq, Eq)]
+pub enum ScriptFault {
+    /// A word, a number or a byte that can't stand there, or a hook at which the event isn't raised or nothing drops.
+    Syntax,
+    /// A name that is neither a built-in event nor a fact.
+    UnknownName,
+    /// The event is defined already, or the registration or the rule is there.
+    Duplicate,
+    /// An event that isn't defined, or a registration or rule that isn't there.
+    NoSuchNumber,
+    /// The event's path would be longer than 8, or its filter is nested too deep.
+    TooDeep,
+    /// Command number 4,097.
+    TooMany,
+    /// `at k` behind an `at` with a greater k.
+    StampOrder,
+}
+
+/// Why a run ended before its output was whole. Offsets count bytes from the start of the capture.
 #[derive(Clone, Copy, Debug, PartialEq, Eq)]
 pub enum RunError {
-    /// A word, which is not built yet.
-    NotBuilt,
+    /// The words are refused.
+    Usage,
+    /// The script has more than 262,144 bytes.
+    ScriptTooLong,
+    /// The script is refused in this line, from 1; lines over 2^32 - 1 are told as that number.
+    Script(ScriptFault, u32),
     /// The capture is refused at this offset; for a short header the offset is the number of bytes there.
     Capture(CaptureFault, u64),
     /// More than 1,048,576 packets: a further record begins at this offset.
     TooMany(u64),
     /// The callbacks weigh more than 134,217,728: for each of them 32, and the bytes that it saw.
     Heavy,
-    /// The capture's source failed.
+    /// The capture's source failed, or the shelf.
     ReadFault,
     /// The sink failed.
     WriteFault,
@@ -27,8 +53,54 @@ pub enum RunError {
     NoMemory,
 }
 
+impl From<WordsError> for RunError {
+    ghost use Rattle.mos_run.specs.Refusal.{words_refusal};
+
+    ghost from_gives = { λ e r. r ≡ words_refusal e };
+
+    fn from(error: WordsError) -> Self {
+        match error {
+            WordsError::Usage => RunError::Usage,
+            WordsError::NoMemory => RunError::NoMemory,
+        }
+    }
+}
+
+impl From<FetchError> for RunError {
+    ghost use Rattle.mos_run.specs.Refusal.{fetch_refusal};
+
+    ghost from_gives = { λ e r. r ≡ fetch_refusal e };
+
+    fn from(error: FetchError) -> Self {
+        match error {
+            FetchError::TooLong => RunError::ScriptTooLong,
+            FetchError::Failed => RunError::ReadFault,
+            FetchError::NoMemory => RunError::NoMemory,
+        }
+    }
+}
+
+impl From<ScriptError> for RunError {
+    ghost use Rattle.mos_run.specs.Refusal.{script_refusal};
+
+    ghost from_gives = { λ e r. r ≡ script_refusal e };
+
+    fn from(error: ScriptError) -> Self {
+        match error {
+            ScriptError::Syntax(line) => RunError::Script(ScriptFault::Syntax, line),
+            ScriptError::UnknownName(line) => RunError::Script(ScriptFault::UnknownName, line),
+            ScriptError::Duplicate(line) => RunError::Script(ScriptFault::Duplicate, line),
+            ScriptError::NoSuchNumber(line) => RunError::Script(ScriptFault::NoSuchNumber, line),
+            ScriptError::TooDeep(line) => RunError::Script(ScriptFault::TooDeep, line),
+            ScriptError::TooMany(line) => RunError::Script(ScriptFault::TooMany, line),
+            ScriptError::StampOrder(line) => RunError::Script(ScriptFault::StampOrder, line),
+            ScriptError::NoMemory => RunError::NoMemory,
+        }
+    }
+}
+
 impl From<OpenError> for RunError {
-    ghost use Rattle.mos_run.specs.Outcome.{header_refusal};
+    ghost use Rattle.mos_run.specs.Refusal.{header_refusal};
 
     ghost from_gives = { λ e r. r ≡ header_refusal e };
 
@@ -71,6 +143,17 @@ impl From<TextError> for RunError {
     }
 }
 
+// Only what is written while the capture is read fails so; a source's fault is told by the call that met it.
+impl From<Failed> for RunError {
+    ghost use Rattle.mos_run.specs.declared.refusal.RunError.TheVariants.{WriteFault};
+
+    ghost from_gives = { λ _ r. r ≡ WriteFault };
+
+    fn from(_: Failed) -> Self {
+        RunError::WriteFault
+    }
+}
+
 impl From<LaneError> for RunError {
     ghost use Rattle.mos_run.specs.Refusal.{lane_refusal};
 
@@ -105,50 +188,18 @@ impl<T: Drop> From<AllocFailed<T>> for RunError {
 }
 
 impl RunError {
-    /// The exit status of a run that ends so: 3 to 8.
+    /// The exit status of a run that ends so: 1 to 7.
     pub fn status(self) -> u8
         ensures { result ≡ status_of self }
     {
         match self {
+            RunError::Usage => 1,
+            RunError::ScriptTooLong | RunError::Script(..) => 2,
             RunError::Capture(..) => 3,
             RunError::ReadFault => 4,
             RunError::WriteFault => 5,
             RunError::NoMemory => 6,
             RunError::TooMany(_) | RunError::Heavy => 7,
-            RunError::NotBuilt => 8,
         }
-    }
-}
-
-/// The line that tells a refused capture.
-#[tactic(auto, unfolding(crate::specs::Refusal::refusal_text))]
-pub(crate) fn capture_line(
-    alloc: Global,
-    fault: CaptureFault,
-    offset: u64,
-) -> Result<String, AllocError>
-    ensures { IfOk result (λ line. string_bytes line ≡ refusal_text (RunError.Capture fault offset)) }
-{
-    let fault = fault_name(fault);
-    format!(in alloc; "mos: capture: {fault} at {offset}\n")
-}
-
-/// The line that tells a capture of too many packets.
-#[tactic(auto, unfolding(crate::specs::Refusal::refusal_text))]
-pub(crate) fn too_many_line(alloc: Global, offset: u64) -> Result<String, AllocError>
-    ensures { IfOk result (λ line. string_bytes line ≡ refusal_text (RunError.TooMany offset)) }
-{
-    format!(in alloc; "mos: too many packets at {offset}\n")
-}
-
-fn fault_name(fault: CaptureFault) -> &'static str
-    ensures { result.now ≡ fault_text fault }
-{
-    match fault {
-        CaptureFault::BadMagic => "bad magic",
-        CaptureFault::BadVersion => "bad version",
-        CaptureFault::BadLink => "bad link type",
-        CaptureFault::ShortHeader => "short header",
-        CaptureFault::TooLong => "record too long",
     }
 }

@@ -1,107 +1,181 @@
-//! Reads a capture front to back into the records of its packets.
+//! Reads a capture front to back, and hands its packets to a lane.
 
-ghost use Rattle.std.specs.Prelude.{◌≡◌, ◌≢◌, ◌+◌, ◌∷◌, ◌++◌, [], ◌<◌, ℕ, List, length, true, Some, OnOk, IfOk, IsErrOf, IsTrue, Err};
-ghost use Rattle.mos_bytes.specs.Causes.{HasCauseOf};
+ghost use Rattle.std.specs.Prelude.{◌≡◌, ◌≢◌, ◌⊎◌, ◌+◌, ◌<◌, ◌∷◌, ◌++◌, [], ℕ, List, Option, length, not, true, false, if◌then◌else◌, Some, IsOk, IsTrue, IfErr, IsErrOf, OnOk};
+ghost use Rattle.std.specs.Io.KnownBytes.{Appends};
+ghost use Rattle.mos_bytes.specs.Causes.{HasCause, HasCauseOf};
+ghost use Rattle.mos_bytes.specs.Writes.{WriteAdds};
 ghost use Rattle.pcap_source.specs.Captured.{Captured};
-ghost use Rattle.pcap_source.specs.Capture.{tail as ends_at};
-ghost use Rattle.report_text.specs.Tidy.{tidy};
-ghost use Rattle.app_api.specs.Log.{log};
-ghost use Rattle.lane_core.specs.Lane.{IsAfter};
-ghost use Rattle.mos_run.specs.Outcome.{followed_to};
-ghost use Rattle.mos_run.specs.Reading.{IsRead, EndsWith};
-ghost use Rattle.mos_run.specs.Replay.{ReplaysAs};
+ghost use Rattle.pcap_source.specs.Reading.{Opened};
+ghost use Rattle.forest_versions.specs.Lawful.{are_lawful};
+ghost use Rattle.forest_versions.specs.State.{start};
+ghost use Rattle.control_script.specs.Order.{commands_of};
+ghost use Rattle.app_api.specs.App.{IsLawful};
+ghost use Rattle.mos_run.specs.Forward.{left_by};
+ghost use Rattle.mos_run.specs.Outcome.{is_forward, outcome, streamed};
+ghost use Rattle.mos_run.specs.Reading.{IsReady, IsRead, Replaying, gained};
+ghost use Rattle.mos_run.specs.Refusal.{status_of};
+ghost use Rattle.mos_run.specs.Run.{RunsAs};
 
-use crate::{Report, RunError};
-use app_api::LogApp;
-use lane_core::laws::{heavy_stays, records_are_tidy};
-use lane_core::{Lane, LaneEnd, LaneError, Recorder};
-use mos_bytes::Source;
+use crate::advance::advance;
+use crate::close::close;
+use crate::{Output, RunError, VersionList};
+use app_api::{App, Verdict};
+use control_script::Script;
+use lane_core::laws::{last_packet_is_added, weight_never_falls};
+use lane_core::{Lane, LaneError, Recorder};
+use mos_bytes::{Failed, Sink, Source};
 use native_filters::NativeBook;
 use pcap_source::{Capture, Frame, Step};
-use report_text::Totals;
 use shared_forest::Table;
-use std::alloc::{AllocError, Global};
+use std::alloc::Global;
 
-/// Reads a capture to its end or its tail, and answers the report of its packets.
-pub(crate) fn replay<S: Source>(alloc: Global, source: &mut S) -> Result<Report, RunError>
-    ensures gives { (bytes : List ℕ) → S.left source.old ≡ Some bytes → ReplaysAs bytes (S.left source.new) result }
-    ensures cause { HasCauseOf (S.faults source.old) (S.faults source.new) (IsErrOf result RunError.ReadFault) }
-    ensures tidy { IfOk result (λ report. IsTrue (tidy report.records)) }
-    ensures writes_nothing { result ≢ Err RunError.WriteFault }
-    ensures built { result ≢ Err RunError.NotBuilt }
-    ensures lasts { S.lasting source.new ≡ S.lasting source.old }
+/// What a run does with the packets of a capture.
+#[derive(Drop)]
+pub(crate) struct Plan<'a> {
+    pub(crate) script: &'a Script,
+    pub(crate) natives: &'a NativeBook,
+    pub(crate) output: Output,
+}
+
+// Hands the capture's header on, where packets are.
+fn write_front<O: Sink>(output: Output, capture: &Capture, out: &mut O) -> Result<(), Failed>
+    ensures text { WriteAdds (O.taken out.old) (O.taken out.new) result (if is_forward output then capture.now.header else []) }
+    ensures silent { is_forward output ≡ false → IsOk result × (out.new ≡ out.old) }
+    ensures cause { HasCause (O.faults out.old) (O.faults out.new) result }
+    ensures lasts { O.lasting out.new ≡ O.lasting out.old }
 {
-    let mut capture = Capture::open(source)?;
-    let mut frame = Frame::new(alloc);
-    let natives = NativeBook::plain();
-    let mut lane = Lane::new(alloc, LogApp, Table::new(alloc), true)?;
-    let mut packets = 0;
-    loop {
-        match capture.next(source, &mut frame)? {
-            Step::Frame => {
-                take(alloc, &natives, &mut lane, packets, &frame)?;
-                packets += 1;
-            }
-            Step::Tail(bytes) => return report(alloc, lane, packets, bytes),
-            Step::End => return report(alloc, lane, packets, 0),
-        }
+    if !output.is_forward() {
+        return Ok(());
+    }
+    capture.write_header(out)
+}
+
+// Hands a packet on that passes, where packets are.
+fn write_passed<O: Sink>(
+    output: Output,
+    capture: &Capture,
+    verdict: Verdict,
+    frame: &Frame,
+    out: &mut O,
+) -> Result<(), Failed>
+    ensures text { WriteAdds (O.taken out.old) (O.taken out.new) result (if is_forward output then left_by verdict frame.now else []) }
+    ensures silent { is_forward output ≡ false → IsOk result × (out.new ≡ out.old) }
+    ensures cause { HasCause (O.faults out.old) (O.faults out.new) result }
+    ensures lasts { O.lasting out.new ≡ O.lasting out.old }
+{
+    if !output.is_forward() {
+        return Ok(());
+    }
+    match verdict {
+        Verdict::Pass => capture.write_record(out, frame),
+        Verdict::Drop(_) => Ok(()),
     }
 }
 
 // One more packet. A lane whose records weigh too much takes none, and the capture is read on, since it may be refused.
-fn take<L: Recorder>(
+fn take<L: Recorder, O: Sink>(
     alloc: Global,
-    natives: &NativeBook,
+    plan: &Plan<'_>,
+    capture: &Capture,
     lane: &mut L,
     number: u64,
     frame: &Frame,
-) -> Result<(), AllocError>
-    requires rising { IsAfter (L.last lane.old) number }
+    out: &mut O,
+) -> Result<(), RunError>
+    requires lawful { IsTrue (are_lawful (start (L.app lane.old).presets) (commands_of plan.now.script.now)) }
+    requires ready { IsReady (L.app lane.old) plan.now.script.now (L.given lane.old) (L.control lane.old) (L.last lane.old) number }
     requires bound { number < 1048576 }
-    requires keeps { L.keeps lane.old ≡ true }
-    ensures reads { OnOk result ((frames : List Captured) → length frames ≡ number → IsRead (L.app lane.old) (L.failed lane.old) (L.stands lane.old) frames
-        → IsRead (L.app lane.old) (L.failed lane.new) (L.stands lane.new) (frames ++ frame.now ∷ [])) }
-    ensures rising { IsAfter (L.last lane.new) (number + 1) }
-    ensures keeps { L.keeps lane.new ≡ true }
+    requires keeps { L.keeps lane.old ≡ not (is_forward plan.now.output) }
+    ensures ready { IsOk result → IsReady (L.app lane.new) plan.now.script.now (L.given lane.new) (L.control lane.new) (L.last lane.new) (number + 1) }
+    ensures reads { IsOk result → (frames : List Captured) → length frames ≡ number
+        → IsRead (L.app lane.old) plan.now.script.now plan.now.output (L.given lane.old) (L.failed lane.old) (L.stands lane.old) frames
+        → IsRead (L.app lane.new) plan.now.script.now plan.now.output (L.given lane.new) (L.failed lane.new) (L.stands lane.new) (frames ++ frame.now ∷ []) }
+    ensures writes { (frames : List Captured) → length frames ≡ number
+        → IsRead (L.app lane.old) plan.now.script.now plan.now.output (L.given lane.old) (L.failed lane.old) (L.stands lane.old) frames
+        → WriteAdds (O.taken out.old) (O.taken out.new) result (gained (L.app lane.old) plan.now.script.now plan.now.output frames frame.now) }
+    ensures silent { is_forward plan.now.output ≡ false → out.new ≡ out.old }
+    ensures only { IfErr result (λ e. ((e ≡ RunError.WriteFault) × (is_forward plan.now.output ≡ true)) ⊎ (e ≡ RunError.NoMemory)) }
+    ensures cause { HasCauseOf (O.faults out.old) (O.faults out.new) (IsErrOf result RunError.WriteFault) }
+    ensures lasts { O.lasting out.new ≡ O.lasting out.old }
     ensures app { L.app lane.new ≡ L.app lane.old }
+    ensures keeps { L.keeps lane.new ≡ L.keeps lane.old }
 {
-    heavy_stays();
-    match lane.packet(alloc, number, frame, natives) {
-        Ok(_) => Ok(()),
-        Err(LaneError::Heavy) => Ok(()),
-        Err(LaneError::NoMemory) => Err(AllocError),
+    last_packet_is_added();
+    weight_never_falls();
+    if lane.has_failed() {
+        return Ok(());
+    }
+    match advance(alloc, plan.natives, plan.script, lane, number, frame) {
+        Ok(verdict) => write_passed(plan.output, capture, verdict, frame, out)?,
+        Err(LaneError::Heavy) => {}
+        Err(LaneError::NoMemory) => return Err(RunError::NoMemory),
+    }
+    Ok(())
+}
+
+// Reads an opened capture to its end or its tail, and hands its packets to a lane.
+fn read_on<L: Recorder + Drop, S: Source, O: Sink>(
+    alloc: Global,
+    plan: &Plan<'_>,
+    lane: L,
+    capture: Capture,
+    source: &mut S,
+    out: &mut O,
+) -> Result<VersionList, RunError>
+    requires app { IsLawful (L.app lane) }
+    requires lawful { IsTrue (are_lawful (start (L.app lane).presets) (commands_of plan.now.script.now)) }
+    requires keeps { L.keeps lane ≡ not (is_forward plan.now.output) }
+    requires opened { Opened capture }
+    requires ready { IsReady (L.app lane) plan.now.script.now (L.given lane) (L.control lane) (L.last lane) 0 }
+    requires read { IsRead (L.app lane) plan.now.script.now plan.now.output (L.given lane) (L.failed lane) (L.stands lane) [] }
+    ensures runs { (bytes : List ℕ) (before : Option (List ℕ)) → Replaying bytes (S.left source.old) capture []
+        → Appends before (O.taken out.old) (streamed (L.app lane) plan.now.script.now plan.now.output capture.header [])
+        → RunsAs (outcome (L.app lane) plan.now.script.now plan.now.output bytes) before (O.taken out.new) result }
+    ensures read { IsOk result → (bytes : List ℕ) → Replaying bytes (S.left source.old) capture [] → S.left source.new ≡ Some [] }
+    ensures silent { is_forward plan.now.output ≡ false → IfErr result (λ e. e ≢ RunError.WriteFault → e ≢ RunError.NoMemory → out.new ≡ out.old) }
+    ensures late { IfErr result (λ e. 2 < status_of e) }
+    ensures read_fault { HasCauseOf (S.faults source.old) (S.faults source.new) (IsErrOf result RunError.ReadFault) }
+    ensures write_fault { HasCauseOf (O.faults out.old) (O.faults out.new) (IsErrOf result RunError.WriteFault) }
+    ensures source_lasts { S.lasting source.new ≡ S.lasting source.old }
+    ensures out_lasts { O.lasting out.new ≡ O.lasting out.old }
+{
+    let mut capture = capture;
+    let mut lane = lane;
+    let mut frame = Frame::new(alloc);
+    let mut packets = 0;
+    loop {
+        match capture.next(source, &mut frame)? {
+            Step::Frame => {
+                take(alloc, plan, &capture, &mut lane, packets, &frame, out)?;
+                packets += 1;
+            }
+            Step::Tail(bytes) => return close(alloc, plan, lane, packets, bytes, out),
+            Step::End => return close(alloc, plan, lane, packets, 0, out),
+        }
     }
 }
 
-// The report of a lane that took so many packets.
-fn report<L: Recorder + Drop>(
+/// Runs an application over a capture, and answers the version of each record.
+pub(crate) fn replay<A: App + Drop, S: Source, O: Sink>(
     alloc: Global,
-    lane: L,
-    packets: u64,
-    tail: u32,
-) -> Result<Report, RunError>
-    requires keeps { L.keeps lane ≡ true }
-    requires app { L.app lane ≡ log }
-    ensures ends { (frames : List Captured) → length frames ≡ packets → IsRead log (L.failed lane) (L.stands lane) frames → EndsWith (followed_to frames (ends_at tail)) result }
-    ensures tidy { (frames : List Captured) → IsRead log (L.failed lane) (L.stands lane) frames → IfOk result (λ report. IsTrue (tidy report.records)) }
-    ensures reads_on { result ≢ Err RunError.ReadFault }
-    ensures writes_nothing { result ≢ Err RunError.WriteFault }
-    ensures built { result ≢ Err RunError.NotBuilt }
+    plan: &Plan<'_>,
+    app: A,
+    source: &mut S,
+    out: &mut O,
+) -> Result<VersionList, RunError>
+    requires lawful { IsTrue (are_lawful (start (A.meaning app).presets) (commands_of plan.now.script.now)) }
+    ensures runs { (bytes : List ℕ) → S.left source.old ≡ Some bytes
+        → RunsAs (outcome (A.meaning app) plan.now.script.now plan.now.output bytes) (O.taken out.old) (O.taken out.new) result }
+    ensures read { IsOk result → (bytes : List ℕ) → S.left source.old ≡ Some bytes → S.left source.new ≡ Some [] }
+    ensures silent { is_forward plan.now.output ≡ false → IfErr result (λ e. e ≢ RunError.WriteFault → e ≢ RunError.NoMemory → out.new ≡ out.old) }
+    ensures late { IfErr result (λ e. 2 < status_of e) }
+    ensures read_fault { HasCauseOf (S.faults source.old) (S.faults source.new) (IsErrOf result RunError.ReadFault) }
+    ensures write_fault { HasCauseOf (O.faults out.old) (O.faults out.new) (IsErrOf result RunError.WriteFault) }
+    ensures source_lasts { S.lasting source.new ≡ S.lasting source.old }
+    ensures out_lasts { O.lasting out.new ≡ O.lasting out.old }
 {
-    records_are_tidy();
-    let end = lane.finish(alloc)?;
-    let LaneEnd {
-        records,
-        callbacks,
-        drops,
-        ..
-    } = end;
-    let totals = Totals {
-        packets,
-        records: records.as_slice().len() as u64,
-        callbacks,
-        drops,
-        tail,
-    };
-    Ok(Report { records, totals })
+    let capture = Capture::open(source)?;
+    write_front(plan.output, &capture, out)?;
+    let lane = Lane::new(alloc, app, Table::new(alloc), !plan.output.is_forward())?;
+    read_on(alloc, plan, lane, capture, source, out)
 }

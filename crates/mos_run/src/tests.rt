@@ -2,12 +2,16 @@
 
 mod captures;
 
-use crate::{Ended, RunError, refuse, run_mos};
+use crate::{Ended, RunError, ScriptFault, refuse, run_mos};
 use captures::{
-    ACK, ARP, BAD, BIG, BIG_NANOSECONDS, FRAGMENT, LITTLE, LITTLE_NANOSECONDS, SYN, SYN_ACK,
+    ACK, ARP, BAD, BIG, BIG_NANOSECONDS, DATA, FRAGMENT, LITTLE, LITTLE_NANOSECONDS, SYN, SYN_ACK,
     TAGGED, capture, damaged, empty_records, handshake, one_record, segment,
 };
-use mos_bytes::{MemSink, MemSource, fill};
+use mos_bytes::{MemShelf, MemSink, MemSource, fill};
+use native_filters::{
+    Native, NativeBook, has_differing_bytes, has_system_port, is_ending, is_keep_alive, is_opening,
+    is_private_traffic,
+};
 use std::alloc::{AllocError, Global};
 use std::test::Fail;
 
@@ -94,22 +98,101 @@ fn sink(alloc: Global, room: usize, fails: u64) -> Result<MemSink, AllocError> {
     Ok(MemSink::new(vec![in alloc; 0; room]?, [fails].to_vec(alloc)?))
 }
 
-// A run whose read and write of these numbers fail. Out has ample room for the report of a few packets.
+// What a run is asked: its words, between blanks, the scripts that can be fetched, and the calls that fail.
+#[derive(Clone, Copy)]
+struct Asked<'a> {
+    words: &'a str,
+    scripts: &'a [(&'a str, &'a [u8])],
+    read: u64,
+    fetch: u64,
+    write: u64,
+}
+
+// No call fails.
+fn undisturbed<'a>(words: &'a str, scripts: &'a [(&'a str, &'a [u8])]) -> Asked<'a> {
+    Asked {
+        words,
+        scripts,
+        read: u64::MAX,
+        fetch: u64::MAX,
+        write: u64::MAX,
+    }
+}
+
+// The words of a line, between blanks.
+fn words_of(alloc: Global, line: &str) -> Result<Vec<String>, AllocError> {
+    let mut words = Vec::new(alloc);
+    if line.is_empty() {
+        return Ok(words);
+    }
+    for word in line.split(' ') {
+        words.push(String::from_str(alloc, word)?)?;
+    }
+    Ok(words)
+}
+
+// A shelf with these scripts, whose fetch of this number fails.
+fn shelf(alloc: Global, scripts: &[(&str, &[u8])], fails: u64) -> Result<MemShelf, AllocError> {
+    let mut names = Vec::new(alloc);
+    let mut contents = Vec::new(alloc);
+    for (name, text) in scripts {
+        names.push(String::from_str(alloc, name)?)?;
+        contents.push(text.to_vec(alloc)?)?;
+    }
+    Ok(MemShelf::new(names, contents, [fails].to_vec(alloc)?))
+}
+
+// A run where the native filters are the plain functions.
+fn run_plain(
+    alloc: Global,
+    words: &[String],
+    source: &mut MemSource,
+    shelf: &mut MemShelf,
+    out: &mut MemSink,
+    err: &mut MemSink,
+) -> Ended {
+    let natives = NativeBook::new(
+        Native::new(0, is_opening),
+        Native::new(1, has_system_port),
+        Native::new(2, is_private_traffic),
+        Native::new(3, is_keep_alive),
+        Native::new(4, is_ending),
+        Native::new(5, has_differing_bytes),
+    );
+    run_mos(alloc, words, source, shelf, out, err, &natives)
+}
+
+// A run over these bytes. Out has ample room for what a few packets leave.
+fn run_asked(alloc: Global, bytes: Vec<u8>, asked: &Asked<'_>) -> Result<Finished, AllocError> {
+    let words = words_of(alloc, asked.words)?;
+    let mut source = MemSource::new(bytes, [asked.read].to_vec(alloc)?);
+    let mut shelf = shelf(alloc, asked.scripts, asked.fetch)?;
+    let mut out = sink(alloc, 1024, asked.write)?;
+    let mut err = sink(alloc, 160, 9)?;
+    let ended = run_plain(alloc, &words, &mut source, &mut shelf, &mut out, &mut err);
+    Ok(Finished { ended, out, err })
+}
+
+// A run without words whose read and write of these numbers fail.
 fn run_failing(
     alloc: Global,
     bytes: Vec<u8>,
     read: u64,
     write: u64,
 ) -> Result<Finished, AllocError> {
-    let mut source = MemSource::new(bytes, [read].to_vec(alloc)?);
-    let mut out = sink(alloc, 512, write)?;
-    let mut err = sink(alloc, 64, 9)?;
-    let ended = run_mos(alloc, &[], &mut source, &mut out, &mut err);
-    Ok(Finished { ended, out, err })
+    run_asked(
+        alloc,
+        bytes,
+        &Asked {
+            read,
+            write,
+            ..undisturbed("", &[])
+        },
+    )
 }
 
 fn run(alloc: Global, bytes: Vec<u8>) -> Result<Finished, AllocError> {
-    run_failing(alloc, bytes, u64::MAX, u64::MAX)
+    run_asked(alloc, bytes, &undisturbed("", &[]))
 }
 
 #[test]
@@ -240,8 +323,9 @@ fn as_many_packets_as_a_capture_may_have(rt: HostRuntime) -> Result<(), Fail> {
     let alloc = rt.alloc();
     let mut source = MemSource::new(empty_records(alloc, 1_048_576)?, Vec::new(alloc));
     let mut out = sink(alloc, 67_108_864, u64::MAX)?;
+    let mut shelf = shelf(alloc, &[], u64::MAX)?;
     let mut err = sink(alloc, 64, 9)?;
-    let ended = run_mos(alloc, &[], &mut source, &mut out, &mut err);
+    let ended = run_plain(alloc, &[], &mut source, &mut shelf, &mut out, &mut err);
     assert_eq!(rt; ended.status, 0);
     assert!(rt; out.bytes().starts_with(b"orphan 0 other v 0\n"));
     assert!(rt; out.bytes().ends_with(FULL));
@@ -324,22 +408,162 @@ fn a_write_that_fails(rt: HostRuntime) -> Result<(), Fail> {
     Ok(())
 }
 
+const USAGE: &[u8] =
+    b"mos: usage: mos [--app log|acct|rexmit|firewall] [--workers N] [--script NAME] \
+    [--emit report|forward] [--make N]\n";
+
 // Nothing of the capture is read.
 #[test]
-fn a_word(rt: HostRuntime) -> Result<(), Fail> {
+fn refused_words(rt: HostRuntime) -> Result<(), Fail> {
     let alloc = rt.alloc();
-    for word in ["", "--", "--app=log", "extra"] {
-        let words = [String::from_str(alloc, word)?];
+    for line in ["--", "--app tap", "--workers 2", "--script=", "extra"] {
+        let words = words_of(alloc, line)?;
         let mut source = MemSource::new(handshake(alloc)?, Vec::new(alloc));
+        let mut shelf = shelf(alloc, &[], u64::MAX)?;
         let mut out = sink(alloc, 512, 99)?;
-        let mut err = sink(alloc, 64, 9)?;
-        let ended = run_mos(alloc, &words, &mut source, &mut out, &mut err);
-        assert_eq!(rt; ended.status, 8, "{word}");
+        let mut err = sink(alloc, 160, 9)?;
+        let ended = run_plain(alloc, &words, &mut source, &mut shelf, &mut out, &mut err);
+        assert_eq!(rt; ended.status, 1, "{line}");
         assert_eq!(rt; out.bytes(), b"".as_slice());
-        assert_eq!(rt; err.bytes(), b"mos: not built\n".as_slice());
+        assert_eq!(rt; err.bytes(), USAGE);
         let mut unread = [0; 24];
         assert_eq!(rt; fill(&mut source, &mut unread), Ok(24));
         assert_eq!(rt; unread, BIG.header);
+    }
+    Ok(())
+}
+
+const DROPPED: &[u8] = b"conn 0 10.0.0.1:1000 > 10.0.0.2:80 v 2\n\
+    cb 0 snd pkt_in 1\n\
+    cb 0 rcv pkt_in 2\n\
+    cb 1 snd pkt_in 1\n\
+    cb 1 rcv pkt_in 2\n\
+    cb 2 snd pkt_in 1\n\
+    cb 2 rcv pkt_in 2\n\
+    cb 3 snd pkt_in 1\n\
+    cb 3 snd 1 16\n\
+    drop 3 reg 16\n\
+    end packets 4 records 1 callbacks 8 drops 1 tail 0\n";
+
+const FROM_THE_NEXT_PHASE: &[u8] = b"conn 0 10.0.0.1:1000 > 10.0.0.2:80 v 4\n\
+    cb 0 snd pkt_in 16\n\
+    cb 1 snd pkt_in 16\n\
+    cb 2 snd pkt_in 16\n\
+    cb 3 snd pkt_in 16\n\
+    end packets 4 records 1 callbacks 4 drops 0 tail 0\n";
+
+const FROM_PACKET_1: &[u8] = b"conn 0 10.0.0.1:1000 > 10.0.0.2:80 v 1\n\
+    cb 0 snd pkt_in 1\n\
+    cb 0 rcv pkt_in 2\n\
+    cb 1 snd pkt_in 1\n\
+    cb 1 rcv pkt_in 2\n\
+    cb 2 snd pkt_in 1\n\
+    cb 2 rcv pkt_in 2\n\
+    cb 3 snd pkt_in 1\n\
+    cb 3 rcv pkt_in 2\n\
+    end packets 4 records 1 callbacks 8 drops 0 tail 0\n";
+
+const COUNTED: &[u8] = b"made 3 packets 30 bytes 3216\n\
+    end packets 30 records 3 callbacks 12 drops 0 tail 0\n";
+
+const WALLED: &[u8] = b"conn 0 10.0.0.1:1000 > 10.0.0.2:80 v 1\n\
+    cb 0 snd pkt_in 1\n\
+    cb 1 snd pkt_in 1\n\
+    cb 2 snd pkt_in 1\n\
+    cb 3 snd pkt_in 1\n\
+    drop 0 rule 7\n\
+    drop 1 rule 7\n\
+    drop 2 rule 7\n\
+    drop 3 rule 7\n\
+    field passed 0\n\
+    field dropped 4\n\
+    field rule 7\n\
+    end packets 4 records 1 callbacks 4 drops 4 tail 0\n";
+
+const SCRIPTS: [(&str, &[u8]); 5] = [
+    (
+        "drop",
+        b"event 1 under pkt_in len > 0\nreg 16 1 snd do drop\n",
+    ),
+    (
+        "phase",
+        b"unreg 1\nunreg 2\nreg 16 pkt_in snd do on 17\nreg 17 state snd off\n",
+    ),
+    ("later", b"rbuf 1\nat 1 unreg 1\n"),
+    ("wall", b"rule 7 deny any any 80\n"),
+    ("bad", b"# a comment\nunreg 99\n"),
+];
+
+// A handshake, and four bytes from the client.
+fn exchange(alloc: Global) -> Result<Vec<u8>, AllocError> {
+    capture(alloc, &BIG, &[&SYN, &SYN_ACK, &ACK, &DATA], &[])
+}
+
+#[test]
+fn scripts(rt: HostRuntime) -> Result<(), Fail> {
+    let alloc = rt.alloc();
+    let rows: [(&str, &[u8]); 5] = [
+        ("--script drop", DROPPED),
+        ("--script phase", FROM_THE_NEXT_PHASE),
+        ("--script later", FROM_PACKET_1),
+        ("--make 3 --app rexmit", COUNTED),
+        ("--app firewall --script wall", WALLED),
+    ];
+    for (words, want) in rows {
+        let run = run_asked(alloc, exchange(alloc)?, &undisturbed(words, &SCRIPTS))?;
+        assert_eq!(rt; run.err.bytes(), b"".as_slice());
+        assert_eq!(rt; run.out.bytes(), want, "{words}");
+        assert_eq!(rt; run.ended.status, 0, "{words}");
+    }
+    Ok(())
+}
+
+// The packets that pass, as they were read, without the tail; or a front of them.
+#[test]
+fn forwards(rt: HostRuntime) -> Result<(), Fail> {
+    let alloc = rt.alloc();
+    let frames: [&[u8]; 4] = [&SYN, &SYN_ACK, &ACK, &DATA];
+    let whole = capture(alloc, &LITTLE, &frames, &[1, 2, 3])?;
+    let rows: [(&str, usize); 3] = [
+        ("--emit forward", 308),
+        ("--emit forward --script drop", 234),
+        ("--emit forward --app firewall", 24),
+    ];
+    for (words, len) in rows {
+        let bytes = whole.as_slice().to_vec(alloc)?;
+        let run = run_asked(alloc, bytes, &undisturbed(words, &SCRIPTS))?;
+        assert_eq!(rt; run.ended.status, 0, "{words}");
+        assert_eq!(rt; Some(run.out.bytes()), whole.get(..len), "{words}");
+    }
+    let mut half = undisturbed("--emit forward", &[]);
+    half.write = 1;
+    let run = run_asked(alloc, whole.as_slice().to_vec(alloc)?, &half)?;
+    assert_eq!(rt; run.ended.status, 5);
+    assert_eq!(rt; Some(run.out.bytes()), whole.get(..32));
+    Ok(())
+}
+
+// A script that is refused, that isn't there, and whose fetch fails.
+#[test]
+fn refused_scripts(rt: HostRuntime) -> Result<(), Fail> {
+    let alloc = rt.alloc();
+    let rows: [(&str, u64, u8, &[u8]); 3] = [
+        (
+            "--script bad",
+            u64::MAX,
+            2,
+            b"mos: script: line 2: NoSuchNumber\n",
+        ),
+        ("--script gone", u64::MAX, 4, b"mos: read fault\n"),
+        ("--script drop", 0, 4, b"mos: read fault\n"),
+    ];
+    for (words, fetch, status, text) in rows {
+        let mut ask = undisturbed(words, &SCRIPTS);
+        ask.fetch = fetch;
+        let run = run_asked(alloc, exchange(alloc)?, &ask)?;
+        assert_eq!(rt; run.ended.status, status, "{words}");
+        assert_eq!(rt; run.err.bytes(), text, "{words}");
+        assert_eq!(rt; run.out.bytes(), b"".as_slice());
     }
     Ok(())
 }
@@ -348,12 +572,12 @@ fn a_word(rt: HostRuntime) -> Result<(), Fail> {
 #[test]
 fn a_refusal_that_is_half_told(rt: HostRuntime) -> Result<(), Fail> {
     let alloc = rt.alloc();
-    let mut source = MemSource::new(damaged(0, 0).to_vec(alloc)?, Vec::new(alloc));
-    let mut out = sink(alloc, 64, 9)?;
     let mut err = sink(alloc, 64, 0)?;
-    let ended = run_mos(alloc, &[], &mut source, &mut out, &mut err);
-    assert_eq!(rt; ended.status, 3);
-    assert_eq!(rt; err.bytes(), b"mos: capture: ".as_slice());
+    let refused = RunError::Script(ScriptFault::TooDeep, 7);
+    assert_eq!(rt; refuse(alloc, &mut err, refused).status, 2);
+    assert_eq!(rt; err.bytes(), b"mos: script: l".as_slice());
+    let text = format!(in alloc; "{refused}")?;
+    assert_eq!(rt; text.as_str(), "script: line 7: TooDeep");
     let mut err = sink(alloc, 64, 9)?;
     assert_eq!(rt; refuse(alloc, &mut err, RunError::TooMany(7)).status, 7);
     assert_eq!(rt; err.bytes(), b"mos: too many packets at 7\n".as_slice());

@@ -1,4 +1,10 @@
-use super::*;
+//! What the native filters say, asked by two threads, and the places of facts.
+
+ghost use Rattle.std.specs.Prelude.{◌≤◌};
+
+use crate::*;
+use std::thread;
+use std::thread::Threads;
 
 const PRIVATE: u64 = 0x0a00_0001;
 
@@ -35,16 +41,25 @@ fn again(len: u64, rexlen: u64, rexdiff: u64) -> Facts {
     }
 }
 
-// Asks the function that is kept under a number.
-fn asked(which: u8, facts: &Facts) -> bool {
-    match which {
-        0 => Native::new(0, is_opening).ask(facts),
-        1 => Native::new(1, has_system_port).ask(facts),
-        2 => Native::new(2, is_private_traffic).ask(facts),
-        3 => Native::new(3, is_keep_alive).ask(facts),
-        4 => Native::new(4, is_ending).ask(facts),
-        _ => Native::new(5, has_differing_bytes).ask(facts),
-    }
+// What two threads are answered that share a book of this crate's own functions.
+fn answers<R: Threads + Sync>(rt: &R, which: u8, facts: &Facts) -> (bool, bool)
+    requires { which ≤ 5 }
+{
+    let natives = NativeBook::new(
+        Native::new(0, is_opening),
+        Native::new(1, has_system_port),
+        Native::new(2, is_private_traffic),
+        Native::new(3, is_keep_alive),
+        Native::new(4, is_ending),
+        Native::new(5, has_differing_bytes),
+    );
+    let first = || -> bool
+        requires { which ≤ 5 }
+    { natives.call(which, facts) };
+    let second = || -> bool
+        requires { which ≤ 5 }
+    { natives.call(which, facts) };
+    thread::join(rt, first, second)
 }
 
 #[test]
@@ -63,12 +78,10 @@ fn each_native_filter_is_true_and_false(rt: HostRuntime) {
         (5, again(4, 4, 2), true),
         (5, again(4, 4, 0), false),
     ];
-    let book = NativeBook::plain();
     for (which, facts, answer) in rows {
-        assert_eq!(rt; asked(which, &facts), answer);
-        if which <= 5 {
-            assert_eq!(rt; book.call(which, &facts), answer);
-        }
+        assert!(rt; which <= 5);
+        let said = answers(&rt, which, &facts);
+        assert_eq!(rt; said, (answer, answer), "native {which}");
     }
 }
 
@@ -86,9 +99,6 @@ fn is_shared<T: Send + Sync>(_: &T) -> bool {
 }
 
 #[test]
-fn threads_share_a_book(rt: HostRuntime) {
-    let native = Native::new(0, is_opening);
-    assert!(rt; is_shared(&native) && native.ask(&flags(0x02)));
-    assert!(rt; is_shared(&NativeBook::plain()) && is_shared(&Facts::none()));
-    assert!(rt; is_shared(&Hook::Snd));
+fn threads_share_facts(rt: HostRuntime) {
+    assert!(rt; is_shared(&Facts::none()) && is_shared(&Hook::Snd));
 }

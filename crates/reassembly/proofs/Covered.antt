@@ -1,8 +1,6 @@
 -- Which positions the runs cover, told by indices.
-use Rattle.std.proofs.Common.{◌≡◌, ℕ, ◌+◌, ◌-◌, ◌<◌, ◌≤◌, suc, true, false, ap, sym, arith, List, [], ◌∷◌, length, leb, ltb, le-leb, Some, lt-ltb, leb-true, ltb-true, ⊎_elim}
+use Rattle.std.proofs.Common.{◌≡◌, ℕ, ◌+◌, ◌<◌, ◌≤◌, suc, true, false, ap, arith, List, [], ◌∷◌, length, leb, ltb, le-leb, lt-ltb, leb-true, ltb-true, ⊎_elim}
 use Rattle.std.proofs.lemmas.Bool.{cases_lt, and_from, and_parts, or_cases, false_from_ne_true, cases_eq}
-use Rattle.std.specs.List.{slice_get}
-use Rattle.std.proofs.lemmas.Option.{slice_get_within, get_or_from_slice_get}
 use Rattle.std.proofs.lemmas.List.Folds.{list_any_at}
 use Rattle.reassembly.specs.declared.runs.Run.{Run}
 use Rattle.reassembly.specs.Runs.{run_at, covers, is_covered, AreOrdered, IsCursor}
@@ -91,10 +89,3 @@ cursor_next runs k from ordered cursor w l = record {
       let f : (run_at runs j).start < (run_at runs j).end = ordered.filled j wj in
       omega arith;
 }
-
--- the last run ends last, and its last position is covered
-pub last_run : (xs runs : List Run) (run : Run) → Some run ≡ slice_get xs (length xs - 1) → xs ≡ runs → (0 < length runs) × (run ≡ run_at runs (length runs - 1))
-last_run xs runs run e same =
-    let at : slice_get runs (length runs - 1) ≡ Some run = rw same at (sym e) in
-    let within : length runs - 1 < length runs = slice_get_within runs (length runs - 1) run at in
-    (omega arith, sym (get_or_from_slice_get runs (length runs - 1) run (record { start = 0; end = 0 }) at))

@@ -11,6 +11,7 @@ use Rattle.reassembly.specs.Fin.{is_free_from, natural_of, note_with, note_of, f
 use Rattle.reassembly.specs.View.{StreamView, StandsFor}
 use Rattle.reassembly.specs.Runs.{is_accepted}
 use Rattle.reassembly.specs.Window.{byte_at, cell_at, view_of, IsLaid, IsBounded}
+use Rattle.reassembly.specs.Waiting.{runs_of}
 use Rattle.reassembly.proofs.Cells.{below_next, held_past}
 use Rattle.reassembly.proofs.Laws.{viewed_cell}
 use Rattle.reassembly.proofs.Placing.{held_viewed, kept_cell, bounded_cell, some_of_cond}
@@ -58,14 +59,14 @@ is_free w fin rbuf p laid bounded r h =
     let next : w.next ≤ p = bounded.next in
     free_cells r.cells p (λ k l within.
     ap is_some (receiver_cell w fin rbuf laid r h k (omega arith))
-    ∙ some_of_cond (is_accepted w.next w.runs.items k) (byte_at w k) ∙ bounded_cell w p k bounded (omega arith))
+    ∙ some_of_cond (is_accepted w.next (runs_of w.runs) k) (byte_at w k) ∙ bounded_cell w p k bounded (omega arith))
 
-pub is_taken : (w : Window) (fin : Option ℕ) (rbuf p q : ℕ) → IsLaid w → p ≤ q → is_accepted w.next w.runs.items q ≡ true → (r : Receiver) → StandsFor (view_of w fin rbuf) r → false ≡ is_free_from r.cells p
+pub is_taken : (w : Window) (fin : Option ℕ) (rbuf p q : ℕ) → IsLaid w → p ≤ q → is_accepted w.next (runs_of w.runs) q ≡ true → (r : Receiver) → StandsFor (view_of w fin rbuf) r → false ≡ is_free_from r.cells p
 is_taken w fin rbuf p q laid l accepted r h =
     let next : w.next ≡ next_of r.cells = h.next in
     let filled : is_some (held r.cells q) ≡ true = ⊎_elim
     (λ (b : q < w.next). below_next r.cells q (omega arith))
-    (λ (b : w.next ≤ q). ap is_some (receiver_cell w fin rbuf laid r h q (omega arith)) ∙ some_of_cond (is_accepted w.next w.runs.items q) (byte_at w q) ∙ accepted)
+    (λ (b : w.next ≤ q). ap is_some (receiver_cell w fin rbuf laid r h q (omega arith)) ∙ some_of_cond (is_accepted w.next (runs_of w.runs) q) (byte_at w q) ∙ accepted)
     (cases_lt q w.next) in
     taken_cell_at r.cells p q l filled
 

@@ -6,9 +6,9 @@ use Rattle.reassembly.specs.Receiver.{Receiver, kept}
 use Rattle.reassembly.specs.Kept.{byte_then, bytes_from, run_then, runs_from, IsRunEnd}
 use Rattle.reassembly.specs.View.{StandsFor}
 use Rattle.reassembly.specs.Runs.{is_accepted}
-use Rattle.reassembly.specs.Window.{end_of, byte_at, kept_at, view_of, IsLaid}
+use Rattle.reassembly.specs.Window.{byte_at, kept_at, view_of, IsLaid}
+use Rattle.reassembly.specs.Waiting.{runs_of}
 use Rattle.reassembly.proofs.Placing.{held_viewed, some_of_cond, kept_cell}
-use Rattle.reassembly.proofs.Taken.{accepted_within}
 use Rattle.reassembly.proofs.KeptRuns.{kept_low}
 
 -- the window keeps what the receiver keeps
@@ -39,14 +39,14 @@ pub runs_same : (at by : ℕ → Option ℕ) → ((p : ℕ) → at p ≡ by p) �
 runs_same at by same zero p = refl
 runs_same at by same (suc n) p = ap₂ (λ c rest. run_then c p rest) (same p) (runs_same at by same n (p + 1))
 
-byte_of : (low accepted : Bool) (byte : ℕ) → is_some (cond low (cond accepted (Some byte) None) None) ≡ true → cond low (cond accepted (Some byte) None) None ≡ Some byte
-byte_of true true byte e = refl
-byte_of true false byte e = absurd (true≢false (sym e))
-byte_of false accepted byte e = absurd (true≢false (sym e))
+some_of : (low accepted : Bool) (byte : ℕ) → is_some (cond low (cond accepted (Some byte) None) None) ≡ true → cond low (cond accepted (Some byte) None) None ≡ Some byte
+some_of true true byte e = refl
+some_of true false byte e = absurd (true≢false (sym e))
+some_of false accepted byte e = absurd (true≢false (sym e))
 
 -- what the window keeps at a kept position
 some_byte : (w : Window) (rbuf p : ℕ) → is_some (kept_at w rbuf p) ≡ true → kept_at w rbuf p ≡ Some (byte_at w p)
-some_byte w rbuf p e = byte_of (leb (w.next - rbuf) p) (is_accepted w.next w.runs.items p) (byte_at w p) e
+some_byte w rbuf p e = some_of (leb (w.next - rbuf) p) (is_accepted w.next (runs_of w.runs) p) (byte_at w p) e
 
 kept_from : (w : Window) (rbuf p : ℕ) → is_some (kept_at w rbuf p) ≡ true → w.next - rbuf ≤ p
 kept_from w rbuf p e = ⊎_elim
@@ -54,18 +54,19 @@ kept_from w rbuf p e = ⊎_elim
     (λ (l : w.next - rbuf ≤ p). l)
     (cases_lt p (w.next - rbuf))
 
-kept_within : (w : Window) (rbuf p : ℕ) → IsLaid w → is_some (kept_at w rbuf p) ≡ true → p < end_of w
-kept_within w rbuf p laid e = accepted_within w laid p (sym (some_of_cond (is_accepted w.next w.runs.items p) (byte_at w p)) ∙ ap is_some (sym (kept_cell w rbuf p (kept_from w rbuf p e))) ∙ e)
+-- what is kept is accepted
+kept_accepted : (w : Window) (rbuf p : ℕ) → is_some (kept_at w rbuf p) ≡ true → is_accepted w.next (runs_of w.runs) p ≡ true
+kept_accepted w rbuf p e = sym (some_of_cond (is_accepted w.next (runs_of w.runs) p) (byte_at w p)) ∙ ap is_some (sym (kept_cell w rbuf p (kept_from w rbuf p e))) ∙ e
 
 -- the buffer has the run that is to be read
 pub record IsReadable (w : Window) (rbuf p n : ℕ) : Type 0 where
   pub from : w.next - rbuf ≤ p
-  pub within : p + n ≤ end_of w
+  pub accepted : (x : ℕ) → p ≤ x → x < p + n → is_accepted w.next (runs_of w.runs) x ≡ true
 
-pub readable : (w : Window) (rbuf p e n : ℕ) → IsLaid w → IsRunEnd (kept_at w rbuf) p e → p + n ≤ e → 0 < n → IsReadable w rbuf p n
-readable w rbuf p e n laid run l some = record {
+pub readable : (w : Window) (rbuf p e n : ℕ) → IsRunEnd (kept_at w rbuf) p e → p + n ≤ e → 0 < n → IsReadable w rbuf p n
+readable w rbuf p e n run l some = record {
   from = kept_from w rbuf p (run.run p (omega arith) (omega arith));
-  within = let b : p + n - 1 < end_of w = kept_within w rbuf (p + n - 1) laid (run.run (p + n - 1) (omega arith) (omega arith)) in omega arith;
+  accepted = λ x from below. kept_accepted w rbuf x (run.run x from (omega arith));
 }
 
 -- what is copied is the run, as far as it and the buffer reach

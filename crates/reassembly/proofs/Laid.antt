@@ -8,7 +8,7 @@ use Rattle.reassembly.specs.declared.laying.Tally.{Tally}
 use Rattle.reassembly.specs.Segment.{is_last, count_below, has_byte}
 use Rattle.reassembly.specs.Runs.{is_covered}
 use Rattle.reassembly.specs.Laying.{differing_of, laid_byte, tally_of, tally_of_stretch, tally_sum}
-use Rattle.reassembly.proofs.Counts.{count_below-le, count_below-stretch, count_below-more, count_below-stays, count_below-same, count_below-none}
+use Rattle.reassembly.proofs.Counts.{count_below-le, count_below-stretch, count_below-more, count_below-stays, count_below-none}
 use Rattle.std.proofs.lemmas.List.{length-take-le}
 use Rattle.std.proofs.Common.{length-drop, get_or-take, get_or-drop, leb, ltb, le-leb, lt-ltb, le-ltb}
 use borrow.Rule.Slice.PartMut.{put_mid}
@@ -143,40 +143,21 @@ laid_window runs base low k policy xs bytes cells from same within len laid p l 
     (cases_lt p (low + length bytes)))
     (cases_lt p low)
 
--- the judgement of those bytes, by the buffer
-pub judged_window : (runs : List Run) (base low k : ℕ) (xs bytes : List ℕ) → base ≤ low → k ≡ length bytes
-    → tally_of runs low (take k (drop (low - base) xs)) bytes (length bytes) ≡ record {
-      new = count_below (λ i. not (is_covered runs (low + i))) (length bytes);
-      old = count_below (λ i. is_covered runs (low + i)) (length bytes);
-      differ = count_below (λ i. is_covered runs (low + i) && not (eqb (slice_index xs (low + i - base)) (slice_index bytes i))) (length bytes);
-    }
-judged_window runs base low k xs bytes from same =
-    let made : ℕ → Tally = λ d. record { new = count_below (λ i. not (is_covered runs (low + i))) (length bytes); old = count_below (λ i. is_covered runs (low + i)) (length bytes); differ = d } in
-    ap made (count_below-same
-    (λ i. is_covered runs (low + i) && not (eqb (slice_index (take k (drop (low - base) xs)) i) (slice_index bytes i)))
-    (λ i. is_covered runs (low + i) && not (eqb (slice_index xs (low + i - base)) (slice_index bytes i)))
-    (length bytes)
-    (λ i l.
-    let again : (low - base) + i ≡ low + i - base = omega arith in
-    let part : slice_index (take k (drop (low - base) xs)) i ≡ slice_index xs (low + i - base) = get_or-take k (drop (low - base) xs) i 0 (omega arith) ∙ get_or-drop (low - base) xs i 0 ∙ ap (slice_index xs) again in
-    ap (λ x. is_covered runs (low + i) && not (eqb x (slice_index bytes i))) part))
-
 -- bytes below the kept ones are never compared
 pub none_compared : (low start n : ℕ) (test : ℕ → Bool) → n ≤ low - start → count_below (λ i. leb low (start + i) && test i) n ≡ 0
 none_compared low start n test l = count_below-none (λ i. leb low (start + i) && test i) n (λ i b. ap (λ x. x && test i) (lt-leb low (start + i) (omega arith)))
 
 -- and the others are: skip is how many lie below
-pub some_compared : (low start base skip n m k : ℕ) (xs bytes : List ℕ) → skip ≡ low - start → skip + m ≡ n → base ≤ start + skip → k ≡ m → length bytes ≡ n
-    → count_below (λ i. not (eqb (slice_index (take k (drop (start + skip - base) xs)) i) (slice_index (take (length bytes - skip) (drop skip bytes)) i))) m
-    ≡ count_below (λ i. leb low (start + i) && not (eqb (slice_index xs (start + i - base)) (slice_index bytes i))) n
-some_compared low start base skip n m k xs bytes e sum from same len =
-    let f : ℕ → Bool = λ i. leb low (start + i) && not (eqb (slice_index xs (start + i - base)) (slice_index bytes i)) in
-    let g : ℕ → Bool = λ i. not (eqb (slice_index (take k (drop (start + skip - base) xs)) i) (slice_index (take (length bytes - skip) (drop skip bytes)) i)) in
-    let none : count_below f skip ≡ 0 = none_compared low start skip (λ i. not (eqb (slice_index xs (start + i - base)) (slice_index bytes i))) (omega arith) in
+pub some_compared : (low start skip n m : ℕ) (kept : ℕ → ℕ) (bytes : List ℕ) → skip ≡ low - start → skip + m ≡ n
+    → count_below (λ i. not (eqb (kept (start + skip + i)) (slice_index (take m (drop skip bytes)) i))) m
+    ≡ count_below (λ i. leb low (start + i) && not (eqb (kept (start + i)) (slice_index bytes i))) n
+some_compared low start skip n m kept bytes e sum =
+    let f : ℕ → Bool = λ i. leb low (start + i) && not (eqb (kept (start + i)) (slice_index bytes i)) in
+    let g : ℕ → Bool = λ i. not (eqb (kept (start + skip + i)) (slice_index (take m (drop skip bytes)) i)) in
+    let none : count_below f skip ≡ 0 = none_compared low start skip (λ i. not (eqb (kept (start + i)) (slice_index bytes i))) (omega arith) in
     let parts : count_below f n ≡ count_below f skip + count_below g m = count_below-stretch f g skip m n sum (λ i l.
     let yes : leb low (start + (skip + i)) ≡ true = le-leb low (start + (skip + i)) (omega arith) in
-    let again : (start + skip - base) + i ≡ start + (skip + i) - base = omega arith in
-    let x : slice_index (take k (drop (start + skip - base) xs)) i ≡ slice_index xs (start + (skip + i) - base) = get_or-take k (drop (start + skip - base) xs) i 0 (omega arith) ∙ get_or-drop (start + skip - base) xs i 0 ∙ ap (slice_index xs) again in
-    let y : slice_index (take (length bytes - skip) (drop skip bytes)) i ≡ slice_index bytes (skip + i) = get_or-take (length bytes - skip) (drop skip bytes) i 0 (omega arith) ∙ get_or-drop skip bytes i 0 in
-    rw yes (ap not (ap₂ eqb (sym x) (sym y)))) in
+    let again : start + (skip + i) ≡ start + skip + i = omega arith in
+    let byte : slice_index (take m (drop skip bytes)) i ≡ slice_index bytes (skip + i) = get_or-take m (drop skip bytes) i 0 l ∙ get_or-drop skip bytes i 0 in
+    rw yes (ap not (ap₂ eqb (ap kept again) (sym byte)))) in
     omega (arith, none, parts)

@@ -3,9 +3,12 @@ pub mod Counts
 pub mod Cells
 pub mod Laws
 pub mod Covered
+pub mod Listed
+pub mod Absorbed
+pub mod Added
 pub mod Parts
 pub mod Laid
-pub mod Joined
+pub mod Paged
 pub mod Taken
 pub mod Placing
 pub mod Streams

@@ -14,6 +14,7 @@ use Rattle.reassembly.proofs.Cells.{held_made, held_made_past}
 use Rattle.reassembly.proofs.Counts.{count_below-same, count_below-stretch, count_below-all, count_below-none}
 use Rattle.reassembly.proofs.Covered.{uncovered}
 use Rattle.reassembly.specs.Steps.{StepsTo, counts_viewed}
+use Rattle.reassembly.specs.Waiting.{runs_of}
 use Rattle.reassembly.proofs.Laws.{placed_is}
 use Rattle.reassembly.proofs.Laid.{length-part}
 use Rattle.reassembly.proofs.Taken.{accepted_within, accepted_from_next, accepted_below}
@@ -22,8 +23,8 @@ both : (o : Option ℕ) (b : Bool) → o ≡ cond b o o
 both o true = refl
 both o false = refl
 
-not_accepted : (w : Window) → IsLaid w → (p : ℕ) → end_of w ≤ p → is_accepted w.next w.runs.items p ≡ false
-not_accepted w laid p l = false_from_ne_true (is_accepted w.next w.runs.items p) (λ e. let b : p < end_of w = accepted_within w laid p e in omega arith)
+not_accepted : (w : Window) (p : ℕ) → end_of w ≤ p → is_accepted w.next (runs_of w.runs) p ≡ false
+not_accepted w p l = false_from_ne_true (is_accepted w.next (runs_of w.runs) p) (λ e. let b : p < end_of w = accepted_within w p e in omega arith)
 
 false_true : (b : Bool) → b ≡ false → b ≡ true → ⊥
 false_true b f t = both_ways b f t
@@ -44,7 +45,7 @@ pub held_viewed : (w : Window) (fin : Option ℕ) (rbuf : ℕ) → IsLaid w → 
 held_viewed w fin rbuf laid p = ⊎_elim
     (λ (l : p < end_of w). held_made (kept_at w rbuf) (end_of w) p l)
     (λ (l : end_of w ≤ p).
-    let none : is_accepted w.next w.runs.items p ≡ false = not_accepted w laid p l in
+    let none : is_accepted w.next (runs_of w.runs) p ≡ false = not_accepted w p l in
     held_made_past (kept_at w rbuf) (end_of w) p l ∙ rw none (both None (leb (w.next - rbuf) p)))
     (cases_lt p (end_of w))
 
@@ -53,19 +54,19 @@ pub kept_cell : (w : Window) (rbuf p : ℕ) → w.next - rbuf ≤ p → kept_at 
 kept_cell w rbuf p l = cond-true (leb (w.next - rbuf) p) (cell_at w p) None (le-leb (w.next - rbuf) p l)
 
 -- past the limit nothing is accepted
-pub bounded_cell : (w : Window) (limit p : ℕ) → IsBounded w limit → limit ≤ p → is_accepted w.next w.runs.items p ≡ false
+pub bounded_cell : (w : Window) (limit p : ℕ) → IsBounded w limit → limit ≤ p → is_accepted w.next (runs_of w.runs) p ≡ false
 bounded_cell w limit p bounded l =
     let next : w.next ≤ limit = bounded.next in
-    accepted_from_next w.next w.runs.items p (omega arith) ∙ uncovered w.runs.items p (λ h.
-    let below : p < (run_at w.runs.items h.at).end = h.below in
-    let end : (run_at w.runs.items h.at).end ≤ limit = bounded.runs.each h.at h.within in
+    accepted_from_next w.next (runs_of w.runs) p (omega arith) ∙ uncovered (runs_of w.runs) p (λ h.
+    let below : p < (run_at (runs_of w.runs) h.at).end = h.below in
+    let end : (run_at (runs_of w.runs) h.at).end ≤ limit = bounded.runs.each h.at h.within in
     omega arith)
 
 -- next itself isn't accepted
-pub next_open : (w : Window) → AreAbove w.runs.items w.next → is_accepted w.next w.runs.items w.next ≡ false
-next_open w above = accepted_from_next w.next w.runs.items w.next (omega arith) ∙ uncovered w.runs.items w.next (λ h.
-    let from : (run_at w.runs.items h.at).start ≤ w.next = h.from in
-    let up : w.next < (run_at w.runs.items h.at).start = above.each h.at h.within in
+pub next_open : (w : Window) → AreAbove (runs_of w.runs) w.next → is_accepted w.next (runs_of w.runs) w.next ≡ false
+next_open w above = accepted_from_next w.next (runs_of w.runs) w.next (omega arith) ∙ uncovered (runs_of w.runs) w.next (λ h.
+    let from : (run_at (runs_of w.runs) h.at).start ≤ w.next = h.from in
+    let up : w.next < (run_at (runs_of w.runs) h.at).start = above.each h.at h.within in
     omega arith)
 
 -- between next and the limit both ways of saying what becomes of a cell agree
@@ -147,7 +148,7 @@ no_all : (n : ℕ) → count_below (λ i. false) n ≡ 0
 no_all n = count_below-none (λ i. false) n (λ i l. refl)
 
 kept_below : (w : Window) (rbuf p : ℕ) → p < w.next → kept_at w rbuf p ≡ cond (leb (w.next - rbuf) p) (Some (byte_at w p)) None
-kept_below w rbuf p l = rw (accepted_below w.next w.runs.items p l) refl
+kept_below w rbuf p l = rw (accepted_below w.next (runs_of w.runs) p l) refl
 
 differs_below : (next rbuf p byte b : ℕ) (k : Bool) → k ≡ leb (next - rbuf) p → is_differing next rbuf p (cond k (Some byte) None) b ≡ (k && not (eqb byte b))
 differs_below next rbuf p byte b true e = rw (← e) refl
@@ -207,11 +208,11 @@ counts_placed w fin rbuf limit start m k segment laid bounded is_limit cut tally
     let front : length (take m segment) ≡ m = length-take-le m segment (omega arith) in
     let cell : ℕ → Option ℕ = λ p. held (view_of w fin rbuf).kept p in
     let seen : (p : ℕ) → cell p ≡ kept_at w rbuf p = held_viewed w fin rbuf laid in
-    let covered : ℕ → Bool = λ i. is_covered w.runs.items (low + i) in
+    let covered : ℕ → Bool = λ i. is_covered (runs_of w.runs) (low + i) in
     let place : (i : ℕ) → start + (m + i) ≡ low + i = λ i. omega arith in
     let cell1 : (i : ℕ) → i < m → cell (start + i) ≡ cond (leb (next - rbuf) (start + i)) (Some (byte_at w (start + i))) None = λ i l. seen (start + i) ∙ kept_below w rbuf (start + i) (omega arith) in
     let cell2 : (i : ℕ) → i < k - m → cell (start + (m + i)) ≡ cond (covered i) (Some (byte_at w (low + i))) None = λ i l.
-    ap cell (place i) ∙ seen (low + i) ∙ kept_cell w rbuf (low + i) (omega arith) ∙ ap (λ b. cond b (Some (byte_at w (low + i))) None) (accepted_from_next next w.runs.items (low + i) (omega arith)) in
+    ap cell (place i) ∙ seen (low + i) ∙ kept_cell w rbuf (low + i) (omega arith) ∙ ap (λ b. cond b (Some (byte_at w (low + i))) None) (accepted_from_next next (runs_of w.runs) (low + i) (omega arith)) in
     let some2 : (i : ℕ) → i < k - m → is_some (cell (start + (m + i))) ≡ covered i = λ i l. ap is_some (cell2 i l) ∙ some_of_cond (covered i) (byte_at w (low + i)) in
     let cell3 : (i : ℕ) → i < n - k → cell (start + (k + i)) ≡ None = λ i l.
     seen (start + (k + i)) ∙ kept_cell w rbuf (start + (k + i)) (omega arith) ∙ ap (λ b. cond b (Some (byte_at w (start + (k + i)))) None) (bounded_cell w limit (start + (k + i)) bounded (omega arith)) in
@@ -266,16 +267,16 @@ counts_placed w fin rbuf limit start m k segment laid bounded is_limit cut tally
 -- the buffer before, after bytes were taken, and after old ones were dropped
 pub record IsPlaced (old mid new : Window) (rbuf low : ℕ) (middle : List ℕ) (policy : Policy) : Type 0 where
   pub old_laid : IsLaid old
-  pub old_kept : old.base ≤ old.next - rbuf
+  pub old_kept : old.bytes.base ≤ old.next - rbuf
   pub mid_laid : IsLaid mid
-  pub mid_base : mid.base ≡ old.base
+  pub mid_base : mid.bytes.base ≡ old.bytes.base
   pub rises : old.next ≤ mid.next
-  pub taken : (p : ℕ) → old.base ≤ p → cell_at mid p ≡ taken_cell policy low middle p (cell_at old p)
+  pub taken : (p : ℕ) → old.bytes.base ≤ p → cell_at mid p ≡ taken_cell policy low middle p (cell_at old p)
   pub new_laid : IsLaid new
   pub new_next : new.next ≡ mid.next
-  pub new_runs : new.runs.items ≡ mid.runs.items
-  pub new_kept : new.base ≤ new.next - rbuf
-  pub new_bytes : (p : ℕ) → new.base ≤ p → byte_at new p ≡ byte_at mid p
+  pub new_runs : runs_of new.runs ≡ runs_of mid.runs
+  pub new_kept : new.bytes.base ≤ new.next - rbuf
+  pub new_bytes : (p : ℕ) → new.bytes.base ≤ p → byte_at new p ≡ byte_at mid p
 
 pub steps_placed : (old mid new : Window) (fin : Option ℕ) (rbuf limit start m k : ℕ) (policy : Policy) (segment : List ℕ)
     → IsPlaced old mid new rbuf (start + m) (take (k - m) (drop m segment)) policy → IsBounded old limit → limit ≡ limit_of old.next fin rbuf → IsCut old.next limit start (length segment) m k
@@ -284,24 +285,24 @@ steps_placed old mid new fin rbuf limit start m k policy segment h bounded is_li
     let after : ℕ → Option ℕ → Option ℕ = λ p c. held_after old.next (limit_of old.next fin rbuf) policy start segment p c in
     let rises : old.next ≤ mid.next = h.rises in
     let same_next : new.next ≡ mid.next = h.new_next in
-    let old_kept : old.base ≤ old.next - rbuf = h.old_kept in
-    let new_kept : new.base ≤ new.next - rbuf = h.new_kept in
+    let old_kept : old.bytes.base ≤ old.next - rbuf = h.old_kept in
+    let new_kept : new.bytes.base ≤ new.next - rbuf = h.new_kept in
     let told : (p : ℕ) → old.next - rbuf ≤ p → after p (held (view_of old fin rbuf).kept p) ≡ cell_at mid p = λ p l.
     ap (after p) (held_viewed old fin rbuf h.old_laid p ∙ kept_cell old rbuf p l)
     ∙ ap (λ x. held_after old.next x policy start segment p (cell_at old p)) (sym is_limit)
     ∙ after_is_taken old.next limit start m k p policy segment (cell_at old p) cut
-    (λ b. some_of_cond (is_accepted old.next old.runs.items p) (byte_at old p) ∙ accepted_below old.next old.runs.items p b)
+    (λ b. some_of_cond (is_accepted old.next (runs_of old.runs) p) (byte_at old p) ∙ accepted_below old.next (runs_of old.runs) p b)
     (λ b. ap (λ x. cond x (Some (byte_at old p)) None) (bounded_cell old limit p bounded b))
     ∙ sym (h.taken p (omega arith)) in
-    let some_mid : (p : ℕ) → is_some (cell_at mid p) ≡ is_accepted mid.next mid.runs.items p = λ p. some_of_cond (is_accepted mid.next mid.runs.items p) (byte_at mid p) in
-    let same_cell : (p : ℕ) → new.base ≤ p → cell_at new p ≡ cell_at mid p = λ p l.
+    let some_mid : (p : ℕ) → is_some (cell_at mid p) ≡ is_accepted mid.next (runs_of mid.runs) p = λ p. some_of_cond (is_accepted mid.next (runs_of mid.runs) p) (byte_at mid p) in
+    let same_cell : (p : ℕ) → new.bytes.base ≤ p → cell_at new p ≡ cell_at mid p = λ p l.
     ap₂ (λ b x. cond b (Some x) None) (ap₂ (λ n (rs : List Run). is_accepted n rs p) same_next h.new_runs) (h.new_bytes p l) in
     record {
       fin = refl;
       rbuf = refl;
       rises = omega arith;
-      filled = λ p l b. ap is_some (told p (omega arith)) ∙ some_mid p ∙ accepted_below mid.next mid.runs.items p (omega arith);
-      empty = ap is_some (told new.next (omega arith)) ∙ some_mid new.next ∙ ap (is_accepted mid.next mid.runs.items) same_next ∙ next_open mid h.mid_laid.above;
+      filled = λ p l b. ap is_some (told p (omega arith)) ∙ some_mid p ∙ accepted_below mid.next (runs_of mid.runs) p (omega arith);
+      empty = ap is_some (told new.next (omega arith)) ∙ some_mid new.next ∙ ap (is_accepted mid.next (runs_of mid.runs)) same_next ∙ next_open mid h.mid_laid.above;
       cells = λ p l. held_viewed new fin rbuf h.new_laid p ∙ kept_cell new rbuf p l ∙ same_cell p (omega arith) ∙ sym (told p (omega arith));
       forgotten = λ p l. held_viewed new fin rbuf h.new_laid p ∙ cond-false (leb (new.next - rbuf) p) (cell_at new p) None (lt-leb (new.next - rbuf) p l);
     }

@@ -13,65 +13,45 @@ use Rattle.reassembly.specs.Segment.{accept, accept_at, counts, counts_at, from_
 use Rattle.reassembly.specs.View.{StandsFor}
 use Rattle.reassembly.specs.Steps.{StepsTo, counts_viewed}
 use Rattle.reassembly.specs.Runs.{run_at}
-use Rattle.reassembly.specs.Window.{end_of, view_of, IsBounded, IsWhole, IsSameWindow}
+use Rattle.reassembly.specs.Window.{view_of, IsBounded, IsWhole, IsSameWindow}
+use Rattle.reassembly.specs.Waiting.{runs_of}
 use Rattle.reassembly.proofs.Cells.{below_next}
 use Rattle.reassembly.proofs.Laws.{stands_after, counts_stand}
 
 -- nothing is accepted at the limit or past it
 pub bounded_limit : (w : Window) (fin : Option ℕ) (rbuf : ℕ) → IsWhole w fin rbuf → IsBounded w (limit_of w.next fin rbuf)
-bounded_limit w None rbuf h =
-    let span : end_of w ≤ w.next + rbuf = h.sized.span in
-    record {
-      next = omega arith;
-      runs = record { each = λ k l. let e : (run_at w.runs.items k).end ≤ end_of w = h.laid.within.each k l in omega arith };
-    }
+bounded_limit w None rbuf h = record { next = omega arith; runs = h.sized.span }
 bounded_limit w (Some f) rbuf h =
-    let span : end_of w ≤ w.next + rbuf = h.sized.span in
     let fin : IsBounded w f = h.fin f refl in
     let next : w.next ≤ f = fin.next in
     record {
       next = omega arith;
       runs = record {
         each = λ k l.
-            let e : (run_at w.runs.items k).end ≤ end_of w = h.laid.within.each k l in
-            let g : (run_at w.runs.items k).end ≤ f = fin.runs.each k l in
+            let e : (run_at (runs_of w.runs) k).end ≤ w.next + rbuf = h.sized.span.each k l in
+            let g : (run_at (runs_of w.runs) k).end ≤ f = fin.runs.each k l in
             omega arith;
       };
     }
 
-pub fin_bounded : (w : Window) (next f rbuf : ℕ) (fin : Option ℕ) → fin ≡ Some f → IsBounded w (limit_of next fin rbuf) → IsBounded w f
-fin_bounded w next f rbuf None e h = absurd (cc e)
-fin_bounded w next f rbuf (Some g) e h =
-    let same : g ≡ f = cc e in
-    let up : w.next ≤ min g (next + rbuf) = h.next in
-    record {
-      next = omega arith;
-      runs = record { each = λ k l. let b : (run_at w.runs.items k).end ≤ min g (next + rbuf) = h.runs.each k l in omega arith };
-    }
-
 -- the same content has the same invariant
 pub whole_same : (old new : Window) (fin : Option ℕ) (rbuf : ℕ) → IsSameWindow old new → IsWhole old fin rbuf → IsWhole new fin rbuf
-whole_same old new fin rbuf same h =
-    let base : new.base ≡ old.base = same.base in
-    let next : new.next ≡ old.next = same.next in
-    let len : length new.bytes.items ≡ length old.bytes.items = ap length same.bytes in
-    let end : end_of new ≡ end_of old = omega arith in
-    record {
-      laid = record {
-        filled = let f : old.next ≤ end_of old = h.laid.filled in omega arith;
-        ordered = rw same.runs h.laid.ordered;
-        above = rw (same.runs, next) h.laid.above;
-        within = rw (same.runs, end) h.laid.within;
-      };
-      sized = record {
-        kept = rw (base, next) h.sized.kept;
-        span = rw (end, next) h.sized.span;
-        stale = rw (base, next) h.sized.stale;
-      };
-      least = h.least;
-      most = h.most;
-      fin = λ f e. let b = h.fin f e in record { next = rw next b.next; runs = rw same.runs b.runs };
-    }
+whole_same old new fin rbuf same h = record {
+  laid = record {
+    keyed = same.keyed;
+    held = λ p l e. same.held p (h.laid.held p (rw same.base at l) (rw (same.next, same.runs) at e));
+    ordered = rw same.runs h.laid.ordered;
+    above = rw (same.runs, same.next) h.laid.above;
+  };
+  sized = record {
+    kept = rw (same.base, same.next) h.sized.kept;
+    stale = rw (same.base, same.next) h.sized.stale;
+    span = rw (same.runs, same.next) h.sized.span;
+  };
+  least = h.least;
+  most = h.most;
+  fin = λ f e. let b = h.fin f e in record { next = rw same.next b.next; runs = rw same.runs b.runs };
+}
 
 -- the bytes from the cut on are those at or above position 0
 pub cut_bytes : (below cut : ℕ) (bytes : List ℕ) → cut ≡ min below (length bytes) → take (length bytes - cut) (drop cut bytes) ≡ drop below bytes

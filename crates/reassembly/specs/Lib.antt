@@ -6,6 +6,8 @@ pub mod Kept
 pub mod View
 pub mod Runs
 pub mod Laying
+pub mod Pages
+pub mod Waiting
 pub mod Window
 pub mod Steps
 pub mod Plain

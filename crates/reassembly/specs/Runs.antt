@@ -1,5 +1,5 @@
 -- The accepted positions above next, as runs: private to the crate.
-use Rattle.std.specs.Prelude.{◌≡◌, ℕ, ◌-◌, ◌<◌, ◌≤◌, min, max, Bool, ◌&&◌, ◌||◌, nat_le, nat_lt, List, length, slice_index_or}
+use Rattle.std.specs.Prelude.{ℕ, ◌<◌, ◌≤◌, Bool, ◌&&◌, ◌||◌, nat_le, nat_lt, List, length, slice_index_or}
 use Rattle.std.specs.List.{list_any}
 use Rattle.reassembly.specs.declared.runs.Run.{Run}
 
@@ -29,12 +29,6 @@ pub record IsCursor (runs : List Run) (k p : ℕ) : Type 0 where
   pub before : (j : ℕ) → j < k → (run_at runs j).end ≤ p
   pub after : (j : ℕ) → k ≤ j → j < length runs → p < (run_at runs j).end
 
--- the first k runs begin at p or below, the others above
-pub record IsBegun (runs : List Run) (k p : ℕ) : Type 0 where
-  pub within : k ≤ length runs
-  pub before : (j : ℕ) → j < k → (run_at runs j).start ≤ p
-  pub after : (j : ℕ) → k ≤ j → j < length runs → p < (run_at runs j).start
-
 -- each run begins above m
 pub record AreAbove (runs : List Run) (m : ℕ) : Type 0 where
   pub each : (k : ℕ) → k < length runs → m < (run_at runs k).start
@@ -42,9 +36,3 @@ pub record AreAbove (runs : List Run) (m : ℕ) : Type 0 where
 -- each run ends at m or below it
 pub record AreWithin (runs : List Run) (m : ℕ) : Type 0 where
   pub each : (k : ℕ) → k < length runs → (run_at runs k).end ≤ m
-
--- the run is low to high joined with the runs from first to below past
-pub record IsJoined (runs : List Run) (first past low high : ℕ) (run : Run) : Type 0 where
-  pub alone : first ≡ past → (run.start ≡ low) × (run.end ≡ high)
-  pub start : first < past → run.start ≡ min low (run_at runs first).start
-  pub end : first < past → run.end ≡ max high (run_at runs (past - 1)).end

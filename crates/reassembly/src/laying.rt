@@ -104,7 +104,8 @@ fn lay_stretch(cells: &mut [u8], segment: &[u8], policy: Policy, is_old: bool) -
     }
 }
 
-fn added(a: Tally, b: Tally) -> Tally
+/// The sum of two tallies.
+pub fn added(a: Tally, b: Tally) -> Tally
     requires new { a.new + b.new < 2 ^ 32 }
     requires old { a.old + b.old < 2 ^ 32 }
     requires differ { a.differ + b.differ < 2 ^ 32 }

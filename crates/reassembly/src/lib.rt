@@ -8,11 +8,13 @@
 mod answers;
 mod fin;
 mod laying;
+mod pages;
 mod pieces;
 mod plain;
 mod runs;
 mod start;
 mod stream;
+mod waiting;
 mod window;
 
 pub use answers::{FinNote, Placed, Policy};

@@ -1,21 +1,21 @@
 -- What the words may choose today, of what they are to choose.
 use Rattle.std.specs.Prelude.{ℕ, List, [], ◌∷◌, codes}
 use Rattle.words.specs.declared.settings.AppKind.{AppKind}
-use Rattle.words.specs.declared.settings.AppKind.TheVariants.{Log}
+use Rattle.words.specs.declared.settings.AppKind.TheVariants.{Log, Acct, Rexmit, Firewall}
 use Rattle.words.specs.declared.settings.Emit.{Emit}
-use Rattle.words.specs.declared.settings.Emit.TheVariants.{Report}
+use Rattle.words.specs.declared.settings.Emit.TheVariants.{Report, Forward}
 
 -- the applications by name
 abbrev pub apps : List (List ℕ × AppKind)
-apps = (codes "log", Log) ∷ []
+apps = (codes "log", Log) ∷ (codes "acct", Acct) ∷ (codes "rexmit", Rexmit) ∷ (codes "firewall", Firewall) ∷ []
 
 -- what may be written, by name
 abbrev pub emits : List (List ℕ × Emit)
-emits = (codes "report", Report) ∷ []
+emits = (codes "report", Report) ∷ (codes "forward", Forward) ∷ []
 
 abbrev pub most_workers : ℕ
 most_workers = 1
 
--- how many connections a made capture may have: none is made yet
+-- how many connections a made capture may have
 abbrev pub most_made : ℕ
-most_made = 0
+most_made = 100000

@@ -1,6 +1,6 @@
 //! The words, read as settings.
 
-ghost use Rattle.std.specs.Prelude.{◌≡◌, IfOk, IfErr, Some, None, map, option_map, string_bytes};
+ghost use Rattle.std.specs.Prelude.{◌≡◌, ◌≤◌, IfOk, IfErr, IfSome, Some, None, map, option_map, string_bytes};
 ghost use Rattle.clap.specs.Words.{first_value, found_of};
 ghost use Rattle.words.specs.Words.{is_value, settings_of, words_settings};
 ghost use Rattle.words.specs.Found.{all_pass, passes};
@@ -16,6 +16,7 @@ use std::alloc::Global;
 /// Usage exactly where they aren't accepted, unless memory was refused before that was known.
 pub fn read_words(alloc: Global, words: &[String]) -> Result<Settings, WordsError>
     ensures ok { IfOk result (λ s. words_settings (map string_bytes words.now) ≡ Some s) }
+    ensures few { IfOk result (λ s. IfSome s.make (λ n. n ≤ 100000)) }
     ensures usage { IfErr result (λ e. e ≡ WordsError.Usage → words_settings (map string_bytes words.now) ≡ None) }
 {
     if has_dashes(words) {
@@ -57,6 +58,7 @@ fn is_value(bytes: &[u8]) -> bool
 // What the five values choose.
 fn settings(alloc: Global, matches: &ArgMatches<'_>) -> Result<Settings, WordsError>
     ensures ok { IfOk result (λ s. settings_of (first_value (found_of matches.now)) ≡ Some s) }
+    ensures few { IfOk result (λ s. IfSome s.make (λ n. n ≤ 100000)) }
     ensures usage { IfErr result (λ e. e ≡ WordsError.Usage → settings_of (first_value (found_of matches.now)) ≡ None) }
 {
     let app = app_of(matches.get_str("app")).ok_or(WordsError::Usage)?;

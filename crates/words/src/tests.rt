@@ -50,6 +50,39 @@ fn is_plain(settings: &Settings) -> bool {
         && settings.make.is_none()
 }
 
+// The application, what is written, and how many connections are made.
+#[test]
+fn choices(rt: HostRuntime) -> Result<(), Fail> {
+    let rows = [
+        ("--app acct", AppKind::Acct, Emit::Report, None),
+        ("--app=rexmit", AppKind::Rexmit, Emit::Report, None),
+        (
+            "--emit forward --app firewall",
+            AppKind::Firewall,
+            Emit::Forward,
+            None,
+        ),
+        ("--make 1", AppKind::Log, Emit::Summary, Some(1)),
+        (
+            "--make=100000 --app acct",
+            AppKind::Acct,
+            Emit::Summary,
+            Some(100_000),
+        ),
+    ];
+    for (line, app, emit, make) in rows {
+        let words = words_of(rt.alloc(), line)?;
+        let settings = read_words(rt.alloc(), words.as_slice())
+            .ok()
+            .expect(&rt, "settings");
+        assert_eq!(rt; settings.app, app, "of {line}");
+        assert_eq!(rt; settings.emit, emit, "of {line}");
+        assert_eq!(rt; settings.make, make, "of {line}");
+        assert!(rt; settings.script.is_none(), "for {line}");
+    }
+    Ok(())
+}
+
 #[test]
 fn refused(rt: HostRuntime) -> Result<(), Fail> {
     let rows = [
@@ -62,7 +95,6 @@ fn refused(rt: HostRuntime) -> Result<(), Fail> {
         "--app tap",
         "--app=",
         "--app log --app log",
-        "--app acct",
         "--workers 0",
         "--workers 01",
         "--workers +1",
@@ -77,10 +109,11 @@ fn refused(rt: HostRuntime) -> Result<(), Fail> {
         "--script -",
         "--script --",
         "--script --app=log",
-        "--emit forward",
-        "--make 1",
+        "--emit summary",
         "--make 0",
+        "--make 100001",
         "--make 3 --emit report",
+        "--emit forward --make 3",
         "--x 1",
         "--x=1",
         "--=1",

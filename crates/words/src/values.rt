@@ -1,6 +1,6 @@
 //! Each option's value, as the choice that it makes.
 
-ghost use Rattle.std.specs.Prelude.{◌≡◌, ◌^◌, ◌≤◌, ◌<◌, IfOk, IfErr, Some, None, MatchOption, option_map};
+ghost use Rattle.std.specs.Prelude.{◌≡◌, ◌^◌, ◌≤◌, ◌<◌, IfOk, IfErr, IfSome, Some, None, MatchOption, option_map};
 ghost use Rattle.std.specs.List.{list_all};
 ghost use Rattle.std.specs.Char.{digit_value, is_ascii_digit};
 ghost use Rattle.std.specs.Str.Parse.{digits_value};
@@ -13,8 +13,8 @@ use std::alloc::Global;
 // The most workers that a run may have.
 const MOST_WORKERS: u32 = 1;
 
-// The most connections that a made capture may have; with 0 none is made.
-const MOST_MADE: u32 = 0;
+// The most connections that a made capture may have.
+const MOST_MADE: u32 = 100_000;
 
 /// The application of this name, or the log.
 pub(crate) fn app_of(text: Option<&str>) -> Option<AppKind>
@@ -25,6 +25,15 @@ pub(crate) fn app_of(text: Option<&str>) -> Option<AppKind>
     };
     if text == "log" {
         return Some(AppKind::Log);
+    }
+    if text == "acct" {
+        return Some(AppKind::Acct);
+    }
+    if text == "rexmit" {
+        return Some(AppKind::Rexmit);
+    }
+    if text == "firewall" {
+        return Some(AppKind::Firewall);
     }
     None
 }
@@ -68,6 +77,9 @@ pub(crate) fn emit_of(text: Option<&str>, make: Option<&str>) -> Option<Emit>
             if text == "report" {
                 return Some(Emit::Report);
             }
+            if text == "forward" {
+                return Some(Emit::Forward);
+            }
             None
         }
         (None, None) => Some(Emit::Report),
@@ -76,7 +88,8 @@ pub(crate) fn emit_of(text: Option<&str>, make: Option<&str>) -> Option<Emit>
 
 /// How many connections are made, where any are.
 pub(crate) fn make_of(text: Option<&str>) -> Option<Option<u32>>
-    ensures { result ≡ make_of (option_map (λ s. s.now) text.entry) }
+    ensures which { result ≡ make_of (option_map (λ s. s.now) text.entry) }
+    ensures few { IfSome result (λ made. IfSome made (λ n. n ≤ 100000)) }
 {
     match text {
         Some(text) => {
@@ -89,7 +102,8 @@ pub(crate) fn make_of(text: Option<&str>) -> Option<Option<u32>>
 
 // The number that the text writes without sign or leading zero, where it is from 1 to `most`.
 fn number_up_to(most: u32, text: &str) -> Option<u32>
-    ensures { result ≡ number_up_to most text.now }
+    ensures number { result ≡ number_up_to most text.now }
+    ensures most { IfSome result (λ n. n ≤ most) }
 {
     let bytes = text.as_bytes();
     if !all_digits(bytes) || bytes.is_empty() || bytes[0] == b'0' {

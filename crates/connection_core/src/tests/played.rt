@@ -14,7 +14,10 @@ use crate::{Arrived, Flow, InForce, Ledger, Notes, Terms, lone};
 use app_api::{LogApp, Reason, Reg, Tally, Verdict};
 use builtin_events::{Raised, raised_by_orphan};
 use forest_versions::{Command, Master};
-use native_filters::NativeBook;
+use native_filters::{
+    Native, NativeBook, has_differing_bytes, has_system_port, is_ending, is_keep_alive, is_opening,
+    is_private_traffic,
+};
 use packet_views::{ACK, Class, Head, SYN};
 use shared_forest::{ForestView, Forests, Table};
 use std::alloc::Global;
@@ -171,22 +174,7 @@ pub fn play(
 ) -> Result<Played, Fail>
     requires lawful { IsTrue (are_presets presets.now) }
 {
-    let mut table = Table::new(alloc);
-    let first = Master::new(alloc, &mut table, presets)?;
-    let master = give(alloc, &mut table, first, commands)?;
-    let natives = NativeBook::plain();
-    let terms = Terms {
-        app: &LogApp,
-        in_force: InForce {
-            master: &master,
-            version: master.version(),
-        },
-        natives: &natives,
-        keep: true,
-    };
-    let mut played = opened(alloc, &mut table, &terms.in_force)?;
-    follow_all(alloc, &terms, &mut table, &mut played, &OPEN)?;
-    follow_all(alloc, &terms, &mut table, &mut played, packets)?;
+    let (played, _) = run(alloc, presets, commands, Traffic::Connection(packets))?;
     Ok(played)
 }
 
@@ -198,10 +186,37 @@ pub fn play_orphan(
 ) -> Result<(Verdict, Notes), Fail>
     requires lawful { IsTrue (are_presets presets.now) }
 {
+    let (played, verdict) = run(alloc, presets, commands, Traffic::Orphan)?;
+    Ok((verdict, played.notes))
+}
+
+// What comes after the commands: the handshake and these packets of a connection, or a packet of none.
+#[derive(Clone, Copy)]
+enum Traffic<'a> {
+    Connection(&'a [Packet<'a>]),
+    Orphan,
+}
+
+// Runs traffic after these commands, where the native filters are the plain functions.
+fn run(
+    alloc: Global,
+    presets: &[Reg],
+    commands: &[Command],
+    traffic: Traffic,
+) -> Result<(Played, Verdict), Fail>
+    requires lawful { IsTrue (are_presets presets.now) }
+{
     let mut table = Table::new(alloc);
     let first = Master::new(alloc, &mut table, presets)?;
     let master = give(alloc, &mut table, first, commands)?;
-    let natives = NativeBook::plain();
+    let natives = NativeBook::new(
+        Native::new(0, is_opening),
+        Native::new(1, has_system_port),
+        Native::new(2, is_private_traffic),
+        Native::new(3, is_keep_alive),
+        Native::new(4, is_ending),
+        Native::new(5, has_differing_bytes),
+    );
     let terms = Terms {
         app: &LogApp,
         in_force: InForce {
@@ -212,9 +227,18 @@ pub fn play_orphan(
         keep: true,
     };
     let mut played = opened(alloc, &mut table, &terms.in_force)?;
-    let raised = raised_by_orphan(Class::Other, None);
-    let verdict = orphan(alloc, &terms, &table, &mut played, raised)?;
-    Ok((verdict, played.notes))
+    let verdict = match traffic {
+        Traffic::Connection(packets) => {
+            follow_all(alloc, &terms, &mut table, &mut played, &OPEN)?;
+            follow_all(alloc, &terms, &mut table, &mut played, packets)?;
+            Verdict::Pass
+        }
+        Traffic::Orphan => {
+            let raised = raised_by_orphan(Class::Other, None);
+            orphan(alloc, &terms, &table, &mut played, raised)?
+        }
+    };
+    Ok((played, verdict))
 }
 
 // The callbacks of a packet of no connection, over the tree of one that begins.

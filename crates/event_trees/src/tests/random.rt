@@ -5,11 +5,11 @@ ghost use Rattle.shared_forest.specs.Rows.{HasRow, tree_at};
 ghost use Rattle.shared_forest.specs.Store.{Keeps};
 
 use super::forests::{bare, built, switched};
+use super::natives::is_true;
 use super::{END, PKT_IN, START, called, define, facts_of, reg};
 use crate::Defs;
 use app_api::{ActiveList, Reg};
-use filter_lang::eval;
-use native_filters::{Facts, Hook, NativeBook};
+use native_filters::{Facts, Hook};
 use shared_forest::{ForestView, Shared, Table, Tree};
 use std::alloc::Global;
 use std::process::Abort;
@@ -139,10 +139,9 @@ fn in_order(alloc: Global, defs: &Defs, regs: &[Reg]) -> Result<ActiveList, Fail
 
 // Whether a raise passes a path: it begins with the raise's event, and all filters on it are true.
 fn passes(defs: &Defs, path: &[u16], event: u16, facts: &Facts) -> bool {
-    let natives = NativeBook::plain();
     for step in path {
         if let Some(def) = defs.find(*step) {
-            if !eval(&def.filter, facts, &natives) {
+            if !is_true(&def.filter, facts) {
                 return false;
             }
         }

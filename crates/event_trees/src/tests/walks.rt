@@ -1,10 +1,11 @@
 //! Walks on worked rows.
 
 use super::forests::built;
+use super::natives::next_of;
 use super::{END, PKT_IN, called, chain, define, facts_of, list_of, reg};
 use crate::{Defs, Walk};
 use app_api::Reg;
-use native_filters::{Hook, NativeBook};
+use native_filters::Hook;
 use shared_forest::{ForestView, Table};
 use std::alloc::Global;
 use std::test::Fail;
@@ -79,6 +80,6 @@ fn nothing_under_a_false_filter_is_called(rt: HostRuntime) -> Result<(), Fail> {
     assert_eq!(rt; tree.nodes().len(), 9);
     let facts = facts_of(0);
     let mut walk = Walk::start(tree, Hook::Rcv, PKT_IN, &facts);
-    assert_eq!(rt; walk.next(&defs, &NativeBook::plain()), None);
+    assert_eq!(rt; next_of(&mut walk, &defs), None);
     Ok(())
 }

@@ -1,6 +1,7 @@
 //! The calls of a lane.
 
 ghost use Rattle.std.specs.Prelude.{◌≡◌, [], IfOk, None};
+ghost use Rattle.shared_forest.specs.Store.{CountsAtMost};
 ghost use Rattle.forest_versions.specs.State.{start};
 
 use crate::end::{LaneEnd, records_of, versions_of};
@@ -28,6 +29,7 @@ impl<A: App + Drop, F: Forests + Drop> Lane<A, F> {
         ensures given { IfOk result (λ lane. ⟦<Lane<A, F> as Recorder>⟧.given lane ≡ 0) }
         ensures last { IfOk result (λ lane. ⟦<Lane<A, F> as Recorder>⟧.last lane ≡ None) }
         ensures failed { IfOk result (λ lane. ⟦<Lane<A, F> as Recorder>⟧.failed lane ≡ None) }
+        ensures interned { IfOk result (λ lane. CountsAtMost (F.interns forests) (⟦<Lane<A, F> as Recorder>⟧.interns lane)) }
     {
         let mut forests = forests;
         let presets = presets_of(alloc, &app)?;

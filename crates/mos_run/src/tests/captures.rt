@@ -55,6 +55,13 @@ pub const ACK: [u8; 54] = [
     0, 0, 0, 0,
 ];
 
+// Four bytes from the client, behind the handshake.
+pub const DATA: [u8; 58] = [
+    2, 0, 0, 0, 0, 2, 2, 0, 0, 0, 0, 1, 8, 0, 0x45, 0, 0, 0x2c, 0, 0, 0x40, 0, 0x40, 6, 0, 0, 10,
+    0, 0, 1, 10, 0, 0, 2, 3, 0xe8, 0, 0x50, 0, 0, 0, 0x65, 0, 0, 1, 0x2d, 0x50, 0x18, 0xff, 0xff,
+    0, 0, 0, 0, 0x41, 0x42, 0x43, 0x44,
+];
+
 // The SYN+ACK in a frame with one tag.
 pub const TAGGED: [u8; 58] = [
     2, 0, 0, 0, 0, 1, 2, 0, 0, 0, 0, 2, 0x81, 0, 0, 5, 8, 0, 0x45, 0, 0, 0x28, 0, 0, 0x40, 0, 0x40,

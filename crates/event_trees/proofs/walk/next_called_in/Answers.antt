@@ -9,7 +9,7 @@ use Rattle.event_trees.proofs.Walks.{come-step, node-within}
 use Rattle.event_trees.proofs.walk.next_called_in.Goals as goal
 
 pub loop-number-preserved : goal.loop-number-preserved
-loop-number-preserved c =
+loop-number-preserved g c =
     let keep : ℕ → Bool = keeps c.args.question.now.defs.now c.args.question.now.facts.now c.args.question.now.root in
     let tree = c.args.tree.now in
     let p = c.loop-number.place in

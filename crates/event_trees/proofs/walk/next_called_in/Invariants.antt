@@ -4,9 +4,9 @@ use Rattle.event_trees.specs.Place.{come}
 use Rattle.event_trees.proofs.walk.next_called_in.Given as goal
 
 abbrev pub invariant-loop-number : goal.invariant-loop-number
-invariant-loop-number l =
+invariant-loop-number g l =
     (l.place.end ≤ length l.slots) × (come (keeps l.question.defs.now l.question.facts.now l.question.root) l.hook l.tree l.place
     ≡ come (keeps l.question.defs.now l.question.facts.now l.question.root) l.hook l.tree l.initial.place)
 
 abbrev pub decreases-loop-number : goal.decreases-loop-number
-decreases-loop-number l = length l.nodes - l.place.node
+decreases-loop-number g l = length l.nodes - l.place.node

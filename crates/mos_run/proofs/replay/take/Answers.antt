@@ -1,22 +1,42 @@
-use Rattle.std.proofs.Common.{◌≡◌, Err, refl, sym, ap, ◌∙◌}
-use Rattle.mos_run.proofs.Reading.{was_good, one_more, heavy_more, some_none}
+use Rattle.std.proofs.Common.{◌≡◌, ◌≢◌, ◌∙◌, true, None, Ok, Err, not, sym, ap}
+use Rattle.mos_run.specs.Records.{packets_of}
+use Rattle.mos_run.proofs.Following.{ready_still}
+use Rattle.mos_run.proofs.Reading.{not_failed, read_still, read_more, read_heavy}
 use Rattle.mos_run.proofs.replay.take.Goals as goal
 
-pub returns-in-Ok-clause-reads : goal.returns-in-Ok-clause-reads
-returns-in-Ok-clause-reads g c = λ frames count read.
+pub returns-then-has_failed-clause-ready : goal.returns-then-has_failed-clause-ready
+returns-then-has_failed-clause-ready g c = λ ok.
+    let lane = c.args.lane.now in
+    ready_still (g.L.Recorder.app lane) c.args.plan.now.script.now (g.L.Recorder.given lane) (g.L.Recorder.control lane) (g.L.Recorder.last lane) c.args.number c.requires.ready
+
+pub returns-then-has_failed-clause-reads : goal.returns-then-has_failed-clause-reads
+returns-then-has_failed-clause-reads g c = λ ok frames count read.
+    let lane = c.args.lane.now in
+    let plan = c.args.plan.now in
+    read_still (g.L.Recorder.app lane) plan.script.now plan.output frames c.args.frame.now c.args.number count (g.L.Recorder.given lane) (g.L.Recorder.failed lane) (g.L.Recorder.stands lane)
+    c.last_packet_is_added.ensures c.weight_never_falls.ensures (c.has_failed.ensures.0 c.if-has_failed.true) read
+
+pub returns-in_ok-write_passed-in-Ok-clause-reads : goal.returns-in_ok-write_passed-in-Ok-clause-reads
+returns-in_ok-write_passed-in-Ok-clause-reads g c = λ ok frames count read.
     let old = c.args.lane.now in
-    let new = c.packet.new.self in
+    let new = c.advance.new.lane in
+    let plan = c.args.plan.now in
     let e = c.in-Ok.ensures in
-    let good = was_good (g.L.Recorder.failed old) c.packet.result c.in-Ok.field-0 (λ error is. (c.packet.ensures.failed_before error is).0) c.in-Ok.is in
-    one_more (g.L.Recorder.app old) (g.L.Recorder.failed new) (g.L.Recorder.stands new) (g.L.Recorder.stands old) frames c.args.frame.now c.args.number count (read.stands_for good)
-    (c.packet.ensures.stands good) (λ none events was. e.light c.requires.keeps events was) (λ bad. absurd (bad e.ok))
+    let good = not_failed (g.L.Recorder.failed old) c.has_failed.result c.if-has_failed.false c.has_failed.ensures.1 in
+    let before = read.follows good in
+    rw (c.advance.ensures.app)
+    (read_more (g.L.Recorder.app old) plan.script.now plan.output frames c.args.frame.now c.args.number count (g.L.Recorder.given new) (g.L.Recorder.failed new) (g.L.Recorder.stands new)
+    e.ok (e.follows (packets_of plan.script.now frames) before)
+    (λ kept. e.light (c.requires.keeps ∙ kept) (packets_of plan.script.now frames) before))
 
 pub returns-in-Err-Heavy-clause-reads : goal.returns-in-Err-Heavy-clause-reads
-returns-in-Err-Heavy-clause-reads g c = λ frames count read.
+returns-in-Err-Heavy-clause-reads g c = λ ok frames count read.
     let old = c.args.lane.now in
-    let new = c.packet.new.self in
-    let heavy_is = c.in-Err-Heavy.is ∙ ap Err c.in-Err-Heavy.field-0-is in
-    heavy_more g.L.Recorder.failed g.L.Recorder.stands old new (g.L.Recorder.app old) frames c.args.frame.now c.args.number c.heavy_stays.ensures count
-    (λ good. one_more (g.L.Recorder.app old) (g.L.Recorder.failed new) (g.L.Recorder.stands new) (g.L.Recorder.stands old) frames c.args.frame.now c.args.number count (read.stands_for good)
-    (c.packet.ensures.stands good) (λ none. absurd (some_none _ _ c.in-Err-Heavy.ensures.fails none)) (λ bad. (c.packet.ensures.heavy good heavy_is).1))
-    (λ error is. (c.packet.ensures.failed_before error is).1) read (g.L.Recorder.failed old) refl
+    let new = c.advance.new.lane in
+    let plan = c.args.plan.now in
+    let is = c.in-Err-Heavy.is ∙ ap Err c.in-Err-Heavy.field-0-is in
+    let good = not_failed (g.L.Recorder.failed old) c.has_failed.result c.if-has_failed.false c.has_failed.ensures.1 in
+    let heavy = c.advance.ensures.heavy is in
+    rw (c.advance.ensures.app)
+    (read_heavy (g.L.Recorder.app old) plan.script.now plan.output frames c.args.frame.now c.args.number count (g.L.Recorder.given new) (g.L.Recorder.failed new) (g.L.Recorder.stands new)
+    (c.advance.ensures.failed is) (sym c.requires.keeps ∙ heavy.0) (heavy.1 (packets_of plan.script.now frames) (read.follows good)))

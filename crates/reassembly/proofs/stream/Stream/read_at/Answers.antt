@@ -19,18 +19,17 @@ returns-then-len-eq0-clause-bytes c r h = ap (λ xs. xs ++ c.args.buf.now) (noth
 pub copy-requires-clause-from : goal.copy-requires-clause-from
 copy-requires-clause-from c =
     let s = c.self.inside in
-    let can : IsReadable s.window s.rbuf c.args.position c.min-len.result = readable s.window s.rbuf c.args.position c.run_end-end.result c.min-len.result c.self.invariant.laid c.run_end-end.ensures (omega arith) (omega arith) in
-    let base : s.window.base ≤ s.window.next - s.rbuf = c.self.invariant.sized.kept in
+    let can : IsReadable s.window s.rbuf c.args.position c.min-len.result = readable s.window s.rbuf c.args.position c.run_end-end.result c.min-len.result c.run_end-end.ensures (omega arith) (omega arith) in
+    let base : s.window.bytes.base ≤ s.window.next - s.rbuf = c.self.invariant.sized.kept in
     let from : s.window.next - s.rbuf ≤ c.args.position = can.from in
     omega arith
 
-pub copy-requires-clause-within : goal.copy-requires-clause-within
-copy-requires-clause-within c =
+pub copy-requires-clause-accepted : goal.copy-requires-clause-accepted
+copy-requires-clause-accepted c p from below =
     let s = c.self.inside in
-    let can : IsReadable s.window s.rbuf c.args.position c.min-len.result = readable s.window s.rbuf c.args.position c.run_end-end.result c.min-len.result c.self.invariant.laid c.run_end-end.ensures (omega arith) (omega arith) in
-    let within = can.within in
+    let can : IsReadable s.window s.rbuf c.args.position c.min-len.result = readable s.window s.rbuf c.args.position c.run_end-end.result c.min-len.result c.run_end-end.ensures (omega arith) (omega arith) in
     let len : length (take c.min-len.result c.args.buf.now) ≡ min c.min-len.result (length c.args.buf.now) = length-take c.min-len.result c.args.buf.now in
-    omega arith
+    can.accepted p from (omega arith)
 
 read : (c : goal.After-slice_known-2-1) (r : Receiver) → StandsFor c.args.self.now r → c.copy.new.buf ≡ bytes_from (kept r.cells c.args.self.now.rbuf) c.args.position (length c.args.buf.now)
 read c r h =

@@ -1,22 +1,16 @@
-use Rattle.std.proofs.Common.{◌≡◌, arith, ap, ◌∙◌, max}
-use Rattle.std.proofs.lemmas.List.{get_or_read}
-use Rattle.reassembly.specs.declared.runs.Run.{Run}
-use Rattle.reassembly.specs.Runs.{run_at, IsCursor}
-use Rattle.reassembly.proofs.KeptRuns.{first_in_runs, none_past}
+use Rattle.std.proofs.Common.{◌≡◌, arith, false, sym}
+use Rattle.reassembly.specs.Runs.{is_covered}
+use Rattle.reassembly.specs.Waiting.{runs_of}
+use Rattle.reassembly.proofs.KeptRuns.{first_above, none_past, nothing_found}
 use Rattle.reassembly.proofs.window.Window.first_kept.Goals as goal
 
-pub returns-then-at-len : goal.returns-then-at-len
-returns-then-at-len c x l =
-    let w = c.args.self.now in
-    let cursor : IsCursor w.runs.items c.ended_by-at.result c.args.position = rw c.deref.ensures.value at c.ended_by-at.ensures in
-    none_past w c.args.rbuf c.args.position c.ended_by-at.result c.requires.laid (omega arith) cursor (omega arith) x l
+pub returns-in-Some : goal.returns-in-Some
+returns-in-Some c =
+    let gap : is_covered (runs_of c.args.self.now.runs) c.args.position ≡ false = nothing_found c.covering.result _ (sym c.if-is_some.ensures) c.covering.ensures.none in
+    let found = c.in-Some.ensures.some in
+    first_above c.args.self.now c.args.rbuf c.args.position c.in-Some.run' c.requires.laid (omega arith) gap found.0 found.1 found.2
 
-pub returns : goal.returns
-returns c =
-    let w = c.args.self.now in
-    let k = c.ended_by-at.result in
-    let cursor : IsCursor w.runs.items k c.args.position = rw c.deref.ensures.value at c.ended_by-at.ensures in
-    let within = cursor.within in
-    let run : c.index.result.now ≡ run_at w.runs.items k = get_or_read w.runs.items k c.index.result.now (omega arith) c.index.ensures (record { start = 0; end = 0 }) in
-    let first : c.max-2.result ≡ max c.args.position (run_at w.runs.items k).start = c.max-2.ensures ∙ ap (λ (x : Run). max c.args.position x.start) run in
-    rw first (first_in_runs w c.args.rbuf c.args.position k c.requires.laid (omega arith) cursor (omega arith))
+pub returns-in-None : goal.returns-in-None
+returns-in-None c x l =
+    let gap : is_covered (runs_of c.args.self.now.runs) c.args.position ≡ false = nothing_found c.covering.result _ (sym c.if-is_some.ensures) c.covering.ensures.none in
+    none_past c.args.self.now c.args.rbuf c.args.position (omega arith) gap c.in-None.ensures.none x l

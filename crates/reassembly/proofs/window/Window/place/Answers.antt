@@ -1,6 +1,8 @@
 use Rattle.std.proofs.Common.{◌≡◌, ◌+◌, ◌-◌, ◌<◌, ◌≤◌, min, ◌⊎◌, ⊎_elim, inl, inr, arith, ap, refl, length, take, drop}
 use Rattle.std.proofs.lemmas.Bool.{cases_lt}
-use Rattle.reassembly.specs.Window.{end_of}
+use Rattle.reassembly.specs.Runs.{run_at}
+use Rattle.reassembly.specs.Waiting.{runs_of}
+use Rattle.reassembly.specs.Window.{IsBounded}
 use Rattle.reassembly.proofs.Laid.{length-part}
 use Rattle.reassembly.proofs.Placing.{counts_placed, steps_placed}
 use Rattle.reassembly.proofs.window.Window.place.Goals as goal
@@ -15,16 +17,19 @@ returns-clause-sized c =
     let order : c.args.self.now.next ≤ c.args.limit = c.requires.bounded.next in
     let len : length (take (within - below) (drop below segment)) ≡ within - below = length-part below within segment (omega arith) (omega arith) in
     let rises : c.args.self.now.next ≤ c.take.new.self.next = c.in_ok-tally.ensures.rises in
-    let span : end_of c.args.self.now ≤ c.args.self.now.next + c.args.rbuf = c.requires.sized.span in
     let middle = take (within - below) (drop below segment) in
     let inside : (length middle ≡ 0) ⊎ (c.args.start + below + length middle ≤ c.args.self.now.next + c.args.rbuf) = ⊎_elim
     (λ (l : below < within). inr (let w : c.args.limit ≤ c.args.self.now.next + c.args.rbuf = c.requires.window in omega arith))
     (λ (l : within ≤ below). inl (omega arith))
     (cases_lt below within) in
-    let end : end_of c.take.new.self ≤ c.args.self.now.next + c.args.rbuf = c.in_ok-tally.ensures.end (c.args.self.now.next + c.args.rbuf) inside span in
-    let same : end_of c.forget.new.self ≡ end_of c.take.new.self = c.forget.ensures.end in
+    let old : IsBounded c.args.self.now (c.args.self.now.next + c.args.rbuf) = record { next = omega arith; runs = c.requires.sized.span } in
+    let bounded : IsBounded c.take.new.self (c.args.self.now.next + c.args.rbuf) = c.in_ok-tally.ensures.bounded (c.args.self.now.next + c.args.rbuf) inside old in
     let next : c.forget.new.self.next ≡ c.take.new.self.next = c.forget.ensures.place.0 in
-    record { kept = c.forget.ensures.low; span = omega arith; stale = c.forget.ensures.stale }
+    record {
+      kept = c.forget.ensures.low;
+      stale = c.forget.ensures.stale;
+      span = rw (ap runs_of c.forget.ensures.place.1) (record { each = λ k l. let e : (run_at (runs_of c.take.new.self.runs) k).end ≤ c.args.self.now.next + c.args.rbuf = bounded.runs.each k l in omega arith });
+    }
 
 pub returns-clause-steps : goal.returns-clause-steps
 returns-clause-steps c fin is_limit =
@@ -38,7 +43,7 @@ returns-clause-steps c fin is_limit =
       taken = c.in_ok-tally.ensures.cells;
       new_laid = c.forget.ensures.laid;
       new_next = c.forget.ensures.place.0;
-      new_runs = ap (λ v. v.items) c.forget.ensures.place.1;
+      new_runs = ap runs_of c.forget.ensures.place.1;
       new_kept = c.forget.ensures.low;
       new_bytes = c.forget.ensures.bytes;
     })

@@ -1,47 +1,47 @@
-use Rattle.std.proofs.Common.{◌≡◌, ◌≤◌, arith, ap, ◌∙◌, sym, length, vec_len, [], vec_len, []}
-use Rattle.std.proofs.lemmas.Bool.{eqb-false, eqb-true}
+use Rattle.std.proofs.Common.{◌≡◌, ◌≤◌, arith, ◌∙◌, sym, length}
+use Rattle.std.proofs.lemmas.Bool.{eqb-false}
+use Rattle.reassembly.specs.declared.window.Window.{Window}
 use Rattle.reassembly.specs.Window.{taken_tally}
-use Rattle.reassembly.proofs.Taken.{cells_taken, tally_taken, taken_few, taken_in_order}
-use Rattle.std.proofs.lemmas.List.{nil_from_length}
-use Rattle.std.proofs.lemmas.Result.{IfOk-weaker}
+use Rattle.reassembly.proofs.Taken.{IsTaken, cells_taken, held_taken, tally_taken, taken_few}
 use Rattle.reassembly.proofs.window.Window.take.Goals as goal
 
-from_next : (c : goal.After-accept) → c.args.self.now.next ≤ c.args.low
+from_next : (c : goal.After-drop-met-2) → c.args.self.now.next ≤ c.args.low
 from_next c =
     let some : length c.args.bytes.now ≡ 0 → ⊥ = eqb-false (length c.args.bytes.now) 0 (sym c.if-is_empty.ensures) in
     omega arith
 
+abbrev after : (c : goal.After-drop-met-2) → Window
+after c = record { next = c.accept.new.self.next; bytes = c.lay.new.self; runs = c.accept.new.self.runs }
+
+taken : (c : goal.After-drop-met-2) → IsTaken c.args.self.now c.reserve.new.self c.in_ok-met.met.items (after c) c.args.low c.args.bytes.now c.args.policy
+taken c =
+    let same = c.accept.ensures.bytes in
+    record {
+      grown = c.reserve.ensures.grown;
+      place = rw same at c.lay.ensures.place;
+      touching = c.in_ok-met.ensures;
+      laid = rw (c.deref-2.ensures.value, same) at c.lay.ensures.bytes;
+      accepted = c.in_ok-accept.ensures.accepted;
+    }
+
+pub returns-clause-laid : goal.returns-clause-laid
+returns-clause-laid c = record {
+  keyed = c.lay.ensures.place.keyed;
+  held = held_taken c.args.self.now c.reserve.new.self c.in_ok-met.met.items (after c) c.args.low c.args.bytes.now c.args.policy c.requires.laid c.in_ok-reserve.ensures.ready (taken c);
+  ordered = c.in_ok-accept.ensures.ordered;
+  above = c.in_ok-accept.ensures.above;
+}
+
 pub returns-clause-cells : goal.returns-clause-cells
 returns-clause-cells c p l =
-    cells_taken c.args.self.now c.reserve.new.self c.lay-tally.new.self c.accept.new.self c.args.low c.args.bytes.now c.args.policy c.requires.laid (from_next c)
-    (record {
-      mid_base = c.in_ok-reserve.ensures.place.0;
-      mid_next = c.in_ok-reserve.ensures.place.1;
-      mid_runs = c.in_ok-reserve.ensures.runs;
-      mid_bytes = λ i b. c.in_ok-reserve.ensures.bytes i (omega arith);
-      laid_base = c.lay-tally.ensures.place.0;
-      laid_next = c.lay-tally.ensures.place.1;
-      laid_runs = ap (λ v. v.items) c.lay-tally.ensures.place.2;
-      laid_bytes = c.lay-tally.ensures.bytes;
-      new_base = c.accept.ensures.same.0;
-      new_bytes = ap (λ v. v.items) c.accept.ensures.same.1;
-      accepted = c.accept.ensures.accepted;
-    })
-    p l
+    cells_taken c.args.self.now c.reserve.new.self c.in_ok-met.met.items (after c) c.args.low c.args.bytes.now c.args.policy c.requires.laid (from_next c) (taken c) p l
 
-judged : (c : goal.After-accept) → c.lay-tally.result ≡ taken_tally c.args.self.now c.args.low c.args.bytes.now
-judged c = c.lay-tally.ensures.tally
-    ∙ tally_taken c.args.self.now c.reserve.new.self c.args.low c.args.bytes.now c.requires.laid (let from : c.args.self.now.next ≤ c.args.low = from_next c in omega arith) c.in_ok-reserve.ensures.place.0 c.in_ok-reserve.ensures.runs (λ i b. c.in_ok-reserve.ensures.bytes i (omega arith))
+judged : (c : goal.After-drop-met-2) → c.lay.result ≡ taken_tally c.args.self.now c.args.low c.args.bytes.now
+judged c = (rw (c.deref-2.ensures.value, c.accept.ensures.bytes) at c.lay.ensures.tally)
+    ∙ tally_taken c.args.self.now c.reserve.new.self c.in_ok-met.met.items c.args.low c.args.bytes.now c.reserve.ensures.grown c.in_ok-met.ensures
 
 pub returns-clause-tally : goal.returns-clause-tally
 returns-clause-tally c = judged c
 
 pub returns-clause-few : goal.returns-clause-few
-returns-clause-few c = taken_few c.args.self.now c.args.low c.args.bytes.now c.lay-tally.result (judged c)
-
-pub returns-then-low-end-clause-tally : goal.returns-then-low-end-clause-tally
-returns-then-low-end-clause-tally c =
-    let w = c.args.self.now in
-    let none : vec_len w.runs ≡ 0 = eqb-true (vec_len w.runs) 0 (sym c.if-is_empty-2.ensures) in
-    let empty : w.runs.items ≡ [] = nil_from_length w.runs.items (omega arith) in
-    IfOk-weaker c.append.result _ _ (λ tally e. e ∙ taken_in_order w c.args.low c.args.bytes.now empty) c.append.ensures.tally
+returns-clause-few c = taken_few c.args.self.now c.args.low c.args.bytes.now c.lay.result (judged c)

@@ -1,0 +1,138 @@
+-- The end of a run: what a lane ends with, and what is written of it.
+use Rattle.std.proofs.Common.{◌≡◌, ◌≢◌, ℕ, zero, suc, ◌+◌, ◌<◌, ◌≤◌, Bool, true, false, Option, Some, None, List, [], ◌∷◌, ◌++◌, length, map, refl, sym, ap, subst, ◌∙◌, arith, inl, inr}
+use Rattle.std.proofs.lemmas.List.{length-map}
+use Rattle.std.proofs.lemmas.Grind.{common_steps}
+use Rattle.std.specs.Prelude.{◌⊎◌, not, if◌then◌else◌, Result, Ok, Err, ⊤}
+use Rattle.std.specs.Io.KnownBytes.{Appends}
+use Rattle.std.proofs.KnownBytes.{Appends-trans}
+use Rattle.mos_bytes.specs.Writes.{AppendsFront}
+use Rattle.mos_bytes.proofs.Writes.{AppendsFront-after, AppendsFront-nil, AppendsFront-whole}
+use Rattle.app_api.specs.App.{Meaning, IsLawful}
+use Rattle.app_api.specs.Numbers.{rise_from}
+use Rattle.pcap_source.specs.Captured.{Captured}
+use Rattle.report_text.specs.declared.record.Record.{Record}
+use Rattle.report_text.specs.declared.record.Totals.{Totals}
+use Rattle.report_text.specs.Report.{report_text, records_text}
+use Rattle.report_text.specs.Lines.{totals_line}
+use Rattle.report_text.specs.Tidy.{tidy}
+use Rattle.forest_versions.specs.Lawful.{are_lawful}
+use Rattle.forest_versions.specs.State.{start}
+use Rattle.control_script.specs.declared.stamped.Stamped.{Stamped}
+use Rattle.control_script.specs.Order.{commands_of}
+use Rattle.control_script.specs.Versions.{ceil}
+use Rattle.lane_core.specs.declared.errors.LaneError.{LaneError}
+use Rattle.lane_core.specs.Sight.{arrivals}
+use Rattle.lane_core.specs.Records.{RecordSoFar, records, versioned}
+use Rattle.lane_core.specs.Run.{LaneEvent, lane_run}
+use Rattle.lane_core.specs.Shown.{record_of, callbacks_of, drops_of}
+use Rattle.lane_core.specs.Lane.{IsEnd, shown}
+use Rattle.lane_core.specs.Laws.{LaterCommandsChangeNone, RecordsAreTidy, rise}
+use Rattle.mos_run.specs.declared.output.Output.{Output}
+use Rattle.mos_run.specs.declared.output.Output.TheVariants.{Report, Forward, Summary}
+use Rattle.mos_run.specs.declared.refusal.RunError.{RunError}
+use Rattle.mos_run.specs.declared.refusal.RunError.TheVariants as Run
+use Rattle.mos_run.specs.Records.{control_at, packets_of, records_of, versions_of, totals_of}
+use Rattle.mos_run.specs.Outcome.{Outcome, is_forward, is_heavy, streamed, closing, ended, weighed, refused}
+use Rattle.mos_run.specs.Summary.{summary_text, made_line}
+use Rattle.mos_run.specs.Reading.{Follows, IsRead}
+use Rattle.mos_run.specs.Run.{StopsAs, RunsAs, Finishes}
+use Rattle.mos_run.proofs.Events.{are_events}
+use Rattle.mos_run.proofs.Following.{records_are}
+
+-- a call that went well was made of a lane that hadn't failed
+pub was_good : {V : Type 0} (failed : Option LaneError) (result : Result V LaneError) (v : V) → ((e : LaneError) → failed ≡ Some e → result ≡ Err e) → result ≡ Ok v → failed ≡ None
+was_good None result v before ok = refl
+was_good (Some e) result v before ok = absurd (let bad = before e refl in cc)
+
+module _ (app : Meaning) (script : List Stamped) (output : Output) (frames : List Captured) where
+  abbrev rs : List RecordSoFar
+  rs = records_of app script frames
+
+  -- what the lane ends with are these records
+  pub end_is : (given : ℕ) (failed : Option LaneError) (stands : List LaneEvent → Type 0) (keep : Bool) (items : List Record) (versions : List (ℕ × ℕ)) (callbacks drops : ℕ) → LaterCommandsChangeNone
+      → IsRead app script output given failed stands frames → failed ≡ None
+      → ((events : List LaneEvent) → stands events → IsEnd keep app (lane_run app events) items versions callbacks drops) → IsEnd keep app rs items versions callbacks drops
+  end_is given failed stands keep items versions callbacks drops law read good end =
+      let f = read.follows good in
+      subst (λ so_far. IsEnd keep app so_far items versions callbacks drops) (records_are app script given stands (packets_of script frames) f law) (end f.events f.stands_for)
+
+  rising : (n : ℕ) (fs : List Captured) → rise n (versioned (ceil script) (arrivals n fs)) ≡ true
+  rising n [] = refl
+  rising n (frame ∷ fs) = grind (arith, common_steps, rising (n + 1) fs)
+
+  pub end_is_tidy : (keep : Bool) (items : List Record) (versions : List (ℕ × ℕ)) (callbacks drops : ℕ) → RecordsAreTidy → IsLawful app → are_lawful (start app.presets) (commands_of script) ≡ true
+      → keep ≡ true → IsEnd keep app rs items versions callbacks drops → tidy items ≡ true
+  end_is_tidy keep items versions callbacks drops law lawful commands keeps end =
+      let is = subst (λ b. IsEnd b app rs items versions callbacks drops) keeps end in
+      subst (λ l. tidy l ≡ true) (sym is.records_are)
+      (law app (control_at app script) (packets_of script frames) lawful (λ v. are_events app (commands_of script) v lawful commands) (rising 0 frames))
+
+  versions-shown : (keep : Bool) (so_far : List RecordSoFar) → map (λ r. r.version) (map (shown keep app) so_far) ≡ versions_of so_far
+  versions-shown keep [] = refl
+  versions-shown keep (r ∷ so_far) = ap (λ l. r.version ∷ l) (versions-shown keep so_far)
+
+  pub versions_are : (keep : Bool) (items : List Record) (versions : List (ℕ × ℕ)) (callbacks drops : ℕ) → IsEnd keep app rs items versions callbacks drops → map (λ r. r.version) items ≡ versions_of rs
+  versions_are keep items versions callbacks drops end = ap (map (λ r. r.version)) end.records_are ∙ versions-shown keep rs
+
+  totals-are : (keep : Bool) (items : List Record) (versions : List (ℕ × ℕ)) (callbacks drops packets len tail : ℕ) → IsEnd keep app rs items versions callbacks drops → length frames ≡ packets → len ≡ length items
+      → record { packets = packets; records = len; callbacks = callbacks; drops = drops; tail = tail } ≡ totals_of rs (length frames) tail
+  totals-are keep items versions callbacks drops packets len tail end count is_len =
+      let lengths : len ≡ length rs = is_len ∙ ap length end.records_are ∙ length-map rs (shown keep app) in
+      ap (λ n. record { packets = n; records = len; callbacks = callbacks; drops = drops; tail = tail }) (sym count)
+      ∙ ap (λ n. record { packets = length frames; records = n; callbacks = callbacks; drops = drops; tail = tail }) lengths
+      ∙ ap (λ n. record { packets = length frames; records = length rs; callbacks = n; drops = drops; tail = tail }) end.callbacks_are
+      ∙ ap (λ n. record { packets = length frames; records = length rs; callbacks = callbacks_of rs; drops = n; tail = tail }) end.drops_are
+
+  closing-by : (o : Output) (keep : Bool) (items : List Record) (versions : List (ℕ × ℕ)) (callbacks drops : ℕ) (one two : Totals) → keep ≡ not (is_forward o) → IsEnd keep app rs items versions callbacks drops → one ≡ two
+      → closing o items one ≡ closing o (map (record_of app) rs) two
+  closing-by Report keep items versions callbacks drops one two keeps end same =
+      let is = subst (λ b. IsEnd b app rs items versions callbacks drops) keeps end in
+      ap (λ l. report_text l one) is.records_are ∙ ap (report_text (map (record_of app) rs)) same
+  closing-by Forward keep items versions callbacks drops one two keeps end same = refl
+  closing-by (Summary n) keep items versions callbacks drops one two keeps end same = ap (summary_text n) same
+
+  -- what is written of it
+  pub closing_is : (keep : Bool) (items : List Record) (versions : List (ℕ × ℕ)) (callbacks drops packets len tail : ℕ) → keep ≡ not (is_forward output) → IsEnd keep app rs items versions callbacks drops
+      → length frames ≡ packets → len ≡ length items
+      → closing output items (record { packets = packets; records = len; callbacks = callbacks; drops = drops; tail = tail }) ≡ closing output (map (record_of app) rs) (totals_of rs (length frames) tail)
+  closing_is keep items versions callbacks drops packets len tail keeps end count is_len =
+      closing-by output keep items versions callbacks drops _ _ keeps end (totals-are keep items versions callbacks drops packets len tail end count is_len)
+
+  -- ---- how the run ends
+
+  weighed-is : (header : List ℕ) (tail : ℕ) → is_heavy app script output frames ≡ false → weighed app script output header frames tail ≡ ended app script output header frames tail
+  weighed-is header tail light = ap (λ b. if b then refused Run.Heavy else ended app script output header frames tail) light
+
+  -- all is written
+  pub ends_well : (header : List ℕ) (tail : ℕ) (versions : List ℕ) (before mid after : Option (List ℕ)) → is_heavy app script output frames ≡ false → versions ≡ versions_of rs
+      → Appends before mid (streamed app script output header frames)
+      → Appends mid after (closing output (map (record_of app) rs) (totals_of rs (length frames) tail))
+      → RunsAs (weighed app script output header frames tail) before after (Ok versions)
+  ends_well header tail versions before mid after light same first last =
+      subst (λ o. RunsAs o before after (Ok versions)) (sym (weighed-is header tail light)) (record {
+        answered = ap (λ vs. Ok vs) (sym same);
+        written = Appends-trans before mid after _ _ first last;
+      })
+
+  not-empty : (xs ys : List ℕ) → ys ≢ [] → xs ++ ys ≢ []
+  not-empty [] ys some = some
+  not-empty (x ∷ xs) ys some = λ none. cc
+
+  text-of : (o : Output) (header : List ℕ) (items : List Record) (totals : Totals) → is_forward o ≡ false → closing o items totals ≢ []
+  unfolding report_text summary_text totals_line
+  text-of Report header items totals kept = not-empty (records_text items) (totals_line totals) (λ none. cc)
+  text-of Forward header items totals kept = absurd (cc)
+  text-of (Summary n) header items totals kept = not-empty (made_line n) (totals_line totals) (λ none. cc)
+
+  -- a front of it is written, or memory is refused
+  pub ends_badly : (header : List ℕ) (tail : ℕ) (e : RunError) (before mid after : Option (List ℕ)) → is_heavy app script output frames ≡ false
+      → ((e ≡ Run.WriteFault) × (is_forward output ≡ false)) ⊎ (e ≡ Run.NoMemory)
+      → Appends before mid (streamed app script output header frames)
+      → AppendsFront mid after (closing output (map (record_of app) rs) (totals_of rs (length frames) tail))
+      → RunsAs (weighed app script output header frames tail) before after (Err e)
+  ends_badly header tail e before mid after light which first last =
+      subst (λ o. RunsAs o before after (Err e)) (sym (weighed-is header tail light)) (by which, AppendsFront-after before mid after _ _ first last)
+    where
+      by : ((e ≡ Run.WriteFault) × (is_forward output ≡ false)) ⊎ (e ≡ Run.NoMemory) → StopsAs (ended app script output header frames tail) e
+      by (inl w) = inr (inr (inr (w.0, not-empty (streamed app script output header frames) _ (text-of output header _ _ w.1))))
+      by (inr m) = inr (inr (inl m))

@@ -1,0 +1,87 @@
+//! The end of a run: its records, and what is written of them.
+
+ghost use Rattle.std.specs.Prelude.{◌≡◌, ◌≢◌, ◌⊎◌, ◌++◌, ℕ, List, Option, length, not, true, false, IsTrue, IfOk, IfErr, IsErrOf, OnOk};
+ghost use Rattle.std.specs.Io.KnownBytes.{Appends};
+ghost use Rattle.mos_bytes.specs.Causes.{HasCauseOf};
+ghost use Rattle.mos_bytes.specs.Writes.{WriteAdds};
+ghost use Rattle.report_text.specs.Tidy.{tidy};
+ghost use Rattle.pcap_source.specs.Captured.{Captured};
+ghost use Rattle.forest_versions.specs.Lawful.{are_lawful};
+ghost use Rattle.forest_versions.specs.State.{start};
+ghost use Rattle.control_script.specs.Order.{commands_of};
+ghost use Rattle.app_api.specs.App.{IsLawful};
+ghost use Rattle.mos_run.specs.Outcome.{is_forward, streamed, weighed, closing};
+ghost use Rattle.mos_run.specs.Reading.{IsRead};
+ghost use Rattle.mos_run.specs.Run.{RunsAs};
+
+use crate::replay::Plan;
+use crate::summary::write_summary;
+use crate::versions::versions_of;
+use crate::{Output, RunError, VersionList};
+use lane_core::Recorder;
+use lane_core::laws::{later_commands_change_none, records_are_tidy};
+use mos_bytes::Sink;
+use report_text::{Record, Totals, write_report};
+use std::alloc::Global;
+
+// Writes what is written at the end.
+fn write_end<O: Sink>(
+    alloc: Global,
+    output: Output,
+    records: &[Record],
+    totals: &Totals,
+    out: &mut O,
+) -> Result<(), RunError>
+    requires tidy { output ≡ Output.Report → IsTrue (tidy records.now) }
+    ensures text { WriteAdds (O.taken out.old) (O.taken out.new) result (closing output records.now totals.now) }
+    ensures silent { is_forward output ≡ true → out.new ≡ out.old }
+    ensures only { IfErr result (λ e. ((e ≡ RunError.WriteFault) × (is_forward output ≡ false)) ⊎ (e ≡ RunError.NoMemory)) }
+    ensures cause { HasCauseOf (O.faults out.old) (O.faults out.new) (IsErrOf result RunError.WriteFault) }
+    ensures lasts { O.lasting out.new ≡ O.lasting out.old }
+{
+    match output {
+        Output::Report => write_report(alloc, out, records, totals)?,
+        Output::Forward => {}
+        Output::Summary(n) => write_summary(alloc, out, n, totals)?,
+    }
+    Ok(())
+}
+
+/// Ends a run whose lane took so many packets, behind which the capture has a tail of so many bytes.
+pub(crate) fn close<L: Recorder + Drop, O: Sink>(
+    alloc: Global,
+    plan: &Plan<'_>,
+    lane: L,
+    packets: u64,
+    tail: u32,
+    out: &mut O,
+) -> Result<VersionList, RunError>
+    requires app { IsLawful (L.app lane) }
+    requires lawful { IsTrue (are_lawful (start (L.app lane).presets) (commands_of plan.now.script.now)) }
+    requires keeps { L.keeps lane ≡ not (is_forward plan.now.output) }
+    requires read { (frames : List Captured) × (length frames ≡ packets)
+        × IsRead (L.app lane) plan.now.script.now plan.now.output (L.given lane) (L.failed lane) (L.stands lane) frames }
+    ensures ends { (header : List ℕ) (frames : List Captured) (before : Option (List ℕ)) → length frames ≡ packets
+        → IsRead (L.app lane) plan.now.script.now plan.now.output (L.given lane) (L.failed lane) (L.stands lane) frames
+        → Appends before (O.taken out.old) (streamed (L.app lane) plan.now.script.now plan.now.output header frames)
+        → RunsAs (weighed (L.app lane) plan.now.script.now plan.now.output header frames tail) before (O.taken out.new) result }
+    ensures silent { IfErr result (λ e. e ≢ RunError.WriteFault → e ≢ RunError.NoMemory → out.new ≡ out.old) }
+    ensures only { IfErr result (λ e. (e ≡ RunError.WriteFault) ⊎ (e ≡ RunError.NoMemory) ⊎ (e ≡ RunError.Heavy)) }
+    ensures cause { HasCauseOf (O.faults out.old) (O.faults out.new) (IsErrOf result RunError.WriteFault) }
+    ensures lasts { O.lasting out.new ≡ O.lasting out.old }
+{
+    later_commands_change_none();
+    records_are_tidy();
+    let end = lane.finish(alloc)?;
+    let records = end.records.as_slice();
+    let totals = Totals {
+        packets,
+        records: records.len() as u64,
+        callbacks: end.callbacks,
+        drops: end.drops,
+        tail,
+    };
+    let versions = versions_of(alloc, records)?;
+    write_end(alloc, plan.output, records, &totals, out)?;
+    Ok(versions)
+}
