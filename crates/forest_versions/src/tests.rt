@@ -299,3 +299,22 @@ fn threads_may_share_commands(rt: HostRuntime) -> Result<(), Fail> {
     assert_eq!(rt; shared(Stamp::At(5)), Stamp::At(5));
     Ok(())
 }
+
+// Asks that a type may be handed to a thread.
+fn handed<T: Send>(value: T) -> T {
+    value
+}
+
+// What is in force may be handed to a thread.
+fn master_is_handed(master: Master) -> Master {
+    handed(master)
+}
+
+#[test]
+fn a_master_goes_to_a_thread(rt: HostRuntime) -> Result<(), Fail> {
+    let alloc = rt.alloc();
+    let mut table = Table::new(alloc);
+    let master = master_is_handed(first(alloc, &mut table)?);
+    assert_eq!(rt; told(alloc, &master, 0)?.as_str(), AT_EACH_SETTING[0]);
+    Ok(())
+}

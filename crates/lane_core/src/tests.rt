@@ -189,3 +189,28 @@ fn each_packet_looks_at_a_tree(rt: HostRuntime) -> Result<(), Fail> {
     assert_eq!(rt; end.callbacks, 6);
     Ok(())
 }
+
+// Asks that a type may be handed to a thread.
+fn handed<T: Send>(value: T) -> T {
+    value
+}
+
+// A lane whose application and store may be handed to a thread may be handed itself.
+fn lane_is_handed(lane: Lane<LogApp, Table>) -> Lane<LogApp, Table> {
+    handed(lane)
+}
+
+// So may what a lane ends with.
+fn end_is_handed(end: LaneEnd) -> LaneEnd {
+    handed(end)
+}
+
+#[test]
+fn a_lane_goes_to_a_thread_and_its_end_comes_back(rt: HostRuntime) -> Result<(), Fail> {
+    let alloc = rt.alloc();
+    let mut lane = lane_is_handed(Lane::new(alloc, LogApp, Table::new(alloc), true)?);
+    handshake(alloc, &mut lane, 0)?;
+    let end = end_is_handed(end(alloc, lane)?);
+    assert_eq!(rt; end.callbacks, 6);
+    Ok(())
+}

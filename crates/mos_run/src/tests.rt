@@ -1,6 +1,8 @@
 //! Runs over whole captures: what is reported, what is refused, and what failing sources and sinks leave.
 
 mod captures;
+mod limits;
+mod web_request;
 
 use crate::{Ended, RunError, ScriptFault, refuse, run_mos};
 use captures::{

@@ -101,6 +101,24 @@ pub fn segment(like: &[u8; 54], flags: u8, seq: u16, ack: u16) -> [u8; 54] {
     frame
 }
 
+// A packet between the endpoints of this one with so many bytes of payload, padded to the 60 bytes of an Ethernet frame.
+pub fn padded(
+    alloc: Global,
+    like: &[u8; 54],
+    flags: u8,
+    (seq, ack): (u16, u16),
+    payload: u16,
+) -> Result<Vec<u8>, AllocError> {
+    let mut head = segment(like, flags, seq, ack);
+    let [high, low] = payload.saturating_add(40).to_be_bytes();
+    head[16] = high;
+    head[17] = low;
+    let mut frame = head.to_vec(alloc)?;
+    frame.extend_from_slice(&vec![in alloc; b'x'; usize::from(payload)]?)?;
+    frame.extend_from_slice(&vec![in alloc; 0; 6_usize.saturating_sub(usize::from(payload))]?)?;
+    Ok(frame)
+}
+
 // A header with one byte changed.
 pub fn damaged(at: usize, byte: u8) -> [u8; 24] {
     let mut header = BIG.header;
