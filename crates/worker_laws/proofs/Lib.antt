@@ -14,3 +14,8 @@ mod Lowest
 mod Merged
 mod Reported
 mod Streamed
+mod Taken
+mod Whole
+mod Ended
+mod Fitting
+mod Weighing

@@ -4,12 +4,17 @@
 #![tactic(auto)]
 
 pub mod counts;
+mod joining;
 mod merging;
+pub mod runs;
 pub mod shares;
 pub mod streaming;
 #[cfg(test)]
 mod tests;
 pub mod verdicts;
 pub mod versions;
+mod weight;
 
+pub use joining::{Joined, join};
 pub use merging::merge;
+pub use weight::is_heavy;
