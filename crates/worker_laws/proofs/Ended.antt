@@ -27,12 +27,11 @@ use Rattle.worker_laws.specs.Ends.{AreEnds, IsJoined, sum_of}
 use Rattle.worker_laws.proofs.Counting.{lanes_add_up}
 use Rattle.worker_laws.proofs.Reported.{lists_of_lanes, merged_is}
 use Rattle.worker_laws.proofs.Taken.{nothing_at}
-use Rattle.worker_laws.proofs.Whole.{members, run_is, part_is}
+use Rattle.worker_laws.proofs.Whole.{maps, members, run_is, part_is}
 
 -- ---- sums
 
 sum_push : (count : LaneEnd → ℕ) (ends : List LaneEnd) (end : LaneEnd) → sum_of count (ends ++ end ∷ []) ≡ sum_of count ends + count end
-unfolding sum_of
 sum_push count [] end = omega arith
 sum_push count (e ∷ ends) end = let rest = sum_push count ends end in omega arith
 
@@ -40,7 +39,6 @@ pub sum_more : (count : LaneEnd → ℕ) (ends : List LaneEnd) (n : ℕ) (d : La
 sum_more count ends n d lt = ap (sum_of count) (take_more ends n d lt) ∙ sum_push count (take n ends) (get_or ends n d)
 
 pub sum_none : (count : LaneEnd → ℕ) → sum_of count [] ≡ 0
-unfolding sum_of
 sum_none count = refl
 
 total_shown : (app : Meaning) (commands : List Command) (of : RecordSoFar → ℕ) (ms : List Members)
@@ -68,10 +66,6 @@ lanes_below lane n (m ∷ ms) none =
 no_run : (app : Meaning) → lane_run app [] ≡ []
 unfolding lane_run records_from
 no_run app = refl
-
-maps : {A B C : Type 0} (g : B → C) (f : A → B) (xs : List A) → map g (map f xs) ≡ map (λ x. g (f x)) xs
-maps g f [] = refl
-maps g f (x ∷ xs) = ap (λ l. g (f x) ∷ l) (maps g f xs)
 
 module _ (keep : Bool) (app : Meaning) (commands : List Command) (lane : EndpointPair → ℕ) (packets : List Arrival) (lanes : List (List LaneEvent)) (vs : List ℕ) (one : AreOneRun app commands lane packets lanes vs)
     (numbered : Rises (map (λ a. a.number) packets)) (ends : List LaneEnd) (are : AreEnds keep app lanes ends) where
@@ -128,7 +122,7 @@ module _ (keep : Bool) (app : Meaning) (commands : List Command) (lane : Endpoin
     own_total l = ap (total of) (one.records l ∙ part_is app commands packets vs lane l) ∙ total_shown app commands of (part lane l firsts)
 
     first_lanes : (n : ℕ) → n ≤ length ends → total_of_lanes lane by_first n firsts ≡ sum_of count (take n ends)
-    unfolding total_of_lanes sum_of
+    unfolding total_of_lanes
     first_lanes zero le = refl
     first_lanes (suc n) le =
         let before = first_lanes n (omega arith) in

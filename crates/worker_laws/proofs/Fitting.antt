@@ -1,7 +1,7 @@
 -- What is counted over a run fits into 64 bits.
 use Rattle.std.proofs.Common.{◌≡◌, ◌<◌, ◌≤◌, ◌+◌, ℕ, Bool, true, false, Option, Some, None, List, [], ◌∷◌, ◌++◌, length, refl, sym, ap, ◌∙◌, subst, map, arith}
 use Rattle.std.specs.Prelude.{if◌then◌else◌, ◌*◌}
-use Rattle.std.proofs.lemmas.List.{length_push}
+use Rattle.std.proofs.lemmas.List.{length_push, length-map}
 use Rattle.tcp_emulation.specs.declared.segment.Side.{Side}
 use Rattle.packet_views.specs.declared.packet.Head.{Head}
 use Rattle.app_api.specs.App.{Meaning}
@@ -16,6 +16,10 @@ use Rattle.connection_core.specs.History.{History, fresh, followed, received_unl
 use Rattle.lane_core.specs.Sight.{Sight, Tcp, Other, Arrival}
 use Rattle.lane_core.specs.Records.{VersionedPacket, RecordSoFar, belongs_to, side_in, history_after, first_history, opens, orphan_raises_of, started_by, continued_by, added, records_from}
 use Rattle.lane_core.specs.Shown.{total, weight, callbacks_of, drops_of}
+use Rattle.forest_versions.specs.declared.command.Command.{Command}
+use Rattle.worker_laws.specs.Whole.{in_force, over_under, packets_under, run_under}
+use Rattle.worker_laws.specs.Allowed.{arrivals_of}
+use Rattle.worker_laws.proofs.Reported.{named_packets}
 
 -- ---- callbacks
 
@@ -79,3 +83,9 @@ module _ (app : Meaning) (control_at : ℕ → ControlState) where
   pub drops_few : (ps : List VersionedPacket) → drops_of (records_from app control_at [] ps) ≤ length ps
   unfolding total
   drops_few ps = let all = drops_from [] ps in omega arith
+
+pub run_drops_few : (app : Meaning) (commands : List Command) (packets : List Arrival) (vs : List ℕ) → drops_of (run_under app commands vs packets) ≤ length packets
+run_drops_few app commands packets vs =
+    let few = drops_few app (in_force app commands) (packets_under app commands vs packets) in
+    let long = length-map (packets_under app commands vs packets) (λ p. p.arrival) in
+    let same = ap length (named_packets (over_under app commands) vs [] packets) in omega arith

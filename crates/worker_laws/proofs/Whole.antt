@@ -1,7 +1,6 @@
 -- Lanes and one run over all packets.
 use Rattle.std.proofs.Common.{◌≡◌, ◌<◌, ◌≤◌, ◌+◌, ℕ, Bool, true, false, cond, List, [], ◌∷◌, ◌++◌, length, refl, sym, ap, ◌∙◌, subst, map, arith, append-nil, append_assoc}
 use Rattle.std.specs.Prelude.{◌==◌, filter}
-use Rattle.std.proofs.lemmas.List.{map-map}
 use mathlib.Core.List.{IsPrefix}
 use Rattle.flow_table.specs.Key.{EndpointPair}
 use Rattle.app_api.specs.App.{Meaning}
@@ -30,6 +29,10 @@ use Rattle.worker_laws.proofs.Single.{list_of_allowed, records_of_allowed}
 use Rattle.worker_laws.proofs.Composed.{one_allowed, continued, front_verdicts, arrivals_versioned}
 use Rattle.worker_laws.proofs.Taken.{commands_front, packets_front, packets_whole, stamped_at, run_of_events, verdicts_of_events}
 
+pub maps : {A B C : Type 0} (g : B → C) (f : A → B) (xs : List A) → map g (map f xs) ≡ map (λ x. g (f x)) xs
+maps g f [] = refl
+maps g f (x ∷ xs) = ap (λ l. g (f x) ∷ l) (maps g f xs)
+
 -- ---- the run, by the packets of its records
 
 module _ (app : Meaning) (commands : List Command) (packets : List Arrival) (vs : List ℕ) where
@@ -47,7 +50,7 @@ module _ (app : Meaning) (commands : List Command) (packets : List Arrival) (vs 
 
   pub versions_by : (least most : ℕ → ℕ) (lane : EndpointPair → ℕ) → IsAllowedRun app commands least most lane packets vs → map (λ r. r.version) (run_under app commands vs packets) ≡ vs
   versions_by least most lane allowed =
-      ap (map (λ r. r.version)) run_is ∙ map-map (λ r. r.version) (with_history app (in_force app commands)) members
+      ap (map (λ r. r.version)) run_is ∙ maps (λ r. r.version) (with_history app (in_force app commands)) members
       ∙ list_of_allowed least most (over_under app commands) lane packets vs allowed
 
   -- where only ceilings are allowed

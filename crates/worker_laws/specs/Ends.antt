@@ -16,7 +16,7 @@ pub record AreEnds (keep : Bool) (app : Meaning) (lanes : List (List LaneEvent))
       → IsEnd keep app (lane_run app (events_at lanes l)) (get_or ends l d).records (get_or ends l d).versions (get_or ends l d).callbacks (get_or ends l d).drops
 
 -- what is counted at each end, added up
-unfoldable pub sum_of : (LaneEnd → ℕ) → List LaneEnd → ℕ
+abbrev pub sum_of : (LaneEnd → ℕ) → List LaneEnd → ℕ
 sum_of count [] = 0
 sum_of count (end ∷ ends) = count end + sum_of count ends
 

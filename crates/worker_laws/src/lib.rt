@@ -4,7 +4,7 @@
 #![tactic(auto)]
 
 pub mod counts;
-mod joining;
+mod ends;
 mod merging;
 pub mod runs;
 pub mod shares;
@@ -15,6 +15,6 @@ pub mod verdicts;
 pub mod versions;
 mod weight;
 
-pub use joining::{Joined, join};
+pub use ends::{Joined, join};
 pub use merging::merge;
 pub use weight::is_heavy;

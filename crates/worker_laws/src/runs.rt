@@ -1,7 +1,7 @@
 //! Laws that tie what lanes come to with one run over all packets, in the words of `lane_core`. These functions do
 //! nothing: who joins lanes calls them for what they say.
 
-ghost use Rattle.std.specs.Prelude.{◌≡◌, ◌≤◌, ◌<◌, ◌-◌, ◌^◌, min, ℕ, Bool, List, length, map, true};
+ghost use Rattle.std.specs.Prelude.{◌≡◌, ◌≤◌, ◌<◌, ◌-◌, ◌^◌, min, ℕ, Bool, List, [], length, map, true};
 ghost use Rattle.flow_table.specs.Key.{EndpointPair};
 ghost use Rattle.app_api.specs.App.{Meaning};
 ghost use Rattle.forest_versions.specs.declared.command.Command.{Command};
