@@ -1,13 +1,15 @@
 -- Lanes and one run over all packets.
-use Rattle.std.proofs.Common.{◌≡◌, ◌<◌, ◌≤◌, ◌+◌, ℕ, Bool, true, false, cond, List, [], ◌∷◌, ◌++◌, length, refl, sym, ap, ◌∙◌, subst, map, arith, append-nil, append_assoc}
+use Rattle.std.proofs.Common.{◌≡◌, ◌<◌, ◌≤◌, ◌+◌, ℕ, zero, suc, Bool, true, false, cond, List, [], ◌∷◌, ◌++◌, length, get_or, refl, sym, ap, ◌∙◌, subst, map, arith, append-nil, append_assoc}
 use Rattle.std.specs.Prelude.{◌==◌, filter}
+use Rattle.std.proofs.lemmas.List.{length-map, get_or-map}
 use mathlib.Core.List.{IsPrefix}
+use Rattle.pcap_source.specs.Captured.{Captured}
 use Rattle.flow_table.specs.Key.{EndpointPair}
 use Rattle.app_api.specs.App.{Meaning}
 use Rattle.app_api.specs.declared.reaction.Verdict.{Verdict}
 use Rattle.forest_versions.specs.declared.command.Command.{Command}
 use Rattle.forest_versions.specs.State.{ControlState}
-use Rattle.lane_core.specs.Sight.{Arrival}
+use Rattle.lane_core.specs.Sight.{Arrival, arrivals}
 use Rattle.lane_core.specs.Records.{VersionedPacket, RecordSoFar, added, records, versioned}
 use Rattle.lane_core.specs.Run.{LaneEvent, commands_of, versioned_from, lane_run}
 use Rattle.lane_core.specs.Shown.{total, weight}
@@ -15,16 +17,19 @@ use Rattle.lane_core.specs.Lane.{IsHeavy}
 use Rattle.lane_core.specs.Laws.{OneEventMore, LaterCommandsChangeNone, LastPacketIsAdded, WeightNeverFalls}
 use Rattle.worker_laws.specs.Members.{Members, records as members_of}
 use Rattle.worker_laws.specs.Lanes.{lane_of, part}
-use Rattle.worker_laws.specs.Named.{records_under}
-use Rattle.worker_laws.specs.Judged.{judged}
+use Rattle.worker_laws.specs.Named.{named_from, named, records_under}
+use Rattle.worker_laws.specs.Judged.{judged_from, judged}
 use Rattle.worker_laws.specs.Rising.{Rises}
 use Rattle.worker_laws.specs.Allowed.{versions_of, arrivals_of}
 use Rattle.worker_laws.specs.Runs.{judged_part, AreRuns}
 use Rattle.worker_laws.specs.Histories.{judge_by, with_history}
+use Rattle.worker_laws.specs.Streamed.{AreNumbered}
 use Rattle.worker_laws.specs.Whole.{in_force, over_under, packets_under, run_under, verdicts_from, verdicts_under, IsAllowedRun}
 use Rattle.worker_laws.specs.Taken.{events_at, packets_at, verdicts_in, HaveRun, HaveRunAll, AreOneRun, AreFrontsOfRun}
 use Rattle.worker_laws.proofs.Histories.{same_records, same_judged, same_part}
 use Rattle.worker_laws.proofs.Naming.{judged_again}
+use Rattle.worker_laws.proofs.Judging.{judged_more, named_more}
+use Rattle.worker_laws.proofs.Reported.{named_packets}
 use Rattle.worker_laws.proofs.Single.{list_of_allowed, records_of_allowed}
 use Rattle.worker_laws.proofs.Composed.{one_allowed, continued, front_verdicts, arrivals_versioned}
 use Rattle.worker_laws.proofs.Taken.{commands_front, packets_front, packets_whole, stamped_at, run_of_events, verdicts_of_events}
@@ -71,6 +76,42 @@ module _ (app : Meaning) (commands : List Command) (packets : List Arrival) (vs 
         ∙ ap (λ ps. judged (over_under app commands) (judge_by app (in_force app commands)) (packets_under app commands vs ps)) (sym (arrivals_versioned most packets))
         ∙ judged_again (over_under app commands) (judge_by app (in_force app commands)) vs [] (versioned most packets) list_by_ceilings
         ∙ sym (same_judged app (in_force app commands) [] (versioned most packets))
+
+-- ---- verdicts in the order of the packets
+
+firsts_from : (app : Meaning) (control_at : ℕ → ControlState) (rs : List RecordSoFar) (ps : List VersionedPacket) → map (λ (j : Arrival × Verdict). j.0) (verdicts_from app control_at rs ps) ≡ arrivals_of ps
+unfolding verdicts_from
+firsts_from app control_at rs [] = refl
+firsts_from app control_at rs (p ∷ ps) = ap (λ l. p.arrival ∷ l) (firsts_from app control_at (added app control_at p rs) ps)
+
+place_in : (n : ℕ) (frames : List Captured) (i : ℕ) (d : Arrival) → i < length (arrivals n frames) → (get_or (arrivals n frames) i d).number ≡ n + i
+place_in n [] i d lt = absurd (omega arith)
+place_in n (frame ∷ frames) zero d lt = omega arith
+place_in n (frame ∷ frames) (suc i) d lt = let later = place_in (n + 1) frames i d (omega arith) in omega arith
+
+module _ (app : Meaning) (commands : List Command) (vs : List ℕ) where
+  pub verdicts_in_order : (packets : List Arrival) → map (λ (j : Arrival × Verdict). j.0) (verdicts_under app commands vs packets) ≡ packets
+  verdicts_in_order packets = firsts_from app (in_force app commands) [] (packets_under app commands vs packets) ∙ named_packets (over_under app commands) vs [] packets
+
+  pub verdicts_numbered : (frames : List Captured) → AreNumbered (verdicts_under app commands vs (arrivals 0 frames))
+  verdicts_numbered frames i d lt =
+      let js = verdicts_under app commands vs (arrivals 0 frames) in
+      let order = verdicts_in_order (arrivals 0 frames) in
+      let long = length-map js (λ (j : Arrival × Verdict). j.0) in
+      let count = ap length order in
+      let place = place_in 0 frames i d.0 (omega arith) in
+      ap (λ a. a.number) (sym (get_or-map (λ (j : Arrival × Verdict). j.0) js i d d.0 lt)) ∙ ap (λ l. (get_or l i d.0).number) order ∙ place ∙ omega arith
+
+  pub verdicts_front : (packets more : List Arrival) → IsPrefix (verdicts_under app commands vs packets) (verdicts_under app commands vs (packets ++ more))
+  verdicts_front packets more =
+      let over = over_under app commands in
+      let judge = judge_by app (in_force app commands) in (
+        judged_from over judge (records_under over vs packets) (named_from over vs (records_under over vs packets) more),
+        ap (λ js. js ++ judged_from over judge (records_under over vs packets) (named_from over vs (records_under over vs packets) more)) (verdicts_by app commands packets vs)
+            ∙ judged_more over judge [] (named over vs packets) (named_from over vs (records_under over vs packets) more)
+            ∙ ap (judged over judge) (named_more over vs [] packets more)
+            ∙ sym (verdicts_by app commands (packets ++ more) vs),
+      )
 
 -- ---- weights
 

@@ -1,11 +1,13 @@
 //! Laws that tie what lanes come to with one run over all packets, in the words of `lane_core`. These functions do
 //! nothing: who joins lanes calls them for what they say.
 
-ghost use Rattle.std.specs.Prelude.{◌≡◌, ◌≤◌, ◌<◌, ◌-◌, ◌^◌, min, ℕ, Bool, List, [], length, map, true};
+ghost use Rattle.std.specs.Prelude.{◌≡◌, ◌≤◌, ◌<◌, ◌-◌, ◌^◌, ◌++◌, min, ℕ, Bool, List, [], length, map, true};
+ghost use mathlib.Core.List.{IsPrefix};
+ghost use Rattle.pcap_source.specs.Captured.{Captured};
 ghost use Rattle.flow_table.specs.Key.{EndpointPair};
 ghost use Rattle.app_api.specs.App.{Meaning};
 ghost use Rattle.forest_versions.specs.declared.command.Command.{Command};
-ghost use Rattle.lane_core.specs.Sight.{Arrival};
+ghost use Rattle.lane_core.specs.Sight.{Arrival, arrivals};
 ghost use Rattle.lane_core.specs.Records.{RecordSoFar, VersionedPacket, records, versioned};
 ghost use Rattle.lane_core.specs.Run.{LaneEvent};
 ghost use Rattle.lane_core.specs.Shown.{weight, callbacks_of, drops_of};
@@ -16,9 +18,12 @@ ghost use Rattle.worker_laws.specs.Judged.{judged};
 ghost use Rattle.worker_laws.specs.Histories.{judge_by};
 ghost use Rattle.worker_laws.specs.Whole.{in_force, over_under, packets_under, run_under, verdicts_from, verdicts_under, IsAllowedRun};
 ghost use Rattle.worker_laws.specs.Taken.{events_at, HaveRun, HaveRunAll, AreOneRun, AreFrontsOfRun};
+ghost use Rattle.worker_laws.specs.Streamed.{AreNumbered};
 ghost use Rattle.worker_laws.specs.Weight.{weight_in};
 
-use lane_core::laws::{last_packet_is_added, later_commands_change_none, one_event_more, weight_never_falls};
+use lane_core::laws::{
+    last_packet_is_added, later_commands_change_none, one_event_more, weight_never_falls,
+};
 
 /// Lanes that have run their whole shares: under one list of versions, which is allowed, each lane's records and
 /// verdicts are its part of those of one run over all packets.
@@ -87,10 +92,18 @@ pub fn without_live_commands_there_is_one_run()
 {}
 
 /// The verdicts of a run are those by the packets of connections, of which the laws in `verdicts` and `streaming` speak.
-pub fn verdicts_are_by_packets()
+/// There is one for each packet, in order; those of a capture's packets are numbered by their places; and those of the
+/// first packets are the first ones.
+pub fn verdicts_of_a_run()
     ensures verdicts { (app : Meaning) (commands : List Command) (packets : List Arrival) (vs : List ℕ)
         → verdicts_under app commands vs packets
         ≡ judged (over_under app commands) (judge_by app (in_force app commands)) (packets_under app commands vs packets) }
+    ensures packets { (app : Meaning) (commands : List Command) (packets : List Arrival) (vs : List ℕ)
+        → map (λ j. j.0) (verdicts_under app commands vs packets) ≡ packets }
+    ensures numbered { (app : Meaning) (commands : List Command) (frames : List Captured) (vs : List ℕ)
+        → AreNumbered (verdicts_under app commands vs (arrivals 0 frames)) }
+    ensures front { (app : Meaning) (commands : List Command) (packets more : List Arrival) (vs : List ℕ)
+        → IsPrefix (verdicts_under app commands vs packets) (verdicts_under app commands vs (packets ++ more)) }
 {}
 
 /// What is counted over a run fits into 64 bits: its callbacks where they aren't too heavy, and its dropped packets
