@@ -1,6 +1,6 @@
 -- What lanes end with, joined.
-use Rattle.std.proofs.Common.{◌≡◌, ◌<◌, ◌≤◌, ◌+◌, ℕ, zero, suc, Bool, true, false, cond, List, [], ◌∷◌, ◌++◌, length, get_or, take, refl, sym, ap, ◌∙◌, subst, map, arith, ⊎_elim}
-use Rattle.std.specs.Prelude.{◌==◌, ◌-◌, ◌^◌, min, filter}
+use Rattle.std.proofs.Common.{◌≡◌, ◌<◌, ◌≤◌, ◌+◌, ℕ, zero, suc, Bool, true, false, cond, List, [], ◌∷◌, ◌++◌, length, get_or, take, refl, sym, ap, ◌∙◌, map, arith, ⊎_elim}
+use Rattle.std.specs.Prelude.{◌==◌, ◌-◌, ◌^◌, min}
 use Rattle.std.specs.List.{All}
 use Rattle.std.proofs.lemmas.List.{get_or_past, get_or-map, length-map, take_more, take_all}
 use Rattle.std.proofs.lemmas.Bool.{cases_lt, eq-eqb}
@@ -13,7 +13,7 @@ use Rattle.lane_core.specs.declared.end.LaneEnd.{LaneEnd}
 use Rattle.lane_core.specs.Sight.{Arrival}
 use Rattle.lane_core.specs.Records.{RecordSoFar, records_from}
 use Rattle.lane_core.specs.Run.{LaneEvent, lane_run}
-use Rattle.lane_core.specs.Shown.{total, callbacks_of, drops_of}
+use Rattle.lane_core.specs.Shown.{total}
 use Rattle.lane_core.specs.Lane.{shown}
 use Rattle.worker_laws.specs.Members.{Members}
 use Rattle.worker_laws.specs.Lanes.{lane_of, part}

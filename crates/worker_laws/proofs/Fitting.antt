@@ -1,9 +1,7 @@
 -- What is counted over a run fits into 64 bits.
-use Rattle.std.proofs.Common.{◌≡◌, ◌<◌, ◌≤◌, ◌+◌, ℕ, Bool, true, false, Option, Some, None, List, [], ◌∷◌, ◌++◌, length, refl, sym, ap, ◌∙◌, subst, map, arith}
+use Rattle.std.proofs.Common.{◌≤◌, ◌+◌, ℕ, Bool, true, false, Option, Some, None, List, [], ◌∷◌, length, ap, arith}
 use Rattle.std.specs.Prelude.{if◌then◌else◌, ◌*◌}
 use Rattle.std.proofs.lemmas.List.{length_push, length-map}
-use Rattle.tcp_emulation.specs.declared.segment.Side.{Side}
-use Rattle.packet_views.specs.declared.packet.Head.{Head}
 use Rattle.app_api.specs.App.{Meaning}
 use Rattle.app_api.specs.declared.entry.Entry.{Entry}
 use Rattle.app_api.specs.declared.reaction.Reason.{Reason}
@@ -14,11 +12,10 @@ use Rattle.forest_versions.specs.State.{ControlState}
 use Rattle.connection_core.specs.Course.{Course}
 use Rattle.connection_core.specs.History.{History, fresh, followed, received_unless, orphaned, verdict_of, lone_course, drops_of as drops_by, weight_of}
 use Rattle.lane_core.specs.Sight.{Sight, Tcp, Other, Arrival}
-use Rattle.lane_core.specs.Records.{VersionedPacket, RecordSoFar, belongs_to, side_in, history_after, first_history, opens, orphan_raises_of, started_by, continued_by, added, records_from}
+use Rattle.lane_core.specs.Records.{VersionedPacket, RecordSoFar, belongs_to, side_in, history_after, opens, orphan_raises_of, continued_by, added, records_from}
 use Rattle.lane_core.specs.Shown.{total, weight, callbacks_of, drops_of}
 use Rattle.forest_versions.specs.declared.command.Command.{Command}
 use Rattle.worker_laws.specs.Whole.{in_force, over_under, packets_under, run_under}
-use Rattle.worker_laws.specs.Allowed.{arrivals_of}
 use Rattle.worker_laws.proofs.Reported.{named_packets}
 
 -- ---- callbacks

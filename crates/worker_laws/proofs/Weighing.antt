@@ -1,6 +1,6 @@
 -- What is weighed of records, step by step: a sum that 64 bits don't hold stays at their greatest number.
-use Rattle.std.proofs.Common.{◌≡◌, ◌<◌, ◌≤◌, ◌+◌, ℕ, Bool, true, List, [], ◌∷◌, refl, sym, ap, ◌∙◌, map, arith}
-use Rattle.std.specs.Prelude.{min, ◌-◌, ◌^◌}
+use Rattle.std.proofs.Common.{◌≡◌, ◌+◌, ℕ, true, List, [], ◌∷◌, refl, ap, map, arith}
+use Rattle.std.specs.Prelude.{min}
 use Rattle.app_api.specs.App.{Meaning}
 use Rattle.connection_core.specs.History.{weight_of}
 use Rattle.lane_core.specs.Records.{RecordSoFar}

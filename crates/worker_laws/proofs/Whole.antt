@@ -11,9 +11,8 @@ use Rattle.forest_versions.specs.declared.command.Command.{Command}
 use Rattle.forest_versions.specs.State.{ControlState}
 use Rattle.lane_core.specs.Sight.{Arrival, arrivals}
 use Rattle.lane_core.specs.Records.{VersionedPacket, RecordSoFar, added, records, versioned}
-use Rattle.lane_core.specs.Run.{LaneEvent, commands_of, versioned_from, lane_run}
+use Rattle.lane_core.specs.Run.{LaneEvent, commands_of, lane_run}
 use Rattle.lane_core.specs.Shown.{total, weight}
-use Rattle.lane_core.specs.Lane.{IsHeavy}
 use Rattle.lane_core.specs.Laws.{OneEventMore, LaterCommandsChangeNone, LastPacketIsAdded, WeightNeverFalls}
 use Rattle.worker_laws.specs.Members.{Members, records as members_of}
 use Rattle.worker_laws.specs.Lanes.{lane_of, part}

@@ -1,4 +1,4 @@
-use Rattle.std.proofs.Common.{◌≡◌, ◌∙◌, sym, ap, subst}
+use Rattle.std.proofs.Common.{◌∙◌, sym, ap, subst}
 use Rattle.std.specs.Prelude.{min, ◌-◌, ◌^◌}
 use Rattle.worker_laws.specs.Merge.{lane_at, AreOfLanes, IsMerge}
 use Rattle.worker_laws.specs.Ends.{sum_of}

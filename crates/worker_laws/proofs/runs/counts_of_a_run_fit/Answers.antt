@@ -1,7 +1,5 @@
-use Rattle.std.proofs.Common.{length, arith}
+use Rattle.std.proofs.Common.{arith}
 use Rattle.std.proofs.Math.Nat.{min-eq_left}
-use Rattle.worker_laws.specs.Whole.{in_force, packets_under, run_under}
-use Rattle.worker_laws.specs.Allowed.{arrivals_of}
 use Rattle.worker_laws.proofs.Fitting.{callbacks_weigh, run_drops_few}
 use Rattle.worker_laws.proofs.runs.counts_of_a_run_fit.Goals as goal
 

@@ -1,4 +1,4 @@
-use Rattle.std.proofs.Common.{◌≡◌, ◌≤◌, arith, length, drop}
+use Rattle.std.proofs.Common.{arith}
 use Rattle.std.proofs.lemmas.List.{at_drop_all}
 use Rattle.connection_core.specs.History.{weight_of}
 use Rattle.worker_laws.proofs.weight.entries_weight.Goals as goal

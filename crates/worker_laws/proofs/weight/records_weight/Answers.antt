@@ -1,4 +1,4 @@
-use Rattle.std.proofs.Common.{◌≡◌, ◌≤◌, arith, length, drop}
+use Rattle.std.proofs.Common.{arith}
 use Rattle.std.proofs.lemmas.List.{at_drop_all}
 use Rattle.worker_laws.specs.Weight.{weight_in}
 use Rattle.worker_laws.proofs.weight.records_weight.Goals as goal
