@@ -19,3 +19,5 @@ mod Whole
 mod Ended
 mod Fitting
 mod Weighing
+mod Dealt
+mod Answered

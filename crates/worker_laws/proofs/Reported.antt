@@ -23,7 +23,7 @@ unfolding named_from
 named_packets over vs ms [] = refl
 named_packets over vs ms (a ∷ ps) = ap (λ l. a ∷ l) (named_packets over vs (added over (named_by vs ms a) ms) ps)
 
-named_numbers : (ps : List VersionedPacket) → numbers_of ps ≡ map (λ a. a.number) (arrivals_of ps)
+pub named_numbers : (ps : List VersionedPacket) → numbers_of ps ≡ map (λ a. a.number) (arrivals_of ps)
 named_numbers [] = refl
 named_numbers (p ∷ ps) = ap (λ l. p.arrival.number ∷ l) (named_numbers ps)
 
