@@ -1,5 +1,5 @@
 -- The answers of lanes are the right ones.
-use Rattle.std.proofs.Common.{◌≡◌, ◌≤◌, ℕ, List, ◌++◌, length, take, refl, sym, ap, ◌∙◌, subst, map, arith}
+use Rattle.std.proofs.Common.{◌≡◌, ℕ, List, length, take, sym, ap, ◌∙◌, map, arith}
 use Rattle.std.proofs.lemmas.List.{map-append, take_all}
 use mathlib.Core.List.{IsPrefix}
 use Rattle.pcap_source.specs.Captured.{Captured}

@@ -1,10 +1,9 @@
 -- The packets of a capture: their numbers, and their lanes.
-use Rattle.std.proofs.Common.{◌≡◌, ◌<◌, ◌≤◌, ◌+◌, ℕ, true, List, [], ◌∷◌, refl, sym, ap, ◌∙◌, map, arith}
+use Rattle.std.proofs.Common.{◌≡◌, ◌<◌, ◌≤◌, ◌+◌, ℕ, true, List, [], ◌∷◌, refl, ap, ◌∙◌, map, arith}
 use Rattle.std.specs.List.{All}
 use Rattle.std.proofs.lemmas.Grind.{common_steps}
 use Rattle.std.proofs.lemmas.List.Elements.{All-nil, All-cons}
 use Rattle.packet_views.specs.declared.packet.Class.{Class}
-use Rattle.packet_views.specs.declared.packet.Class.TheVariants as Class
 use Rattle.packet_views.specs.Packet.{class_of, packet_with, packet_of}
 use Rattle.pcap_source.specs.Captured.{Captured}
 use Rattle.flow_table.specs.Key.{EndpointPair, key_of_head}
