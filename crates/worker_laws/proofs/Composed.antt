@@ -102,7 +102,7 @@ unfolding Rises
 share_rises lane l [] rises = tt
 share_rises lane l (p ∷ ps) rises = rises_here p (share lane l ps) (lane_of lane p.sight == l) (share_above lane l p.number ps rises.0) (share_rises lane l ps rises.1)
 
-arrivals_versioned : (v : ℕ → ℕ) (ps : List Arrival) → arrivals_of (versioned v ps) ≡ ps
+pub arrivals_versioned : (v : ℕ → ℕ) (ps : List Arrival) → arrivals_of (versioned v ps) ≡ ps
 arrivals_versioned v [] = refl
 arrivals_versioned v (p ∷ ps) = ap (λ l. p ∷ l) (arrivals_versioned v ps)
 

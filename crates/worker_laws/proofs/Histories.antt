@@ -8,8 +8,9 @@ use Rattle.connection_core.specs.History.{History}
 use Rattle.lane_core.specs.Sight.{Sight, Tcp, Other, Arrival}
 use Rattle.lane_core.specs.Records.{VersionedPacket, RecordSoFar, history_after, belongs_to, continued_by, started_by, verdict_on, added as lane_added, records_from as lane_records_from}
 use Rattle.worker_laws.specs.Members.{Members, packets_of, begun_by, joined_by, takes, added, records_from}
-use Rattle.worker_laws.specs.Judged.{verdict_of}
+use Rattle.worker_laws.specs.Judged.{verdict_of, judged_from}
 use Rattle.worker_laws.specs.Histories.{history_through, over_by, judge_by, with_history}
+use Rattle.worker_laws.specs.Whole.{verdicts_from}
 
 through_last : (app : Meaning) (control : ControlState) (opener : Sight) (h : History) (later : List Arrival) (a : Arrival)
     → history_through app control opener h (later ++ a ∷ []) ≡ history_after app control opener a (history_through app control opener h later)
@@ -61,6 +62,15 @@ module _ (app : Meaning) (control_at : ℕ → ControlState) where
   same_verdict p (m ∷ ms) =
       ap (λ b. if b then judge_by app control_at m.version (packets_of m) p.arrival else verdict_on app control_at p (map shown ms)) (same_takes p.arrival.sight m)
       ∙ judged_here p m (takes (over_by app control_at) p.arrival.sight m) (verdict_on app control_at p (map shown ms)) (verdict_of (over_by app control_at) (judge_by app control_at) p ms) (same_verdict p ms)
+
+  -- and so are those of packets in order
+  pub same_judged : (ms : List Members) (ps : List VersionedPacket) → verdicts_from app control_at (map shown ms) ps ≡ judged_from (over_by app control_at) (judge_by app control_at) ms ps
+  unfolding verdicts_from judged_from
+  same_judged ms [] = refl
+  same_judged ms (p ∷ ps) =
+      ap (λ v. (p.arrival, v) ∷ verdicts_from app control_at (lane_added app control_at p (map shown ms)) ps) (same_verdict p ms)
+      ∙ ap (λ rs. (p.arrival, verdict_of (over_by app control_at) (judge_by app control_at) p ms) ∷ verdicts_from app control_at rs ps) (same_added p ms)
+      ∙ ap (λ js. (p.arrival, verdict_of (over_by app control_at) (judge_by app control_at) p ms) ∷ js) (same_judged (added (over_by app control_at) p ms) ps)
 
   filter_here : (m : Members) (b : Bool) (ms : List Members) (rs : List RecordSoFar) → rs ≡ map shown ms → cond b (shown m ∷ rs) rs ≡ map shown (cond b (m ∷ ms) ms)
   filter_here m true ms rs e = ap (λ l. shown m ∷ l) e

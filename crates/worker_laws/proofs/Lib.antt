@@ -14,3 +14,10 @@ mod Lowest
 mod Merged
 mod Reported
 mod Streamed
+mod Taken
+mod Whole
+mod Ended
+mod Fitting
+mod Weighing
+mod Dealt
+mod Answered

@@ -8,23 +8,22 @@ use Rattle.flow_table.specs.Key.{EndpointPair}
 use Rattle.report_text.specs.declared.record.Record.{Record}
 use Rattle.lane_core.specs.Sight.{Arrival}
 use Rattle.lane_core.specs.Records.{VersionedPacket}
-use Rattle.worker_laws.specs.Members.{Members, name_of, added, records}
+use Rattle.worker_laws.specs.Members.{Members, name_of, added}
 use Rattle.worker_laws.specs.Lanes.{lane_of, part}
 use Rattle.worker_laws.specs.Named.{named_by, named_from, named, records_under}
 use Rattle.worker_laws.specs.Rising.{Rises}
 use Rattle.worker_laws.specs.Allowed.{arrivals_of}
-use Rattle.worker_laws.specs.Runs.{AreRuns}
 use Rattle.worker_laws.specs.Merge.{list_at, names_in, AreOfLanes, IsMerge, lane_at}
 use Rattle.worker_laws.proofs.Parts.{same_parts}
 use Rattle.worker_laws.proofs.Rising.{All-without, All-unmap, holds_of_records, names_of, numbers_of, names_rise}
 
 -- a list of versions leaves the packets as they are
-named_packets : (over : ℕ → List Arrival → Bool) (vs : List ℕ) (ms : List Members) (ps : List Arrival) → arrivals_of (named_from over vs ms ps) ≡ ps
+pub named_packets : (over : ℕ → List Arrival → Bool) (vs : List ℕ) (ms : List Members) (ps : List Arrival) → arrivals_of (named_from over vs ms ps) ≡ ps
 unfolding named_from
 named_packets over vs ms [] = refl
 named_packets over vs ms (a ∷ ps) = ap (λ l. a ∷ l) (named_packets over vs (added over (named_by vs ms a) ms) ps)
 
-named_numbers : (ps : List VersionedPacket) → numbers_of ps ≡ map (λ a. a.number) (arrivals_of ps)
+pub named_numbers : (ps : List VersionedPacket) → numbers_of ps ≡ map (λ a. a.number) (arrivals_of ps)
 named_numbers [] = refl
 named_numbers (p ∷ ps) = ap (λ l. p.arrival.number ∷ l) (named_numbers ps)
 
@@ -110,8 +109,8 @@ module _ (shown : Members → Record) (same : (m : Members) → (shown m).name �
     part_rises : (ms : List Members) → Rises (names_of ms) → Rises (names_in (map shown (part lane l ms)))
     part_rises ms rises = subst Rises (sym (shown_names (part lane l ms))) (rises_part ms rises)
 
-  module _ (over : ℕ → List Arrival → Bool) (lane : EndpointPair → ℕ) (packets : List Arrival) (parts : ℕ → List VersionedPacket) (vs : List ℕ) (runs : AreRuns over lane packets parts vs) (numbered : Rises (map (λ a. a.number) packets))
-      (lists : List (List Record)) (are : (l : ℕ) → list_at lists l ≡ map shown (records over (parts l))) where
+  module _ (over : ℕ → List Arrival → Bool) (lane : EndpointPair → ℕ) (packets : List Arrival) (vs : List ℕ) (numbered : Rises (map (λ a. a.number) packets))
+      (lists : List (List Record)) (lists_are : (l : ℕ) → list_at lists l ≡ map shown (part lane l (records_under over vs packets))) where
     abbrev all_records : List Members
     all_records = records_under over vs packets
 
@@ -120,9 +119,6 @@ module _ (shown : Members → Record) (same : (m : Members) → (shown m).name �
 
     rise : Rises (names_of all_records)
     rise = names_rise over (named over vs packets) (subst Rises (sym (named_numbers (named over vs packets) ∙ ap (map (λ a. a.number)) (named_packets over vs [] packets))) numbered)
-
-    lists_are : (l : ℕ) → list_at lists l ≡ map shown (part lane l all_records)
-    lists_are l = are l ∙ ap (map shown) (sym (runs.parts_are l))
 
     pub lists_of_lanes : AreOfLanes (lane_at lane packets) lists
     lists_of_lanes = record {

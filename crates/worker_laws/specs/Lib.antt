@@ -11,3 +11,7 @@ pub mod Stamps
 pub mod Merge
 pub mod Queues
 pub mod Streamed
+pub mod Whole
+pub mod Taken
+pub mod Ends
+pub mod Weight

@@ -1,0 +1,58 @@
+-- The packets of a capture: their numbers, and their lanes.
+use Rattle.std.proofs.Common.{◌≡◌, ◌<◌, ◌≤◌, ◌+◌, ℕ, true, List, [], ◌∷◌, refl, ap, ◌∙◌, map, arith}
+use Rattle.std.specs.List.{All}
+use Rattle.std.proofs.lemmas.Grind.{common_steps}
+use Rattle.std.proofs.lemmas.List.Elements.{All-nil, All-cons}
+use Rattle.packet_views.specs.declared.packet.Class.{Class}
+use Rattle.packet_views.specs.Packet.{class_of, packet_with, packet_of}
+use Rattle.pcap_source.specs.Captured.{Captured}
+use Rattle.flow_table.specs.Key.{EndpointPair, key_of_head}
+use Rattle.flow_table.specs.Lane.{lane_of_key, lane_of_packet}
+use Rattle.app_api.specs.App.{Meaning}
+use Rattle.app_api.specs.Numbers.{rise_from}
+use Rattle.forest_versions.specs.declared.command.Command.{Command}
+use Rattle.lane_core.specs.Sight.{Sight, Tcp, Other, arrivals, sight_with, sight_of}
+use Rattle.lane_core.specs.Laws.{rise}
+use Rattle.worker_laws.specs.Lanes.{lane_of}
+use Rattle.worker_laws.specs.Rising.{Rises}
+use Rattle.worker_laws.specs.Whole.{over_under, packets_under}
+use Rattle.worker_laws.proofs.Reported.{named_packets, named_numbers}
+
+-- ---- numbers
+
+numbers_above : (n m : ℕ) (frames : List Captured) → n < m → All (λ k. n < k) (map (λ a. a.number) (arrivals m frames))
+numbers_above n m [] lt = All-nil (λ k. n < k)
+numbers_above n m (frame ∷ frames) lt = All-cons (λ k. n < k) m (map (λ a. a.number) (arrivals (m + 1) frames)) lt (numbers_above n (m + 1) frames (omega arith))
+
+pub numbers_rise : (n : ℕ) (frames : List Captured) → Rises (map (λ a. a.number) (arrivals n frames))
+unfolding Rises
+numbers_rise n [] = tt
+numbers_rise n (frame ∷ frames) = (numbers_above n (n + 1) frames (omega arith), numbers_rise (n + 1) frames)
+
+they_rise : (n : ℕ) (frames : List Captured) → rise_from n (map (λ a. a.number) (arrivals n frames)) ≡ true
+they_rise n [] = refl
+they_rise n (frame ∷ frames) = grind (arith, common_steps, they_rise (n + 1) frames)
+
+pub run_rises : (app : Meaning) (commands : List Command) (frames : List Captured) (vs : List ℕ) → rise 0 (packets_under app commands vs (arrivals 0 frames)) ≡ true
+run_rises app commands frames vs =
+    ap (rise_from 0) (named_numbers (packets_under app commands vs (arrivals 0 frames)) ∙ ap (map (λ a. a.number)) (named_packets (over_under app commands) vs [] (arrivals 0 frames)))
+    ∙ they_rise 0 frames
+
+-- ---- lanes
+
+abbrev by_key : ℕ → EndpointPair → ℕ
+by_key lanes key = lane_of_key key lanes
+
+pub below : (lanes : ℕ) (sight : Sight) → 1 ≤ lanes → lane_of (by_key lanes) sight < lanes
+unfolding lane_of_key
+below lanes (Tcp segment) some = omega arith
+below lanes (Other class) some = omega arith
+
+dealt_with : (lanes : ℕ) (class : Class) (frame : List ℕ) → lane_of (by_key lanes) (sight_with class frame) ≡ lane_of_packet (packet_with class frame) lanes
+unfolding key_of_head
+dealt_with lanes Class.Tcp frame = refl
+dealt_with lanes class frame = refl
+
+pub dealt : (lanes : ℕ) (frame : List ℕ) → lane_of (by_key lanes) (sight_of frame) ≡ lane_of_packet (packet_of frame) lanes
+unfolding sight_of packet_of
+dealt lanes frame = dealt_with lanes (class_of frame) frame

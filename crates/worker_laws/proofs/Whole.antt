@@ -1,0 +1,179 @@
+-- Lanes and one run over all packets.
+use Rattle.std.proofs.Common.{◌≡◌, ◌<◌, ◌≤◌, ◌+◌, ℕ, zero, suc, Bool, true, false, cond, List, [], ◌∷◌, ◌++◌, length, get_or, refl, sym, ap, ◌∙◌, subst, map, arith, append-nil, append_assoc}
+use Rattle.std.specs.Prelude.{◌==◌, filter}
+use Rattle.std.proofs.lemmas.List.{length-map, get_or-map}
+use mathlib.Core.List.{IsPrefix}
+use Rattle.pcap_source.specs.Captured.{Captured}
+use Rattle.flow_table.specs.Key.{EndpointPair}
+use Rattle.app_api.specs.App.{Meaning}
+use Rattle.app_api.specs.declared.reaction.Verdict.{Verdict}
+use Rattle.forest_versions.specs.declared.command.Command.{Command}
+use Rattle.forest_versions.specs.State.{ControlState}
+use Rattle.lane_core.specs.Sight.{Arrival, arrivals}
+use Rattle.lane_core.specs.Records.{VersionedPacket, RecordSoFar, added, records, versioned}
+use Rattle.lane_core.specs.Run.{LaneEvent, commands_of, lane_run}
+use Rattle.lane_core.specs.Shown.{total, weight}
+use Rattle.lane_core.specs.Laws.{OneEventMore, LaterCommandsChangeNone, LastPacketIsAdded, WeightNeverFalls}
+use Rattle.worker_laws.specs.Members.{Members, records as members_of}
+use Rattle.worker_laws.specs.Lanes.{lane_of, part}
+use Rattle.worker_laws.specs.Named.{named_from, named, records_under}
+use Rattle.worker_laws.specs.Judged.{judged_from, judged}
+use Rattle.worker_laws.specs.Rising.{Rises}
+use Rattle.worker_laws.specs.Allowed.{versions_of, arrivals_of}
+use Rattle.worker_laws.specs.Runs.{judged_part, AreRuns}
+use Rattle.worker_laws.specs.Histories.{judge_by, with_history}
+use Rattle.worker_laws.specs.Streamed.{AreNumbered}
+use Rattle.worker_laws.specs.Whole.{in_force, over_under, packets_under, run_under, verdicts_from, verdicts_under, IsAllowedRun}
+use Rattle.worker_laws.specs.Taken.{events_at, packets_at, verdicts_in, HaveRun, HaveRunAll, AreOneRun, AreFrontsOfRun}
+use Rattle.worker_laws.proofs.Histories.{same_records, same_judged, same_part}
+use Rattle.worker_laws.proofs.Naming.{judged_again}
+use Rattle.worker_laws.proofs.Judging.{judged_more, named_more}
+use Rattle.worker_laws.proofs.Reported.{named_packets}
+use Rattle.worker_laws.proofs.Single.{list_of_allowed, records_of_allowed}
+use Rattle.worker_laws.proofs.Composed.{one_allowed, continued, front_verdicts, arrivals_versioned}
+use Rattle.worker_laws.proofs.Taken.{commands_front, packets_front, packets_whole, stamped_at, run_of_events, verdicts_of_events}
+
+pub maps : {A B C : Type 0} (g : B → C) (f : A → B) (xs : List A) → map g (map f xs) ≡ map (λ x. g (f x)) xs
+maps g f [] = refl
+maps g f (x ∷ xs) = ap (λ l. g (f x) ∷ l) (maps g f xs)
+
+-- ---- the run, by the packets of its records
+
+module _ (app : Meaning) (commands : List Command) (packets : List Arrival) (vs : List ℕ) where
+  abbrev pub members : List Members
+  members = records_under (over_under app commands) vs packets
+
+  pub run_is : run_under app commands vs packets ≡ map (with_history app (in_force app commands)) members
+  run_is = same_records app (in_force app commands) [] (packets_under app commands vs packets)
+
+  pub part_is : (lane : EndpointPair → ℕ) (l : ℕ) → filter (λ r. lane_of lane r.first.sight == l) (run_under app commands vs packets) ≡ map (with_history app (in_force app commands)) (part lane l members)
+  part_is lane l = ap (filter (λ r. lane_of lane r.first.sight == l)) run_is ∙ same_part app (in_force app commands) (λ sight. lane_of lane sight == l) members
+
+  pub verdicts_by : verdicts_under app commands vs packets ≡ judged (over_under app commands) (judge_by app (in_force app commands)) (packets_under app commands vs packets)
+  verdicts_by = same_judged app (in_force app commands) [] (packets_under app commands vs packets)
+
+  pub versions_by : (least most : ℕ → ℕ) (lane : EndpointPair → ℕ) → IsAllowedRun app commands least most lane packets vs → map (λ r. r.version) (run_under app commands vs packets) ≡ vs
+  versions_by least most lane allowed =
+      ap (map (λ r. r.version)) run_is ∙ maps (λ r. r.version) (with_history app (in_force app commands)) members
+      ∙ list_of_allowed least most (over_under app commands) lane packets vs allowed
+
+  -- where only ceilings are allowed
+  module _ (least most : ℕ → ℕ) (lane : EndpointPair → ℕ) (same : (n : ℕ) → least n ≡ most n) (allowed : IsAllowedRun app commands least most lane packets vs) where
+    pub records_by_ceilings : run_under app commands vs packets ≡ records app (in_force app commands) (versioned most packets)
+    records_by_ceilings =
+        run_is ∙ ap (map (with_history app (in_force app commands))) (records_of_allowed least most (over_under app commands) lane packets vs same allowed)
+        ∙ sym (same_records app (in_force app commands) [] (versioned most packets))
+
+    list_by_ceilings : vs ≡ versions_of (members_of (over_under app commands) (versioned most packets))
+    list_by_ceilings =
+        sym (list_of_allowed least most (over_under app commands) lane packets vs allowed)
+        ∙ ap versions_of (records_of_allowed least most (over_under app commands) lane packets vs same allowed)
+
+    pub verdicts_by_ceilings : verdicts_under app commands vs packets ≡ verdicts_from app (in_force app commands) [] (versioned most packets)
+    verdicts_by_ceilings =
+        verdicts_by
+        ∙ ap (λ ps. judged (over_under app commands) (judge_by app (in_force app commands)) (packets_under app commands vs ps)) (sym (arrivals_versioned most packets))
+        ∙ judged_again (over_under app commands) (judge_by app (in_force app commands)) vs [] (versioned most packets) list_by_ceilings
+        ∙ sym (same_judged app (in_force app commands) [] (versioned most packets))
+
+-- ---- verdicts in the order of the packets
+
+firsts_from : (app : Meaning) (control_at : ℕ → ControlState) (rs : List RecordSoFar) (ps : List VersionedPacket) → map (λ (j : Arrival × Verdict). j.0) (verdicts_from app control_at rs ps) ≡ arrivals_of ps
+unfolding verdicts_from
+firsts_from app control_at rs [] = refl
+firsts_from app control_at rs (p ∷ ps) = ap (λ l. p.arrival ∷ l) (firsts_from app control_at (added app control_at p rs) ps)
+
+place_in : (n : ℕ) (frames : List Captured) (i : ℕ) (d : Arrival) → i < length (arrivals n frames) → (get_or (arrivals n frames) i d).number ≡ n + i
+place_in n [] i d lt = absurd (omega arith)
+place_in n (frame ∷ frames) zero d lt = omega arith
+place_in n (frame ∷ frames) (suc i) d lt = let later = place_in (n + 1) frames i d (omega arith) in omega arith
+
+module _ (app : Meaning) (commands : List Command) (vs : List ℕ) where
+  pub verdicts_in_order : (packets : List Arrival) → map (λ (j : Arrival × Verdict). j.0) (verdicts_under app commands vs packets) ≡ packets
+  verdicts_in_order packets = firsts_from app (in_force app commands) [] (packets_under app commands vs packets) ∙ named_packets (over_under app commands) vs [] packets
+
+  pub verdicts_numbered : (frames : List Captured) → AreNumbered (verdicts_under app commands vs (arrivals 0 frames))
+  verdicts_numbered frames i d lt =
+      let js = verdicts_under app commands vs (arrivals 0 frames) in
+      let order = verdicts_in_order (arrivals 0 frames) in
+      let long = length-map js (λ (j : Arrival × Verdict). j.0) in
+      let count = ap length order in
+      let place = place_in 0 frames i d.0 (omega arith) in
+      ap (λ a. a.number) (sym (get_or-map (λ (j : Arrival × Verdict). j.0) js i d d.0 lt)) ∙ ap (λ l. (get_or l i d.0).number) order ∙ place ∙ omega arith
+
+  pub verdicts_front : (packets more : List Arrival) → IsPrefix (verdicts_under app commands vs packets) (verdicts_under app commands vs (packets ++ more))
+  verdicts_front packets more =
+      let over = over_under app commands in
+      let judge = judge_by app (in_force app commands) in (
+        judged_from over judge (records_under over vs packets) (named_from over vs (records_under over vs packets) more),
+        ap (λ js. js ++ judged_from over judge (records_under over vs packets) (named_from over vs (records_under over vs packets) more)) (verdicts_by app commands packets vs)
+            ∙ judged_more over judge [] (named over vs packets) (named_from over vs (records_under over vs packets) more)
+            ∙ ap (judged over judge) (named_more over vs [] packets more)
+            ∙ sym (verdicts_by app commands (packets ++ more) vs),
+      )
+
+-- ---- weights
+
+module _ (last : LastPacketIsAdded) (never : WeightNeverFalls) (app : Meaning) (control_at : ℕ → ControlState) where
+  more_weigh : (ps more : List VersionedPacket) → weight (records app control_at ps) ≤ weight (records app control_at (ps ++ more))
+  more_weigh ps [] = let e = ap (λ qs. weight (records app control_at qs)) (append-nil ps) in omega arith
+  more_weigh ps (p ∷ more) =
+      let one = ap weight (last app control_at ps p) in
+      let grows = never app control_at p (records app control_at ps) in
+      let rest = more_weigh (ps ++ p ∷ []) more in
+      let same = ap (λ qs. weight (records app control_at qs)) (append_assoc ps (p ∷ []) more) in omega arith
+
+some_weigh : (q : RecordSoFar → Bool) (r : RecordSoFar) (rs : List RecordSoFar) (b : Bool) → weight (filter q rs) ≤ weight rs → weight (cond b (r ∷ filter q rs) (filter q rs)) ≤ weight (r ∷ rs)
+unfolding total
+some_weigh q r rs true le = omega arith
+some_weigh q r rs false le = omega arith
+
+part_weighs : (q : RecordSoFar → Bool) (rs : List RecordSoFar) → weight (filter q rs) ≤ weight rs
+part_weighs q [] = omega arith
+part_weighs q (r ∷ rs) = some_weigh q r rs (q r) (part_weighs q rs)
+
+-- ---- lanes of which each has run its share, or a front of it
+
+module _ (later : LaterCommandsChangeNone) (one : OneEventMore) (last : LastPacketIsAdded) (app : Meaning) (commands : List Command) (lane : EndpointPair → ℕ) (packets : List Arrival) (lanes : List (List LaneEvent))
+    (front : (l : ℕ) → IsPrefix (commands_of (events_at lanes l)) commands) where
+  judged_events : (l : ℕ) → verdicts_in app (events_at lanes l) ≡ judged (over_under app commands) (judge_by app (in_force app commands)) (packets_at lanes l)
+  judged_events l = verdicts_of_events later app commands one last (events_at lanes l) (front l) ∙ same_judged app (in_force app commands) [] (packets_at lanes l)
+
+  whole_is : (vs : List ℕ) → AreRuns (over_under app commands) lane packets (packets_at lanes) vs → AreOneRun app commands lane packets lanes vs
+  whole_is vs runs = record {
+    records = λ l.
+        run_of_events later app commands (events_at lanes l) (front l) ∙ same_records app (in_force app commands) [] (packets_at lanes l)
+        ∙ ap (map (with_history app (in_force app commands))) (sym (runs.parts_are l)) ∙ sym (part_is app commands packets vs lane l);
+    verdicts = λ l.
+        judged_events l ∙ sym (runs.verdicts_are (judge_by app (in_force app commands)) l) ∙ ap (judged_part lane l) (sym (verdicts_by app commands packets vs));
+  }
+
+  module _ (never : WeightNeverFalls) (more : ℕ → List VersionedPacket) (vs : List ℕ) (runs : AreRuns (over_under app commands) lane packets (λ l. packets_at lanes l ++ more l) vs) where
+    weights_are : (l : ℕ) → weight (lane_run app (events_at lanes l)) ≤ weight (run_under app commands vs packets)
+    weights_are l =
+        let own = ap weight (run_of_events later app commands (events_at lanes l) (front l)) in
+        let grows = more_weigh last never app (in_force app commands) (packets_at lanes l) (more l) in
+        let its_part = ap weight (same_records app (in_force app commands) [] (packets_at lanes l ++ more l) ∙ ap (map (with_history app (in_force app commands))) (sym (runs.parts_are l)) ∙ sym (part_is app commands packets vs lane l)) in
+        let all = part_weighs (λ r. lane_of lane r.first.sight == l) (run_under app commands vs packets) in omega arith
+
+    fronts_are : AreFrontsOfRun app commands lane packets lanes vs
+    fronts_are = record {
+      weights = weights_are;
+      verdicts = λ l.
+          subst (λ js. IsPrefix js (judged_part lane l (verdicts_under app commands vs packets))) (sym (judged_events l))
+          (subst (λ js. IsPrefix (judged (over_under app commands) (judge_by app (in_force app commands)) (packets_at lanes l)) (judged_part lane l js)) (sym (verdicts_by app commands packets vs))
+          (front_verdicts (over_under app commands) lane packets (packets_at lanes) more vs runs (judge_by app (in_force app commands)) l));
+    }
+
+module _ (later : LaterCommandsChangeNone) (one : OneEventMore) (last : LastPacketIsAdded) (app : Meaning) (commands : List Command) (least most : ℕ → ℕ) (lane : EndpointPair → ℕ) (packets : List Arrival) (lanes : List (List LaneEvent)) (have : HaveRun least most commands lane packets lanes) where
+  pub one_run : HaveRunAll lane packets lanes → (vs : List ℕ) × IsAllowedRun app commands least most lane packets vs × AreOneRun app commands lane packets lanes vs
+  one_run whole =
+      let made = one_allowed least most (over_under app commands) lane packets (packets_at lanes) (packets_whole least most commands lane packets lanes have whole) (stamped_at least most commands lane packets lanes have) in
+      (made.0, made.1, whole_is later one last app commands lane packets lanes (commands_front least most commands lane packets lanes have) made.0 made.2)
+
+  pub fronts_run : WeightNeverFalls → ((n : ℕ) → least n ≤ most n) → ((n m : ℕ) → n ≤ m → most n ≤ most m) → Rises (map (λ a. a.number) packets)
+      → (vs : List ℕ) × IsAllowedRun app commands least most lane packets vs × AreFrontsOfRun app commands lane packets lanes vs
+  fronts_run never between rises numbered =
+      let rest = packets_front least most commands lane packets lanes have in
+      let made = continued least most between rises (over_under app commands) lane packets numbered (packets_at lanes) (λ l. (rest l).0) (λ l. (rest l).1) (stamped_at least most commands lane packets lanes have) in
+      (made.0, made.1, fronts_are later one last app commands lane packets lanes (commands_front least most commands lane packets lanes have) never (λ l. versioned most ((rest l).0)) made.0 made.2)

@@ -1,0 +1,10 @@
+use Rattle.std.proofs.Common.{arith}
+use Rattle.worker_laws.proofs.runs.a_heavy_lane_makes_a_heavy_run.Goals as goal
+
+pub returns : goal.returns
+returns c = record {
+  run = λ app commands least most lane packets lanes l between rises numbered have heavy.
+      let made = c.fronts_are_of_one_run.ensures.run app commands least most lane packets lanes between rises numbered have in
+      let most_weighs = made.2.weights l in
+      (made.0, made.1, omega (arith, heavy, most_weighs));
+}
