@@ -75,19 +75,21 @@ may_fail words content left o e versions at_end is ends (inr memory) = inr (inr 
 -- ---- what the sink below took
 
 -- a front of the text
-pub front_below : (start given handed taken : Option (List ℕ)) (text : List ℕ) → AppendsFront start given text → Keeps given handed → IsBetween start taken handed → AppendsFront start taken text
-front_below start given handed taken text part kept between =
-    let more : AppendsFront start handed text = record {
+pub front_below : {S : Type 0} (taken : S → Option (List ℕ)) (out start : S) (first given handed now : Option (List ℕ)) (text : List ℕ) → start ≡ out → first ≡ taken out
+    → AppendsFront first given text → Keeps given handed → IsBetween (taken start) now handed → AppendsFront (taken out) now text
+front_below taken out start first given handed now text same none part kept between =
+    let more : AppendsFront (taken out) handed text = record {
       front = part.front;
       rest = part.rest;
-      added = Appends-kept start given handed part.front part.added kept;
+      added = Appends-kept (taken out) given handed part.front (subst (λ a. Appends a given part.front) none part.added) kept;
       whole = part.whole;
     } in
-    AppendsFront-between start taken handed text more between
+    AppendsFront-between (taken out) now handed text more (subst (λ s. IsBetween (taken s) now handed) same between)
 
 -- all of it, once nothing is held
-pub done_below : (o : Outcome) (versions : List ℕ) (start given handed taken : Option (List ℕ)) → Finishes o versions start given → Keeps given handed → taken ≡ handed → Finishes o versions start taken
-done_below o versions start given handed taken done kept same = record {
+pub done_below : (o : Outcome) (versions : List ℕ) (start first given handed now : Option (List ℕ)) → first ≡ start → Finishes o versions first given → Keeps given handed → now ≡ handed
+    → Finishes o versions start now
+done_below o versions start first given handed now none done kept same = record {
   answered = done.answered;
-  written = subst (λ t. Appends start t o.text) (sym same) (Appends-kept start given handed o.text done.written kept);
+  written = subst (λ t. Appends start t o.text) (sym same) (Appends-kept start given handed o.text (subst (λ a. Appends a given o.text) none done.written) kept);
 }
