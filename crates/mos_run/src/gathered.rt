@@ -49,8 +49,7 @@ pub fn run_gathered<S: Source, H: Shelf, O: Sink, E: Sink>(
     err: &mut E,
     natives: &NativeBook,
 ) -> GatheredRun<O>
-    // On status 0 exactly the text of the run's outcome was added to out, under the versions answered: each the ceiling of
-    // its record's first packet.
+    // On status 0 exactly the text of the run's outcome was added to out, under the versions answered.
     ensures done { result.ended.status ≡ 0 → (o : Outcome) → told (map string_bytes words.now) (H.content shelf.old) (S.left capture.old) ≡ Some o
         → Finishes o result.ended.versions (O.taken out) (O.taken result.out) }
     ensures read { result.ended.status ≡ 0 → ReadsCapture (map string_bytes words.now) (S.left capture.old) (S.left capture.new) }
@@ -86,7 +85,6 @@ pub fn run_gathered<S: Source, H: Shelf, O: Sink, E: Sink>(
         → ¬ Rose (S.faults capture.old) (S.faults capture.new) → ¬ Rose (H.faults shelf.old) (H.faults shelf.new)
         → ¬ Rose (O.faults out) (O.faults result.out) → (result.ended.status ≡ 0) ⊎ (result.ended.status ≡ 6) }
 
-    // What no call of the outside changes stays.
     ensures capture_lasts { S.lasting capture.new ≡ S.lasting capture.old }
     ensures shelf_lasts { H.lasting shelf.new ≡ H.lasting shelf.old }
     ensures out_lasts { O.lasting result.out ≡ O.lasting out }
