@@ -1,10 +1,11 @@
 -- How the pieces that a sink takes one after another add up.
-use Rattle.std.proofs.Common.{◌≡◌, List, ℕ, [], ◌+◌, ◌-◌, ◌++◌, length, take, drop, Result, Ok, Err, refl, sym, ap, subst, ◌∙◌, arith, append_assoc, append-nil, length-drop, take_all}
-use Rattle.std.proofs.lemmas.List.{take-append-drop}
+use Rattle.std.proofs.Common.{◌≡◌, List, ℕ, [], ◌+◌, ◌-◌, ◌++◌, length, take, drop, None, Some, Result, Ok, Err, refl, sym, ap, subst, ◌∙◌, arith, append_assoc, append-nil, length-drop, take_all}
+use Rattle.std.proofs.lemmas.List.{append_cancel_left, take-append-drop}
 use Rattle.std.proofs.Math.Seq.{take-add}
 use Rattle.std.specs.declared.option.Option.{Option}
 use Rattle.std.specs.Io.KnownBytes.{Appends, Keeps}
-use Rattle.std.proofs.KnownBytes.{Appends-kept, Appends-nil, Appends-trans}
+use Rattle.std.proofs.KnownBytes.{Appends-kept, Appends-nil, Appends-trans, starts_with_rest}
+use Rattle.mos_bytes.specs.Gathers.{IsBetween}
 use Rattle.mos_bytes.specs.Writes.{AppendsFront, WriteAdds}
 
 -- nothing is a front of everything
@@ -67,3 +68,21 @@ pub WriteAdds-after : {T E : Type 0} (a b c : Option (List ℕ)) (bytes next : L
     → WriteAdds a c result (bytes ++ next)
 WriteAdds-after a b c bytes next (Ok value) taken last = Appends-trans a b c bytes next taken last
 WriteAdds-after a b c bytes next (Err error) taken last = AppendsFront-after a b c bytes next taken last
+
+-- what a sink below took, between its start and all that was given, is a front of a text where that is
+pub AppendsFront-between : (a b c : Option (List ℕ)) (text : List ℕ) → AppendsFront a c text → IsBetween a b c → AppendsFront a b text
+AppendsFront-between None b c text part between = record { front = []; rest = text; added = tt; whole = refl }
+AppendsFront-between (Some x) None c text part between = absurd between
+AppendsFront-between (Some x) (Some y) None text part between = absurd between
+AppendsFront-between (Some x) (Some y) (Some z) text part between =
+    let front = drop (length x) y in
+    let more = drop (length y) z in
+    let taken : y ≡ x ++ front = starts_with_rest y x between.0 in
+    let given : x ++ part.front ≡ x ++ (front ++ more) =
+    sym part.added ∙ starts_with_rest z y between.1 ∙ ap (λ l. l ++ more) taken ∙ append_assoc x front more in
+    record {
+      front = front;
+      rest = more ++ part.rest;
+      added = taken;
+      whole = part.whole ∙ ap (λ l. l ++ part.rest) (append_cancel_left x part.front (front ++ more) given) ∙ append_assoc front more part.rest;
+    }

@@ -8,6 +8,7 @@
 mod copy;
 mod failed;
 mod folder_shelf;
+mod gathering_sink;
 mod memory_shelf;
 mod memory_sink;
 mod memory_source;
@@ -21,6 +22,7 @@ mod write_sink;
 
 pub use failed::Failed;
 pub use folder_shelf::FolderShelf;
+pub use gathering_sink::GatheringSink;
 pub use memory_shelf::MemShelf;
 pub use memory_sink::MemSink;
 pub use memory_source::MemSource;

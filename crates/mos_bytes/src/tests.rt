@@ -1,8 +1,9 @@
 // What a caller sees of each source and sink.
 use crate::{
-    Failed, FetchError, MemShelf, MemSink, MemSource, ReadSource, Shelf, Sink, Source, WriteSink,
-    fill,
+    Failed, FetchError, GatheringSink, MemShelf, MemSink, MemSource, ReadSource, Shelf, Sink,
+    Source, WriteSink, fill,
 };
+use std::alloc::{AllocError, Global};
 use std::io::{Error, ErrorKind, Read, Result, Write};
 use std::test::Fail;
 
@@ -93,6 +94,57 @@ fn a_writer_as_a_sink(rt: HostRuntime) {
     assert_eq!(rt; sink.write_all(b"de"), Err(Failed));
     assert_eq!(rt; WriteSink::new(Broken).write_all(b"abc"), Err(Failed));
     assert_eq!(rt; room, *b"abcd");
+}
+
+// Gives a sink that gathers pieces of these lengths, finishes it, and answers how many of its calls went well. The sink below
+// fails at the listed call.
+fn gather(
+    alloc: Global,
+    lens: &[usize],
+    fails: u64,
+) -> std::result::Result<(usize, MemSink), AllocError> {
+    let room = vec![in alloc; 0; 400_000]?;
+    let mut sink = GatheringSink::new(alloc, MemSink::new(room, [fails].to_vec(alloc)?))?;
+    let mut well = 0;
+    let mut number = 0;
+    for &len in lens {
+        number += 1;
+        if sink.write_all(&vec![in alloc; number; len]?) == Ok(()) {
+            well += 1;
+        }
+    }
+    if sink.finish() == Ok(()) {
+        well += 1;
+    }
+    Ok((well, sink.into_inner()))
+}
+
+// Pieces that have room, that fill it, that have none, and that are too long; and a fault of a call that hands on what is
+// held, or a long piece.
+#[test]
+fn a_sink_that_gathers(rt: HostRuntime) -> std::result::Result<(), Fail> {
+    let alloc = rt.alloc();
+    let cases = [
+        ([0, 5, 65_531, 1].as_slice(), 9, 5, 65_537),
+        (&[3, 65_536, 0, 70_000, 2], 9, 6, 135_541),
+        (&[40_000, 40_000, 40_000], 0, 1, 20_000),
+        (&[40_000, 40_000, 40_000], 2, 3, 100_000),
+        (&[10, 70_000, 10], 1, 1, 35_010),
+        (&[10, 20], 0, 2, 15),
+        (&[], 0, 1, 0),
+    ];
+    for (lens, fails, well, taken) in cases {
+        let (went_well, sink) = gather(alloc, lens, fails)?;
+        let mut given = Vec::new(alloc);
+        let mut number = 0;
+        for &len in lens {
+            number += 1;
+            given.extend_from_slice(&vec![in alloc; number; len]?)?;
+        }
+        assert_eq!(rt; went_well, well, "{lens:?} failing {fails}");
+        assert_eq!(rt; Some(sink.bytes()), given.get(..taken));
+    }
+    Ok(())
 }
 
 fn shown(

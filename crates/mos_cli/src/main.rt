@@ -2,7 +2,7 @@
 #![tactic(auto)]
 
 use mos_bytes::{FolderShelf, ReadSource, WriteSink};
-use mos_run::{RunError, refuse, run_mos};
+use mos_run::{RunError, refuse, run_gathered};
 use native_filters::{
     Native, NativeBook, has_differing_bytes, has_system_port, is_ending, is_keep_alive, is_opening,
     is_private_traffic,
@@ -22,7 +22,7 @@ fn words_refusal(error: &io::Error) -> RunError {
 fn main(rt: HostRuntime) -> ExitCode {
     let alloc = rt.alloc();
     let mut capture = ReadSource::new(rt.stdin());
-    let mut out = WriteSink::new(rt.stdout());
+    let out = WriteSink::new(rt.stdout());
     let mut err = WriteSink::new(rt.stderr());
     let natives = NativeBook::new(
         Native::new(0, is_opening),
@@ -35,15 +35,18 @@ fn main(rt: HostRuntime) -> ExitCode {
     let words = words(&rt);
     let mut shelf = FolderShelf::new(rt);
     let ended = match words {
-        Ok(words) => run_mos(
-            alloc,
-            words.as_slice(),
-            &mut capture,
-            &mut shelf,
-            &mut out,
-            &mut err,
-            &natives,
-        ),
+        Ok(words) => {
+            run_gathered(
+                alloc,
+                words.as_slice(),
+                &mut capture,
+                &mut shelf,
+                out,
+                &mut err,
+                &natives,
+            )
+            .ended
+        }
         Err(error) => refuse(alloc, &mut err, words_refusal(&error)),
     };
     ExitCode::from(ended.status)

@@ -114,11 +114,11 @@ module _ (app : Meaning) (script : List Stamped) (output : Output) (frames : Lis
         written = Appends-trans before mid after _ _ first last;
       })
 
-  not-empty : (xs ys : List ℕ) → ys ≢ [] → xs ++ ys ≢ []
+  pub not-empty : (xs ys : List ℕ) → ys ≢ [] → xs ++ ys ≢ []
   not-empty [] ys some = some
   not-empty (x ∷ xs) ys some = λ none. cc
 
-  text-of : (o : Output) (header : List ℕ) (items : List Record) (totals : Totals) → is_forward o ≡ false → closing o items totals ≢ []
+  pub text-of : (o : Output) (header : List ℕ) (items : List Record) (totals : Totals) → is_forward o ≡ false → closing o items totals ≢ []
   unfolding report_text summary_text totals_line
   text-of Report header items totals kept = not-empty (records_text items) (totals_line totals) (λ none. cc)
   text-of Forward header items totals kept = absurd (cc)

@@ -7,3 +7,4 @@ pub mod Replaying
 pub mod Refusals
 pub mod Scripts
 pub mod Outcomes
+pub mod Below

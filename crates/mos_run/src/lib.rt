@@ -3,6 +3,7 @@
 
 mod advance;
 mod close;
+mod gathered;
 pub mod output;
 pub mod refusal;
 mod replay;
@@ -13,6 +14,7 @@ mod summary;
 mod telling;
 pub mod versions;
 
+pub use gathered::{GatheredRun, run_gathered};
 pub use output::Output;
 pub use refusal::{RunError, ScriptFault};
 pub use run::{Ended, refuse, run_mos};

@@ -4,7 +4,7 @@ mod captures;
 mod limits;
 mod web_request;
 
-use crate::{Ended, RunError, ScriptFault, refuse, run_mos};
+use crate::{Ended, RunError, ScriptFault, refuse, run_gathered, run_mos};
 use captures::{
     ACK, ARP, BAD, BIG, BIG_NANOSECONDS, DATA, FRAGMENT, LITTLE, LITTLE_NANOSECONDS, SYN, SYN_ACK,
     TAGGED, capture, damaged, empty_records, handshake, one_record, segment,
@@ -173,6 +173,36 @@ fn run_asked(alloc: Global, bytes: Vec<u8>, asked: &Asked<'_>) -> Result<Finishe
     let mut err = sink(alloc, 160, 9)?;
     let ended = run_plain(alloc, &words, &mut source, &mut shelf, &mut out, &mut err);
     Ok(Finished { ended, out, err })
+}
+
+// The same by the call that gathers what is written.
+fn run_gathering(alloc: Global, bytes: Vec<u8>, asked: &Asked<'_>) -> Result<Finished, AllocError> {
+    let natives = NativeBook::new(
+        Native::new(0, is_opening),
+        Native::new(1, has_system_port),
+        Native::new(2, is_private_traffic),
+        Native::new(3, is_keep_alive),
+        Native::new(4, is_ending),
+        Native::new(5, has_differing_bytes),
+    );
+    let words = words_of(alloc, asked.words)?;
+    let mut source = MemSource::new(bytes, [asked.read].to_vec(alloc)?);
+    let mut shelf = shelf(alloc, asked.scripts, asked.fetch)?;
+    let mut err = sink(alloc, 160, 9)?;
+    let run = run_gathered(
+        alloc,
+        &words,
+        &mut source,
+        &mut shelf,
+        sink(alloc, 1024, asked.write)?,
+        &mut err,
+        &natives,
+    );
+    Ok(Finished {
+        ended: run.ended,
+        out: run.out,
+        err,
+    })
 }
 
 // A run without words whose read and write of these numbers fail.
@@ -407,6 +437,51 @@ fn a_write_that_fails(rt: HostRuntime) -> Result<(), Fail> {
     }
     let run = run_failing(alloc, handshake(alloc)?, u64::MAX, 8)?;
     assert_eq!(rt; run.ended.status, 0);
+    Ok(())
+}
+
+// A report is written by one call, the first or none; a forwarded capture by one for each piece, of which the second is the
+// head of the first packet.
+#[test]
+fn a_gathered_output(rt: HostRuntime) -> Result<(), Fail> {
+    let alloc = rt.alloc();
+    let capture = handshake(alloc)?;
+    let rows: [(&str, u64, u8, &[u8], Option<&[u8]>); 6] = [
+        ("", 1, 0, b"", Some(HANDSHAKE)),
+        (
+            "",
+            0,
+            5,
+            b"mos: write fault\n",
+            HANDSHAKE.get(..HANDSHAKE.len() / 2),
+        ),
+        ("--emit forward", 9, 0, b"", Some(capture.as_slice())),
+        (
+            "--emit forward",
+            1,
+            5,
+            b"mos: write fault\n",
+            capture.get(..32),
+        ),
+        ("--script gone", 0, 4, b"mos: read fault\n", Some(b"")),
+        (
+            "--make 1",
+            1,
+            0,
+            b"",
+            Some(
+                b"made 1 packets 10 bytes 1088\nend packets 10 records 1 callbacks 20 drops 0 tail 0\n",
+            ),
+        ),
+    ];
+    for (words, write, status, text, written) in rows {
+        let mut ask = undisturbed(words, &[]);
+        ask.write = write;
+        let run = run_gathering(alloc, capture.as_slice().to_vec(alloc)?, &ask)?;
+        assert_eq!(rt; run.ended.status, status, "{words}");
+        assert_eq!(rt; run.err.bytes(), text, "{words}");
+        assert_eq!(rt; Some(run.out.bytes()), written, "{words}");
+    }
     Ok(())
 }
 

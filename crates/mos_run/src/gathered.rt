@@ -1,0 +1,113 @@
+//! The top call over an output of which each call costs much, as a file or a pipe.
+
+ghost use Rattle.std.specs.Prelude.{◌≡◌, ◌≢◌, ◌⊎◌, ◌≤◌, [], false, map, Some, None, IsOk, IsTrue, string_bytes};
+ghost use Rattle.mos_bytes.specs.Causes.{Rose, HasCauseOf};
+ghost use Rattle.mos_bytes.specs.Writes.{AppendsFront};
+ghost use Rattle.words.specs.Words.{words_settings};
+ghost use Rattle.mos_run.specs.Outcome.{Outcome};
+ghost use Rattle.mos_run.specs.Told.{told};
+ghost use Rattle.mos_run.specs.Run.{Finishes, EndsAs, Tells, ComesBefore, NamesNone, Makes, ReadsCapture, WritesAtEnd, forwards};
+
+use crate::output::output_of;
+use crate::refusal::RunError;
+use crate::run::{Ended, refuse, run_mos};
+use mos_bytes::{GatheringSink, Shelf, Sink, Source};
+use native_filters::NativeBook;
+use std::alloc::{AllocFailed, Global};
+use words::read_words;
+
+/// How a run ended, and the output that it was given.
+#[derive(Drop)]
+pub struct GatheredRun<O> {
+    pub ended: Ended,
+    pub out: O,
+}
+
+// Whether the words are accepted and ask for what is written at the end. It answers no where there is no memory to tell.
+fn writes_at_end(alloc: Global, words: &[String]) -> bool
+    ensures { IsTrue result → WritesAtEnd (map string_bytes words.now) }
+{
+    match read_words(alloc, words) {
+        Ok(settings) => !output_of(&settings).is_forward(),
+        Err(_) => false,
+    }
+}
+
+/// Runs as `run_mos` does, and gives the output back. A report or a summary, which is written line by line at the end, is
+/// gathered, so that `out` is called once for some 65,536 bytes. A forwarded capture isn't: its packets are for a reader who waits for
+/// them while more of the capture comes in.
+///
+/// Each clause is that of `run_mos`, and speaks of `out` itself: at status 0 it has taken all, and nothing is held back. Where it
+/// fails in the last call, that is status 5 in place of 0; any other status stays. Memory for what is gathered may be refused:
+/// status 6.
+pub fn run_gathered<S: Source, H: Shelf, O: Sink, E: Sink>(
+    alloc: Global,
+    words: &[String],
+    capture: &mut S,
+    shelf: &mut H,
+    out: O,
+    err: &mut E,
+    natives: &NativeBook,
+) -> GatheredRun<O>
+    // On status 0 exactly the text of the run's outcome was added to out, under the versions answered.
+    ensures done { result.ended.status ≡ 0 → (o : Outcome) → told (map string_bytes words.now) (H.content shelf.old) (S.left capture.old) ≡ Some o
+        → Finishes o result.ended.versions (O.taken out) (O.taken result.out) }
+    ensures read { result.ended.status ≡ 0 → ReadsCapture (map string_bytes words.now) (S.left capture.old) (S.left capture.new) }
+
+    // Every other status has its cause; only want of memory has none.
+    ensures ends { (o : Outcome) → told (map string_bytes words.now) (H.content shelf.old) (S.left capture.old) ≡ Some o → EndsAs o result.ended.status }
+    ensures usage { words_settings (map string_bytes words.now) ≡ None → ((result.ended.status ≡ 1) ⊎ (result.ended.status ≡ 6))
+        × (capture.new ≡ capture.old) × (shelf.new ≡ shelf.old) × (result.out ≡ out) }
+    ensures only_usage { result.ended.status ≡ 1 → words_settings (map string_bytes words.now) ≡ None }
+    ensures read_fault { result.ended.status ≡ 4 → Rose (S.faults capture.old) (S.faults capture.new) ⊎ Rose (H.faults shelf.old) (H.faults shelf.new) }
+    ensures write_fault { HasCauseOf (O.faults out) (O.faults result.out) (result.ended.status ≡ 5) }
+    ensures capture_counts { S.faults capture.old ≤ S.faults capture.new }
+    ensures shelf_counts { H.faults shelf.old ≤ H.faults shelf.new }
+
+    // What isn't touched.
+    ensures unread { (result.ended.status ≡ 1) ⊎ (result.ended.status ≡ 2) → capture.new ≡ capture.old }
+    ensures made { Makes (map string_bytes words.now) → capture.new ≡ capture.old }
+    ensures unasked { NamesNone (map string_bytes words.now) → (shelf.new ≡ shelf.old) × (result.ended.status ≢ 2) }
+
+    // What is written where the output isn't whole.
+    ensures silent { forwards (words_settings (map string_bytes words.now)) ≡ false → ComesBefore result.ended.status → result.out ≡ out }
+    ensures front { (o : Outcome) → told (map string_bytes words.now) (H.content shelf.old) (S.left capture.old) ≡ Some o
+        → AppendsFront (O.taken out) (O.taken result.out) o.text }
+    ensures no_versions { result.ended.status ≢ 0 → result.ended.versions ≡ [] }
+
+    // What is told on err.
+    ensures told_nothing { result.ended.status ≡ 0 → err.new ≡ err.old }
+    ensures told { result.ended.status ≢ 0 → Tells (told (map string_bytes words.now) (H.content shelf.old) (S.left capture.old)) result.ended.status
+        (E.taken err.old) (E.taken err.new) (E.faults err.old) (E.faults err.new) }
+
+    // What ends well is written whole, or memory is refused, unless the outside fails.
+    ensures complete { (o : Outcome) → told (map string_bytes words.now) (H.content shelf.old) (S.left capture.old) ≡ Some o → IsOk o.ends
+        → ¬ Rose (S.faults capture.old) (S.faults capture.new) → ¬ Rose (H.faults shelf.old) (H.faults shelf.new)
+        → ¬ Rose (O.faults out) (O.faults result.out) → (result.ended.status ≡ 0) ⊎ (result.ended.status ≡ 6) }
+
+    ensures capture_lasts { S.lasting capture.new ≡ S.lasting capture.old }
+    ensures shelf_lasts { H.lasting shelf.new ≡ H.lasting shelf.old }
+    ensures out_lasts { O.lasting result.out ≡ O.lasting out }
+    ensures err_lasts { E.lasting err.new ≡ E.lasting err.old }
+{
+    let mut out = out;
+    if !writes_at_end(alloc, words) {
+        let ended = run_mos(alloc, words, capture, shelf, &mut out, err, natives);
+        return GatheredRun { ended, out };
+    }
+    let mut gathering = match GatheringSink::new(alloc, out) {
+        Ok(gathering) => gathering,
+        Err(AllocFailed { value: out }) => {
+            let ended = refuse(alloc, err, RunError::NoMemory);
+            return GatheredRun { ended, out };
+        }
+    };
+    let ended = run_mos(alloc, words, capture, shelf, &mut gathering, err, natives);
+    let finished = gathering.finish();
+    let out = gathering.into_inner();
+    if ended.status == 0 && finished.is_err() {
+        let ended = refuse(alloc, err, RunError::WriteFault);
+        return GatheredRun { ended, out };
+    }
+    GatheredRun { ended, out }
+}
