@@ -105,16 +105,16 @@ fn gather(
 ) -> std::result::Result<(usize, MemSink), AllocError> {
     let room = vec![in alloc; 0; 400_000]?;
     let mut sink = GatheringSink::new(alloc, MemSink::new(room, [fails].to_vec(alloc)?))?;
-    let mut well = 0;
-    let mut number = 0;
+    let mut well: usize = 0;
+    let mut number: u8 = 0;
     for &len in lens {
-        number += 1;
+        number = number.wrapping_add(1);
         if sink.write_all(&vec![in alloc; number; len]?) == Ok(()) {
-            well += 1;
+            well = well.wrapping_add(1);
         }
     }
     if sink.finish() == Ok(()) {
-        well += 1;
+        well = well.wrapping_add(1);
     }
     Ok((well, sink.into_inner()))
 }
@@ -136,9 +136,9 @@ fn a_sink_that_gathers(rt: HostRuntime) -> std::result::Result<(), Fail> {
     for (lens, fails, well, taken) in cases {
         let (went_well, sink) = gather(alloc, lens, fails)?;
         let mut given = Vec::new(alloc);
-        let mut number = 0;
+        let mut number: u8 = 0;
         for &len in lens {
-            number += 1;
+            number = number.wrapping_add(1);
             given.extend_from_slice(&vec![in alloc; number; len]?)?;
         }
         assert_eq!(rt; went_well, well, "{lens:?} failing {fails}");
