@@ -1,6 +1,6 @@
 -- The floors and ceilings of a script are those of its stamps.
 use Rattle.std.proofs.Common.{◌≡◌, ◌≤◌, ℕ, zero, suc, Bool, true, false, List, [], ◌∷◌, length, refl, ap, ◌∙◌, map, arith, ⊎_elim}
-use Rattle.std.specs.Prelude.{if◌then◌else◌, not, nat_lt, ◌&&◌}
+use Rattle.std.specs.Prelude.{if◌then◌else◌, not, nat_lt}
 use Rattle.std.specs.List.{All, list_all}
 use Rattle.std.proofs.lemmas.Bool.{cases_lt, lt-ltb, and_parts}
 use Rattle.std.proofs.lemmas.List.Elements.{All-nil, All-cons}
