@@ -21,3 +21,4 @@ mod Fitting
 mod Weighing
 mod Dealt
 mod Answered
+mod Scripts

@@ -1,5 +1,5 @@
 -- What lanes come to, by their events.
-use Rattle.std.proofs.Common.{◌≡◌, ◌<◌, ◌≤◌, ◌+◌, ℕ, cond, List, [], ◌∷◌, ◌++◌, length, refl, sym, ap, ◌∙◌, subst, map, arith, ⊎_elim, append_assoc}
+use Rattle.std.proofs.Common.{◌≡◌, ◌<◌, ◌≤◌, ◌+◌, ℕ, cond, List, [], ◌∷◌, ◌++◌, length, refl, sym, ap, ◌∙◌, subst, map, arith, ⊎_elim, append_assoc, append-nil}
 use Rattle.std.specs.List.{All}
 use Rattle.std.proofs.lemmas.List.{get_or_past, length_push}
 use Rattle.std.proofs.lemmas.Bool.{cases_lt, ne_eqb}
@@ -19,6 +19,30 @@ use Rattle.worker_laws.specs.Rising.{NeverFalls}
 use Rattle.worker_laws.specs.Allowed.{arrivals_of, IsWithin, AreStamped}
 use Rattle.worker_laws.specs.Whole.{in_force, verdicts_from}
 use Rattle.worker_laws.specs.Taken.{events_at, packets_at, HaveRun, HaveRunAll, verdicts_behind, verdicts_in}
+
+-- ---- events and then others
+
+pub commands_follow : (es more : List LaneEvent) → commands_of (es ++ more) ≡ commands_of es ++ commands_of more
+commands_follow [] more = refl
+commands_follow (Gave c ∷ es) more = ap (λ cs. c ∷ cs) (commands_follow es more)
+commands_follow (Arrived a ∷ es) more = commands_follow es more
+
+pub packets_follow : (v : ℕ) (es more : List LaneEvent) → versioned_from v (es ++ more) ≡ versioned_from v es ++ versioned_from (v + length (commands_of es)) more
+packets_follow v [] more = let same : v ≡ v + length (commands_of []) = omega arith in ap (λ n. versioned_from n more) same
+packets_follow v (Gave c ∷ es) more =
+    let same : (v + 1) + length (commands_of es) ≡ v + length (commands_of (Gave c ∷ es)) = omega arith in
+    packets_follow (v + 1) es more ∙ ap (λ n. versioned_from (v + 1) es ++ versioned_from n more) same
+packets_follow v (Arrived a ∷ es) more = ap (λ ps. record { version = v; arrival = a } ∷ ps) (packets_follow v es more)
+
+pub verdicts_follow : (app : Meaning) (before es more : List LaneEvent) → verdicts_behind app before (es ++ more) ≡ verdicts_behind app before es ++ verdicts_behind app (before ++ es) more
+verdicts_follow app before [] more = ap (λ x. verdicts_behind app x more) (sym (append-nil before))
+verdicts_follow app before (Gave c ∷ es) more =
+    verdicts_follow app (with_event (Gave c) before) es more
+    ∙ ap (λ x. verdicts_behind app (with_event (Gave c) before) es ++ verdicts_behind app x more) (append_assoc before (Gave c ∷ []) es)
+verdicts_follow app before (Arrived a ∷ es) more =
+    ap (λ js. (a, next_verdict app before a) ∷ js)
+    (verdicts_follow app (with_event (Arrived a) before) es more
+    ∙ ap (λ x. verdicts_behind app (with_event (Arrived a) before) es ++ verdicts_behind app x more) (append_assoc before (Arrived a ∷ []) es))
 
 -- ---- versions never fall along events
 

@@ -1,7 +1,7 @@
 //! Laws that tie what lanes come to with one run over all packets, in the words of `lane_core`. These functions do
 //! nothing: who joins lanes calls them for what they say.
 
-ghost use Rattle.std.specs.Prelude.{◌≡◌, ◌≤◌, ◌<◌, ◌-◌, ◌^◌, ◌++◌, min, ℕ, Bool, List, [], length, map, true};
+ghost use Rattle.std.specs.Prelude.{◌≡◌, ◌≤◌, ◌<◌, ◌+◌, ◌-◌, ◌^◌, ◌++◌, min, ℕ, Bool, List, [], length, map, true};
 ghost use mathlib.Core.List.{IsPrefix};
 ghost use Rattle.pcap_source.specs.Captured.{Captured};
 ghost use Rattle.flow_table.specs.Key.{EndpointPair};
@@ -9,7 +9,7 @@ ghost use Rattle.app_api.specs.App.{Meaning};
 ghost use Rattle.forest_versions.specs.declared.command.Command.{Command};
 ghost use Rattle.lane_core.specs.Sight.{Arrival, arrivals};
 ghost use Rattle.lane_core.specs.Records.{RecordSoFar, VersionedPacket, records, versioned};
-ghost use Rattle.lane_core.specs.Run.{LaneEvent};
+ghost use Rattle.lane_core.specs.Run.{LaneEvent, commands_of, versioned_from};
 ghost use Rattle.lane_core.specs.Shown.{weight, callbacks_of, drops_of};
 ghost use Rattle.lane_core.specs.Lane.{IsHeavy, shown};
 ghost use Rattle.worker_laws.specs.Rising.{Rises};
@@ -17,13 +17,26 @@ ghost use Rattle.worker_laws.specs.Allowed.{arrivals_of};
 ghost use Rattle.worker_laws.specs.Judged.{judged};
 ghost use Rattle.worker_laws.specs.Histories.{judge_by};
 ghost use Rattle.worker_laws.specs.Whole.{in_force, over_under, packets_under, run_under, verdicts_from, verdicts_under, IsAllowedRun};
-ghost use Rattle.worker_laws.specs.Taken.{events_at, HaveRun, HaveRunAll, AreOneRun, AreFrontsOfRun};
+ghost use Rattle.worker_laws.specs.Taken.{events_at, verdicts_behind, HaveRun, HaveRunAll, AreOneRun, AreFrontsOfRun};
 ghost use Rattle.worker_laws.specs.Streamed.{AreNumbered};
 ghost use Rattle.worker_laws.specs.Weight.{weight_in};
 
 use lane_core::laws::{
     last_packet_is_added, later_commands_change_none, one_event_more, weight_never_falls,
 };
+
+/// Events of a lane and then others: their commands, their packets, each behind as many commands, and what became of
+/// these when they came.
+pub fn events_follow_events()
+    ensures commands { (events more : List LaneEvent)
+        → commands_of (events ++ more) ≡ commands_of events ++ commands_of more }
+    ensures packets { (v : ℕ) (events more : List LaneEvent)
+        → versioned_from v (events ++ more)
+        ≡ versioned_from v events ++ versioned_from (v + length (commands_of events)) more }
+    ensures verdicts { (app : Meaning) (before events more : List LaneEvent)
+        → verdicts_behind app before (events ++ more)
+        ≡ verdicts_behind app before events ++ verdicts_behind app (before ++ events) more }
+{}
 
 /// Lanes that have run their whole shares: under one list of versions, which is allowed, each lane's records and
 /// verdicts are its part of those of one run over all packets.

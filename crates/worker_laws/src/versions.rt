@@ -1,10 +1,13 @@
 //! Laws on the versions of records. These functions do nothing: who joins lanes calls them for what they say.
 
-ghost use Rattle.std.specs.Prelude.{◌≡◌, ◌≤◌, ◌++◌, ℕ, Bool, List, map, false};
-ghost use Rattle.std.specs.List.{All};
+ghost use Rattle.std.specs.Prelude.{◌≡◌, ◌≤◌, ◌++◌, ℕ, Bool, List, length, map, false, not, IsTrue};
+ghost use Rattle.std.specs.List.{All, list_all};
 ghost use Rattle.flow_table.specs.Key.{EndpointPair};
 ghost use Rattle.app_api.specs.declared.reaction.Verdict.{Verdict};
 ghost use Rattle.forest_versions.specs.declared.command.Stamp.{Stamp};
+ghost use Rattle.control_script.specs.declared.stamped.Stamped.{Stamped};
+ghost use Rattle.control_script.specs.Order.{are_in_order};
+ghost use Rattle.control_script.specs.Versions.{floor as script_floor, ceil as script_ceil, is_live as is_live_in};
 ghost use Rattle.lane_core.specs.Sight.{Arrival};
 ghost use Rattle.lane_core.specs.Records.{VersionedPacket, versioned};
 ghost use Rattle.worker_laws.specs.Members.{records};
@@ -73,4 +76,14 @@ pub fn stamps_give_floors_and_ceilings()
     ensures equal { (stamps : List Stamp) (n : ℕ) → NeverFalls (named_packets stamps)
         → All (λ s. is_live s ≡ false) stamps
         → floor stamps n ≡ ceil stamps n }
+{}
+
+/// The same of the floors and ceilings of a script, whose stamps are in order.
+pub fn a_script_gives_floors_and_ceilings()
+    ensures within { (script : List Stamped) (n : ℕ) → IsTrue (are_in_order script)
+        → script_floor script n ≤ script_ceil script n }
+    ensures rises { (script : List Stamped) (n m : ℕ) → n ≤ m → script_ceil script n ≤ script_ceil script m }
+    ensures equal { (script : List Stamped) (n : ℕ) → IsTrue (are_in_order script)
+        → IsTrue (list_all (λ s. not (is_live_in s.stamp)) script) → script_floor script n ≡ script_ceil script n }
+    ensures count { (script : List Stamped) (n : ℕ) → script_ceil script n ≤ length script }
 {}
