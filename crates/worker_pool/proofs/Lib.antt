@@ -1,0 +1,8 @@
+mod Fronts
+mod Rings
+mod Commands
+mod Stepping
+mod Going
+mod Composed
+mod Advancing
+mod Turns

@@ -1,0 +1,13 @@
+//! Workers: each runs a lane in a thread of its own, fed by a ring of packets and a ring of places in the script.
+#![tactic(auto)]
+
+mod ends;
+mod gate;
+mod places;
+#[cfg(test)]
+mod tests;
+mod turn;
+mod worker;
+
+pub use gate::{Gate, OpenGate};
+pub use worker::{Worker, work};
