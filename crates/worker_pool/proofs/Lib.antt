@@ -6,3 +6,4 @@ mod Going
 mod Composed
 mod Advancing
 mod Turns
+mod Serving

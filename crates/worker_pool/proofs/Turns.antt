@@ -21,6 +21,9 @@ use Rattle.worker_pool.specs.Turning.{Advanced, Turned}
 use Rattle.worker_pool.proofs.Fronts.{IsPrefix-refl}
 use Rattle.worker_pool.proofs.Stepping.{events-append, events-took, given_by, given-took, last-took, within-took, answers-took, answers-took-then}
 
+pub err_or_ok : {T E : Type 0} (r : Result T E) (e : E) (v : T) → r ≡ Err e → r ≡ Ok v → ⊥
+err_or_ok r e v bad ok = cc
+
 module _ {L : Type 0} (g : Ghosts L) (script : List Command) (a : L) (from : RingRx ℕ) (p : Packet) (fit : fits (length script) (g.last a) (g.given a) p ≡ true) where
   abbrev turn : List Command → List Turn
   turn cs = record { packet = p; commands = cs } ∷ []
@@ -53,8 +56,8 @@ module _ {L : Type 0} (g : Ghosts L) (script : List Command) (a : L) (from : Rin
       heavy = λ is. absurd (adv.light is);
     }
 
-    pub turned_back : (r : Result Verdict LaneError) → r ≡ Err e → Turned g script a b from to p r
-    turned_back r is = record {
+    pub turned_back : (r : Result Verdict LaneError) → ((v : Verdict) → r ≡ Ok v → ⊥) → Turned g script a b from to p r
+    turned_back r none = record {
       turn = adv.done ++ adv.bad;
       done = map Took adv.done;
       bad = map Took adv.bad;
@@ -62,7 +65,7 @@ module _ {L : Type 0} (g : Ghosts L) (script : List Command) (a : L) (from : Rin
       took = adv.took;
       went = went_back;
       of_places = λ ok. absurd (cc);
-      answered = λ v ok. absurd (cc);
+      answered = λ v ok. absurd (none v ok);
       silent = λ error bad events s. answers-took (g.app a) events adv.done;
     }
 
