@@ -61,14 +61,14 @@ module _ {L : Type 0} (g : Ghosts L) (script : List Command) where
     stayed = λ bad. refl;
     silent = λ bad. sends_none a.answers;
     ran = λ well. record {
-        turns = [];
-        done = [];
-        bad = [];
-        of_packets = refl;
-        went = went_none (at_hand g a) a.lane well;
-        of_places = λ ok. refl;
-        answers = λ events s. sends_none a.answers;
-      };
+      turns = [];
+      done = [];
+      bad = [];
+      of_packets = refl;
+      went = went_none (at_hand g a) a.lane well;
+      of_places = λ ok. refl;
+      answers = λ events s. sends_none a.answers;
+    };
   }
 
   -- a packet was taken out of the ring and taken up
@@ -85,14 +85,14 @@ module _ {L : Type 0} (g : Ghosts L) (script : List Command) where
     stayed = up.stayed;
     silent = up.silent;
     ran = λ well. let r = up.ran well in record {
-        turns = r.turns;
-        done = r.done;
-        bad = r.bad;
-        of_packets = r.of_packets;
-        went = r.went;
-        of_places = r.of_places;
-        answers = r.answers;
-      };
+      turns = r.turns;
+      done = r.done;
+      bad = r.bad;
+      of_packets = r.of_packets;
+      went = r.went;
+      of_places = r.of_places;
+      answers = r.answers;
+    };
   }
 
   module _ (a b c : Worker L) (p : Worked g script a b) (q : Worked g script b c) where

@@ -64,26 +64,26 @@ module _ {L : Type 0} (g : Ghosts L) (script : List Command) where
       stayed = λ bad. refl;
       silent = λ bad. sends_none a.answers;
       ran = λ ok. record {
-          turns = record { packet = p; commands = [] } ∷ [];
-          done = [];
-          bad = [];
-          of_packets = refl;
-          went = record {
-            stands = λ events s. subst (g.stands a.lane) (sym (append-nil events)) s;
-            commands = (drop (g.given a.lane) script, refl);
-            within = tt;
-            newest = refl;
-            good = λ is. refl;
-            whole = λ is. sym (ap (λ (b : Bool). if b then Handed p ∷ [] else []) unfit);
-            version = λ is. omega arith;
-            one = λ bad. absurd (bad well);
-            front = λ bad. absurd (bad well);
-            keeping = λ is. absurd (cc);
-            heavy = λ is. absurd (cc);
-          };
-          of_places = λ is. refl;
-          answers = λ events s. sends_none a.answers;
+        turns = record { packet = p; commands = [] } ∷ [];
+        done = [];
+        bad = [];
+        of_packets = refl;
+        went = record {
+          stands = λ events s. subst (g.stands a.lane) (sym (append-nil events)) s;
+          commands = (drop (g.given a.lane) script, refl);
+          within = tt;
+          newest = refl;
+          good = λ is. refl;
+          whole = λ is. sym (ap (λ (b : Bool). if b then Handed p ∷ [] else []) unfit);
+          version = λ is. omega arith;
+          one = λ bad. absurd (bad well);
+          front = λ bad. absurd (bad well);
+          keeping = λ is. absurd (cc);
+          heavy = λ is. absurd (cc);
         };
+        of_places = λ is. refl;
+        answers = λ events s. sends_none a.answers;
+      };
     }
 
     -- a lane that had failed takes nothing
@@ -129,14 +129,14 @@ module _ {L : Type 0} (g : Ghosts L) (script : List Command) where
         stayed = λ bad. absurd (bad well);
         silent = λ bad. absurd (bad well);
         ran = λ ok. record {
-            turns = record { packet = p; commands = t.turn } ∷ [];
-            done = t.done;
-            bad = t.bad;
-            of_packets = refl;
-            went = t.went;
-            of_places = t.of_places;
-            answers = λ events s. subst (Sends a.answers answers) (sym (t.answered v refl events s)) sends;
-          };
+          turns = record { packet = p; commands = t.turn } ∷ [];
+          done = t.done;
+          bad = t.bad;
+          of_packets = refl;
+          went = t.went;
+          of_places = t.of_places;
+          answers = λ events s. subst (Sends a.answers answers) (sym (t.answered v refl events s)) sends;
+        };
       }
 
       pub unanswered : (e : LaneError) → Turned g script a.lane lane a.commands ring p (Err e) → TookUp g script a (record a { lane = lane; commands = ring }) p
@@ -151,12 +151,12 @@ module _ {L : Type 0} (g : Ghosts L) (script : List Command) where
         stayed = λ bad. absurd (bad well);
         silent = λ bad. absurd (bad well);
         ran = λ ok. record {
-            turns = record { packet = p; commands = t.turn } ∷ [];
-            done = t.done;
-            bad = t.bad;
-            of_packets = refl;
-            went = t.went;
-            of_places = t.of_places;
-            answers = λ events s. subst (Sends a.answers a.answers) (sym (t.silent e refl events s)) (sends_none a.answers);
-          };
+          turns = record { packet = p; commands = t.turn } ∷ [];
+          done = t.done;
+          bad = t.bad;
+          of_packets = refl;
+          went = t.went;
+          of_places = t.of_places;
+          answers = λ events s. subst (Sends a.answers a.answers) (sym (t.silent e refl events s)) (sends_none a.answers);
+        };
       }

@@ -15,12 +15,10 @@ use app_api::{LogApp, Reason, Reg, Verdict, presets_of};
 use control_script::{Script, ScriptError, parse_script};
 use failing::Failing;
 use lane_core::{Lane, Recorder};
-use lane_rings::{
-    AnswerRx, CommandTx, Packet, PacketTx, answer_ring, command_ring, packet_ring,
-};
+use lane_rings::{AnswerRx, CommandTx, Packet, PacketTx, answer_ring, command_ring, packet_ring};
 use native_filters::{
-    Native, NativeBook, has_differing_bytes, has_system_port, is_ending, is_keep_alive,
-    is_opening, is_private_traffic,
+    Native, NativeBook, has_differing_bytes, has_system_port, is_ending, is_keep_alive, is_opening,
+    is_private_traffic,
 };
 use pcap_source::Frame;
 use shared_forest::{ForestStore, StoreUser, Table};
@@ -49,12 +47,13 @@ struct Ends {
     answers: AnswerRx,
 }
 
+#[derive(Drop)]
 struct Flags {
     stop: AtomicBool,
     failed: AtomicBool,
 }
 
-fn flags(stop: bool) -> Flags {
+fn new_flags(stop: bool) -> Flags {
     Flags {
         stop: AtomicBool::new(stop),
         failed: AtomicBool::new(false),
@@ -143,7 +142,13 @@ fn work_plainly<R: Wait, L: Recorder + Drop>(
 }
 
 // Sends the first packet of a connection of its own, if there is room.
-fn send(ends: &mut Ends, alloc: Global, index: u64, floor: u32, ceil: u32) -> Result<(), AllocError> {
+fn send(
+    ends: &mut Ends,
+    alloc: Global,
+    index: u64,
+    floor: u32,
+    ceil: u32,
+) -> Result<(), AllocError> {
     let mut bytes = SYN;
     bytes[35] = bytes[35].wrapping_add((index % 256) as u8);
     let mut frame = Frame::new(alloc);
@@ -181,7 +186,15 @@ fn feed<R: Wait>(rt: &R, alloc: Global, ends: Ends, script: &Script, stop: &Atom
             break;
         }
         for index in 4 * block..4 * block + 4 {
-            if send(&mut ends, alloc, index, script.floor(index), script.ceil(index)).is_err() {
+            if send(
+                &mut ends,
+                alloc,
+                index,
+                script.floor(index),
+                script.ceil(index),
+            )
+            .is_err()
+            {
                 break;
             }
         }
@@ -216,7 +229,7 @@ fn work_beside<R: Threads + Wait + Sync, L: Recorder + Drop + Send>(
     requires lawful { IsTrue (are_lawful (start (L.app lane).presets) (commands_of script.now)) }
 {
     let (w, ends) = worker(alloc, lane, script, 4)?;
-    let flags = flags(false);
+    let flags = new_flags(false);
     let flags = &flags;
     let (w, right) = thread::join(
         rt,
@@ -285,7 +298,7 @@ fn work_twice<R: Wait, L: Recorder + Drop>(
 fn packets_that_fit_are_answered_and_places_are_left(rt: HostRuntime) -> Result<(), Fail> {
     let alloc = rt.alloc();
     let lane = Lane::new(alloc, LogApp, Table::new(alloc), true)?;
-    let flags = flags(true);
+    let flags = new_flags(true);
     let (first, second) = work_twice(&rt, alloc, lane, &script(alloc)?, &flags)?;
     assert_eq!(rt; first, ([1, 3, 0], 1));
     assert_eq!(rt; second, ([7, 0, 0], 2));
@@ -302,7 +315,7 @@ fn a_lane_that_failed_answers_nothing(rt: HostRuntime) -> Result<(), Fail> {
         at: 3,
         has_failed: false,
     };
-    let flags = flags(true);
+    let flags = new_flags(true);
     let (first, second) = work_twice(&rt, alloc, lane, &script(alloc)?, &flags)?;
     assert_eq!(rt; first, ([1, 0, 0], 1));
     assert_eq!(rt; second, ([0, 0, 0], 1));

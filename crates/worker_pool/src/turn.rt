@@ -60,14 +60,6 @@ pub(crate) fn hand_over<R: Wait, L: Recorder>(
     ensures app { L.app lane.new ≡ L.app lane.old }
     ensures keeps { L.keeps lane.new ≡ L.keeps lane.old }
 {
-    take_places(
-        rt,
-        alloc,
-        lane,
-        commands,
-        script,
-        packet.floor,
-        packet.ceil,
-    )?;
+    take_places(rt, alloc, lane, commands, script, packet.floor, packet.ceil)?;
     lane.packet(alloc, packet.index, &packet.frame, natives)
 }

@@ -1,7 +1,7 @@
 //! A lane that fails for want of memory at a packet.
 
-use forest_versions::{Command, Control};
 use app_api::Verdict;
+use forest_versions::{Command, Control};
 use lane_core::{LaneEnd, LaneError, Recorder};
 use native_filters::NativeBook;
 use pcap_source::Frame;
