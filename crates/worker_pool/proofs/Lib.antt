@@ -7,3 +7,4 @@ mod Composed
 mod Advancing
 mod Turns
 mod Serving
+mod Beside

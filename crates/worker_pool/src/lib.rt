@@ -3,6 +3,7 @@
 
 mod ends;
 mod gate;
+mod left;
 mod places;
 #[cfg(test)]
 mod tests;
@@ -10,4 +11,5 @@ mod turn;
 mod worker;
 
 pub use gate::{Gate, OpenGate};
+pub use left::work_off;
 pub use worker::{Worker, work};

@@ -1,4 +1,4 @@
-//! A worker in a thread of its own, and workers that find all in their rings.
+//! A worker that is fed from another thread, and workers that find all in their rings.
 
 mod failing;
 
@@ -216,8 +216,8 @@ fn feed<R: Wait>(rt: &R, alloc: Global, ends: Ends, script: &Script, stop: &Atom
     right
 }
 
-// Has a worker work in a thread, and feeds it from another one.
-fn work_beside<R: Threads + Wait + Sync, L: Recorder + Drop + Send>(
+// Works in this thread, and is fed from another one.
+fn work_beside<R: Threads + Wait + Sync, L: Recorder + Drop>(
     rt: &R,
     alloc: Global,
     lane: L,
@@ -231,18 +231,18 @@ fn work_beside<R: Threads + Wait + Sync, L: Recorder + Drop + Send>(
     let (w, ends) = worker(alloc, lane, script, 4)?;
     let flags = new_flags(false);
     let flags = &flags;
-    let (w, right) = thread::join(
+    let (right, w) = thread::join(
         rt,
+        move || feed(rt, alloc, ends, script, &flags.stop),
         move || -> Worker<L>
             requires { IsReady L.Recorder (commands_of script.now) w.lane w.commands × IsTrue (are_lawful (start (L.app w.lane).presets) (commands_of script.now)) }
         { work_plainly(rt, alloc, w, script, flags) },
-        move || feed(rt, alloc, ends, script, &flags.stop),
     );
     Ok((w.lane.version(), right))
 }
 
 #[test]
-fn answers_come_back_from_a_thread_in_order(rt: HostRuntime) -> Result<(), Fail> {
+fn answers_come_back_between_threads_in_order(rt: HostRuntime) -> Result<(), Fail> {
     let alloc = rt.alloc();
     let store = Arc::new(alloc, ForestStore::new(alloc)?)?;
     let lane = Lane::new(alloc, LogApp, StoreUser::new(store, rt), true)?;

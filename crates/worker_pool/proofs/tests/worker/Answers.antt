@@ -6,7 +6,7 @@ use Rattle.worker_pool.proofs.tests.worker.Goals as goal
 pub returns-clause-ready : goal.returns-clause-ready
 unfolding control
 returns-clause-ready g c =
-    let none = c.in_ok-command_ring.ensures.taken.0 in
+    let none = c.in_ok-command_tx.ensures.taken.0 in
     record {
       events = [];
       stands = c.requires.stands;
