@@ -1,16 +1,12 @@
 -- What a worker did in one call, and then in another.
-use Rattle.std.proofs.Common.{◌≡◌, ◌≢◌, ℕ, ◌+◌, ◌≤◌, Option, Some, None, List, [], ◌∷◌, ◌++◌, length, map, drop, refl, sym, ap, subst, ◌∙◌, append_assoc, arith}
+use Rattle.std.proofs.Common.{◌≡◌, ◌≢◌, ℕ, ◌≤◌, Option, Some, None, List, [], ◌∷◌, ◌++◌, length, map, drop, refl, sym, ap, subst, ◌∙◌, arith}
 use Rattle.std.proofs.lemmas.List.{append-nil, length-append, map-append}
-use Rattle.app_api.specs.App.{Meaning}
 use Rattle.forest_versions.specs.declared.command.Command.{Command}
 use Rattle.lane_rings.specs.declared.items.Packet.{Packet}
 use Rattle.lane_rings.specs.declared.ring.RingRx.{RingRx}
-use Rattle.lane_rings.specs.Ring.{taken, known}
 use Rattle.lane_core.specs.declared.recorder.Recorder.{Ghosts}
-use Rattle.lane_core.specs.declared.errors.LaneError.{LaneError}
-use Rattle.lane_core.specs.Run.{LaneEvent, commands_of}
 use Rattle.worker_pool.specs.declared.worker.Worker.{Worker}
-use Rattle.worker_pool.specs.Steps.{Step, Turn, steps_of, events_of, answers_of}
+use Rattle.worker_pool.specs.Steps.{Turn, events_of, answers_of}
 use Rattle.worker_pool.specs.Worked.{Takes, Sends, WentOn, Ran, Worked, at_hand}
 use Rattle.worker_pool.specs.Turning.{TookUp}
 use Rattle.worker_pool.proofs.Rings.{takes_none, takes_then, known_kept, SameAnswers-refl, SameAnswers-trans, sends_none, sends_then}

@@ -1,10 +1,10 @@
 -- A lane that goes on, and then further.
-use Rattle.std.proofs.Common.{◌≡◌, ◌≢◌, ℕ, ◌+◌, ◌≤◌, Option, Some, None, List, [], ◌∷◌, ◌++◌, length, map, drop, refl, sym, ap, subst, ◌∙◌, append_assoc, arith}
-use Rattle.std.proofs.lemmas.List.{append-nil, length-append, map-append}
+use Rattle.std.proofs.Common.{◌≡◌, ◌≢◌, ℕ, ◌+◌, ◌≤◌, None, List, ◌++◌, length, drop, refl, sym, ap, subst, ◌∙◌, append_assoc, arith}
+use Rattle.std.proofs.lemmas.List.{append-nil, length-append}
 use mathlib.Core.List.{IsPrefix}
 use Rattle.forest_versions.specs.declared.command.Command.{Command}
 use Rattle.lane_core.specs.declared.recorder.Recorder.{Ghosts}
-use Rattle.lane_core.specs.Run.{LaneEvent, commands_of, last_number}
+use Rattle.lane_core.specs.Run.{LaneEvent, last_number}
 use Rattle.lane_core.specs.Lane.{IsHeavy}
 use Rattle.worker_pool.specs.Steps.{Step, Turn, steps_of, events_of, AreWithin}
 use Rattle.worker_pool.specs.Worked.{WentOn}

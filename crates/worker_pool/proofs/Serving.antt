@@ -1,6 +1,6 @@
 -- A worker that takes up a packet.
-use Rattle.std.proofs.Common.{◌≡◌, ◌≢◌, ℕ, ◌+◌, ◌<◌, ◌≤◌, true, false, Bool, Option, Some, None, List, [], ◌∷◌, ◌++◌, length, map, take, drop, refl, sym, ap, subst, ◌∙◌, append_assoc, arith}
-use Rattle.std.specs.Prelude.{if◌then◌else◌, Result, Ok, Err, IfSome}
+use Rattle.std.proofs.Common.{◌≡◌, ◌≢◌, ℕ, ◌+◌, true, false, Bool, Option, Some, None, List, [], ◌∷◌, ◌++◌, length, take, drop, refl, sym, ap, subst, ◌∙◌, arith}
+use Rattle.std.specs.Prelude.{if◌then◌else◌, Ok, Err, IfSome}
 use Rattle.std.proofs.lemmas.List.{append-nil}
 use mathlib.Core.List.{IsPrefix}
 use Rattle.app_api.specs.declared.reaction.Verdict.{Verdict}
@@ -13,10 +13,9 @@ use Rattle.lane_rings.specs.declared.ring.RingTx.{RingTx}
 use Rattle.lane_rings.specs.Ring.{taken, known}
 use Rattle.lane_core.specs.declared.recorder.Recorder.{Ghosts}
 use Rattle.lane_core.specs.declared.errors.LaneError.{LaneError}
-use Rattle.lane_core.specs.Run.{LaneEvent, commands_of}
 use Rattle.worker_pool.specs.declared.worker.Worker.{Worker}
 use Rattle.worker_pool.specs.Steps.{Handed, fits, events_of, answer_to}
-use Rattle.worker_pool.specs.Worked.{Takes, Sends, IsReady, WentOn, Ran, at_hand}
+use Rattle.worker_pool.specs.Worked.{Takes, Sends, IsReady, Ran}
 use Rattle.worker_pool.specs.Turning.{IsUnder, Turned, TookUp}
 use Rattle.worker_pool.proofs.Commands.{take-two}
 use Rattle.worker_pool.proofs.Rings.{takes_none, taken_more, SameAnswers-refl, sends_none, sends_same}

@@ -1,16 +1,13 @@
 -- Steps behind other steps.
-use Rattle.std.proofs.Common.{◌≡◌, ℕ, zero, suc, ◌+◌, ◌≤◌, Bool, true, false, Option, Some, None, List, [], ◌∷◌, ◌++◌, length, map, refl, sym, ap, subst, ◌∙◌, append_assoc, arith}
-use Rattle.std.specs.Prelude.{if◌then◌else◌, min}
+use Rattle.std.proofs.Common.{◌≡◌, ℕ, suc, ◌+◌, ◌≤◌, Bool, true, false, Option, Some, List, [], ◌∷◌, ◌++◌, length, map, refl, sym, ap, subst, ◌∙◌, append_assoc, arith}
+use Rattle.std.specs.Prelude.{if◌then◌else◌}
 use Rattle.std.proofs.lemmas.List.{append-nil, length-append, map-append}
-use mathlib.Core.List.{IsPrefix}
 use Rattle.app_api.specs.App.{Meaning}
 use Rattle.forest_versions.specs.declared.command.Command.{Command}
-use Rattle.lane_rings.specs.declared.items.Packet.{Packet}
-use Rattle.lane_rings.specs.declared.items.Answer.{Answer}
 use Rattle.lane_core.specs.Sight.{arrival_of}
 use Rattle.lane_core.specs.Run.{LaneEvent, Gave, Arrived, commands_of, last_number}
 use Rattle.lane_core.specs.Lane.{with_event, next_verdict}
-use Rattle.worker_pool.specs.Steps.{Step, Took, Handed, Turn, fits, steps_of, event_of, events_of, IsWithin, AreWithin, answer_to, answers_of}
+use Rattle.worker_pool.specs.Steps.{Step, Took, Handed, Turn, fits, steps_of, event_of, events_of, AreWithin, answer_to, answers_of}
 
 pub commands-append : (xs ys : List LaneEvent) → commands_of (xs ++ ys) ≡ commands_of xs ++ commands_of ys
 commands-append [] ys = refl

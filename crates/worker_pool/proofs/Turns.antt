@@ -1,5 +1,5 @@
 -- A packet's turn, as steps.
-use Rattle.std.proofs.Common.{◌≡◌, ◌≢◌, ℕ, ◌+◌, ◌<◌, ◌≤◌, true, Bool, Option, Some, None, List, [], ◌∷◌, ◌++◌, length, map, take, drop, refl, sym, ap, subst, ◌∙◌, append_assoc, arith}
+use Rattle.std.proofs.Common.{◌≡◌, ◌≢◌, ℕ, ◌+◌, ◌≤◌, true, Bool, Some, None, List, [], ◌∷◌, ◌++◌, length, map, drop, refl, sym, ap, subst, ◌∙◌, append_assoc, arith}
 use Rattle.std.specs.Prelude.{min, if◌then◌else◌, Result, Ok, Err, OnOk, IfOk, IfErr}
 use Rattle.std.proofs.lemmas.List.{append-nil, length-map, map-append}
 use mathlib.Core.List.{IsPrefix}
@@ -12,10 +12,10 @@ use Rattle.lane_rings.specs.Ring.{known}
 use Rattle.lane_core.specs.declared.recorder.Recorder.{Ghosts}
 use Rattle.lane_core.specs.declared.errors.LaneError.{LaneError}
 use Rattle.lane_core.specs.declared.errors.LaneError.TheVariants.{Heavy}
-use Rattle.lane_core.specs.Sight.{Arrival, arrival_of}
+use Rattle.lane_core.specs.Sight.{arrival_of}
 use Rattle.lane_core.specs.Run.{LaneEvent, Gave, Arrived, last_number}
 use Rattle.lane_core.specs.Lane.{IsHeavy, next_verdict, with_event}
-use Rattle.worker_pool.specs.Steps.{Step, Took, Handed, Turn, fits, steps_of, events_of, AreWithin, answer_to, answers_of}
+use Rattle.worker_pool.specs.Steps.{Step, Took, Handed, Turn, fits, steps_of, events_of, AreWithin, answer_to}
 use Rattle.worker_pool.specs.Worked.{WentOn}
 use Rattle.worker_pool.specs.Turning.{Advanced, Turned}
 use Rattle.worker_pool.proofs.Fronts.{IsPrefix-refl}

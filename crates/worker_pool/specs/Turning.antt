@@ -12,7 +12,7 @@ use Rattle.lane_core.specs.declared.errors.LaneError.TheVariants.{Heavy}
 use Rattle.lane_core.specs.declared.recorder.Recorder.{Ghosts}
 use Rattle.lane_core.specs.Run.{LaneEvent, Gave, commands_of}
 use Rattle.lane_core.specs.Lane.{with_event}
-use Rattle.worker_pool.specs.Steps.{Step, Turn, answers_of, answer_to, events_of}
+use Rattle.worker_pool.specs.Steps.{Step, answers_of, answer_to, events_of}
 use Rattle.worker_pool.specs.Worked.{Takes, Sends, SameAnswers, WentOn, Ran}
 use Rattle.worker_pool.specs.declared.worker.Worker.{Worker}
 

@@ -1,7 +1,6 @@
 -- What a worker did between two moments. `L` is its lane, and `g` says what the lane stands for.
-use Rattle.std.specs.Prelude.{◌≡◌, ◌≢◌, ℕ, ◌+◌, true, Option, Some, None, List, [], ◌∷◌, ◌++◌, length, map, take, drop, ⊤}
+use Rattle.std.specs.Prelude.{◌≡◌, ◌≢◌, ℕ, ◌+◌, true, Option, Some, None, List, [], ◌++◌, length, map, take, drop, ⊤}
 use mathlib.Core.List.{IsPrefix}
-use Rattle.app_api.specs.App.{Meaning}
 use Rattle.forest_versions.specs.declared.command.Command.{Command}
 use Rattle.forest_versions.specs.State.{control}
 use Rattle.lane_rings.specs.declared.items.Packet.{Packet}
@@ -9,7 +8,6 @@ use Rattle.lane_rings.specs.declared.items.Answer.{Answer}
 use Rattle.lane_rings.specs.declared.ring.RingTx.{RingTx}
 use Rattle.lane_rings.specs.declared.ring.RingRx.{RingRx}
 use Rattle.lane_rings.specs.Ring.{sent, taken, known, SameTx, SameRx}
-use Rattle.lane_core.specs.declared.errors.LaneError.{LaneError}
 use Rattle.lane_core.specs.declared.errors.LaneError.TheVariants.{Heavy}
 use Rattle.lane_core.specs.declared.recorder.Recorder.{Ghosts}
 use Rattle.lane_core.specs.Run.{LaneEvent, commands_of, last_number}

@@ -1,4 +1,4 @@
-use Rattle.std.proofs.Common.{◌≡◌, ◌++◌, ◌∷◌, []}
+use Rattle.std.proofs.Common.{◌≡◌}
 use Rattle.lane_rings.specs.Ring.{sent, SameTx}
 use Rattle.worker_pool.proofs.ends.send_waiting.Given as goal
 

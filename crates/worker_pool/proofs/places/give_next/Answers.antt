@@ -1,4 +1,4 @@
-use Rattle.std.proofs.Common.{◌≡◌, ◌≢◌, ◌+◌, Some, None, true, List, refl, sym, ap, subst, ◌∙◌}
+use Rattle.std.proofs.Common.{◌≡◌, Some, None, true, sym, subst}
 use Rattle.std.specs.Prelude.{slice_get}
 use Rattle.forest_versions.specs.Lawful.{is_lawful}
 use Rattle.control_script.specs.Order.{commands_of}

@@ -1,4 +1,4 @@
-use Rattle.std.proofs.Common.{◌≡◌, ◌+◌, ◌<◌, ◌≤◌, None, arith}
+use Rattle.std.proofs.Common.{◌≡◌, None, arith}
 use Rattle.control_script.specs.Order.{commands_of}
 use Rattle.worker_pool.proofs.Advancing.{advanced_none, advanced_next}
 use Rattle.worker_pool.proofs.places.take_places.Goals as goal

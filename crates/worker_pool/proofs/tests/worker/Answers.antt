@@ -1,5 +1,5 @@
-use Rattle.std.proofs.Common.{◌≡◌, ◌∙◌, [], sym, ap, refl, length, take}
-use Rattle.forest_versions.specs.State.{start, control}
+use Rattle.std.proofs.Common.{◌∙◌, [], sym, ap, length, take}
+use Rattle.forest_versions.specs.State.{control}
 use Rattle.control_script.specs.Order.{commands_of}
 use Rattle.worker_pool.proofs.tests.worker.Goals as goal
 

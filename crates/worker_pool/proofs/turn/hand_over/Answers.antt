@@ -1,4 +1,4 @@
-use Rattle.std.proofs.Common.{◌≡◌, refl, None}
+use Rattle.std.proofs.Common.{◌≡◌, None}
 use Rattle.std.proofs.lemmas.Result.{err_from_is_err_and}
 use Rattle.control_script.specs.Order.{commands_of}
 use Rattle.worker_pool.proofs.Turns.{turned_back, turned_on, err_or_ok}

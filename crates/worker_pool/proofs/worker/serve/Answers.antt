@@ -1,4 +1,4 @@
-use Rattle.std.proofs.Common.{◌≡◌, None, [], ◌∷◌}
+use Rattle.std.proofs.Common.{[], ◌∷◌}
 use Rattle.control_script.specs.Order.{commands_of}
 use Rattle.worker_pool.proofs.Serving.{under_of, ready_again, answered, unanswered}
 use Rattle.worker_pool.proofs.worker.serve.Goals as goal

@@ -1,4 +1,4 @@
-use Rattle.std.proofs.Common.{◌≡◌, ◌≢◌, None, false, true, sym, ◌∙◌}
+use Rattle.std.proofs.Common.{sym, ◌∙◌}
 use Rattle.control_script.specs.Order.{commands_of}
 use Rattle.worker_pool.proofs.Serving.{not_failed, let_go, skipped}
 use Rattle.worker_pool.proofs.worker.take_up.Goals as goal
