@@ -1,0 +1,10 @@
+mod Fronts
+mod Rings
+mod Commands
+mod Stepping
+mod Going
+mod Composed
+mod Advancing
+mod Turns
+mod Serving
+mod Beside
