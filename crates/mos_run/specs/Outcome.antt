@@ -9,7 +9,9 @@ use Rattle.report_text.specs.Report.{report_text}
 use Rattle.report_text.specs.declared.record.Record.{Record}
 use Rattle.report_text.specs.declared.record.Totals.{Totals}
 use Rattle.control_script.specs.declared.stamped.Stamped.{Stamped}
+use Rattle.lane_core.specs.Records.{VersionedPacket}
 use Rattle.lane_core.specs.Shown.{record_of, weight}
+use Rattle.worker_pool.specs.Run.{totals_of}
 use Rattle.words.specs.declared.settings.Emit.{Emit}
 use Rattle.words.specs.declared.settings.Emit.TheVariants as Emit
 use Rattle.words.specs.declared.settings.Settings.{Settings}
@@ -17,7 +19,7 @@ use Rattle.mos_run.specs.declared.output.Output.{Output}
 use Rattle.mos_run.specs.declared.output.Output.TheVariants.{Report, Forward, Summary}
 use Rattle.mos_run.specs.declared.refusal.RunError.{RunError}
 use Rattle.mos_run.specs.declared.refusal.RunError.TheVariants.{Capture, TooMany, Heavy}
-use Rattle.mos_run.specs.Records.{records_of, versions_of, totals_of}
+use Rattle.mos_run.specs.Records.{records_of, versions_of}
 use Rattle.mos_run.specs.Forward.{forwarded}
 use Rattle.mos_run.specs.Summary.{summary_text}
 use Rattle.mos_run.specs.Refusal.{header_refusal}
@@ -60,19 +62,20 @@ pub record Outcome : Type 0 where
 abbrev pub refused : RunError → Outcome
 refused e = record { text = []; ends = Err e }
 
-module _ (app : Meaning) (script : List Stamped) where
+-- `given` gives the capture's packets their versions
+module _ (app : Meaning) (script : List Stamped) (given : List Captured → List VersionedPacket) where
   -- what is written while the capture is read
   abbrev pub streamed : Output → List ℕ → List Captured → List ℕ
-  streamed output header frames = if is_forward output then header ++ forwarded app script frames else []
+  streamed output header frames = if is_forward output then header ++ forwarded app script given frames else []
 
   -- A report may weigh at most 134,217,728: 32 for each callback, and the bytes that it saw. So may what is summed up.
   abbrev pub is_heavy : Output → List Captured → Bool
-  is_heavy output frames = not (is_forward output) && nat_lt 134217728 (weight (records_of app script frames))
+  is_heavy output frames = not (is_forward output) && nat_lt 134217728 (weight (records_of app script given frames))
 
   abbrev pub ended : Output → List ℕ → List Captured → ℕ → Outcome
   ended output header frames rest = record {
-    text = streamed output header frames ++ closing output (map (record_of app) (records_of app script frames)) (totals_of (records_of app script frames) (length frames) rest);
-    ends = Ok (versions_of (records_of app script frames));
+    text = streamed output header frames ++ closing output (map (record_of app) (records_of app script given frames)) (totals_of (records_of app script given frames) (length frames) rest);
+    ends = Ok (versions_of (records_of app script given frames));
   }
 
   abbrev pub weighed : Output → List ℕ → List Captured → ℕ → Outcome

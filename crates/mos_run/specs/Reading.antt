@@ -8,6 +8,7 @@ use Rattle.forest_versions.specs.State.{ControlState, control as control_after}
 use Rattle.control_script.specs.declared.stamped.Stamped.{Stamped}
 use Rattle.control_script.specs.Order.{commands_of}
 use Rattle.control_script.specs.Versions.{ceil}
+use Rattle.lane_core.specs.Sight.{arrival_of}
 use Rattle.lane_core.specs.declared.errors.LaneError.{LaneError}
 use Rattle.lane_core.specs.Records.{VersionedPacket, records, verdict_on}
 use Rattle.lane_core.specs.Run.{LaneEvent, versioned_from, commands_of as given_in}
@@ -15,8 +16,12 @@ use Rattle.lane_core.specs.Shown.{weight}
 use Rattle.lane_core.specs.Lane.{IsAfter}
 use Rattle.mos_run.specs.declared.output.Output.{Output}
 use Rattle.mos_run.specs.Records.{control_at, packets_of, records_of}
-use Rattle.mos_run.specs.Forward.{left_by, packet_of}
+use Rattle.mos_run.specs.Forward.{left_by}
 use Rattle.mos_run.specs.Outcome.{is_forward, is_heavy}
+
+-- the packet of a number, under the commands up to its ceiling
+abbrev pub packet_of : List Stamped → ℕ → Captured → VersionedPacket
+packet_of script number frame = record { version = ceil script number; arrival = arrival_of number frame }
 
 -- so many commands of the script were given, and this is in force
 pub record IsUnder (app : Meaning) (script : List Stamped) (given : ℕ) (control : ControlState) : Type 0 where
@@ -43,14 +48,14 @@ IsOver app script ps = 134217728 < weight (records app (control_at app script) p
 -- a lane follows these frames, which aren't too heavy; or it failed, and they are
 pub record IsRead (app : Meaning) (script : List Stamped) (output : Output) (given : ℕ) (failed : Option LaneError) (stands : List LaneEvent → Type 0) (frames : List Captured) : Type 0 where
   pub follows : failed ≡ None → Follows script given stands (packets_of script frames)
-  pub light : failed ≡ None → is_heavy app script output frames ≡ false
-  pub heavy : failed ≢ None → is_heavy app script output frames ≡ true
+  pub light : failed ≡ None → is_heavy app script (packets_of script) output frames ≡ false
+  pub heavy : failed ≢ None → is_heavy app script (packets_of script) output frames ≡ true
 
 -- what one frame more adds to what is written while the capture is read
 abbrev pub gained : Meaning → List Stamped → Output → List Captured → Captured → List ℕ
 gained app script output frames frame =
     if is_forward output
-    then left_by (verdict_on app (control_at app script) (packet_of script (length frames) frame) (records_of app script frames)) frame
+    then left_by (verdict_on app (control_at app script) (packet_of script (length frames) frame) (records_of app script (packets_of script) frames)) frame
     else []
 
 -- these frames, and then others

@@ -9,6 +9,7 @@ use Rattle.mos_run.specs.declared.refusal.RunError.{RunError}
 use Rattle.mos_run.specs.declared.refusal.RunError.TheVariants.{ReadFault, WriteFault, NoMemory}
 use Rattle.mos_run.specs.Outcome.{Outcome, is_forward, output_of}
 use Rattle.mos_run.specs.Refusal.{status_of, refusal_text}
+use Rattle.mos_run.specs.Told.{Told, Allows, outcome_under}
 
 -- the run ends well, under these versions, and all of its text was written, and nothing else
 pub record Finishes (o : Outcome) (versions : List ℕ) (old new : Option (List ℕ)) : Type 0 where
@@ -33,11 +34,31 @@ EndsAs o status = (IsOk o.ends × (status ≡ 0)) ⊎ ((e : RunError) × StopsAs
 abbrev pub WritesText : Option (List ℕ) → Option (List ℕ) → ℕ → ℕ → List ℕ → Type 0
 WritesText old new before now text = Appends old new text ⊎ (Rose before now × AppendsFront old new text)
 
--- the refusal of this status was told on err: one that stops a run with this outcome, where there is one
-pub record Tells (outcome : Option Outcome) (status : ℕ) (old new : Option (List ℕ)) (before now : ℕ) : Type 0 where
+-- something holds of the outcome of a run under versions that it may have
+pub record UnderSome (told : Told) (P : Outcome → Type 0) : Type 0 where
+  pub versions : List ℕ
+  pub allowed : Allows told versions
+  pub holds : P (outcome_under versions told)
+
+-- the run ends well under these versions, which it may have
+pub record FinishesUnder (told : Told) (versions : List ℕ) (old new : Option (List ℕ)) : Type 0 where
+  pub allowed : Allows told versions
+  pub finishes : Finishes (outcome_under versions told) versions old new
+
+-- a run ends well under all versions that it may have
+abbrev pub EndsWell : Told → Type 0
+EndsWell told = (versions : List ℕ) → Allows told versions → IsOk (outcome_under versions told).ends
+
+-- a run that answers versions, or why it stopped, with a front of its text
+abbrev pub RunsUnder : Told → Option (List ℕ) → Option (List ℕ) → Result (List ℕ) RunError → Type 0
+RunsUnder told old new (Ok versions) = FinishesUnder told versions old new
+RunsUnder told old new (Err e) = UnderSome told (λ o. StopsAs o e × AppendsFront old new o.text)
+
+-- the refusal of this status was told on err: one that stops a run as it was told, where that is known
+pub record Tells (told : Option Told) (status : ℕ) (old new : Option (List ℕ)) (before now : ℕ) : Type 0 where
   pub refusal : RunError
   pub status_is : status ≡ status_of refusal
-  pub of_outcome : (o : Outcome) → outcome ≡ Some o → StopsAs o refusal
+  pub of_run : (t : Told) → told ≡ Some t → UnderSome t (λ o. StopsAs o refusal)
   pub text : WritesText old new before now (refusal_text refusal)
 
 -- a refusal was told on err with its status, or want of memory for its line in its place

@@ -1,17 +1,27 @@
 -- What the words, the shelf and the capture come to.
-use Rattle.std.specs.Prelude.{ℕ, List, [], length, nat_lt, if◌then◌else◌, Option, Some, None, option_map, option_and_then, Result, Ok, Err}
+use Rattle.std.specs.Prelude.{◌≡◌, ℕ, List, [], length, nat_lt, if◌then◌else◌, Option, Some, None, option_map, option_and_then, Result, Ok, Err, ⊤}
 use Rattle.capture_maker.specs.Made.{made}
+use Rattle.pcap_source.specs.Captured.{Captured}
+use Rattle.pcap_source.specs.Capture.{Frames, capture_of}
+use Rattle.pcap_source.specs.declared.errors.OpenError.{OpenError}
 use Rattle.control_script.specs.declared.error.ScriptError.{ScriptError}
 use Rattle.control_script.specs.declared.stamped.Stamped.{Stamped}
 use Rattle.control_script.specs.Script.{script}
 use Rattle.words.specs.declared.settings.AppKind.{AppKind}
 use Rattle.words.specs.declared.settings.Settings.{Settings}
 use Rattle.words.specs.Words.{words_settings}
+use Rattle.worker_pool.specs.Run.{MayHave}
 use Rattle.mos_run.specs.declared.refusal.RunError.{RunError}
 use Rattle.mos_run.specs.declared.refusal.RunError.TheVariants.{Usage, ScriptTooLong}
 use Rattle.mos_run.specs.Apps.{meaning_of}
+use Rattle.mos_run.specs.Records.{packets_of, packets_with, records_of, versions_of}
 use Rattle.mos_run.specs.Outcome.{Outcome, refused, outcome, output_of}
 use Rattle.mos_run.specs.Refusal.{script_refusal}
+
+-- what a run is told to do: it is refused before a packet is read, or these settings and this script are asked of these bytes
+pub data Told : Type 0 where
+  Refused : RunError → Told
+  Asked : Settings → List Stamped → List ℕ → Told
 
 -- the commands of a script's text, or why it has none
 abbrev pub read_as : Result (List Stamped) ScriptError → Result (List Stamped) RunError
@@ -32,15 +42,38 @@ abbrev pub bytes_under : Option ℕ → Option (List ℕ) → Option (List ℕ)
 bytes_under None left = left
 bytes_under (Some n) left = Some (made n)
 
-abbrev pub outcome_under : Settings → Option (List ℕ) → Result (List Stamped) RunError → Option Outcome
-outcome_under s left (Err e) = Some (refused e)
-outcome_under s left (Ok commands) = option_map (outcome (meaning_of s.app) commands (output_of s)) (bytes_under s.make left)
+abbrev pub asked : Settings → Option (List ℕ) → Result (List Stamped) RunError → Option Told
+asked s left (Err e) = Some (Refused e)
+asked s left (Ok commands) = option_map (Asked s commands) (bytes_under s.make left)
 
-abbrev pub chosen : Option Settings → (List ℕ → Option (List ℕ)) → Option (List ℕ) → Option Outcome
-chosen None content left = Some (refused Usage)
-chosen (Some s) content left = option_and_then (λ text. outcome_under s left (commands_in s.app text)) (text_under s.script content)
+abbrev pub chosen : Option Settings → (List ℕ → Option (List ℕ)) → Option (List ℕ) → Option Told
+chosen None content left = Some (Refused Usage)
+chosen (Some s) content left = option_and_then (λ text. asked s left (commands_in s.app text)) (text_under s.script content)
 
--- The outcome of a run under these words, where the shelf has this content and the capture these bytes. There is none where
+-- What a run under these words is told to do, where the shelf has this content and the capture these bytes. There is none where
 -- something that it needs isn't told.
-unfoldable pub told : List (List ℕ) → (List ℕ → Option (List ℕ)) → Option (List ℕ) → Option Outcome
+unfoldable pub told : List (List ℕ) → (List ℕ → Option (List ℕ)) → Option (List ℕ) → Option Told
 told words content left = chosen (words_settings words) content left
+
+-- ---- the versions that a run may have, and its outcome under them
+
+-- the frames of a capture; none where its header is refused
+abbrev pub frames_in : Result Frames OpenError → List Captured
+frames_in (Ok f) = f.frames
+frames_in (Err e) = []
+
+-- The versions of records that a run of so many workers may have: each at least the floor of the record's first packet and at most
+-- its ceiling, and never falling along the records of one worker's lane. With one worker each is the ceiling.
+pub record AreAllowed (s : Settings) (commands : List Stamped) (bytes : List ℕ) (vs : List ℕ) : Type 0 where
+  pub may_have : MayHave (meaning_of s.app) commands s.workers (frames_in (capture_of bytes)) vs
+  pub with_one : s.workers ≡ 1 → vs ≡ versions_of (records_of (meaning_of s.app) commands (packets_of commands) (frames_in (capture_of bytes)))
+
+abbrev pub Allows : Told → List ℕ → Type 0
+Allows (Refused e) vs = ⊤
+Allows (Asked s commands bytes) vs = AreAllowed s commands bytes vs
+
+-- how a run ends, and what it writes, where its records have these versions
+abbrev pub outcome_under : List ℕ → Told → Outcome
+outcome_under vs (Refused e) = refused e
+outcome_under vs (Asked s commands bytes) =
+    outcome (meaning_of s.app) commands (packets_with (meaning_of s.app) commands vs) (output_of s) bytes

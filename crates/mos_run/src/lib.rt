@@ -12,14 +12,13 @@ mod script;
 mod single;
 mod summary;
 mod telling;
-pub mod versions;
 
 pub use gathered::{GatheredRun, run_gathered};
 pub use output::Output;
 pub use refusal::{RunError, ScriptFault};
 pub use run::{Ended, refuse, run_mos};
 pub use single::run_one;
-pub use versions::VersionList;
+pub use worker_pool::{Gate, OpenGate, VersionList};
 pub use words::{AppKind, Emit, Name, Settings, WordsError, read_words};
 
 #[cfg(test)]

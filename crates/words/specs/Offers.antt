@@ -14,7 +14,7 @@ abbrev pub emits : List (List ℕ × Emit)
 emits = (codes "report", Report) ∷ (codes "forward", Forward) ∷ []
 
 abbrev pub most_workers : ℕ
-most_workers = 1
+most_workers = 16
 
 -- how many connections a made capture may have
 abbrev pub most_made : ℕ

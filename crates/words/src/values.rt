@@ -11,7 +11,7 @@ use crate::settings::{AppKind, Emit, Name, WordsError};
 use std::alloc::Global;
 
 // The most workers that a run may have.
-const MOST_WORKERS: u32 = 1;
+const MOST_WORKERS: u32 = 16;
 
 // The most connections that a made capture may have.
 const MOST_MADE: u32 = 100_000;

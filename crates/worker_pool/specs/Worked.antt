@@ -92,3 +92,8 @@ module _ {L : Type 0} where
     pub stayed : g.failed a.lane ≢ None → b.lane ≡ a.lane
     pub silent : g.failed a.lane ≢ None → Sends a.answers b.answers []
     pub ran : g.failed a.lane ≡ None → Ran g script a b packets places
+
+  -- the same, where a lane that had not failed was ready, and one that has not failed is
+  pub record WorkedOn (g : Ghosts L) (script : List Command) (a b : Worker L) : Type 0 where
+    pub worked : Worked g script a b
+    pub ready : g.failed b.lane ≡ None → IsReady g script b.lane b.commands

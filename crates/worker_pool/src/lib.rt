@@ -1,15 +1,25 @@
 //! Workers: each runs a lane in a thread of its own, fed by a ring of packets and a ring of places in the script.
 #![tactic(auto)]
 
+mod dispatch;
 mod ends;
 mod gate;
+mod job;
+mod lanes;
 mod left;
 mod places;
+mod post;
+mod seat;
+mod team;
 #[cfg(test)]
 mod tests;
 mod turn;
+pub mod versions;
 mod worker;
 
 pub use gate::{Gate, OpenGate};
+pub use job::{Job, LanesEnd, PoolError};
+pub use lanes::run_lanes;
 pub use left::work_off;
+pub use versions::VersionList;
 pub use worker::{Worker, work};

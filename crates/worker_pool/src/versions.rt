@@ -30,7 +30,7 @@ impl VersionList {
 }
 
 /// The versions of records.
-pub(crate) fn versions_of(alloc: Global, records: &[Record]) -> Result<VersionList, AllocError>
+pub fn versions_of(alloc: Global, records: &[Record]) -> Result<VersionList, AllocError>
     ensures { IfOk result (λ versions. versions ≡ map (λ r. r.version) records.now) }
 {
     let mut items = Vec::with_capacity(alloc, records.len())?;

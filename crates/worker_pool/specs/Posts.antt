@@ -1,0 +1,58 @@
+-- Where the dispatcher sends a lane's packets, and what it sent.
+use Rattle.std.specs.Prelude.{◌≡◌, ℕ, ◌<◌, ◌≤◌, List, length, get_or, Option, Some, None, IsTrue, Result, Ok, Err, ⊤}
+use Rattle.pcap_source.specs.Captured.{Captured}
+use Rattle.pcap_source.specs.Capture.{Frames, tail, too_long, too_many}
+use Rattle.pcap_source.specs.Reading.{CaptureState, frames_at}
+use Rattle.pcap_source.specs.declared.errors.NextError.{NextError}
+use Rattle.pcap_source.specs.declared.errors.NextError.TheVariants.{TooLong, TooMany, ReadFault, NoMemory}
+use Rattle.forest_versions.specs.declared.command.Command.{Command}
+use Rattle.forest_versions.specs.Lawful.{are_lawful}
+use Rattle.forest_versions.specs.State.{start}
+use Rattle.control_script.specs.declared.stamped.Stamped.{Stamped}
+use Rattle.control_script.specs.Order.{commands_of}
+use Rattle.lane_rings.specs.declared.items.Packet.{Packet}
+use Rattle.lane_rings.specs.Ring.{sent, AreEnds}
+use Rattle.lane_core.specs.declared.recorder.Recorder.{Ghosts}
+use Rattle.worker_pool.specs.declared.worker.Worker.{Worker}
+use Rattle.worker_pool.specs.declared.seat.Seat.{Seat}
+use Rattle.worker_pool.specs.declared.seat.Seat.TheVariants.{Away, Here}
+use Rattle.worker_pool.specs.declared.post.Post.{Post}
+use Rattle.worker_pool.specs.declared.dispatch.Whole.{Whole}
+use Rattle.worker_pool.specs.Worked.{Worked, WorkedOn}
+use Rattle.worker_pool.specs.Sent.{packets_from, dealt}
+
+module _ {L : Type 0} where
+  -- a worker that began so is in its thread, which promises what it will have done; or it is here, and has done that much
+  abbrev pub IsSeated : Ghosts L → List Command → Worker L → Seat L → Type 0
+  IsSeated g script begin (Away handle) = (handle.promise.start.value ≡ begin) × (commands_of handle.promise.script.value ≡ script)
+  IsSeated g script begin (Here worker) = WorkedOn g script begin worker
+
+  -- the post of a worker that began so, to which these packets were sent
+  pub record IsPost (g : Ghosts L) (script : List Command) (begin : Worker L) (packets : List Packet) (post : Post L) : Type 0 where
+    pub lawful : IsTrue (are_lawful (start (g.app begin.lane).presets) script)
+    pub ends : AreEnds post.packets begin.packets
+    pub sent_are : sent post.packets ≡ packets
+    pub seated : IsSeated g script begin post.seat
+
+  -- the posts of workers that began so, to which the packets of these frames were sent, each to that of its lane
+  pub record ArePosts (g : Ghosts L) (script : List Stamped) (begins : List (Worker L)) (frames : List Captured) (posts : List (Post L)) : Type 0 where
+    pub count : length begins ≡ length posts
+    pub each : (k : ℕ) (w : Worker L) (p : Post L) → k < length posts
+        → IsPost g (commands_of script) (get_or begins k w) (dealt (length posts) k (packets_from script 0 frames)) (get_or posts k p)
+
+-- what was read: these frames are the whole capture, before a tail; or the capture is refused behind them
+abbrev pub ReadsAs : List Captured → CaptureState → Option (List ℕ) → Option (List ℕ) → Result Whole NextError → Type 0
+ReadsAs frames capture old new (Ok whole) = (length frames ≡ whole.packets)
+    × ((rest : List ℕ) → old ≡ Some rest → (frames_at capture rest ≡ record { frames = frames; ending = tail whole.tail }) × (new ≡ Some []))
+ReadsAs frames capture old new (Err (TooLong offset)) = (rest : List ℕ) → old ≡ Some rest → (frames_at capture rest).ending ≡ too_long offset
+ReadsAs frames capture old new (Err (TooMany offset)) = (rest : List ℕ) → old ≡ Some rest → (frames_at capture rest).ending ≡ too_many offset
+ReadsAs frames capture old new (Err ReadFault) = ⊤
+ReadsAs frames capture old new (Err NoMemory) = ⊤
+
+module _ {L : Type 0} where
+  -- a capture was read, and its packets were sent
+  pub record Dispatched (g : Ghosts L) (script : List Stamped) (begins : List (Worker L)) (posts : List (Post L)) (capture : CaptureState) (old new : Option (List ℕ)) (result : Result Whole NextError) : Type 0 where
+    pub frames : List Captured
+    pub few : length frames ≤ 1048576
+    pub posts_are : ArePosts g script begins frames posts
+    pub read : ReadsAs frames capture old new result

@@ -1,0 +1,55 @@
+//! A run on several lanes.
+
+ghost use Rattle.std.specs.Prelude.{◌≡◌, ◌≤◌, [], ℕ, List, Some, IsOk, IsTrue, IsErrOf};
+ghost use Rattle.mos_bytes.specs.Causes.{HasCauseOf};
+ghost use Rattle.pcap_source.specs.Reading.{Opened, frames_at};
+ghost use Rattle.forest_versions.specs.Lawful.{are_lawful};
+ghost use Rattle.forest_versions.specs.State.{start};
+ghost use Rattle.control_script.specs.Order.{commands_of};
+ghost use Rattle.worker_pool.specs.Run.{EndsOver};
+
+use crate::gate::Gate;
+use crate::job::{Job, LanesEnd, PoolError};
+use app_api::App;
+use mos_bytes::Source;
+use native_filters::NativeBook;
+use pcap_source::Capture;
+use std::alloc::Global;
+use std::sync::Wait;
+use std::thread::Threads;
+
+/// Runs an application over the packets of an opened capture, on several lanes: each has a thread of its own and the
+/// packets of its keys, and all look at one store of trees. A further thread tells them of the script's commands while
+/// the capture is read.
+///
+/// Its end is that of one run over all packets under the versions that it answers, whatever the order of the threads'
+/// steps. It asks a script that is lawful with the application's presets, and 1 to 16 lanes. An error is that the
+/// capture is refused, that its source failed, that memory was refused, or that the callbacks weigh too much. A lane for
+/// which no thread can be started is run in this one, which is no error. It waits for its threads.
+pub fn run_lanes<
+    R: Threads + Wait + Sync + Send + Copy + Drop + 'static,
+    A: App + Copy + Send + Sync + Drop,
+    S: Source,
+    G: Gate + Sync,
+>(
+    rt: &R,
+    alloc: Global,
+    job: &Job<'_, A>,
+    capture: &mut Capture,
+    source: &mut S,
+    natives: &NativeBook,
+    gate: &G,
+) -> Result<LanesEnd, PoolError>
+    requires opened { Opened capture.old }
+    requires some { 1 ≤ job.now.workers }
+    requires most { job.now.workers ≤ 16 }
+    requires lawful { IsTrue (are_lawful (start (A.meaning job.now.app).presets) (commands_of job.now.script.now)) }
+    ensures ends { (rest : List ℕ) → S.left source.old ≡ Some rest
+        → EndsOver (A.meaning job.now.app) job.now.script.now job.now.workers (frames_at capture.old rest) result }
+    ensures read { IsOk result → (rest : List ℕ) → S.left source.old ≡ Some rest → S.left source.new ≡ Some [] }
+    ensures cause { HasCauseOf (S.faults source.old) (S.faults source.new) (IsErrOf result PoolError.ReadFault) }
+    ensures lasts { S.lasting source.new ≡ S.lasting source.old }
+{
+    for _ in rt.forever() {}
+    unreachable!()
+}
