@@ -11,6 +11,7 @@ use Rattle.forest_versions.specs.Lawful.{are_lawful}
 use Rattle.forest_versions.specs.State.{start}
 use Rattle.control_script.specs.declared.stamped.Stamped.{Stamped}
 use Rattle.control_script.specs.Order.{commands_of}
+use Rattle.control_script.specs.Versions.{floor, ceil}
 use Rattle.lane_rings.specs.declared.items.Packet.{Packet}
 use Rattle.lane_rings.specs.declared.ring.RingTx.{RingTx}
 use Rattle.lane_rings.specs.Ring.{sent, SameTx}
@@ -54,6 +55,12 @@ module _ (script : List Stamped) (lanes : ℕ) (frames : List Captured) (frame :
       dealt-parts l
       ∙ ap (λ b. dealt lanes l (packets_from script 0 frames) ++ (if b then sent_as script number frame ∷ [] else [])) (ne_eqb (lane_of lanes (sent_as script number frame)) l other)
       ∙ append-nil (dealt lanes l (packets_from script 0 frames))
+
+-- a packet with the floor and the ceiling of its number
+pub as_sent : (script : List Stamped) (n low high : ℕ) (frame : Captured) → low ≡ floor script n → high ≡ ceil script n → record { index = n; floor = low; ceil = high; frame = frame } ≡ sent_as script n frame
+as_sent script n low high frame floor_is ceil_is =
+    let made : ℕ → ℕ → Packet = λ f h. record { index = n; floor = f; ceil = h; frame = frame } in
+    ap (λ f. made f high) floor_is ∙ ap (made (floor script n)) ceil_is
 
 -- ---- one post
 

@@ -1,5 +1,7 @@
 -- What the dispatcher read of a capture.
-use Rattle.std.proofs.Common.{◌≡◌, ℕ, Option, Some, None, List, [], ◌∷◌, ◌++◌, length, Result, Ok, Err, refl, sym, ap, subst, ◌∙◌, append_assoc, append-nil}
+use Rattle.std.proofs.Common.{◌≡◌, ℕ, ◌≤◌, Option, Some, None, List, [], ◌∷◌, ◌++◌, length, Result, Ok, Err, refl, sym, ap, subst, ◌∙◌, append_assoc, append-nil, arith}
+use Rattle.mos_bytes.specs.Causes.{HasCauseOf}
+use Rattle.mos_bytes.proofs.Causes.{Rose-earlier}
 use Rattle.pcap_source.specs.Captured.{Captured}
 use Rattle.pcap_source.specs.Capture.{Frames, Ending, tail, too_long, too_many, ended}
 use Rattle.pcap_source.specs.Reading.{CaptureState, NextGives, StepsAs, frames_at}
@@ -9,6 +11,13 @@ use Rattle.pcap_source.specs.declared.errors.NextError.{NextError}
 use Rattle.pcap_source.specs.declared.errors.NextError.TheVariants.{TooLong, TooMany, ReadFault, NoMemory}
 use Rattle.worker_pool.specs.declared.dispatch.Whole.{Whole}
 use Rattle.worker_pool.specs.Posts.{ReadsAs}
+
+-- a fault of a call, told again, has its cause since an earlier moment
+pub HasCause-since : {told again : Type 0} (first before now : ℕ) → first ≤ before → HasCauseOf before now told → (again → told) → HasCauseOf first now again
+HasCause-since first before now earlier call same = record {
+  later = let later = call.later in omega (arith, earlier, later);
+  cause = λ fault. Rose-earlier first before now earlier (call.cause (same fault));
+}
 
 -- these frames, and then others
 abbrev pub behind : List Captured → Frames → Frames

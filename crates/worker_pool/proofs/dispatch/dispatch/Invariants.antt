@@ -15,7 +15,7 @@ invariant-loop-frame g l = record {
   faults : g.S.Source.faults l.fn.source ≤ g.S.Source.faults l.source;
   lasts : g.S.Source.lasting l.source ≡ g.S.Source.lasting l.fn.source;
   read : (frames : List Captured) × (length frames ≡ l.packets)
-      × ((begins : List (Worker g.row.L.Denot)) → ArePosts g.L.Recorder l.script.now begins [] l.fn.posts.items → ArePosts g.L.Recorder l.script.now begins frames l.posts.items)
+      × ((begins : List (Worker g.row.L.Denot)) → ArePosts g.L.Recorder l.script begins [] l.fn.posts.items → ArePosts g.L.Recorder l.script begins frames l.posts.items)
       × ((bytes : List ℕ) → g.S.Source.left l.fn.source ≡ Some bytes → IsReadTo l.fn.capture bytes frames l.capture (g.S.Source.left l.source));
 }
 
