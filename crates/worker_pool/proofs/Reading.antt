@@ -19,6 +19,9 @@ HasCause-since first before now earlier call same = record {
   cause = λ fault. Rose-earlier first before now earlier (call.cause (same fault));
 }
 
+pub same_error : {T : Type 0} (a b : NextError) (r : Result T NextError) → r ≡ Err a → r ≡ Err b → a ≡ b
+same_error a b r one two = cc
+
 -- these frames, and then others
 abbrev pub behind : List Captured → Frames → Frames
 behind frames f = record { frames = frames ++ f.frames; ending = f.ending }

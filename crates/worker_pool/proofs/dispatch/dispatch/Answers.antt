@@ -2,7 +2,8 @@ use Rattle.std.proofs.Common.{◌≡◌, ◌+◌, ◌≤◌, true, [], ◌∷◌
 use Rattle.std.proofs.lemmas.List.{length-append}
 use Rattle.std.proofs.lemmas.Result.{err_from_is_err_and}
 use Rattle.pcap_source.specs.Reading.{NextGives}
-use Rattle.worker_pool.proofs.Reading.{HasCause-since, read_none, read_more, read_tail, read_end, read_refused}
+use Rattle.pcap_source.specs.declared.errors.NextError.TheVariants.{ReadFault}
+use Rattle.worker_pool.proofs.Reading.{HasCause-since, same_error, read_none, read_more, read_tail, read_end, read_refused}
 use Rattle.worker_pool.proofs.dispatch.dispatch.Goals as goal
 
 pub loop-frame-init : goal.loop-frame-init
@@ -34,7 +35,7 @@ pub returns-in_err-next-clause-cause : goal.returns-in_err-next-clause-cause
 returns-in_err-next-clause-cause g c =
     let p = err_from_is_err_and c.from_residual.result c.from_residual.ensures.1 in
     HasCause-since (g.S.Source.faults c.args.source.now) (g.S.Source.faults c.loop-frame.source) (g.S.Source.faults c.next.new.source) c.loop-frame.invariant.faults c.next.ensures.cause
-    (λ fault. c.in_err-next.was ∙ ap (λ e. Err e) (sym p.2) ∙ sym p.1 ∙ fault)
+    (λ fault. c.in_err-next.was ∙ ap (λ e. Err e) (sym p.2 ∙ same_error p.0 ReadFault c.from_residual.result p.1 fault))
 
 pub send_frame-requires-clause-posts : goal.send_frame-requires-clause-posts
 send_frame-requires-clause-posts g c =
