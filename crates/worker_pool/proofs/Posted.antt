@@ -1,14 +1,11 @@
 -- Posts, and what was sent to them.
-use Rattle.std.proofs.Common.{◌≡◌, ◌≢◌, ℕ, ◌+◌, ◌<◌, None, List, [], ◌∷◌, ◌++◌, length, get_or, set, refl, sym, ap, subst, ◌∙◌, arith, ⊎_elim}
-use Rattle.std.specs.Prelude.{◌==◌, if◌then◌else◌, IsTrue}
+use Rattle.std.proofs.Common.{◌≡◌, ◌≢◌, ℕ, ◌+◌, ◌<◌, None, List, [], ◌∷◌, ◌++◌, length, get_or, set, sym, ap, subst, ◌∙◌, arith, ⊎_elim}
+use Rattle.std.specs.Prelude.{◌==◌, if◌then◌else◌}
 use Rattle.std.proofs.lemmas.List.{append-nil, get_or-set_same, get_or-set_other, length-set}
 use Rattle.std.proofs.lemmas.List.Elements.{filter-append}
 use Rattle.std.proofs.lemmas.Bool.{cases_eq, eq-eqb, ne_eqb}
-use Rattle.app_api.specs.App.{Meaning}
 use Rattle.pcap_source.specs.Captured.{Captured}
 use Rattle.forest_versions.specs.declared.command.Command.{Command}
-use Rattle.forest_versions.specs.Lawful.{are_lawful}
-use Rattle.forest_versions.specs.State.{start}
 use Rattle.control_script.specs.declared.stamped.Stamped.{Stamped}
 use Rattle.control_script.specs.Order.{commands_of}
 use Rattle.control_script.specs.Versions.{floor, ceil}
@@ -17,7 +14,6 @@ use Rattle.lane_rings.specs.declared.ring.RingTx.{RingTx}
 use Rattle.lane_rings.specs.Ring.{sent, SameTx}
 use Rattle.lane_core.specs.declared.recorder.Recorder.{Ghosts}
 use Rattle.worker_pool.specs.declared.worker.Worker.{Worker}
-use Rattle.worker_pool.specs.declared.seat.Seat.{Seat}
 use Rattle.worker_pool.specs.declared.seat.Seat.TheVariants.{Here}
 use Rattle.worker_pool.specs.declared.post.Post.{Post}
 use Rattle.worker_pool.specs.Worked.{IsReady, Worked}
@@ -84,22 +80,15 @@ module _ {L : Type 0} (g : Ghosts L) (script : List Command) (begin : Worker L) 
     seated = p.seated;
   }
 
-  module _ (tx : RingTx Packet) (a : Worker L) (p : IsPost g script begin packets (record { packets = tx; seat = Here a })) where
-    -- a worker that is here may work
-    pub here_ready : g.failed a.lane ≡ None → IsReady g script a.lane a.commands
-    here_ready = p.seated.ready
-
-    pub here_lawful : IsTrue (are_lawful (start (g.app a.lane).presets) script)
-    here_lawful = subst (λ (m : Meaning). IsTrue (are_lawful (start m.presets) script)) (sym p.seated.worked.app) p.lawful
-
-    -- and then has worked on
-    pub here_worked : (b : Worker L) → Worked g script a b → (g.failed b.lane ≡ None → IsReady g script b.lane b.commands) → IsPost g script begin packets (record { packets = tx; seat = Here b })
-    here_worked b worked ready = record {
-      lawful = p.lawful;
-      ends = p.ends;
-      sent_are = p.sent_are;
-      seated = record { worked = worked_two g script begin a b p.seated.worked worked; ready = ready };
-    }
+  -- a worker that is here worked on
+  pub here_worked : (tx : RingTx Packet) (a b : Worker L) → IsPost g script begin packets (record { packets = tx; seat = Here a }) → Worked g script a b → (g.failed b.lane ≡ None → IsReady g script b.lane b.commands)
+      → IsPost g script begin packets (record { packets = tx; seat = Here b })
+  here_worked tx a b p worked ready = record {
+    lawful = p.lawful;
+    ends = p.ends;
+    sent_are = p.sent_are;
+    seated = record { worked = worked_two g script begin a b p.seated.worked worked; ready = ready };
+  }
 
 -- ---- all posts
 

@@ -1,15 +1,13 @@
 -- What the dispatcher read of a capture.
-use Rattle.std.proofs.Common.{◌≡◌, ℕ, ◌≤◌, Option, Some, None, List, [], ◌∷◌, ◌++◌, length, Result, Ok, Err, refl, sym, ap, subst, ◌∙◌, append_assoc, append-nil, arith}
+use Rattle.std.proofs.Common.{◌≡◌, ℕ, ◌≤◌, Option, Some, None, List, [], ◌∷◌, ◌++◌, Result, Ok, Err, refl, sym, ap, ◌∙◌, append_assoc, append-nil, arith}
 use Rattle.mos_bytes.specs.Causes.{HasCauseOf}
 use Rattle.mos_bytes.proofs.Causes.{Rose-earlier}
 use Rattle.pcap_source.specs.Captured.{Captured}
 use Rattle.pcap_source.specs.Capture.{Frames, Ending, tail, too_long, too_many, ended}
-use Rattle.pcap_source.specs.Reading.{CaptureState, NextGives, StepsAs, frames_at}
-use Rattle.pcap_source.specs.declared.capture.Step.{Step}
+use Rattle.pcap_source.specs.Reading.{CaptureState, NextGives, frames_at}
 use Rattle.pcap_source.specs.declared.capture.Step.TheVariants.{Frame, Tail, End}
 use Rattle.pcap_source.specs.declared.errors.NextError.{NextError}
 use Rattle.pcap_source.specs.declared.errors.NextError.TheVariants.{TooLong, TooMany, ReadFault, NoMemory}
-use Rattle.worker_pool.specs.declared.dispatch.Whole.{Whole}
 use Rattle.worker_pool.specs.Posts.{ReadsAs}
 
 -- a fault of a call, told again, has its cause since an earlier moment
