@@ -8,3 +8,5 @@ mod Advancing
 mod Turns
 mod Serving
 mod Beside
+mod Posted
+mod Reading

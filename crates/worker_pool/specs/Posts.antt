@@ -1,7 +1,7 @@
 -- Where the dispatcher sends a lane's packets, and what it sent.
-use Rattle.std.specs.Prelude.{◌≡◌, ℕ, ◌<◌, ◌≤◌, List, length, get_or, Option, Some, None, IsTrue, Result, Ok, Err, ⊤}
+use Rattle.std.specs.Prelude.{◌≡◌, ℕ, ◌<◌, ◌≤◌, List, [], length, get_or, Option, Some, IsTrue, Result, Ok, Err, ⊤}
 use Rattle.pcap_source.specs.Captured.{Captured}
-use Rattle.pcap_source.specs.Capture.{Frames, tail, too_long, too_many}
+use Rattle.pcap_source.specs.Capture.{tail, too_long, too_many}
 use Rattle.pcap_source.specs.Reading.{CaptureState, frames_at}
 use Rattle.pcap_source.specs.declared.errors.NextError.{NextError}
 use Rattle.pcap_source.specs.declared.errors.NextError.TheVariants.{TooLong, TooMany, ReadFault, NoMemory}
@@ -18,7 +18,7 @@ use Rattle.worker_pool.specs.declared.seat.Seat.{Seat}
 use Rattle.worker_pool.specs.declared.seat.Seat.TheVariants.{Away, Here}
 use Rattle.worker_pool.specs.declared.post.Post.{Post}
 use Rattle.worker_pool.specs.declared.dispatch.Whole.{Whole}
-use Rattle.worker_pool.specs.Worked.{Worked, WorkedOn}
+use Rattle.worker_pool.specs.Worked.{WorkedOn}
 use Rattle.worker_pool.specs.Sent.{packets_from, dealt}
 
 module _ {L : Type 0} where

@@ -1,18 +1,24 @@
 //! Reads a capture, and sends each packet to its lane.
 
-ghost use Rattle.std.specs.Prelude.{◌≡◌, ◌≤◌, [], List, length, IsErrOf};
+ghost use Rattle.std.specs.Prelude.{◌≡◌, ◌<◌, ◌≤◌, ◌++◌, [], ◌∷◌, List, length, IsErrOf};
 ghost use Rattle.mos_bytes.specs.Causes.{HasCauseOf};
+ghost use Rattle.packet_views.specs.Packet.{packet_of};
+ghost use Rattle.pcap_source.specs.Captured.{Captured};
 ghost use Rattle.pcap_source.specs.Reading.{Opened};
+ghost use Rattle.flow_table.specs.Lane.{lane_of_key, lane_of_packet};
 ghost use Rattle.worker_pool.specs.declared.worker.Worker.{Worker as Begun};
 ghost use Rattle.worker_pool.specs.Posts.{ArePosts, Dispatched};
 
 use crate::gate::Gate;
-use crate::post::Post;
+use crate::post::{Post, send_to};
 use control_script::Script;
+use flow_table::{Key, key_of, mix};
 use lane_core::Recorder;
+use lane_rings::Packet;
 use mos_bytes::Source;
 use native_filters::NativeBook;
-use pcap_source::{Capture, NextError};
+use packet_views::{View, view_of};
+use pcap_source::{Capture, Frame, NextError, Step};
 use std::alloc::Global;
 use std::sync::Wait;
 use std::sync::atomic::AtomicBool;
@@ -24,6 +30,67 @@ pub(crate) struct Whole {
     pub(crate) packets: u64,
     /// The bytes behind them that are no whole record.
     pub(crate) tail: u32,
+}
+
+// The lane of a key. `flow_table::lane_of` says the same, but asks at most 16 lanes.
+#[tactic(auto, unfolding(flow_table::specs::Lane::lane_of_key))]
+fn lane_of_key(key: &Key, lanes: usize) -> usize
+    requires some { 1 ≤ lanes }
+    ensures lane { result ≡ lane_of_key key.now lanes }
+    ensures within { result < lanes }
+{
+    let sum = mix(&key.lo).wrapping_add(mix(&key.hi));
+    (sum % lanes as u64) as usize
+}
+
+// The lane of a packet; what has no key goes to lane 0.
+fn lane_of_frame(frame: &Frame, lanes: usize) -> usize
+    requires some { 1 ≤ lanes }
+    ensures lane { result ≡ lane_of_packet (packet_of frame.now.bytes) lanes }
+    ensures within { result < lanes }
+{
+    match view_of(&frame.bytes) {
+        View::Tcp(segment) => lane_of_key(&key_of(&segment), lanes),
+        View::Other(_) => 0,
+    }
+}
+
+// Sends the next frame of a capture, of which so many were sent, to the post of its lane.
+fn send_frame<R: Wait, L: Recorder + Drop, G: Gate>(
+    rt: &R,
+    alloc: Global,
+    posts: &mut Vec<Post<L>>,
+    index: u64,
+    frame: Frame,
+    script: &Script,
+    natives: &NativeBook,
+    gate: &G,
+    failed: &AtomicBool,
+)
+    requires some { 1 ≤ length posts.old.items }
+    requires posts { (begins : List (Begun L)) × (frames : List Captured) × ArePosts L.Recorder script.now begins frames posts.old.items }
+    ensures count { length posts.new.items ≡ length posts.old.items }
+    ensures sent { (begins : List (Begun L)) (frames : List Captured) → length frames ≡ index
+        → ArePosts L.Recorder script.now begins frames posts.old.items
+        → ArePosts L.Recorder script.now begins (frames ++ frame ∷ []) posts.new.items }
+{
+    let lane = lane_of_frame(&frame, posts.len());
+    let packet = Packet {
+        index,
+        floor: script.floor(index),
+        ceil: script.ceil(index),
+        frame,
+    };
+    send_to(
+        rt,
+        alloc,
+        &mut posts[lane],
+        packet,
+        script,
+        natives,
+        gate,
+        failed,
+    );
 }
 
 /// Reads an opened capture to its end or its tail, or to where it is refused, and sends each packet to the post of its
@@ -47,6 +114,18 @@ pub(crate) fn dispatch<R: Wait, L: Recorder + Drop, S: Source, G: Gate>(
     ensures cause { HasCauseOf (S.faults source.old) (S.faults source.new) (IsErrOf result NextError.ReadFault) }
     ensures lasts { S.lasting source.new ≡ S.lasting source.old }
 {
-    for _ in rt.forever() {}
-    unreachable!()
+    let mut packets = 0;
+    loop {
+        let mut frame = Frame::new(alloc);
+        match capture.next(source, &mut frame)? {
+            Step::Frame => {
+                send_frame(
+                    rt, alloc, posts, packets, frame, script, natives, gate, failed,
+                );
+                packets += 1;
+            }
+            Step::Tail(tail) => return Ok(Whole { packets, tail }),
+            Step::End => return Ok(Whole { packets, tail: 0 }),
+        }
+    }
 }

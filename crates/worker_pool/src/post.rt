@@ -1,12 +1,75 @@
 //! Where the packets of a lane are sent.
 
+ghost use Rattle.std.specs.Prelude.{◌≡◌, ◌++◌, [], ◌∷◌, List};
+ghost use Rattle.control_script.specs.Order.{commands_of};
+ghost use Rattle.lane_rings.specs.declared.items.Packet.{Packet as Sent};
+ghost use Rattle.worker_pool.specs.declared.worker.Worker.{Worker as Begun};
+ghost use Rattle.worker_pool.specs.Posts.{IsPost};
+
+use crate::gate::Gate;
 use crate::seat::Seat;
+use crate::worker::take_turn;
+use control_script::Script;
 use lane_core::Recorder;
-use lane_rings::PacketTx;
+use lane_rings::{Packet, PacketTx};
+use native_filters::NativeBook;
+use std::alloc::Global;
+use std::sync::Wait;
+use std::sync::atomic::AtomicBool;
+use std::thread;
 
 /// Where the dispatcher sends the packets of a lane, and where the lane's worker is.
 #[derive(Drop)]
 pub(crate) struct Post<L: Recorder + Drop> {
     pub(crate) packets: PacketTx,
     pub(crate) seat: Seat<L>,
+}
+
+// Has a worker that is here take one packet out of its ring, and leaves one that is away the time to do so.
+fn make_room<R: Wait, L: Recorder + Drop, G: Gate>(
+    rt: &R,
+    alloc: Global,
+    post: &mut Post<L>,
+    script: &Script,
+    natives: &NativeBook,
+    gate: &G,
+    failed: &AtomicBool,
+)
+    requires post { (begin : Begun L) × (packets : List Sent) × IsPost L.Recorder (commands_of script.now) begin packets post.old }
+    ensures { (begin : Begun L) (packets : List Sent) → IsPost L.Recorder (commands_of script.now) begin packets post.old
+        → IsPost L.Recorder (commands_of script.now) begin packets post.new }
+{
+    match &mut post.seat {
+        Seat::Away(_) => thread::yield_now(),
+        Seat::Here(worker) => {
+            take_turn(rt, alloc, worker, script, natives, gate, failed);
+        }
+    }
+}
+
+/// Sends a packet to a lane. Where its ring has no room, a worker that is here works, and one that is away is waited
+/// for.
+pub(crate) fn send_to<R: Wait, L: Recorder + Drop, G: Gate>(
+    rt: &R,
+    alloc: Global,
+    post: &mut Post<L>,
+    packet: Packet,
+    script: &Script,
+    natives: &NativeBook,
+    gate: &G,
+    failed: &AtomicBool,
+)
+    requires post { (begin : Begun L) × (packets : List Sent) × IsPost L.Recorder (commands_of script.now) begin packets post.old }
+    ensures { (begin : Begun L) (packets : List Sent) → IsPost L.Recorder (commands_of script.now) begin packets post.old
+        → IsPost L.Recorder (commands_of script.now) begin (packets ++ packet ∷ []) post.new }
+{
+    let mut packet = packet;
+    for _ in rt.forever() {
+        match post.packets.send(packet) {
+            Ok(()) => return,
+            Err(back) => packet = back,
+        }
+        make_room(rt, alloc, post, script, natives, gate, failed);
+    }
+    unreachable!()
 }

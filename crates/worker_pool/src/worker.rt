@@ -74,8 +74,8 @@ pub fn work<R: Wait, L: Recorder + Drop, G: Gate>(
     unreachable!()
 }
 
-// Takes a packet out of the ring, and makes of it what the lane can. False where the ring shows none.
-fn take_turn<R: Wait, L: Recorder + Drop, G: Gate>(
+/// Takes a packet out of the ring, and makes of it what the lane can. False where the ring shows none.
+pub(crate) fn take_turn<R: Wait, L: Recorder + Drop, G: Gate>(
     rt: &R,
     alloc: Global,
     w: &mut Worker<L>,

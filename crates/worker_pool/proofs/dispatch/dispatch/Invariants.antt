@@ -1,0 +1,23 @@
+use Rattle.std.proofs.Common.{◌≡◌, ℕ, ◌-◌, ◌≤◌, List, Some, true, length, []}
+use Rattle.pcap_source.specs.Captured.{Captured}
+use Rattle.worker_pool.specs.declared.worker.Worker.{Worker}
+use Rattle.worker_pool.specs.Posts.{ArePosts}
+use Rattle.worker_pool.proofs.Reading.{IsReadTo}
+use Rattle.worker_pool.proofs.dispatch.dispatch.Given as goal
+
+-- The capture is live and has given so many frames. Their packets were sent, and they and what is left are the capture.
+abbrev pub invariant-loop-frame : goal.invariant-loop-frame
+invariant-loop-frame g l = record {
+  live : l.capture.is_live ≡ true;
+  count : l.capture.count ≡ l.packets;
+  few : l.packets ≤ 1048576;
+  some : 1 ≤ length l.posts.items;
+  faults : g.S.Source.faults l.fn.source ≤ g.S.Source.faults l.source;
+  lasts : g.S.Source.lasting l.source ≡ g.S.Source.lasting l.fn.source;
+  read : (frames : List Captured) × (length frames ≡ l.packets)
+      × ((begins : List (Worker g.row.L.Denot)) → ArePosts g.L.Recorder l.script begins [] l.fn.posts.items → ArePosts g.L.Recorder l.script begins frames l.posts.items)
+      × ((bytes : List ℕ) → g.S.Source.left l.fn.source ≡ Some bytes → IsReadTo l.fn.capture bytes frames l.capture (g.S.Source.left l.source));
+}
+
+abbrev pub decreases-loop-frame : goal.decreases-loop-frame
+decreases-loop-frame g l = 1048576 - l.packets
