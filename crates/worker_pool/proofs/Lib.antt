@@ -8,3 +8,9 @@ mod Advancing
 mod Turns
 mod Serving
 mod Beside
+mod Handing
+mod Dealing
+mod Standing
+mod AllLanes
+mod Making
+mod Concluding
