@@ -1,5 +1,5 @@
 -- The end of a run, from the ends of its lanes.
-use Rattle.std.proofs.Common.{◌≡◌, ◌≤◌, ◌<◌, ℕ, ◌+◌, true, false, Bool, List, [], ◌∷◌, length, get_or, map, refl, sym, ap, subst, ◌∙◌, arith}
+use Rattle.std.proofs.Common.{◌≡◌, ◌≤◌, ◌<◌, ℕ, suc, ◌+◌, true, false, Bool, List, [], ◌∷◌, length, get_or, map, refl, sym, ap, subst, ◌∙◌, arith}
 use Rattle.std.specs.Prelude.{◌^◌, ◌-◌, min, nat_lt, IfOk, Result, Ok, Err}
 use Rattle.std.proofs.lemmas.Bool.{ltb-true, ltb-false}
 use Rattle.std.proofs.lemmas.List.{length-map}
@@ -56,23 +56,28 @@ module _ {L : Type 0} (g : Ghosts L) (app : Meaning) (script : List Stamped) (fr
 
 -- ---- the end of the run
 
+pub length-arrivals : (n : ℕ) (frames : List Captured) → length (arrivals n frames) ≡ length frames
+length-arrivals n [] = refl
+length-arrivals n (frame ∷ frames) = ap suc (length-arrivals (n + 1) frames)
+
 module _ (app : Meaning) (script : List Stamped) (lanes : ℕ) (frames : List Captured) (vs : List ℕ) (allowed : MayHave app script lanes frames vs) (records : List Record) (callbacks drops : ℕ) where
   abbrev run : List RecordSoFar
   run = run_of app script vs frames
 
-  module _ (joined : IsJoined true app run records callbacks drops) (weighs : weight_in (map (shown true app) run) ≡ weight run) where
-    weight_is : weight_in records ≡ weight run
-    weight_is = ap weight_in joined.records_are ∙ weighs
+  -- `seen` are the records as the program looks at them
+  module _ (joined : IsJoined true app run records callbacks drops) (weighs : weight_in (map (shown true app) run) ≡ weight run) (seen : List Record) (same : seen ≡ records) where
+    weight_is : weight_in seen ≡ weight run
+    weight_is = ap weight_in (same ∙ joined.records_are) ∙ weighs
 
-    pub too_heavy : weighs_too_much records ≡ true → IsTooHeavy app script lanes frames
+    pub too_heavy : weighs_too_much seen ≡ true → IsTooHeavy app script lanes frames
     too_heavy is = record {
       versions = vs;
       allowed = allowed;
-      heavy = let lt = ltb-true 134217728 (weight_in records) is in let e = weight_is in omega arith;
+      heavy = let lt = ltb-true 134217728 (weight_in seen) is in let e = weight_is in omega arith;
     }
 
-    light : weighs_too_much records ≡ false → weight run ≤ 134217728
-    light is = let le = ltb-false 134217728 (weight_in records) is in let e = weight_is in omega arith
+    light : weighs_too_much seen ≡ false → weight run ≤ 134217728
+    light is = let le = ltb-false 134217728 (weight_in seen) is in let e = weight_is in omega arith
 
     pub records_shown : records ≡ map (record_of app) run
     records_shown = joined.records_are
@@ -82,16 +87,16 @@ module _ (app : Meaning) (script : List Stamped) (lanes : ℕ) (frames : List Ca
     versions_shown (r ∷ rs) = ap (λ l. r.version ∷ l) (versions_shown rs)
 
     module _ (named : map (λ r. r.version) run ≡ vs) (callbacks_fit : weight run ≤ 134217728 → min (callbacks_of run) (2 ^ 64 - 1) ≡ callbacks_of run)
-        (drops_fit : min (drops_of run) (2 ^ 64 - 1) ≡ drops_of run) (packets tail : ℕ) (of_frames : length frames ≡ packets) (light_is : weighs_too_much records ≡ false) where
+        (drops_fit : min (drops_of run) (2 ^ 64 - 1) ≡ drops_of run) (packets tail : ℕ) (of_frames : length frames ≡ packets) (light_is : weighs_too_much seen ≡ false) where
       abbrev pub end_of : List ℕ → LanesEnd
       end_of versions = record {
         records = records;
         versions = versions;
-        totals = record { packets = packets; records = length records; callbacks = callbacks; drops = drops; tail = tail };
+        totals = record { packets = packets; records = length seen; callbacks = callbacks; drops = drops; tail = tail };
       }
 
-      versions_are : map (λ r. r.version) records ≡ vs
-      versions_are = ap (map (λ r. r.version)) records_shown ∙ versions_shown run ∙ named
+      versions_are : map (λ r. r.version) seen ≡ vs
+      versions_are = ap (map (λ r. r.version)) (same ∙ records_shown) ∙ versions_shown run ∙ named
 
       under_vs : IsWhole app script lanes frames tail (end_of vs)
       under_vs = record {
@@ -100,11 +105,11 @@ module _ (app : Meaning) (script : List Stamped) (lanes : ℕ) (frames : List Ca
         records_are = records_shown;
         totals_are =
             let a : packets ≡ length frames = sym of_frames in
-            let b : length records ≡ length run = ap length records_shown ∙ length-map run (record_of app) in
+            let b : length seen ≡ length run = ap length (same ∙ records_shown) ∙ length-map run (record_of app) in
             let c : callbacks ≡ callbacks_of run = joined.callbacks_are ∙ callbacks_fit (light light_is) in
             let d : drops ≡ drops_of run = joined.drops_are ∙ drops_fit in
             cc;
       }
 
-      pub is_whole : (versions : List ℕ) → versions ≡ map (λ r. r.version) records → IsWhole app script lanes frames tail (end_of versions)
+      pub is_whole : (versions : List ℕ) → versions ≡ map (λ r. r.version) seen → IsWhole app script lanes frames tail (end_of versions)
       is_whole versions e = subst (λ v. IsWhole app script lanes frames tail (end_of v)) (sym (e ∙ versions_are)) under_vs

@@ -93,6 +93,9 @@ nothing_handed (s ∷ front) p = absurd (let e = p.1 in cc)
 none_first : (steps : List Step) (ps : List Packet) → handed steps ≡ [] → IsPrefix (handed steps) ps
 none_first steps ps none = (ps, ap (λ l. l ++ ps) none)
 
+behind_same : (r p : Packet) (xs ys zs : List Packet) → r ≡ p → xs ++ ys ≡ zs → (r ∷ xs) ++ ys ≡ p ∷ zs
+behind_same r p xs ys zs same rest = cc
+
 -- ---- packets in turn
 
 module _ (least : ℕ) where
@@ -105,7 +108,7 @@ module _ (least : ℕ) where
       let same : r ≡ p = (let e = q.1 in cc) in
       let next : IsPrefix front behind = (q.0, (let e = q.1 in cc)) in
       let rest = on front (subst (λ (x : Packet). version ≤ x.ceil) same w.0.ceil) next w.1 in
-      (rest.0, ap (λ x. x ∷ handed front ++ rest.0) same ∙ ap (λ l. p ∷ l) rest.1)
+      (rest.0, behind_same r p (handed front) rest.0 ps same rest.1)
 
   module _ (count : ℕ) where
     -- a front of their steps hands over a front of them

@@ -14,3 +14,4 @@ mod Standing
 mod AllLanes
 mod Making
 mod Concluding
+mod LaneEnds

@@ -45,6 +45,43 @@ fn enlist<L: Recorder + Drop>(
     Ok(())
 }
 
+// A team of so many workers. `make` makes their lanes.
+fn team_of<L: Recorder + Drop, F: Fn() -> Result<L, AllocError>>(
+    alloc: Global,
+    count: usize,
+    places: usize,
+    make: F,
+) -> Result<Team<L>, AllocError>
+    requires places { 1 ≤ places }
+    requires callable { F.IsAlwaysCallable make }
+    ensures begun { IfOk result (λ team. (app : Meaning) → ((made : _) → F.post make made → IfOk made (λ lane. IsFresh L.Recorder app lane))
+        → AreBegun L.Recorder app team.workers.items team.packets.items) }
+    ensures count { IfOk result (λ team. length team.workers.items ≡ count) }
+{
+    let mut team = Team {
+        workers: Vec::new(alloc),
+        packets: Vec::new(alloc),
+        commands: Vec::new(alloc),
+    };
+    for _ in 0..count {
+        enlist(alloc, &mut team, make()?, places)?;
+    }
+    Ok(team)
+}
+
+// A lane that has begun nothing, over a store of trees.
+fn lane_over<R: Wait + Copy + Drop, A: App + Copy + Drop>(
+    rt: &R,
+    alloc: Global,
+    app: &A,
+    store: &Arc<ForestStore, Global>,
+) -> Result<Lane<A, StoreUser<R>>, AllocError>
+    ensures { IfOk result (λ lane. IsFresh ⟦<Lane<A, StoreUser<R>> as Recorder>⟧ (A.meaning app.now) lane) }
+{
+    let user = StoreUser::new(Arc::try_clone(store)?, *rt);
+    Lane::new(alloc, *app, user, true)
+}
+
 /// Makes a worker for each lane of a run. All look at one store of trees.
 pub(crate) fn make_team<R: Wait + Copy + Drop, A: App + Copy + Drop>(
     rt: &R,
@@ -57,15 +94,7 @@ pub(crate) fn make_team<R: Wait + Copy + Drop, A: App + Copy + Drop>(
 {
     let places = (job.script.len() as usize).max(1);
     let store = Arc::new(alloc, ForestStore::new(alloc)?)?;
-    let mut team = Team {
-        workers: Vec::new(alloc),
-        packets: Vec::new(alloc),
-        commands: Vec::new(alloc),
-    };
-    for _ in 0..job.workers {
-        let user = StoreUser::new(Arc::try_clone(&store)?, *rt);
-        let lane = Lane::new(alloc, job.app, user, true)?;
-        enlist(alloc, &mut team, lane, places)?;
-    }
-    Ok(team)
+    team_of(alloc, job.workers, places, || {
+        lane_over(rt, alloc, &job.app, &store)
+    })
 }
