@@ -1,5 +1,5 @@
 -- The end of a run, from the ends of its lanes.
-use Rattle.std.proofs.Common.{◌≡◌, ◌≤◌, ◌<◌, ℕ, suc, ◌+◌, true, false, Bool, List, [], ◌∷◌, length, get_or, map, refl, sym, ap, subst, ◌∙◌, arith}
+use Rattle.std.proofs.Common.{◌≡◌, ◌≤◌, ◌<◌, ℕ, suc, ◌+◌, true, false, Bool, List, [], ◌∷◌, length, get_or, map, refl, sym, ap, subst, ◌∙◌, ◌⊎◌, ⊎_elim, arith}
 use Rattle.std.specs.Prelude.{◌^◌, ◌-◌, min, nat_lt, IfOk, Result, Ok, Err}
 use Rattle.std.proofs.lemmas.Bool.{ltb-true, ltb-false}
 use Rattle.std.proofs.lemmas.List.{length-map}
@@ -20,7 +20,9 @@ use Rattle.worker_laws.specs.Weight.{weight_in, weighs_too_much}
 use Rattle.worker_pool.specs.declared.worker.Worker.{Worker}
 use Rattle.worker_pool.specs.declared.job.LanesEnd.{LanesEnd}
 use Rattle.worker_pool.specs.Run.{MayHave, run_of, totals_of, IsWhole, IsTooHeavy}
-use Rattle.worker_pool.specs.Ending.{by_key, CameTo, HasEnded, AreEnded}
+use Rattle.worker_pool.specs.declared.job.PoolError.{PoolError}
+use Rattle.worker_pool.specs.declared.job.PoolError.TheVariants.{TooLong, TooMany, ReadFault, Heavy, NoMemory}
+use Rattle.worker_pool.specs.Ending.{by_key, CameTo, HasEnded, AreEnded, IsCause, IsJoinedRun}
 
 any_of : {A : Type 0} (xs : List A) (k : ℕ) → k < length xs → A
 any_of [] k lt = absurd (omega arith)
@@ -53,6 +55,21 @@ module _ {L : Type 0} (g : Ghosts L) (app : Meaning) (script : List Stamped) (fr
       let among : k < length ends = (let e = ended.count in omega arith) in
       let w = any_of workers k below in
       came.whole k w below (ended.each k w (any_of ends k among) below).good
+
+-- ---- why there is no end
+
+module _ {L : Type 0} (g : Ghosts L) (app : Meaning) (script : List Stamped) (frames : List Captured) (workers : List (Worker L)) (lanes : List (List LaneEvent)) (came : CameTo g app script frames workers lanes) where
+  -- no memory was there, or a lane was heavy, and so the run is
+  pub refused : (n : ℕ) (e : PoolError) → (e ≡ NoMemory) ⊎ ((k : ℕ) × (k < length workers) × ((w : Worker L) → IsCause g (get_or workers k w) e))
+      → ((k : ℕ) → IsHeavy app (events_at lanes k) → IsTooHeavy app script n frames) → IsJoinedRun app script n frames (Err e)
+  refused n NoMemory why heavy = tt
+  refused n Heavy why heavy = ⊎_elim
+      (λ none. absurd (cc))
+      (λ one. let w = any_of workers one.0 one.1 in heavy one.0 (came.heavy one.0 w one.1 (one.2 w)))
+      why
+  refused n ReadFault why heavy = ⊎_elim (λ none. absurd (cc)) (λ one. absurd (one.2 (any_of workers one.0 one.1))) why
+  refused n (TooLong offset) why heavy = ⊎_elim (λ none. absurd (cc)) (λ one. absurd (one.2 (any_of workers one.0 one.1))) why
+  refused n (TooMany offset) why heavy = ⊎_elim (λ none. absurd (cc)) (λ one. absurd (one.2 (any_of workers one.0 one.1))) why
 
 -- ---- the end of the run
 

@@ -1,5 +1,5 @@
 -- One more worker of a team.
-use Rattle.std.proofs.Common.{◌≡◌, ◌<◌, ℕ, ◌+◌, List, [], ◌∷◌, ◌++◌, length, get_or, sym, ap, subst, ◌∙◌, ⊎_elim, arith}
+use Rattle.std.proofs.Common.{◌≡◌, ◌<◌, ◌≤◌, ℕ, ◌+◌, List, [], ◌∷◌, ◌++◌, length, get_or, sym, ap, subst, ◌∙◌, ⊎_elim, arith}
 use Rattle.std.proofs.lemmas.List.{length_push, get_or_append_left, get_or_push}
 use Rattle.std.proofs.lemmas.List.Elements.{All-push}
 use Rattle.std.proofs.lemmas.Bool.{cases_lt}
@@ -9,7 +9,7 @@ use Rattle.lane_rings.specs.declared.ring.RingTx.{RingTx}
 use Rattle.lane_rings.specs.Ring.{sent, AreEnds}
 use Rattle.lane_core.specs.declared.recorder.Recorder.{Ghosts}
 use Rattle.worker_pool.specs.declared.worker.Worker.{Worker}
-use Rattle.worker_pool.specs.Team.{IsNew}
+use Rattle.worker_pool.specs.Team.{IsNew, IsTeam}
 use Rattle.worker_pool.specs.Making.{AreBegun}
 
 module _ {L : Type 0} (g : Ghosts L) (app : Meaning) where
@@ -31,4 +31,14 @@ module _ {L : Type 0} (g : Ghosts L) (app : Meaning) where
             (subst (λ (x : Worker L). AreEnds tx x.packets) (sym (get_or_push workers w v k here)) ends))
         (cases_lt k (length workers));
     each_sent = λ k t lt. All-push (λ (x : RingTx Packet). sent x ≡ []) packets tx begun.each_sent none k t lt;
+  }
+
+  -- at least one of them is a team
+  pub team_begun : (workers : List (Worker L)) (packets : List (RingTx Packet)) → AreBegun g app workers packets → 1 ≤ length workers → IsTeam g app workers packets
+  team_begun workers packets begun some = record {
+    some = some;
+    count = begun.count;
+    each_new = begun.each_new;
+    each_ends = begun.each_ends;
+    each_sent = begun.each_sent;
   }

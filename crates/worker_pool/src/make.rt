@@ -94,7 +94,8 @@ pub(crate) fn make_team<R: Wait + Copy + Drop, A: App + Copy + Drop>(
 {
     let places = (job.script.len() as usize).max(1);
     let store = Arc::new(alloc, ForestStore::new(alloc)?)?;
-    team_of(alloc, job.workers, places, || {
+    let team = team_of(alloc, job.workers, places, || {
         lane_over(rt, alloc, &job.app, &store)
-    })
+    })?;
+    Ok(team)
 }
