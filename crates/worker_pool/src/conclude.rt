@@ -4,6 +4,7 @@ ghost use Rattle.std.specs.Prelude.{◌≡◌, ◌<◌, ◌≤◌, ◌⊎◌, �
 ghost use Rattle.app_api.specs.App.{Meaning};
 ghost use Rattle.pcap_source.specs.Captured.{Captured};
 ghost use Rattle.control_script.specs.declared.stamped.Stamped.{Stamped};
+ghost use Rattle.control_script.specs.Versions.{floor, ceil};
 ghost use Rattle.lane_rings.specs.declared.items.Packet.{Packet};
 ghost use Rattle.lane_rings.specs.declared.ring.RingTx.{RingTx};
 ghost use Rattle.lane_core.specs.Run.{LaneEvent};
@@ -35,8 +36,10 @@ fn lanes_have_come<L: Recorder + Drop>(script: &Script, workers: &[Worker<L>])
     ensures came { (app : Meaning) (frames : List Captured) (begins : List (Begun L)) (packets : List (RingTx Packet))
         → length frames ≤ 1048576 → IsTeam L.Recorder app begins packets → HaveServed L.Recorder script.now begins frames workers.now
         → (lanes : List (List LaneEvent)) × CameTo L.Recorder app script.now frames workers.now lanes }
+    ensures floors { (n : ℕ) → floor script.now n ≤ ceil script.now n }
+    ensures ceilings { (n m : ℕ) → n ≤ m → ceil script.now n ≤ ceil script.now m }
 {
-    script.len();
+    let _commands = script.len();
     packets_go_to_lanes();
     a_script_gives_floors_and_ceilings();
 }
