@@ -10,3 +10,10 @@ mod Serving
 mod Beside
 mod Posted
 mod Reading
+mod Handing
+mod Dealing
+mod Standing
+mod AllLanes
+mod Making
+mod Concluding
+mod LaneEnds

@@ -6,3 +6,5 @@ pub mod Sent
 pub mod Posts
 pub mod Team
 pub mod Run
+pub mod Ending
+pub mod Making

@@ -8,8 +8,11 @@ ghost use Rattle.forest_versions.specs.State.{start};
 ghost use Rattle.control_script.specs.Order.{commands_of};
 ghost use Rattle.worker_pool.specs.Run.{EndsOver};
 
+use crate::conclude::conclude;
 use crate::gate::Gate;
 use crate::job::{Job, LanesEnd, PoolError};
+use crate::make::make_team;
+use crate::team::run_team;
 use app_api::App;
 use mos_bytes::Source;
 use native_filters::NativeBook;
@@ -50,6 +53,9 @@ pub fn run_lanes<
     ensures cause { HasCauseOf (S.faults source.old) (S.faults source.new) (IsErrOf result PoolError.ReadFault) }
     ensures lasts { S.lasting source.new ≡ S.lasting source.old }
 {
-    for _ in rt.forever() {}
-    unreachable!()
+    let team = make_team(rt, alloc, job)?;
+    let ran = run_team(
+        rt, alloc, team, job.script, natives, gate, capture, source,
+    )?;
+    conclude(alloc, job.script, ran)
 }

@@ -1,12 +1,14 @@
 //! Workers: each runs a lane in a thread of its own, fed by a ring of packets and a ring of places in the script.
 #![tactic(auto)]
 
+mod conclude;
 mod dispatch;
 mod ends;
 mod gate;
 mod job;
 mod lanes;
 mod left;
+mod make;
 mod places;
 mod post;
 mod seat;

@@ -1,0 +1,177 @@
+-- The end of a run, from the ends of its lanes.
+use Rattle.std.proofs.Common.{◌≡◌, ◌≤◌, ◌<◌, ℕ, suc, ◌+◌, true, false, Bool, List, [], ◌∷◌, length, get_or, map, refl, sym, ap, subst, ◌∙◌, ◌⊎◌, ⊎_elim, arith}
+use Rattle.std.specs.Prelude.{◌^◌, ◌-◌, min, nat_lt, IfOk, Result, Ok, Err, IsErrOf}
+use Rattle.std.proofs.lemmas.Bool.{ltb-true, ltb-false}
+use Rattle.std.proofs.lemmas.List.{length-map}
+use Rattle.app_api.specs.App.{Meaning}
+use Rattle.pcap_source.specs.Captured.{Captured}
+use Rattle.pcap_source.specs.Capture.{tail}
+use Rattle.control_script.specs.declared.stamped.Stamped.{Stamped}
+use Rattle.report_text.specs.declared.record.Record.{Record}
+use Rattle.lane_core.specs.declared.end.LaneEnd.{LaneEnd}
+use Rattle.lane_core.specs.declared.recorder.Recorder.{Ghosts}
+use Rattle.lane_core.specs.Sight.{arrivals}
+use Rattle.lane_core.specs.Records.{RecordSoFar}
+use Rattle.lane_core.specs.Run.{LaneEvent, lane_run}
+use Rattle.lane_core.specs.Shown.{record_of, weight, callbacks_of, drops_of}
+use Rattle.lane_core.specs.Lane.{IsEnd, IsHeavy, shown}
+use Rattle.control_script.specs.Order.{commands_of}
+use Rattle.control_script.specs.Versions.{floor, ceil}
+use Rattle.worker_laws.specs.declared.ends.Joined.{Joined}
+use Rattle.worker_laws.specs.Ends.{AreEnds, IsJoined}
+use Rattle.worker_laws.specs.Taken.{events_at, HaveRunAll, AreOneRun}
+use Rattle.worker_laws.specs.Whole.{IsAllowedRun, run_under}
+use Rattle.worker_laws.specs.Weight.{weight_in, weighs_too_much}
+use Rattle.worker_pool.specs.declared.worker.Worker.{Worker}
+use Rattle.worker_pool.specs.declared.job.LanesEnd.{LanesEnd}
+use Rattle.worker_pool.specs.Run.{MayHave, run_of, totals_of, IsWhole, IsTooHeavy, EndsOver}
+use Rattle.worker_pool.specs.declared.job.PoolError.{PoolError}
+use Rattle.worker_pool.specs.declared.job.PoolError.TheVariants.{TooLong, TooMany, ReadFault, Heavy, NoMemory}
+use Rattle.worker_pool.specs.Ending.{by_key, CameTo, HasEnded, AreEnded, IsCause, IsJoinedRun, Concludes}
+
+any_of : {A : Type 0} (xs : List A) (k : ℕ) → k < length xs → A
+any_of [] k lt = absurd (omega arith)
+any_of (x ∷ xs) k lt = x
+
+-- ---- the ends of lanes
+
+module _ {L : Type 0} (g : Ghosts L) (app : Meaning) (script : List Stamped) (frames : List Captured) (workers : List (Worker L)) (lanes : List (List LaneEvent)) (came : CameTo g app script frames workers lanes)
+    (ends : List LaneEnd) (ended : AreEnded g workers ends) where
+  at_end : (k : ℕ) (d : LaneEnd) → k < length workers → (w : Worker L) × HasEnded g (get_or workers k w) (get_or ends k d)
+  at_end k d lt = let w = any_of workers k lt in (w, ended.each k w d lt)
+
+  -- each is the end of the lane's run
+  pub lanes_end : AreEnds true app lanes ends
+  lanes_end = record {
+    count = came.count ∙ ended.count;
+    each = λ k d lt.
+        let below : k < length workers = (let e = ended.count in omega arith) in
+        let w = any_of workers k below in
+        let end = get_or ends k d in
+        let ran = (ended.each k w d below).end_is (events_at lanes k) (came.stands k w below) in
+        subst (λ b. IsEnd b app (lane_run app (events_at lanes k)) end.records end.versions end.callbacks end.drops) (came.keeps k w below)
+        (subst (λ (m : Meaning). IsEnd (g.keeps (get_or workers k w).lane) m (lane_run m (events_at lanes k)) end.records end.versions end.callbacks end.drops) (came.app_is k w below) ran);
+  }
+
+  -- none of them failed, so each ran its whole share
+  pub all_run : HaveRunAll (by_key (length workers)) (arrivals 0 frames) lanes
+  all_run k lt =
+      let below : k < length workers = (let e = came.count in omega arith) in
+      let among : k < length ends = (let e = ended.count in omega arith) in
+      let w = any_of workers k below in
+      came.whole k w below (ended.each k w (any_of ends k among) below).good
+
+  -- joined, they are the end of one run
+  pub joined_run : (n : ℕ) → n ≡ length workers → (joined : Joined)
+      → ((vs : List ℕ) × IsAllowedRun app (commands_of script) (floor script) (ceil script) (by_key (length workers)) (arrivals 0 frames) vs × AreOneRun app (commands_of script) (by_key (length workers)) (arrivals 0 frames) lanes vs)
+      → ((vs : List ℕ) → AreOneRun app (commands_of script) (by_key (length workers)) (arrivals 0 frames) lanes vs → IsJoined true app (run_of app script vs frames) joined.records joined.callbacks joined.drops)
+      → IsJoinedRun app script n frames (Ok joined)
+  joined_run n same joined run joins = (run.0, subst (λ m. MayHave app script m frames run.0) (sym same) run.1, joins run.0 run.2)
+
+-- ---- why there is no end
+
+module _ {L : Type 0} (g : Ghosts L) (app : Meaning) (script : List Stamped) (frames : List Captured) (workers : List (Worker L)) (lanes : List (List LaneEvent)) (came : CameTo g app script frames workers lanes) where
+  -- no memory was there, or a lane was heavy, and so the run is
+  pub refused : (n : ℕ) (e : PoolError) → n ≡ length workers → (e ≡ NoMemory) ⊎ ((k : ℕ) × (k < length workers) × ((w : Worker L) → IsCause g (get_or workers k w) e))
+      → ((k : ℕ) → IsHeavy app (events_at lanes k)
+      → (vs : List ℕ) × IsAllowedRun app (commands_of script) (floor script) (ceil script) (by_key (length workers)) (arrivals 0 frames) vs × (134217728 < weight (run_under app (commands_of script) vs (arrivals 0 frames))))
+      → IsJoinedRun app script n frames (Err e)
+  refused n NoMemory same why heavy = tt
+  refused n Heavy same why heavy = ⊎_elim
+      (λ none. absurd (cc))
+      (λ one.
+          let w = any_of workers one.0 one.1 in
+          let run = heavy one.0 (came.heavy one.0 w one.1 (one.2 w)) in
+          record { versions = run.0; allowed = subst (λ m. MayHave app script m frames run.0) (sym same) run.1; heavy = run.2 })
+      why
+  refused n ReadFault same why heavy = ⊎_elim (λ none. absurd (cc)) (λ one. absurd (one.2 (any_of workers one.0 one.1))) why
+  refused n (TooLong offset) same why heavy = ⊎_elim (λ none. absurd (cc)) (λ one. absurd (one.2 (any_of workers one.0 one.1))) why
+  refused n (TooMany offset) same why heavy = ⊎_elim (λ none. absurd (cc)) (λ one. absurd (one.2 (any_of workers one.0 one.1))) why
+
+-- ---- the end of the run
+
+pub length-arrivals : (n : ℕ) (frames : List Captured) → length (arrivals n frames) ≡ length frames
+length-arrivals n [] = refl
+length-arrivals n (frame ∷ frames) = ap suc (length-arrivals (n + 1) frames)
+
+module _ (app : Meaning) (script : List Stamped) (lanes : ℕ) (frames : List Captured) (vs : List ℕ) (allowed : MayHave app script lanes frames vs) (records : List Record) (callbacks drops : ℕ) where
+  abbrev run : List RecordSoFar
+  run = run_of app script vs frames
+
+  -- `seen` are the records as the program looks at them
+  module _ (joined : IsJoined true app run records callbacks drops) (weighs : weight_in (map (shown true app) run) ≡ weight run) (seen : List Record) (same : seen ≡ records) where
+    weight_is : weight_in seen ≡ weight run
+    weight_is = ap weight_in (same ∙ joined.records_are) ∙ weighs
+
+    pub too_heavy : weighs_too_much seen ≡ true → IsTooHeavy app script lanes frames
+    too_heavy is = record {
+      versions = vs;
+      allowed = allowed;
+      heavy = let lt = ltb-true 134217728 (weight_in seen) is in let e = weight_is in omega arith;
+    }
+
+    light : weighs_too_much seen ≡ false → weight run ≤ 134217728
+    light is = let le = ltb-false 134217728 (weight_in seen) is in let e = weight_is in omega arith
+
+    pub records_shown : records ≡ map (record_of app) run
+    records_shown = joined.records_are
+
+    versions_shown : (rs : List RecordSoFar) → map (λ r. r.version) (map (record_of app) rs) ≡ map (λ r. r.version) rs
+    versions_shown [] = refl
+    versions_shown (r ∷ rs) = ap (λ l. r.version ∷ l) (versions_shown rs)
+
+    module _ (named : map (λ r. r.version) run ≡ vs) (callbacks_fit : weight run ≤ 134217728 → min (callbacks_of run) (2 ^ 64 - 1) ≡ callbacks_of run)
+        (drops_fit : min (drops_of run) (2 ^ 64 - 1) ≡ drops_of run) (packets bytes : ℕ) (of_frames : length frames ≡ packets) (light_is : weighs_too_much seen ≡ false) where
+      abbrev pub end_of : List ℕ → LanesEnd
+      end_of versions = record {
+        records = records;
+        versions = versions;
+        totals = record { packets = packets; records = length seen; callbacks = callbacks; drops = drops; tail = bytes };
+      }
+
+      versions_are : map (λ r. r.version) seen ≡ vs
+      versions_are = ap (map (λ r. r.version)) (same ∙ records_shown) ∙ versions_shown run ∙ named
+
+      under_vs : IsWhole app script lanes frames bytes (end_of vs)
+      under_vs = record {
+        allowed = allowed;
+        light = light light_is;
+        records_are = records_shown;
+        totals_are =
+            let a : packets ≡ length frames = sym of_frames in
+            let b : length seen ≡ length run = ap length (same ∙ records_shown) ∙ length-map run (record_of app) in
+            let c : callbacks ≡ callbacks_of run = joined.callbacks_are ∙ callbacks_fit (light light_is) in
+            let d : drops ≡ drops_of run = joined.drops_are ∙ drops_fit in
+            cc;
+      }
+
+      pub is_whole : (versions : List ℕ) → versions ≡ map (λ r. r.version) seen → IsWhole app script lanes frames bytes (end_of versions)
+      is_whole versions e = subst (λ v. IsWhole app script lanes frames bytes (end_of v)) (sym (e ∙ versions_are)) under_vs
+
+-- ---- how a run ends over a capture
+
+module _ (app : Meaning) (script : List Stamped) (lanes : ℕ) (frames : List Captured) (bytes : ℕ) where
+  -- why the lanes aren't joined is why the run has no end
+  pub not_joined : (e : PoolError) → IsJoinedRun app script lanes frames (Err e) → Concludes app script lanes frames bytes (Err e)
+  not_joined NoMemory is = is
+  not_joined Heavy is = is
+  not_joined ReadFault is = is
+  not_joined (TooLong offset) is = is
+  not_joined (TooMany offset) is = is
+
+  pub concluded : (r : Result LanesEnd PoolError) → Concludes app script lanes frames bytes r → EndsOver app script lanes (record { frames = frames; ending = tail bytes }) r
+  concluded (Ok end) is = (bytes, refl, is)
+  concluded (Err NoMemory) is = is
+  concluded (Err Heavy) is = (bytes, refl, is)
+  concluded (Err ReadFault) is = absurd is
+  concluded (Err (TooLong offset)) is = absurd is
+  concluded (Err (TooMany offset)) is = absurd is
+
+  -- a run that read all of it ends with no fault of the source
+  pub no_fault : (r : Result LanesEnd PoolError) → Concludes app script lanes frames bytes r → IsErrOf r ReadFault → ⊥
+  no_fault (Ok end) is fault = ?
+  no_fault (Err NoMemory) is fault = ?
+  no_fault (Err Heavy) is fault = ?
+  no_fault (Err ReadFault) is fault = is
+  no_fault (Err (TooLong offset)) is fault = is
+  no_fault (Err (TooMany offset)) is fault = is

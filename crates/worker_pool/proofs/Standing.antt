@@ -1,0 +1,115 @@
+-- What a worker's lane stands for, once it has served its packets of a capture.
+use Rattle.std.proofs.Common.{◌≡◌, ◌≤◌, ◌<◌, ℕ, zero, suc, ◌+◌, true, Some, None, List, [], ◌∷◌, ◌++◌, length, map, drop, get_or, refl, sym, ap, subst, ◌∙◌, arith}
+use Rattle.std.specs.List.{All}
+use Rattle.std.proofs.lemmas.List.{append-nil, length-map, map-append}
+use mathlib.Core.List.{IsPrefix}
+use Rattle.packet_views.specs.Packet.{packet_of}
+use Rattle.pcap_source.specs.Captured.{Captured}
+use Rattle.flow_table.specs.Lane.{lane_of_packet}
+use Rattle.app_api.specs.App.{Meaning}
+use Rattle.control_script.specs.declared.stamped.Stamped.{Stamped}
+use Rattle.control_script.specs.Order.{commands_of}
+use Rattle.control_script.specs.Versions.{floor, ceil}
+use Rattle.lane_rings.specs.declared.items.Packet.{Packet}
+use Rattle.lane_core.specs.declared.errors.LaneError.TheVariants.{Heavy}
+use Rattle.lane_core.specs.declared.recorder.Recorder.{Ghosts}
+use Rattle.lane_core.specs.Sight.{arrivals, sight_of}
+use Rattle.lane_core.specs.Run.{LaneEvent, versioned_from, commands_of as given_in}
+use Rattle.lane_core.specs.Lane.{IsHeavy}
+use Rattle.worker_laws.specs.Allowed.{arrivals_of, IsWithin}
+use Rattle.worker_laws.specs.Lanes.{lane_of, share}
+use Rattle.worker_pool.specs.declared.worker.Worker.{Worker}
+use Rattle.worker_pool.specs.Steps.{Step, steps_of, events_of, AreWithin}
+use Rattle.worker_pool.specs.Worked.{Ran, at_hand}
+use Rattle.worker_pool.specs.Sent.{packets_from, dealt}
+use Rattle.worker_pool.specs.Team.{IsNew, HasServed}
+use Rattle.worker_pool.specs.Ending.{by_key}
+use Rattle.worker_pool.proofs.Composed.{by_failure}
+use Rattle.worker_pool.proofs.Fronts.{IsPrefix-refl}
+use Rattle.worker_pool.proofs.Handing.{handed, arrival_in, AreInTurn, handed_front, handed_whole, arrivals-handed, arrive_within, IsMarked, All-front}
+use Rattle.worker_pool.proofs.Dealing.{AreOrdered, dealt_marked, dealt_in_turn, dealt_is_share}
+
+IsPrefix-map : {A B : Type 0} (f : A → B) (xs ys : List A) → IsPrefix xs ys → IsPrefix (map f xs) (map f ys)
+IsPrefix-map f xs ys p = (map f p.0, sym (map-append f xs p.0) ∙ ap (map f) p.1)
+
+module _ {L : Type 0} (g : Ghosts L) (app : Meaning) (script : List Stamped) (frames : List Captured) (lanes l : ℕ) where
+  -- the events that a lane stands for: commands of the script, and packets of its share
+  pub record HasCome (lane : L) (events : List LaneEvent) : Type 0 where
+    pub app_is : g.app lane ≡ app
+    pub keeps : g.keeps lane ≡ true
+    pub stands : g.stands lane events
+    pub commands : IsPrefix (given_in events) (commands_of script)
+    pub packets : IsPrefix (arrivals_of (versioned_from 0 events)) (share (by_key lanes) l (arrivals 0 frames))
+    pub within : All (λ p. IsWithin (floor script) (ceil script) p.version p.arrival.number) (versioned_from 0 events)
+    pub whole : g.failed lane ≡ None → arrivals_of (versioned_from 0 events) ≡ share (by_key lanes) l (arrivals 0 frames)
+    pub heavy : g.failed lane ≡ Some Heavy → IsHeavy app events
+
+  module _ (ordered : AreOrdered script) (few : length frames ≤ 1048576) (dealt_by_key : (frame : List ℕ) → lane_of (by_key lanes) (sight_of frame) ≡ lane_of_packet (packet_of frame) lanes) where
+    abbrev its : List Packet
+    its = dealt lanes l (packets_from script 0 frames)
+
+    module _ (a b : Worker L) (new : IsNew g app a) (served : HasServed g (commands_of script) a its b) where
+      abbrev ran : Ran g (commands_of script) a b served.worked.packets served.worked.places
+      ran = served.worked.ran new.failed
+
+      abbrev steps : List Step
+      steps = ran.done ++ ran.bad
+
+      abbrev all_steps : List Step
+      all_steps = steps_of (length script) None 0 ran.turns
+
+      -- its turns are those of its packets
+      its_turns : map (λ t. t.packet) ran.turns ≡ its
+      its_turns = ran.of_packets ∙ ap (λ ps. ps ++ served.worked.packets) (sym new.packets) ∙ sym served.worked.took_packets.gone ∙ served.took
+
+      in_turn : AreInTurn (length script) None 0 (map (λ t. t.packet) ran.turns)
+      in_turn = subst (AreInTurn (length script) None 0) (sym its_turns) (dealt_in_turn script ordered lanes l 0 0 None frames (omega arith) (λ m at. refl) (omega arith))
+
+      from_new : steps_of (length (commands_of script)) (g.last a.lane) (g.given a.lane) ran.turns ≡ all_steps
+      from_new =
+          ap (λ n. steps_of n (g.last a.lane) (g.given a.lane) ran.turns) (length-map script (λ s. s.command))
+          ∙ ap (λ o. steps_of (length script) o (g.given a.lane) ran.turns) new.last
+          ∙ ap (λ v. steps_of (length script) None v ran.turns) new.given
+
+      steps_whole : g.failed b.lane ≡ None → steps ≡ all_steps
+      steps_whole good = ap (λ x. ran.done ++ x) (ran.went.good good) ∙ append-nil ran.done ∙ ran.went.whole good ∙ from_new
+
+      steps_front : IsPrefix steps all_steps
+      steps_front = by_failure (g.failed b.lane)
+          (λ good. subst (IsPrefix steps) (steps_whole good) (IsPrefix-refl steps))
+          (λ bad. subst (IsPrefix steps) from_new (ran.went.front bad))
+
+      steps_within : AreWithin (at_hand g a) 0 steps
+      steps_within = subst (λ v. AreWithin (at_hand g a) v steps) new.given ran.went.within
+
+      handed_of_its : IsPrefix (handed steps) its
+      handed_of_its = subst (IsPrefix (handed steps)) its_turns (handed_front (at_hand g a) (length script) None 0 0 ran.turns steps in_turn (omega arith) steps_front steps_within)
+
+      handed_all : g.failed b.lane ≡ None → handed steps ≡ its
+      handed_all good =
+          ap handed (steps_whole good)
+          ∙ handed_whole (at_hand g a) (length script) None 0 0 ran.turns in_turn (omega arith) (subst (AreWithin (at_hand g a) 0) (steps_whole good) steps_within)
+          ∙ its_turns
+
+      its_share : map arrival_in its ≡ share (by_key lanes) l (arrivals 0 frames)
+      its_share = dealt_is_share lanes l dealt_by_key script 0 frames
+
+      arrived : arrivals_of (versioned_from 0 (events_of steps)) ≡ map arrival_in (handed steps)
+      arrived = arrivals-handed 0 steps
+
+      abbrev pub came_events : List LaneEvent
+      came_events = events_of steps
+
+      pub has_come : HasCome b.lane came_events
+      has_come = record {
+        app_is = served.worked.app ∙ new.app_is;
+        keeps = served.worked.keeps ∙ new.keeps;
+        stands = ran.went.stands [] new.stands;
+        commands = subst (λ v. IsPrefix (given_in (events_of steps)) (drop v (commands_of script))) new.given ran.went.commands;
+        packets = subst (λ x. IsPrefix x (share (by_key lanes) l (arrivals 0 frames))) (sym arrived)
+            (subst (IsPrefix (map arrival_in (handed steps))) its_share (IsPrefix-map arrival_in (handed steps) its handed_of_its));
+        within = arrive_within (floor script) (ceil script) (at_hand g a) 0 steps steps_within
+            (All-front (IsMarked (floor script) (ceil script)) (handed steps) its handed_of_its (dealt_marked script lanes l 0 frames));
+        whole = λ good. arrived ∙ ap (map arrival_in) (handed_all good) ∙ its_share;
+        heavy = λ is. subst (λ (m : Meaning). IsHeavy m (events_of steps)) new.app_is (ran.went.heavy is [] new.stands);
+      }

@@ -1,0 +1,36 @@
+use denote.Param.Send.{sendable}
+use Rattle.std.proofs.Common.{◌≡◌, List, length, sym, subst}
+use Rattle.std.proofs.Crossing.{crosses}
+use Rattle.pcap_source.specs.Capture.{Frames, tail}
+use Rattle.shared_forest.proofs.store_user.StoreUser.TheSendSync as user
+use Rattle.lane_core.proofs.Handed.{lane_send}
+use Rattle.worker_pool.specs.Run.{EndsOver}
+use Rattle.worker_pool.specs.Ending.{Concludes}
+use Rattle.worker_pool.proofs.Concluding.{concluded, no_fault}
+use Rattle.worker_pool.proofs.lanes.run_lanes.Goals as goal
+
+pub run_team-requires-send-L : goal.run_team-requires-send-L
+run_team-requires-send-L g c κs within = search (sendable, crosses, lane_send, user.the_send, c.type_bounds.send-A, c.type_bounds.send-R) depth 30
+
+pub returns-clause-ends : goal.returns-clause-ends
+returns-clause-ends g c rest is =
+    let app = g.A.App.meaning c.args.job.now.app in
+    let script = c.args.job.now.script.now in
+    let ran = c.in_ok-ran.ensures.ran in
+    let end = c.conclude.ensures.ends app ran.0 c.in_ok-team.team.workers.items c.in_ok-team.team.packets.items ran.1 ran.2 c.in_ok-team.ensures.team ran.4 in
+    let over = subst (λ n. Concludes app script n ran.0 c.in_ok-ran.ran.tail c.conclude.result) c.in_ok-team.ensures.count end in
+    subst (λ (f : Frames). EndsOver app script c.args.job.now.workers f c.conclude.result) (sym (ran.3 rest is).0)
+    (concluded app script c.args.job.now.workers ran.0 c.in_ok-ran.ran.tail c.conclude.result over)
+
+pub returns-clause-read : goal.returns-clause-read
+returns-clause-read g c ok rest is = (c.in_ok-ran.ensures.ran.3 rest is).1
+
+pub returns-clause-cause : goal.returns-clause-cause
+returns-clause-cause g c = record {
+  later = c.in_ok-ran.ensures.cause.later;
+  cause = λ fault.
+      let app = g.A.App.meaning c.args.job.now.app in
+      let ran = c.in_ok-ran.ensures.ran in
+      absurd (no_fault app c.args.job.now.script.now (length c.in_ok-team.team.workers.items) ran.0 c.in_ok-ran.ran.tail c.conclude.result
+      (c.conclude.ensures.ends app ran.0 c.in_ok-team.team.workers.items c.in_ok-team.team.packets.items ran.1 ran.2 c.in_ok-team.ensures.team ran.4) fault);
+}
