@@ -25,8 +25,8 @@ use report_text::{Record, Totals, write_report};
 use std::alloc::Global;
 use worker_pool::versions::versions_of;
 
-// Writes what is written at the end.
-fn write_end<O: Sink>(
+/// Writes what is written at the end.
+pub(crate) fn write_end<O: Sink>(
     alloc: Global,
     output: Output,
     records: &[Record],

@@ -4,11 +4,13 @@
 mod advance;
 mod close;
 mod gathered;
+pub mod laws;
 pub mod output;
 pub mod refusal;
 mod replay;
 pub mod run;
 mod script;
+mod several;
 mod single;
 mod summary;
 mod telling;
