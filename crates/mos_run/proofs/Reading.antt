@@ -43,13 +43,13 @@ module _ (app : Meaning) (script : List Stamped) where
   records_last law frames frame number count =
       ap (records app (control_at app script)) (packets_last script frames frame number count) ∙ law app (control_at app script) (packets_of script frames) (packet_of script number frame)
 
-  over-limit : (n : ℕ) → 134217728 < n → nat_lt 134217728 n ≡ true
+  pub over-limit : (n : ℕ) → 134217728 < n → nat_lt 134217728 n ≡ true
   over-limit n over = grind (arith, common_steps)
 
   is_over : (n : ℕ) → nat_lt 134217728 n ≡ true → 134217728 < n
   is_over n over = grind (arith, common_steps)
 
-  under-limit : (n : ℕ) → (134217728 < n → ⊥) → nat_lt 134217728 n ≡ false
+  pub under-limit : (n : ℕ) → (134217728 < n → ⊥) → nat_lt 134217728 n ≡ false
   under-limit n under = by (nat_lt 134217728 n) refl
     where
       by : (b : Bool) → nat_lt 134217728 n ≡ b → b ≡ false

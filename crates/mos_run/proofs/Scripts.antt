@@ -70,11 +70,13 @@ line-by presets n before after false (Err e) ordered is = absurd (cc)
 
 lines-order : (presets : List Reg) (n : ℕ) (ls : List (List ℕ)) (before after : List Stamped) → are_in_order before ≡ true → lines_read presets n ls before ≡ Ok after → are_in_order after ≡ true
 lines-order presets n [] before after ordered is = let same : before ≡ after = cc in subst (λ l. are_in_order l ≡ true) same ordered
-lines-order presets n (l ∷ ls) before after ordered is = by (line_read presets n before (without_return l)) refl is
+lines-order presets n (l ∷ ls) before after ordered is =
+    by (λ mid first rest. lines-order presets (next_line n) ls mid after first rest) (line_read presets n before (without_return l)) refl is
   where
-    by : (r : Result (List Stamped) ScriptError) → line_read presets n before (without_return l) ≡ r → then_lines (lines_read presets (next_line n) ls) r ≡ Ok after → are_in_order after ≡ true
-    by (Ok mid) here rest = lines-order presets (next_line n) ls mid after (line-by presets n before mid (is_skipped (without_return l)) (said n (without_return l)) ordered here) rest
-    by (Err e) here rest = absurd (cc)
+    by : ((mid : List Stamped) → are_in_order mid ≡ true → lines_read presets (next_line n) ls mid ≡ Ok after → are_in_order after ≡ true) → (r : Result (List Stamped) ScriptError)
+        → line_read presets n before (without_return l) ≡ r → then_lines (lines_read presets (next_line n) ls) r ≡ Ok after → are_in_order after ≡ true
+    by more (Ok mid) here rest = more mid (line-by presets n before mid (is_skipped (without_return l)) (said n (without_return l)) ordered here) rest
+    by more (Err e) here rest = absurd (cc)
 
 -- the commands of an accepted text
 pub script_order : (text : List ℕ) (presets : List Reg) (commands : List Stamped) → script text presets ≡ Ok commands → are_in_order commands ≡ true
@@ -87,5 +89,7 @@ commands_order app text commands is = by (nat_lt 262144 (length text)) (script t
   where
     by : (long : Bool) (r : Result (List Stamped) ScriptError) → script text (meaning_of app).presets ≡ r → (if long then Err Run.ScriptTooLong else read_as r) ≡ Ok commands → are_in_order commands ≡ true
     by true r here comes = absurd (cc)
-    by false (Ok found) here comes = script_order text (meaning_of app).presets commands (here ∙ comes)
+    by false (Ok found) here comes =
+        let same : found ≡ commands = cc in
+        script_order text (meaning_of app).presets commands (here ∙ ap (λ l. Ok l) same)
     by false (Err e) here comes = absurd (cc)
