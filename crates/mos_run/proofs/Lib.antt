@@ -9,4 +9,4 @@ pub mod Scripts
 pub mod Ceilings
 pub mod Outcomes
 pub mod Below
-pub mod Several
+pub mod Joined

@@ -103,6 +103,7 @@ pub fn run_gathered<
     ensures out_lasts { O.lasting result.out ≡ O.lasting out }
     ensures err_lasts { E.lasting err.new ≡ E.lasting err.old }
 {
+    what_one_worker_has_is_allowed();
     let mut out = out;
     if !writes_at_end(alloc, words) {
         let ended = run_mos(rt, alloc, words, capture, shelf, &mut out, err, natives, gate);

@@ -2,6 +2,7 @@
 
 ghost use Rattle.std.specs.Prelude.{◌≡◌, ◌≢◌, ◌<◌, ◌≤◌, [], ℕ, List, false, Some, None, IsOk, IsTrue, IsFalse, IfSome, IfErr, IsErrOf};
 ghost use Rattle.mos_bytes.specs.Causes.{HasCauseOf};
+ghost use Rattle.app_api.specs.App.{IsLawful};
 ghost use Rattle.forest_versions.specs.Lawful.{are_lawful};
 ghost use Rattle.forest_versions.specs.State.{start};
 ghost use Rattle.control_script.specs.Order.{commands_of, are_in_order};
@@ -52,6 +53,7 @@ fn run_on<
 ) -> Result<VersionList, RunError>
     requires some { 1 ≤ workers }
     requires most { workers ≤ 16 }
+    requires app { IsLawful (A.meaning app) }
     requires lawful { IsTrue (are_lawful (start (A.meaning app).presets) (commands_of plan.now.script.now)) }
     requires order { IsTrue (are_in_order plan.now.script.now) }
     requires kept { is_forward plan.now.output ≡ false }
