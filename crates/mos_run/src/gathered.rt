@@ -106,7 +106,9 @@ pub fn run_gathered<
     what_one_worker_has_is_allowed();
     let mut out = out;
     if !writes_at_end(alloc, words) {
-        let ended = run_mos(rt, alloc, words, capture, shelf, &mut out, err, natives, gate);
+        let ended = run_mos(
+            rt, alloc, words, capture, shelf, &mut out, err, natives, gate,
+        );
         return GatheredRun { ended, out };
     }
     let mut gathering = match GatheringSink::new(alloc, out) {
@@ -116,7 +118,17 @@ pub fn run_gathered<
             return GatheredRun { ended, out };
         }
     };
-    let ended = run_mos(rt, alloc, words, capture, shelf, &mut gathering, err, natives, gate);
+    let ended = run_mos(
+        rt,
+        alloc,
+        words,
+        capture,
+        shelf,
+        &mut gathering,
+        err,
+        natives,
+        gate,
+    );
     let finished = gathering.finish();
     let out = gathering.into_inner();
     if ended.status == 0 && finished.is_err() {

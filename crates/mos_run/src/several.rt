@@ -168,7 +168,16 @@ pub(crate) fn run_several<
     match settings.make {
         Some(n) => {
             let mut maker = Maker::new(n);
-            run_app_on(rt, alloc, &plan, settings.app, workers, &mut maker, out, gate)
+            run_app_on(
+                rt,
+                alloc,
+                &plan,
+                settings.app,
+                workers,
+                &mut maker,
+                out,
+                gate,
+            )
         }
         None => run_app_on(rt, alloc, &plan, settings.app, workers, capture, out, gate),
     }

@@ -1,13 +1,15 @@
 -- What the run did to the sink that gathers, and what is left to hand on, is what the output took.
-use Rattle.std.proofs.Common.{◌≡◌, ap, inl, inr, refl, rules, subst, ◌∙◌}
+use Rattle.std.proofs.Common.{◌≡◌, ap, inl, inr, refl, rules, subst, sym, ◌∙◌}
 use Rattle.std.specs.Prelude.{IsTrue}
+use Rattle.mos_bytes.specs.Writes.{AppendsFront}
 use Rattle.mos_bytes.proofs.Writes.{AppendsFront-nil}
 use Rattle.mos_bytes.specs.Gathering.{IsFinished, given_to, start_of}
 use Rattle.mos_run.specs.declared.refusal.RunError.TheVariants as Run
 use Rattle.mos_run.specs.Refusal.{refusal_text}
+use Rattle.mos_run.specs.Told.{outcome_under}
 use Rattle.mos_run.specs.Run.{EndsAs, StopsAs, WritesText}
 use Rattle.mos_run.proofs.Below.{done_below, front_below, may_fail}
-use Rattle.mos_run.proofs.Outcomes.{ends_as, has_some, under_more}
+use Rattle.mos_run.proofs.Outcomes.{ends_as, has_some, stops_or_memory, under_more}
 use Rattle.mos_run.proofs.gathered.run_gathered.Goals.{else-ended-eq0-via-then-ended-eq0+else-is_err, else-ended-eq0-via-else-ended-eq0}
 use Rattle.mos_run.proofs.gathered.run_gathered.Goals as goal
 
@@ -23,10 +25,28 @@ returns-in-Err-clause-ends g c = λ t is.
 pub returns-in-Err-clause-front : goal.returns-in-Err-clause-front
 returns-in-Err-clause-front g c = λ t is.
     let some = has_some c.what_one_worker_has_is_allowed.ensures.allowed _ _ _ t is in
-    record { versions = some.versions; allowed = some.allowed; holds = ? }
+    record {
+      versions = some.versions;
+      allowed = some.allowed;
+      holds = subst (λ s. AppendsFront (g.O.Sink.taken c.args.out) (g.O.Sink.taken s) (outcome_under some.versions t).text) (sym c.in-Err.ensures.err)
+          (AppendsFront-nil (g.O.Sink.taken c.args.out) (outcome_under some.versions t).text);
+    }
 
 pub returns-in-Err-clause-told : goal.returns-in-Err-clause-told
-returns-in-Err-clause-told g c = λ failed. ?
+returns-in-Err-clause-told g c = λ failed.
+    let tells = c.refuse-ended.ensures.told in
+    record {
+      refusal = tells.refusal;
+      status_is = tells.status_is;
+      of_run = λ t is.
+          let some = has_some c.what_one_worker_has_is_allowed.ensures.allowed _ _ _ t is in
+          record {
+            versions = some.versions;
+            allowed = some.allowed;
+            holds = stops_or_memory _ Run.NoMemory tells.refusal (inr (inr (inl refl))) tells.which;
+          };
+      text = tells.text;
+    }
 
 pub returns-then-is_err-clause-ends : goal.returns-then-is_err-clause-ends
 returns-then-is_err-clause-ends g c = λ t is.
