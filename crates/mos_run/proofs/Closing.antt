@@ -22,7 +22,7 @@ use Rattle.control_script.specs.Order.{commands_of}
 use Rattle.control_script.specs.Versions.{ceil}
 use Rattle.lane_core.specs.declared.errors.LaneError.{LaneError}
 use Rattle.lane_core.specs.Sight.{arrivals}
-use Rattle.lane_core.specs.Records.{RecordSoFar, records, versioned}
+use Rattle.lane_core.specs.Records.{VersionedPacket, RecordSoFar, records, versioned}
 use Rattle.lane_core.specs.Run.{LaneEvent, lane_run}
 use Rattle.lane_core.specs.Shown.{record_of, callbacks_of, drops_of}
 use Rattle.lane_core.specs.Lane.{IsEnd, shown}
@@ -31,7 +31,8 @@ use Rattle.mos_run.specs.declared.output.Output.{Output}
 use Rattle.mos_run.specs.declared.output.Output.TheVariants.{Report, Forward, Summary}
 use Rattle.mos_run.specs.declared.refusal.RunError.{RunError}
 use Rattle.mos_run.specs.declared.refusal.RunError.TheVariants as Run
-use Rattle.mos_run.specs.Records.{control_at, packets_of, records_of, versions_of, totals_of}
+use Rattle.worker_pool.specs.Run.{totals_of}
+use Rattle.mos_run.specs.Records.{control_at, packets_of, records_of, versions_of}
 use Rattle.mos_run.specs.Outcome.{Outcome, is_forward, is_heavy, streamed, closing, ended, weighed, refused}
 use Rattle.mos_run.specs.Summary.{summary_text, made_line}
 use Rattle.mos_run.specs.Reading.{Follows, IsRead}
@@ -46,7 +47,7 @@ was_good (Some e) result v before ok = absurd (let bad = before e refl in cc)
 
 module _ (app : Meaning) (script : List Stamped) (output : Output) (frames : List Captured) where
   abbrev rs : List RecordSoFar
-  rs = records_of app script frames
+  rs = records_of app script (packets_of script) frames
 
   -- what the lane ends with are these records
   pub end_is : (given : ℕ) (failed : Option LaneError) (stands : List LaneEvent → Type 0) (keep : Bool) (items : List Record) (versions : List (ℕ × ℕ)) (callbacks drops : ℕ) → LaterCommandsChangeNone
@@ -98,41 +99,46 @@ module _ (app : Meaning) (script : List Stamped) (output : Output) (frames : Lis
   closing_is keep items versions callbacks drops packets len tail keeps end count is_len =
       closing-by output keep items versions callbacks drops _ _ keeps end (totals-are keep items versions callbacks drops packets len tail end count is_len)
 
-  -- ---- how the run ends
+-- ---- how a run ends
 
-  weighed-is : (header : List ℕ) (tail : ℕ) → is_heavy app script output frames ≡ false → weighed app script output header frames tail ≡ ended app script output header frames tail
-  weighed-is header tail light = ap (λ b. if b then refused Run.Heavy else ended app script output header frames tail) light
+pub not-empty : (xs ys : List ℕ) → ys ≢ [] → xs ++ ys ≢ []
+not-empty [] ys some = some
+not-empty (x ∷ xs) ys some = λ none. cc
+
+-- a report or a summary isn't empty
+pub some-closing : (o : Output) (items : List Record) (totals : Totals) → is_forward o ≡ false → closing o items totals ≢ []
+unfolding report_text summary_text totals_line
+some-closing Report items totals kept = not-empty (records_text items) (totals_line totals) (λ none. cc)
+some-closing Forward items totals kept = absurd (cc)
+some-closing (Summary n) items totals kept = not-empty (made_line n) (totals_line totals) (λ none. cc)
+
+module _ (app : Meaning) (script : List Stamped) (given : List Captured → List VersionedPacket) (output : Output) (frames : List Captured) where
+  abbrev all : List RecordSoFar
+  all = records_of app script given frames
+
+  weighed-is : (header : List ℕ) (tail : ℕ) → is_heavy app script given output frames ≡ false → weighed app script given output header frames tail ≡ ended app script given output header frames tail
+  weighed-is header tail light = ap (λ b. if b then refused Run.Heavy else ended app script given output header frames tail) light
 
   -- all is written
-  pub ends_well : (header : List ℕ) (tail : ℕ) (versions : List ℕ) (before mid after : Option (List ℕ)) → is_heavy app script output frames ≡ false → versions ≡ versions_of rs
-      → Appends before mid (streamed app script output header frames)
-      → Appends mid after (closing output (map (record_of app) rs) (totals_of rs (length frames) tail))
-      → RunsAs (weighed app script output header frames tail) before after (Ok versions)
+  pub ends_well : (header : List ℕ) (tail : ℕ) (versions : List ℕ) (before mid after : Option (List ℕ)) → is_heavy app script given output frames ≡ false → versions ≡ versions_of all
+      → Appends before mid (streamed app script given output header frames)
+      → Appends mid after (closing output (map (record_of app) all) (totals_of all (length frames) tail))
+      → RunsAs (weighed app script given output header frames tail) before after (Ok versions)
   ends_well header tail versions before mid after light same first last =
       subst (λ o. RunsAs o before after (Ok versions)) (sym (weighed-is header tail light)) (record {
         answered = ap (λ vs. Ok vs) (sym same);
         written = Appends-trans before mid after _ _ first last;
       })
 
-  pub not-empty : (xs ys : List ℕ) → ys ≢ [] → xs ++ ys ≢ []
-  not-empty [] ys some = some
-  not-empty (x ∷ xs) ys some = λ none. cc
-
-  pub text-of : (o : Output) (header : List ℕ) (items : List Record) (totals : Totals) → is_forward o ≡ false → closing o items totals ≢ []
-  unfolding report_text summary_text totals_line
-  text-of Report header items totals kept = not-empty (records_text items) (totals_line totals) (λ none. cc)
-  text-of Forward header items totals kept = absurd (cc)
-  text-of (Summary n) header items totals kept = not-empty (made_line n) (totals_line totals) (λ none. cc)
-
   -- a front of it is written, or memory is refused
-  pub ends_badly : (header : List ℕ) (tail : ℕ) (e : RunError) (before mid after : Option (List ℕ)) → is_heavy app script output frames ≡ false
+  pub ends_badly : (header : List ℕ) (tail : ℕ) (e : RunError) (before mid after : Option (List ℕ)) → is_heavy app script given output frames ≡ false
       → ((e ≡ Run.WriteFault) × (is_forward output ≡ false)) ⊎ (e ≡ Run.NoMemory)
-      → Appends before mid (streamed app script output header frames)
-      → AppendsFront mid after (closing output (map (record_of app) rs) (totals_of rs (length frames) tail))
-      → RunsAs (weighed app script output header frames tail) before after (Err e)
+      → Appends before mid (streamed app script given output header frames)
+      → AppendsFront mid after (closing output (map (record_of app) all) (totals_of all (length frames) tail))
+      → RunsAs (weighed app script given output header frames tail) before after (Err e)
   ends_badly header tail e before mid after light which first last =
       subst (λ o. RunsAs o before after (Err e)) (sym (weighed-is header tail light)) (by which, AppendsFront-after before mid after _ _ first last)
     where
-      by : ((e ≡ Run.WriteFault) × (is_forward output ≡ false)) ⊎ (e ≡ Run.NoMemory) → StopsAs (ended app script output header frames tail) e
-      by (inl w) = inr (inr (inr (w.0, not-empty (streamed app script output header frames) _ (text-of output header _ _ w.1))))
+      by : ((e ≡ Run.WriteFault) × (is_forward output ≡ false)) ⊎ (e ≡ Run.NoMemory) → StopsAs (ended app script given output header frames tail) e
+      by (inl w) = inr (inr (inr (w.0, not-empty (streamed app script given output header frames) _ (some-closing output _ _ w.1))))
       by (inr m) = inr (inr (inl m))

@@ -22,8 +22,7 @@ use Rattle.lane_core.specs.Lane.{IsHeavy, IsAfter, next_verdict, with_event}
 use Rattle.lane_core.specs.Laws.{OneEventMore, LaterCommandsChangeNone}
 use Rattle.lane_core.specs.Shown.{weight}
 use Rattle.mos_run.specs.Records.{control_at}
-use Rattle.mos_run.specs.Forward.{packet_of}
-use Rattle.mos_run.specs.Reading.{IsUnder, IsReady, Follows, IsOver}
+use Rattle.mos_run.specs.Reading.{IsUnder, IsReady, Follows, IsOver, packet_of}
 
 -- ---- a command of the script
 

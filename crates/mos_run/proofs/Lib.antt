@@ -6,5 +6,7 @@ pub mod Reading
 pub mod Replaying
 pub mod Refusals
 pub mod Scripts
+pub mod Ceilings
 pub mod Outcomes
 pub mod Below
+pub mod Joined

@@ -1,74 +1,211 @@
 -- What a run comes to, where the words, the shelf and the capture are told.
-use Rattle.std.proofs.Common.{◌≡◌, ◌≢◌, ℕ, List, [], Option, Some, None, Result, Ok, Err, refl, sym, ap, subst, ◌∙◌, inl, inr}
-use Rattle.std.specs.Prelude.{◌⊎◌, option_map, option_and_then, IsOk}
-use Rattle.mos_bytes.proofs.Writes.{AppendsFront-nil}
+use Rattle.std.proofs.Common.{◌≡◌, ◌≢◌, ℕ, Bool, true, false, List, [], ◌++◌, length, map, take, Option, Some, None, Result, Ok, Err, refl, sym, ap, subst, ◌∙◌, append-nil, inl, inr}
+use Rattle.std.specs.Prelude.{◌⊎◌, if◌then◌else◌, option_map, option_and_then, is_ok, IsOk}
+use Rattle.std.specs.Io.KnownBytes.{Appends}
+use Rattle.mos_bytes.specs.Writes.{AppendsFront}
+use Rattle.mos_bytes.proofs.Writes.{AppendsFront-nil, AppendsFront-whole}
+use Rattle.app_api.specs.App.{Meaning}
+use Rattle.pcap_source.specs.Captured.{Captured}
+use Rattle.pcap_source.specs.Capture.{Frames, Ending, tail, too_long, too_many, capture_of}
+use Rattle.pcap_source.specs.declared.errors.OpenError.{OpenError}
 use Rattle.control_script.specs.declared.stamped.Stamped.{Stamped}
+use Rattle.control_script.specs.Order.{are_in_order}
 use Rattle.words.specs.declared.settings.Settings.{Settings}
 use Rattle.words.specs.declared.settings.WordsError.{WordsError}
 use Rattle.words.specs.declared.settings.WordsError.TheVariants as Words
 use Rattle.words.specs.Words.{words_settings}
+use Rattle.lane_core.specs.Records.{VersionedPacket}
+use Rattle.mos_run.specs.declared.output.Output.{Output}
 use Rattle.mos_run.specs.declared.refusal.RunError.{RunError}
 use Rattle.mos_run.specs.declared.refusal.RunError.TheVariants as Run
 use Rattle.mos_run.specs.Apps.{meaning_of}
-use Rattle.mos_run.specs.Outcome.{Outcome, refused, outcome, output_of}
-use Rattle.mos_run.specs.Told.{commands_in, text_under, bytes_under, outcome_under, chosen, told}
+use Rattle.mos_run.specs.Records.{packets_of, records_of, versions_of}
+use Rattle.mos_run.specs.Outcome.{Outcome, refused, outcome, outcome_by, followed, ended, is_heavy, output_of}
+use Rattle.mos_run.specs.Told.{Told, Refused, Asked, Allows, AreAllowed, commands_in, text_under, bytes_under, asked, chosen, told, frames_in, outcome_under}
 use Rattle.mos_run.specs.Refusal.{status_of, words_refusal}
-use Rattle.mos_run.specs.Run.{StopsAs, RunsAs, EndsAs}
+use Rattle.mos_run.specs.Run.{Finishes, FinishesUnder, StopsAs, RunsAs, RunsUnder, EndsAs, EndsWell, UnderSome}
+use Rattle.mos_run.specs.Lanes.{RunsWith}
+use Rattle.mos_run.specs.Laws.{ceilings_of, CeilingsMayBeHad, CeilingsAreOneWorkers}
+use Rattle.mos_run.proofs.Scripts.{commands_order}
 
 told-by : (words : List (List ℕ)) (content : List ℕ → Option (List ℕ)) (left : Option (List ℕ)) (settings : Option Settings) → words_settings words ≡ settings → told words content left ≡ chosen settings content left
 unfolding told
 told-by words content left settings is = ap (λ s. chosen s content left) is
 
--- words that are refused, or for which there is no memory
-pub refused_words : (words : List (List ℕ)) (content : List ℕ → Option (List ℕ)) (left old : Option (List ℕ)) (o : Outcome) (e : WordsError) → (e ≡ Words.Usage → words_settings words ≡ None) → told words content left ≡ Some o
-    → RunsAs o old old (Err (words_refusal e))
-refused_words words content left old o Words.Usage usage is =
-    let same : refused Run.Usage ≡ o = let both = sym (told-by words content left None (usage refl)) ∙ is in cc in
-    (inl (sym (ap (λ x. x.ends) same)), AppendsFront-nil old o.text)
-refused_words words content left old o Words.NoMemory usage is = (inr (inr (inl refl)), AppendsFront-nil old o.text)
+-- ---- what is told, step by step
 
--- accepted words have a text that was told, and it is the outcome under this text
-pub record IsUnderText (s : Settings) (content : List ℕ → Option (List ℕ)) (left : Option (List ℕ)) (o : Outcome) : Type 0 where
+-- accepted words have a text that was told, under which it is told what to do
+pub record IsUnderText (s : Settings) (content : List ℕ → Option (List ℕ)) (left : Option (List ℕ)) (t : Told) : Type 0 where
   pub text : List ℕ
   pub told_so : text_under s.script content ≡ Some text
-  pub comes_to : outcome_under s left (commands_in s.app text) ≡ Some o
+  pub comes_to : asked s left (commands_in s.app text) ≡ Some t
 
-under-by : (s : Settings) (content : List ℕ → Option (List ℕ)) (left : Option (List ℕ)) (o : Outcome) (t : Option (List ℕ)) → text_under s.script content ≡ t
-    → option_and_then (λ text. outcome_under s left (commands_in s.app text)) t ≡ Some o → IsUnderText s content left o
-under-by s content left o None is comes = absurd (cc)
-under-by s content left o (Some text) is comes = record { text = text; told_so = is; comes_to = comes }
+under-by : (s : Settings) (content : List ℕ → Option (List ℕ)) (left : Option (List ℕ)) (t : Told) (text : Option (List ℕ)) → text_under s.script content ≡ text
+    → option_and_then (λ text. asked s left (commands_in s.app text)) text ≡ Some t → IsUnderText s content left t
+under-by s content left t None is comes = absurd (cc)
+under-by s content left t (Some text) is comes = record { text = text; told_so = is; comes_to = comes }
 
-pub under_text : (words : List (List ℕ)) (content : List ℕ → Option (List ℕ)) (left : Option (List ℕ)) (o : Outcome) (s : Settings) → words_settings words ≡ Some s → told words content left ≡ Some o → IsUnderText s content left o
-under_text words content left o s accepted is =
-    under-by s content left o (text_under s.script content) refl (sym (told-by words content left (Some s) accepted) ∙ is)
-
--- a script that is refused, or can't be fetched
-pub refused_script : (s : Settings) (content : List ℕ → Option (List ℕ)) (left old : Option (List ℕ)) (o : Outcome) (e : RunError) → (u : IsUnderText s content left o)
-    → (commands_in s.app u.text ≡ Err e) ⊎ (e ≡ Run.ReadFault) ⊎ (e ≡ Run.NoMemory) → RunsAs o old old (Err e)
-refused_script s content left old o e u (inl refusal) =
-    let same : refused e ≡ o = let both = sym (ap (outcome_under s left) refusal) ∙ u.comes_to in cc in
-    (inl (sym (ap (λ x. x.ends) same)), AppendsFront-nil old o.text)
-refused_script s content left old o e u (inr (inl fault)) = (inr (inl fault), AppendsFront-nil old o.text)
-refused_script s content left old o e u (inr (inr memory)) = (inr (inr (inl memory)), AppendsFront-nil old o.text)
+pub under_text : (words : List (List ℕ)) (content : List ℕ → Option (List ℕ)) (left : Option (List ℕ)) (t : Told) (s : Settings) → words_settings words ≡ Some s → told words content left ≡ Some t → IsUnderText s content left t
+under_text words content left t s accepted is =
+    under-by s content left t (text_under s.script content) refl (sym (told-by words content left (Some s) accepted) ∙ is)
 
 -- an accepted script has a capture that was told
-pub record IsOver (s : Settings) (left : Option (List ℕ)) (commands : List Stamped) (o : Outcome) : Type 0 where
+pub record IsOver (s : Settings) (left : Option (List ℕ)) (commands : List Stamped) (t : Told) : Type 0 where
   pub bytes : List ℕ
   pub told_so : bytes_under s.make left ≡ Some bytes
-  pub comes_to : outcome (meaning_of s.app) commands (output_of s) bytes ≡ o
+  pub comes_to : Asked s commands bytes ≡ t
 
-over-by : (s : Settings) (left : Option (List ℕ)) (commands : List Stamped) (o : Outcome) (b : Option (List ℕ)) → bytes_under s.make left ≡ b
-    → option_map (outcome (meaning_of s.app) commands (output_of s)) b ≡ Some o → IsOver s left commands o
-over-by s left commands o None is comes = absurd (cc)
-over-by s left commands o (Some bytes) is comes = record { bytes = bytes; told_so = is; comes_to = cc }
+over-by : (s : Settings) (left : Option (List ℕ)) (commands : List Stamped) (t : Told) (b : Option (List ℕ)) → bytes_under s.make left ≡ b
+    → option_map (Asked s commands) b ≡ Some t → IsOver s left commands t
+over-by s left commands t None is comes = absurd (cc)
+over-by s left commands t (Some bytes) is comes = record { bytes = bytes; told_so = is; comes_to = cc }
 
-pub over_bytes : (s : Settings) (content : List ℕ → Option (List ℕ)) (left : Option (List ℕ)) (o : Outcome) (commands : List Stamped) → (u : IsUnderText s content left o) → commands_in s.app u.text ≡ Ok commands → IsOver s left commands o
-over_bytes s content left o commands u accepted =
-    over-by s left commands o (bytes_under s.make left) refl (sym (ap (outcome_under s left) accepted) ∙ u.comes_to)
+pub over_bytes : (s : Settings) (content : List ℕ → Option (List ℕ)) (left : Option (List ℕ)) (t : Told) (commands : List Stamped) → (u : IsUnderText s content left t) → commands_in s.app u.text ≡ Ok commands → IsOver s left commands t
+over_bytes s content left t commands u accepted =
+    over-by s left commands t (bytes_under s.make left) refl (sym (ap (asked s left) accepted) ∙ u.comes_to)
+
+-- a refused script
+pub refused_text : (s : Settings) (content : List ℕ → Option (List ℕ)) (left : Option (List ℕ)) (t : Told) (e : RunError) → (u : IsUnderText s content left t) → commands_in s.app u.text ≡ Err e → Refused e ≡ t
+refused_text s content left t e u refusal = let same = sym (ap (asked s left) refusal) ∙ u.comes_to in cc
+
+-- ---- there are versions that a run may have
+
+pub record HasSome (t : Told) : Type 0 where
+  pub versions : List ℕ
+  pub allowed : Allows t versions
+
+pub ceilings_are_allowed : CeilingsMayBeHad → (s : Settings) (commands : List Stamped) (bytes : List ℕ) → are_in_order commands ≡ true → AreAllowed s commands bytes (ceilings_of (meaning_of s.app) commands bytes)
+ceilings_are_allowed law s commands bytes ordered = record { may_have = law (meaning_of s.app) commands s.workers bytes ordered; with_one = λ one. refl }
+
+some-under : CeilingsMayBeHad → (s : Settings) (content : List ℕ → Option (List ℕ)) (left : Option (List ℕ)) (t : Told) (commands : Result (List Stamped) RunError) → (u : IsUnderText s content left t)
+    → commands_in s.app u.text ≡ commands → HasSome t
+some-under law s content left t (Err e) u is = subst HasSome (refused_text s content left t e u is) (record { versions = []; allowed = tt })
+some-under law s content left t (Ok commands) u is =
+    let over = over_bytes s content left t commands u is in
+    subst HasSome over.comes_to (record {
+      versions = ceilings_of (meaning_of s.app) commands over.bytes;
+      allowed = ceilings_are_allowed law s commands over.bytes (commands_order s.app u.text commands is);
+    })
+
+some-by : CeilingsMayBeHad → (words : List (List ℕ)) (content : List ℕ → Option (List ℕ)) (left : Option (List ℕ)) (t : Told) (settings : Option Settings) → words_settings words ≡ settings → told words content left ≡ Some t → HasSome t
+some-by law words content left t None accepted is =
+    let same : Refused Run.Usage ≡ t = let both = sym (told-by words content left None accepted) ∙ is in cc in
+    subst HasSome same (record { versions = []; allowed = tt })
+some-by law words content left t (Some s) accepted is =
+    let u = under_text words content left t s accepted is in
+    some-under law s content left t (commands_in s.app u.text) u refl
+
+pub has_some : CeilingsMayBeHad → (words : List (List ℕ)) (content : List ℕ → Option (List ℕ)) (left : Option (List ℕ)) (t : Told) → told words content left ≡ Some t → HasSome t
+has_some law words content left t is = some-by law words content left t (words_settings words) refl is
+
+-- ---- runs that end before a packet is read
+
+pub stops_early : (t : Told) (old : Option (List ℕ)) (e : RunError) → HasSome t → (e ≡ Run.ReadFault) ⊎ (e ≡ Run.NoMemory) → RunsUnder t old old (Err e)
+stops_early t old e some (inl fault) = record { versions = some.versions; allowed = some.allowed; holds = (inr (inl fault), AppendsFront-nil old _) }
+stops_early t old e some (inr memory) = record { versions = some.versions; allowed = some.allowed; holds = (inr (inr (inl memory)), AppendsFront-nil old _) }
+
+stops-refused : (t : Told) (old : Option (List ℕ)) (e : RunError) → Refused e ≡ t → RunsUnder t old old (Err e)
+stops-refused t old e same = subst (λ x. RunsUnder x old old (Err e)) same (record { versions = []; allowed = tt; holds = (inl refl, AppendsFront-nil old []) })
+
+-- words that are refused, or for which there is no memory
+pub refused_words : CeilingsMayBeHad → (words : List (List ℕ)) (content : List ℕ → Option (List ℕ)) (left old : Option (List ℕ)) (t : Told) (e : WordsError) → (e ≡ Words.Usage → words_settings words ≡ None) → told words content left ≡ Some t
+    → RunsUnder t old old (Err (words_refusal e))
+refused_words law words content left old t Words.Usage usage is =
+    stops-refused t old Run.Usage (let both = sym (told-by words content left None (usage refl)) ∙ is in cc)
+refused_words law words content left old t Words.NoMemory usage is = stops_early t old Run.NoMemory (has_some law words content left t is) (inr refl)
+
+-- a script that is refused, or can't be fetched
+pub refused_script : (s : Settings) (content : List ℕ → Option (List ℕ)) (left old : Option (List ℕ)) (t : Told) (e : RunError) → HasSome t → (u : IsUnderText s content left t)
+    → (commands_in s.app u.text ≡ Err e) ⊎ (e ≡ Run.ReadFault) ⊎ (e ≡ Run.NoMemory) → RunsUnder t old old (Err e)
+refused_script s content left old t e some u (inl refusal) = stops-refused t old e (refused_text s content left t e u refusal)
+refused_script s content left old t e some u (inr other) = stops_early t old e some other
+
+-- ---- a run of one worker, and one of several
+
+module _ (app : Meaning) (script : List Stamped) (given : List Captured → List VersionedPacket) (output : Output) (versions : List ℕ) where
+  weighed-versions : (header : List ℕ) (frames : List Captured) (n : ℕ) (heavy : Bool) → (if heavy then refused Run.Heavy else ended app script given output header frames n).ends ≡ Ok versions
+      → versions ≡ versions_of (records_of app script given frames)
+  weighed-versions header frames n true ends = absurd (cc)
+  weighed-versions header frames n false ends = cc
+
+  followed-versions : (header : List ℕ) (frames : List Captured) (ending : Ending) → (followed app script given output header frames ending).ends ≡ Ok versions → versions ≡ versions_of (records_of app script given frames)
+  followed-versions header frames (tail n) ends = weighed-versions header frames n (is_heavy app script given output frames) ends
+  followed-versions header frames (too_long offset) ends = absurd (cc)
+  followed-versions header frames (too_many offset) ends = absurd (cc)
+
+  versions-by : (header : List ℕ) (capture : Result Frames OpenError) → (outcome_by app script given output header capture).ends ≡ Ok versions → versions ≡ versions_of (records_of app script given (frames_in capture))
+  versions-by header (Ok f) ends = followed-versions header f.frames f.ending ends
+  versions-by header (Err e) ends = absurd (cc)
+
+  -- what ends well answers the versions of its records
+  pub answers_its_own : (bytes : List ℕ) → (outcome app script given output bytes).ends ≡ Ok versions → versions ≡ versions_of (records_of app script given (frames_in (capture_of bytes)))
+  unfolding outcome
+  answers_its_own bytes ends = versions-by (take 24 bytes) (capture_of bytes) ends
+
+module _ (s : Settings) (commands : List Stamped) (bytes : List ℕ) (old new : Option (List ℕ)) where
+  pub under_one : CeilingsMayBeHad → CeilingsAreOneWorkers → are_in_order commands ≡ true → (result : Result (List ℕ) RunError)
+      → RunsAs (outcome (meaning_of s.app) commands (packets_of commands) (output_of s) bytes) old new result → RunsUnder (Asked s commands bytes) old new result
+  under_one law same ordered (Ok versions) done =
+      let vs = ceilings_of (meaning_of s.app) commands bytes in
+      let is : versions ≡ vs = answers_its_own (meaning_of s.app) commands (packets_of commands) (output_of s) versions bytes done.answered in
+      let all : FinishesUnder (Asked s commands bytes) vs old new = record {
+        allowed = ceilings_are_allowed law s commands bytes ordered;
+        finishes = subst (λ o. Finishes o vs old new) (sym (same (meaning_of s.app) commands (output_of s) bytes))
+            (subst (λ l. Finishes (outcome (meaning_of s.app) commands (packets_of commands) (output_of s) bytes) l old new) is done);
+      } in
+      subst (λ l. FinishesUnder (Asked s commands bytes) l old new) (sym is) all
+  under_one law same ordered (Err e) stops = record {
+    versions = ceilings_of (meaning_of s.app) commands bytes;
+    allowed = ceilings_are_allowed law s commands bytes ordered;
+    holds = subst (λ o. StopsAs o e × AppendsFront old new o.text) (sym (same (meaning_of s.app) commands (output_of s) bytes)) stops;
+  }
+
+  pub under_several : s.workers ≢ 1 → (result : Result (List ℕ) RunError) → RunsWith (meaning_of s.app) commands s.workers (output_of s) bytes old new result → RunsUnder (Asked s commands bytes) old new result
+  under_several many (Ok versions) done = record {
+    allowed = record { may_have = done.may_have; with_one = λ one. absurd (many one) };
+    finishes = done.finishes;
+  }
+  under_several many (Err e) stops = record {
+    versions = stops.versions;
+    allowed = record { may_have = stops.may_have; with_one = λ one. absurd (many one) };
+    holds = (stops.stops, stops.front);
+  }
 
 -- ---- the status
+
+-- what holds of an outcome holds of it under some versions
+pub under_more : (t : Told) (P Q : Outcome → Type 0) → ((o : Outcome) → P o → Q o) → UnderSome t P → UnderSome t Q
+under_more t P Q more u = record { versions = u.versions; allowed = u.allowed; holds = more (outcome_under u.versions t) u.holds }
 
 -- what was told of an error, or want of memory in its place
 pub ends_as : (o : Outcome) (e : RunError) (status : ℕ) → StopsAs o e → (status ≡ status_of e) ⊎ (status ≡ 6) → EndsAs o status
 ends_as o e status stops (inl is) = inr (e, stops, is)
 ends_as o e status stops (inr memory) = inr (Run.NoMemory, inr (inr (inl refl)), memory)
+
+pub stops_or_memory : (o : Outcome) (e told : RunError) → StopsAs o e → (told ≡ e) ⊎ (told ≡ Run.NoMemory) → StopsAs o told
+stops_or_memory o e told stops (inl same) = subst (StopsAs o) (sym same) stops
+stops_or_memory o e told stops (inr memory) = inr (inr (inl memory))
+
+-- the text that was written whole
+pub whole_front : (o : Outcome) (versions : List ℕ) (old new : Option (List ℕ)) → Finishes o versions old new → AppendsFront old new o.text
+whole_front o versions old new done = subst (AppendsFront old new) (append-nil o.text) (AppendsFront-whole old new o.text [] done.written)
+
+-- a run that finished has ended well
+pub ends_well : (t : Told) (versions : List ℕ) (old new : Option (List ℕ)) (status : ℕ) → status ≡ 0 → FinishesUnder t versions old new → UnderSome t (λ o. EndsAs o status)
+ends_well t versions old new status zero done = record {
+  versions = versions;
+  allowed = done.allowed;
+  holds = inl (ap is_ok done.finishes.answered, zero);
+}
+
+-- what ends well stops only by a fault, or for want of memory
+pub ends_whole : (t : Told) (e : RunError) (status : ℕ) (P : Outcome → Type 0) → EndsWell t → UnderSome t (λ o. StopsAs o e × P o) → (e ≡ Run.ReadFault → ⊥) → (e ≡ Run.WriteFault → ⊥)
+    → (status ≡ status_of e) ⊎ (status ≡ 6) → (status ≡ 0) ⊎ (status ≡ 6)
+ends_whole t e status P well u read write (inr memory) = inr memory
+ends_whole t e status P well u read write (inl is) = by u.holds.0
+  where
+    by : StopsAs (outcome_under u.versions t) e → (status ≡ 0) ⊎ (status ≡ 6)
+    by (inl err) = absurd (let ok = well u.versions u.allowed in let bad = sym (ap is_ok err) ∙ ok in cc)
+    by (inr (inl fault)) = absurd (read fault)
+    by (inr (inr (inl memory))) = inr (is ∙ ap status_of memory)
+    by (inr (inr (inr fault))) = absurd (write fault.0)

@@ -18,16 +18,17 @@ use Rattle.mos_bytes.proofs.Writes.{AppendsFront-after, AppendsFront-nil, Append
 use Rattle.control_script.specs.declared.stamped.Stamped.{Stamped}
 use Rattle.control_script.specs.Versions.{ceil}
 use Rattle.lane_core.specs.Sight.{arrivals}
-use Rattle.lane_core.specs.Records.{RecordSoFar, added, verdict_on, records_from, versioned}
+use Rattle.lane_core.specs.Records.{VersionedPacket, RecordSoFar, added, verdict_on, records_from, versioned}
+use Rattle.worker_laws.specs.Whole.{verdicts_from}
 use Rattle.mos_run.specs.declared.output.Output.{Output}
 use Rattle.mos_run.specs.declared.refusal.RunError.{RunError}
 use Rattle.mos_run.specs.declared.refusal.RunError.TheVariants as Run
 use Rattle.mos_run.specs.Records.{control_at, packets_of, records_of}
-use Rattle.mos_run.specs.Forward.{left_by, packet_of, forwarded_from, forwarded}
+use Rattle.mos_run.specs.Forward.{left_by, left_by_all, forwarded}
 use Rattle.mos_run.specs.Refusal.{record_refusal, header_refusal}
 use Rattle.mos_run.specs.Outcome.{Outcome, is_forward, is_heavy, streamed, followed, weighed, refused, outcome, outcome_by}
 use Rattle.mos_run.specs.Outcome as Outcomes
-use Rattle.mos_run.specs.Reading.{Replaying, behind, gained}
+use Rattle.mos_run.specs.Reading.{Replaying, behind, gained, packet_of}
 use Rattle.mos_run.proofs.Reading.{heavy_is_kept}
 use Rattle.mos_run.specs.Run.{StopsAs, RunsAs}
 
@@ -58,12 +59,29 @@ opened_replay (Some b) (Some after) capture bytes gives count offset told =
 header-refused : (bytes : List ℕ) (e : OpenError) → header_of bytes ≡ Err e → capture_of bytes ≡ Err e
 header-refused bytes e is = ap (λ r. frames_by r bytes) is
 
-module _ (app : Meaning) (script : List Stamped) (output : Output) where
-  header-stops : (b bytes : List ℕ) (e : OpenError) → header_of b ≡ Err e → Some b ≡ Some bytes → StopsAs (outcome app script output bytes) (header_refusal e)
+module _ (app : Meaning) (script : List Stamped) (given : List Captured → List VersionedPacket) (output : Output) where
+  header-stops : (b bytes : List ℕ) (e : OpenError) → header_of b ≡ Err e → Some b ≡ Some bytes → StopsAs (outcome app script given output bytes) (header_refusal e)
   unfolding outcome
   header-stops b bytes e is told =
       let same : b ≡ bytes = cc in
-      inl (ap (λ r. (outcome_by app script output (take 24 bytes) r).ends) (header-refused bytes e (ap header_of (sym same) ∙ is)))
+      inl (ap (λ r. (outcome_by app script given output (take 24 bytes) r).ends) (header-refused bytes e (ap header_of (sym same) ∙ is)))
+
+  -- a refused header
+  pub refused_header : (old new : Option (List ℕ)) (bytes : List ℕ) (e : OpenError) → OpenGives old new (Err e) → old ≡ Some bytes → StopsAs (outcome app script given output bytes) (header_refusal e)
+  refused_header None new bytes e gives told = absurd (cc)
+  refused_header (Some b) None bytes e gives told = absurd gives
+  refused_header (Some b) (Some after) bytes Open.ReadFault gives told = inr (inl refl)
+  refused_header (Some b) (Some after) bytes Open.BadMagic gives told = header-stops b bytes Open.BadMagic gives told
+  refused_header (Some b) (Some after) bytes Open.BadVersion gives told = header-stops b bytes Open.BadVersion gives told
+  refused_header (Some b) (Some after) bytes Open.BadLink gives told = header-stops b bytes Open.BadLink gives told
+  refused_header (Some b) (Some after) bytes (Open.ShortHeader n) gives told = header-stops b bytes (Open.ShortHeader n) gives told
+
+  -- the outcome by the frames so far and what is left
+  pub outcome_is : (bytes : List ℕ) (left : Option (List ℕ)) (capture : CaptureState) (frames : List Captured) → (r : Replaying bytes left capture frames)
+      → outcome app script given output bytes ≡ followed app script given output capture.header (frames ++ (frames_at capture r.rest).frames) (frames_at capture r.rest).ending
+  unfolding outcome
+  outcome_is bytes left capture frames r =
+      ap (λ h. outcome_by app script given output h (capture_of bytes)) (sym r.header) ∙ ap (outcome_by app script given output capture.header) r.holds
 
 -- ---- the next record
 
@@ -96,47 +114,51 @@ replayed bytes left after old new frames frame r step header =
 -- ---- what is written while the capture is read
 
 module _ (app : Meaning) (script : List Stamped) where
+  -- what frames leave that are numbered from n on, behind these records
+  abbrev forwarded_from : ℕ → List RecordSoFar → List Captured → List ℕ
+  forwarded_from n so_far frames = left_by_all (verdicts_from app (control_at app script) so_far (versioned (ceil script) (arrivals n frames))) frames
+
   -- what more frames leave
   forwarded-more : (n : ℕ) (so_far : List RecordSoFar) (frames more : List Captured)
-      → forwarded_from app script n so_far (frames ++ more)
-      ≡ forwarded_from app script n so_far frames ++ forwarded_from app script (n + length frames) (records_from app (control_at app script) so_far (versioned (ceil script) (arrivals n frames))) more
-  unfolding forwarded_from records_from
-  forwarded-more n so_far [] more = ap (λ k. forwarded_from app script k so_far more) (let same : n ≡ n + 0 = omega arith in same)
+      → forwarded_from n so_far (frames ++ more)
+      ≡ forwarded_from n so_far frames ++ forwarded_from (n + length frames) (records_from app (control_at app script) so_far (versioned (ceil script) (arrivals n frames))) more
+  unfolding left_by_all verdicts_from records_from
+  forwarded-more n so_far [] more = ap (λ k. forwarded_from k so_far more) (let same : n ≡ n + 0 = omega arith in same)
   forwarded-more n so_far (frame ∷ frames) more =
       let later = added app (control_at app script) (packet_of script n frame) so_far in
       let count : (n + 1) + length frames ≡ n + length (frame ∷ frames) = omega arith in
       let here = left_by (verdict_on app (control_at app script) (packet_of script n frame) so_far) frame in
       ap (λ l. here ++ l) (forwarded-more (n + 1) later frames more
-      ∙ ap (λ k. forwarded_from app script (n + 1) later frames ++ forwarded_from app script k (records_from app (control_at app script) later (versioned (ceil script) (arrivals (n + 1) frames))) more) count)
+      ∙ ap (λ k. forwarded_from (n + 1) later frames ++ forwarded_from k (records_from app (control_at app script) later (versioned (ceil script) (arrivals (n + 1) frames))) more) count)
       ∙ sym (append_assoc here _ _)
 
-  left-alone : (n : ℕ) (so_far : List RecordSoFar) (frame : Captured) → forwarded_from app script n so_far (frame ∷ []) ≡ left_by (verdict_on app (control_at app script) (packet_of script n frame) so_far) frame
-  unfolding forwarded_from
+  left-alone : (n : ℕ) (so_far : List RecordSoFar) (frame : Captured) → forwarded_from n so_far (frame ∷ []) ≡ left_by (verdict_on app (control_at app script) (packet_of script n frame) so_far) frame
+  unfolding left_by_all verdicts_from
   left-alone n so_far frame = append-nil _
 
   forwarded-last : (frames : List Captured) (frame : Captured)
-      → forwarded app script (frames ++ frame ∷ []) ≡ forwarded app script frames ++ left_by (verdict_on app (control_at app script) (packet_of script (length frames) frame) (records_of app script frames)) frame
+      → forwarded app script (packets_of script) (frames ++ frame ∷ []) ≡ forwarded app script (packets_of script) frames ++ left_by (verdict_on app (control_at app script) (packet_of script (length frames) frame) (records_of app script (packets_of script) frames)) frame
   forwarded-last frames frame =
-      forwarded-more 0 [] frames (frame ∷ []) ∙ ap (λ l. forwarded app script frames ++ l) (left-alone (0 + length frames) (records_of app script frames) frame)
-      ∙ ap (λ n. forwarded app script frames ++ left_by (verdict_on app (control_at app script) (packet_of script n frame) (records_of app script frames)) frame) (let same : 0 + length frames ≡ length frames = omega arith in same)
+      forwarded-more 0 [] frames (frame ∷ []) ∙ ap (λ l. forwarded app script (packets_of script) frames ++ l) (left-alone (0 + length frames) (records_of app script (packets_of script) frames) frame)
+      ∙ ap (λ n. forwarded app script (packets_of script) frames ++ left_by (verdict_on app (control_at app script) (packet_of script n frame) (records_of app script (packets_of script) frames)) frame) (let same : 0 + length frames ≡ length frames = omega arith in same)
 
-  none-forwarded : forwarded app script [] ≡ []
-  unfolding forwarded_from
+  none-forwarded : forwarded app script (packets_of script) [] ≡ []
+  unfolding left_by_all verdicts_from
   none-forwarded = refl
 
   -- what is written, where packets are or not
   abbrev written_by : Bool → List ℕ → List Captured → List ℕ
-  written_by b header frames = if b then header ++ forwarded app script frames else []
+  written_by b header frames = if b then header ++ forwarded app script (packets_of script) frames else []
 
   written-more : (b : Bool) (header : List ℕ) (frames more : List Captured) → (rest : List ℕ) × (written_by b header (frames ++ more) ≡ written_by b header frames ++ rest)
   written-more true header frames more =
-      let others = forwarded_from app script (0 + length frames) (records_of app script frames) more in
-      (others, ap (λ l. header ++ l) (forwarded-more 0 [] frames more) ∙ sym (append_assoc header (forwarded app script frames) others))
+      let others = forwarded_from (0 + length frames) (records_of app script (packets_of script) frames) more in
+      (others, ap (λ l. header ++ l) (forwarded-more 0 [] frames more) ∙ sym (append_assoc header (forwarded app script (packets_of script) frames) others))
   written-more false header frames more = ([], refl)
 
   written-last : (b : Bool) (header : List ℕ) (frames : List Captured) (frame : Captured)
-      → written_by b header (frames ++ frame ∷ []) ≡ written_by b header frames ++ (if b then left_by (verdict_on app (control_at app script) (packet_of script (length frames) frame) (records_of app script frames)) frame else [])
-  written-last true header frames frame = ap (λ l. header ++ l) (forwarded-last frames frame) ∙ sym (append_assoc header (forwarded app script frames) _)
+      → written_by b header (frames ++ frame ∷ []) ≡ written_by b header frames ++ (if b then left_by (verdict_on app (control_at app script) (packet_of script (length frames) frame) (records_of app script (packets_of script) frames)) frame else [])
+  written-last true header frames frame = ap (λ l. header ++ l) (forwarded-last frames frame) ∙ sym (append_assoc header (forwarded app script (packets_of script) frames) _)
   written-last false header frames frame = refl
 
   written-none : (b : Bool) (header : List ℕ) → written_by b header [] ≡ (if b then header else [])
@@ -144,56 +166,56 @@ module _ (app : Meaning) (script : List Stamped) where
   written-none false header = refl
 
   module _ (output : Output) (header : List ℕ) where
-    pub streamed_last : (frames : List Captured) (frame : Captured) → streamed app script output header (frames ++ frame ∷ []) ≡ streamed app script output header frames ++ gained app script output frames frame
+    pub streamed_last : (frames : List Captured) (frame : Captured) → streamed app script (packets_of script) output header (frames ++ frame ∷ []) ≡ streamed app script (packets_of script) output header frames ++ gained app script output frames frame
     streamed_last frames frame = written-last (is_forward output) header frames frame
 
-    pub streamed_none : streamed app script output header [] ≡ (if is_forward output then header else [])
+    pub streamed_none : streamed app script (packets_of script) output header [] ≡ (if is_forward output then header else [])
     streamed_none = written-none (is_forward output) header
 
-    heavy-text : (b : Bool) → is_forward output ≡ b → (frames : List Captured) → is_heavy app script output frames ≡ true → streamed app script output header frames ≡ []
+    heavy-text : (b : Bool) → is_forward output ≡ b → (frames : List Captured) → is_heavy app script (packets_of script) output frames ≡ true → streamed app script (packets_of script) output header frames ≡ []
     heavy-text b is frames heavy = ap (λ c. written_by c header frames) (heavy_is_kept app script output frames heavy)
 
-    weighed-text : (frames : List Captured) (n : ℕ) (b : Bool) → is_heavy app script output frames ≡ b
-        → (rest : List ℕ) × ((if b then refused Run.Heavy else Outcomes.ended app script output header frames n).text ≡ streamed app script output header frames ++ rest)
+    weighed-text : (frames : List Captured) (n : ℕ) (b : Bool) → is_heavy app script (packets_of script) output frames ≡ b
+        → (rest : List ℕ) × ((if b then refused Run.Heavy else Outcomes.ended app script (packets_of script) output header frames n).text ≡ streamed app script (packets_of script) output header frames ++ rest)
     weighed-text frames n true heavy = ([], sym (append-nil _ ∙ heavy-text (is_forward output) refl frames heavy))
     weighed-text frames n false light = (_, refl)
 
-    text-of : (frames : List Captured) (ending : Ending) → (rest : List ℕ) × ((followed app script output header frames ending).text ≡ streamed app script output header frames ++ rest)
-    text-of frames (tail n) = weighed-text frames n (is_heavy app script output frames) refl
+    text-of : (frames : List Captured) (ending : Ending) → (rest : List ℕ) × ((followed app script (packets_of script) output header frames ending).text ≡ streamed app script (packets_of script) output header frames ++ rest)
+    text-of frames (tail n) = weighed-text frames n (is_heavy app script (packets_of script) output frames) refl
     text-of frames (too_long offset) = ([], sym (append-nil _))
     text-of frames (too_many offset) = ([], sym (append-nil _))
 
     -- what is written of some frames is a front of what is written of them and others
-    front-of : (frames more : List Captured) (ending : Ending) → (rest : List ℕ) × ((followed app script output header (frames ++ more) ending).text ≡ streamed app script output header frames ++ rest)
+    front-of : (frames more : List Captured) (ending : Ending) → (rest : List ℕ) × ((followed app script (packets_of script) output header (frames ++ more) ending).text ≡ streamed app script (packets_of script) output header frames ++ rest)
     front-of frames more ending =
         let all = text-of (frames ++ more) ending in
         let some = written-more (is_forward output) header frames more in
-        (some.0 ++ all.0, all.1 ∙ ap (λ l. l ++ all.0) some.1 ∙ append_assoc (streamed app script output header frames) some.0 all.0)
+        (some.0 ++ all.0, all.1 ∙ ap (λ l. l ++ all.0) some.1 ∙ append_assoc (streamed app script (packets_of script) output header frames) some.0 all.0)
 
-    pub front_whole : (frames more : List Captured) (ending : Ending) (old now : Option (List ℕ)) → Appends old now (streamed app script output header frames)
-        → AppendsFront old now (followed app script output header (frames ++ more) ending).text
+    pub front_whole : (frames more : List Captured) (ending : Ending) (old now : Option (List ℕ)) → Appends old now (streamed app script (packets_of script) output header frames)
+        → AppendsFront old now (followed app script (packets_of script) output header (frames ++ more) ending).text
     front_whole frames more ending old now written =
         let front = front-of frames more ending in
-        subst (AppendsFront old now) (sym front.1) (AppendsFront-whole old now (streamed app script output header frames) front.0 written)
+        subst (AppendsFront old now) (sym front.1) (AppendsFront-whole old now (streamed app script (packets_of script) output header frames) front.0 written)
 
-    pub front_part : (frames more : List Captured) (frame : Captured) (ending : Ending) (old mid now : Option (List ℕ)) → Appends old mid (streamed app script output header frames)
-        → AppendsFront mid now (gained app script output frames frame) → AppendsFront old now (followed app script output header (frames ++ frame ∷ more) ending).text
+    pub front_part : (frames more : List Captured) (frame : Captured) (ending : Ending) (old mid now : Option (List ℕ)) → Appends old mid (streamed app script (packets_of script) output header frames)
+        → AppendsFront mid now (gained app script output frames frame) → AppendsFront old now (followed app script (packets_of script) output header (frames ++ frame ∷ more) ending).text
     front_part frames more frame ending old mid now written part =
         let front = front-of (frames ++ frame ∷ []) more ending in
-        let all : AppendsFront old now (streamed app script output header frames ++ gained app script output frames frame) = AppendsFront-after old mid now _ _ written part in
-        subst (λ fs. AppendsFront old now (followed app script output header fs ending).text) (append_assoc frames (frame ∷ []) more)
+        let all : AppendsFront old now (streamed app script (packets_of script) output header frames ++ gained app script output frames frame) = AppendsFront-after old mid now _ _ written part in
+        subst (λ fs. AppendsFront old now (followed app script (packets_of script) output header fs ending).text) (append_assoc frames (frame ∷ []) more)
         (subst (AppendsFront old now) (sym front.1) (AppendsFront-more old now _ front.0 (subst (AppendsFront old now) (sym (streamed_last frames frame)) all)))
 
     front-nonempty : (b : Bool) → b ≡ true → length header ≡ 24 → (frames : List Captured) (rest : List ℕ) → written_by b header frames ++ rest ≢ []
     front-nonempty false is len frames rest = absurd (cc)
     front-nonempty true is len frames rest = nonempty header len
       where
-        nonempty : (h : List ℕ) → length h ≡ 24 → (h ++ forwarded app script frames) ++ rest ≢ []
+        nonempty : (h : List ℕ) → length h ≡ 24 → (h ++ forwarded app script (packets_of script) frames) ++ rest ≢ []
         nonempty [] l = absurd (omega (arith, l))
         nonempty (x ∷ h) l = λ none. cc
 
     -- something is written where packets are
-    pub writes_something : is_forward output ≡ true → length header ≡ 24 → (frames : List Captured) (ending : Ending) → (followed app script output header frames ending).text ≢ []
+    pub writes_something : is_forward output ≡ true → length header ≡ 24 → (frames : List Captured) (ending : Ending) → (followed app script (packets_of script) output header frames ending).text ≢ []
     writes_something forward len frames ending none =
         let all = text-of frames ending in
         front-nonempty (is_forward output) forward len frames all.0 (sym all.1 ∙ none)
@@ -201,77 +223,61 @@ module _ (app : Meaning) (script : List Stamped) where
   -- ---- how the run ends
 
   module _ (output : Output) where
-    pub outcome_is : (bytes : List ℕ) (left : Option (List ℕ)) (capture : CaptureState) (frames : List Captured) → (r : Replaying bytes left capture frames)
-        → outcome app script output bytes ≡ followed app script output capture.header (frames ++ (frames_at capture r.rest).frames) (frames_at capture r.rest).ending
-    unfolding outcome
-    outcome_is bytes left capture frames r =
-        ap (λ h. outcome_by app script output h (capture_of bytes)) (sym r.header) ∙ ap (outcome_by app script output capture.header) r.holds
-
-    -- a refused header
-    pub refused_header : (old new : Option (List ℕ)) (bytes : List ℕ) (e : OpenError) → OpenGives old new (Err e) → old ≡ Some bytes → StopsAs (outcome app script output bytes) (header_refusal e)
-    refused_header None new bytes e gives told = absurd (cc)
-    refused_header (Some b) None bytes e gives told = absurd gives
-    refused_header (Some b) (Some after) bytes Open.ReadFault gives told = inr (inl refl)
-    refused_header (Some b) (Some after) bytes Open.BadMagic gives told = header-stops app script output b bytes Open.BadMagic gives told
-    refused_header (Some b) (Some after) bytes Open.BadVersion gives told = header-stops app script output b bytes Open.BadVersion gives told
-    refused_header (Some b) (Some after) bytes Open.BadLink gives told = header-stops app script output b bytes Open.BadLink gives told
-    refused_header (Some b) (Some after) bytes (Open.ShortHeader n) gives told = header-stops app script output b bytes (Open.ShortHeader n) gives told
-
     -- a record that can't be read
     pub refused_record : (bytes : List ℕ) (left after : Option (List ℕ)) (old new : CaptureState) (frames : List Captured) (frame : Captured) (e : NextError)
-        → (r : Replaying bytes left old frames) → StepTold old new r.rest after frame (Err e) → StopsAs (outcome app script output bytes) (record_refusal e)
+        → (r : Replaying bytes left old frames) → StepTold old new r.rest after frame (Err e) → StopsAs (outcome app script (packets_of script) output bytes) (record_refusal e)
     refused_record bytes left after old new frames frame (Next.TooLong offset) r step =
-        inl (ap (λ o. o.ends) (outcome_is bytes left old frames r) ∙ ap (λ f. (followed app script output old.header (frames ++ f.frames) f.ending).ends) step.steps)
+        inl (ap (λ o. o.ends) (outcome_is app script (packets_of script) output bytes left old frames r) ∙ ap (λ f. (followed app script (packets_of script) output old.header (frames ++ f.frames) f.ending).ends) step.steps)
     refused_record bytes left after old new frames frame (Next.TooMany offset) r step =
-        inl (ap (λ o. o.ends) (outcome_is bytes left old frames r) ∙ ap (λ f. (followed app script output old.header (frames ++ f.frames) f.ending).ends) step.steps)
+        inl (ap (λ o. o.ends) (outcome_is app script (packets_of script) output bytes left old frames r) ∙ ap (λ f. (followed app script (packets_of script) output old.header (frames ++ f.frames) f.ending).ends) step.steps)
     refused_record bytes left after old new frames frame Next.ReadFault r step = inr (inl refl)
     refused_record bytes left after old new frames frame Next.NoMemory r step = inr (inr (inl refl))
 
     -- what was written so far is a front of the whole
     pub front_so_far : (bytes : List ℕ) (left : Option (List ℕ)) (capture : CaptureState) (frames : List Captured) (old now : Option (List ℕ)) → Replaying bytes left capture frames
-        → Appends old now (streamed app script output capture.header frames) → AppendsFront old now (outcome app script output bytes).text
+        → Appends old now (streamed app script (packets_of script) output capture.header frames) → AppendsFront old now (outcome app script (packets_of script) output bytes).text
     front_so_far bytes left capture frames old now r written =
-        subst (λ o. AppendsFront old now o.text) (sym (outcome_is bytes left capture frames r))
+        subst (λ o. AppendsFront old now o.text) (sym (outcome_is app script (packets_of script) output bytes left capture frames r))
         (front_whole output capture.header frames (frames_at capture r.rest).frames (frames_at capture r.rest).ending old now written)
 
     -- and so is what was written of one frame more
     pub front_of_frame : (bytes : List ℕ) (left after : Option (List ℕ)) (before capture : CaptureState) (frames : List Captured) (frame : Captured) (old mid now : Option (List ℕ)) → (r : Replaying bytes left before frames)
-        → StepTold before capture r.rest after frame (Ok Frame) → Appends old mid (streamed app script output before.header frames)
-        → AppendsFront mid now (gained app script output frames frame) → AppendsFront old now (outcome app script output bytes).text
+        → StepTold before capture r.rest after frame (Ok Frame) → Appends old mid (streamed app script (packets_of script) output before.header frames)
+        → AppendsFront mid now (gained app script output frames frame) → AppendsFront old now (outcome app script (packets_of script) output bytes).text
     front_of_frame bytes left after before capture frames frame old mid now r step written part =
-        subst (λ o. AppendsFront old now o.text) (sym (outcome_is bytes left before frames r ∙ ap (λ f. followed app script output before.header (frames ++ f.frames) f.ending) step.steps))
+        subst (λ o. AppendsFront old now o.text) (sym (outcome_is app script (packets_of script) output bytes left before frames r ∙ ap (λ f. followed app script (packets_of script) output before.header (frames ++ f.frames) f.ending) step.steps))
         (front_part output before.header frames (frames_at capture step.rest).frames frame (frames_at capture step.rest).ending old mid now written part)
 
     -- a write that failed
     pub stopped_writing : (bytes : List ℕ) (left : Option (List ℕ)) (capture : CaptureState) (frames : List Captured) → Replaying bytes left capture frames → is_forward output ≡ true → length capture.header ≡ 24
-        → StopsAs (outcome app script output bytes) Run.WriteFault
+        → StopsAs (outcome app script (packets_of script) output bytes) Run.WriteFault
     stopped_writing bytes left capture frames r forward len = inr (inr (inr (
       refl,
       λ none. writes_something output capture.header forward len (frames ++ (frames_at capture r.rest).frames) (frames_at capture r.rest).ending
-          (sym (ap (λ o. o.text) (outcome_is bytes left capture frames r)) ∙ none),
+          (sym (ap (λ o. o.text) (outcome_is app script (packets_of script) output bytes left capture frames r)) ∙ none),
     )))
 
     -- the end of the capture
     pub ended_at : (bytes : List ℕ) (left : Option (List ℕ)) (capture : CaptureState) (frames : List Captured) (n : ℕ) → (r : Replaying bytes left capture frames) → frames_at capture r.rest ≡ ended (tail n)
-        → outcome app script output bytes ≡ weighed app script output capture.header frames n
+        → outcome app script (packets_of script) output bytes ≡ weighed app script (packets_of script) output capture.header frames n
     ended_at bytes left capture frames n r is =
-        outcome_is bytes left capture frames r ∙ ap (λ f. followed app script output capture.header (frames ++ f.frames) f.ending) is
-        ∙ ap (λ fs. followed app script output capture.header fs (tail n)) (append-nil frames)
+        outcome_is app script (packets_of script) output bytes left capture frames r ∙ ap (λ f. followed app script (packets_of script) output capture.header (frames ++ f.frames) f.ending) is
+        ∙ ap (λ fs. followed app script (packets_of script) output capture.header fs (tail n)) (append-nil frames)
 
     -- a write that failed, or want of memory
     pub stopped_by : (bytes : List ℕ) (left : Option (List ℕ)) (capture : CaptureState) (frames : List Captured) (e : RunError) → Replaying bytes left capture frames → length capture.header ≡ 24
-        → ((e ≡ Run.WriteFault) × (is_forward output ≡ true)) ⊎ (e ≡ Run.NoMemory) → StopsAs (outcome app script output bytes) e
-    stopped_by bytes left capture frames e r len (inl w) = subst (λ x. StopsAs (outcome app script output bytes) x) (sym w.0) (stopped_writing bytes left capture frames r w.1 len)
+        → ((e ≡ Run.WriteFault) × (is_forward output ≡ true)) ⊎ (e ≡ Run.NoMemory) → StopsAs (outcome app script (packets_of script) output bytes) e
+    stopped_by bytes left capture frames e r len (inl w) = subst (λ x. StopsAs (outcome app script (packets_of script) output bytes) x) (sym w.0) (stopped_writing bytes left capture frames r w.1 len)
     stopped_by bytes left capture frames e r len (inr m) = inr (inr (inl m))
 
     -- a front of the header
     pub front_of_header : (bytes : List ℕ) (left : Option (List ℕ)) (capture : CaptureState) (old now : Option (List ℕ)) → Replaying bytes left capture []
-        → AppendsFront old now (if is_forward output then capture.header else []) → AppendsFront old now (outcome app script output bytes).text
+        → AppendsFront old now (if is_forward output then capture.header else []) → AppendsFront old now (outcome app script (packets_of script) output bytes).text
     front_of_header bytes left capture old now r part =
         let front = front-of output capture.header [] (frames_at capture r.rest).frames (frames_at capture r.rest).ending in
-        subst (λ o. AppendsFront old now o.text) (sym (outcome_is bytes left capture [] r))
+        subst (λ o. AppendsFront old now o.text) (sym (outcome_is app script (packets_of script) output bytes left capture [] r))
         (subst (AppendsFront old now) (sym front.1) (AppendsFront-more old now _ front.0 (subst (AppendsFront old now) (sym (streamed_none output capture.header)) part)))
 
     -- the whole header
-    pub header_written : (header : List ℕ) (old now : Option (List ℕ)) → Appends old now (if is_forward output then header else []) → Appends old now (streamed app script output header [])
+    pub header_written : (header : List ℕ) (old now : Option (List ℕ)) → Appends old now (if is_forward output then header else []) → Appends old now (streamed app script (packets_of script) output header [])
     header_written header old now written = subst (Appends old now) (sym (streamed_none output header)) written

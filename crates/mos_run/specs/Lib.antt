@@ -7,3 +7,5 @@ pub mod Outcome
 pub mod Told
 pub mod Reading
 pub mod Run
+pub mod Lanes
+pub mod Laws

@@ -18,6 +18,8 @@ use Rattle.lane_core.specs.declared.errors.LaneError.{LaneError}
 use Rattle.lane_core.specs.declared.errors.LaneError.TheVariants as Lane
 use Rattle.report_text.specs.declared.write.TextError.{TextError}
 use Rattle.report_text.specs.declared.write.TextError.TheVariants as Report
+use Rattle.worker_pool.specs.declared.job.PoolError.{PoolError}
+use Rattle.worker_pool.specs.declared.job.PoolError.TheVariants as Pool
 use Rattle.mos_run.specs.declared.refusal.RunError.{RunError}
 use Rattle.mos_run.specs.declared.refusal.RunError.TheVariants.{Usage, ScriptTooLong, Script, Capture, TooMany, Heavy, ReadFault, WriteFault, NoMemory}
 use Rattle.mos_run.specs.declared.refusal.ScriptFault.{ScriptFault}
@@ -107,3 +109,11 @@ text_refusal Report.NoMemory = NoMemory
 abbrev pub lane_refusal : LaneError → RunError
 lane_refusal Lane.NoMemory = NoMemory
 lane_refusal Lane.Heavy = Heavy
+
+-- a run on several lanes that ended early
+abbrev pub pool_refusal : PoolError → RunError
+pool_refusal (Pool.TooLong offset) = Capture Fault.TooLong offset
+pool_refusal (Pool.TooMany offset) = TooMany offset
+pool_refusal Pool.ReadFault = ReadFault
+pool_refusal Pool.Heavy = Heavy
+pool_refusal Pool.NoMemory = NoMemory

@@ -7,8 +7,7 @@ ghost use Rattle.control_script.specs.Order.{commands_of};
 ghost use Rattle.control_script.specs.Versions.{ceil};
 ghost use Rattle.lane_core.specs.Records.{VersionedPacket, records, verdict_on};
 ghost use Rattle.mos_run.specs.Records.{control_at};
-ghost use Rattle.mos_run.specs.Forward.{packet_of};
-ghost use Rattle.mos_run.specs.Reading.{IsUnder, IsReady, Follows, IsOver};
+ghost use Rattle.mos_run.specs.Reading.{IsUnder, IsReady, Follows, IsOver, packet_of};
 
 use app_api::Verdict;
 use control_script::Script;

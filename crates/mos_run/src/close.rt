@@ -10,22 +10,23 @@ ghost use Rattle.forest_versions.specs.Lawful.{are_lawful};
 ghost use Rattle.forest_versions.specs.State.{start};
 ghost use Rattle.control_script.specs.Order.{commands_of};
 ghost use Rattle.app_api.specs.App.{IsLawful};
+ghost use Rattle.mos_run.specs.Records.{packets_of};
 ghost use Rattle.mos_run.specs.Outcome.{is_forward, streamed, weighed, closing};
 ghost use Rattle.mos_run.specs.Reading.{IsRead};
 ghost use Rattle.mos_run.specs.Run.{RunsAs};
 
 use crate::replay::Plan;
 use crate::summary::write_summary;
-use crate::versions::versions_of;
 use crate::{Output, RunError, VersionList};
 use lane_core::Recorder;
 use lane_core::laws::{later_commands_change_none, records_are_tidy};
 use mos_bytes::Sink;
 use report_text::{Record, Totals, write_report};
 use std::alloc::Global;
+use worker_pool::versions::versions_of;
 
-// Writes what is written at the end.
-fn write_end<O: Sink>(
+/// Writes what is written at the end.
+pub(crate) fn write_end<O: Sink>(
     alloc: Global,
     output: Output,
     records: &[Record],
@@ -63,8 +64,8 @@ pub(crate) fn close<L: Recorder + Drop, O: Sink>(
         × IsRead (L.app lane) plan.now.script.now plan.now.output (L.given lane) (L.failed lane) (L.stands lane) frames }
     ensures ends { (header : List ℕ) (frames : List Captured) (before : Option (List ℕ)) → length frames ≡ packets
         → IsRead (L.app lane) plan.now.script.now plan.now.output (L.given lane) (L.failed lane) (L.stands lane) frames
-        → Appends before (O.taken out.old) (streamed (L.app lane) plan.now.script.now plan.now.output header frames)
-        → RunsAs (weighed (L.app lane) plan.now.script.now plan.now.output header frames tail) before (O.taken out.new) result }
+        → Appends before (O.taken out.old) (streamed (L.app lane) plan.now.script.now (packets_of plan.now.script.now) plan.now.output header frames)
+        → RunsAs (weighed (L.app lane) plan.now.script.now (packets_of plan.now.script.now) plan.now.output header frames tail) before (O.taken out.new) result }
     ensures silent { IfErr result (λ e. e ≢ RunError.WriteFault → e ≢ RunError.NoMemory → out.new ≡ out.old) }
     ensures only { IfErr result (λ e. (e ≡ RunError.WriteFault) ⊎ (e ≡ RunError.NoMemory) ⊎ (e ≡ RunError.Heavy)) }
     ensures cause { HasCauseOf (O.faults out.old) (O.faults out.new) (IsErrOf result RunError.WriteFault) }

@@ -4,17 +4,20 @@ ghost use Rattle.std.specs.Prelude.{◌≡◌, ◌≢◌, ◌⊎◌, ◌≤◌, 
 ghost use Rattle.mos_bytes.specs.Causes.{Rose, HasCauseOf};
 ghost use Rattle.mos_bytes.specs.Writes.{AppendsFront};
 ghost use Rattle.words.specs.Words.{words_settings};
-ghost use Rattle.mos_run.specs.Outcome.{Outcome};
-ghost use Rattle.mos_run.specs.Told.{told};
-ghost use Rattle.mos_run.specs.Run.{Finishes, EndsAs, Tells, ComesBefore, NamesNone, Makes, ReadsCapture, WritesAtEnd, forwards};
+ghost use Rattle.mos_run.specs.Told.{Told, told};
+ghost use Rattle.mos_run.specs.Run.{FinishesUnder, UnderSome, EndsAs, EndsWell, Tells, ComesBefore, NamesNone, Makes, ReadsCapture, WritesAtEnd, forwards};
 
+use crate::laws::what_one_worker_has_is_allowed;
 use crate::output::output_of;
 use crate::refusal::RunError;
 use crate::run::{Ended, refuse, run_mos};
 use mos_bytes::{GatheringSink, Shelf, Sink, Source};
 use native_filters::NativeBook;
 use std::alloc::{AllocFailed, Global};
+use std::sync::Wait;
+use std::thread::Threads;
 use words::read_words;
+use worker_pool::Gate;
 
 /// How a run ended, and the output that it was given.
 #[derive(Drop)]
@@ -40,7 +43,15 @@ fn writes_at_end(alloc: Global, words: &[String]) -> bool
 /// Each clause is that of `run_mos`, and speaks of `out` itself: at status 0 it has taken all, and nothing is held back. Where it
 /// fails in the last call, that is status 5 in place of 0; any other status stays. Memory for what is gathered may be refused:
 /// status 6.
-pub fn run_gathered<S: Source, H: Shelf, O: Sink, E: Sink>(
+pub fn run_gathered<
+    R: Threads + Wait + Sync + Send + Copy + Drop + 'static,
+    S: Source,
+    H: Shelf,
+    O: Sink,
+    E: Sink,
+    G: Gate + Sync,
+>(
+    rt: &R,
     alloc: Global,
     words: &[String],
     capture: &mut S,
@@ -48,14 +59,16 @@ pub fn run_gathered<S: Source, H: Shelf, O: Sink, E: Sink>(
     out: O,
     err: &mut E,
     natives: &NativeBook,
+    gate: &G,
 ) -> GatheredRun<O>
-    // On status 0 exactly the text of the run's outcome was added to out, under the versions answered.
-    ensures done { result.ended.status ≡ 0 → (o : Outcome) → told (map string_bytes words.now) (H.content shelf.old) (S.left capture.old) ≡ Some o
-        → Finishes o result.ended.versions (O.taken out) (O.taken result.out) }
+    // On status 0 exactly the text of the run's outcome was added to out, under the versions answered, which the run may have.
+    ensures done { result.ended.status ≡ 0 → (t : Told) → told (map string_bytes words.now) (H.content shelf.old) (S.left capture.old) ≡ Some t
+        → FinishesUnder t result.ended.versions (O.taken out) (O.taken result.out) }
     ensures read { result.ended.status ≡ 0 → ReadsCapture (map string_bytes words.now) (S.left capture.old) (S.left capture.new) }
 
     // Every other status has its cause; only want of memory has none.
-    ensures ends { (o : Outcome) → told (map string_bytes words.now) (H.content shelf.old) (S.left capture.old) ≡ Some o → EndsAs o result.ended.status }
+    ensures ends { (t : Told) → told (map string_bytes words.now) (H.content shelf.old) (S.left capture.old) ≡ Some t
+        → UnderSome t (λ o. EndsAs o result.ended.status) }
     ensures usage { words_settings (map string_bytes words.now) ≡ None → ((result.ended.status ≡ 1) ⊎ (result.ended.status ≡ 6))
         × (capture.new ≡ capture.old) × (shelf.new ≡ shelf.old) × (result.out ≡ out) }
     ensures only_usage { result.ended.status ≡ 1 → words_settings (map string_bytes words.now) ≡ None }
@@ -71,8 +84,8 @@ pub fn run_gathered<S: Source, H: Shelf, O: Sink, E: Sink>(
 
     // What is written where the output isn't whole.
     ensures silent { forwards (words_settings (map string_bytes words.now)) ≡ false → ComesBefore result.ended.status → result.out ≡ out }
-    ensures front { (o : Outcome) → told (map string_bytes words.now) (H.content shelf.old) (S.left capture.old) ≡ Some o
-        → AppendsFront (O.taken out) (O.taken result.out) o.text }
+    ensures front { (t : Told) → told (map string_bytes words.now) (H.content shelf.old) (S.left capture.old) ≡ Some t
+        → UnderSome t (λ o. AppendsFront (O.taken out) (O.taken result.out) o.text) }
     ensures no_versions { result.ended.status ≢ 0 → result.ended.versions ≡ [] }
 
     // What is told on err.
@@ -80,8 +93,8 @@ pub fn run_gathered<S: Source, H: Shelf, O: Sink, E: Sink>(
     ensures told { result.ended.status ≢ 0 → Tells (told (map string_bytes words.now) (H.content shelf.old) (S.left capture.old)) result.ended.status
         (E.taken err.old) (E.taken err.new) (E.faults err.old) (E.faults err.new) }
 
-    // What ends well is written whole, or memory is refused, unless the outside fails.
-    ensures complete { (o : Outcome) → told (map string_bytes words.now) (H.content shelf.old) (S.left capture.old) ≡ Some o → IsOk o.ends
+    // What ends well under all versions that it may have is written whole, or memory is refused, unless the outside fails.
+    ensures complete { (t : Told) → told (map string_bytes words.now) (H.content shelf.old) (S.left capture.old) ≡ Some t → EndsWell t
         → ¬ Rose (S.faults capture.old) (S.faults capture.new) → ¬ Rose (H.faults shelf.old) (H.faults shelf.new)
         → ¬ Rose (O.faults out) (O.faults result.out) → (result.ended.status ≡ 0) ⊎ (result.ended.status ≡ 6) }
 
@@ -90,9 +103,12 @@ pub fn run_gathered<S: Source, H: Shelf, O: Sink, E: Sink>(
     ensures out_lasts { O.lasting result.out ≡ O.lasting out }
     ensures err_lasts { E.lasting err.new ≡ E.lasting err.old }
 {
+    what_one_worker_has_is_allowed();
     let mut out = out;
     if !writes_at_end(alloc, words) {
-        let ended = run_mos(alloc, words, capture, shelf, &mut out, err, natives);
+        let ended = run_mos(
+            rt, alloc, words, capture, shelf, &mut out, err, natives, gate,
+        );
         return GatheredRun { ended, out };
     }
     let mut gathering = match GatheringSink::new(alloc, out) {
@@ -102,7 +118,17 @@ pub fn run_gathered<S: Source, H: Shelf, O: Sink, E: Sink>(
             return GatheredRun { ended, out };
         }
     };
-    let ended = run_mos(alloc, words, capture, shelf, &mut gathering, err, natives);
+    let ended = run_mos(
+        rt,
+        alloc,
+        words,
+        capture,
+        shelf,
+        &mut gathering,
+        err,
+        natives,
+        gate,
+    );
     let finished = gathering.finish();
     let out = gathering.into_inner();
     if ended.status == 0 && finished.is_err() {

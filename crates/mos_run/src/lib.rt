@@ -4,11 +4,13 @@
 mod advance;
 mod close;
 mod gathered;
+pub mod laws;
 pub mod output;
 pub mod refusal;
 mod replay;
 pub mod run;
 mod script;
+mod several;
 mod single;
 mod summary;
 mod telling;
@@ -18,8 +20,8 @@ pub use output::Output;
 pub use refusal::{RunError, ScriptFault};
 pub use run::{Ended, refuse, run_mos};
 pub use single::run_one;
-pub use worker_pool::{Gate, OpenGate, VersionList};
 pub use words::{AppKind, Emit, Name, Settings, WordsError, read_words};
+pub use worker_pool::{Gate, OpenGate, VersionList};
 
 #[cfg(test)]
 mod tests;

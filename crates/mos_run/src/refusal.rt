@@ -10,6 +10,7 @@ use pcap_source::{CaptureFault, NextError, OpenError};
 use report_text::TextError;
 use std::alloc::{AllocError, AllocFailed};
 use words::WordsError;
+use worker_pool::PoolError;
 
 /// Why a line of a script is refused.
 #[derive(Clone, Copy, Debug, PartialEq, Eq)]
@@ -163,6 +164,22 @@ impl From<LaneError> for RunError {
         match error {
             LaneError::NoMemory => RunError::NoMemory,
             LaneError::Heavy => RunError::Heavy,
+        }
+    }
+}
+
+impl From<PoolError> for RunError {
+    ghost use Rattle.mos_run.specs.Refusal.{pool_refusal};
+
+    ghost from_gives = { λ e r. r ≡ pool_refusal e };
+
+    fn from(error: PoolError) -> Self {
+        match error {
+            PoolError::TooLong(offset) => RunError::Capture(CaptureFault::TooLong, offset),
+            PoolError::TooMany(offset) => RunError::TooMany(offset),
+            PoolError::ReadFault => RunError::ReadFault,
+            PoolError::Heavy => RunError::Heavy,
+            PoolError::NoMemory => RunError::NoMemory,
         }
     }
 }

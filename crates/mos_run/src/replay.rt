@@ -10,6 +10,7 @@ ghost use Rattle.forest_versions.specs.Lawful.{are_lawful};
 ghost use Rattle.forest_versions.specs.State.{start};
 ghost use Rattle.control_script.specs.Order.{commands_of};
 ghost use Rattle.app_api.specs.App.{IsLawful};
+ghost use Rattle.mos_run.specs.Records.{packets_of};
 ghost use Rattle.mos_run.specs.Forward.{left_by};
 ghost use Rattle.mos_run.specs.Outcome.{is_forward, outcome, streamed};
 ghost use Rattle.mos_run.specs.Reading.{IsReady, IsRead, Replaying, gained};
@@ -129,8 +130,8 @@ fn read_on<L: Recorder + Drop, S: Source, O: Sink>(
     requires ready { IsReady (L.app lane) plan.now.script.now (L.given lane) (L.control lane) (L.last lane) 0 }
     requires read { IsRead (L.app lane) plan.now.script.now plan.now.output (L.given lane) (L.failed lane) (L.stands lane) [] }
     ensures runs { (bytes : List ℕ) (before : Option (List ℕ)) → Replaying bytes (S.left source.old) capture []
-        → Appends before (O.taken out.old) (streamed (L.app lane) plan.now.script.now plan.now.output capture.header [])
-        → RunsAs (outcome (L.app lane) plan.now.script.now plan.now.output bytes) before (O.taken out.new) result }
+        → Appends before (O.taken out.old) (streamed (L.app lane) plan.now.script.now (packets_of plan.now.script.now) plan.now.output capture.header [])
+        → RunsAs (outcome (L.app lane) plan.now.script.now (packets_of plan.now.script.now) plan.now.output bytes) before (O.taken out.new) result }
     ensures read { IsOk result → (bytes : List ℕ) → Replaying bytes (S.left source.old) capture [] → S.left source.new ≡ Some [] }
     ensures silent { is_forward plan.now.output ≡ false → IfErr result (λ e. e ≢ RunError.WriteFault → e ≢ RunError.NoMemory → out.new ≡ out.old) }
     ensures late { IfErr result (λ e. 2 < status_of e) }
@@ -165,7 +166,7 @@ pub(crate) fn replay<A: App + Drop, S: Source, O: Sink>(
 ) -> Result<VersionList, RunError>
     requires lawful { IsTrue (are_lawful (start (A.meaning app).presets) (commands_of plan.now.script.now)) }
     ensures runs { (bytes : List ℕ) → S.left source.old ≡ Some bytes
-        → RunsAs (outcome (A.meaning app) plan.now.script.now plan.now.output bytes) (O.taken out.old) (O.taken out.new) result }
+        → RunsAs (outcome (A.meaning app) plan.now.script.now (packets_of plan.now.script.now) plan.now.output bytes) (O.taken out.old) (O.taken out.new) result }
     ensures read { IsOk result → (bytes : List ℕ) → S.left source.old ≡ Some bytes → S.left source.new ≡ Some [] }
     ensures silent { is_forward plan.now.output ≡ false → IfErr result (λ e. e ≢ RunError.WriteFault → e ≢ RunError.NoMemory → out.new ≡ out.old) }
     ensures late { IfErr result (λ e. 2 < status_of e) }

@@ -4,7 +4,7 @@ ghost use Rattle.std.specs.Prelude.{◌≡◌, ◌⊎◌, ◌<◌, ◌≤◌, �
 ghost use Rattle.mos_bytes.specs.Causes.{HasCauseOf};
 ghost use Rattle.forest_versions.specs.Lawful.{are_lawful};
 ghost use Rattle.forest_versions.specs.State.{start};
-ghost use Rattle.control_script.specs.Order.{commands_of};
+ghost use Rattle.control_script.specs.Order.{commands_of, are_in_order};
 ghost use Rattle.mos_run.specs.Apps.{meaning_of};
 ghost use Rattle.mos_run.specs.Told.{commands_in, text_under};
 ghost use Rattle.mos_run.specs.Refusal.{status_of};
@@ -60,6 +60,7 @@ pub(crate) fn script_of<H: Shelf>(
 ) -> Result<Script, RunError>
     ensures ok { IfOk result (λ script. (text : List ℕ) → text_under settings.now.script (H.content shelf.old) ≡ Some text → commands_in settings.now.app text ≡ Ok script) }
     ensures lawful { IfOk result (λ script. IsTrue (are_lawful (start (meaning_of settings.now.app).presets) (commands_of script))) }
+    ensures order { IfOk result (λ script. IsTrue (are_in_order script)) }
     ensures refused { IfErr result (λ e. (text : List ℕ) → text_under settings.now.script (H.content shelf.old) ≡ Some text
         → (commands_in settings.now.app text ≡ Err e) ⊎ (e ≡ RunError.ReadFault) ⊎ (e ≡ RunError.NoMemory)) }
     ensures early { IfErr result (λ e. (status_of e ≡ 2) ⊎ (e ≡ RunError.ReadFault) ⊎ (e ≡ RunError.NoMemory)) }

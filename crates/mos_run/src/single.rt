@@ -6,6 +6,7 @@ ghost use Rattle.forest_versions.specs.Lawful.{are_lawful};
 ghost use Rattle.forest_versions.specs.State.{start};
 ghost use Rattle.control_script.specs.Order.{commands_of};
 ghost use Rattle.mos_run.specs.Apps.{meaning_of};
+ghost use Rattle.mos_run.specs.Records.{packets_of};
 ghost use Rattle.mos_run.specs.Outcome.{is_forward, outcome, output_of};
 ghost use Rattle.mos_run.specs.Refusal.{status_of};
 ghost use Rattle.mos_run.specs.Run.{RunsAs};
@@ -34,7 +35,7 @@ fn run_app<S: Source, O: Sink>(
 ) -> Result<VersionList, RunError>
     requires lawful { IsTrue (are_lawful (start (meaning_of app).presets) (commands_of plan.now.script.now)) }
     ensures runs { (bytes : List ℕ) → S.left source.old ≡ Some bytes
-        → RunsAs (outcome (meaning_of app) plan.now.script.now plan.now.output bytes) (O.taken out.old) (O.taken out.new) result }
+        → RunsAs (outcome (meaning_of app) plan.now.script.now (packets_of plan.now.script.now) plan.now.output bytes) (O.taken out.old) (O.taken out.new) result }
     ensures read { IsOk result → (bytes : List ℕ) → S.left source.old ≡ Some bytes → S.left source.new ≡ Some [] }
     ensures silent { is_forward plan.now.output ≡ false → IfErr result (λ e. e ≢ RunError.WriteFault → e ≢ RunError.NoMemory → out.new ≡ out.old) }
     ensures late { IfErr result (λ e. 2 < status_of e) }
@@ -68,7 +69,7 @@ pub fn run_one<S: Source, O: Sink>(
     requires lawful { IsTrue (are_lawful (start (meaning_of settings.now.app).presets) (commands_of script.now)) }
     requires few { IfSome settings.now.make (λ n. n ≤ 100000) }
     ensures runs { (bytes : List ℕ) → bytes_under settings.now.make (S.left capture.old) ≡ Some bytes
-        → RunsAs (outcome (meaning_of settings.now.app) script.now (output_of settings.now) bytes) (O.taken out.old) (O.taken out.new) result }
+        → RunsAs (outcome (meaning_of settings.now.app) script.now (packets_of script.now) (output_of settings.now) bytes) (O.taken out.old) (O.taken out.new) result }
     ensures read { IsOk result → settings.now.make ≡ None → (bytes : List ℕ) → S.left capture.old ≡ Some bytes → S.left capture.new ≡ Some [] }
     ensures made { settings.now.make ≢ None → capture.new ≡ capture.old }
     ensures silent { is_forward (output_of settings.now) ≡ false → IfErr result (λ e. e ≢ RunError.WriteFault → e ≢ RunError.NoMemory → out.new ≡ out.old) }

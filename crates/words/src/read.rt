@@ -16,6 +16,7 @@ use std::alloc::Global;
 /// Usage exactly where they aren't accepted, unless memory was refused before that was known.
 pub fn read_words(alloc: Global, words: &[String]) -> Result<Settings, WordsError>
     ensures ok { IfOk result (λ s. words_settings (map string_bytes words.now) ≡ Some s) }
+    ensures workers { IfOk result (λ s. (1 ≤ s.workers) × (s.workers ≤ 16)) }
     ensures few { IfOk result (λ s. IfSome s.make (λ n. n ≤ 100000)) }
     ensures usage { IfErr result (λ e. e ≡ WordsError.Usage → words_settings (map string_bytes words.now) ≡ None) }
 {
@@ -58,6 +59,7 @@ fn is_value(bytes: &[u8]) -> bool
 // What the five values choose.
 fn settings(alloc: Global, matches: &ArgMatches<'_>) -> Result<Settings, WordsError>
     ensures ok { IfOk result (λ s. settings_of (first_value (found_of matches.now)) ≡ Some s) }
+    ensures workers { IfOk result (λ s. (1 ≤ s.workers) × (s.workers ≤ 16)) }
     ensures few { IfOk result (λ s. IfSome s.make (λ n. n ≤ 100000)) }
     ensures usage { IfErr result (λ e. e ≡ WordsError.Usage → settings_of (first_value (found_of matches.now)) ≡ None) }
 {

@@ -83,6 +83,25 @@ fn choices(rt: HostRuntime) -> Result<(), Fail> {
     Ok(())
 }
 
+// How many workers.
+#[test]
+fn workers(rt: HostRuntime) -> Result<(), Fail> {
+    let rows = [
+        ("", 1),
+        ("--workers 1", 1),
+        ("--workers=2", 2),
+        ("--workers 16", 16),
+    ];
+    for (line, workers) in rows {
+        let words = words_of(rt.alloc(), line)?;
+        let settings = read_words(rt.alloc(), words.as_slice())
+            .ok()
+            .expect(&rt, "settings");
+        assert_eq!(rt; settings.workers, workers, "of {line}");
+    }
+    Ok(())
+}
+
 #[test]
 fn refused(rt: HostRuntime) -> Result<(), Fail> {
     let rows = [
@@ -98,7 +117,8 @@ fn refused(rt: HostRuntime) -> Result<(), Fail> {
         "--workers 0",
         "--workers 01",
         "--workers +1",
-        "--workers 2",
+        "--workers 17",
+        "--workers 116",
         "--workers 1 --workers 1",
         "--workers 4294967297",
         "--script",

@@ -40,7 +40,8 @@ pub(crate) fn app_of(text: Option<&str>) -> Option<AppKind>
 
 /// So many workers, or one.
 pub(crate) fn workers_of(text: Option<&str>) -> Option<usize>
-    ensures { result ≡ workers_of (option_map (λ s. s.now) text.entry) }
+    ensures which { result ≡ workers_of (option_map (λ s. s.now) text.entry) }
+    ensures within { IfSome result (λ workers. (1 ≤ workers) × (workers ≤ 16)) }
 {
     match text {
         Some(text) => {
@@ -103,6 +104,7 @@ pub(crate) fn make_of(text: Option<&str>) -> Option<Option<u32>>
 // The number that the text writes without sign or leading zero, where it is from 1 to `most`.
 fn number_up_to(most: u32, text: &str) -> Option<u32>
     ensures number { result ≡ number_up_to most text.now }
+    ensures least { IfSome result (λ n. 1 ≤ n) }
     ensures most { IfSome result (λ n. n ≤ most) }
 {
     let bytes = text.as_bytes();

@@ -38,11 +38,11 @@ run_of app script vs frames = run_under app (commands_of script) vs (arrivals 0 
 
 module _ (app : Meaning) (script : List Stamped) (lanes : ℕ) where
   -- all records of such a run, their versions, and what is counted over them
-  pub record IsWhole (frames : List Captured) (tail : ℕ) (end : LanesEnd) : Type 0 where
+  pub record IsWhole (frames : List Captured) (rest : ℕ) (end : LanesEnd) : Type 0 where
     pub allowed : MayHave app script lanes frames end.versions
     pub light : weight (run_of app script end.versions frames) ≤ 134217728
     pub records_are : end.records ≡ map (record_of app) (run_of app script end.versions frames)
-    pub totals_are : end.totals ≡ totals_of (run_of app script end.versions frames) (length frames) tail
+    pub totals_are : end.totals ≡ totals_of (run_of app script end.versions frames) (length frames) rest
 
   -- such a run weighs too much
   pub record IsTooHeavy (frames : List Captured) : Type 0 where

@@ -1,12 +1,13 @@
 //! A run on several lanes.
 
-ghost use Rattle.std.specs.Prelude.{◌≡◌, ◌≤◌, [], ℕ, List, Some, IsOk, IsTrue, IsErrOf};
+ghost use Rattle.std.specs.Prelude.{◌≡◌, ◌≤◌, [], ℕ, List, Some, IsOk, IfOk, IsTrue, IsErrOf};
 ghost use Rattle.mos_bytes.specs.Causes.{HasCauseOf};
+ghost use Rattle.pcap_source.specs.Captured.{Captured};
 ghost use Rattle.pcap_source.specs.Reading.{Opened, frames_at};
 ghost use Rattle.forest_versions.specs.Lawful.{are_lawful};
 ghost use Rattle.forest_versions.specs.State.{start};
 ghost use Rattle.control_script.specs.Order.{commands_of};
-ghost use Rattle.worker_pool.specs.Run.{EndsOver};
+ghost use Rattle.worker_pool.specs.Run.{EndsOver, IsWhole};
 
 use crate::conclude::conclude;
 use crate::gate::Gate;
@@ -49,6 +50,7 @@ pub fn run_lanes<
     requires lawful { IsTrue (are_lawful (start (A.meaning job.now.app).presets) (commands_of job.now.script.now)) }
     ensures ends { (rest : List ℕ) → S.left source.old ≡ Some rest
         → EndsOver (A.meaning job.now.app) job.now.script.now job.now.workers (frames_at capture.old rest) result }
+    ensures whole { IfOk result (λ end. (frames : List Captured) × (tail : ℕ) × IsWhole (A.meaning job.now.app) job.now.script.now job.now.workers frames tail end) }
     ensures read { IsOk result → (rest : List ℕ) → S.left source.old ≡ Some rest → S.left source.new ≡ Some [] }
     ensures cause { HasCauseOf (S.faults source.old) (S.faults source.new) (IsErrOf result PoolError.ReadFault) }
     ensures lasts { S.lasting source.new ≡ S.lasting source.old }

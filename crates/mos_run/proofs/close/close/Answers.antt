@@ -4,6 +4,7 @@ use Rattle.std.proofs.lemmas.Result.{err_from_is_err_and}
 use Rattle.mos_bytes.specs.Writes.{AppendsFront}
 use Rattle.std.specs.Io.KnownBytes.{Appends}
 use Rattle.report_text.specs.Tidy.{tidy}
+use Rattle.mos_run.specs.Records.{packets_of}
 use Rattle.mos_run.specs.Outcome.{closing, is_forward}
 use Rattle.mos_run.specs.declared.refusal.RunError.TheVariants as Run
 use Rattle.mos_run.proofs.Closing.{was_good, end_is, end_is_tidy, versions_are, closing_is, ends_well, ends_badly}
@@ -44,7 +45,7 @@ returns-in_err-write_end-clause-ends g c = λ header frames before count read fi
       tail = c.args.tail;
     })) c.as_slice-records.ensures ∙ text) c.in_err-write_end.ensures.text in
     rw (error.1)
-    (ends_badly app plan.script.now plan.output frames header c.args.tail error.0 before (g.O.Sink.taken c.args.out.now) (g.O.Sink.taken c.write_end.new.out) (read.light good) which first last)
+    (ends_badly app plan.script.now (packets_of plan.script.now) plan.output frames header c.args.tail error.0 before (g.O.Sink.taken c.args.out.now) (g.O.Sink.taken c.write_end.new.out) (read.light good) which first last)
 
 pub returns-clause-ends : goal.returns-clause-ends
 returns-clause-ends g c = λ header frames before count read first.
@@ -65,4 +66,4 @@ returns-clause-ends g c = λ header frames before count read first.
     })) c.as_slice-records.ensures ∙ text) c.in_ok-write_end.ensures.text in
     let versions = c.in_ok-versions.ensures ∙ ap (map (λ r. r.version)) c.as_slice-records.ensures
     ∙ versions_are app plan.script.now plan.output frames (g.L.Recorder.keeps lane) end.records end.versions end.callbacks end.drops is in
-    ends_well app plan.script.now plan.output frames header c.args.tail _ before (g.O.Sink.taken c.args.out.now) (g.O.Sink.taken c.write_end.new.out) (read.light good) versions first last
+    ends_well app plan.script.now (packets_of plan.script.now) plan.output frames header c.args.tail _ before (g.O.Sink.taken c.args.out.now) (g.O.Sink.taken c.write_end.new.out) (read.light good) versions first last

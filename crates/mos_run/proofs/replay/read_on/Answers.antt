@@ -6,6 +6,7 @@ use Rattle.std.proofs.KnownBytes.{Appends-trans}
 use Rattle.pcap_source.specs.Reading.{NextGives}
 use Rattle.mos_run.specs.declared.refusal.RunError.TheVariants as Run
 use Rattle.mos_run.specs.Refusal.{record_refusal}
+use Rattle.mos_run.specs.Records.{packets_of}
 use Rattle.mos_run.specs.Outcome.{outcome, streamed}
 use Rattle.mos_run.specs.Run.{RunsAs}
 use Rattle.mos_run.proofs.Refusals.{is_read_fault, no_write_fault, is_late, same_error, rose_since, late_by, no_read_fault}
@@ -40,7 +41,7 @@ returns-in_err-next-clause-runs g c = λ bytes before r written.
     let step = step_told at.capture c.next.new.self _ _ rep.rest c.next.new.frame (Err c.in_err-next.field-0.0) c.in_err-next.ensures.gives rep.told in
     let p = err_from_is_err_and c.from_residual.result c.from_residual.ensures.1 in
     rw (p.1, p.2)
-    (subst (λ a. RunsAs (outcome a plan.script.now plan.output bytes) before (g.O.Sink.taken at.out) (Err (record_refusal c.in_err-next.field-0.0))) inv.app (
+    (subst (λ a. RunsAs (outcome a plan.script.now (packets_of plan.script.now) plan.output bytes) before (g.O.Sink.taken at.out) (Err (record_refusal c.in_err-next.field-0.0))) inv.app (
       refused_record app plan.script.now plan.output bytes _ _ at.capture c.next.new.self read.0 c.next.new.frame c.in_err-next.field-0.0 rep step,
       front_so_far app plan.script.now plan.output bytes _ at.capture read.0 before (g.O.Sink.taken at.out) rep (read.3 before written),
     ))
@@ -81,7 +82,7 @@ returns-in_err-take-in-Frame-clause-runs g c = λ bytes before r written.
     let e = c.in_err-take-in-Frame.field-0.0 in
     let p = err_from_is_err_and c.from_residual-in_err-take-in-Frame.result c.from_residual-in_err-take-in-Frame.ensures.1 in
     rw (p.1, p.2)
-    (subst (λ a. RunsAs (outcome a plan.script.now plan.output bytes) before (g.O.Sink.taken c.take.new.out) (Err e)) inv.app (
+    (subst (λ a. RunsAs (outcome a plan.script.now (packets_of plan.script.now) plan.output bytes) before (g.O.Sink.taken c.take.new.out) (Err e)) inv.app (
       stopped_by app plan.script.now plan.output bytes _ at.capture read.0 e rep inv.header c.in_err-take-in-Frame.ensures.only,
       front_of_frame app plan.script.now plan.output bytes _ _ at.capture c.next.new.self read.0 c.next.new.frame before (g.O.Sink.taken at.out) (g.O.Sink.taken c.take.new.out) rep step (read.3 before written)
           (c.in_err-take-in-Frame.ensures.writes read.0 read.1 read.2),
@@ -140,8 +141,8 @@ loop-frame-preserved g c =
         length-append read.0 (frame ∷ []) ∙ ap (λ n. n + 1) read.1,
         taken.reads refl read.0 read.1 read.2,
         λ before written.
-            subst (λ a. Appends before (g.O.Sink.taken c.take.new.out) (streamed a plan.script.now plan.output c.next.new.self.header (read.0 ++ frame ∷ []))) (sym c.take.ensures.app)
-            (subst (λ h. Appends before (g.O.Sink.taken c.take.new.out) (streamed app plan.script.now plan.output h (read.0 ++ frame ∷ []))) (sym moved.header)
+            subst (λ a. Appends before (g.O.Sink.taken c.take.new.out) (streamed a plan.script.now (packets_of plan.script.now) plan.output c.next.new.self.header (read.0 ++ frame ∷ []))) (sym c.take.ensures.app)
+            (subst (λ h. Appends before (g.O.Sink.taken c.take.new.out) (streamed app plan.script.now (packets_of plan.script.now) plan.output h (read.0 ++ frame ∷ []))) (sym moved.header)
             (subst (Appends before (g.O.Sink.taken c.take.new.out)) (sym (streamed_last app plan.script.now plan.output at.capture.header read.0 frame))
             (Appends-trans before (g.O.Sink.taken at.out) (g.O.Sink.taken c.take.new.out) _ _ (read.3 before written) (taken.writes read.0 read.1 read.2)))),
         λ bytes r.
@@ -168,7 +169,7 @@ returns-in-Tail-clause-runs g c = λ bytes before r written.
     let rep = read.4 bytes r in
     let gives = subst (λ s. NextGives at.capture c.next.new.self (g.S.Source.left at.source) (g.S.Source.left c.next.new.source) c.next.new.frame (Ok s)) c.in-Tail.is c.in_ok-next.ensures.gives in
     let step = step_told at.capture c.next.new.self _ _ rep.rest c.next.new.frame _ gives rep.told in
-    subst (λ a. RunsAs (outcome a plan.script.now plan.output bytes) before (g.O.Sink.taken c.close.new.out) c.close.result) inv.app
+    subst (λ a. RunsAs (outcome a plan.script.now (packets_of plan.script.now) plan.output bytes) before (g.O.Sink.taken c.close.new.out) c.close.result) inv.app
     (subst (λ o. RunsAs o before (g.O.Sink.taken c.close.new.out) c.close.result) (sym (ended_at app plan.script.now plan.output bytes _ at.capture read.0 c.in-Tail.bytes rep step.steps.0))
     (c.close.ensures.ends at.capture.header read.0 before read.1 read.2 (read.3 before written)))
 
@@ -193,7 +194,7 @@ returns-in-End-clause-runs g c = λ bytes before r written.
     let rep = read.4 bytes r in
     let gives = subst (λ s. NextGives at.capture c.next.new.self (g.S.Source.left at.source) (g.S.Source.left c.next.new.source) c.next.new.frame (Ok s)) c.in-End.is c.in_ok-next.ensures.gives in
     let step = step_told at.capture c.next.new.self _ _ rep.rest c.next.new.frame _ gives rep.told in
-    subst (λ a. RunsAs (outcome a plan.script.now plan.output bytes) before (g.O.Sink.taken c.close-in-End.new.out) c.close-in-End.result) inv.app
+    subst (λ a. RunsAs (outcome a plan.script.now (packets_of plan.script.now) plan.output bytes) before (g.O.Sink.taken c.close-in-End.new.out) c.close-in-End.result) inv.app
     (subst (λ o. RunsAs o before (g.O.Sink.taken c.close-in-End.new.out) c.close-in-End.result) (sym (ended_at app plan.script.now plan.output bytes _ at.capture read.0 0 rep step.steps.0))
     (c.close-in-End.ensures.ends at.capture.header read.0 before read.1 read.2 (read.3 before written)))
 

@@ -1,6 +1,7 @@
 use Rattle.std.proofs.Common.{◌≡◌, ℕ, ◌-◌, ◌≤◌, List, Option, true, false, not, length, []}
 use Rattle.std.specs.Io.KnownBytes.{Appends}
 use Rattle.pcap_source.specs.Captured.{Captured}
+use Rattle.mos_run.specs.Records.{packets_of}
 use Rattle.mos_run.specs.Outcome.{is_forward, streamed}
 use Rattle.mos_run.specs.Reading.{IsReady, IsRead, Replaying}
 use Rattle.mos_run.proofs.replay.read_on.Given as goal
@@ -23,8 +24,8 @@ invariant-loop-frame g l = record {
   out_lasts : g.O.Sink.lasting l.out ≡ g.O.Sink.lasting l.fn.out;
   read : (frames : List Captured) × (length frames ≡ l.packets)
       × IsRead (g.L.Recorder.app l.lane) l.plan.script.now l.plan.output (g.L.Recorder.given l.lane) (g.L.Recorder.failed l.lane) (g.L.Recorder.stands l.lane) frames
-      × ((before : Option (List ℕ)) → Appends before (g.O.Sink.taken l.fn.out) (streamed (g.L.Recorder.app l.fn.lane) l.plan.script.now l.plan.output l.fn.capture.header [])
-      → Appends before (g.O.Sink.taken l.out) (streamed (g.L.Recorder.app l.lane) l.plan.script.now l.plan.output l.capture.header frames))
+      × ((before : Option (List ℕ)) → Appends before (g.O.Sink.taken l.fn.out) (streamed (g.L.Recorder.app l.fn.lane) l.plan.script.now (packets_of l.plan.script.now) l.plan.output l.fn.capture.header [])
+      → Appends before (g.O.Sink.taken l.out) (streamed (g.L.Recorder.app l.lane) l.plan.script.now (packets_of l.plan.script.now) l.plan.output l.capture.header frames))
       × ((bytes : List ℕ) → Replaying bytes (g.S.Source.left l.fn.source) l.fn.capture [] → Replaying bytes (g.S.Source.left l.source) l.capture frames);
 }
 

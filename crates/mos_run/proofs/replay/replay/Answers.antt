@@ -1,6 +1,7 @@
 use Rattle.std.proofs.Common.{◌≡◌, [], refl, subst, inl, inr}
 use Rattle.std.proofs.lemmas.Result.{err_from_is_err_and}
 use Rattle.mos_bytes.proofs.Writes.{AppendsFront-nil}
+use Rattle.mos_run.specs.Records.{packets_of}
 use Rattle.mos_run.specs.Outcome.{is_forward, outcome}
 use Rattle.mos_run.specs.Run.{RunsAs}
 use Rattle.mos_run.proofs.Reading.{none_read, fails_forward}
@@ -12,7 +13,7 @@ returns-in_err-capture-clause-runs g c = λ bytes told.
     let plan = c.args.plan.now in
     let p = err_from_is_err_and c.from_residual.result c.from_residual.ensures.1 in
     rw (p.1, p.2) (
-      refused_header (g.A.App.meaning c.args.app) plan.script.now plan.output (g.S.Source.left c.args.source.now) (g.S.Source.left c.open.new.source) bytes c.in_err-capture.field-0.0 c.in_err-capture.ensures.gives told,
+      refused_header (g.A.App.meaning c.args.app) plan.script.now (packets_of plan.script.now) plan.output (g.S.Source.left c.args.source.now) (g.S.Source.left c.open.new.source) bytes c.in_err-capture.field-0.0 c.in_err-capture.ensures.gives told,
       AppendsFront-nil _ _,
     )
 
@@ -53,7 +54,7 @@ returns-clause-runs g c = λ bytes told.
     let start = c.in_ok-capture.ensures.start in
     let rep = opened_replay (g.S.Source.left c.args.source.now) (g.S.Source.left c.open.new.source) c.in_ok-capture.capture bytes c.in_ok-capture.ensures.gives start.count start.offset told in
     let written = header_written (g.A.App.meaning lane.world.app) plan.script.now plan.output c.in_ok-capture.capture.header (g.O.Sink.taken c.args.out.now) (g.O.Sink.taken c.write_front.new.out) c.in_ok-write_front.ensures.text in
-    subst (λ a. RunsAs (outcome a plan.script.now plan.output bytes) (g.O.Sink.taken c.args.out.now) (g.O.Sink.taken c.read_on.new.out) c.read_on.result) c.in_ok-lane.ensures.app
+    subst (λ a. RunsAs (outcome a plan.script.now (packets_of plan.script.now) plan.output bytes) (g.O.Sink.taken c.args.out.now) (g.O.Sink.taken c.read_on.new.out) c.read_on.result) c.in_ok-lane.ensures.app
     (c.read_on.ensures.runs bytes (g.O.Sink.taken c.args.out.now) rep written)
 
 pub returns-clause-read : goal.returns-clause-read

@@ -1,0 +1,129 @@
+-- The end of a run on several lanes: what they end with is what is written, or why it isn't.
+use Rattle.std.proofs.Common.{◌≡◌, ◌≢◌, ℕ, ◌<◌, ◌≤◌, Bool, true, false, Option, List, [], ◌++◌, length, map, take, Result, Ok, Err, refl, sym, ap, subst, ◌∙◌, arith, inl, inr}
+use Rattle.std.specs.Prelude.{◌⊎◌, ◌&&◌, not, nat_lt, if◌then◌else◌}
+use Rattle.std.specs.Io.KnownBytes.{Appends}
+use Rattle.std.proofs.KnownBytes.{Appends-nil}
+use Rattle.mos_bytes.specs.Writes.{AppendsFront}
+use Rattle.mos_bytes.proofs.Writes.{AppendsFront-nil}
+use Rattle.app_api.specs.App.{Meaning, IsLawful}
+use Rattle.pcap_source.specs.Captured.{Captured}
+use Rattle.pcap_source.specs.Capture.{Frames, Ending, tail, too_long, too_many, capture_of}
+use Rattle.pcap_source.specs.declared.errors.CaptureFault.TheVariants as Fault
+use Rattle.report_text.specs.Tidy.{tidy}
+use Rattle.forest_versions.specs.declared.command.Command.{Command}
+use Rattle.forest_versions.specs.Lawful.{are_lawful}
+use Rattle.forest_versions.specs.State.{start}
+use Rattle.control_script.specs.declared.stamped.Stamped.{Stamped}
+use Rattle.control_script.specs.Order.{commands_of, are_in_order}
+use Rattle.lane_core.specs.Sight.{arrivals}
+use Rattle.lane_core.specs.Records.{VersionedPacket, RecordSoFar}
+use Rattle.lane_core.specs.Shown.{record_of, weight}
+use Rattle.lane_core.specs.Laws.{RecordsAreTidy, rise}
+use Rattle.worker_laws.specs.Whole.{packets_under}
+use Rattle.worker_pool.specs.Run.{EndsOver, IsWhole, MayHave, totals_of}
+use Rattle.worker_pool.specs.declared.job.LanesEnd.{LanesEnd}
+use Rattle.worker_pool.specs.declared.job.PoolError.{PoolError}
+use Rattle.worker_pool.specs.declared.job.PoolError.TheVariants as Pool
+use Rattle.mos_run.specs.declared.output.Output.{Output}
+use Rattle.mos_run.specs.declared.refusal.RunError.{RunError}
+use Rattle.mos_run.specs.declared.refusal.RunError.TheVariants as Run
+use Rattle.mos_run.specs.Records.{control_at, packets_with, records_of, versions_of}
+use Rattle.mos_run.specs.Forward.{forwarded}
+use Rattle.mos_run.specs.Outcome.{Outcome, is_forward, is_heavy, streamed, closing, ended, followed, weighed, refused, outcome, outcome_by}
+use Rattle.mos_run.specs.Refusal.{pool_refusal}
+use Rattle.mos_run.specs.Told.{frames_in}
+use Rattle.mos_run.specs.Run.{Finishes, StopsAs, RunsAs}
+use Rattle.mos_run.specs.Lanes.{FinishesWith, StopsWith}
+use Rattle.mos_run.specs.Laws.{ceilings_of, CeilingsMayBeHad}
+use Rattle.mos_run.proofs.Ceilings.{HasVersions}
+use Rattle.mos_run.proofs.Closing.{ends_well, ends_badly}
+use Rattle.mos_run.proofs.Events.{are_events}
+use Rattle.mos_run.proofs.Reading.{over-limit, under-limit}
+
+-- the records of a run are such as a report may have, whatever its versions
+abbrev pub NumbersOfRunRise : Type 0
+NumbersOfRunRise = (app : Meaning) (commands : List Command) (frames : List Captured) (vs : List ℕ) → rise 0 (packets_under app commands vs (arrivals 0 frames)) ≡ true
+
+pub whole_is_tidy : RecordsAreTidy → NumbersOfRunRise → (app : Meaning) (script : List Stamped) (lanes rest : ℕ) (frames : List Captured) (end : LanesEnd) → IsLawful app
+    → are_lawful (start app.presets) (commands_of script) ≡ true → IsWhole app script lanes frames rest end → tidy end.records ≡ true
+whole_is_tidy law rises app script lanes rest frames end lawful commands whole =
+    subst (λ l. tidy l ≡ true) (sym whole.records_are)
+    (law app (control_at app script) (packets_with app script end.versions frames) lawful (λ v. are_events app (commands_of script) v lawful commands) (rises app (commands_of script) frames end.versions))
+
+module _ (app : Meaning) (script : List Stamped) (lanes : ℕ) (output : Output) (bytes : List ℕ) where
+  -- nothing could be said of the capture, or the run stopped before its end, whatever its versions
+  pub stopped_any : CeilingsMayBeHad → are_in_order script ≡ true → (old : Option (List ℕ)) (e : RunError) → ((vs : List ℕ) → StopsAs (outcome app script (packets_with app script vs) output bytes) e)
+      → StopsWith app script lanes output bytes e old old
+  stopped_any law ordered old e stops = record {
+    versions = ceilings_of app script bytes;
+    may_have = law app script lanes bytes ordered;
+    stops = stops (ceilings_of app script bytes);
+    front = AppendsFront-nil old _;
+  }
+
+  -- the capture was opened
+  module _ (f : Frames) (opened : capture_of bytes ≡ Ok f) (kept : is_forward output ≡ false) where
+    outcome-at : (vs : List ℕ) (ending : Ending) → f.ending ≡ ending
+        → outcome app script (packets_with app script vs) output bytes ≡ followed app script (packets_with app script vs) output (take 24 bytes) f.frames ending
+    unfolding outcome
+    outcome-at vs ending is = ap (outcome_by app script (packets_with app script vs) output (take 24 bytes)) opened ∙ ap (followed app script (packets_with app script vs) output (take 24 bytes) f.frames) is
+
+    may-have : (vs : List ℕ) → MayHave app script lanes f.frames vs → MayHave app script lanes (frames_in (capture_of bytes)) vs
+    may-have vs may = subst (λ fs. MayHave app script lanes fs vs) (sym (ap frames_in opened)) may
+
+    heavy-by : (vs : List ℕ) (b : Bool) → nat_lt 134217728 (weight (records_of app script (packets_with app script vs) f.frames)) ≡ b
+        → is_heavy app script (packets_with app script vs) output f.frames ≡ b
+    heavy-by vs b is = ap (λ c. not c && nat_lt 134217728 (weight (records_of app script (packets_with app script vs) f.frames))) kept ∙ is
+
+    -- it can't be read on, or weighs too much
+    pub stopped : CeilingsMayBeHad → are_in_order script ≡ true → (old : Option (List ℕ)) (e : PoolError) → EndsOver app script lanes f (Err e) → StopsWith app script lanes output bytes (pool_refusal e) old old
+    stopped law ordered old (Pool.TooLong offset) is = stopped_any law ordered old (Run.Capture Fault.TooLong offset) (λ vs. inl (ap (λ o. o.ends) (outcome-at vs (too_long offset) is)))
+    stopped law ordered old (Pool.TooMany offset) is = stopped_any law ordered old (Run.TooMany offset) (λ vs. inl (ap (λ o. o.ends) (outcome-at vs (too_many offset) is)))
+    stopped law ordered old Pool.ReadFault is = stopped_any law ordered old Run.ReadFault (λ vs. inr (inl refl))
+    stopped law ordered old Pool.NoMemory is = stopped_any law ordered old Run.NoMemory (λ vs. inr (inr (inl refl)))
+    stopped law ordered old Pool.Heavy is =
+        let heavy = is.2 in
+        let given = packets_with app script heavy.versions in
+        record {
+          versions = heavy.versions;
+          may_have = may-have heavy.versions heavy.allowed;
+          stops = inl (ap (λ o. o.ends) (outcome-at heavy.versions (tail is.0) is.1)
+              ∙ ap (λ b. (if b then refused Run.Heavy else ended app script given output (take 24 bytes) f.frames is.0).ends) (heavy-by heavy.versions true (over-limit app script _ heavy.heavy)));
+          front = AppendsFront-nil old _;
+        }
+
+    -- it was read whole
+    module _ (n : ℕ) (ending : f.ending ≡ tail n) (end : LanesEnd) (whole : IsWhole app script lanes f.frames n end) where
+      abbrev given : List Captured → List VersionedPacket
+      given = packets_with app script end.versions
+
+      light : is_heavy app script given output f.frames ≡ false
+      light = heavy-by end.versions false (under-limit app script _ (λ over. let most = whole.light in omega (arith, over, most)))
+
+      nothing-streamed : (old : Option (List ℕ)) → Appends old old (streamed app script given output (take 24 bytes) f.frames)
+      nothing-streamed old = subst (λ b. Appends old old (if b then take 24 bytes ++ forwarded app script given f.frames else [])) (sym kept) (Appends-nil old)
+
+      closing-is : closing output end.records end.totals ≡ closing output (map (record_of app) (records_of app script given f.frames)) (totals_of (records_of app script given f.frames) (length f.frames) n)
+      closing-is = ap (λ l. closing output l end.totals) whole.records_are ∙ ap (closing output (map (record_of app) (records_of app script given f.frames))) whole.totals_are
+
+      -- and all was written
+      pub finished : HasVersions → (old new : Option (List ℕ)) → Appends old new (closing output end.records end.totals) → FinishesWith app script lanes output bytes end.versions old new
+      finished has old new written = record {
+        may_have = may-have end.versions whole.allowed;
+        finishes = subst (λ o. Finishes o end.versions old new) (sym (outcome-at end.versions (tail n) ending))
+            (ends_well app script given output f.frames (take 24 bytes) n end.versions old old new light (sym (has app (commands_of script) _ _ _ (arrivals 0 f.frames) end.versions whole.allowed)) (nothing-streamed old)
+            (subst (Appends old new) closing-is written));
+      }
+
+      -- or a front of it, where writing failed
+      pub broke_off : (old new : Option (List ℕ)) (e : RunError) → ((e ≡ Run.WriteFault) × (is_forward output ≡ false)) ⊎ (e ≡ Run.NoMemory) → AppendsFront old new (closing output end.records end.totals)
+          → StopsWith app script lanes output bytes e old new
+      broke_off old new e which part =
+          let both : RunsAs (weighed app script given output (take 24 bytes) f.frames n) old new (Err e) =
+          ends_badly app script given output f.frames (take 24 bytes) n e old old new light which (nothing-streamed old) (subst (AppendsFront old new) closing-is part) in
+          record {
+            versions = end.versions;
+            may_have = may-have end.versions whole.allowed;
+            stops = subst (λ o. StopsAs o e) (sym (outcome-at end.versions (tail n) ending)) both.0;
+            front = subst (λ o. AppendsFront old new o.text) (sym (outcome-at end.versions (tail n) ending)) both.1;
+          }
