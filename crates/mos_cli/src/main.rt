@@ -2,7 +2,7 @@
 #![tactic(auto)]
 
 use mos_bytes::{FolderShelf, ReadSource, WriteSink};
-use mos_run::{RunError, refuse, run_gathered};
+use mos_run::{OpenGate, RunError, refuse, run_gathered};
 use native_filters::{
     Native, NativeBook, has_differing_bytes, has_system_port, is_ending, is_keep_alive, is_opening,
     is_private_traffic,
@@ -37,6 +37,7 @@ fn main(rt: HostRuntime) -> ExitCode {
     let ended = match words {
         Ok(words) => {
             run_gathered(
+                &rt,
                 alloc,
                 words.as_slice(),
                 &mut capture,
@@ -44,6 +45,7 @@ fn main(rt: HostRuntime) -> ExitCode {
                 out,
                 &mut err,
                 &natives,
+                &OpenGate,
             )
             .ended
         }

@@ -3,8 +3,9 @@
 mod captures;
 mod limits;
 mod web_request;
+mod workers;
 
-use crate::{Ended, RunError, ScriptFault, refuse, run_gathered, run_mos};
+use crate::{Ended, OpenGate, RunError, ScriptFault, refuse, run_gathered, run_mos};
 use captures::{
     ACK, ARP, BAD, BIG, BIG_NANOSECONDS, DATA, FRAGMENT, LITTLE, LITTLE_NANOSECONDS, SYN, SYN_ACK,
     TAGGED, capture, damaged, empty_records, handshake, one_record, segment,
@@ -15,7 +16,9 @@ use native_filters::{
     is_private_traffic,
 };
 use std::alloc::{AllocError, Global};
+use std::sync::Wait;
 use std::test::Fail;
+use std::thread::Threads;
 
 const NOTHING: &[u8] = b"end packets 0 records 0 callbacks 0 drops 0 tail 0\n";
 
@@ -145,7 +148,8 @@ fn shelf(alloc: Global, scripts: &[(&str, &[u8])], fails: u64) -> Result<MemShel
 }
 
 // A run where the native filters are the plain functions.
-fn run_plain(
+fn run_plain<R: Threads + Wait + Sync + Send + Copy + Drop + 'static>(
+    rt: &R,
     alloc: Global,
     words: &[String],
     source: &mut MemSource,
@@ -161,22 +165,42 @@ fn run_plain(
         Native::new(4, is_ending),
         Native::new(5, has_differing_bytes),
     );
-    run_mos(alloc, words, source, shelf, out, err, &natives)
+    run_mos(
+        rt, alloc, words, source, shelf, out, err, &natives, &OpenGate,
+    )
 }
 
 // A run over these bytes. Out has ample room for what a few packets leave.
-fn run_asked(alloc: Global, bytes: Vec<u8>, asked: &Asked<'_>) -> Result<Finished, AllocError> {
+fn run_asked<R: Threads + Wait + Sync + Send + Copy + Drop + 'static>(
+    rt: &R,
+    alloc: Global,
+    bytes: Vec<u8>,
+    asked: &Asked<'_>,
+) -> Result<Finished, AllocError> {
     let words = words_of(alloc, asked.words)?;
     let mut source = MemSource::new(bytes, [asked.read].to_vec(alloc)?);
     let mut shelf = shelf(alloc, asked.scripts, asked.fetch)?;
     let mut out = sink(alloc, 1024, asked.write)?;
     let mut err = sink(alloc, 160, 9)?;
-    let ended = run_plain(alloc, &words, &mut source, &mut shelf, &mut out, &mut err);
+    let ended = run_plain(
+        rt,
+        alloc,
+        &words,
+        &mut source,
+        &mut shelf,
+        &mut out,
+        &mut err,
+    );
     Ok(Finished { ended, out, err })
 }
 
 // The same by the call that gathers what is written.
-fn run_gathering(alloc: Global, bytes: Vec<u8>, asked: &Asked<'_>) -> Result<Finished, AllocError> {
+fn run_gathering<R: Threads + Wait + Sync + Send + Copy + Drop + 'static>(
+    rt: &R,
+    alloc: Global,
+    bytes: Vec<u8>,
+    asked: &Asked<'_>,
+) -> Result<Finished, AllocError> {
     let natives = NativeBook::new(
         Native::new(0, is_opening),
         Native::new(1, has_system_port),
@@ -190,6 +214,7 @@ fn run_gathering(alloc: Global, bytes: Vec<u8>, asked: &Asked<'_>) -> Result<Fin
     let mut shelf = shelf(alloc, asked.scripts, asked.fetch)?;
     let mut err = sink(alloc, 160, 9)?;
     let run = run_gathered(
+        rt,
         alloc,
         &words,
         &mut source,
@@ -197,6 +222,7 @@ fn run_gathering(alloc: Global, bytes: Vec<u8>, asked: &Asked<'_>) -> Result<Fin
         sink(alloc, 1024, asked.write)?,
         &mut err,
         &natives,
+        &OpenGate,
     );
     Ok(Finished {
         ended: run.ended,
@@ -206,13 +232,15 @@ fn run_gathering(alloc: Global, bytes: Vec<u8>, asked: &Asked<'_>) -> Result<Fin
 }
 
 // A run without words whose read and write of these numbers fail.
-fn run_failing(
+fn run_failing<R: Threads + Wait + Sync + Send + Copy + Drop + 'static>(
+    rt: &R,
     alloc: Global,
     bytes: Vec<u8>,
     read: u64,
     write: u64,
 ) -> Result<Finished, AllocError> {
     run_asked(
+        rt,
         alloc,
         bytes,
         &Asked {
@@ -223,8 +251,12 @@ fn run_failing(
     )
 }
 
-fn run(alloc: Global, bytes: Vec<u8>) -> Result<Finished, AllocError> {
-    run_asked(alloc, bytes, &undisturbed("", &[]))
+fn run<R: Threads + Wait + Sync + Send + Copy + Drop + 'static>(
+    rt: &R,
+    alloc: Global,
+    bytes: Vec<u8>,
+) -> Result<Finished, AllocError> {
+    run_asked(rt, alloc, bytes, &undisturbed("", &[]))
 }
 
 #[test]
@@ -256,7 +288,7 @@ fn reports(rt: HostRuntime) -> Result<(), Fail> {
         ),
     ];
     for (bytes, want) in cases {
-        let run = run(alloc, bytes)?;
+        let run = run(&rt, alloc, bytes)?;
         assert_eq!(rt; run.ended.status, 0);
         assert_eq!(rt; run.out.bytes(), want);
         assert_eq!(rt; run.err.bytes(), b"".as_slice());
@@ -283,9 +315,9 @@ fn ends_of_connections(rt: HostRuntime) -> Result<(), Fail> {
         &segment(&SYN_ACK, 0x14, 0, 101),
         &segment(&SYN, 0x02, 500, 0),
     ];
-    let run_closed = run(alloc, capture(alloc, &BIG, &closed, &[])?)?;
+    let run_closed = run(&rt, alloc, capture(alloc, &BIG, &closed, &[])?)?;
     assert_eq!(rt; run_closed.out.bytes(), CLOSED_AND_OPENED);
-    let run_reset = run(alloc, capture(alloc, &BIG, &reset, &[])?)?;
+    let run_reset = run(&rt, alloc, capture(alloc, &BIG, &reset, &[])?)?;
     assert_eq!(rt; run_reset.out.bytes(), RESET_AND_OPENED);
     Ok(())
 }
@@ -300,7 +332,7 @@ fn versions(rt: HostRuntime) -> Result<(), Fail> {
         (one_record(alloc, 262_145, 0)?, &[]),
     ];
     for (bytes, want) in cases {
-        assert_eq!(rt; run(alloc, bytes)?.ended.versions.as_slice(), want);
+        assert_eq!(rt; run(&rt, alloc, bytes)?.ended.versions.as_slice(), want);
     }
     Ok(())
 }
@@ -342,7 +374,7 @@ fn refusals(rt: HostRuntime) -> Result<(), Fail> {
         (Vec::new(alloc), 3, b"mos: capture: short header at 0\n"),
     ];
     for (bytes, status, want) in cases {
-        let run = run(alloc, bytes)?;
+        let run = run(&rt, alloc, bytes)?;
         assert_eq!(rt; run.ended.status, status);
         assert_eq!(rt; run.out.bytes(), b"".as_slice());
         assert_eq!(rt; run.err.bytes(), want);
@@ -357,7 +389,7 @@ fn as_many_packets_as_a_capture_may_have(rt: HostRuntime) -> Result<(), Fail> {
     let mut out = sink(alloc, 67_108_864, u64::MAX)?;
     let mut shelf = shelf(alloc, &[], u64::MAX)?;
     let mut err = sink(alloc, 64, 9)?;
-    let ended = run_plain(alloc, &[], &mut source, &mut shelf, &mut out, &mut err);
+    let ended = run_plain(&rt, alloc, &[], &mut source, &mut shelf, &mut out, &mut err);
     assert_eq!(rt; ended.status, 0);
     assert!(rt; out.bytes().starts_with(b"orphan 0 other v 0\n"));
     assert!(rt; out.bytes().ends_with(FULL));
@@ -384,7 +416,7 @@ fn a_capture_that_is_cut(rt: HostRuntime) -> Result<(), Fail> {
     let alloc = rt.alloc();
     let bytes = handshake(alloc)?;
     for len in 0..=bytes.len() {
-        let run = run(alloc, bytes[..len].to_vec(alloc)?)?;
+        let run = run(&rt, alloc, bytes[..len].to_vec(alloc)?)?;
         if len < 24 {
             let want = format!(in alloc; "mos: capture: short header at {len}\n")?;
             assert_eq!(rt; run.ended.status, 3, "{len} bytes");
@@ -406,12 +438,12 @@ fn a_capture_that_is_cut(rt: HostRuntime) -> Result<(), Fail> {
 fn a_read_that_fails(rt: HostRuntime) -> Result<(), Fail> {
     let alloc = rt.alloc();
     for call in 0..8 {
-        let run = run_failing(alloc, handshake(alloc)?, call, u64::MAX)?;
+        let run = run_failing(&rt, alloc, handshake(alloc)?, call, u64::MAX)?;
         assert_eq!(rt; run.ended.status, 4, "call {call}");
         assert_eq!(rt; run.out.bytes(), b"".as_slice());
         assert_eq!(rt; run.err.bytes(), b"mos: read fault\n".as_slice());
     }
-    let run = run_failing(alloc, handshake(alloc)?, 8, u64::MAX)?;
+    let run = run_failing(&rt, alloc, handshake(alloc)?, 8, u64::MAX)?;
     assert_eq!(rt; run.ended.status, 0);
     Ok(())
 }
@@ -430,12 +462,12 @@ fn a_write_that_fails(rt: HostRuntime) -> Result<(), Fail> {
         (6, 138),
         (7, 172),
     ] {
-        let run = run_failing(alloc, handshake(alloc)?, u64::MAX, call)?;
+        let run = run_failing(&rt, alloc, handshake(alloc)?, u64::MAX, call)?;
         assert_eq!(rt; run.ended.status, 5, "call {call}");
         assert_eq!(rt; Some(run.out.bytes()), HANDSHAKE.get(..taken));
         assert_eq!(rt; run.err.bytes(), b"mos: write fault\n".as_slice());
     }
-    let run = run_failing(alloc, handshake(alloc)?, u64::MAX, 8)?;
+    let run = run_failing(&rt, alloc, handshake(alloc)?, u64::MAX, 8)?;
     assert_eq!(rt; run.ended.status, 0);
     Ok(())
 }
@@ -477,7 +509,7 @@ fn a_gathered_output(rt: HostRuntime) -> Result<(), Fail> {
     for (words, write, status, text, written) in rows {
         let mut ask = undisturbed(words, &[]);
         ask.write = write;
-        let run = run_gathering(alloc, capture.as_slice().to_vec(alloc)?, &ask)?;
+        let run = run_gathering(&rt, alloc, capture.as_slice().to_vec(alloc)?, &ask)?;
         assert_eq!(rt; run.ended.status, status, "{words}");
         assert_eq!(rt; run.err.bytes(), text, "{words}");
         assert_eq!(rt; Some(run.out.bytes()), written, "{words}");
@@ -493,13 +525,21 @@ const USAGE: &[u8] =
 #[test]
 fn refused_words(rt: HostRuntime) -> Result<(), Fail> {
     let alloc = rt.alloc();
-    for line in ["--", "--app tap", "--workers 2", "--script=", "extra"] {
+    for line in ["--", "--app tap", "--workers 17", "--script=", "extra"] {
         let words = words_of(alloc, line)?;
         let mut source = MemSource::new(handshake(alloc)?, Vec::new(alloc));
         let mut shelf = shelf(alloc, &[], u64::MAX)?;
         let mut out = sink(alloc, 512, 99)?;
         let mut err = sink(alloc, 160, 9)?;
-        let ended = run_plain(alloc, &words, &mut source, &mut shelf, &mut out, &mut err);
+        let ended = run_plain(
+            &rt,
+            alloc,
+            &words,
+            &mut source,
+            &mut shelf,
+            &mut out,
+            &mut err,
+        );
         assert_eq!(rt; ended.status, 1, "{line}");
         assert_eq!(rt; out.bytes(), b"".as_slice());
         assert_eq!(rt; err.bytes(), USAGE);
@@ -587,7 +627,7 @@ fn scripts(rt: HostRuntime) -> Result<(), Fail> {
         ("--app firewall --script wall", WALLED),
     ];
     for (words, want) in rows {
-        let run = run_asked(alloc, exchange(alloc)?, &undisturbed(words, &SCRIPTS))?;
+        let run = run_asked(&rt, alloc, exchange(alloc)?, &undisturbed(words, &SCRIPTS))?;
         assert_eq!(rt; run.err.bytes(), b"".as_slice());
         assert_eq!(rt; run.out.bytes(), want, "{words}");
         assert_eq!(rt; run.ended.status, 0, "{words}");
@@ -608,13 +648,13 @@ fn forwards(rt: HostRuntime) -> Result<(), Fail> {
     ];
     for (words, len) in rows {
         let bytes = whole.as_slice().to_vec(alloc)?;
-        let run = run_asked(alloc, bytes, &undisturbed(words, &SCRIPTS))?;
+        let run = run_asked(&rt, alloc, bytes, &undisturbed(words, &SCRIPTS))?;
         assert_eq!(rt; run.ended.status, 0, "{words}");
         assert_eq!(rt; Some(run.out.bytes()), whole.get(..len), "{words}");
     }
     let mut half = undisturbed("--emit forward", &[]);
     half.write = 1;
-    let run = run_asked(alloc, whole.as_slice().to_vec(alloc)?, &half)?;
+    let run = run_asked(&rt, alloc, whole.as_slice().to_vec(alloc)?, &half)?;
     assert_eq!(rt; run.ended.status, 5);
     assert_eq!(rt; Some(run.out.bytes()), whole.get(..32));
     Ok(())
@@ -637,7 +677,7 @@ fn refused_scripts(rt: HostRuntime) -> Result<(), Fail> {
     for (words, fetch, status, text) in rows {
         let mut ask = undisturbed(words, &SCRIPTS);
         ask.fetch = fetch;
-        let run = run_asked(alloc, exchange(alloc)?, &ask)?;
+        let run = run_asked(&rt, alloc, exchange(alloc)?, &ask)?;
         assert_eq!(rt; run.ended.status, status, "{words}");
         assert_eq!(rt; run.err.bytes(), text, "{words}");
         assert_eq!(rt; run.out.bytes(), b"".as_slice());

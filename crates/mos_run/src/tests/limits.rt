@@ -16,7 +16,7 @@ fn a_script_has_262144_bytes_at_most(rt: HostRuntime) -> Result<(), Fail> {
         let comment = vec![in alloc; b'#'; len]?;
         let scripts = [("long", comment.as_slice())];
         let bytes = capture(alloc, &BIG, &[], &[])?;
-        let run = run_asked(alloc, bytes, &undisturbed("--script long", &scripts))?;
+        let run = run_asked(&rt, alloc, bytes, &undisturbed("--script long", &scripts))?;
         assert_eq!(rt; run.ended.status, status, "{len} bytes");
         assert_eq!(rt; run.err.bytes(), text, "{len} bytes");
     }
@@ -52,7 +52,7 @@ fn a_report_that_weighs_too_much(rt: HostRuntime) -> Result<(), Fail> {
     let script = watching(alloc)?;
     let scripts = [("watch", script.as_bytes())];
     let bytes = many_acknowledgements(alloc)?;
-    let run = run_asked(alloc, bytes, &undisturbed("--script watch", &scripts))?;
+    let run = run_asked(&rt, alloc, bytes, &undisturbed("--script watch", &scripts))?;
     assert_eq!(rt; run.ended.status, 7);
     assert_eq!(rt; run.err.bytes(), b"mos: log too large\n".as_slice());
     assert_eq!(rt; run.out.bytes(), b"".as_slice());

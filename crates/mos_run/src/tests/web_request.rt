@@ -5,7 +5,7 @@ use super::{run_asked, undisturbed};
 use std::alloc::{AllocError, Global};
 use std::test::Fail;
 
-const ACCOUNTS: &[u8] = b"conn 0 10.0.0.1:1000 > 10.0.0.2:80 v 0\n\
+pub const ACCOUNTS: &[u8] = b"conn 0 10.0.0.1:1000 > 10.0.0.2:80 v 0\n\
     cb 0 snd pkt_in 1\n\
     cb 0 snd state 3\n\
     cb 0 rcv state 4\n\
@@ -39,7 +39,7 @@ const ACCOUNTS: &[u8] = b"conn 0 10.0.0.1:1000 > 10.0.0.2:80 v 0\n\
     end packets 10 records 1 callbacks 22 drops 0 tail 0\n";
 
 // A request of 18 bytes, and its answer of 2,920. The server closes first.
-fn web_request(alloc: Global) -> Result<Vec<u8>, AllocError> {
+pub fn web_request(alloc: Global) -> Result<Vec<u8>, AllocError> {
     let frames = [
         padded(alloc, &SYN, 0x02, (100, 0), 0)?,
         padded(alloc, &SYN_ACK, 0x12, (300, 101), 0)?,
@@ -62,7 +62,12 @@ fn web_request(alloc: Global) -> Result<Vec<u8>, AllocError> {
 #[test]
 fn accounts_of_a_web_request(rt: HostRuntime) -> Result<(), Fail> {
     let alloc = rt.alloc();
-    let run = run_asked(alloc, web_request(alloc)?, &undisturbed("--app acct", &[]))?;
+    let run = run_asked(
+        &rt,
+        alloc,
+        web_request(alloc)?,
+        &undisturbed("--app acct", &[]),
+    )?;
     assert_eq!(rt; run.out.bytes(), ACCOUNTS);
     assert_eq!(rt; run.ended.status, 0);
     Ok(())
@@ -74,7 +79,7 @@ fn accounts_that_are_half_written(rt: HostRuntime) -> Result<(), Fail> {
     let alloc = rt.alloc();
     let mut asked = undisturbed("--app acct", &[]);
     asked.write = 1;
-    let run = run_asked(alloc, web_request(alloc)?, &asked)?;
+    let run = run_asked(&rt, alloc, web_request(alloc)?, &asked)?;
     assert_eq!(rt; run.ended.status, 5);
     assert_eq!(rt; Some(run.out.bytes()), ACCOUNTS.get(..48));
     assert!(rt; run.out.bytes().ends_with(b"\ncb 0 snd "));
