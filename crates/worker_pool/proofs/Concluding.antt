@@ -169,9 +169,9 @@ module _ (app : Meaning) (script : List Stamped) (lanes : ℕ) (frames : List Ca
 
   -- a run that read all of it ends with no fault of the source
   pub no_fault : (r : Result LanesEnd PoolError) → Concludes app script lanes frames bytes r → IsErrOf r ReadFault → ⊥
-  no_fault (Ok end) is fault = ?
-  no_fault (Err NoMemory) is fault = ?
-  no_fault (Err Heavy) is fault = ?
+  no_fault (Ok end) is fault = cc
+  no_fault (Err NoMemory) is fault = cc
+  no_fault (Err Heavy) is fault = cc
   no_fault (Err ReadFault) is fault = is
   no_fault (Err (TooLong offset)) is fault = is
   no_fault (Err (TooMany offset)) is fault = is
