@@ -1,5 +1,5 @@
 -- What the lanes of all workers came to.
-use Rattle.std.proofs.Common.{◌≡◌, ◌≤◌, ◌<◌, ℕ, zero, suc, ◌+◌, true, Some, None, List, [], ◌∷◌, length, get_or, refl, sym, ap, subst, ◌∙◌, arith}
+use Rattle.std.proofs.Common.{◌≡◌, ◌≤◌, ◌<◌, ℕ, zero, suc, List, [], ◌∷◌, length, get_or, refl, ap, subst, arith}
 use Rattle.std.proofs.lemmas.List.{get_or_default}
 use Rattle.packet_views.specs.Packet.{packet_of}
 use Rattle.pcap_source.specs.Captured.{Captured}
@@ -14,7 +14,7 @@ use Rattle.worker_laws.specs.Taken.{events_at}
 use Rattle.worker_pool.specs.declared.worker.Worker.{Worker}
 use Rattle.lane_rings.specs.declared.items.Packet.{Packet}
 use Rattle.lane_rings.specs.declared.ring.RingTx.{RingTx}
-use Rattle.worker_pool.specs.Team.{IsNew, IsTeam, HaveServed}
+use Rattle.worker_pool.specs.Team.{IsTeam, HaveServed}
 use Rattle.worker_pool.specs.Ending.{by_key, CameTo}
 use Rattle.worker_pool.proofs.Dealing.{AreOrdered}
 use Rattle.worker_pool.proofs.Standing.{HasCome, came_events, has_come}

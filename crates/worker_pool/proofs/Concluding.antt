@@ -1,6 +1,6 @@
 -- The end of a run, from the ends of its lanes.
-use Rattle.std.proofs.Common.{◌≡◌, ◌≤◌, ◌<◌, ℕ, suc, ◌+◌, true, false, Bool, List, [], ◌∷◌, length, get_or, map, refl, sym, ap, subst, ◌∙◌, ◌⊎◌, ⊎_elim, arith}
-use Rattle.std.specs.Prelude.{◌^◌, ◌-◌, min, nat_lt, IfOk, Result, Ok, Err, IsErrOf}
+use Rattle.std.proofs.Common.{◌≡◌, ◌≤◌, ◌<◌, ℕ, suc, ◌+◌, true, false, List, [], ◌∷◌, length, get_or, map, refl, sym, ap, subst, ◌∙◌, ◌⊎◌, ⊎_elim, arith}
+use Rattle.std.specs.Prelude.{◌^◌, ◌-◌, min, Result, Ok, Err, IsErrOf}
 use Rattle.std.proofs.lemmas.Bool.{ltb-true, ltb-false}
 use Rattle.std.proofs.lemmas.List.{length-map}
 use Rattle.app_api.specs.App.{Meaning}
@@ -24,7 +24,7 @@ use Rattle.worker_laws.specs.Whole.{IsAllowedRun, run_under}
 use Rattle.worker_laws.specs.Weight.{weight_in, weighs_too_much}
 use Rattle.worker_pool.specs.declared.worker.Worker.{Worker}
 use Rattle.worker_pool.specs.declared.job.LanesEnd.{LanesEnd}
-use Rattle.worker_pool.specs.Run.{MayHave, run_of, totals_of, IsWhole, IsTooHeavy, EndsOver}
+use Rattle.worker_pool.specs.Run.{MayHave, run_of, IsWhole, IsTooHeavy, EndsOver}
 use Rattle.worker_pool.specs.declared.job.PoolError.{PoolError}
 use Rattle.worker_pool.specs.declared.job.PoolError.TheVariants.{TooLong, TooMany, ReadFault, Heavy, NoMemory}
 use Rattle.worker_pool.specs.Ending.{by_key, CameTo, HasEnded, AreEnded, IsCause, IsJoinedRun, Concludes}

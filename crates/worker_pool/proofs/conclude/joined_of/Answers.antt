@@ -1,7 +1,5 @@
-use Rattle.std.proofs.Common.{true, List, length, sym, subst}
+use Rattle.std.proofs.Common.{true, length, sym, subst}
 use Rattle.std.proofs.lemmas.Result.{err_from_is_err_and}
-use Rattle.app_api.specs.App.{Meaning}
-use Rattle.pcap_source.specs.Captured.{Captured}
 use Rattle.control_script.specs.Order.{commands_of}
 use Rattle.control_script.specs.Versions.{floor, ceil}
 use Rattle.lane_core.specs.Sight.{arrivals}

@@ -1,8 +1,8 @@
 use denote.Exit.{yes}
 use denote.Param.{copied}
 use denote.Param.Send.{param_send, arg_send}
-use Rattle.std.proofs.Common.{◌≡◌, List, length, sym, subst}
-use Rattle.pcap_source.specs.Capture.{Frames, tail}
+use Rattle.std.proofs.Common.{length, sym, subst}
+use Rattle.pcap_source.specs.Capture.{Frames}
 use Rattle.shared_forest.proofs.store_user.StoreUser.TheSendSync as user
 use Rattle.shared_forest.specs.contracts.store_user.StoreUserForestView.TheImpl as view
 use Rattle.lane_core.proofs.Handed.{lane_send}

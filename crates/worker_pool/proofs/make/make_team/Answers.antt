@@ -1,4 +1,4 @@
-use Rattle.std.proofs.Common.{◌≤◌, length, arith, rules}
+use Rattle.std.proofs.Common.{arith, rules}
 use Rattle.worker_pool.proofs.Making.{team_begun}
 use Rattle.worker_pool.proofs.make.make_team.Goals as goal
 
