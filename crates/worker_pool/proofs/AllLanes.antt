@@ -42,8 +42,7 @@ module _ {L : Type 0} (g : Ghosts L) (app : Meaning) (script : List Stamped) (fr
     each_came d k lt =
         let a = get_or begins k d in let b = get_or workers k d in
         let new = team.each_new k d (let e = served.count in omega arith) in
-        let one = served.each k d d lt in
-        (
+        let one = served.each k d d lt in (
           came_events g app script frames (length workers) k ordered few dealt_by_key a b new one,
           λ w. subst (λ (x : Worker L). HasCome g app script frames (length workers) k x.lane (came_events g app script frames (length workers) k ordered few dealt_by_key a b new one))
               (get_or_default workers k d w lt) (has_come g app script frames (length workers) k ordered few dealt_by_key a b new one),

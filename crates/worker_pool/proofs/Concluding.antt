@@ -80,9 +80,9 @@ module _ {L : Type 0} (g : Ghosts L) (app : Meaning) (script : List Stamped) (fr
   refused n Heavy same why heavy = ⊎_elim
       (λ none. absurd (cc))
       (λ one.
-          let w = any_of workers one.0 one.1 in
-          let run = heavy one.0 (came.heavy one.0 w one.1 (one.2 w)) in
-          record { versions = run.0; allowed = subst (λ m. MayHave app script m frames run.0) (sym same) run.1; heavy = run.2 })
+      let w = any_of workers one.0 one.1 in
+      let run = heavy one.0 (came.heavy one.0 w one.1 (one.2 w)) in
+      record { versions = run.0; allowed = subst (λ m. MayHave app script m frames run.0) (sym same) run.1; heavy = run.2 })
       why
   refused n ReadFault same why heavy = ⊎_elim (λ none. absurd (cc)) (λ one. absurd (one.2 (any_of workers one.0 one.1))) why
   refused n (TooLong offset) same why heavy = ⊎_elim (λ none. absurd (cc)) (λ one. absurd (one.2 (any_of workers one.0 one.1))) why

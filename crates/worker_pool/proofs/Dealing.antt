@@ -50,8 +50,7 @@ module _ (script : List Stamped) where
         let rest = dealt lanes l (packets_from script (n + 1) frames) in
         let more : n + 1 + length frames ≤ 1048576 = omega arith in
         let up = ordered.rises n (n + 1) (omega arith) in
-        in_turn_where (lane_of lanes (sent_as script n frame) == l) (length script) low last (sent_as script n frame) rest rest
-        (
+        in_turn_where (lane_of lanes (sent_as script n frame) == l) (length script) low last (sent_as script n frame) rest rest (
           behind n (omega arith),
           omega arith,
           ordered.within n,

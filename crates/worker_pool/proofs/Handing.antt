@@ -120,9 +120,9 @@ module _ (least : ℕ) where
         ⊎_elim
         (λ none. none_first front (map (λ u. u.packet) (t ∷ ts)) none)
         (λ on. subst (λ l. IsPrefix l (map (λ u. u.packet) (t ∷ ts))) (sym on.same)
-            (handed_on (version + length t.commands) t.packet (map (λ u. u.packet) ts) (steps_of count (Some t.packet.index) (version + length t.commands) ts)
-            (λ rest at q v. handed_front (Some t.packet.index) t.packet.ceil (version + length t.commands) ts rest turn.5 at q v)
-            on.rest on.front_of (on.within w)))
+        (handed_on (version + length t.commands) t.packet (map (λ u. u.packet) ts) (steps_of count (Some t.packet.index) (version + length t.commands) ts)
+        (λ rest at q v. handed_front (Some t.packet.index) t.packet.ceil (version + length t.commands) ts rest turn.5 at q v)
+        on.rest on.front_of (on.within w)))
         (behind_took least version t.commands front (steps_from count version t ts) begins)
 
     -- all their steps hand over all of them

@@ -21,14 +21,14 @@ module _ {L : Type 0} (g : Ghosts L) (app : Meaning) where
     each_new = All-push (IsNew g app) workers w begun.each_new new;
     each_ends = λ k v t lt. ⊎_elim
         (λ below.
-            let other : k < length packets = (let e = begun.count in omega arith) in
-            subst (λ (x : RingTx Packet). AreEnds x (get_or (workers ++ w ∷ []) k v).packets) (sym (get_or_append_left packets (tx ∷ []) t k other))
-            (subst (λ (x : Worker L). AreEnds (get_or packets k t) x.packets) (sym (get_or_append_left workers (w ∷ []) v k below)) (begun.each_ends k v t below)))
+        let other : k < length packets = (let e = begun.count in omega arith) in
+        subst (λ (x : RingTx Packet). AreEnds x (get_or (workers ++ w ∷ []) k v).packets) (sym (get_or_append_left packets (tx ∷ []) t k other))
+        (subst (λ (x : Worker L). AreEnds (get_or packets k t) x.packets) (sym (get_or_append_left workers (w ∷ []) v k below)) (begun.each_ends k v t below)))
         (λ past.
-            let here : length workers ≡ k = (let e = length_push workers w in omega arith) in
-            let there : length packets ≡ k = sym begun.count ∙ here in
-            subst (λ (x : RingTx Packet). AreEnds x (get_or (workers ++ w ∷ []) k v).packets) (sym (get_or_push packets tx t k there))
-            (subst (λ (x : Worker L). AreEnds tx x.packets) (sym (get_or_push workers w v k here)) ends))
+        let here : length workers ≡ k = (let e = length_push workers w in omega arith) in
+        let there : length packets ≡ k = sym begun.count ∙ here in
+        subst (λ (x : RingTx Packet). AreEnds x (get_or (workers ++ w ∷ []) k v).packets) (sym (get_or_push packets tx t k there))
+        (subst (λ (x : Worker L). AreEnds tx x.packets) (sym (get_or_push workers w v k here)) ends))
         (cases_lt k (length workers));
     each_sent = λ k t lt. All-push (λ (x : RingTx Packet). sent x ≡ []) packets tx begun.each_sent none k t lt;
   }

@@ -109,7 +109,10 @@ fn all_numbers_of_lanes_give_one_end(rt: HostRuntime) -> Result<(), Fail> {
     for workers in [1, 2, 3, 16] {
         let end = run(&rt, alloc, workers, openings(alloc, &[])?, Vec::new(alloc))??;
         assert_eq!(rt; end.totals, WHOLE);
-        assert_eq!(rt; end.versions.as_slice(), [0, 0, 0, 0, 1, 1, 1, 1].as_slice());
+        assert_eq!(rt;
+            end.versions.as_slice(),
+            [0, 0, 0, 0, 1, 1, 1, 1].as_slice()
+        );
         for (place, record) in end.records.as_slice().iter().enumerate() {
             assert_eq!(rt; record.name, place as u64);
         }
