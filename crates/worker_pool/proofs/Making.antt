@@ -1,5 +1,6 @@
 -- One more worker of a team.
 use Rattle.std.proofs.Common.{◌≡◌, ◌<◌, ◌≤◌, ◌+◌, List, [], ◌∷◌, ◌++◌, length, get_or, sym, ap, subst, ◌∙◌, ⊎_elim, arith}
+use Rattle.std.specs.Prelude.{ℕ, Result, Ok, Err, IfOk}
 use Rattle.std.proofs.lemmas.List.{length_push, get_or_append_left, get_or_push}
 use Rattle.std.proofs.lemmas.List.Elements.{All-push}
 use Rattle.std.proofs.lemmas.Bool.{cases_lt}
@@ -9,6 +10,7 @@ use Rattle.lane_rings.specs.declared.ring.RingTx.{RingTx}
 use Rattle.lane_rings.specs.Ring.{sent, AreEnds}
 use Rattle.lane_core.specs.declared.recorder.Recorder.{Ghosts}
 use Rattle.worker_pool.specs.declared.worker.Worker.{Worker}
+use Rattle.worker_pool.specs.declared.team.Team.{Team}
 use Rattle.worker_pool.specs.Team.{IsNew, IsTeam}
 use Rattle.worker_pool.specs.Making.{AreBegun}
 
@@ -34,9 +36,11 @@ module _ {L : Type 0} (g : Ghosts L) (app : Meaning) where
   }
 
   -- at least one of them is a team
-  pub team_begun : (workers : List (Worker L)) (packets : List (RingTx Packet)) → AreBegun g app workers packets → 1 ≤ length workers → IsTeam g app workers packets
-  team_begun workers packets begun some = record {
-    some = some;
+  pub team_made : {E : Type 0} (r : Result (Team L) E) (n : ℕ) → 1 ≤ n → IfOk r (λ t. AreBegun g app t.workers.items t.packets.items) → IfOk r (λ t. length t.workers.items ≡ n)
+      → IfOk r (λ t. IsTeam g app t.workers.items t.packets.items)
+  team_made (Err e) n some begun count = tt
+  team_made (Ok t) n some begun count = record {
+    some = omega (arith, count);
     count = begun.count;
     each_new = begun.each_new;
     each_ends = begun.each_ends;
