@@ -1,5 +1,5 @@
 -- What the lanes of all workers came to.
-use Rattle.std.proofs.Common.{◌≡◌, ◌≤◌, ◌<◌, ℕ, zero, suc, ◌+◌, true, Some, None, List, [], ◌∷◌, length, get_or, refl, sym, ap, subst, ◌∙◌, arith}
+use Rattle.std.proofs.Common.{◌≡◌, ◌≤◌, ◌<◌, ℕ, zero, suc, List, [], ◌∷◌, length, get_or, refl, ap, subst, arith}
 use Rattle.std.proofs.lemmas.List.{get_or_default}
 use Rattle.packet_views.specs.Packet.{packet_of}
 use Rattle.pcap_source.specs.Captured.{Captured}
@@ -14,7 +14,7 @@ use Rattle.worker_laws.specs.Taken.{events_at}
 use Rattle.worker_pool.specs.declared.worker.Worker.{Worker}
 use Rattle.lane_rings.specs.declared.items.Packet.{Packet}
 use Rattle.lane_rings.specs.declared.ring.RingTx.{RingTx}
-use Rattle.worker_pool.specs.Team.{IsNew, IsTeam, HaveServed}
+use Rattle.worker_pool.specs.Team.{IsTeam, HaveServed}
 use Rattle.worker_pool.specs.Ending.{by_key, CameTo}
 use Rattle.worker_pool.proofs.Dealing.{AreOrdered}
 use Rattle.worker_pool.proofs.Standing.{HasCome, came_events, has_come}
@@ -42,8 +42,7 @@ module _ {L : Type 0} (g : Ghosts L) (app : Meaning) (script : List Stamped) (fr
     each_came d k lt =
         let a = get_or begins k d in let b = get_or workers k d in
         let new = team.each_new k d (let e = served.count in omega arith) in
-        let one = served.each k d d lt in
-        (
+        let one = served.each k d d lt in (
           came_events g app script frames (length workers) k ordered few dealt_by_key a b new one,
           λ w. subst (λ (x : Worker L). HasCome g app script frames (length workers) k x.lane (came_events g app script frames (length workers) k ordered few dealt_by_key a b new one))
               (get_or_default workers k d w lt) (has_come g app script frames (length workers) k ordered few dealt_by_key a b new one),

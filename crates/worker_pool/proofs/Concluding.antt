@@ -1,6 +1,6 @@
 -- The end of a run, from the ends of its lanes.
-use Rattle.std.proofs.Common.{◌≡◌, ◌≤◌, ◌<◌, ℕ, suc, ◌+◌, true, false, Bool, List, [], ◌∷◌, length, get_or, map, refl, sym, ap, subst, ◌∙◌, ◌⊎◌, ⊎_elim, arith}
-use Rattle.std.specs.Prelude.{◌^◌, ◌-◌, min, nat_lt, IfOk, Result, Ok, Err, IsErrOf}
+use Rattle.std.proofs.Common.{◌≡◌, ◌≤◌, ◌<◌, ℕ, suc, ◌+◌, true, false, List, [], ◌∷◌, length, get_or, map, refl, sym, ap, subst, ◌∙◌, ◌⊎◌, ⊎_elim, arith}
+use Rattle.std.specs.Prelude.{◌^◌, ◌-◌, min, Result, Ok, Err, IsErrOf}
 use Rattle.std.proofs.lemmas.Bool.{ltb-true, ltb-false}
 use Rattle.std.proofs.lemmas.List.{length-map}
 use Rattle.app_api.specs.App.{Meaning}
@@ -24,7 +24,7 @@ use Rattle.worker_laws.specs.Whole.{IsAllowedRun, run_under}
 use Rattle.worker_laws.specs.Weight.{weight_in, weighs_too_much}
 use Rattle.worker_pool.specs.declared.worker.Worker.{Worker}
 use Rattle.worker_pool.specs.declared.job.LanesEnd.{LanesEnd}
-use Rattle.worker_pool.specs.Run.{MayHave, run_of, totals_of, IsWhole, IsTooHeavy, EndsOver}
+use Rattle.worker_pool.specs.Run.{MayHave, run_of, IsWhole, IsTooHeavy, EndsOver}
 use Rattle.worker_pool.specs.declared.job.PoolError.{PoolError}
 use Rattle.worker_pool.specs.declared.job.PoolError.TheVariants.{TooLong, TooMany, ReadFault, Heavy, NoMemory}
 use Rattle.worker_pool.specs.Ending.{by_key, CameTo, HasEnded, AreEnded, IsCause, IsJoinedRun, Concludes}
@@ -80,9 +80,9 @@ module _ {L : Type 0} (g : Ghosts L) (app : Meaning) (script : List Stamped) (fr
   refused n Heavy same why heavy = ⊎_elim
       (λ none. absurd (cc))
       (λ one.
-          let w = any_of workers one.0 one.1 in
-          let run = heavy one.0 (came.heavy one.0 w one.1 (one.2 w)) in
-          record { versions = run.0; allowed = subst (λ m. MayHave app script m frames run.0) (sym same) run.1; heavy = run.2 })
+      let w = any_of workers one.0 one.1 in
+      let run = heavy one.0 (came.heavy one.0 w one.1 (one.2 w)) in
+      record { versions = run.0; allowed = subst (λ m. MayHave app script m frames run.0) (sym same) run.1; heavy = run.2 })
       why
   refused n ReadFault same why heavy = ⊎_elim (λ none. absurd (cc)) (λ one. absurd (one.2 (any_of workers one.0 one.1))) why
   refused n (TooLong offset) same why heavy = ⊎_elim (λ none. absurd (cc)) (λ one. absurd (one.2 (any_of workers one.0 one.1))) why
@@ -169,9 +169,9 @@ module _ (app : Meaning) (script : List Stamped) (lanes : ℕ) (frames : List Ca
 
   -- a run that read all of it ends with no fault of the source
   pub no_fault : (r : Result LanesEnd PoolError) → Concludes app script lanes frames bytes r → IsErrOf r ReadFault → ⊥
-  no_fault (Ok end) is fault = ?
-  no_fault (Err NoMemory) is fault = ?
-  no_fault (Err Heavy) is fault = ?
+  no_fault (Ok end) is fault = cc
+  no_fault (Err NoMemory) is fault = cc
+  no_fault (Err Heavy) is fault = cc
   no_fault (Err ReadFault) is fault = is
   no_fault (Err (TooLong offset)) is fault = is
   no_fault (Err (TooMany offset)) is fault = is

@@ -1,6 +1,6 @@
 -- The packets of a capture that go to a lane.
-use Rattle.std.proofs.Common.{◌≡◌, ◌<◌, ◌≤◌, ℕ, suc, ◌+◌, Bool, true, false, cond, Option, Some, None, List, [], ◌∷◌, length, map, refl, sym, ap, ◌∙◌, arith}
-use Rattle.std.specs.Prelude.{◌==◌, filter}
+use Rattle.std.proofs.Common.{◌≡◌, ◌≤◌, ℕ, ◌+◌, Bool, true, false, cond, Option, Some, List, [], ◌∷◌, length, map, refl, sym, ap, ◌∙◌, arith}
+use Rattle.std.specs.Prelude.{◌==◌}
 use Rattle.std.specs.List.{All}
 use Rattle.std.proofs.lemmas.Bool.{lt-ltb}
 use Rattle.std.proofs.lemmas.List.Elements.{All-nil, All-cons, All-filter}
@@ -50,8 +50,7 @@ module _ (script : List Stamped) where
         let rest = dealt lanes l (packets_from script (n + 1) frames) in
         let more : n + 1 + length frames ≤ 1048576 = omega arith in
         let up = ordered.rises n (n + 1) (omega arith) in
-        in_turn_where (lane_of lanes (sent_as script n frame) == l) (length script) low last (sent_as script n frame) rest rest
-        (
+        in_turn_where (lane_of lanes (sent_as script n frame) == l) (length script) low last (sent_as script n frame) rest rest (
           behind n (omega arith),
           omega arith,
           ordered.within n,

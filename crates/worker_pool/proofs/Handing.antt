@@ -1,6 +1,6 @@
 -- The packets that the steps of a lane hand over. Packets in turn all fit, so that none is let go.
-use Rattle.std.proofs.Common.{◌≡◌, ◌<◌, ◌≤◌, ℕ, suc, ◌+◌, Bool, true, false, cond, Option, Some, List, [], ◌∷◌, ◌++◌, length, map, refl, sym, ap, subst, ◌∙◌, ◌⊎◌, inl, inr, ⊎_elim, arith}
-use Rattle.std.specs.Prelude.{◌&&◌, nat_lt, nat_le}
+use Rattle.std.proofs.Common.{◌≡◌, ◌<◌, ◌≤◌, ℕ, suc, ◌+◌, Bool, true, cond, Option, Some, List, [], ◌∷◌, ◌++◌, length, map, refl, sym, ap, subst, ◌∙◌, ◌⊎◌, inl, inr, ⊎_elim, arith}
+use Rattle.std.specs.Prelude.{◌&&◌}
 use Rattle.std.specs.List.{All}
 use Rattle.std.proofs.lemmas.Bool.{lt-ltb, le-leb}
 use Rattle.std.proofs.lemmas.List.Elements.{All-nil, All-cons, All-head, All-tail}
@@ -120,9 +120,9 @@ module _ (least : ℕ) where
         ⊎_elim
         (λ none. none_first front (map (λ u. u.packet) (t ∷ ts)) none)
         (λ on. subst (λ l. IsPrefix l (map (λ u. u.packet) (t ∷ ts))) (sym on.same)
-            (handed_on (version + length t.commands) t.packet (map (λ u. u.packet) ts) (steps_of count (Some t.packet.index) (version + length t.commands) ts)
-            (λ rest at q v. handed_front (Some t.packet.index) t.packet.ceil (version + length t.commands) ts rest turn.5 at q v)
-            on.rest on.front_of (on.within w)))
+        (handed_on (version + length t.commands) t.packet (map (λ u. u.packet) ts) (steps_of count (Some t.packet.index) (version + length t.commands) ts)
+        (λ rest at q v. handed_front (Some t.packet.index) t.packet.ceil (version + length t.commands) ts rest turn.5 at q v)
+        on.rest on.front_of (on.within w)))
         (behind_took least version t.commands front (steps_from count version t ts) begins)
 
     -- all their steps hand over all of them

@@ -16,14 +16,14 @@ module _ {L : Type 0} (g : Ghosts L) where
     count = length_push workers w ∙ ap (λ n. n + 1) ended.count ∙ sym (length_push ends end);
     each = λ k v d lt. ⊎_elim
         (λ below.
-            let other : k < length ends = (let e = ended.count in omega arith) in
-            subst (HasEnded g (get_or (workers ++ w ∷ []) k v)) (sym (get_or_append_left ends (end ∷ []) d k other))
-            (subst (λ (x : Worker L). HasEnded g x (get_or ends k d)) (sym (get_or_append_left workers (w ∷ []) v k below)) (ended.each k v d below)))
+        let other : k < length ends = (let e = ended.count in omega arith) in
+        subst (HasEnded g (get_or (workers ++ w ∷ []) k v)) (sym (get_or_append_left ends (end ∷ []) d k other))
+        (subst (λ (x : Worker L). HasEnded g x (get_or ends k d)) (sym (get_or_append_left workers (w ∷ []) v k below)) (ended.each k v d below)))
         (λ past.
-            let here : length workers ≡ k = (let e = length_push workers w in omega arith) in
-            let there : length ends ≡ k = sym ended.count ∙ here in
-            subst (HasEnded g (get_or (workers ++ w ∷ []) k v)) (sym (get_or_push ends end d k there))
-            (subst (λ (x : Worker L). HasEnded g x end) (sym (get_or_push workers w v k here)) one))
+        let here : length workers ≡ k = (let e = length_push workers w in omega arith) in
+        let there : length ends ≡ k = sym ended.count ∙ here in
+        subst (HasEnded g (get_or (workers ++ w ∷ []) k v)) (sym (get_or_push ends end d k there))
+        (subst (λ (x : Worker L). HasEnded g x end) (sym (get_or_push workers w v k here)) one))
         (cases_lt k (length workers));
   }
 

@@ -1,5 +1,6 @@
 -- One more worker of a team.
-use Rattle.std.proofs.Common.{◌≡◌, ◌<◌, ◌≤◌, ℕ, ◌+◌, List, [], ◌∷◌, ◌++◌, length, get_or, sym, ap, subst, ◌∙◌, ⊎_elim, arith}
+use Rattle.std.proofs.Common.{◌≡◌, ◌<◌, ◌≤◌, ◌+◌, List, [], ◌∷◌, ◌++◌, length, get_or, sym, ap, subst, ◌∙◌, ⊎_elim, arith}
+use Rattle.std.specs.Prelude.{ℕ, Result, Ok, Err, IfOk}
 use Rattle.std.proofs.lemmas.List.{length_push, get_or_append_left, get_or_push}
 use Rattle.std.proofs.lemmas.List.Elements.{All-push}
 use Rattle.std.proofs.lemmas.Bool.{cases_lt}
@@ -9,6 +10,7 @@ use Rattle.lane_rings.specs.declared.ring.RingTx.{RingTx}
 use Rattle.lane_rings.specs.Ring.{sent, AreEnds}
 use Rattle.lane_core.specs.declared.recorder.Recorder.{Ghosts}
 use Rattle.worker_pool.specs.declared.worker.Worker.{Worker}
+use Rattle.worker_pool.specs.declared.team.Team.{Team}
 use Rattle.worker_pool.specs.Team.{IsNew, IsTeam}
 use Rattle.worker_pool.specs.Making.{AreBegun}
 
@@ -21,22 +23,24 @@ module _ {L : Type 0} (g : Ghosts L) (app : Meaning) where
     each_new = All-push (IsNew g app) workers w begun.each_new new;
     each_ends = λ k v t lt. ⊎_elim
         (λ below.
-            let other : k < length packets = (let e = begun.count in omega arith) in
-            subst (λ (x : RingTx Packet). AreEnds x (get_or (workers ++ w ∷ []) k v).packets) (sym (get_or_append_left packets (tx ∷ []) t k other))
-            (subst (λ (x : Worker L). AreEnds (get_or packets k t) x.packets) (sym (get_or_append_left workers (w ∷ []) v k below)) (begun.each_ends k v t below)))
+        let other : k < length packets = (let e = begun.count in omega arith) in
+        subst (λ (x : RingTx Packet). AreEnds x (get_or (workers ++ w ∷ []) k v).packets) (sym (get_or_append_left packets (tx ∷ []) t k other))
+        (subst (λ (x : Worker L). AreEnds (get_or packets k t) x.packets) (sym (get_or_append_left workers (w ∷ []) v k below)) (begun.each_ends k v t below)))
         (λ past.
-            let here : length workers ≡ k = (let e = length_push workers w in omega arith) in
-            let there : length packets ≡ k = sym begun.count ∙ here in
-            subst (λ (x : RingTx Packet). AreEnds x (get_or (workers ++ w ∷ []) k v).packets) (sym (get_or_push packets tx t k there))
-            (subst (λ (x : Worker L). AreEnds tx x.packets) (sym (get_or_push workers w v k here)) ends))
+        let here : length workers ≡ k = (let e = length_push workers w in omega arith) in
+        let there : length packets ≡ k = sym begun.count ∙ here in
+        subst (λ (x : RingTx Packet). AreEnds x (get_or (workers ++ w ∷ []) k v).packets) (sym (get_or_push packets tx t k there))
+        (subst (λ (x : Worker L). AreEnds tx x.packets) (sym (get_or_push workers w v k here)) ends))
         (cases_lt k (length workers));
     each_sent = λ k t lt. All-push (λ (x : RingTx Packet). sent x ≡ []) packets tx begun.each_sent none k t lt;
   }
 
   -- at least one of them is a team
-  pub team_begun : (workers : List (Worker L)) (packets : List (RingTx Packet)) → AreBegun g app workers packets → 1 ≤ length workers → IsTeam g app workers packets
-  team_begun workers packets begun some = record {
-    some = some;
+  pub team_made : {E : Type 0} (r : Result (Team L) E) (n : ℕ) → 1 ≤ n → IfOk r (λ t. AreBegun g app t.workers.items t.packets.items) → IfOk r (λ t. length t.workers.items ≡ n)
+      → IfOk r (λ t. IsTeam g app t.workers.items t.packets.items)
+  team_made (Err e) n some begun count = tt
+  team_made (Ok t) n some begun count = record {
+    some = omega (arith, count);
     count = begun.count;
     each_new = begun.each_new;
     each_ends = begun.each_ends;

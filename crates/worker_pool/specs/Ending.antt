@@ -1,7 +1,5 @@
 -- Only for proofs: what the lanes of workers came to, from their packets to the end of the whole run.
-use Rattle.std.specs.Prelude.{◌≡◌, ℕ, ◌<◌, ◌≤◌, true, List, length, get_or, Some, None, Result, Ok, Err, ⊤}
-use Rattle.std.specs.List.{All}
-use mathlib.Core.List.{IsPrefix}
+use Rattle.std.specs.Prelude.{◌≡◌, ℕ, ◌<◌, true, List, length, get_or, Some, None, Result, Ok, Err, ⊤}
 use Rattle.app_api.specs.App.{Meaning}
 use Rattle.pcap_source.specs.Captured.{Captured}
 use Rattle.flow_table.specs.Key.{EndpointPair}
@@ -13,10 +11,10 @@ use Rattle.lane_core.specs.declared.end.LaneEnd.{LaneEnd}
 use Rattle.lane_core.specs.declared.errors.LaneError.TheVariants.{Heavy as TooHeavy}
 use Rattle.lane_core.specs.declared.recorder.Recorder.{Ghosts}
 use Rattle.lane_core.specs.Sight.{arrivals}
-use Rattle.lane_core.specs.Run.{LaneEvent, lane_run, commands_of as given_in}
+use Rattle.lane_core.specs.Run.{LaneEvent, lane_run}
 use Rattle.lane_core.specs.Lane.{IsEnd, IsHeavy}
 use Rattle.worker_laws.specs.declared.ends.Joined.{Joined}
-use Rattle.worker_laws.specs.Allowed.{arrivals_of, IsWithin}
+use Rattle.worker_laws.specs.Allowed.{arrivals_of}
 use Rattle.worker_laws.specs.Ends.{IsJoined}
 use Rattle.worker_laws.specs.Lanes.{share}
 use Rattle.worker_laws.specs.Taken.{packets_at, events_at, HaveRun}

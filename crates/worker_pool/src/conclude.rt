@@ -24,8 +24,8 @@ use report_text::Totals;
 use std::alloc::Global;
 use worker_laws::packets::{packets_go_to_lanes, packets_of_a_capture_rise};
 use worker_laws::runs::{
-    a_heavy_lane_makes_a_heavy_run, a_run_has_its_versions, counts_of_a_run_fit,
-    lanes_are_one_run, shown_records_weigh_the_same,
+    a_heavy_lane_makes_a_heavy_run, a_run_has_its_versions, counts_of_a_run_fit, lanes_are_one_run,
+    shown_records_weigh_the_same,
 };
 use worker_laws::versions::a_script_gives_floors_and_ceilings;
 use worker_laws::{Joined, is_heavy, join};
@@ -88,12 +88,7 @@ fn joined_of<L: Recorder + Drop>(
 }
 
 // The end of a run with these records, over a capture of so many packets and such a tail.
-fn whole_of(
-    alloc: Global,
-    joined: Joined,
-    packets: u64,
-    tail: u32,
-) -> Result<LanesEnd, PoolError>
+fn whole_of(alloc: Global, joined: Joined, packets: u64, tail: u32) -> Result<LanesEnd, PoolError>
     ensures whole { (app : Meaning) (script : List Stamped) (lanes : ℕ) (frames : List Captured) (vs : List ℕ)
         → MayHave app script lanes frames vs
         → IsJoined true app (run_of app script vs frames) joined.records joined.callbacks joined.drops

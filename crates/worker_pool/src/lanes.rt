@@ -56,8 +56,6 @@ pub fn run_lanes<
     ensures lasts { S.lasting source.new ≡ S.lasting source.old }
 {
     let team = make_team(rt, alloc, job)?;
-    let ran = run_team(
-        rt, alloc, team, job.script, natives, gate, capture, source,
-    )?;
+    let ran = run_team(rt, alloc, team, job.script, natives, gate, capture, source)?;
     conclude(alloc, job.script, ran)
 }

@@ -94,8 +94,7 @@ pub(crate) fn make_team<R: Wait + Copy + Drop, A: App + Copy + Drop>(
 {
     let places = (job.script.len() as usize).max(1);
     let store = Arc::new(alloc, ForestStore::new(alloc)?)?;
-    let team = team_of(alloc, job.workers, places, || {
+    team_of(alloc, job.workers, places, || {
         lane_over(rt, alloc, &job.app, &store)
-    })?;
-    Ok(team)
+    })
 }

@@ -1,6 +1,7 @@
 //! A worker that is fed from another thread, and workers that find all in their rings.
 
 mod failing;
+mod lanes;
 
 ghost use Rattle.std.specs.Prelude.{◌≡◌, ◌≤◌, [], None, IsTrue, IfOk};
 ghost use Rattle.app_api.specs.Log.{log};

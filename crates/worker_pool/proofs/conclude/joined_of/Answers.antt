@@ -1,7 +1,5 @@
-use Rattle.std.proofs.Common.{true, List, length, sym, subst}
+use Rattle.std.proofs.Common.{true, length, sym, subst}
 use Rattle.std.proofs.lemmas.Result.{err_from_is_err_and}
-use Rattle.app_api.specs.App.{Meaning}
-use Rattle.pcap_source.specs.Captured.{Captured}
 use Rattle.control_script.specs.Order.{commands_of}
 use Rattle.control_script.specs.Versions.{floor, ceil}
 use Rattle.lane_core.specs.Sight.{arrivals}
@@ -22,9 +20,9 @@ returns g c = record {
       let ended = c.in_ok-ends.ensures.ended in
       joined_run g.L.Recorder app script frames workers found.0 came ends ended (length begins) served.count c.in_ok-join.field-0
       (c.lanes_are_one_run.ensures.run app (commands_of script) (floor script) (ceil script) (by_key (length workers)) (arrivals 0 frames) found.0 came.run
-          (all_run g.L.Recorder app script frames workers found.0 came ends ended))
+      (all_run g.L.Recorder app script frames workers found.0 came ends ended))
       (λ vs one. c.in_ok-join.ensures.joined true app (commands_of script) (by_key (length workers)) (arrivals 0 frames) found.0 vs one
-          (c.packets_of_a_capture_rise.ensures.numbers frames) (lanes_end g.L.Recorder app script frames workers found.0 came ends ended));
+      (c.packets_of_a_capture_rise.ensures.numbers frames) (lanes_end g.L.Recorder app script frames workers found.0 came ends ended));
 }
 
 pub returns-in_err-ends : goal.returns-in_err-ends
@@ -39,5 +37,5 @@ returns-in_err-ends g c =
           let came = subst (λ ws. CameTo g.L.Recorder app script frames ws found.0) seen found.1 in
           refused g.L.Recorder app script frames workers found.0 came (length begins) _ served.count c.in_err-ends.ensures.failed
           (λ k heavy. c.a_heavy_lane_makes_a_heavy_run.ensures.run app (commands_of script) (floor script) (ceil script) (by_key (length workers)) (arrivals 0 frames) found.0 k
-              c.lanes_have_come.ensures.floors c.lanes_have_come.ensures.ceilings (c.packets_of_a_capture_rise.ensures.numbers frames) came.run heavy);
+          c.lanes_have_come.ensures.floors c.lanes_have_come.ensures.ceilings (c.packets_of_a_capture_rise.ensures.numbers frames) came.run heavy);
     })

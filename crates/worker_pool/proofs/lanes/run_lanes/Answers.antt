@@ -1,8 +1,10 @@
-use denote.Param.Send.{sendable}
-use Rattle.std.proofs.Common.{◌≡◌, List, length, sym, subst}
-use Rattle.std.proofs.Crossing.{crosses}
-use Rattle.pcap_source.specs.Capture.{Frames, tail}
+use denote.Exit.{yes}
+use denote.Param.{copied}
+use denote.Param.Send.{param_send, arg_send}
+use Rattle.std.proofs.Common.{length, sym, subst}
+use Rattle.pcap_source.specs.Capture.{Frames}
 use Rattle.shared_forest.proofs.store_user.StoreUser.TheSendSync as user
+use Rattle.shared_forest.specs.contracts.store_user.StoreUserForestView.TheImpl as view
 use Rattle.lane_core.proofs.Handed.{lane_send}
 use Rattle.worker_pool.specs.Run.{EndsOver}
 use Rattle.worker_pool.specs.Ending.{Concludes}
@@ -10,7 +12,9 @@ use Rattle.worker_pool.proofs.Concluding.{concluded, no_fault}
 use Rattle.worker_pool.proofs.lanes.run_lanes.Goals as goal
 
 pub run_team-requires-send-L : goal.run_team-requires-send-L
-run_team-requires-send-L g c κs within = search (sendable, crosses, lane_send, user.the_send, c.type_bounds.send-A, c.type_bounds.send-R) depth 30
+run_team-requires-send-L g c κs within =
+    let lane = lane_send _ _ (view.ghosts (copied 0 g.row.R)) c.type_bounds.send-A (user.the_send _ c.type_bounds.send-R) in
+    param_send 1 _ (arg_send _ yes _ lane)
 
 pub returns-clause-ends : goal.returns-clause-ends
 returns-clause-ends g c rest is =

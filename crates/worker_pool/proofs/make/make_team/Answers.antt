@@ -1,9 +1,10 @@
-use Rattle.std.proofs.Common.{◌≤◌, length, arith, rules}
-use Rattle.worker_pool.proofs.Making.{team_begun}
+use Rattle.std.proofs.Common.{rules}
+use Rattle.std.proofs.lemmas.Result.{IfOk-weaker}
+use Rattle.worker_pool.proofs.Making.{team_made}
 use Rattle.worker_pool.proofs.make.make_team.Goals as goal
 
 pub returns-clause-team : goal.returns-clause-team
 returns-clause-team g c =
-    team_begun _ _ c.in_ok-team.team.workers.items c.in_ok-team.team.packets.items
-    (c.in_ok-team.ensures.begun (g.A.App.meaning c.args.job.now.app) (λ made post. search rules))
-    (let e = c.in_ok-team.ensures.count in let h = c.requires.some in omega (arith, e, h))
+    team_made _ _ c.team_of.result c.args.job.now.workers c.requires.some
+    (IfOk-weaker c.team_of.result _ _ (λ team begun. begun (g.A.App.meaning c.args.job.now.app) (λ made post. search rules)) c.team_of.ensures.begun)
+    c.team_of.ensures.count
