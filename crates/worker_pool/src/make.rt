@@ -16,7 +16,7 @@ use std::alloc::{AllocError, Global};
 use std::sync::{Arc, Wait};
 
 /// How many packets may wait for a lane.
-const WAITING_PACKETS: usize = 1_024;
+const WAITING_PACKETS: usize = 256;
 
 // Adds a worker of a lane to a team, with rings of its own; its command ring has so many places.
 fn enlist<L: Recorder + Drop>(
