@@ -1,6 +1,6 @@
 -- The end of a run, from the ends of its lanes.
 use Rattle.std.proofs.Common.{◌≡◌, ◌≤◌, ◌<◌, ℕ, suc, ◌+◌, true, false, List, [], ◌∷◌, length, get_or, map, refl, sym, ap, subst, ◌∙◌, ◌⊎◌, ⊎_elim, arith}
-use Rattle.std.specs.Prelude.{◌^◌, ◌-◌, min, Result, Ok, Err, IsErrOf}
+use Rattle.std.specs.Prelude.{◌^◌, ◌-◌, min, Result, Ok, Err, IsErrOf, IfOk}
 use Rattle.std.proofs.lemmas.Bool.{ltb-true, ltb-false}
 use Rattle.std.proofs.lemmas.List.{length-map}
 use Rattle.app_api.specs.App.{Meaning}
@@ -175,3 +175,9 @@ module _ (app : Meaning) (script : List Stamped) (lanes : ℕ) (frames : List Ca
   no_fault (Err ReadFault) is fault = is
   no_fault (Err (TooLong offset)) is fault = is
   no_fault (Err (TooMany offset)) is fault = is
+
+  -- a run that ends well is that of some frames
+  pub of_frames : (r : Result LanesEnd PoolError) → Concludes app script lanes frames bytes r
+      → IfOk r (λ end. (fs : List Captured) × (n : ℕ) × IsWhole app script lanes fs n end)
+  of_frames (Ok end) is = (frames, bytes, is)
+  of_frames (Err e) is = tt

@@ -8,7 +8,7 @@ use Rattle.shared_forest.specs.contracts.store_user.StoreUserForestView.TheImpl 
 use Rattle.lane_core.proofs.Handed.{lane_send}
 use Rattle.worker_pool.specs.Run.{EndsOver}
 use Rattle.worker_pool.specs.Ending.{Concludes}
-use Rattle.worker_pool.proofs.Concluding.{concluded, no_fault}
+use Rattle.worker_pool.proofs.Concluding.{concluded, no_fault, of_frames}
 use Rattle.worker_pool.proofs.lanes.run_lanes.Goals as goal
 
 pub run_team-requires-send-L : goal.run_team-requires-send-L
@@ -25,6 +25,14 @@ returns-clause-ends g c rest is =
     let over = subst (λ n. Concludes app script n ran.0 c.in_ok-ran.ran.tail c.conclude.result) c.in_ok-team.ensures.count end in
     subst (λ (f : Frames). EndsOver app script c.args.job.now.workers f c.conclude.result) (sym (ran.3 rest is).0)
     (concluded app script c.args.job.now.workers ran.0 c.in_ok-ran.ran.tail c.conclude.result over)
+
+pub returns-clause-whole : goal.returns-clause-whole
+returns-clause-whole g c =
+    let app = g.A.App.meaning c.args.job.now.app in
+    let ran = c.in_ok-ran.ensures.ran in
+    let end = c.conclude.ensures.ends app ran.0 c.in_ok-team.team.workers.items c.in_ok-team.team.packets.items ran.1 ran.2 c.in_ok-team.ensures.team ran.4 in
+    of_frames app c.args.job.now.script.now c.args.job.now.workers ran.0 c.in_ok-ran.ran.tail c.conclude.result
+    (subst (λ n. Concludes app c.args.job.now.script.now n ran.0 c.in_ok-ran.ran.tail c.conclude.result) c.in_ok-team.ensures.count end)
 
 pub returns-clause-read : goal.returns-clause-read
 returns-clause-read g c ok rest is = (c.in_ok-ran.ensures.ran.3 rest is).1
