@@ -8,3 +8,4 @@ mod Advancing
 mod Turns
 mod Serving
 mod Beside
+mod Posted

@@ -6,3 +6,4 @@ pub mod Sent
 pub mod Posts
 pub mod Team
 pub mod Run
+pub mod Manned

@@ -1,5 +1,5 @@
 -- Where the dispatcher sends a lane's packets, and what it sent.
-use Rattle.std.specs.Prelude.{◌≡◌, ℕ, ◌<◌, ◌≤◌, List, length, get_or, Option, Some, None, IsTrue, Result, Ok, Err, ⊤}
+use Rattle.std.specs.Prelude.{◌≡◌, ℕ, ◌<◌, ◌≤◌, List, length, get_or, Option, Some, None, IsTrue, Result, Ok, Err, ⊤, []}
 use Rattle.pcap_source.specs.Captured.{Captured}
 use Rattle.pcap_source.specs.Capture.{Frames, tail, too_long, too_many}
 use Rattle.pcap_source.specs.Reading.{CaptureState, frames_at}

@@ -18,12 +18,12 @@ use Rattle.worker_pool.specs.declared.job.PoolError.TheVariants.{TooLong, TooMan
 
 -- what is counted over so many packets
 abbrev pub totals_of : List RecordSoFar → ℕ → ℕ → Totals
-totals_of records packets tail = record {
+totals_of records packets rest = record {
   packets = packets;
   records = length records;
   callbacks = callbacks_of records;
   drops = drops_of records;
-  tail = tail;
+  tail = rest;
 }
 
 -- Versions that the records of these frames may have: each at least the floor of the record's first packet and at most its ceiling,

@@ -1,8 +1,10 @@
 //! Workers: each runs a lane in a thread of its own, fed by a ring of packets and a ring of places in the script.
 #![tactic(auto)]
 
+mod control;
 mod dispatch;
 mod ends;
+mod finish;
 mod gate;
 mod job;
 mod lanes;

@@ -1,0 +1,43 @@
+-- Only for proofs: workers and their posts, from the start of the threads to their end.
+use Rattle.std.specs.Prelude.{◌≡◌, List, [], None, IsTrue, Option, Result}
+use Rattle.std.specs.List.{AllZip}
+use Rattle.pcap_source.specs.Captured.{Captured}
+use Rattle.pcap_source.specs.Reading.{CaptureState}
+use Rattle.pcap_source.specs.declared.errors.NextError.{NextError}
+use Rattle.app_api.specs.App.{Meaning}
+use Rattle.forest_versions.specs.declared.command.Command.{Command}
+use Rattle.forest_versions.specs.Lawful.{are_lawful}
+use Rattle.forest_versions.specs.State.{start}
+use Rattle.control_script.specs.declared.stamped.Stamped.{Stamped}
+use Rattle.control_script.specs.Order.{commands_of}
+use Rattle.lane_rings.specs.declared.items.Packet.{Packet}
+use Rattle.lane_rings.specs.declared.ring.RingTx.{RingTx}
+use Rattle.lane_rings.specs.Ring.{sent, AreEnds}
+use Rattle.lane_core.specs.declared.recorder.Recorder.{Ghosts}
+use Rattle.worker_pool.specs.declared.worker.Worker.{Worker}
+use Rattle.worker_pool.specs.declared.post.Post.{Post}
+use Rattle.worker_pool.specs.Worked.{IsReady}
+use Rattle.worker_pool.specs.Posts.{IsPost}
+use Rattle.worker_pool.specs.Team.{HasServed}
+
+module _ {L : Type 0} where
+  -- a worker that may begin under this script, and the other end of its packet ring, into which nothing was sent
+  pub record MayBegin (g : Ghosts L) (script : List Command) (worker : Worker L) (tx : RingTx Packet) : Type 0 where
+    pub lawful : IsTrue (are_lawful (start (g.app worker.lane).presets) script)
+    pub ready : g.failed worker.lane ≡ None → IsReady g script worker.lane worker.commands
+    pub ends : AreEnds tx worker.packets
+    pub unsent : sent tx ≡ []
+
+  -- the post of a worker that began so, to which nothing was sent yet
+  abbrev pub IsFresh : Ghosts L → List Command → Worker L → Post L → Type 0
+  IsFresh g script begin post = IsPost g script begin [] post
+
+  -- a post at which some worker began, and to which some packets were sent
+  pub record IsManned (g : Ghosts L) (script : List Command) (post : Post L) : Type 0 where
+    pub begin : Worker L
+    pub packets : List Packet
+    pub post_is : IsPost g script begin packets post
+
+  -- the worker that came back from a post: whichever began there, and whatever was sent to it, that is served
+  pub record IsBack (g : Ghosts L) (script : List Command) (post : Post L) (worker : Worker L) : Type 0 where
+    pub served : (begin : Worker L) (packets : List Packet) → IsPost g script begin packets post → HasServed g script begin packets worker
