@@ -9,3 +9,4 @@ mod Turns
 mod Serving
 mod Beside
 mod Posted
+mod Rows

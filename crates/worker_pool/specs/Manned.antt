@@ -1,6 +1,5 @@
 -- Only for proofs: workers and their posts, from the start of the threads to their end.
-use Rattle.std.specs.Prelude.{◌≡◌, List, [], None, IsTrue, Option, Result}
-use Rattle.std.specs.List.{AllZip}
+use Rattle.std.specs.Prelude.{◌≡◌, ℕ, ◌≤◌, List, [], length, None, IsTrue, Option, Result}
 use Rattle.pcap_source.specs.Captured.{Captured}
 use Rattle.pcap_source.specs.Reading.{CaptureState}
 use Rattle.pcap_source.specs.declared.errors.NextError.{NextError}
@@ -18,7 +17,9 @@ use Rattle.worker_pool.specs.declared.worker.Worker.{Worker}
 use Rattle.worker_pool.specs.declared.post.Post.{Post}
 use Rattle.worker_pool.specs.Worked.{IsReady}
 use Rattle.worker_pool.specs.Posts.{IsPost}
-use Rattle.worker_pool.specs.Team.{HasServed}
+use Rattle.worker_pool.specs.declared.dispatch.Whole.{Whole}
+use Rattle.worker_pool.specs.Posts.{ReadsAs}
+use Rattle.worker_pool.specs.Team.{IsTeam, HasServed, HaveServed}
 
 module _ {L : Type 0} where
   -- a worker that may begin under this script, and the other end of its packet ring, into which nothing was sent
@@ -41,3 +42,16 @@ module _ {L : Type 0} where
   -- the worker that came back from a post: whichever began there, and whatever was sent to it, that is served
   pub record IsBack (g : Ghosts L) (script : List Command) (post : Post L) (worker : Worker L) : Type 0 where
     pub served : (begin : Worker L) (packets : List Packet) → IsPost g script begin packets post → HasServed g script begin packets worker
+
+  -- a team that may run under this script
+  pub record CanRun (g : Ghosts L) (script : List Stamped) (workers : List (Worker L)) (packets : List (RingTx Packet)) : Type 0 where
+    pub app : Meaning
+    pub team : IsTeam g app workers packets
+    pub lawful : IsTrue (are_lawful (start app.presets) (commands_of script))
+
+  -- a capture was read, and workers that began so served its packets
+  pub record Served (g : Ghosts L) (script : List Stamped) (begins : List (Worker L)) (capture : CaptureState) (old new : Option (List ℕ)) (read : Result Whole NextError) (workers : List (Worker L)) : Type 0 where
+    pub frames : List Captured
+    pub few : length frames ≤ 1048576
+    pub read_as : ReadsAs frames capture old new read
+    pub served : HaveServed g script begins frames workers

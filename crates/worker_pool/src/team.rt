@@ -1,26 +1,39 @@
 //! Workers that share a run: a thread for each lane, one for the script's commands, and the dispatcher in this one.
 
-ghost use Rattle.std.specs.Prelude.{◌≡◌, IsErrOf, IsTrue};
+ghost use Rattle.std.specs.Prelude.{◌≡◌, ◌≤◌, [], List, length, vec_len, All, IfOk, IsErrOf, IsTrue};
+ghost use Rattle.std.specs.List.{AllZip};
+ghost use Rattle.std.specs.Vec.{vec_capacity};
 ghost use Rattle.mos_bytes.specs.Causes.{HasCauseOf};
 ghost use Rattle.pcap_source.specs.Reading.{Opened};
 ghost use Rattle.app_api.specs.App.{Meaning};
 ghost use Rattle.forest_versions.specs.Lawful.{are_lawful};
 ghost use Rattle.forest_versions.specs.State.{start};
 ghost use Rattle.control_script.specs.Order.{commands_of};
+ghost use Rattle.worker_pool.specs.Worked.{IsReady, WorkedOn};
 ghost use Rattle.worker_pool.specs.Team.{IsTeam, TeamRan};
+ghost use Rattle.worker_pool.specs.Manned.{CanRun, Served};
 
+use crate::control::publish;
+use crate::dispatch::{Whole, dispatch};
+use crate::finish::finish_all;
 use crate::gate::Gate;
 use crate::job::PoolError;
-use crate::worker::Worker;
+use crate::post::Post;
+use crate::seat::{Works, start_worker};
+use crate::worker::{Worker, work};
 use control_script::Script;
 use lane_core::Recorder;
 use lane_rings::{CommandTx, PacketTx};
 use mos_bytes::Source;
 use native_filters::NativeBook;
-use pcap_source::Capture;
-use std::alloc::Global;
+use pcap_source::{Capture, NextError};
+use std::alloc::{AllocError, AllocFailed, Global};
+use std::collections::VecDeque;
+use std::snapshot::Snapshot;
 use std::sync::Wait;
-use std::thread::Threads;
+use std::sync::atomic::{AtomicBool, Ordering};
+use std::thread;
+use std::thread::{JoinHandle, Scope, Threads};
 
 /// Workers that have begun nothing, with the sending ends of their rings: each list has one for each lane, in order.
 #[derive(Drop)]
@@ -31,6 +44,13 @@ pub(crate) struct Team<L: Recorder + Drop> {
     pub(crate) commands: Vec<CommandTx>,
 }
 
+// What a run reads.
+#[derive(Drop)]
+struct Input<'c, S> {
+    capture: &'c mut Capture,
+    source: &'c mut S,
+}
+
 /// Workers that have served a whole capture.
 #[derive(Drop)]
 pub(crate) struct Ran<L: Recorder + Drop> {
@@ -39,6 +59,128 @@ pub(crate) struct Ran<L: Recorder + Drop> {
     pub(crate) packets: u64,
     /// The bytes behind them that are no whole record.
     pub(crate) tail: u32,
+}
+
+// Flags that aren't raised.
+fn lowered_flags(alloc: Global, count: usize) -> Result<Vec<AtomicBool>, AllocError>
+    ensures count { IfOk result (λ flags. length flags.items ≡ count) }
+{
+    let mut flags = Vec::with_capacity(alloc, count)?;
+    for _ in 0..count {
+        flags.push_reserved(AtomicBool::new(false));
+    }
+    Ok(flags)
+}
+
+fn raise_all(flags: &[AtomicBool]) {
+    for flag in flags {
+        flag.store(true, Ordering::SeqCst);
+    }
+}
+
+// Starts the control thread; where none can be started, does its work here.
+fn start_control<'s, E: 's, F: FnOnce() + Send + 's>(
+    scope: &Scope<'s, E>,
+    f: F,
+) -> Option<JoinHandle<()>>
+    requires runs { F.pre f }
+{
+    match scope.spawn(f) {
+        Ok(handle) => Some(handle),
+        Err(refused) => {
+            (refused.value)();
+            None
+        }
+    }
+}
+
+fn join_control<R: Threads>(rt: &R, control: Option<JoinHandle<()>>) {
+    if let Some(handle) = control {
+        handle.join(rt);
+    }
+}
+
+// Starts the threads, sends the packets of the capture, and waits for the threads. The source is handed back.
+fn run_threads<
+    'c,
+    R: Threads + Wait + Sync + Send + Copy + Drop + 'static,
+    L: Recorder + Drop + Send,
+    S: Source,
+    G: Gate + Sync,
+>(
+    rt: &'c R,
+    alloc: Global,
+    team: Team<L>,
+    posts: Vec<Post<L>>,
+    back: Vec<Worker<L>>,
+    stops: &'c [AtomicBool],
+    failed: &'c AtomicBool,
+    script: &'c Script,
+    natives: &'c NativeBook,
+    gate: &'c G,
+    input: Input<'c, S>,
+) -> (Result<Whole, NextError>, Vec<Worker<L>>, Input<'c, S>)
+    requires opened { Opened input.entry.capture.now }
+    requires team { CanRun L.Recorder script.now team.workers.items team.packets.items }
+    requires posts { (posts.items ≡ []) × (length team.workers.items ≤ vec_capacity posts) }
+    requires back { (back.items ≡ []) × (length team.workers.items ≤ vec_capacity back) }
+    requires stops { length stops.now ≡ length team.workers.items }
+    ensures served { Served L.Recorder script.now team.workers.items input.entry.capture.now (S.left input.entry.source.now) (S.left result.2.source.now) result.0 result.1.items }
+    ensures cause { HasCauseOf (S.faults input.entry.source.now) (S.faults result.2.source.now) (IsErrOf result.0 NextError.ReadFault) }
+    ensures lasts { S.lasting result.2.source.now ≡ S.lasting input.entry.source.now }
+    ensures same { result.2.source.ghost_name ≡ input.entry.source.ghost_name }
+{
+    let Team {
+        workers,
+        packets,
+        commands,
+    } = team;
+    let count = script.len();
+    thread::scope(
+        thread::scope_env(),
+        rt,
+        move |scope| -> (Result<Whole, NextError>, Vec<Worker<L>>, Input<'_, S>)
+            requires opened { Opened input.capture.now }
+            requires team { CanRun L.Recorder script.now workers.items packets.items }
+            requires posts { (posts.items ≡ []) × (length workers.items ≤ vec_capacity posts) }
+            requires back { (back.items ≡ []) × (length workers.items ≤ vec_capacity back) }
+            requires stops { length stops.now ≡ length workers.items }
+            ensures served { Served L.Recorder script.entry.now workers.items input.entry.capture.now (S.left input.entry.source.now) (S.left result.2.source.now) result.0 result.1.items }
+            ensures cause { HasCauseOf (S.faults input.entry.source.now) (S.faults result.2.source.now) (IsErrOf result.0 NextError.ReadFault) }
+            ensures lasts { S.lasting result.2.source.now ≡ S.lasting input.entry.source.now }
+            ensures same { result.2.source.ghost_name ≡ input.entry.source.ghost_name }
+        {
+            let control = start_control(scope, move || publish(commands, count, gate));
+            let mut workers = VecDeque::from(workers);
+            let mut packets = VecDeque::from(packets);
+            let mut posts = posts;
+            for stop in stops {
+                let (Some(w), Some(packets)) = (workers.pop_front(), packets.pop_front()) else {
+                    unreachable!()
+                };
+                let promise = Works {
+                    start: Snapshot::of(&w),
+                    script: Snapshot::of(script),
+                };
+                let f = move || -> Worker<L>
+                    requires ready { L.failed w.lane ≡ None → IsReady L.Recorder (commands_of script.now) w.lane w.commands }
+                    requires lawful { IsTrue (are_lawful (start (L.app w.lane).presets) (commands_of script.now)) }
+                    ensures { WorkedOn L.Recorder (commands_of script.entry.now) w result }
+                {
+                    work(rt, alloc, w, script, natives, gate, stop, failed)
+                };
+                let seat = start_worker(scope, promise, stop, f);
+                posts.push_reserved(Post { packets, seat });
+            }
+            let read = dispatch(
+                rt, alloc, &mut posts, script, natives, gate, failed, input.capture, input.source,
+            );
+            raise_all(stops);
+            join_control(rt, control);
+            let workers = finish_all(rt, alloc, posts, back, script, natives, gate, failed);
+            (read, workers, input)
+        },
+    )
 }
 
 /// Runs a team over an opened capture: each packet is taken by the worker of its lane, and each of the script's commands
@@ -69,6 +211,18 @@ pub(crate) fn run_team<
     ensures cause { HasCauseOf (S.faults source.old) (S.faults source.new) (IsErrOf result PoolError.ReadFault) }
     ensures lasts { S.lasting source.new ≡ S.lasting source.old }
 {
-    for _ in rt.forever() {}
-    unreachable!()
+    let count = team.workers.len();
+    let posts = Vec::with_capacity(alloc, count)?;
+    let back = Vec::with_capacity(alloc, count)?;
+    let stops = lowered_flags(alloc, count)?;
+    let failed = AtomicBool::new(false);
+    let (read, workers, _) = run_threads(
+        rt, alloc, team, posts, back, &stops, &failed, script, natives, gate, Input { capture, source },
+    );
+    let whole = read?;
+    Ok(Ran {
+        workers,
+        packets: whole.packets,
+        tail: whole.tail,
+    })
 }
