@@ -10,3 +10,5 @@ mod Serving
 mod Beside
 mod Posted
 mod Rows
+mod Manning
+mod Crossed

@@ -49,3 +49,14 @@ moved all front others rest x whole is = whole ∙ ap (λ l. front ++ l) is ∙ 
 -- where no other is left, the front is all
 pub no_other : {A : Type 0} → (all front others : List A) → all ≡ front ++ others → others ≡ [] → all ≡ front
 no_other all front others whole none = whole ∙ ap (λ l. front ++ l) none ∙ append-nil front
+
+module _ {A B : Type 0} (R : A → B → Type 0) where
+  -- the first pair, and the others
+  zip_parts : (x : A) (y : B) (xs others : List A) (ys bs : List B) → AllZip R others bs → others ≡ x ∷ xs → bs ≡ y ∷ ys → R x y × AllZip R xs ys
+  zip_parts x y xs others ys bs all is at = subst (λ l. AllZip R (x ∷ xs) l) at (subst (λ l. AllZip R l bs) is all)
+
+  pub zip_first : (x : A) (y : B) (xs others : List A) (ys bs : List B) → AllZip R others bs → others ≡ x ∷ xs → bs ≡ y ∷ ys → R x y
+  zip_first x y xs others ys bs all is at = (zip_parts x y xs others ys bs all is at).0
+
+  pub zip_others : (x : A) (y : B) (xs others : List A) (ys bs : List B) → AllZip R others bs → others ≡ x ∷ xs → bs ≡ y ∷ ys → AllZip R xs ys
+  zip_others x y xs others ys bs all is at = (zip_parts x y xs others ys bs all is at).1

@@ -11,6 +11,7 @@ mod lanes;
 mod left;
 mod places;
 mod post;
+pub mod probe;
 mod seat;
 mod team;
 #[cfg(test)]

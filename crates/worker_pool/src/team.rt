@@ -1,6 +1,6 @@
 //! Workers that share a run: a thread for each lane, one for the script's commands, and the dispatcher in this one.
 
-ghost use Rattle.std.specs.Prelude.{◌≡◌, ◌≤◌, [], List, length, vec_len, All, IfOk, IsErrOf, IsTrue};
+ghost use Rattle.std.specs.Prelude.{◌≡◌, ◌≤◌, [], ◌∷◌, List, length, vec_len, All, IfOk, IsErrOf, IsTrue};
 ghost use Rattle.std.specs.List.{AllZip};
 ghost use Rattle.std.specs.Vec.{vec_capacity};
 ghost use Rattle.mos_bytes.specs.Causes.{HasCauseOf};
@@ -44,13 +44,6 @@ pub(crate) struct Team<L: Recorder + Drop> {
     pub(crate) commands: Vec<CommandTx>,
 }
 
-// What a run reads.
-#[derive(Drop)]
-struct Input<'c, S> {
-    capture: &'c mut Capture,
-    source: &'c mut S,
-}
-
 /// Workers that have served a whole capture.
 #[derive(Drop)]
 pub(crate) struct Ran<L: Recorder + Drop> {
@@ -70,6 +63,17 @@ fn lowered_flags(alloc: Global, count: usize) -> Result<Vec<AtomicBool>, AllocEr
         flags.push_reserved(AtomicBool::new(false));
     }
     Ok(flags)
+}
+
+// Takes the first item out of a row that has one.
+fn take_first<T>(row: &mut VecDeque<T>) -> T
+    requires some { 1 ≤ length row.old.items }
+    ensures first { row.old.items ≡ result ∷ row.new.items }
+{
+    match row.pop_front() {
+        Some(first) => first,
+        None => unreachable!(),
+    }
 }
 
 fn raise_all(flags: &[AtomicBool]) {
@@ -118,17 +122,18 @@ fn run_threads<
     script: &'c Script,
     natives: &'c NativeBook,
     gate: &'c G,
-    input: Input<'c, S>,
-) -> (Result<Whole, NextError>, Vec<Worker<L>>, Input<'c, S>)
-    requires opened { Opened input.entry.capture.now }
+    capture: &'c mut Capture,
+    source: &'c mut S,
+) -> (Result<Whole, NextError>, Vec<Worker<L>>, &'c mut Capture, &'c mut S)
+    requires opened { Opened capture.old }
     requires team { CanRun L.Recorder script.now team.workers.items team.packets.items }
     requires posts { (posts.items ≡ []) × (length team.workers.items ≤ vec_capacity posts) }
     requires back { (back.items ≡ []) × (length team.workers.items ≤ vec_capacity back) }
     requires stops { length stops.now ≡ length team.workers.items }
-    ensures served { Served L.Recorder script.now team.workers.items input.entry.capture.now (S.left input.entry.source.now) (S.left result.2.source.now) result.0 result.1.items }
-    ensures cause { HasCauseOf (S.faults input.entry.source.now) (S.faults result.2.source.now) (IsErrOf result.0 NextError.ReadFault) }
-    ensures lasts { S.lasting result.2.source.now ≡ S.lasting input.entry.source.now }
-    ensures same { result.2.source.ghost_name ≡ input.entry.source.ghost_name }
+    ensures served { Served L.Recorder script.now team.workers.items capture.old (S.left source.old) (S.left result.3.now) result.0 result.1.items }
+    ensures cause { HasCauseOf (S.faults source.old) (S.faults result.3.now) (IsErrOf result.0 NextError.ReadFault) }
+    ensures lasts { S.lasting result.3.now ≡ S.lasting source.old }
+    ensures same { result.3.ghost_name ≡ source.entry.ghost_name }
 {
     let Team {
         workers,
@@ -139,25 +144,24 @@ fn run_threads<
     thread::scope(
         thread::scope_env(),
         rt,
-        move |scope| -> (Result<Whole, NextError>, Vec<Worker<L>>, Input<'_, S>)
-            requires opened { Opened input.capture.now }
+        move |scope| -> (Result<Whole, NextError>, Vec<Worker<L>>, &mut Capture, &mut S)
+            requires opened { Opened capture.now }
             requires team { CanRun L.Recorder script.now workers.items packets.items }
             requires posts { (posts.items ≡ []) × (length workers.items ≤ vec_capacity posts) }
             requires back { (back.items ≡ []) × (length workers.items ≤ vec_capacity back) }
             requires stops { length stops.now ≡ length workers.items }
-            ensures served { Served L.Recorder script.entry.now workers.items input.entry.capture.now (S.left input.entry.source.now) (S.left result.2.source.now) result.0 result.1.items }
-            ensures cause { HasCauseOf (S.faults input.entry.source.now) (S.faults result.2.source.now) (IsErrOf result.0 NextError.ReadFault) }
-            ensures lasts { S.lasting result.2.source.now ≡ S.lasting input.entry.source.now }
-            ensures same { result.2.source.ghost_name ≡ input.entry.source.ghost_name }
+            ensures served { Served L.Recorder script.entry.now workers.items capture.entry.now (S.left source.entry.now) (S.left result.3.now) result.0 result.1.items }
+            ensures cause { HasCauseOf (S.faults source.entry.now) (S.faults result.3.now) (IsErrOf result.0 NextError.ReadFault) }
+            ensures lasts { S.lasting result.3.now ≡ S.lasting source.entry.now }
+            ensures same { result.3.ghost_name ≡ source.entry.ghost_name }
         {
             let control = start_control(scope, move || publish(commands, count, gate));
             let mut workers = VecDeque::from(workers);
             let mut packets = VecDeque::from(packets);
             let mut posts = posts;
             for stop in stops {
-                let (Some(w), Some(packets)) = (workers.pop_front(), packets.pop_front()) else {
-                    unreachable!()
-                };
+                let w = take_first(&mut workers);
+                let packets = take_first(&mut packets);
                 let promise = Works {
                     start: Snapshot::of(&w),
                     script: Snapshot::of(script),
@@ -173,12 +177,12 @@ fn run_threads<
                 posts.push_reserved(Post { packets, seat });
             }
             let read = dispatch(
-                rt, alloc, &mut posts, script, natives, gate, failed, input.capture, input.source,
+                rt, alloc, &mut posts, script, natives, gate, failed, capture, source,
             );
             raise_all(stops);
             join_control(rt, control);
             let workers = finish_all(rt, alloc, posts, back, script, natives, gate, failed);
-            (read, workers, input)
+            (read, workers, capture, source)
         },
     )
 }
@@ -216,8 +220,8 @@ pub(crate) fn run_team<
     let back = Vec::with_capacity(alloc, count)?;
     let stops = lowered_flags(alloc, count)?;
     let failed = AtomicBool::new(false);
-    let (read, workers, _) = run_threads(
-        rt, alloc, team, posts, back, &stops, &failed, script, natives, gate, Input { capture, source },
+    let (read, workers, _, _) = run_threads(
+        rt, alloc, team, posts, back, &stops, &failed, script, natives, gate, capture, source,
     );
     let whole = read?;
     Ok(Ran {
