@@ -11,7 +11,6 @@ mod lanes;
 mod left;
 mod places;
 mod post;
-pub mod probe;
 mod seat;
 mod team;
 #[cfg(test)]

@@ -19,7 +19,7 @@ use crate::finish::finish_all;
 use crate::gate::Gate;
 use crate::job::PoolError;
 use crate::post::Post;
-use crate::seat::{Works, start_worker};
+use crate::seat::{Works, start_work};
 use crate::worker::{Worker, work};
 use control_script::Script;
 use lane_core::Recorder;
@@ -166,14 +166,14 @@ fn run_threads<
                     start: Snapshot::of(&w),
                     script: Snapshot::of(script),
                 };
-                let f = move || -> Worker<L>
+                let f = move |w: Worker<L>| -> Worker<L>
                     requires ready { L.failed w.lane ≡ None → IsReady L.Recorder (commands_of script.now) w.lane w.commands }
                     requires lawful { IsTrue (are_lawful (start (L.app w.lane).presets) (commands_of script.now)) }
                     ensures { WorkedOn L.Recorder (commands_of script.entry.now) w result }
                 {
                     work(rt, alloc, w, script, natives, gate, stop, failed)
                 };
-                let seat = start_worker(scope, promise, stop, f);
+                let seat = start_work(scope, promise, stop, w, f);
                 posts.push_reserved(Post { packets, seat });
             }
             let read = dispatch(
@@ -185,6 +185,41 @@ fn run_threads<
             (read, workers, capture, source)
         },
     )
+}
+
+// The same, with the capture and its source lent.
+fn serve<
+    R: Threads + Wait + Sync + Send + Copy + Drop + 'static,
+    L: Recorder + Drop + Send,
+    S: Source,
+    G: Gate + Sync,
+>(
+    rt: &R,
+    alloc: Global,
+    team: Team<L>,
+    posts: Vec<Post<L>>,
+    back: Vec<Worker<L>>,
+    stops: &[AtomicBool],
+    script: &Script,
+    natives: &NativeBook,
+    gate: &G,
+    capture: &mut Capture,
+    source: &mut S,
+) -> (Result<Whole, NextError>, Vec<Worker<L>>)
+    requires opened { Opened capture.old }
+    requires team { CanRun L.Recorder script.now team.workers.items team.packets.items }
+    requires posts { (posts.items ≡ []) × (length team.workers.items ≤ vec_capacity posts) }
+    requires back { (back.items ≡ []) × (length team.workers.items ≤ vec_capacity back) }
+    requires stops { length stops.now ≡ length team.workers.items }
+    ensures served { Served L.Recorder script.now team.workers.items capture.old (S.left source.old) (S.left source.new) result.0 result.1.items }
+    ensures cause { HasCauseOf (S.faults source.old) (S.faults source.new) (IsErrOf result.0 NextError.ReadFault) }
+    ensures lasts { S.lasting source.new ≡ S.lasting source.old }
+{
+    let failed = AtomicBool::new(false);
+    let (read, workers, _capture, _source) = run_threads(
+        rt, alloc, team, posts, back, stops, &failed, script, natives, gate, capture, source,
+    );
+    (read, workers)
 }
 
 /// Runs a team over an opened capture: each packet is taken by the worker of its lane, and each of the script's commands
@@ -219,9 +254,8 @@ pub(crate) fn run_team<
     let posts = Vec::with_capacity(alloc, count)?;
     let back = Vec::with_capacity(alloc, count)?;
     let stops = lowered_flags(alloc, count)?;
-    let failed = AtomicBool::new(false);
-    let (read, workers, _, _) = run_threads(
-        rt, alloc, team, posts, back, &stops, &failed, script, natives, gate, capture, source,
+    let (read, workers) = serve(
+        rt, alloc, team, posts, back, &stops, script, natives, gate, capture, source,
     );
     let whole = read?;
     Ok(Ran {

@@ -12,7 +12,6 @@ use Rattle.worker_pool.specs.declared.post.Post.{Post}
 use Rattle.worker_pool.specs.Posts.{IsSeated}
 use Rattle.control_script.specs.declared.stamped.Stamped.{Stamped}
 use Rattle.worker_pool.specs.Manned.{MayBegin, IsFresh}
-use Rattle.worker_pool.proofs.worker.Worker.TheSendSync as worker
 use Rattle.worker_pool.proofs.Crossed.{script_sync, book_sync}
 use Rattle.worker_pool.proofs.Rows.{AllZip-more, AllZip-length, moved, no_other, zip_first, zip_others}
 use Rattle.worker_pool.proofs.Manning.{all_may_begin, fresh, posts_of_all, all_manned, all_served}
@@ -21,8 +20,8 @@ use Rattle.worker_pool.proofs.team.fn.run_threads.scope.Goals as goal
 pub start_control-control-requires-send-F : goal.start_control-control-requires-send-F
 start_control-control-requires-send-F g c κs within = search (sendable, crosses, ring.the_field_send) depth 40
 
-pub start_worker-seat-requires-send-F : goal.start_worker-seat-requires-send-F
-start_worker-seat-requires-send-F g c κs within = search (sendable, crosses, worker.the_field_send, script_sync, book_sync) depth 40
+pub start_work-seat-requires-send-F : goal.start_work-seat-requires-send-F
+start_work-seat-requires-send-F g c κs within = search (sendable, crosses, script_sync, book_sync) depth 40
 
 pub loop-stop-init : goal.loop-stop-init
 loop-stop-init g c = record {
@@ -45,21 +44,21 @@ loop-stop-preserved g c =
     let may : MayBegin g.L.Recorder (commands_of c.captures.script.now) w tx =
     zip_first (MayBegin g.L.Recorder (commands_of c.captures.script.now)) w tx c.take_first-w.new.row.items c.loop-stop.workers.items c.take_first-packets.new.row.items c.loop-stop.packets.items
     i.waiting c.take_first-w.ensures.first c.take_first-packets.ensures.first in
-    let seated : IsSeated g.L.Recorder (commands_of c.captures.script.now) w c.start_worker-seat.result =
-    subst (λ (b : Worker g.row.L.Denot). IsSeated g.L.Recorder (commands_of c.captures.script.now) b c.start_worker-seat.result) c.of.ensures
-    (subst (λ (s : List Stamped). IsSeated g.L.Recorder (commands_of s) c.of.result.value c.start_worker-seat.result) c.of-in-loop-stop.ensures c.start_worker-seat.ensures) in
+    let seated : IsSeated g.L.Recorder (commands_of c.captures.script.now) w c.start_work-seat.result =
+    subst (λ (b : Worker g.row.L.Denot). IsSeated g.L.Recorder (commands_of c.captures.script.now) b c.start_work-seat.result) c.of.ensures
+    (subst (λ (s : List Stamped). IsSeated g.L.Recorder (commands_of s) c.of.result.value c.start_work-seat.result) c.of-in-loop-stop.ensures c.start_work-seat.ensures) in
     record {
       front = i.front ++ w ∷ [];
       whole = moved c.from-workers.result.items i.front c.loop-stop.workers.items c.take_first-w.new.row.items w i.whole c.take_first-w.ensures.first;
       fresh = subst (λ (l : List (Post g.row.L.Denot)). AllZip (IsFresh g.L.Recorder (commands_of c.captures.script.now)) (i.front ++ w ∷ []) l) (sym c.push_reserved.ensures.items)
-          (AllZip-more (IsFresh g.L.Recorder (commands_of c.captures.script.now)) i.front c.loop-stop.posts.items w (record { packets = tx; seat = c.start_worker-seat.result }) i.fresh
-          (fresh g.L.Recorder (commands_of c.captures.script.now) w tx c.start_worker-seat.result may seated));
+          (AllZip-more (IsFresh g.L.Recorder (commands_of c.captures.script.now)) i.front c.loop-stop.posts.items w (record { packets = tx; seat = c.start_work-seat.result }) i.fresh
+          (fresh g.L.Recorder (commands_of c.captures.script.now) w tx c.start_work-seat.result may seated));
       waiting = zip_others (MayBegin g.L.Recorder (commands_of c.captures.script.now)) w tx c.take_first-w.new.row.items c.loop-stop.workers.items c.take_first-packets.new.row.items c.loop-stop.packets.items
           i.waiting c.take_first-w.ensures.first c.take_first-packets.ensures.first;
       flags = let e = ap length c.take_first-w.ensures.first in let f = i.flags in omega (arith, e, f);
       room =
           let e = ap length c.take_first-w.ensures.first in
-          let f = ap length c.push_reserved.ensures.items ∙ length-append c.loop-stop.posts.items (record { packets = tx; seat = c.start_worker-seat.result } ∷ []) in
+          let f = ap length c.push_reserved.ensures.items ∙ length-append c.loop-stop.posts.items (record { packets = tx; seat = c.start_work-seat.result } ∷ []) in
           let h = c.push_reserved.ensures.capacity in
           let r = i.room in
           omega (arith, e, f, h, r);

@@ -1,4 +1,0 @@
-use Rattle.worker_pool.proofs.team.fn.run_threads.scope+FnOnce.call_once.Goals as goal
-
-pub scope-requires : goal.scope-requires
-scope-requires g c = let h = c.requires in ?
