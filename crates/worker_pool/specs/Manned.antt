@@ -1,7 +1,7 @@
 -- Only for proofs: workers and their posts, from the start of the threads to their end.
 use Rattle.std.specs.Prelude.{◌≡◌, ℕ, ◌≤◌, List, [], length, None, IsTrue, Option, Result}
 use Rattle.pcap_source.specs.Captured.{Captured}
-use Rattle.pcap_source.specs.Reading.{CaptureState}
+use Rattle.pcap_source.specs.Reading.{CaptureState, Opened}
 use Rattle.pcap_source.specs.declared.errors.NextError.{NextError}
 use Rattle.app_api.specs.App.{Meaning}
 use Rattle.forest_versions.specs.declared.command.Command.{Command}
@@ -48,6 +48,17 @@ module _ {L : Type 0} where
     pub app : Meaning
     pub team : IsTeam g app workers packets
     pub lawful : IsTrue (are_lawful (start app.presets) (commands_of script))
+
+  -- a team may start on a capture: there is room for its posts and for its workers once they are back, and a flag for each
+  pub record MayStart (g : Ghosts L) (script : List Stamped) (capture : CaptureState) (workers : List (Worker L)) (packets : List (RingTx Packet))
+      (posts : List (Post L)) (room : ℕ) (back : List (Worker L)) (places : ℕ) (flags : ℕ) : Type 0 where
+    pub opened : Opened capture
+    pub team : CanRun g script workers packets
+    pub no_posts : posts ≡ []
+    pub room_for_posts : length workers ≤ room
+    pub none_back : back ≡ []
+    pub room_for_workers : length workers ≤ places
+    pub flag_each : flags ≡ length workers
 
   -- a capture was read, and workers that began so served its packets
   pub record Served (g : Ghosts L) (script : List Stamped) (begins : List (Worker L)) (capture : CaptureState) (old new : Option (List ℕ)) (read : Result Whole NextError) (workers : List (Worker L)) : Type 0 where

@@ -11,7 +11,7 @@ ghost use Rattle.forest_versions.specs.State.{start};
 ghost use Rattle.control_script.specs.Order.{commands_of};
 ghost use Rattle.worker_pool.specs.Worked.{IsReady, WorkedOn};
 ghost use Rattle.worker_pool.specs.Team.{IsTeam, TeamRan};
-ghost use Rattle.worker_pool.specs.Manned.{CanRun, Served};
+ghost use Rattle.worker_pool.specs.Manned.{MayStart, Served};
 
 use crate::control::publish;
 use crate::dispatch::{Whole, dispatch};
@@ -125,11 +125,7 @@ fn run_threads<
     capture: &'c mut Capture,
     source: &'c mut S,
 ) -> (Result<Whole, NextError>, Vec<Worker<L>>, &'c mut Capture, &'c mut S)
-    requires opened { Opened capture.old }
-    requires team { CanRun L.Recorder script.now team.workers.items team.packets.items }
-    requires posts { (posts.items ≡ []) × (length team.workers.items ≤ vec_capacity posts) }
-    requires back { (back.items ≡ []) × (length team.workers.items ≤ vec_capacity back) }
-    requires stops { length stops.now ≡ length team.workers.items }
+    requires starts { MayStart L.Recorder script.now capture.old team.workers.items team.packets.items posts.items (vec_capacity posts) back.items (vec_capacity back) (length stops.now) }
     ensures served { Served L.Recorder script.now team.workers.items capture.old (S.left source.old) (S.left result.3.now) result.0 result.1.items }
     ensures cause { HasCauseOf (S.faults source.old) (S.faults result.3.now) (IsErrOf result.0 NextError.ReadFault) }
     ensures lasts { S.lasting result.3.now ≡ S.lasting source.old }
@@ -145,11 +141,7 @@ fn run_threads<
         thread::scope_env(),
         rt,
         move |scope| -> (Result<Whole, NextError>, Vec<Worker<L>>, &mut Capture, &mut S)
-            requires opened { Opened capture.now }
-            requires team { CanRun L.Recorder script.now workers.items packets.items }
-            requires posts { (posts.items ≡ []) × (length workers.items ≤ vec_capacity posts) }
-            requires back { (back.items ≡ []) × (length workers.items ≤ vec_capacity back) }
-            requires stops { length stops.now ≡ length workers.items }
+            requires { MayStart L.Recorder script.now capture.now workers.items packets.items posts.items (vec_capacity posts) back.items (vec_capacity back) (length stops.now) }
             ensures served { Served L.Recorder script.entry.now workers.items capture.entry.now (S.left source.entry.now) (S.left result.3.now) result.0 result.1.items }
             ensures cause { HasCauseOf (S.faults source.entry.now) (S.faults result.3.now) (IsErrOf result.0 NextError.ReadFault) }
             ensures lasts { S.lasting result.3.now ≡ S.lasting source.entry.now }
@@ -206,11 +198,7 @@ fn serve<
     capture: &mut Capture,
     source: &mut S,
 ) -> (Result<Whole, NextError>, Vec<Worker<L>>)
-    requires opened { Opened capture.old }
-    requires team { CanRun L.Recorder script.now team.workers.items team.packets.items }
-    requires posts { (posts.items ≡ []) × (length team.workers.items ≤ vec_capacity posts) }
-    requires back { (back.items ≡ []) × (length team.workers.items ≤ vec_capacity back) }
-    requires stops { length stops.now ≡ length team.workers.items }
+    requires starts { MayStart L.Recorder script.now capture.old team.workers.items team.packets.items posts.items (vec_capacity posts) back.items (vec_capacity back) (length stops.now) }
     ensures served { Served L.Recorder script.now team.workers.items capture.old (S.left source.old) (S.left source.new) result.0 result.1.items }
     ensures cause { HasCauseOf (S.faults source.old) (S.faults source.new) (IsErrOf result.0 NextError.ReadFault) }
     ensures lasts { S.lasting source.new ≡ S.lasting source.old }

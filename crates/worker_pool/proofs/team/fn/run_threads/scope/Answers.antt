@@ -2,7 +2,7 @@ use denote.Param.Send.{sendable}
 use Rattle.std.proofs.Common.{◌≡◌, ◌<◌, ◌∷◌, [], ◌++◌, ◌≤◌, ◌+◌, ℕ, length, get_or, refl, sym, subst, List, All, ap, ◌∙◌, arith, rules}
 use Rattle.std.proofs.lemmas.List.{length-append, append-nil}
 use Rattle.std.specs.List.{AllZip}
-use Rattle.std.proofs.Crossing.{crosses}
+use Rattle.std.proofs.Crossing.{crosses, send}
 use Rattle.lane_rings.proofs.ring.RingTx.TheSendSync as ring
 use Rattle.lane_rings.specs.declared.ring.RingTx.{RingTx}
 use Rattle.lane_rings.specs.declared.items.Packet.{Packet}
@@ -21,19 +21,19 @@ pub start_control-control-requires-send-F : goal.start_control-control-requires-
 start_control-control-requires-send-F g c κs within = search (sendable, crosses, ring.the_field_send) depth 40
 
 pub start_work-seat-requires-send-F : goal.start_work-seat-requires-send-F
-start_work-seat-requires-send-F g c κs within = search (sendable, crosses, script_sync, book_sync, book_field_sync, c.requires-raw.0, c.requires-raw.1.0, c.requires-raw.1.1.0, c.requires-raw.1.1.1.0) depth 60
+start_work-seat-requires-send-F g c κs within = search (sendable, crosses, script_sync, book_sync, book_field_sync, send) depth 40
 
 pub loop-stop-init : goal.loop-stop-init
 loop-stop-init g c = record {
   front = [];
   whole = refl;
-  fresh = subst (λ (l : List (Post g.row.L.Denot)). AllZip (IsFresh g.L.Recorder (commands_of c.captures.script.now)) [] l) (sym c.requires.posts.0) tt;
+  fresh = subst (λ (l : List (Post g.row.L.Denot)). AllZip (IsFresh g.L.Recorder (commands_of c.captures.script.now)) [] l) (sym c.requires.no_posts) tt;
   waiting =
       subst (λ (l : List (Worker g.row.L.Denot)). AllZip (MayBegin g.L.Recorder (commands_of c.captures.script.now)) l c.from-packets.result.items) (sym c.from-workers.ensures.0)
       (subst (λ (l : List (RingTx Packet)). AllZip (MayBegin g.L.Recorder (commands_of c.captures.script.now)) c.captures.workers.items l) (sym c.from-packets.ensures.0)
       (all_may_begin g.L.Recorder c.captures.script.now c.captures.workers.items c.captures.packets.items c.requires.team));
-  flags = let e = ap length c.from-workers.ensures.0 in let f = c.requires.stops in omega (arith, e, f);
-  room = let e = ap length c.from-workers.ensures.0 in let f = ap length c.requires.posts.0 in let h = c.requires.posts.1 in omega (arith, e, f, h);
+  flags = let e = ap length c.from-workers.ensures.0 in let f = c.requires.flag_each in omega (arith, e, f);
+  room = let e = ap length c.from-workers.ensures.0 in let f = ap length c.requires.no_posts in let h = c.requires.room_for_posts in omega (arith, e, f, h);
 }
 
 pub loop-stop-preserved : goal.loop-stop-preserved
@@ -83,8 +83,8 @@ finish_all-workers-requires g c =
     let sent = c.dispatch-read.ensures.dispatched c.captures.workers.items are in
     record {
       manned = all_manned g.L.Recorder c.captures.script.now c.captures.workers.items sent.frames c.dispatch-read.new.posts.items sent.posts_are;
-      empty = c.requires.back.0;
-      places = let e = sent.posts_are.count in let f = c.requires.back.1 in omega (arith, e, f);
+      empty = c.requires.none_back;
+      places = let e = sent.posts_are.count in let f = c.requires.room_for_workers in omega (arith, e, f);
     }
 
 pub returns : goal.returns
