@@ -20,5 +20,3 @@ script_sync = search (sendable, crosses, term.sync-Term, sum.the_field_sync, op.
 pub book_sync : (T : RattleType) (m : Mut T.Denot (Bor Facts × Unit {0}) bool-field.Value) → IsSync T → IsSync (book.the_row T m)
 book_sync T m y = search sendable depth 20
 
-pub book_field_sync : (T : RattleType) (m : Mut T.Denot (Bor Facts × Unit {0}) bool-field.Value) → IsSync T → IsSync (book.the_field T m).row
-book_field_sync T m y = search sendable depth 20

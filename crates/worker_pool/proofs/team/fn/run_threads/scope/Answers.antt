@@ -12,7 +12,7 @@ use Rattle.worker_pool.specs.declared.post.Post.{Post}
 use Rattle.worker_pool.specs.Posts.{IsSeated}
 use Rattle.control_script.specs.declared.stamped.Stamped.{Stamped}
 use Rattle.worker_pool.specs.Manned.{MayBegin, IsFresh}
-use Rattle.worker_pool.proofs.Crossed.{script_sync, book_sync, book_field_sync}
+use Rattle.worker_pool.proofs.Crossed.{script_sync, book_sync}
 use Rattle.worker_pool.proofs.Rows.{AllZip-more, AllZip-length, moved, no_other, zip_first, zip_others}
 use Rattle.worker_pool.proofs.Manning.{all_may_begin, fresh, posts_of_all, all_manned, all_served}
 use Rattle.worker_pool.proofs.team.fn.run_threads.scope.Goals as goal
@@ -21,7 +21,7 @@ pub start_control-control-requires-send-F : goal.start_control-control-requires-
 start_control-control-requires-send-F g c κs within = search (sendable, crosses, ring.the_field_send) depth 40
 
 pub start_work-seat-requires-send-F : goal.start_work-seat-requires-send-F
-start_work-seat-requires-send-F g c κs within = search (sendable, crosses, script_sync, book_sync, book_field_sync, send) depth 40
+start_work-seat-requires-send-F g c κs within = search (sendable, crosses, script_sync, book_sync, send) depth 40
 
 pub loop-stop-init : goal.loop-stop-init
 loop-stop-init g c = record {
