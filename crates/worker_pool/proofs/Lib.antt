@@ -17,3 +17,7 @@ mod AllLanes
 mod Making
 mod Concluding
 mod LaneEnds
+mod Returned
+mod Rows
+mod Manning
+mod Crossed

@@ -8,3 +8,4 @@ pub mod Team
 pub mod Run
 pub mod Ending
 pub mod Making
+pub mod Manned

@@ -2,8 +2,11 @@
 #![tactic(auto)]
 
 mod conclude;
+mod control;
 mod dispatch;
+mod duty;
 mod ends;
+mod finish;
 mod gate;
 mod job;
 mod lanes;

@@ -61,3 +61,28 @@ pub(crate) fn start_worker<
         }
     }
 }
+
+/// Starts the thread of a worker, as `start_worker` does, from the worker and what it does. So neither has to be known
+/// where the other is handed over.
+pub(crate) fn start_work<
+    's,
+    E: 's,
+    L: Recorder + Drop + Send + 's,
+    F: FnOnce(Worker<L>) -> Worker<L> + Send + 's,
+>(
+    scope: &Scope<'s, E>,
+    promise: Works<L>,
+    stop: &AtomicBool,
+    worker: Worker<L>,
+    f: F,
+) -> Seat<L>
+    requires runs { F.pre f worker }
+    requires keeps { (w : _) → F.post f worker w → WorkedOn L.Recorder (commands_of promise.script.value) promise.start.value w }
+    ensures { IsSeated L.Recorder (commands_of promise.script.value) promise.start.value result }
+{
+    let run = move || -> Worker<L>
+        requires { F.pre f worker }
+        ensures { F.post f worker result }
+    { f(worker) };
+    start_worker(scope, promise, stop, run)
+}

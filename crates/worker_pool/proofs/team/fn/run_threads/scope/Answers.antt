@@ -1,0 +1,106 @@
+use denote.Param.Send.{sendable}
+use Rattle.std.proofs.Common.{◌≡◌, ◌<◌, ◌∷◌, [], ◌++◌, ◌≤◌, ◌+◌, ℕ, length, get_or, refl, sym, subst, List, All, ap, ◌∙◌, arith, rules}
+use Rattle.std.proofs.lemmas.List.{length-append, append-nil}
+use Rattle.std.specs.List.{AllZip}
+use Rattle.std.proofs.Crossing.{crosses, send}
+use Rattle.lane_rings.proofs.ring.RingTx.TheSendSync as ring
+use Rattle.lane_rings.specs.declared.ring.RingTx.{RingTx}
+use Rattle.lane_rings.specs.declared.items.Packet.{Packet}
+use Rattle.control_script.specs.Order.{commands_of}
+use Rattle.worker_pool.specs.declared.worker.Worker.{Worker}
+use Rattle.worker_pool.specs.declared.post.Post.{Post}
+use Rattle.worker_pool.specs.Posts.{IsSeated}
+use Rattle.control_script.specs.declared.stamped.Stamped.{Stamped}
+use Rattle.worker_pool.specs.Manned.{MayBegin, IsFresh}
+use Rattle.worker_pool.proofs.Crossed.{script_sync, book_sync}
+use Rattle.worker_pool.proofs.Rows.{AllZip-more, AllZip-length, moved, no_other, zip_first, zip_others}
+use Rattle.worker_pool.proofs.Manning.{all_may_begin, fresh, posts_of_all, all_manned, all_served}
+use Rattle.worker_pool.proofs.team.fn.run_threads.scope.Goals as goal
+
+pub start_control-control-requires-send-F : goal.start_control-control-requires-send-F
+start_control-control-requires-send-F g c κs within = search (sendable, crosses, ring.the_field_send) depth 40
+
+pub start_work-seat-requires-send-F : goal.start_work-seat-requires-send-F
+start_work-seat-requires-send-F g c κs within = search (sendable, crosses, script_sync, book_sync, send) depth 40
+
+pub loop-stop-init : goal.loop-stop-init
+loop-stop-init g c = record {
+  front = [];
+  whole = refl;
+  fresh = subst (λ (l : List (Post g.row.L.Denot)). AllZip (IsFresh g.L.Recorder (commands_of c.captures.script.now)) [] l) (sym c.requires.no_posts) tt;
+  waiting =
+      subst (λ (l : List (Worker g.row.L.Denot)). AllZip (MayBegin g.L.Recorder (commands_of c.captures.script.now)) l c.from-packets.result.items) (sym c.from-workers.ensures.0)
+      (subst (λ (l : List (RingTx Packet)). AllZip (MayBegin g.L.Recorder (commands_of c.captures.script.now)) c.captures.workers.items l) (sym c.from-packets.ensures.0)
+      (all_may_begin g.L.Recorder c.captures.script.now c.captures.workers.items c.captures.packets.items c.requires.team));
+  flags = let e = ap length c.from-workers.ensures.0 in let f = c.requires.flag_each in omega (arith, e, f);
+  room = let e = ap length c.from-workers.ensures.0 in let f = ap length c.requires.no_posts in let h = c.requires.room_for_posts in omega (arith, e, f, h);
+}
+
+pub loop-stop-preserved : goal.loop-stop-preserved
+loop-stop-preserved g c =
+    let i = c.loop-stop.invariant in
+    let w = c.take_first-w.result in
+    let tx = c.take_first-packets.result in
+    let may : MayBegin g.L.Recorder (commands_of c.captures.script.now) w tx =
+    zip_first (MayBegin g.L.Recorder (commands_of c.captures.script.now)) w tx c.take_first-w.new.row.items c.loop-stop.workers.items c.take_first-packets.new.row.items c.loop-stop.packets.items
+    i.waiting c.take_first-w.ensures.first c.take_first-packets.ensures.first in
+    let seated : IsSeated g.L.Recorder (commands_of c.captures.script.now) w c.start_work-seat.result =
+    subst (λ (b : Worker g.row.L.Denot). IsSeated g.L.Recorder (commands_of c.captures.script.now) b c.start_work-seat.result) c.of.ensures
+    (subst (λ (s : List Stamped). IsSeated g.L.Recorder (commands_of s) c.of.result.value c.start_work-seat.result) c.of-in-loop-stop.ensures c.start_work-seat.ensures) in
+    record {
+      front = i.front ++ w ∷ [];
+      whole = moved c.from-workers.result.items i.front c.loop-stop.workers.items c.take_first-w.new.row.items w i.whole c.take_first-w.ensures.first;
+      fresh = subst (λ (l : List (Post g.row.L.Denot)). AllZip (IsFresh g.L.Recorder (commands_of c.captures.script.now)) (i.front ++ w ∷ []) l) (sym c.push_reserved.ensures.items)
+          (AllZip-more (IsFresh g.L.Recorder (commands_of c.captures.script.now)) i.front c.loop-stop.posts.items w (record { packets = tx; seat = c.start_work-seat.result }) i.fresh
+          (fresh g.L.Recorder (commands_of c.captures.script.now) w tx c.start_work-seat.result may seated));
+      waiting = zip_others (MayBegin g.L.Recorder (commands_of c.captures.script.now)) w tx c.take_first-w.new.row.items c.loop-stop.workers.items c.take_first-packets.new.row.items c.loop-stop.packets.items
+          i.waiting c.take_first-w.ensures.first c.take_first-packets.ensures.first;
+      flags = let e = ap length c.take_first-w.ensures.first in let f = i.flags in omega (arith, e, f);
+      room =
+          let e = ap length c.take_first-w.ensures.first in
+          let f = ap length c.push_reserved.ensures.items ∙ length-append c.loop-stop.posts.items (record { packets = tx; seat = c.start_work-seat.result } ∷ []) in
+          let h = c.push_reserved.ensures.capacity in
+          let r = i.room in
+          omega (arith, e, f, h, r);
+    }
+
+pub dispatch-read-requires : goal.dispatch-read-requires
+dispatch-read-requires g c =
+    let i = c.loop-stop.invariant in
+    let are = posts_of_all g.L.Recorder c.captures.script.now c.captures.workers.items c.from-workers.result.items i.front c.loop-stop.workers.items c.loop-stop.posts.items
+    c.loop-stop.stop-index (length c.captures.stops.now) c.from-workers.ensures.0 i.whole i.fresh i.flags c.loop-stop-test.false in
+    record {
+      opened = c.requires.opened;
+      some = let e = are.count in let f = c.requires.team.team.some in omega (arith, e, f);
+      posts = (c.captures.workers.items, are);
+    }
+
+pub finish_all-workers-requires : goal.finish_all-workers-requires
+finish_all-workers-requires g c =
+    let i = c.loop-stop.invariant in
+    let are = posts_of_all g.L.Recorder c.captures.script.now c.captures.workers.items c.from-workers.result.items i.front c.loop-stop.workers.items c.loop-stop.posts.items
+    c.loop-stop.stop-index (length c.captures.stops.now) c.from-workers.ensures.0 i.whole i.fresh i.flags c.loop-stop-test.false in
+    let sent = c.dispatch-read.ensures.dispatched c.captures.workers.items are in
+    record {
+      manned = all_manned g.L.Recorder c.captures.script.now c.captures.workers.items sent.frames c.dispatch-read.new.posts.items sent.posts_are;
+      empty = c.requires.none_back;
+      places = let e = sent.posts_are.count in let f = c.requires.room_for_workers in omega (arith, e, f);
+    }
+
+pub returns : goal.returns
+returns g c =
+    let i = c.loop-stop.invariant in
+    let are = posts_of_all g.L.Recorder c.captures.script.now c.captures.workers.items c.from-workers.result.items i.front c.loop-stop.workers.items c.loop-stop.posts.items
+    c.loop-stop.stop-index (length c.captures.stops.now) c.from-workers.ensures.0 i.whole i.fresh i.flags c.loop-stop-test.false in
+    let sent = c.dispatch-read.ensures.dispatched c.captures.workers.items are in
+    record {
+      served = record {
+        frames = sent.frames;
+        few = sent.few;
+        read_as = sent.read;
+        served = all_served g.L.Recorder c.captures.script.now c.captures.workers.items sent.frames c.dispatch-read.new.posts.items c.finish_all-workers.result.items sent.posts_are c.finish_all-workers.ensures.back;
+      };
+      cause = c.dispatch-read.ensures.cause;
+      lasts = c.dispatch-read.ensures.lasts;
+      same = refl;
+    }

@@ -1,0 +1,70 @@
+-- Only for proofs: workers and their posts, from the start of the threads to their end.
+use Rattle.std.specs.Prelude.{◌≡◌, ℕ, ◌≤◌, List, [], length, None, IsTrue, Option, Result}
+use Rattle.pcap_source.specs.Captured.{Captured}
+use Rattle.pcap_source.specs.Reading.{CaptureState, Opened}
+use Rattle.pcap_source.specs.declared.errors.NextError.{NextError}
+use Rattle.app_api.specs.App.{Meaning}
+use Rattle.forest_versions.specs.declared.command.Command.{Command}
+use Rattle.forest_versions.specs.Lawful.{are_lawful}
+use Rattle.forest_versions.specs.State.{start}
+use Rattle.control_script.specs.declared.stamped.Stamped.{Stamped}
+use Rattle.control_script.specs.Order.{commands_of}
+use Rattle.lane_rings.specs.declared.items.Packet.{Packet}
+use Rattle.lane_rings.specs.declared.ring.RingTx.{RingTx}
+use Rattle.lane_rings.specs.Ring.{sent, AreEnds}
+use Rattle.lane_core.specs.declared.recorder.Recorder.{Ghosts}
+use Rattle.worker_pool.specs.declared.worker.Worker.{Worker}
+use Rattle.worker_pool.specs.declared.post.Post.{Post}
+use Rattle.worker_pool.specs.Worked.{IsReady}
+use Rattle.worker_pool.specs.Posts.{IsPost}
+use Rattle.worker_pool.specs.declared.dispatch.Whole.{Whole}
+use Rattle.worker_pool.specs.Posts.{ReadsAs}
+use Rattle.worker_pool.specs.Team.{IsTeam, HasServed, HaveServed}
+
+module _ {L : Type 0} where
+  -- a worker that may begin under this script, and the other end of its packet ring, into which nothing was sent
+  pub record MayBegin (g : Ghosts L) (script : List Command) (worker : Worker L) (tx : RingTx Packet) : Type 0 where
+    pub lawful : IsTrue (are_lawful (start (g.app worker.lane).presets) script)
+    pub ready : g.failed worker.lane ≡ None → IsReady g script worker.lane worker.commands
+    pub ends : AreEnds tx worker.packets
+    pub unsent : sent tx ≡ []
+
+  -- the post of a worker that began so, to which nothing was sent yet
+  abbrev pub IsFresh : Ghosts L → List Command → Worker L → Post L → Type 0
+  IsFresh g script begin post = IsPost g script begin [] post
+
+  -- a post at which some worker began, and to which some packets were sent
+  pub record IsManned (g : Ghosts L) (script : List Command) (post : Post L) : Type 0 where
+    pub begin : Worker L
+    pub packets : List Packet
+    pub post_is : IsPost g script begin packets post
+
+  -- the worker that came back from a post: whichever began there, and whatever was sent to it, that is served
+  pub record IsBack (g : Ghosts L) (script : List Command) (post : Post L) (worker : Worker L) : Type 0 where
+    pub served : (begin : Worker L) (packets : List Packet) → IsPost g script begin packets post → HasServed g script begin packets worker
+
+  -- a team that may run under this script
+  pub record CanRun (g : Ghosts L) (script : List Stamped) (workers : List (Worker L)) (packets : List (RingTx Packet)) : Type 0 where
+    pub app : Meaning
+    pub team : IsTeam g app workers packets
+    pub lawful : IsTrue (are_lawful (start app.presets) (commands_of script))
+
+  -- A team may start on a capture: its duty is under the script, there is room for its posts and for its workers once they are back, and
+  -- a flag for each.
+  pub record MayStart (g : Ghosts L) (script : List Stamped) (commands : List Command) (capture : CaptureState) (workers : List (Worker L)) (packets : List (RingTx Packet))
+      (posts : List (Post L)) (room : ℕ) (back : List (Worker L)) (places : ℕ) (flags : ℕ) : Type 0 where
+    pub opened : Opened capture
+    pub duty : commands ≡ commands_of script
+    pub team : CanRun g script workers packets
+    pub no_posts : posts ≡ []
+    pub room_for_posts : length workers ≤ room
+    pub none_back : back ≡ []
+    pub room_for_workers : length workers ≤ places
+    pub flag_each : flags ≡ length workers
+
+  -- a capture was read, and workers that began so served its packets
+  pub record Served (g : Ghosts L) (script : List Stamped) (begins : List (Worker L)) (capture : CaptureState) (old new : Option (List ℕ)) (read : Result Whole NextError) (workers : List (Worker L)) : Type 0 where
+    pub frames : List Captured
+    pub few : length frames ≤ 1048576
+    pub read_as : ReadsAs frames capture old new read
+    pub served : HaveServed g script begins frames workers

@@ -1,0 +1,61 @@
+//! What the thread of a worker does.
+
+ghost use Rattle.std.specs.Prelude.{◌≡◌, None, IsTrue};
+ghost use Rattle.forest_versions.specs.Lawful.{are_lawful};
+ghost use Rattle.forest_versions.specs.State.{start};
+ghost use Rattle.worker_pool.specs.Worked.{IsReady, WorkedOn};
+
+use crate::gate::Gate;
+use crate::worker::{Worker, work};
+use control_script::Script;
+use lane_core::Recorder;
+use native_filters::NativeBook;
+use std::alloc::Global;
+use std::sync::Wait;
+use std::sync::atomic::AtomicBool;
+
+/// What all workers of a run do, each in its thread. It is shared by these, so that a thread takes one reference for all
+/// that it needs.
+pub(crate) trait Duty<L: Recorder + Drop> {
+    ghost use Rattle.std.specs.Prelude.{List};
+    ghost use Rattle.forest_versions.specs.declared.command.Command.{Command};
+
+    /// The commands of the script.
+    ghost commands: { Self → List Command };
+
+    /// Has a worker work until its flag is raised and its packet ring then shows no packet.
+    fn serve(&self, worker: Worker<L>, stop: &AtomicBool) -> Worker<L>
+        requires ready { L.failed worker.lane ≡ None → IsReady L.Recorder (Self.commands self.now) worker.lane worker.commands }
+        requires lawful { IsTrue (are_lawful (start (L.app worker.lane).presets) (Self.commands self.now)) }
+        ensures worked { WorkedOn L.Recorder (Self.commands self.now) worker result };
+}
+
+/// The duty of a run: to work under its script.
+pub(crate) struct Shift<'a, R, G> {
+    pub(crate) rt: &'a R,
+    pub(crate) alloc: Global,
+    pub(crate) script: &'a Script,
+    pub(crate) natives: &'a NativeBook,
+    pub(crate) gate: &'a G,
+    /// Raised where a lane fails.
+    pub(crate) failed: &'a AtomicBool,
+}
+
+impl<'a, R: Wait, L: Recorder + Drop, G: Gate> Duty<L> for Shift<'a, R, G> {
+    ghost use Rattle.control_script.specs.Order.{commands_of};
+
+    ghost commands = { λ s. commands_of s.script.now };
+
+    fn serve(&self, worker: Worker<L>, stop: &AtomicBool) -> Worker<L> {
+        work(
+            self.rt,
+            self.alloc,
+            worker,
+            self.script,
+            self.natives,
+            self.gate,
+            stop,
+            self.failed,
+        )
+    }
+}
