@@ -31,6 +31,7 @@ pub(crate) trait Duty<L: Recorder + Drop> {
 }
 
 /// The duty of a run: to work under its script.
+#[derive(Drop)]
 pub(crate) struct Shift<'a, R, G> {
     pub(crate) rt: &'a R,
     pub(crate) alloc: Global,
@@ -46,7 +47,11 @@ impl<'a, R: Wait, L: Recorder + Drop, G: Gate> Duty<L> for Shift<'a, R, G> {
 
     ghost commands = { λ s. commands_of s.script.now };
 
-    fn serve(&self, worker: Worker<L>, stop: &AtomicBool) -> Worker<L> {
+    fn serve(&self, worker: Worker<L>, stop: &AtomicBool) -> Worker<L>
+        requires ready { L.failed worker.lane ≡ None → IsReady L.Recorder (commands_of self.now.script.now) worker.lane worker.commands }
+        requires lawful { IsTrue (are_lawful (start (L.app worker.lane).presets) (commands_of self.now.script.now)) }
+        ensures worked { WorkedOn L.Recorder (commands_of self.now.script.now) worker result }
+    {
         work(
             self.rt,
             self.alloc,

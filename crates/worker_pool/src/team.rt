@@ -3,6 +3,7 @@
 ghost use Rattle.std.specs.Prelude.{◌≡◌, ◌≤◌, [], ◌∷◌, List, length, vec_len, All, IfOk, IsErrOf, IsTrue};
 ghost use Rattle.std.specs.List.{AllZip};
 ghost use Rattle.std.specs.Vec.{vec_capacity};
+ghost use Rattle.std.specs.Thread.{IsSync};
 ghost use Rattle.mos_bytes.specs.Causes.{HasCauseOf};
 ghost use Rattle.pcap_source.specs.Reading.{Opened};
 ghost use Rattle.app_api.specs.App.{Meaning};
@@ -145,7 +146,9 @@ fn run_threads<
         thread::scope_env(),
         rt,
         move |scope| -> (Result<Whole, NextError>, Vec<Worker<L>>, &mut Capture, &mut S)
-            requires { MayStart L.Recorder script.now (D.commands duty.now) capture.now workers.items packets.items posts.items (vec_capacity posts) back.items (vec_capacity back) (length stops.now) }
+            requires duty_shared { IsSync D.row }
+            requires gate_shared { IsSync G.row }
+            requires starts { MayStart L.Recorder script.now (D.commands duty.now) capture.now workers.items packets.items posts.items (vec_capacity posts) back.items (vec_capacity back) (length stops.now) }
             ensures served { Served L.Recorder script.entry.now workers.items capture.entry.now (S.left source.entry.now) (S.left result.3.now) result.0 result.1.items }
             ensures cause { HasCauseOf (S.faults source.entry.now) (S.faults result.3.now) (IsErrOf result.0 NextError.ReadFault) }
             ensures lasts { S.lasting result.3.now ≡ S.lasting source.entry.now }

@@ -1,5 +1,5 @@
-use denote.Param.Send.{sendable}
-use Rattle.std.proofs.Common.{◌≡◌, ◌<◌, ◌∷◌, [], ◌++◌, ◌≤◌, ◌+◌, ℕ, length, get_or, refl, sym, subst, List, All, ap, ◌∙◌, arith, rules}
+use denote.Param.Send.{sendable, param_send}
+use Rattle.std.proofs.Common.{true, None, ◌≡◌, ◌<◌, ◌∷◌, [], ◌++◌, ◌≤◌, ◌+◌, ℕ, length, get_or, refl, sym, subst, List, All, ap, ◌∙◌, arith, rules}
 use Rattle.std.proofs.lemmas.List.{length-append, append-nil}
 use Rattle.std.specs.List.{AllZip}
 use Rattle.std.proofs.Crossing.{crosses, send}
@@ -7,33 +7,56 @@ use Rattle.lane_rings.proofs.ring.RingTx.TheSendSync as ring
 use Rattle.lane_rings.specs.declared.ring.RingTx.{RingTx}
 use Rattle.lane_rings.specs.declared.items.Packet.{Packet}
 use Rattle.control_script.specs.Order.{commands_of}
+use Rattle.forest_versions.specs.declared.command.Command.{Command}
+use Rattle.forest_versions.specs.Lawful.{are_lawful}
+use Rattle.forest_versions.specs.State.{start}
+use Rattle.worker_pool.specs.Worked.{IsReady}
 use Rattle.worker_pool.specs.declared.worker.Worker.{Worker}
 use Rattle.worker_pool.specs.declared.post.Post.{Post}
 use Rattle.worker_pool.specs.Posts.{IsSeated}
 use Rattle.control_script.specs.declared.stamped.Stamped.{Stamped}
 use Rattle.worker_pool.specs.Manned.{MayBegin, IsFresh}
-use Rattle.worker_pool.proofs.Crossed.{script_sync, book_sync}
+use Rattle.worker_pool.proofs.Crossed.{flag_sync}
 use Rattle.worker_pool.proofs.Rows.{AllZip-more, AllZip-length, moved, no_other, zip_first, zip_others}
 use Rattle.worker_pool.proofs.Manning.{all_may_begin, fresh, posts_of_all, all_manned, all_served}
+use Rattle.worker_pool.proofs.team.fn.run_threads.scope.Lts.{arg-7-2}
 use Rattle.worker_pool.proofs.team.fn.run_threads.scope.Goals as goal
 
 pub start_control-control-requires-send-F : goal.start_control-control-requires-send-F
-start_control-control-requires-send-F g c κs within = search (sendable, crosses, ring.the_field_send) depth 40
+start_control-control-requires-send-F g c κs within = search (sendable, crosses, ring.the_field_send, c.requires.gate_shared) depth 40
 
 pub start_work-seat-requires-send-F : goal.start_work-seat-requires-send-F
-start_work-seat-requires-send-F g c κs within = search (sendable, crosses, script_sync, book_sync, send) depth 40
+start_work-seat-requires-send-F g c κs within = param_send _ (arg-7-2 g.row.R g.row.L g.row.D g.row.S g.row.G g.R.laws g.L.laws g.D.laws g.S.laws g.G.laws g.R.copy g.R.Threads g.R.Threads-dict g.R.Wait g.R.Wait-dict g.R.Clone g.R.Clone-dict g.L.Recorder g.L.Recorder-dict g.D.Duty g.D.Duty-dict g.S.Source g.S.Source-dict g.G.Gate g.G.Gate-dict g.L.Destruct-dict g.fn-1 g.fn-1-has κs)
+    (record {
+      owned = λ x vs ws. (tt, ((tt, c.requires.duty_shared.shared x.0.now x.0.ref_ptr.0 x.0.ref_ptr.1 _), ((tt, flag_sync.shared x.1.now x.1.ref_ptr.0 x.1.ref_ptr.1 _), tt)));
+      leaving = search sendable;
+    })
+
+pub start_work-seat-requires-clause-runs : goal.start_work-seat-requires-clause-runs
+start_work-seat-requires-clause-runs g c =
+    let i = c.loop-stop.invariant in
+    let w = c.take_first-w.result in
+    let tx = c.take_first-packets.result in
+    let may : MayBegin g.L.Recorder (commands_of c.captures.script.now) w tx =
+    zip_first (MayBegin g.L.Recorder (commands_of c.captures.script.now)) w tx c.take_first-w.new.row.items c.loop-stop.workers.items c.take_first-packets.new.row.items c.loop-stop.packets.items
+    i.waiting c.take_first-w.ensures.first c.take_first-packets.ensures.first in
+    let ready : g.L.Recorder.failed w.lane ≡ None → IsReady g.L.Recorder (g.D.Duty.commands c.captures.duty.now) w.lane w.commands =
+    λ good. subst (λ (s : List Command). IsReady g.L.Recorder s w.lane w.commands) (sym c.requires.starts.duty) (may.ready good) in
+    let lawful : are_lawful (start (g.L.Recorder.app w.lane).presets) (g.D.Duty.commands c.captures.duty.now) ≡ true =
+    subst (λ (s : List Command). are_lawful (start (g.L.Recorder.app w.lane).presets) s ≡ true) (sym c.requires.starts.duty) may.lawful in
+    search (rules, ready, lawful)
 
 pub loop-stop-init : goal.loop-stop-init
 loop-stop-init g c = record {
   front = [];
   whole = refl;
-  fresh = subst (λ (l : List (Post g.row.L.Denot)). AllZip (IsFresh g.L.Recorder (commands_of c.captures.script.now)) [] l) (sym c.requires.no_posts) tt;
+  fresh = subst (λ (l : List (Post g.row.L.Denot)). AllZip (IsFresh g.L.Recorder (commands_of c.captures.script.now)) [] l) (sym c.requires.starts.no_posts) tt;
   waiting =
       subst (λ (l : List (Worker g.row.L.Denot)). AllZip (MayBegin g.L.Recorder (commands_of c.captures.script.now)) l c.from-packets.result.items) (sym c.from-workers.ensures.0)
       (subst (λ (l : List (RingTx Packet)). AllZip (MayBegin g.L.Recorder (commands_of c.captures.script.now)) c.captures.workers.items l) (sym c.from-packets.ensures.0)
-      (all_may_begin g.L.Recorder c.captures.script.now c.captures.workers.items c.captures.packets.items c.requires.team));
-  flags = let e = ap length c.from-workers.ensures.0 in let f = c.requires.flag_each in omega (arith, e, f);
-  room = let e = ap length c.from-workers.ensures.0 in let f = ap length c.requires.no_posts in let h = c.requires.room_for_posts in omega (arith, e, f, h);
+      (all_may_begin g.L.Recorder c.captures.script.now c.captures.workers.items c.captures.packets.items c.requires.starts.team));
+  flags = let e = ap length c.from-workers.ensures.0 in let f = c.requires.starts.flag_each in omega (arith, e, f);
+  room = let e = ap length c.from-workers.ensures.0 in let f = ap length c.requires.starts.no_posts in let h = c.requires.starts.room_for_posts in omega (arith, e, f, h);
 }
 
 pub loop-stop-preserved : goal.loop-stop-preserved
@@ -70,8 +93,8 @@ dispatch-read-requires g c =
     let are = posts_of_all g.L.Recorder c.captures.script.now c.captures.workers.items c.from-workers.result.items i.front c.loop-stop.workers.items c.loop-stop.posts.items
     c.loop-stop.stop-index (length c.captures.stops.now) c.from-workers.ensures.0 i.whole i.fresh i.flags c.loop-stop-test.false in
     record {
-      opened = c.requires.opened;
-      some = let e = are.count in let f = c.requires.team.team.some in omega (arith, e, f);
+      opened = c.requires.starts.opened;
+      some = let e = are.count in let f = c.requires.starts.team.team.some in omega (arith, e, f);
       posts = (c.captures.workers.items, are);
     }
 
@@ -83,8 +106,8 @@ finish_all-workers-requires g c =
     let sent = c.dispatch-read.ensures.dispatched c.captures.workers.items are in
     record {
       manned = all_manned g.L.Recorder c.captures.script.now c.captures.workers.items sent.frames c.dispatch-read.new.posts.items sent.posts_are;
-      empty = c.requires.none_back;
-      places = let e = sent.posts_are.count in let f = c.requires.room_for_workers in omega (arith, e, f);
+      empty = c.requires.starts.none_back;
+      places = let e = sent.posts_are.count in let f = c.requires.starts.room_for_workers in omega (arith, e, f);
     }
 
 pub returns : goal.returns
