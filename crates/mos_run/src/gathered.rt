@@ -42,7 +42,7 @@ fn writes_at_end(alloc: Global, words: &[String]) -> bool
 ///
 /// Each clause is that of `run_mos`, and speaks of `out` itself: at status 0 it has taken all, and nothing is held back. Where it
 /// fails in the last call, that is status 5 in place of 0; any other status stays. Memory for what is gathered may be refused:
-/// status 6.
+/// status 6. It may wait for its threads, as `run_mos` does.
 pub fn run_gathered<
     R: Threads + Wait + Sync + Send + Copy + Drop + 'static,
     S: Source,

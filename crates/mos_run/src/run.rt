@@ -129,7 +129,8 @@ fn run<
 /// of the record's first packet. With several, 2 to 16, each version lies from the floor of that packet to its ceiling, and
 /// never falls along the records of one worker; and the text is what one thread would write under the versions that are
 /// answered, whatever the order of the threads' steps. The call may wait for its threads. What is forwarded is forwarded by
-/// one worker. A thread that can't be started is no refusal. `gate` is asked before threads go on, and is there for tests.
+/// one worker. A thread that can't be started is no refusal. `gate` is told what threads are about to do; it is there for
+/// tests.
 ///
 /// | Status | Where |
 /// |---|---|
