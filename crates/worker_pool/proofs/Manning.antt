@@ -60,8 +60,8 @@ module _ {L : Type 0} (g : Ghosts L) where
   all_may_begin script workers packets can =
       let t = can.team in
       all_zip (MayBegin g (commands_of script)) workers packets t.count (λ k w tx below.
-          let under : k < length workers = omega (arith, below, t.count) in
-          may_begin (commands_of script) can.app (get_or workers k w) (get_or packets k tx) can.lawful (t.each_new k w under) (t.each_ends k w tx under) (t.each_sent k tx below))
+      let under : k < length workers = omega (arith, below, t.count) in
+      may_begin (commands_of script) can.app (get_or workers k w) (get_or packets k tx) can.lawful (t.each_new k w under) (t.each_ends k w tx under) (t.each_sent k tx below))
 
   -- a worker that may begin, at its post
   pub fresh : (script : List Command) (w : Worker L) (tx : RingTx Packet) (seat : Seat L) → MayBegin g script w tx → IsSeated g script w seat

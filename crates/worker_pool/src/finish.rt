@@ -84,9 +84,7 @@ pub(crate) fn finish_all<R: Threads + Wait, L: Recorder + Drop, G: Gate>(
     let mut posts = VecDeque::from(posts);
     let mut workers = room;
     while let Some(post) = posts.pop_front() {
-        workers.push_reserved(finish_one(
-            rt, alloc, post, script, natives, gate, failed,
-        ));
+        workers.push_reserved(finish_one(rt, alloc, post, script, natives, gate, failed));
     }
     workers
 }

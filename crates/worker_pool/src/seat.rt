@@ -43,12 +43,7 @@ pub(crate) fn start_worker<
     E: 's,
     L: Recorder + Drop + Send + 's,
     F: FnOnce() -> Worker<L> + Send + 's,
->(
-    scope: &Scope<'s, E>,
-    promise: Works<L>,
-    stop: &AtomicBool,
-    f: F,
-) -> Seat<L>
+>(scope: &Scope<'s, E>, promise: Works<L>, stop: &AtomicBool, f: F) -> Seat<L>
     requires runs { F.pre f }
     requires keeps { (w : _) → F.post f w → WorkedOn L.Recorder (commands_of promise.script.value) promise.start.value w }
     ensures { IsSeated L.Recorder (commands_of promise.script.value) promise.start.value result }
@@ -69,13 +64,7 @@ pub(crate) fn start_work<
     E: 's,
     L: Recorder + Drop + Send + 's,
     F: FnOnce(Worker<L>) -> Worker<L> + Send + 's,
->(
-    scope: &Scope<'s, E>,
-    promise: Works<L>,
-    stop: &AtomicBool,
-    worker: Worker<L>,
-    f: F,
-) -> Seat<L>
+>(scope: &Scope<'s, E>, promise: Works<L>, stop: &AtomicBool, worker: Worker<L>, f: F) -> Seat<L>
     requires runs { F.pre f worker }
     requires keeps { (w : _) → F.post f worker w → WorkedOn L.Recorder (commands_of promise.script.value) promise.start.value w }
     ensures { IsSeated L.Recorder (commands_of promise.script.value) promise.start.value result }

@@ -129,7 +129,12 @@ fn run_threads<
     gate: &'c G,
     capture: &'c mut Capture,
     source: &'c mut S,
-) -> (Result<Whole, NextError>, Vec<Worker<L>>, &'c mut Capture, &'c mut S)
+) -> (
+    Result<Whole, NextError>,
+    Vec<Worker<L>>,
+    &'c mut Capture,
+    &'c mut S,
+)
     requires starts { MayStart L.Recorder script.now (D.commands duty.now) capture.old team.workers.items team.packets.items posts.items (vec_capacity posts) back.items (vec_capacity back) (length stops.now) }
     ensures served { Served L.Recorder script.now team.workers.items capture.old (S.left source.old) (S.left result.3.now) result.0 result.1.items }
     ensures cause { HasCauseOf (S.faults source.old) (S.faults result.3.now) (IsErrOf result.0 NextError.ReadFault) }
@@ -145,7 +150,12 @@ fn run_threads<
     thread::scope(
         thread::scope_env(),
         rt,
-        move |scope| -> (Result<Whole, NextError>, Vec<Worker<L>>, &mut Capture, &mut S)
+        move |scope| -> (
+            Result<Whole, NextError>,
+            Vec<Worker<L>>,
+            &mut Capture,
+            &mut S,
+        )
             requires duty_shared { IsSync D.row }
             requires gate_shared { IsSync G.row }
             requires starts { MayStart L.Recorder script.now (D.commands duty.now) capture.now workers.items packets.items posts.items (vec_capacity posts) back.items (vec_capacity back) (length stops.now) }
@@ -218,7 +228,8 @@ fn serve<
         failed: &failed,
     };
     let (read, workers, _capture, _source) = run_threads(
-        rt, alloc, team, posts, back, stops, &failed, &shift, script, natives, gate, capture, source,
+        rt, alloc, team, posts, back, stops, &failed, &shift, script, natives, gate, capture,
+        source,
     );
     (read, workers)
 }
