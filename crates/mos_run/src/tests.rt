@@ -2,10 +2,11 @@
 
 mod captures;
 mod limits;
+mod side_by_side;
 mod web_request;
 mod workers;
 
-use crate::{Ended, OpenGate, RunError, ScriptFault, refuse, run_gathered, run_mos};
+use crate::{Ended, Gate, OpenGate, RunError, ScriptFault, refuse, run_gathered, run_mos};
 use captures::{
     ACK, ARP, BAD, BIG, BIG_NANOSECONDS, DATA, FRAGMENT, LITTLE, LITTLE_NANOSECONDS, SYN, SYN_ACK,
     TAGGED, capture, damaged, empty_records, handshake, one_record, segment,
@@ -148,7 +149,7 @@ fn shelf(alloc: Global, scripts: &[(&str, &[u8])], fails: u64) -> Result<MemShel
 }
 
 // A run where the native filters are the plain functions.
-fn run_plain<R: Threads + Wait + Sync + Send + Copy + Drop + 'static>(
+fn run_plain<R: Threads + Wait + Sync + Send + Copy + Drop + 'static, G: Gate + Sync>(
     rt: &R,
     alloc: Global,
     words: &[String],
@@ -156,6 +157,7 @@ fn run_plain<R: Threads + Wait + Sync + Send + Copy + Drop + 'static>(
     shelf: &mut MemShelf,
     out: &mut MemSink,
     err: &mut MemSink,
+    gate: &G,
 ) -> Ended {
     let natives = NativeBook::new(
         Native::new(0, is_opening),
@@ -165,17 +167,16 @@ fn run_plain<R: Threads + Wait + Sync + Send + Copy + Drop + 'static>(
         Native::new(4, is_ending),
         Native::new(5, has_differing_bytes),
     );
-    run_mos(
-        rt, alloc, words, source, shelf, out, err, &natives, &OpenGate,
-    )
+    run_mos(rt, alloc, words, source, shelf, out, err, &natives, gate)
 }
 
-// A run over these bytes. Out has ample room for what a few packets leave.
-fn run_asked<R: Threads + Wait + Sync + Send + Copy + Drop + 'static>(
+// A run over these bytes, whose threads a gate may hold. Out has ample room for what a few packets leave.
+fn run_gated<R: Threads + Wait + Sync + Send + Copy + Drop + 'static, G: Gate + Sync>(
     rt: &R,
     alloc: Global,
     bytes: Vec<u8>,
     asked: &Asked<'_>,
+    gate: &G,
 ) -> Result<Finished, AllocError> {
     let words = words_of(alloc, asked.words)?;
     let mut source = MemSource::new(bytes, [asked.read].to_vec(alloc)?);
@@ -190,8 +191,19 @@ fn run_asked<R: Threads + Wait + Sync + Send + Copy + Drop + 'static>(
         &mut shelf,
         &mut out,
         &mut err,
+        gate,
     );
     Ok(Finished { ended, out, err })
+}
+
+// A run over these bytes whose threads nobody holds.
+fn run_asked<R: Threads + Wait + Sync + Send + Copy + Drop + 'static>(
+    rt: &R,
+    alloc: Global,
+    bytes: Vec<u8>,
+    asked: &Asked<'_>,
+) -> Result<Finished, AllocError> {
+    run_gated(rt, alloc, bytes, asked, &OpenGate)
 }
 
 // The same by the call that gathers what is written.
@@ -389,7 +401,16 @@ fn as_many_packets_as_a_capture_may_have(rt: HostRuntime) -> Result<(), Fail> {
     let mut out = sink(alloc, 67_108_864, u64::MAX)?;
     let mut shelf = shelf(alloc, &[], u64::MAX)?;
     let mut err = sink(alloc, 64, 9)?;
-    let ended = run_plain(&rt, alloc, &[], &mut source, &mut shelf, &mut out, &mut err);
+    let ended = run_plain(
+        &rt,
+        alloc,
+        &[],
+        &mut source,
+        &mut shelf,
+        &mut out,
+        &mut err,
+        &OpenGate,
+    );
     assert_eq!(rt; ended.status, 0);
     assert!(rt; out.bytes().starts_with(b"orphan 0 other v 0\n"));
     assert!(rt; out.bytes().ends_with(FULL));
@@ -539,6 +560,7 @@ fn refused_words(rt: HostRuntime) -> Result<(), Fail> {
             &mut shelf,
             &mut out,
             &mut err,
+            &OpenGate,
         );
         assert_eq!(rt; ended.status, 1, "{line}");
         assert_eq!(rt; out.bytes(), b"".as_slice());
