@@ -21,7 +21,7 @@ use Rattle.worker_laws.specs.Taken.{packets_at, events_at, HaveRun}
 use Rattle.worker_pool.specs.declared.worker.Worker.{Worker}
 use Rattle.worker_pool.specs.declared.job.LanesEnd.{LanesEnd}
 use Rattle.worker_pool.specs.declared.job.PoolError.{PoolError}
-use Rattle.worker_pool.specs.declared.job.PoolError.TheVariants.{TooLong, TooMany, ReadFault, Heavy, NoMemory}
+use Rattle.worker_pool.specs.declared.job.PoolError.TheVariants.{TooLong, TooMany, ReadFault, WriteFault, Heavy, NoMemory}
 use Rattle.worker_pool.specs.Run.{MayHave, run_of, IsWhole, IsTooHeavy}
 
 -- which of so many lanes has a key
@@ -53,6 +53,7 @@ module _ {L : Type 0} (g : Ghosts L) where
   IsCause worker Heavy = g.failed worker.lane ≡ Some TooHeavy
   IsCause worker NoMemory = ⊤
   IsCause worker ReadFault = ⊥
+  IsCause worker WriteFault = ⊥
   IsCause worker (TooLong offset) = ⊥
   IsCause worker (TooMany offset) = ⊥
 
@@ -68,6 +69,7 @@ module _ (app : Meaning) (script : List Stamped) (lanes : ℕ) (frames : List Ca
   IsJoinedRun (Err Heavy) = IsTooHeavy app script lanes frames
   IsJoinedRun (Err NoMemory) = ⊤
   IsJoinedRun (Err ReadFault) = ⊥
+  IsJoinedRun (Err WriteFault) = ⊥
   IsJoinedRun (Err (TooLong offset)) = ⊥
   IsJoinedRun (Err (TooMany offset)) = ⊥
 
@@ -77,5 +79,6 @@ module _ (app : Meaning) (script : List Stamped) (lanes : ℕ) (frames : List Ca
   Concludes tail (Err Heavy) = IsTooHeavy app script lanes frames
   Concludes tail (Err NoMemory) = ⊤
   Concludes tail (Err ReadFault) = ⊥
+  Concludes tail (Err WriteFault) = ⊥
   Concludes tail (Err (TooLong offset)) = ⊥
   Concludes tail (Err (TooMany offset)) = ⊥

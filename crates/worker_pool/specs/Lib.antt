@@ -9,3 +9,5 @@ pub mod Run
 pub mod Ending
 pub mod Making
 pub mod Manned
+pub mod Forward
+pub mod Streamed

@@ -1,0 +1,1 @@
+//! What the lanes have answered, once their threads have ended.

@@ -1,0 +1,1 @@
+//! What the answers of lanes say of a forward run.
