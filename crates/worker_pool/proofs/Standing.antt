@@ -1,5 +1,5 @@
 -- What a worker's lane stands for, once it has served its packets of a capture.
-use Rattle.std.proofs.Common.{◌≡◌, ◌≤◌, ℕ, true, Some, None, List, [], ◌++◌, length, map, drop, refl, sym, ap, subst, ◌∙◌, arith}
+use Rattle.std.proofs.Common.{◌≡◌, ◌≤◌, ℕ, Bool, true, Some, None, List, [], ◌++◌, length, map, drop, refl, sym, ap, subst, ◌∙◌, arith}
 use Rattle.std.specs.List.{All}
 use Rattle.std.proofs.lemmas.List.{append-nil, length-map, map-append}
 use mathlib.Core.List.{IsPrefix}
@@ -32,23 +32,23 @@ use Rattle.worker_pool.proofs.Dealing.{AreOrdered, dealt_marked, dealt_in_turn, 
 IsPrefix-map : {A B : Type 0} (f : A → B) (xs ys : List A) → IsPrefix xs ys → IsPrefix (map f xs) (map f ys)
 IsPrefix-map f xs ys p = (map f p.0, sym (map-append f xs p.0) ∙ ap (map f) p.1)
 
-module _ {L : Type 0} (g : Ghosts L) (app : Meaning) (script : List Stamped) (frames : List Captured) (lanes l : ℕ) where
+module _ {L : Type 0} (g : Ghosts L) (keep : Bool) (app : Meaning) (script : List Stamped) (frames : List Captured) (lanes l : ℕ) where
   -- the events that a lane stands for: commands of the script, and packets of its share
   pub record HasCome (lane : L) (events : List LaneEvent) : Type 0 where
     pub app_is : g.app lane ≡ app
-    pub keeps : g.keeps lane ≡ true
+    pub keeps : g.keeps lane ≡ keep
     pub stands : g.stands lane events
     pub commands : IsPrefix (given_in events) (commands_of script)
     pub packets : IsPrefix (arrivals_of (versioned_from 0 events)) (share (by_key lanes) l (arrivals 0 frames))
     pub within : All (λ p. IsWithin (floor script) (ceil script) p.version p.arrival.number) (versioned_from 0 events)
     pub whole : g.failed lane ≡ None → arrivals_of (versioned_from 0 events) ≡ share (by_key lanes) l (arrivals 0 frames)
-    pub heavy : g.failed lane ≡ Some Heavy → IsHeavy app events
+    pub heavy : g.failed lane ≡ Some Heavy → (keep ≡ true) × IsHeavy app events
 
   module _ (ordered : AreOrdered script) (few : length frames ≤ 1048576) (dealt_by_key : (frame : List ℕ) → lane_of (by_key lanes) (sight_of frame) ≡ lane_of_packet (packet_of frame) lanes) where
     abbrev its : List Packet
     its = dealt lanes l (packets_from script 0 frames)
 
-    module _ (a b : Worker L) (new : IsNew g app a) (served : HasServed g (commands_of script) a its b) where
+    module _ (a b : Worker L) (new : IsNew g app a) (kept : g.keeps a.lane ≡ keep) (served : HasServed g (commands_of script) a its b) where
       abbrev ran : Ran g (commands_of script) a b served.worked.packets served.worked.places
       ran = served.worked.ran new.failed
 
@@ -103,7 +103,7 @@ module _ {L : Type 0} (g : Ghosts L) (app : Meaning) (script : List Stamped) (fr
       pub has_come : HasCome b.lane came_events
       has_come = record {
         app_is = served.worked.app ∙ new.app_is;
-        keeps = served.worked.keeps ∙ new.keeps;
+        keeps = served.worked.keeps ∙ kept;
         stands = ran.went.stands [] new.stands;
         commands = subst (λ v. IsPrefix (given_in (events_of steps)) (drop v (commands_of script))) new.given ran.went.commands;
         packets = subst (λ x. IsPrefix x (share (by_key lanes) l (arrivals 0 frames))) (sym arrived)
@@ -111,5 +111,5 @@ module _ {L : Type 0} (g : Ghosts L) (app : Meaning) (script : List Stamped) (fr
         within = arrive_within (floor script) (ceil script) (at_hand g a) 0 steps steps_within
             (All-front (IsMarked (floor script) (ceil script)) (handed steps) its handed_of_its (dealt_marked script lanes l 0 frames));
         whole = λ good. arrived ∙ ap (map arrival_in) (handed_all good) ∙ its_share;
-        heavy = λ is. subst (λ (m : Meaning). IsHeavy m (events_of steps)) new.app_is (ran.went.heavy is [] new.stands);
+        heavy = λ is. (sym kept ∙ ran.went.keeping is, subst (λ (m : Meaning). IsHeavy m (events_of steps)) new.app_is (ran.went.heavy is [] new.stands));
       }
