@@ -11,3 +11,4 @@ pub mod Making
 pub mod Manned
 pub mod Forward
 pub mod Streamed
+pub mod Drained
