@@ -192,3 +192,13 @@ module _ {L : Type 0} (workers : List (Worker L)) (relays : List Relay) (w : Wai
         where
           here_m : k < length (map (λ (r : Relay). taken r.answers) left)
           here_m = let c = length-map left (λ (r : Relay). taken r.answers) in let h = here_r in omega (arith, c, h)
+
+    -- the same of a worker and a relay that are looked at
+    pub next_drained : (d : Worker L) (e : Relay) (answers : Option (RingTx Answer)) (relay : Relay) (u : Waiting) → k < length relays → k < length workers → d ≡ get_or now k d → e ≡ get_or left k e
+        → sent_in answers ≡ sent_in d.answers → Drains (sent_in d.answers) e relay → Offers e relay v u
+        → IsDraining (k + 1) (set now k (record d { answers = answers })) (set left k relay) u
+    next_drained d e answers relay u below among at_worker at_relay same drains offers =
+        subst (λ (x : Worker L). IsDraining (k + 1) (set now k (record x { answers = answers })) (set left k relay) u) (sym at_worker)
+        (one_drained d e answers relay u below among (same ∙ ap (λ (x : Worker L). sent_in x.answers) at_worker)
+        (subst (λ (x : Worker L). Drains (sent_in x.answers) (get_or left k e) relay) at_worker (subst (λ (x : Relay). Drains (sent_in d.answers) x relay) at_relay drains))
+        (subst (λ (x : Relay). Offers x relay v u) at_relay offers))

@@ -5,8 +5,8 @@ use Rattle.worker_pool.specs.Drained.{Offers}
 use Rattle.worker_pool.proofs.forward.drain.take_left.Given as goal
 
 -- what was taken so far is a front of what was sent, and was offered
-abbrev pub invariant-loop-relay-taken : goal.invariant-loop-relay-taken
-invariant-loop-relay-taken l = record {
+abbrev pub invariant-loop-relay : goal.invariant-loop-relay
+invariant-loop-relay l = record {
   ends : AreEnds l.tx l.relay.answers;
   sent_same : sent l.tx ≡ sent l.fn.tx;
   same : l.relay.sent ≡ l.fn.relay.sent;
@@ -16,5 +16,5 @@ invariant-loop-relay-taken l = record {
   offers : Offers l.fn.relay l.relay l.fn.waiting l.waiting;
 }
 
-abbrev pub decreases-loop-relay-taken : goal.decreases-loop-relay-taken
-decreases-loop-relay-taken l = l.relay.sent - l.relay.taken
+abbrev pub decreases-loop-relay : goal.decreases-loop-relay
+decreases-loop-relay l = l.relay.sent - l.relay.taken
