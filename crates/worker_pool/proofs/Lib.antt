@@ -12,6 +12,7 @@ mod Posted
 mod Reading
 mod Handing
 mod Dealing
+mod Answering
 mod Standing
 mod AllLanes
 mod Making
@@ -22,3 +23,4 @@ mod Rows
 mod Manning
 mod Crossed
 mod Draining
+mod Explaining

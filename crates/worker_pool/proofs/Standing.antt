@@ -1,5 +1,5 @@
 -- What a worker's lane stands for, once it has served its packets of a capture.
-use Rattle.std.proofs.Common.{◌≡◌, ◌≤◌, ℕ, Bool, true, Some, None, List, [], ◌++◌, length, map, drop, refl, sym, ap, subst, ◌∙◌, arith}
+use Rattle.std.proofs.Common.{◌≡◌, ◌<◌, ◌≤◌, ℕ, Bool, true, Some, None, List, [], ◌++◌, length, map, drop, get_or, refl, sym, ap, subst, ◌∙◌, arith}
 use Rattle.std.specs.List.{All}
 use Rattle.std.proofs.lemmas.List.{append-nil, length-map, map-append}
 use mathlib.Core.List.{IsPrefix}
@@ -18,12 +18,16 @@ use Rattle.lane_core.specs.Run.{LaneEvent, versioned_from, commands_of as given_
 use Rattle.lane_core.specs.Lane.{IsHeavy}
 use Rattle.worker_laws.specs.Allowed.{arrivals_of, IsWithin}
 use Rattle.worker_laws.specs.Lanes.{lane_of, share}
+use Rattle.worker_laws.specs.Taken.{verdicts_in}
+use Rattle.worker_laws.specs.Streamed.{answers_to}
 use Rattle.worker_pool.specs.declared.worker.Worker.{Worker}
-use Rattle.worker_pool.specs.Steps.{Step, steps_of, events_of, AreWithin}
-use Rattle.worker_pool.specs.Worked.{Ran, at_hand}
+use Rattle.worker_pool.specs.Steps.{Step, steps_of, events_of, answers_of, AreWithin}
+use Rattle.worker_pool.specs.Worked.{Ran, Sends, at_hand}
 use Rattle.worker_pool.specs.Sent.{packets_from, dealt}
 use Rattle.worker_pool.specs.Team.{IsNew, HasServed}
 use Rattle.worker_pool.specs.Ending.{by_key}
+use Rattle.worker_pool.specs.Explained.{HasAnswered}
+use Rattle.worker_pool.proofs.Answering.{IsFramed, dealt_framed, answers_are, answers_front}
 use Rattle.worker_pool.proofs.Composed.{by_failure}
 use Rattle.worker_pool.proofs.Fronts.{IsPrefix-refl}
 use Rattle.worker_pool.proofs.Handing.{handed, arrival_in, AreInTurn, handed_front, handed_whole, arrivals-handed, arrive_within, IsMarked, All-front}
@@ -112,4 +116,18 @@ module _ {L : Type 0} (g : Ghosts L) (keep : Bool) (app : Meaning) (script : Lis
             (All-front (IsMarked (floor script) (ceil script)) (handed steps) its handed_of_its (dealt_marked script lanes l 0 frames));
         whole = λ good. arrived ∙ ap (map arrival_in) (handed_all good) ∙ its_share;
         heavy = λ is. (sym kept ∙ ran.went.keeping is, subst (λ (m : Meaning). IsHeavy m (events_of steps)) new.app_is (ran.went.heavy is [] new.stands));
+      }
+
+      framed : (frame_of : ℕ → Captured) → ((i : ℕ) (d : Captured) → i < length frames → frame_of i ≡ get_or frames i d) → All (IsFramed frame_of) (handed steps)
+      framed frame_of tells = All-front (IsFramed frame_of) (handed steps) its handed_of_its (dealt_framed frame_of script lanes l frames tells)
+
+      pub has_answered : HasAnswered g app frames came_events a b
+      has_answered = record {
+        answers = answers_of app [] ran.done;
+        sends = subst (λ (m : Meaning). Sends a.answers b.answers (answers_of m [] ran.done)) new.app_is (ran.answers [] new.stands);
+        front = λ frame_of tells. answers_front frame_of app [] ran.done ran.bad (framed frame_of tells);
+        whole = λ frame_of tells good.
+            let no_bad : ran.done ++ ran.bad ≡ ran.done = ap (λ x. ran.done ++ x) (ran.went.good good) ∙ append-nil ran.done in
+            answers_are frame_of app [] ran.done (subst (λ x. All (IsFramed frame_of) (handed x)) no_bad (framed frame_of tells))
+            ∙ ap (λ x. answers_to frame_of (verdicts_in app (events_of x))) (sym no_bad);
       }

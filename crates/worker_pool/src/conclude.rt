@@ -13,6 +13,7 @@ ghost use Rattle.worker_pool.specs.declared.worker.Worker.{Worker as Begun};
 ghost use Rattle.worker_pool.specs.Run.{MayHave, run_of};
 ghost use Rattle.worker_pool.specs.Team.{IsTeam, AllKeep, HaveServed};
 ghost use Rattle.worker_pool.specs.Ending.{CameTo, HasEnded, AreEnded, IsCause, IsJoinedRun, Concludes};
+ghost use Rattle.worker_pool.specs.Explained.{HaveAnswered};
 
 use crate::job::{LanesEnd, PoolError};
 use crate::team::Ran;
@@ -30,13 +31,14 @@ use worker_laws::runs::{
 use worker_laws::versions::a_script_gives_floors_and_ceilings;
 use worker_laws::{Joined, is_heavy, join};
 
-// The lanes of workers that have served a capture share its packets, under the commands of the script. This function does
-// nothing: who ends the lanes calls it for what it says.
-fn lanes_have_come<L: Recorder + Drop>(script: &Script, workers: &[Worker<L>])
+/// The lanes of workers that have served a capture share its packets, under the commands of the script, and have answered
+/// them. This function does nothing: who ends the lanes calls it for what it says.
+pub(crate) fn lanes_have_come<L: Recorder + Drop>(script: &Script, workers: &[Worker<L>])
     ensures came { (keep : Bool) (app : Meaning) (frames : List Captured) (begins : List (Begun L)) (packets : List (RingTx Packet))
         → length frames ≤ 1048576 → IsTeam L.Recorder app begins packets → AllKeep L.Recorder keep begins
         → HaveServed L.Recorder script.now begins frames workers.now
-        → (lanes : List (List LaneEvent)) × CameTo L.Recorder keep app script.now frames workers.now lanes }
+        → (lanes : List (List LaneEvent)) × CameTo L.Recorder keep app script.now frames workers.now lanes
+        × HaveAnswered L.Recorder app frames begins workers.now lanes }
     ensures floors { (n : ℕ) → floor script.now n ≤ ceil script.now n }
     ensures ceilings { (n m : ℕ) → n ≤ m → ceil script.now n ≤ ceil script.now m }
 {
@@ -54,8 +56,8 @@ fn end_of<L: Recorder + Drop>(alloc: Global, worker: Worker<L>) -> Result<LaneEn
     Ok(lane.finish(alloc)?)
 }
 
-// What the lanes of workers end with.
-fn ends_of<L: Recorder + Drop>(
+/// What the lanes of workers end with.
+pub(crate) fn ends_of<L: Recorder + Drop>(
     alloc: Global,
     workers: Vec<Worker<L>>,
 ) -> Result<Vec<LaneEnd>, PoolError>
