@@ -33,7 +33,7 @@ use Rattle.worker_pool.proofs.Fronts.{IsPrefix-refl}
 use Rattle.worker_pool.proofs.Handing.{handed, arrival_in, AreInTurn, handed_front, handed_whole, arrivals-handed, arrive_within, IsMarked, All-front}
 use Rattle.worker_pool.proofs.Dealing.{AreOrdered, dealt_marked, dealt_in_turn, dealt_is_share}
 
-IsPrefix-map : {A B : Type 0} (f : A → B) (xs ys : List A) → IsPrefix xs ys → IsPrefix (map f xs) (map f ys)
+pub IsPrefix-map : {A B : Type 0} (f : A → B) (xs ys : List A) → IsPrefix xs ys → IsPrefix (map f xs) (map f ys)
 IsPrefix-map f xs ys p = (map f p.0, sym (map-append f xs p.0) ∙ ap (map f) p.1)
 
 module _ {L : Type 0} (g : Ghosts L) (keep : Bool) (app : Meaning) (script : List Stamped) (frames : List Captured) (lanes l : ℕ) where
