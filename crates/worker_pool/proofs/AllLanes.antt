@@ -97,8 +97,7 @@ module _ {L : Type 0} (g : Ghosts L) (keep : Bool) (app : Meaning) (script : Lis
       → (lanes : List (List LaneEvent)) × CameTo g keep app script frames workers lanes × HaveAnswered g app frames begins workers lanes
   all_came ordered few team all_keep served below dealt_by_key =
       let some : 1 ≤ length workers = (let e = served.count in let one = team.some in omega arith) in
-      let d = any_worker workers some in
-      (
+      let d = any_worker workers some in (
         _,
         came ordered few team all_keep served (λ sight. below sight some) dealt_by_key d,
         answered ordered few team all_keep served (λ sight. below sight some) dealt_by_key d,

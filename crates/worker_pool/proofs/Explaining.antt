@@ -110,15 +110,15 @@ arrivals_count n [] = refl
 arrivals_count n (frame ∷ frames) = ap suc (arrivals_count (n + 1) frames)
 
 -- what lanes ran of a front is what they ran of all
-more_packets : (least most : ℕ → ℕ) (commands : List Command) (lane : EndpointPair → ℕ) (frames told : List Captured) (lanes : List (List LaneEvent)) → IsPrefix frames told
+pub more_packets : (least most : ℕ → ℕ) (commands : List Command) (lane : EndpointPair → ℕ) (frames told : List Captured) (lanes : List (List LaneEvent)) → IsPrefix frames told
     → HaveRun least most commands lane (arrivals 0 frames) lanes → HaveRun least most commands lane (arrivals 0 told) lanes
 more_packets least most commands lane frames told lanes p run = record {
   all = run.all;
   commands_are = run.commands_are;
   packets_are = λ l lt. IsPrefix-trans (arrivals_of (packets_at lanes l)) (share lane l (arrivals 0 frames)) (share lane l (arrivals 0 told)) (run.packets_are l lt) (
-      share lane l (arrivals (0 + length frames) p.0),
-      sym (filter-append (λ a. lane_of lane a.sight == l) (arrivals 0 frames) (arrivals (0 + length frames) p.0))
-          ∙ ap (share lane l) (sym (arrivals-append 0 frames p.0) ∙ ap (arrivals 0) p.1),
+    share lane l (arrivals (0 + length frames) p.0),
+    sym (filter-append (λ a. lane_of lane a.sight == l) (arrivals 0 frames) (arrivals (0 + length frames) p.0))
+        ∙ ap (share lane l) (sym (arrivals-append 0 frames p.0) ∙ ap (arrivals 0) p.1),
   );
   within = run.within;
 }
@@ -156,33 +156,44 @@ all_sent (Some a) (Some b) ring xs is none sends =
     let same : a ≡ ring = cc in
     sends.1 ∙ ap (λ l. l ++ xs) (ap sent same ∙ none)
 
-abbrev blank : Captured
+abbrev pub blank : Captured
 blank = record { seconds = 0; fraction = 0; original = 0; head = []; bytes = [] }
 
-abbrev past : Arrival × Verdict
+abbrev pub past : Arrival × Verdict
 past = (arrival_of 0 blank, Pass)
+
+-- lanes that have not failed ran all
+pub ran_all : {L : Type 0} (g : Ghosts L) (keep : Bool) (app : Meaning) (script : List Stamped) (frames : List Captured) (workers : List (Worker L)) (lanes : List (List LaneEvent))
+    → CameTo g keep app script frames workers lanes → AreGood g workers → HaveRunAll (by_key (length workers)) (arrivals 0 frames) lanes
+ran_all g keep app script frames workers lanes came good l lt =
+    let below : l < length workers = (let e = came.count in omega (arith, e, lt)) in
+    let w = any_of workers l below in
+    came.whole l w below (good l w below)
+
+pub front_of_same : {A : Type 0} (xs ys : List A) → xs ≡ ys → IsPrefix xs ys
+front_of_same xs ys same = subst (IsPrefix xs) same (IsPrefix-refl xs)
 
 -- ---- what has left, where these are the verdicts of a run over the frames that are told
 
 module _ {L : Type 0} (g : Ghosts L) (app : Meaning) (script : List Stamped) (frames told : List Captured) (begins workers : List (Worker L)) (relays : List Relay) (lanes : List (List LaneEvent))
     (behind : IsPrefix frames told) (answered : HaveAnswered g app frames begins workers lanes) (are : AreRelays begins frames relays) (count : length begins ≡ length workers)
     (lanes_count : length lanes ≡ length workers) (vs : List ℕ) where
-  abbrev js : List (Arrival × Verdict)
+  abbrev pub js : List (Arrival × Verdict)
   js = verdicts_under app (commands_of script) vs (arrivals 0 told)
 
-  abbrev frame_at : ℕ → Captured
+  abbrev pub frame_at : ℕ → Captured
   frame_at i = get_or told i blank
 
-  abbrev right : ℕ → Answer
+  abbrev pub right : ℕ → Answer
   right = answer_at frame_at js past
 
-  abbrev by_verdicts : ℕ → ℕ
+  abbrev pub by_verdicts : ℕ → ℕ
   by_verdicts = lane_in (by_key (length workers)) js past
 
-  abbrev by_frames : ℕ → ℕ
+  abbrev pub by_frames : ℕ → ℕ
   by_frames = lane_at (length workers) frames
 
-  abbrev answers_from : ℕ → List Answer
+  abbrev pub answers_from : ℕ → List Answer
   answers_from l = answers_to frame_at (verdicts_in app (events_at lanes l))
 
   told_tells : TellsFrames told frame_at
@@ -227,7 +238,7 @@ module _ {L : Type 0} (g : Ghosts L) (app : Meaning) (script : List Stamped) (fr
 
   module _ (all_judged : map (λ j. j.0) js ≡ arrivals 0 told)
       (dealt_by_key : (frame : List ℕ) → lane_of (by_key (length workers)) (sight_of frame) ≡ lane_of_packet (packet_of frame) (length workers)) where
-    js_count : length js ≡ length told
+    pub js_count : length js ≡ length told
     js_count = sym (length-map js (λ j. j.0)) ∙ ap length all_judged ∙ arrivals_count 0 told
 
     sent_are_told : length frames ≤ length js
@@ -238,7 +249,7 @@ module _ {L : Type 0} (g : Ghosts L) (app : Meaning) (script : List Stamped) (fr
         sym (get_or-map (λ (j : Arrival × Verdict). j.0) js i past past.0 (let e = js_count in omega (arith, e, lt)))
         ∙ ap (λ l. get_or l i past.0) all_judged ∙ arrival_at 0 told i past.0 blank lt
 
-    same_lanes : (i : ℕ) → i < length frames → by_verdicts i ≡ by_frames i
+    pub same_lanes : (i : ℕ) → i < length frames → by_verdicts i ≡ by_frames i
     same_lanes i lt =
         let among : i < length told = (let le = front_length frames told behind in omega (arith, le, lt)) in
         ap (λ (a : Arrival). lane_of (by_key (length workers)) a.sight) (judged_at i among)
@@ -267,5 +278,44 @@ module _ {L : Type 0} (g : Ghosts L) (app : Meaning) (script : List Stamped) (fr
       pub are_fronts : ((l : ℕ) → length (taken_so_far l) ≤ length (numbers_of_share by_verdicts l (length frames))) → AreFronts by_verdicts right (length frames) taken_so_far
       are_fronts few = fronts_law taken_so_far (λ l. []) taken_so_far (λ l. append-nil (taken_so_far l)) (taken_front few)
 
-abbrev pub IsHere : Type 0
-IsHere = ℕ
+      module _ (keeps_law : (s : Leaving) → Keeps by_frames (length frames) taken_so_far s → Keeps by_verdicts (length frames) taken_so_far s) (indexed : AreIndexed right)
+          (bytes : forwarded_numbers right (length js) ≡ forwarded (frame_bytes frame_at) js) where
+        -- a front was written
+        module _ (whole_law : (s : Leaving) → Keeps by_verdicts (length frames) taken_so_far s → AreIndexed right → AreFronts by_verdicts right (length frames) taken_so_far → length frames ≤ length js
+            → IsPrefix s.out (forwarded_numbers right (length js)))
+            (cut_law : (s : Leaving) (a : Answer) (part : List ℕ) → Keeps by_verdicts (length frames) taken_so_far s → AreIndexed right → AreFronts by_verdicts right (length frames) taken_so_far → length frames ≤ length js
+            → first_of s.waiting ≡ Some a → IsPrefix part (bytes_out a) → IsPrefix (s.out ++ part) (forwarded_numbers right (length js))) where
+          part_where : (s : Leaving) (part : List ℕ) (o : Option Answer) → Keeps by_verdicts (length frames) taken_so_far s → first_of s.waiting ≡ o → IsPrefix part (bytes_of_first o)
+              → IsPrefix (s.out ++ part) (forwarded_numbers right (length js))
+          part_where s part None keeps first p =
+              subst (λ l. IsPrefix l (forwarded_numbers right (length js))) (sym (ap (λ l. s.out ++ l) (no_front part [] p refl) ∙ append-nil s.out))
+              (whole_law s keeps indexed (are_fronts keeps.sent) sent_are_told)
+          part_where s part (Some a) keeps first p = cut_law s a part keeps indexed (are_fronts keeps.sent) sent_are_told first p
+
+          pub left_front : (old new : Option (List ℕ)) → HasLeft by_frames (length frames) taken_so_far old new → AppendsFront old new (forwarded_with app script vs told)
+          left_front old new h =
+              let p = part_where h.state h.part (first_of h.state.waiting) (keeps_law h.state h.keeps) refl h.cut in
+              record { front = h.state.out ++ h.part; rest = p.0; added = h.written; whole = sym (p.1 ∙ told_bytes bytes) }
+
+        -- all was written
+        module _ (n_told : length js ≡ length frames) (good : AreGood g workers)
+            (right_whole : (l : ℕ) → answers_from l ≡ map right (numbers_of_share by_verdicts l (length js)))
+            (share_law : (l : ℕ) → numbers_of_share by_verdicts l (length frames) ≡ numbers_of_share by_frames l (length frames))
+            (out_law : (s : Leaving) → Keeps by_verdicts (length frames) taken_so_far s → AreIndexed right → AreFronts by_verdicts right (length frames) taken_so_far
+            → ((l : ℕ) → length (taken_so_far l) ≡ length (numbers_of_share by_verdicts l (length frames))) → first_of s.waiting ≡ None → s.out ≡ forwarded_numbers right (length frames))
+            (all_taken : (l : ℕ) → (taken_so_far l ≡ sent_from workers l) ⊎ (length (numbers_of_share by_frames l (length frames)) ≤ length (taken_so_far l))) where
+          sent_count : (l : ℕ) → length (sent_from workers l) ≡ length (numbers_of_share by_verdicts l (length frames))
+          sent_count l = ap length (sent_whole good l ∙ right_whole l) ∙ length-map (numbers_of_share by_verdicts l (length js)) right ∙ ap (λ n. length (numbers_of_share by_verdicts l n)) n_told
+
+          taken_count : ((l : ℕ) → length (taken_so_far l) ≤ length (numbers_of_share by_verdicts l (length frames))) → (l : ℕ) → length (taken_so_far l) ≡ length (numbers_of_share by_verdicts l (length frames))
+          taken_count few l = ⊎_elim
+              (λ all. ap length all ∙ sent_count l)
+              (λ enough. let e = ap length (share_law l) in let le = few l in omega (arith, e, le, enough))
+              (all_taken l)
+
+          pub left_all : (waiting : Waiting) (old new : Option (List ℕ)) → Leaves by_frames (length frames) taken_so_far waiting old new → first_of waiting ≡ None → Appends old new (forwarded_with app script vs told)
+          left_all waiting old new l none =
+              let keeps = keeps_law l.state l.keeps in
+              let out : l.state.out ≡ forwarded_numbers right (length frames) =
+              out_law l.state keeps indexed (are_fronts keeps.sent) (taken_count keeps.sent) (ap first_of l.waits ∙ none) in
+              subst (Appends old new) (out ∙ ap (forwarded_numbers right) (sym n_told) ∙ told_bytes bytes) l.written
