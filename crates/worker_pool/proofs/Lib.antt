@@ -24,3 +24,4 @@ mod Manning
 mod Crossed
 mod Draining
 mod Explaining
+mod Exits
