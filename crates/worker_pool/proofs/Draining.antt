@@ -1,16 +1,16 @@
 -- Answers that are left in rings once the threads have ended, and how they leave.
-use Rattle.std.proofs.Common.{◌≡◌, ◌≢◌, ◌<◌, ◌≤◌, ℕ, zero, suc, ◌+◌, Bool, true, false, cond, Option, Some, None, List, [], ◌∷◌, ◌++◌, length, map, set, get_or, refl, sym, ap, subst, ◌∙◌, append_assoc, ◌⊎◌, inl, inr, ⊎_elim, arith}
+use Rattle.std.proofs.Common.{◌≡◌, ◌≢◌, ◌<◌, ◌≤◌, ℕ, suc, ◌+◌, Bool, true, false, cond, Option, Some, None, List, [], ◌∷◌, ◌++◌, length, map, set, get_or, refl, sym, ap, subst, ◌∙◌, append_assoc, ⊎_elim, arith}
 use Rattle.std.specs.Prelude.{◌==◌}
 use Rattle.std.specs.Io.KnownBytes.{Appends}
 use Rattle.std.proofs.KnownBytes.{Appends-trans}
 use Rattle.std.proofs.Math.Path.{fun_ext}
-use Rattle.std.proofs.lemmas.Bool.{cases_eq, cases_lt, eq-eqb, ne_eqb}
+use Rattle.std.proofs.lemmas.Bool.{cases_eq, eq-eqb, ne_eqb}
 use Rattle.std.proofs.Math.Seq.{map-set_same}
-use Rattle.std.proofs.lemmas.List.{append-nil, length-map, get_or_default, get_or-map, map-set, get_or-set_same, get_or-set_other, length-set}
+use Rattle.std.proofs.lemmas.List.{length-map, get_or_default, get_or-map, map-set, get_or-set_same, get_or-set_other, length-set}
 use mathlib.Core.List.{IsPrefix}
 use Rattle.lane_rings.specs.declared.items.Answer.{Answer}
 use Rattle.lane_rings.specs.declared.ring.RingTx.{RingTx}
-use Rattle.lane_rings.specs.Ring.{sent, taken}
+use Rattle.lane_rings.specs.Ring.{taken}
 use Rattle.lane_rings.specs.Share.{share}
 use Rattle.lane_rings.specs.Waiting.{Waiting, first_of, moved_on}
 use Rattle.lane_rings.specs.Forwarded.{bytes_out}
@@ -18,8 +18,8 @@ use Rattle.lane_rings.specs.Forward.{Leaving, Keeps, offered, left_first, bytes_
 use Rattle.worker_pool.specs.declared.worker.Worker.{Worker}
 use Rattle.worker_pool.specs.declared.forward.relay.Relay.{Relay}
 use Rattle.worker_pool.specs.Streamed.{Leaves, taken_from}
-use Rattle.worker_pool.specs.Drained.{sent_in, held, AreAnswerEnds, Drains, Offers, sent_from, IsBeside, AreBeside, AreDrained, OfferAll}
-use Rattle.worker_pool.proofs.Fronts.{IsPrefix-refl, IsPrefix-trans}
+use Rattle.worker_pool.specs.Drained.{sent_in, held, Drains, Offers, sent_from, IsBeside, AreBeside, AreDrained, OfferAll}
+use Rattle.worker_pool.proofs.Fronts.{IsPrefix-trans}
 
 -- ---- the answer whose turn it is is written
 

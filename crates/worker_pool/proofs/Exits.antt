@@ -1,5 +1,5 @@
 -- How a forward run ends.
-use Rattle.std.proofs.Common.{◌≡◌, ◌≢◌, ◌<◌, ◌≤◌, ℕ, Bool, true, false, Option, Some, None, List, [], ◌∷◌, ◌++◌, length, map, get_or, refl, sym, ap, subst, ◌∙◌, ◌⊎◌, inl, inr, ⊎_elim, arith}
+use Rattle.std.proofs.Common.{◌≡◌, ◌≢◌, ◌<◌, ◌≤◌, ℕ, Bool, false, Option, Some, None, List, [], ◌∷◌, length, map, get_or, refl, sym, ap, subst, ◌∙◌, ◌⊎◌, inl, inr, ⊎_elim, arith}
 use Rattle.std.specs.Prelude.{Result, Ok, Err, IsOk, IfOk, IfErr}
 use Rattle.std.specs.Io.KnownBytes.{Appends}
 use Rattle.std.proofs.Math.ListN.{get_or-map}
@@ -9,7 +9,6 @@ use Rattle.std.proofs.lemmas.List.{append-nil, length-map, get_or_past}
 use mathlib.Core.List.{IsPrefix}
 use Rattle.app_api.specs.App.{Meaning}
 use Rattle.pcap_source.specs.Captured.{Captured}
-use Rattle.pcap_source.specs.Capture.{tail}
 use Rattle.pcap_source.specs.Reading.{CaptureState, frames_at}
 use Rattle.control_script.specs.declared.stamped.Stamped.{Stamped}
 use Rattle.control_script.specs.Order.{commands_of}
@@ -22,13 +21,12 @@ use Rattle.lane_rings.specs.Share.{share}
 use Rattle.lane_rings.specs.Waiting.{Waiting, first_of}
 use Rattle.lane_rings.specs.Forward.{bytes_of_first}
 use Rattle.report_text.specs.declared.record.Record.{Record}
-use Rattle.lane_core.specs.declared.errors.LaneError.TheVariants.{Heavy as TooHeavy}
 use Rattle.lane_core.specs.declared.end.LaneEnd.{LaneEnd}
 use Rattle.lane_core.specs.declared.recorder.Recorder.{Ghosts}
 use Rattle.lane_core.specs.Sight.{arrivals}
 use Rattle.lane_core.specs.Records.{RecordSoFar}
 use Rattle.lane_core.specs.Run.{LaneEvent}
-use Rattle.lane_core.specs.Lane.{IsHeavy, shown}
+use Rattle.lane_core.specs.Lane.{shown}
 use Rattle.worker_laws.specs.Lanes.{share as share_of}
 use Rattle.worker_laws.specs.Ends.{IsJoined}
 use Rattle.worker_laws.specs.Taken.{events_at, HaveRun, AreOneRun}
@@ -39,7 +37,7 @@ use Rattle.worker_pool.specs.declared.job.PoolError.{PoolError}
 use Rattle.worker_pool.specs.declared.job.PoolError.TheVariants.{TooLong, TooMany, ReadFault, WriteFault, Heavy, NoMemory}
 use Rattle.worker_pool.specs.Worked.{SameAnswers}
 use Rattle.worker_pool.specs.Team.{HaveServed}
-use Rattle.worker_pool.specs.Run.{MayHave, run_of}
+use Rattle.worker_pool.specs.Run.{MayHave}
 use Rattle.worker_pool.specs.Ending.{by_key, CameTo, AreEnded, IsCause}
 use Rattle.worker_pool.specs.Forward.{RefusedAs, ForwardsAll, ForwardsFront, ForwardsOver}
 use Rattle.worker_pool.specs.Streamed.{AreRelays, Leaves, HasLeft, Streamed, StopsAs, lane_at, taken_from}

@@ -1,10 +1,9 @@
 -- What has left a forward run, by the answers of its lanes.
-use Rattle.std.proofs.Common.{◌≡◌, ◌≢◌, ◌<◌, ◌≤◌, ℕ, zero, suc, ◌+◌, Bool, true, false, cond, Option, Some, None, List, [], ◌∷◌, ◌++◌, length, map, take, filter, get_or, refl, sym, ap, subst, ◌∙◌, append_assoc, ◌⊎◌, ⊎_elim, arith}
+use Rattle.std.proofs.Common.{◌≡◌, ◌<◌, ◌≤◌, ℕ, zero, suc, ◌+◌, Bool, true, false, cond, Option, Some, None, List, [], ◌∷◌, ◌++◌, length, map, get_or, refl, sym, ap, subst, ◌∙◌, ◌⊎◌, ⊎_elim, arith}
 use Rattle.std.specs.Prelude.{◌==◌, ◌-◌}
-use Rattle.std.specs.List.{flat_map}
 use Rattle.std.specs.Io.KnownBytes.{Appends}
 use Rattle.std.proofs.lemmas.Bool.{cases_lt}
-use Rattle.std.proofs.lemmas.List.{append-nil, length-map, map-append, get_or-map, get_or_default, get_or_past, get_or_append_left}
+use Rattle.std.proofs.lemmas.List.{append-nil, length-map, get_or-map, get_or_default, get_or_past, get_or_append_left}
 use Rattle.std.proofs.lemmas.List.Elements.{filter-append}
 use mathlib.Core.List.{IsPrefix}
 use Rattle.mos_bytes.specs.Writes.{AppendsFront}
@@ -18,7 +17,6 @@ use Rattle.flow_table.specs.Key.{EndpointPair}
 use Rattle.forest_versions.specs.declared.command.Command.{Command}
 use Rattle.control_script.specs.declared.stamped.Stamped.{Stamped}
 use Rattle.control_script.specs.Order.{commands_of}
-use Rattle.control_script.specs.Versions.{floor, ceil}
 use Rattle.lane_rings.specs.declared.items.Answer.{Answer}
 use Rattle.lane_rings.specs.declared.ring.RingTx.{RingTx}
 use Rattle.lane_rings.specs.Ring.{sent}
@@ -33,17 +31,16 @@ use Rattle.worker_laws.specs.Judged.{forwarded, bytes_under}
 use Rattle.worker_laws.specs.Lanes.{lane_of, share}
 use Rattle.worker_laws.specs.Allowed.{arrivals_of}
 use Rattle.worker_laws.specs.Whole.{verdicts_under}
-use Rattle.worker_laws.specs.Taken.{packets_at, events_at, verdicts_in, HaveRun, HaveRunAll, AreOneRun, AreFrontsOfRun}
+use Rattle.worker_laws.specs.Taken.{packets_at, events_at, verdicts_in, HaveRun, HaveRunAll}
 use Rattle.worker_laws.specs.Streamed.{answers_to, answer_at, lane_in, frame_bytes}
 use Rattle.worker_pool.specs.declared.worker.Worker.{Worker}
 use Rattle.worker_pool.specs.declared.forward.relay.Relay.{Relay}
 use Rattle.worker_pool.specs.Worked.{Sends}
-use Rattle.worker_pool.specs.Run.{MayHave}
 use Rattle.worker_pool.specs.Ending.{by_key, CameTo}
 use Rattle.worker_pool.specs.Forward.{left_by_all, forwarded_with}
 use Rattle.worker_pool.specs.Streamed.{IsAnswered, AreRelays, Leaves, HasLeft, lane_at}
 use Rattle.worker_pool.specs.Drained.{sent_in, sent_from}
-use Rattle.worker_pool.specs.Explained.{TellsFrames, HasAnswered, HaveAnswered, AreGood, LeavesFront, LeavesAll}
+use Rattle.worker_pool.specs.Explained.{TellsFrames, HasAnswered, HaveAnswered, AreGood}
 use Rattle.worker_pool.proofs.Fronts.{IsPrefix-refl, IsPrefix-trans}
 use Rattle.worker_pool.proofs.Standing.{IsPrefix-map}
 

@@ -2,7 +2,7 @@ use Rattle.std.proofs.Common.{◌≡◌, ◌<◌, length, get_or, sym, subst, �
 use Rattle.worker_pool.specs.declared.worker.Worker.{Worker}
 use Rattle.worker_pool.specs.declared.forward.relay.Relay.{Relay}
 use Rattle.worker_pool.specs.Drained.{IsBeside}
-use Rattle.worker_pool.proofs.Draining.{IsDraining, none_drained, all_drained, beside_now, next_drained}
+use Rattle.worker_pool.proofs.Draining.{beside_now, next_drained}
 use Rattle.worker_pool.proofs.forward.drain.drain.Goals as goal
 
 pub drain_one-requires : goal.drain_one-requires

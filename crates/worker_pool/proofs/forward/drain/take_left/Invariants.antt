@@ -1,4 +1,4 @@
-use Rattle.std.proofs.Common.{◌≡◌, ℕ, ◌-◌, length}
+use Rattle.std.proofs.Common.{◌≡◌, ◌-◌, length}
 use mathlib.Core.List.{IsPrefix}
 use Rattle.lane_rings.specs.Ring.{sent, taken, AreEnds}
 use Rattle.worker_pool.specs.Drained.{Offers}

@@ -1,11 +1,10 @@
-use Rattle.std.proofs.Common.{◌≡◌, ℕ, length, get_or, false, sym, ◌∙◌}
+use Rattle.std.proofs.Common.{ℕ, length, get_or, false}
 use Rattle.pcap_source.specs.Captured.{Captured}
 use Rattle.control_script.specs.Order.{commands_of}
 use Rattle.control_script.specs.Versions.{floor, ceil}
 use Rattle.lane_core.specs.Sight.{arrivals}
 use Rattle.worker_laws.specs.Whole.{verdicts_under}
-use Rattle.worker_laws.specs.Streamed.{answers_to, answer_at, lane_in}
-use Rattle.worker_laws.specs.Taken.{events_at, verdicts_in}
+use Rattle.worker_laws.specs.Streamed.{answer_at, lane_in}
 use Rattle.worker_pool.specs.Ending.{by_key}
 use Rattle.worker_pool.specs.Streamed.{lane_at}
 use Rattle.worker_pool.proofs.Fronts.{IsPrefix-refl}

@@ -1,4 +1,4 @@
-use Rattle.std.proofs.Common.{◌≡◌, List, length, false, sym, subst}
+use Rattle.std.proofs.Common.{List, length, false, sym, subst}
 use Rattle.std.proofs.lemmas.Result.{err_from_is_err_and}
 use Rattle.pcap_source.specs.Reading.{frames_at}
 use Rattle.lane_core.specs.Run.{LaneEvent}
@@ -36,9 +36,12 @@ returns-in_err-write_ready-clause-ends g c app frames begins packets start old n
     let law = subst (LeavesFront app script frames told) seen
     (c.lanes_have_answered.ensures.front app frames told begins packets relays few team kept (subst (HaveServed g.L.Recorder script begins frames) (sym seen) served) streamed.relays_are (streamed.front rest is)) in
     let p = err_from_is_err_and c.from_residual.result c.from_residual.ensures.1 in
-    rw (p.1, p.2) (tt, cut_at g.L.Recorder app script frames begins workers relays c.drain.new.relays.items c.args.waiting c.drain.new.waiting start old new before (g.O.Sink.taken c.args.out.now) rest c.args.read served streamed c.drain.ensures.drained c.drain.ensures.offered law (g.O.Sink.taken c.write_ready.new.out)
-    (c.in_err-write_ready.ensures.cut (lane_at (length relays) frames) (length frames) (taken_from c.drain.new.relays.items) before
-    (leaves_now g.L.Recorder app script frames begins workers relays c.drain.new.relays.items c.args.waiting c.drain.new.waiting start old new before (g.O.Sink.taken c.args.out.now) rest c.args.read served streamed c.drain.ensures.drained c.drain.ensures.offered law (c.is_write_fault.ensures.other c.if-is_write_fault.false))))
+    rw (p.1, p.2) (
+      tt,
+      cut_at g.L.Recorder app script frames begins workers relays c.drain.new.relays.items c.args.waiting c.drain.new.waiting start old new before (g.O.Sink.taken c.args.out.now) rest c.args.read served streamed c.drain.ensures.drained c.drain.ensures.offered law (g.O.Sink.taken c.write_ready.new.out)
+          (c.in_err-write_ready.ensures.cut (lane_at (length relays) frames) (length frames) (taken_from c.drain.new.relays.items) before
+          (leaves_now g.L.Recorder app script frames begins workers relays c.drain.new.relays.items c.args.waiting c.drain.new.waiting start old new before (g.O.Sink.taken c.args.out.now) rest c.args.read served streamed c.drain.ensures.drained c.drain.ensures.offered law (c.is_write_fault.ensures.other c.if-is_write_fault.false))),
+    )
 
 pub returns-in-Err-clause-ends : goal.returns-in-Err-clause-ends
 returns-in-Err-clause-ends g c app frames begins packets start old new before rest few team kept served streamed is =
@@ -48,8 +51,7 @@ returns-in-Err-clause-ends g c app frames begins packets start old new before re
     let seen = c.as_slice.ensures.value in
     let told = (frames_at start rest).frames in
     let law = subst (LeavesFront app script frames told) seen
-    (c.lanes_have_answered.ensures.front app frames told begins packets relays few team kept (subst (HaveServed g.L.Recorder script begins frames) (sym seen) served) streamed.relays_are (streamed.front rest is)) in
-    (
+    (c.lanes_have_answered.ensures.front app frames told begins packets relays few team kept (subst (HaveServed g.L.Recorder script begins frames) (sym seen) served) streamed.relays_are (streamed.front rest is)) in (
       refused_as frames start old new rest c.in-Err.error (subst (StopsAs frames start old new) c.in-Err.is streamed.stops) is,
       stopped_at g.L.Recorder app script frames begins workers relays c.drain.new.relays.items c.args.waiting c.drain.new.waiting start old new before (g.O.Sink.taken c.args.out.now) rest c.args.read served streamed c.drain.ensures.drained c.drain.ensures.offered law (g.O.Sink.taken c.write_ready.new.out) c.write_ready.new.waiting
           (c.in_ok-write_ready.ensures.leaves (lane_at (length relays) frames) (length frames) (taken_from c.drain.new.relays.items) before
