@@ -37,6 +37,7 @@ fn take_left(relay: &mut Relay, tx: &mut AnswerTx, waiting: &mut Resequencer)
     ensures offers { Offers relay.old relay.new waiting.old waiting.new }
 {
     taking_stays_right();
+    // Also where no answer is awaited, this shows that those taken before are the first ones that were sent.
     relay.answers.beside(tx);
     while relay.taken < relay.sent {
         if relay.answers.beside(tx) == 0 {
