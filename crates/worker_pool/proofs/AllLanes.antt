@@ -1,5 +1,5 @@
 -- What the lanes of all workers came to.
-use Rattle.std.proofs.Common.{◌≡◌, ◌≤◌, ◌<◌, ℕ, zero, suc, List, [], ◌∷◌, length, get_or, refl, ap, subst, arith}
+use Rattle.std.proofs.Common.{◌≡◌, ◌≤◌, ◌<◌, ℕ, Bool, zero, suc, List, [], ◌∷◌, length, get_or, refl, ap, subst, arith}
 use Rattle.std.proofs.lemmas.List.{get_or_default}
 use Rattle.packet_views.specs.Packet.{packet_of}
 use Rattle.pcap_source.specs.Captured.{Captured}
@@ -14,10 +14,11 @@ use Rattle.worker_laws.specs.Taken.{events_at}
 use Rattle.worker_pool.specs.declared.worker.Worker.{Worker}
 use Rattle.lane_rings.specs.declared.items.Packet.{Packet}
 use Rattle.lane_rings.specs.declared.ring.RingTx.{RingTx}
-use Rattle.worker_pool.specs.Team.{IsTeam, HaveServed}
+use Rattle.worker_pool.specs.Team.{IsTeam, AllKeep, HaveServed}
 use Rattle.worker_pool.specs.Ending.{by_key, CameTo}
+use Rattle.worker_pool.specs.Explained.{HasAnswered, HaveAnswered}
 use Rattle.worker_pool.proofs.Dealing.{AreOrdered}
-use Rattle.worker_pool.proofs.Standing.{HasCome, came_events, has_come}
+use Rattle.worker_pool.proofs.Standing.{HasCome, came_events, has_come, has_answered}
 
 at_each : {A : Type 0} (P : ℕ → A → Type 0) (x : A) (xs : List A) (n : ℕ) → P zero x → ((k : ℕ) (d : A) → k < n → P (suc k) (get_or xs k d)) → (k : ℕ) (d : A) → k < suc n → P k (get_or (x ∷ xs) k d)
 at_each P x xs n here there zero d lt = here
@@ -31,34 +32,45 @@ listed {A} P (suc n) each =
     let rest = listed (λ k. P (suc k)) n (λ k lt. each (suc k) (omega arith)) in
     (first.0 ∷ rest.0, ap suc rest.1, at_each P first.0 rest.0 n first.1 rest.2)
 
-module _ {L : Type 0} (g : Ghosts L) (app : Meaning) (script : List Stamped) (frames : List Captured) (begins workers : List (Worker L)) (packets : List (RingTx Packet)) where
-  module _ (ordered : AreOrdered script) (few : length frames ≤ 1048576) (team : IsTeam g app begins packets) (served : HaveServed g script begins frames workers)
+module _ {L : Type 0} (g : Ghosts L) (keep : Bool) (app : Meaning) (script : List Stamped) (frames : List Captured) (begins workers : List (Worker L)) (packets : List (RingTx Packet)) where
+  module _ (ordered : AreOrdered script) (few : length frames ≤ 1048576) (team : IsTeam g app begins packets) (all_keep : AllKeep g keep begins) (served : HaveServed g script begins frames workers)
       (below : (sight : Sight) → lane_of (by_key (length workers)) sight < length workers)
       (dealt_by_key : (frame : List ℕ) → lane_of (by_key (length workers)) (sight_of frame) ≡ lane_of_packet (packet_of frame) (length workers)) where
     abbrev Came : ℕ → List LaneEvent → Type 0
-    Came k events = (w : Worker L) → HasCome g app script frames (length workers) k (get_or workers k w).lane events
+    Came k events = (v w : Worker L) → HasCome g keep app script frames (length workers) k (get_or workers k w).lane events × HasAnswered g app frames events (get_or begins k v) (get_or workers k w)
 
     each_came : (d : Worker L) (k : ℕ) → k < length workers → (events : List LaneEvent) × Came k events
     each_came d k lt =
         let a = get_or begins k d in let b = get_or workers k d in
-        let new = team.each_new k d (let e = served.count in omega arith) in
-        let one = served.each k d d lt in (
-          came_events g app script frames (length workers) k ordered few dealt_by_key a b new one,
-          λ w. subst (λ (x : Worker L). HasCome g app script frames (length workers) k x.lane (came_events g app script frames (length workers) k ordered few dealt_by_key a b new one))
-              (get_or_default workers k d w lt) (has_come g app script frames (length workers) k ordered few dealt_by_key a b new one),
+        let among : k < length begins = (let e = served.count in omega arith) in
+        let new = team.each_new k d among in
+        let kept = all_keep k d among in
+        let one = served.each k d d lt in
+        let events = came_events g keep app script frames (length workers) k ordered few dealt_by_key a b new kept one in (
+          events,
+          λ v w. (
+            subst (λ (x : Worker L). HasCome g keep app script frames (length workers) k x.lane events) (get_or_default workers k d w lt)
+                (has_come g keep app script frames (length workers) k ordered few dealt_by_key a b new kept one),
+            subst (λ (x : Worker L). HasAnswered g app frames events x (get_or workers k w)) (get_or_default begins k d v among)
+                (subst (λ (x : Worker L). HasAnswered g app frames events a x) (get_or_default workers k d w lt)
+                (has_answered g keep app script frames (length workers) k ordered few dealt_by_key a b new kept one)),
+          ),
         )
 
     module _ (d : Worker L) where
       abbrev all : (lanes : List (List LaneEvent)) × (length lanes ≡ length workers) × ((k : ℕ) (e : List LaneEvent) → k < length workers → Came k (get_or lanes k e))
       all = listed Came (length workers) (each_came d)
 
-      came_at : (k : ℕ) (w : Worker L) → k < length workers → HasCome g app script frames (length workers) k (get_or workers k w).lane (events_at all.0 k)
-      came_at k w lt = all.2 k [] lt w
+      came_at : (k : ℕ) (w : Worker L) → k < length workers → HasCome g keep app script frames (length workers) k (get_or workers k w).lane (events_at all.0 k)
+      came_at k w lt = (all.2 k [] lt w w).0
+
+      answered : HaveAnswered g app frames begins workers all.0
+      answered k a b lt = (all.2 k [] lt a b).1
 
       in_range : (k : ℕ) → k < length all.0 → k < length workers
       in_range k lt = let e = all.1 in omega arith
 
-      came : CameTo g app script frames workers all.0
+      came : CameTo g keep app script frames workers all.0
       came = record {
         count = all.1;
         run = record {
@@ -79,11 +91,14 @@ module _ {L : Type 0} (g : Ghosts L) (app : Meaning) (script : List Stamped) (fr
   any_worker (w ∷ ws) some = w
 
   -- the lanes of workers that have served a capture
-  pub all_came : AreOrdered script → length frames ≤ 1048576 → IsTeam g app begins packets → HaveServed g script begins frames workers
+  pub all_came : AreOrdered script → length frames ≤ 1048576 → IsTeam g app begins packets → AllKeep g keep begins → HaveServed g script begins frames workers
       → ((sight : Sight) → 1 ≤ length workers → lane_of (by_key (length workers)) sight < length workers)
       → ((frame : List ℕ) → lane_of (by_key (length workers)) (sight_of frame) ≡ lane_of_packet (packet_of frame) (length workers))
-      → (lanes : List (List LaneEvent)) × CameTo g app script frames workers lanes
-  all_came ordered few team served below dealt_by_key =
+      → (lanes : List (List LaneEvent)) × CameTo g keep app script frames workers lanes × HaveAnswered g app frames begins workers lanes
+  all_came ordered few team all_keep served below dealt_by_key =
       let some : 1 ≤ length workers = (let e = served.count in let one = team.some in omega arith) in
-      let d = any_worker workers some in
-      (_, came ordered few team served (λ sight. below sight some) dealt_by_key d)
+      let d = any_worker workers some in (
+        _,
+        came ordered few team all_keep served (λ sight. below sight some) dealt_by_key d,
+        answered ordered few team all_keep served (λ sight. below sight some) dealt_by_key d,
+      )

@@ -1,5 +1,5 @@
 -- The end of a run, from the ends of its lanes.
-use Rattle.std.proofs.Common.{◌≡◌, ◌≤◌, ◌<◌, ℕ, suc, ◌+◌, true, false, List, [], ◌∷◌, length, get_or, map, refl, sym, ap, subst, ◌∙◌, ◌⊎◌, ⊎_elim, arith}
+use Rattle.std.proofs.Common.{◌≡◌, ◌≤◌, ◌<◌, ℕ, suc, ◌+◌, Bool, true, false, List, [], ◌∷◌, length, get_or, map, refl, sym, ap, subst, ◌∙◌, ◌⊎◌, ⊎_elim, arith}
 use Rattle.std.specs.Prelude.{◌^◌, ◌-◌, min, Result, Ok, Err, IsErrOf, IfOk}
 use Rattle.std.proofs.lemmas.Bool.{ltb-true, ltb-false}
 use Rattle.std.proofs.lemmas.List.{length-map}
@@ -26,7 +26,7 @@ use Rattle.worker_pool.specs.declared.worker.Worker.{Worker}
 use Rattle.worker_pool.specs.declared.job.LanesEnd.{LanesEnd}
 use Rattle.worker_pool.specs.Run.{MayHave, run_of, IsWhole, IsTooHeavy, EndsOver}
 use Rattle.worker_pool.specs.declared.job.PoolError.{PoolError}
-use Rattle.worker_pool.specs.declared.job.PoolError.TheVariants.{TooLong, TooMany, ReadFault, Heavy, NoMemory}
+use Rattle.worker_pool.specs.declared.job.PoolError.TheVariants.{TooLong, TooMany, ReadFault, WriteFault, Heavy, NoMemory}
 use Rattle.worker_pool.specs.Ending.{by_key, CameTo, HasEnded, AreEnded, IsCause, IsJoinedRun, Concludes}
 
 any_of : {A : Type 0} (xs : List A) (k : ℕ) → k < length xs → A
@@ -35,13 +35,13 @@ any_of (x ∷ xs) k lt = x
 
 -- ---- the ends of lanes
 
-module _ {L : Type 0} (g : Ghosts L) (app : Meaning) (script : List Stamped) (frames : List Captured) (workers : List (Worker L)) (lanes : List (List LaneEvent)) (came : CameTo g app script frames workers lanes)
+module _ {L : Type 0} (g : Ghosts L) (keep : Bool) (app : Meaning) (script : List Stamped) (frames : List Captured) (workers : List (Worker L)) (lanes : List (List LaneEvent)) (came : CameTo g keep app script frames workers lanes)
     (ends : List LaneEnd) (ended : AreEnded g workers ends) where
   at_end : (k : ℕ) (d : LaneEnd) → k < length workers → (w : Worker L) × HasEnded g (get_or workers k w) (get_or ends k d)
   at_end k d lt = let w = any_of workers k lt in (w, ended.each k w d lt)
 
   -- each is the end of the lane's run
-  pub lanes_end : AreEnds true app lanes ends
+  pub lanes_end : AreEnds keep app lanes ends
   lanes_end = record {
     count = came.count ∙ ended.count;
     each = λ k d lt.
@@ -64,27 +64,31 @@ module _ {L : Type 0} (g : Ghosts L) (app : Meaning) (script : List Stamped) (fr
   -- joined, they are the end of one run
   pub joined_run : (n : ℕ) → n ≡ length workers → (joined : Joined)
       → ((vs : List ℕ) × IsAllowedRun app (commands_of script) (floor script) (ceil script) (by_key (length workers)) (arrivals 0 frames) vs × AreOneRun app (commands_of script) (by_key (length workers)) (arrivals 0 frames) lanes vs)
-      → ((vs : List ℕ) → AreOneRun app (commands_of script) (by_key (length workers)) (arrivals 0 frames) lanes vs → IsJoined true app (run_of app script vs frames) joined.records joined.callbacks joined.drops)
-      → IsJoinedRun app script n frames (Ok joined)
+      → ((vs : List ℕ) → AreOneRun app (commands_of script) (by_key (length workers)) (arrivals 0 frames) lanes vs → IsJoined keep app (run_of app script vs frames) joined.records joined.callbacks joined.drops)
+      → IsJoinedRun app script n frames keep (Ok joined)
   joined_run n same joined run joins = (run.0, subst (λ m. MayHave app script m frames run.0) (sym same) run.1, joins run.0 run.2)
 
 -- ---- why there is no end
 
-module _ {L : Type 0} (g : Ghosts L) (app : Meaning) (script : List Stamped) (frames : List Captured) (workers : List (Worker L)) (lanes : List (List LaneEvent)) (came : CameTo g app script frames workers lanes) where
+module _ {L : Type 0} (g : Ghosts L) (keep : Bool) (app : Meaning) (script : List Stamped) (frames : List Captured) (workers : List (Worker L)) (lanes : List (List LaneEvent)) (came : CameTo g keep app script frames workers lanes) where
   -- no memory was there, or a lane was heavy, and so the run is
   pub refused : (n : ℕ) (e : PoolError) → n ≡ length workers → (e ≡ NoMemory) ⊎ ((k : ℕ) × (k < length workers) × ((w : Worker L) → IsCause g (get_or workers k w) e))
       → ((k : ℕ) → IsHeavy app (events_at lanes k)
       → (vs : List ℕ) × IsAllowedRun app (commands_of script) (floor script) (ceil script) (by_key (length workers)) (arrivals 0 frames) vs × (134217728 < weight (run_under app (commands_of script) vs (arrivals 0 frames))))
-      → IsJoinedRun app script n frames (Err e)
+      → IsJoinedRun app script n frames keep (Err e)
   refused n NoMemory same why heavy = tt
   refused n Heavy same why heavy = ⊎_elim
       (λ none. absurd (cc))
       (λ one.
       let w = any_of workers one.0 one.1 in
-      let run = heavy one.0 (came.heavy one.0 w one.1 (one.2 w)) in
-      record { versions = run.0; allowed = subst (λ m. MayHave app script m frames run.0) (sym same) run.1; heavy = run.2 })
+      let is = came.heavy one.0 w one.1 (one.2 w) in
+      let run = heavy one.0 is.1 in (
+        is.0,
+        record { versions = run.0; allowed = subst (λ m. MayHave app script m frames run.0) (sym same) run.1; heavy = run.2 },
+      ))
       why
   refused n ReadFault same why heavy = ⊎_elim (λ none. absurd (cc)) (λ one. absurd (one.2 (any_of workers one.0 one.1))) why
+  refused n WriteFault same why heavy = ⊎_elim (λ none. absurd (cc)) (λ one. absurd (one.2 (any_of workers one.0 one.1))) why
   refused n (TooLong offset) same why heavy = ⊎_elim (λ none. absurd (cc)) (λ one. absurd (one.2 (any_of workers one.0 one.1))) why
   refused n (TooMany offset) same why heavy = ⊎_elim (λ none. absurd (cc)) (λ one. absurd (one.2 (any_of workers one.0 one.1))) why
 
@@ -152,10 +156,11 @@ module _ (app : Meaning) (script : List Stamped) (lanes : ℕ) (frames : List Ca
 
 module _ (app : Meaning) (script : List Stamped) (lanes : ℕ) (frames : List Captured) (bytes : ℕ) where
   -- why the lanes aren't joined is why the run has no end
-  pub not_joined : (e : PoolError) → IsJoinedRun app script lanes frames (Err e) → Concludes app script lanes frames bytes (Err e)
+  pub not_joined : (e : PoolError) → IsJoinedRun app script lanes frames true (Err e) → Concludes app script lanes frames bytes (Err e)
   not_joined NoMemory is = is
-  not_joined Heavy is = is
+  not_joined Heavy is = is.1
   not_joined ReadFault is = is
+  not_joined WriteFault is = is
   not_joined (TooLong offset) is = is
   not_joined (TooMany offset) is = is
 
@@ -164,6 +169,7 @@ module _ (app : Meaning) (script : List Stamped) (lanes : ℕ) (frames : List Ca
   concluded (Err NoMemory) is = is
   concluded (Err Heavy) is = (bytes, refl, is)
   concluded (Err ReadFault) is = absurd is
+  concluded (Err WriteFault) is = absurd is
   concluded (Err (TooLong offset)) is = absurd is
   concluded (Err (TooMany offset)) is = absurd is
 
@@ -173,6 +179,7 @@ module _ (app : Meaning) (script : List Stamped) (lanes : ℕ) (frames : List Ca
   no_fault (Err NoMemory) is fault = cc
   no_fault (Err Heavy) is fault = cc
   no_fault (Err ReadFault) is fault = is
+  no_fault (Err WriteFault) is fault = is
   no_fault (Err (TooLong offset)) is fault = is
   no_fault (Err (TooMany offset)) is fault = is
 

@@ -12,6 +12,7 @@ mod Posted
 mod Reading
 mod Handing
 mod Dealing
+mod Answering
 mod Standing
 mod AllLanes
 mod Making
@@ -21,3 +22,6 @@ mod Returned
 mod Rows
 mod Manning
 mod Crossed
+mod Draining
+mod Explaining
+mod Exits

@@ -1,5 +1,5 @@
 -- What a worker's lane stands for, once it has served its packets of a capture.
-use Rattle.std.proofs.Common.{◌≡◌, ◌≤◌, ℕ, true, Some, None, List, [], ◌++◌, length, map, drop, refl, sym, ap, subst, ◌∙◌, arith}
+use Rattle.std.proofs.Common.{◌≡◌, ◌<◌, ◌≤◌, ℕ, Bool, true, Some, None, List, [], ◌++◌, length, map, drop, get_or, refl, sym, ap, subst, ◌∙◌, arith}
 use Rattle.std.specs.List.{All}
 use Rattle.std.proofs.lemmas.List.{append-nil, length-map, map-append}
 use mathlib.Core.List.{IsPrefix}
@@ -18,37 +18,41 @@ use Rattle.lane_core.specs.Run.{LaneEvent, versioned_from, commands_of as given_
 use Rattle.lane_core.specs.Lane.{IsHeavy}
 use Rattle.worker_laws.specs.Allowed.{arrivals_of, IsWithin}
 use Rattle.worker_laws.specs.Lanes.{lane_of, share}
+use Rattle.worker_laws.specs.Taken.{verdicts_in}
+use Rattle.worker_laws.specs.Streamed.{answers_to}
 use Rattle.worker_pool.specs.declared.worker.Worker.{Worker}
-use Rattle.worker_pool.specs.Steps.{Step, steps_of, events_of, AreWithin}
-use Rattle.worker_pool.specs.Worked.{Ran, at_hand}
+use Rattle.worker_pool.specs.Steps.{Step, steps_of, events_of, answers_of, AreWithin}
+use Rattle.worker_pool.specs.Worked.{Ran, Sends, at_hand}
 use Rattle.worker_pool.specs.Sent.{packets_from, dealt}
 use Rattle.worker_pool.specs.Team.{IsNew, HasServed}
 use Rattle.worker_pool.specs.Ending.{by_key}
+use Rattle.worker_pool.specs.Explained.{HasAnswered}
+use Rattle.worker_pool.proofs.Answering.{IsFramed, dealt_framed, answers_are, answers_front}
 use Rattle.worker_pool.proofs.Composed.{by_failure}
 use Rattle.worker_pool.proofs.Fronts.{IsPrefix-refl}
 use Rattle.worker_pool.proofs.Handing.{handed, arrival_in, AreInTurn, handed_front, handed_whole, arrivals-handed, arrive_within, IsMarked, All-front}
 use Rattle.worker_pool.proofs.Dealing.{AreOrdered, dealt_marked, dealt_in_turn, dealt_is_share}
 
-IsPrefix-map : {A B : Type 0} (f : A → B) (xs ys : List A) → IsPrefix xs ys → IsPrefix (map f xs) (map f ys)
+pub IsPrefix-map : {A B : Type 0} (f : A → B) (xs ys : List A) → IsPrefix xs ys → IsPrefix (map f xs) (map f ys)
 IsPrefix-map f xs ys p = (map f p.0, sym (map-append f xs p.0) ∙ ap (map f) p.1)
 
-module _ {L : Type 0} (g : Ghosts L) (app : Meaning) (script : List Stamped) (frames : List Captured) (lanes l : ℕ) where
+module _ {L : Type 0} (g : Ghosts L) (keep : Bool) (app : Meaning) (script : List Stamped) (frames : List Captured) (lanes l : ℕ) where
   -- the events that a lane stands for: commands of the script, and packets of its share
   pub record HasCome (lane : L) (events : List LaneEvent) : Type 0 where
     pub app_is : g.app lane ≡ app
-    pub keeps : g.keeps lane ≡ true
+    pub keeps : g.keeps lane ≡ keep
     pub stands : g.stands lane events
     pub commands : IsPrefix (given_in events) (commands_of script)
     pub packets : IsPrefix (arrivals_of (versioned_from 0 events)) (share (by_key lanes) l (arrivals 0 frames))
     pub within : All (λ p. IsWithin (floor script) (ceil script) p.version p.arrival.number) (versioned_from 0 events)
     pub whole : g.failed lane ≡ None → arrivals_of (versioned_from 0 events) ≡ share (by_key lanes) l (arrivals 0 frames)
-    pub heavy : g.failed lane ≡ Some Heavy → IsHeavy app events
+    pub heavy : g.failed lane ≡ Some Heavy → (keep ≡ true) × IsHeavy app events
 
   module _ (ordered : AreOrdered script) (few : length frames ≤ 1048576) (dealt_by_key : (frame : List ℕ) → lane_of (by_key lanes) (sight_of frame) ≡ lane_of_packet (packet_of frame) lanes) where
     abbrev its : List Packet
     its = dealt lanes l (packets_from script 0 frames)
 
-    module _ (a b : Worker L) (new : IsNew g app a) (served : HasServed g (commands_of script) a its b) where
+    module _ (a b : Worker L) (new : IsNew g app a) (kept : g.keeps a.lane ≡ keep) (served : HasServed g (commands_of script) a its b) where
       abbrev ran : Ran g (commands_of script) a b served.worked.packets served.worked.places
       ran = served.worked.ran new.failed
 
@@ -103,7 +107,7 @@ module _ {L : Type 0} (g : Ghosts L) (app : Meaning) (script : List Stamped) (fr
       pub has_come : HasCome b.lane came_events
       has_come = record {
         app_is = served.worked.app ∙ new.app_is;
-        keeps = served.worked.keeps ∙ new.keeps;
+        keeps = served.worked.keeps ∙ kept;
         stands = ran.went.stands [] new.stands;
         commands = subst (λ v. IsPrefix (given_in (events_of steps)) (drop v (commands_of script))) new.given ran.went.commands;
         packets = subst (λ x. IsPrefix x (share (by_key lanes) l (arrivals 0 frames))) (sym arrived)
@@ -111,5 +115,19 @@ module _ {L : Type 0} (g : Ghosts L) (app : Meaning) (script : List Stamped) (fr
         within = arrive_within (floor script) (ceil script) (at_hand g a) 0 steps steps_within
             (All-front (IsMarked (floor script) (ceil script)) (handed steps) its handed_of_its (dealt_marked script lanes l 0 frames));
         whole = λ good. arrived ∙ ap (map arrival_in) (handed_all good) ∙ its_share;
-        heavy = λ is. subst (λ (m : Meaning). IsHeavy m (events_of steps)) new.app_is (ran.went.heavy is [] new.stands);
+        heavy = λ is. (sym kept ∙ ran.went.keeping is, subst (λ (m : Meaning). IsHeavy m (events_of steps)) new.app_is (ran.went.heavy is [] new.stands));
+      }
+
+      framed : (frame_of : ℕ → Captured) → ((i : ℕ) (d : Captured) → i < length frames → frame_of i ≡ get_or frames i d) → All (IsFramed frame_of) (handed steps)
+      framed frame_of tells = All-front (IsFramed frame_of) (handed steps) its handed_of_its (dealt_framed frame_of script lanes l frames tells)
+
+      pub has_answered : HasAnswered g app frames came_events a b
+      has_answered = record {
+        answers = answers_of app [] ran.done;
+        sends = subst (λ (m : Meaning). Sends a.answers b.answers (answers_of m [] ran.done)) new.app_is (ran.answers [] new.stands);
+        front = λ frame_of tells. answers_front frame_of app [] ran.done ran.bad (framed frame_of tells);
+        whole = λ frame_of tells good.
+            let no_bad : ran.done ++ ran.bad ≡ ran.done = ap (λ x. ran.done ++ x) (ran.went.good good) ∙ append-nil ran.done in
+            answers_are frame_of app [] ran.done (subst (λ x. All (IsFramed frame_of) (handed x)) no_bad (framed frame_of tells))
+            ∙ ap (λ x. answers_to frame_of (verdicts_in app (events_of x))) (sym no_bad);
       }

@@ -1,5 +1,5 @@
 -- Only for proofs: what the lanes of workers came to, from their packets to the end of the whole run.
-use Rattle.std.specs.Prelude.{◌≡◌, ℕ, ◌<◌, true, List, length, get_or, Some, None, Result, Ok, Err, ⊤}
+use Rattle.std.specs.Prelude.{◌≡◌, ℕ, ◌<◌, Bool, true, List, length, get_or, Some, None, Result, Ok, Err, ⊤}
 use Rattle.app_api.specs.App.{Meaning}
 use Rattle.pcap_source.specs.Captured.{Captured}
 use Rattle.flow_table.specs.Key.{EndpointPair}
@@ -21,25 +21,25 @@ use Rattle.worker_laws.specs.Taken.{packets_at, events_at, HaveRun}
 use Rattle.worker_pool.specs.declared.worker.Worker.{Worker}
 use Rattle.worker_pool.specs.declared.job.LanesEnd.{LanesEnd}
 use Rattle.worker_pool.specs.declared.job.PoolError.{PoolError}
-use Rattle.worker_pool.specs.declared.job.PoolError.TheVariants.{TooLong, TooMany, ReadFault, Heavy, NoMemory}
+use Rattle.worker_pool.specs.declared.job.PoolError.TheVariants.{TooLong, TooMany, ReadFault, WriteFault, Heavy, NoMemory}
 use Rattle.worker_pool.specs.Run.{MayHave, run_of, IsWhole, IsTooHeavy}
 
 -- which of so many lanes has a key
 abbrev pub by_key : ℕ → EndpointPair → ℕ
 by_key lanes key = lane_of_key key lanes
 
-module _ {L : Type 0} (g : Ghosts L) (app : Meaning) where
+module _ {L : Type 0} (g : Ghosts L) (keep : Bool) (app : Meaning) where
   -- The lanes of these workers share the packets of these frames, each by these events. Where a lane failed, its events have only the
-  -- first packets of its share, and where it failed as heavy, its records weigh too much.
+  -- first packets of its share, and where it failed as heavy, it keeps entries and its records weigh too much.
   pub record CameTo (script : List Stamped) (frames : List Captured) (workers : List (Worker L)) (lanes : List (List LaneEvent)) : Type 0 where
     pub count : length lanes ≡ length workers
     pub run : HaveRun (floor script) (ceil script) (commands_of script) (by_key (length workers)) (arrivals 0 frames) lanes
     pub app_is : (k : ℕ) (w : Worker L) → k < length workers → g.app (get_or workers k w).lane ≡ app
-    pub keeps : (k : ℕ) (w : Worker L) → k < length workers → g.keeps (get_or workers k w).lane ≡ true
+    pub keeps : (k : ℕ) (w : Worker L) → k < length workers → g.keeps (get_or workers k w).lane ≡ keep
     pub stands : (k : ℕ) (w : Worker L) → k < length workers → g.stands (get_or workers k w).lane (events_at lanes k)
     pub whole : (k : ℕ) (w : Worker L) → k < length workers → g.failed (get_or workers k w).lane ≡ None
         → arrivals_of (packets_at lanes k) ≡ share (by_key (length workers)) k (arrivals 0 frames)
-    pub heavy : (k : ℕ) (w : Worker L) → k < length workers → g.failed (get_or workers k w).lane ≡ Some TooHeavy → IsHeavy app (events_at lanes k)
+    pub heavy : (k : ℕ) (w : Worker L) → k < length workers → g.failed (get_or workers k w).lane ≡ Some TooHeavy → (keep ≡ true) × IsHeavy app (events_at lanes k)
 
 module _ {L : Type 0} (g : Ghosts L) where
   -- how a worker's lane ends: it hasn't failed, and its end is that of its run
@@ -53,6 +53,7 @@ module _ {L : Type 0} (g : Ghosts L) where
   IsCause worker Heavy = g.failed worker.lane ≡ Some TooHeavy
   IsCause worker NoMemory = ⊤
   IsCause worker ReadFault = ⊥
+  IsCause worker WriteFault = ⊥
   IsCause worker (TooLong offset) = ⊥
   IsCause worker (TooMany offset) = ⊥
 
@@ -62,14 +63,16 @@ module _ {L : Type 0} (g : Ghosts L) where
     pub each : (k : ℕ) (w : Worker L) (d : LaneEnd) → k < length workers → HasEnded (get_or workers k w) (get_or ends k d)
 
 module _ (app : Meaning) (script : List Stamped) (lanes : ℕ) (frames : List Captured) where
-  -- the lanes' ends are those of one run over these frames, joined; or such a run weighs too much
-  abbrev pub IsJoinedRun : Result Joined PoolError → Type 0
-  IsJoinedRun (Ok joined) = (vs : List ℕ) × MayHave app script lanes frames vs × IsJoined true app (run_of app script vs frames) joined.records joined.callbacks joined.drops
-  IsJoinedRun (Err Heavy) = IsTooHeavy app script lanes frames
-  IsJoinedRun (Err NoMemory) = ⊤
-  IsJoinedRun (Err ReadFault) = ⊥
-  IsJoinedRun (Err (TooLong offset)) = ⊥
-  IsJoinedRun (Err (TooMany offset)) = ⊥
+  -- The ends of lanes that keep entries, or don't, are those of one run over these frames, joined; or they keep entries, and such a run
+  -- weighs too much.
+  abbrev pub IsJoinedRun : Bool → Result Joined PoolError → Type 0
+  IsJoinedRun keep (Ok joined) = (vs : List ℕ) × MayHave app script lanes frames vs × IsJoined keep app (run_of app script vs frames) joined.records joined.callbacks joined.drops
+  IsJoinedRun keep (Err Heavy) = (keep ≡ true) × IsTooHeavy app script lanes frames
+  IsJoinedRun keep (Err NoMemory) = ⊤
+  IsJoinedRun keep (Err ReadFault) = ⊥
+  IsJoinedRun keep (Err WriteFault) = ⊥
+  IsJoinedRun keep (Err (TooLong offset)) = ⊥
+  IsJoinedRun keep (Err (TooMany offset)) = ⊥
 
   -- how a run over these frames and such a tail ends
   abbrev pub Concludes : ℕ → Result LanesEnd PoolError → Type 0
@@ -77,5 +80,6 @@ module _ (app : Meaning) (script : List Stamped) (lanes : ℕ) (frames : List Ca
   Concludes tail (Err Heavy) = IsTooHeavy app script lanes frames
   Concludes tail (Err NoMemory) = ⊤
   Concludes tail (Err ReadFault) = ⊥
+  Concludes tail (Err WriteFault) = ⊥
   Concludes tail (Err (TooLong offset)) = ⊥
   Concludes tail (Err (TooMany offset)) = ⊥

@@ -9,3 +9,7 @@ pub mod Run
 pub mod Ending
 pub mod Making
 pub mod Manned
+pub mod Forward
+pub mod Streamed
+pub mod Drained
+pub mod Explained

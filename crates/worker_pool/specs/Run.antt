@@ -14,7 +14,7 @@ use Rattle.lane_core.specs.Shown.{record_of, weight, callbacks_of, drops_of}
 use Rattle.worker_laws.specs.Whole.{IsAllowedRun, run_under}
 use Rattle.worker_pool.specs.declared.job.LanesEnd.{LanesEnd}
 use Rattle.worker_pool.specs.declared.job.PoolError.{PoolError}
-use Rattle.worker_pool.specs.declared.job.PoolError.TheVariants.{TooLong, TooMany, ReadFault, Heavy, NoMemory}
+use Rattle.worker_pool.specs.declared.job.PoolError.TheVariants.{TooLong, TooMany, ReadFault, WriteFault, Heavy, NoMemory}
 
 -- what is counted over so many packets
 abbrev pub totals_of : List RecordSoFar → ℕ → ℕ → Totals
@@ -57,4 +57,5 @@ module _ (app : Meaning) (script : List Stamped) (lanes : ℕ) where
   EndsOver f (Err (TooMany offset)) = f.ending ≡ too_many offset
   EndsOver f (Err Heavy) = (n : ℕ) × (f.ending ≡ tail n) × IsTooHeavy f.frames
   EndsOver f (Err ReadFault) = ⊤
+  EndsOver f (Err WriteFault) = ⊥
   EndsOver f (Err NoMemory) = ⊤

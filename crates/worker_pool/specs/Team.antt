@@ -16,7 +16,7 @@ use Rattle.app_api.specs.App.{Meaning}
 use Rattle.worker_pool.specs.declared.worker.Worker.{Worker}
 use Rattle.worker_pool.specs.declared.team.Ran.{Ran}
 use Rattle.worker_pool.specs.declared.job.PoolError.{PoolError}
-use Rattle.worker_pool.specs.declared.job.PoolError.TheVariants.{TooLong, TooMany, ReadFault, Heavy, NoMemory}
+use Rattle.worker_pool.specs.declared.job.PoolError.TheVariants.{TooLong, TooMany, ReadFault, WriteFault, Heavy, NoMemory}
 use Rattle.worker_pool.specs.Worked.{Worked}
 use Rattle.worker_pool.specs.Sent.{packets_from, dealt}
 
@@ -25,14 +25,12 @@ module _ {L : Type 0} where
   pub record IsNew (g : Ghosts L) (app : Meaning) (worker : Worker L) : Type 0 where
     pub stands : g.stands worker.lane []
     pub app_is : g.app worker.lane ≡ app
-    pub keeps : g.keeps worker.lane ≡ true
     pub control : g.control worker.lane ≡ start app.presets
     pub given : g.given worker.lane ≡ 0
     pub last : g.last worker.lane ≡ None
     pub failed : g.failed worker.lane ≡ None
     pub packets : taken worker.packets ≡ []
     pub commands : taken worker.commands ≡ []
-    pub answers : worker.answers ≡ None
 
   -- new workers, each with the other end of its packet ring, into which nothing was sent
   pub record IsTeam (g : Ghosts L) (app : Meaning) (workers : List (Worker L)) (packets : List (RingTx Packet)) : Type 0 where
@@ -41,6 +39,10 @@ module _ {L : Type 0} where
     pub each_new : (k : ℕ) (w : Worker L) → k < length workers → IsNew g app (get_or workers k w)
     pub each_ends : (k : ℕ) (w : Worker L) (tx : RingTx Packet) → k < length workers → AreEnds (get_or packets k tx) (get_or workers k w).packets
     pub each_sent : (k : ℕ) (tx : RingTx Packet) → k < length packets → sent (get_or packets k tx) ≡ []
+
+  -- workers whose lanes keep entries, or don't
+  abbrev pub AllKeep : Ghosts L → Bool → List (Worker L) → Type 0
+  AllKeep g keep workers = (k : ℕ) (w : Worker L) → k < length workers → g.keeps (get_or workers k w).lane ≡ keep
 
   -- a worker took exactly these packets, and did what a worker does
   pub record HasServed (g : Ghosts L) (script : List Command) (begin : Worker L) (packets : List Packet) (worker : Worker L) : Type 0 where
@@ -61,5 +63,6 @@ module _ {L : Type 0} where
   TeamRan g script begins capture old new (Err (TooLong offset)) = (rest : List ℕ) → old ≡ Some rest → (frames_at capture rest).ending ≡ too_long offset
   TeamRan g script begins capture old new (Err (TooMany offset)) = (rest : List ℕ) → old ≡ Some rest → (frames_at capture rest).ending ≡ too_many offset
   TeamRan g script begins capture old new (Err ReadFault) = ⊤
+  TeamRan g script begins capture old new (Err WriteFault) = ⊥
   TeamRan g script begins capture old new (Err Heavy) = ⊥
   TeamRan g script begins capture old new (Err NoMemory) = ⊤

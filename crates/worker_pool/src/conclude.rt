@@ -1,6 +1,6 @@
 //! The end of a run on several lanes, from what its workers have done.
 
-ghost use Rattle.std.specs.Prelude.{◌≡◌, ◌<◌, ◌≤◌, ◌⊎◌, ℕ, true, List, length, get_or, IfOk, IfErr};
+ghost use Rattle.std.specs.Prelude.{◌≡◌, ◌<◌, ◌≤◌, ◌⊎◌, ℕ, Bool, true, List, length, get_or, IfOk, IfErr};
 ghost use Rattle.app_api.specs.App.{Meaning};
 ghost use Rattle.pcap_source.specs.Captured.{Captured};
 ghost use Rattle.control_script.specs.declared.stamped.Stamped.{Stamped};
@@ -11,8 +11,9 @@ ghost use Rattle.lane_core.specs.Run.{LaneEvent};
 ghost use Rattle.worker_laws.specs.Ends.{IsJoined};
 ghost use Rattle.worker_pool.specs.declared.worker.Worker.{Worker as Begun};
 ghost use Rattle.worker_pool.specs.Run.{MayHave, run_of};
-ghost use Rattle.worker_pool.specs.Team.{IsTeam, HaveServed};
+ghost use Rattle.worker_pool.specs.Team.{IsTeam, AllKeep, HaveServed};
 ghost use Rattle.worker_pool.specs.Ending.{CameTo, HasEnded, AreEnded, IsCause, IsJoinedRun, Concludes};
+ghost use Rattle.worker_pool.specs.Explained.{HaveAnswered};
 
 use crate::job::{LanesEnd, PoolError};
 use crate::team::Ran;
@@ -30,12 +31,14 @@ use worker_laws::runs::{
 use worker_laws::versions::a_script_gives_floors_and_ceilings;
 use worker_laws::{Joined, is_heavy, join};
 
-// The lanes of workers that have served a capture share its packets, under the commands of the script. This function does
-// nothing: who ends the lanes calls it for what it says.
-fn lanes_have_come<L: Recorder + Drop>(script: &Script, workers: &[Worker<L>])
-    ensures came { (app : Meaning) (frames : List Captured) (begins : List (Begun L)) (packets : List (RingTx Packet))
-        → length frames ≤ 1048576 → IsTeam L.Recorder app begins packets → HaveServed L.Recorder script.now begins frames workers.now
-        → (lanes : List (List LaneEvent)) × CameTo L.Recorder app script.now frames workers.now lanes }
+/// The lanes of workers that have served a capture share its packets, under the commands of the script, and have answered
+/// them. This function does nothing: who ends the lanes calls it for what it says.
+pub(crate) fn lanes_have_come<L: Recorder + Drop>(script: &Script, workers: &[Worker<L>])
+    ensures came { (keep : Bool) (app : Meaning) (frames : List Captured) (begins : List (Begun L)) (packets : List (RingTx Packet))
+        → length frames ≤ 1048576 → IsTeam L.Recorder app begins packets → AllKeep L.Recorder keep begins
+        → HaveServed L.Recorder script.now begins frames workers.now
+        → (lanes : List (List LaneEvent)) × CameTo L.Recorder keep app script.now frames workers.now lanes
+        × HaveAnswered L.Recorder app frames begins workers.now lanes }
     ensures floors { (n : ℕ) → floor script.now n ≤ ceil script.now n }
     ensures ceilings { (n m : ℕ) → n ≤ m → ceil script.now n ≤ ceil script.now m }
 {
@@ -53,8 +56,8 @@ fn end_of<L: Recorder + Drop>(alloc: Global, worker: Worker<L>) -> Result<LaneEn
     Ok(lane.finish(alloc)?)
 }
 
-// What the lanes of workers end with.
-fn ends_of<L: Recorder + Drop>(
+/// What the lanes of workers end with.
+pub(crate) fn ends_of<L: Recorder + Drop>(
     alloc: Global,
     workers: Vec<Worker<L>>,
 ) -> Result<Vec<LaneEnd>, PoolError>
@@ -75,9 +78,10 @@ fn joined_of<L: Recorder + Drop>(
     script: &Script,
     workers: Vec<Worker<L>>,
 ) -> Result<Joined, PoolError>
-    ensures joined { (app : Meaning) (frames : List Captured) (begins : List (Begun L)) (packets : List (RingTx Packet))
-        → length frames ≤ 1048576 → IsTeam L.Recorder app begins packets → HaveServed L.Recorder script.now begins frames workers.items
-        → IsJoinedRun app script.now (length begins) frames result }
+    ensures joined { (keep : Bool) (app : Meaning) (frames : List Captured) (begins : List (Begun L)) (packets : List (RingTx Packet))
+        → length frames ≤ 1048576 → IsTeam L.Recorder app begins packets → AllKeep L.Recorder keep begins
+        → HaveServed L.Recorder script.now begins frames workers.items
+        → IsJoinedRun app script.now (length begins) frames keep result }
 {
     lanes_have_come(script, workers.as_slice());
     packets_of_a_capture_rise();
@@ -125,7 +129,8 @@ pub(crate) fn conclude<L: Recorder + Drop>(
 ) -> Result<LanesEnd, PoolError>
     ensures ends { (app : Meaning) (frames : List Captured) (begins : List (Begun L)) (packets : List (RingTx Packet))
         → length frames ≡ ran.packets → length frames ≤ 1048576
-        → IsTeam L.Recorder app begins packets → HaveServed L.Recorder script.now begins frames ran.workers.items
+        → IsTeam L.Recorder app begins packets → AllKeep L.Recorder true begins
+        → HaveServed L.Recorder script.now begins frames ran.workers.items
         → Concludes app script.now (length begins) frames ran.tail result }
 {
     let joined = joined_of(alloc, script, ran.workers)?;

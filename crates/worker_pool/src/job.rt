@@ -5,6 +5,7 @@ ghost use Rattle.std.specs.Prelude.{◌≡◌};
 use crate::versions::VersionList;
 use control_script::Script;
 use lane_core::LaneError;
+use mos_bytes::Failed;
 use pcap_source::NextError;
 use report_text::{RecordList, Totals};
 use std::alloc::{AllocError, AllocFailed};
@@ -41,6 +42,9 @@ pub enum PoolError {
     /// The capture's source failed.
     #[error("read fault")]
     ReadFault,
+    /// What is forwarded can't be written: its sink failed.
+    #[error("write fault")]
+    WriteFault,
     /// The callbacks of all lanes weigh more than 134,217,728: for each of them 32, and the bytes that it saw.
     #[error("log too large")]
     Heavy,
@@ -74,6 +78,16 @@ impl From<LaneError> for PoolError {
             LaneError::NoMemory => PoolError::NoMemory,
             LaneError::Heavy => PoolError::Heavy,
         }
+    }
+}
+
+impl From<Failed> for PoolError {
+    ghost use Rattle.worker_pool.specs.declared.job.PoolError.TheVariants.{WriteFault};
+
+    ghost from_gives = { λ _ r. r ≡ WriteFault };
+
+    fn from(_: Failed) -> Self {
+        PoolError::WriteFault
     }
 }
 

@@ -7,6 +7,7 @@ mod dispatch;
 mod duty;
 mod ends;
 mod finish;
+mod forward;
 mod gate;
 mod job;
 mod lanes;
@@ -22,6 +23,7 @@ mod turn;
 pub mod versions;
 mod worker;
 
+pub use forward::lanes::forward_lanes;
 pub use gate::{Gate, OpenGate};
 pub use job::{Job, LanesEnd, PoolError};
 pub use lanes::run_lanes;

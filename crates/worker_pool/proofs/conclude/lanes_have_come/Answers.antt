@@ -8,10 +8,10 @@ returns g c =
     let workers = c.args.workers.now in
     let laws = c.a_script_gives_floors_and_ceilings.ensures in
     record {
-      came = λ app frames begins packets few team served.
-          all_came g.L.Recorder app script frames begins workers packets
+      came = λ keep app frames begins packets few team kept served.
+          all_came g.L.Recorder keep app script frames begins workers packets
           (record { within = λ n. laws.within script n c.len-commands.ensures.order; rises = λ n m le. laws.rises script n m le; count = λ n. laws.count script n })
-          few team served
+          few team kept served
           (λ sight some. c.packets_go_to_lanes.ensures.below (length workers) sight some)
           (λ frame. c.packets_go_to_lanes.ensures.frame (length workers) frame);
       floors = λ n. laws.within script n c.len-commands.ensures.order;

@@ -1,0 +1,98 @@
+-- Only for proofs: the dispatcher of a forward run, with what it has sent to the lanes, taken from them, and written.
+use Rattle.std.specs.Prelude.{◌≡◌, ◌≢◌, ℕ, ◌<◌, ◌≤◌, List, [], ◌++◌, length, map, get_or, Option, Some, None, Result, Ok, Err, ⊤}
+use Rattle.std.specs.Io.KnownBytes.{Appends}
+use mathlib.Core.List.{IsPrefix}
+use Rattle.packet_views.specs.Packet.{packet_of}
+use Rattle.pcap_source.specs.Captured.{Captured}
+use Rattle.pcap_source.specs.Capture.{tail, too_long, too_many}
+use Rattle.pcap_source.specs.Reading.{CaptureState, frames_at}
+use Rattle.flow_table.specs.Lane.{lane_of_packet}
+use Rattle.control_script.specs.declared.stamped.Stamped.{Stamped}
+use Rattle.lane_rings.specs.declared.items.Answer.{Answer}
+use Rattle.lane_rings.specs.declared.ring.RingTx.{RingTx}
+use Rattle.lane_rings.specs.Ring.{sent, taken, AreEnds}
+use Rattle.lane_rings.specs.Share.{share}
+use Rattle.lane_rings.specs.Waiting.{Waiting, first_of}
+use Rattle.lane_rings.specs.Forward.{Leaving, Keeps, bytes_of_first}
+use Rattle.lane_core.specs.declared.recorder.Recorder.{Ghosts}
+use Rattle.worker_pool.specs.declared.worker.Worker.{Worker}
+use Rattle.worker_pool.specs.declared.post.Post.{Post}
+use Rattle.worker_pool.specs.declared.dispatch.Whole.{Whole}
+use Rattle.worker_pool.specs.declared.forward.relay.Relay.{Relay}
+use Rattle.worker_pool.specs.declared.job.PoolError.{PoolError}
+use Rattle.worker_pool.specs.declared.job.PoolError.TheVariants.{TooLong, TooMany, ReadFault, WriteFault, Heavy, NoMemory}
+use Rattle.worker_pool.specs.Posts.{ArePosts}
+
+-- the lane of each packet by its number, among so many lanes; lane 0 past the end
+abbrev pub lane_at : ℕ → List Captured → ℕ → ℕ
+lane_at lanes frames i = get_or (map (λ f. lane_of_packet (packet_of f.bytes) lanes) frames) i 0
+
+-- the answers that were taken from each lane; none where there is no such lane
+abbrev pub taken_from : List Relay → ℕ → List Answer
+taken_from relays l = get_or (map (λ r. taken r.answers) relays) l []
+
+-- ---- the relays of workers
+
+module _ {L : Type 0} where
+  -- a worker that begins so answers into the ring of which this is the taking end, and has answered nothing
+  pub record IsAnswered (begin : Worker L) (relay : Relay) : Type 0 where
+    pub ring : RingTx Answer
+    pub answers : begin.answers ≡ Some ring
+    pub unsent : sent ring ≡ []
+    pub ends : AreEnds ring relay.answers
+
+  -- the relays of workers that began so, to whose lanes the packets of these frames were sent
+  pub record AreRelays (begins : List (Worker L)) (frames : List Captured) (relays : List Relay) : Type 0 where
+    pub count : length begins ≡ length relays
+    pub answered : (k : ℕ) (w : Worker L) (r : Relay) → k < length relays → IsAnswered (get_or begins k w) (get_or relays k r)
+    pub sent_are : (k : ℕ) (r : Relay) → k < length relays → (get_or relays k r).sent ≡ length (share (lane_at (length relays) frames) k (length frames))
+    pub taken_are : (k : ℕ) (r : Relay) → k < length relays → (get_or relays k r).taken ≡ length (taken (get_or relays k r).answers)
+
+-- ---- what has left
+
+module _ (lane : ℕ → ℕ) (n : ℕ) (taken_so_far : ℕ → List Answer) where
+  -- the records whose turn it was were written whole, and these answers wait
+  pub record Leaves (waiting : Waiting) (old new : Option (List ℕ)) : Type 0 where
+    pub state : Leaving
+    pub waits : state.waiting ≡ waiting
+    pub keeps : Keeps lane n taken_so_far state
+    pub written : Appends old new state.out
+
+  -- The records whose turn it was were written whole, and after them a front of the next one: a part of it where its write failed,
+  -- else nothing.
+  pub record HasLeft (old new : Option (List ℕ)) : Type 0 where
+    pub state : Leaving
+    pub part : List ℕ
+    pub keeps : Keeps lane n taken_so_far state
+    pub cut : IsPrefix part (bytes_of_first (first_of state.waiting))
+    pub written : Appends old new (state.out ++ part)
+
+-- ---- the run
+
+-- why the dispatcher stopped, where it read a capture that gives these frames
+abbrev pub StopsAs : List Captured → CaptureState → Option (List ℕ) → Option (List ℕ) → Result Whole PoolError → Type 0
+StopsAs frames capture old new (Ok whole) = (length frames ≡ whole.packets)
+    × ((rest : List ℕ) → old ≡ Some rest → (frames_at capture rest ≡ record { frames = frames; ending = tail whole.tail }) × (new ≡ Some []))
+StopsAs frames capture old new (Err (TooLong offset)) = (rest : List ℕ) → old ≡ Some rest → (frames_at capture rest).ending ≡ too_long offset
+StopsAs frames capture old new (Err (TooMany offset)) = (rest : List ℕ) → old ≡ Some rest → (frames_at capture rest).ending ≡ too_many offset
+StopsAs frames capture old new (Err ReadFault) = ⊤
+StopsAs frames capture old new (Err WriteFault) = ⊤
+StopsAs frames capture old new (Err Heavy) = ⊥
+StopsAs frames capture old new (Err NoMemory) = ⊤
+
+module _ {L : Type 0} where
+  -- The packets of these frames, the first of the capture, were sent, and some of the answers taken and written; these wait. At a
+  -- fault of writing the record whose turn it was is cut off.
+  pub record Streamed (begins : List (Worker L)) (frames : List Captured) (relays : List Relay) (waiting : Waiting) (capture : CaptureState) (old new before after : Option (List ℕ)) (result : Result Whole PoolError) : Type 0 where
+    pub relays_are : AreRelays begins frames relays
+    pub left : HasLeft (lane_at (length relays) frames) (length frames) (taken_from relays) before after
+    pub leaves : result ≢ Err WriteFault → Leaves (lane_at (length relays) frames) (length frames) (taken_from relays) waiting before after
+    pub front : (rest : List ℕ) → old ≡ Some rest → IsPrefix frames (frames_at capture rest).frames
+    pub stops : StopsAs frames capture old new result
+
+  -- the packets of some frames were sent to these posts, and this holds of the frames
+  pub record Dealt (g : Ghosts L) (script : List Stamped) (begins : List (Worker L)) (posts : List (Post L)) (did : List Captured → Type 0) : Type 0 where
+    pub frames : List Captured
+    pub few : length frames ≤ 1048576
+    pub posts_are : ArePosts g script begins frames posts
+    pub done : did frames

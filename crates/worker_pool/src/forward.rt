@@ -1,0 +1,8 @@
+//! A forward run: the capture without its dropped packets is written while it is read, in its order.
+
+mod drain;
+mod explain;
+pub(crate) mod lanes;
+mod leave;
+pub(crate) mod relay;
+mod stream;

@@ -1,0 +1,116 @@
+//! The end of a forward run whose threads have ended.
+
+ghost use Rattle.std.specs.Prelude.{◌≡◌, ◌≢◌, ◌≤◌, ◌⊎◌, [], List, Option, ℕ, Some, Err, IsOk, IfOk, IfErr, IsErrOf, length, true, false};
+ghost use Rattle.mos_bytes.specs.Causes.{Rose};
+ghost use Rattle.app_api.specs.App.{Meaning};
+ghost use Rattle.pcap_source.specs.Captured.{Captured};
+ghost use Rattle.pcap_source.specs.Reading.{CaptureState, frames_at};
+ghost use Rattle.lane_rings.specs.declared.items.Packet.{Packet};
+ghost use Rattle.lane_rings.specs.declared.ring.RingTx.{RingTx};
+ghost use Rattle.control_script.specs.declared.stamped.Stamped.{Stamped};
+ghost use Rattle.control_script.specs.Order.{commands_of};
+ghost use Rattle.lane_core.specs.Sight.{arrivals};
+ghost use Rattle.lane_core.specs.Run.{LaneEvent};
+ghost use Rattle.worker_laws.specs.Taken.{AreOneRun};
+ghost use Rattle.worker_pool.specs.declared.worker.Worker.{Worker as Begun};
+ghost use Rattle.worker_pool.specs.Team.{IsTeam, AllKeep, HaveServed};
+ghost use Rattle.worker_pool.specs.Streamed.{AreRelays, Streamed};
+ghost use Rattle.worker_pool.specs.Run.{MayHave};
+ghost use Rattle.worker_pool.specs.Ending.{by_key, CameTo};
+ghost use Rattle.worker_pool.specs.Explained.{AreGood};
+ghost use Rattle.worker_pool.specs.Forward.{ForwardsOver};
+
+use crate::conclude::ends_of;
+use crate::dispatch::Whole;
+use crate::forward::drain::{drain, write_ready};
+use crate::forward::explain::lanes_have_answered;
+use crate::forward::relay::Relay;
+use crate::job::PoolError;
+use crate::versions::{VersionList, versions_of};
+use crate::worker::Worker;
+use control_script::Script;
+use lane_core::Recorder;
+use lane_rings::Resequencer;
+use mos_bytes::Sink;
+use pcap_source::Capture;
+use std::alloc::Global;
+use worker_laws::join;
+use worker_laws::packets::packets_of_a_capture_rise;
+use worker_laws::runs::a_run_has_its_versions;
+
+// The versions of the records of lanes that keep no entries.
+fn versions_in<L: Recorder + Drop>(
+    alloc: Global,
+    workers: Vec<Worker<L>>,
+) -> Result<VersionList, PoolError>
+    ensures good { IsOk result → AreGood L.Recorder workers.items }
+    ensures versions { (app : Meaning) (script : List Stamped) (frames : List Captured) (lanes : List (List LaneEvent)) (vs : List ℕ)
+        → CameTo L.Recorder false app script frames workers.items lanes
+        → AreOneRun app (commands_of script) (by_key (length workers.items)) (arrivals 0 frames) lanes vs
+        → MayHave app script (length workers.items) frames vs → IfOk result (λ versions. versions ≡ vs) }
+    ensures kinds { IfErr result (λ e. (e ≡ PoolError.NoMemory) ⊎ (e ≡ PoolError.Heavy)) }
+    ensures no_memory { (app : Meaning) (script : List Stamped) (frames : List Captured) (lanes : List (List LaneEvent))
+        → CameTo L.Recorder false app script frames workers.items lanes → IfErr result (λ e. e ≡ PoolError.NoMemory) }
+{
+    packets_of_a_capture_rise();
+    a_run_has_its_versions();
+    let ends = ends_of(alloc, workers)?;
+    let joined = join(alloc, ends)?;
+    let versions = versions_of(alloc, joined.records.as_slice())?;
+    Ok(versions)
+}
+
+// Whether the dispatcher ended with a fault of writing.
+fn is_write_fault(read: &Result<Whole, PoolError>) -> bool
+    ensures fault { result ≡ true → read.now ≡ Err PoolError.WriteFault }
+    ensures other { result ≡ false → read.now ≢ Err PoolError.WriteFault }
+{
+    match read {
+        Err(PoolError::WriteFault) => true,
+        _ => false,
+    }
+}
+
+/// Ends a forward run whose workers have ended: writes what they have answered and what hasn't left yet, up to the first
+/// packet that no lane answered, and answers the versions of the records.
+///
+/// `read` is what the dispatcher ended with; its error is told. Nothing more is written where it is a fault of writing. Of
+/// other errors a fault of writing here comes first, then that of `read`, then that a lane failed.
+pub(crate) fn leave<L: Recorder + Drop, O: Sink>(
+    alloc: Global,
+    script: &Script,
+    workers: Vec<Worker<L>>,
+    relays: Vec<Relay>,
+    waiting: Resequencer,
+    read: Result<Whole, PoolError>,
+    capture: &Capture,
+    out: &mut O,
+) -> Result<VersionList, PoolError>
+    requires served { (app : Meaning) × (frames : List Captured) × (begins : List (Begun L)) × (packets : List (RingTx Packet))
+        × IsTeam L.Recorder app begins packets × HaveServed L.Recorder script.now begins frames workers.items × AreRelays begins frames relays.items }
+    ensures ends { (app : Meaning) (frames : List Captured) (begins : List (Begun L)) (packets : List (RingTx Packet))
+        (start : CaptureState) (old new before : Option (List ℕ)) (rest : List ℕ)
+        → length frames ≤ 1048576 → IsTeam L.Recorder app begins packets → AllKeep L.Recorder false begins
+        → HaveServed L.Recorder script.now begins frames workers.items
+        → Streamed begins frames relays.items waiting start old new before (O.taken out.old) read → old ≡ Some rest
+        → ForwardsOver app script.now (length begins) (frames_at start rest) before (O.taken out.new) result }
+    ensures ok { IsOk result → IsOk read }
+    ensures read_fault { IsErrOf result PoolError.ReadFault → IsErrOf read PoolError.ReadFault }
+    ensures write_fault { IsErrOf result PoolError.WriteFault → IsErrOf read PoolError.WriteFault ⊎ Rose (O.faults out.old) (O.faults out.new) }
+    ensures counts { O.faults out.old ≤ O.faults out.new }
+    ensures lasts { O.lasting out.new ≡ O.lasting out.old }
+{
+    lanes_have_answered(script, workers.as_slice());
+    let mut workers = workers;
+    let mut relays = relays;
+    let mut waiting = waiting;
+    drain(&mut workers, &mut relays, &mut waiting);
+    if is_write_fault(&read) {
+        return Err(PoolError::WriteFault);
+    }
+    write_ready(&mut waiting, capture, out)?;
+    match read {
+        Ok(_) => versions_in(alloc, workers),
+        Err(error) => Err(error),
+    }
+}
