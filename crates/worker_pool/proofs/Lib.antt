@@ -21,3 +21,4 @@ mod Returned
 mod Rows
 mod Manning
 mod Crossed
+mod Forwarding
