@@ -42,7 +42,7 @@ pub(crate) struct Streamer<'a, R, S, O, G> {
 impl<'a, R: Wait, L: Recorder + Drop, S: Source, O: Sink, G: Gate> Dealer<L>
     for Streamer<'a, R, S, O, G>
 {
-    ghost use Rattle.std.specs.Prelude.{◌≡◌, [], ℕ, List, Option, length, IsErrOf};
+    ghost use Rattle.std.specs.Prelude.{◌≡◌, [], length, IsErrOf};
     ghost use Rattle.mos_bytes.specs.Causes.{HasCauseOf};
     ghost use Rattle.pcap_source.specs.Reading.{Opened};
     ghost use Rattle.worker_pool.specs.declared.job.PoolError.TheVariants.{ReadFault, WriteFault};
@@ -50,18 +50,17 @@ impl<'a, R: Wait, L: Recorder + Drop, S: Source, O: Sink, G: Gate> Dealer<L>
 
     ghost script = { λ d. d.script.now };
 
-    ghost may = { λ d begins. Opened d.capture.now × AreRelays begins [] d.relays.now.items };
+    ghost may = { λ d begins. Opened d.capture.now × AreRelays begins [] d.relays.now.items
+        × Leaves (lane_at (length d.relays.now.items) []) 0 (taken_from d.relays.now.items) d.waiting.now (O.taken d.out.now) (O.taken d.out.now) };
 
     ghost did = { λ d e begins frames result.
-        ((before : Option (List ℕ)) → Leaves (lane_at (length d.relays.now.items) []) 0 (taken_from d.relays.now.items) d.waiting.now before (O.taken d.out.now)
-        → Streamed begins frames e.relays.now.items e.waiting.now d.capture.now (S.left d.source.now) (S.left e.source.now) before (O.taken e.out.now) result)
+        Streamed begins frames e.relays.now.items e.waiting.now d.capture.now (S.left d.source.now) (S.left e.source.now) (O.taken d.out.now) (O.taken e.out.now) result
         × HasCauseOf (S.faults d.source.now) (S.faults e.source.now) (IsErrOf result ReadFault)
         × HasCauseOf (O.faults d.out.now) (O.faults e.out.now) (IsErrOf result WriteFault)
         × (S.lasting e.source.now ≡ S.lasting d.source.now)
         × (O.lasting e.out.now ≡ O.lasting d.out.now)
         × (e.relays.ghost_name ≡ d.relays.ghost_name) × (e.waiting.ghost_name ≡ d.waiting.ghost_name)
-        × (e.capture.ghost_name ≡ d.capture.ghost_name) × (e.source.ghost_name ≡ d.source.ghost_name)
-        × (e.out.ghost_name ≡ d.out.ghost_name) };
+        × (e.source.ghost_name ≡ d.source.ghost_name) × (e.out.ghost_name ≡ d.out.ghost_name) };
 
     fn deal(&mut self, posts: &mut Vec<Post<L>>) -> Result<Whole, PoolError> {
         stream(
