@@ -2,10 +2,9 @@
 
 ghost use Rattle.std.specs.Prelude.{◌≡◌, ◌+◌, ◌++◌, ◌≤◌, [], ◌∷◌, Bool, true, false, length, IfOk, OnOk};
 ghost use Rattle.app_api.specs.App.{Meaning};
-ghost use Rattle.worker_pool.specs.Making.{IsFresh, AreBegun};
+ghost use Rattle.worker_pool.specs.Making.{IsFresh, AreBegun, AreUnused};
 ghost use Rattle.worker_pool.specs.declared.worker.Worker.{Worker as Begun};
 ghost use Rattle.worker_pool.specs.Team.{IsTeam, AllKeep};
-ghost use Rattle.worker_pool.specs.Streamed.{AreRelays};
 
 use crate::forward::relay::Relay;
 use crate::job::Job;
@@ -66,7 +65,7 @@ fn enlist_answering<L: Recorder + Drop>(
     ensures begun { OnOk result ((app : Meaning) (keep : Bool) → IsFresh L.Recorder app keep lane
         → AreBegun L.Recorder app keep team.old.workers.items team.old.packets.items
         → AreBegun L.Recorder app keep team.new.workers.items team.new.packets.items) }
-    ensures relays { OnOk result (AreRelays team.old.workers.items [] relays.old.items → AreRelays team.new.workers.items [] relays.new.items) }
+    ensures relays { OnOk result (AreUnused team.old.workers.items relays.old.items → AreUnused team.new.workers.items relays.new.items) }
     ensures count { OnOk result (length team.new.workers.items ≡ length team.old.workers.items + 1) }
 {
     let (answers_tx, answers) = answer_ring(alloc, WAITING_ANSWERS)?;
@@ -114,7 +113,7 @@ fn answering_team_of<L: Recorder + Drop, F: Fn() -> Result<L, AllocError>>(
     requires callable { F.IsAlwaysCallable make }
     ensures begun { IfOk result (λ r. (app : Meaning) (keep : Bool) → ((made : _) → F.post make made → IfOk made (λ lane. IsFresh L.Recorder app keep lane))
         → AreBegun L.Recorder app keep r.0.workers.items r.0.packets.items) }
-    ensures relays { IfOk result (λ r. AreRelays r.0.workers.items [] r.1.items) }
+    ensures relays { IfOk result (λ r. AreUnused r.0.workers.items r.1.items) }
     ensures count { IfOk result (λ r. length r.0.workers.items ≡ count) }
 {
     let mut team = Team {
@@ -171,7 +170,7 @@ pub(crate) fn make_forward_team<R: Wait + Copy + Drop, A: App + Copy + Drop>(
     requires some { 1 ≤ job.now.workers }
     ensures team { IfOk result (λ r. IsTeam ⟦<Lane<A, StoreUser<R>> as Recorder>⟧ (A.meaning job.now.app) r.0.workers.items r.0.packets.items) }
     ensures keep { IfOk result (λ r. AllKeep ⟦<Lane<A, StoreUser<R>> as Recorder>⟧ false r.0.workers.items) }
-    ensures relays { IfOk result (λ r. AreRelays r.0.workers.items [] r.1.items) }
+    ensures relays { IfOk result (λ r. AreUnused r.0.workers.items r.1.items) }
     ensures count { IfOk result (λ r. length r.0.workers.items ≡ job.now.workers) }
 {
     let places = (job.script.len() as usize).max(1);

@@ -15,4 +15,4 @@ returns-clause-relays g c = λ are.
       unsent = c.in_ok-answers_tx.ensures.sent.0;
       ends = c.in_ok-answers_tx.ensures.ends;
     })
-    refl (ap length (sym c.in_ok-answers_tx.ensures.taken.0)))
+    refl (sym (ap length c.in_ok-answers_tx.ensures.taken.0)) c.in_ok-answers_tx.ensures.taken.0)
