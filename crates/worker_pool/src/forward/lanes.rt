@@ -58,14 +58,14 @@ fn stream_team<
     O: Sink,
     G: Gate + Sync,
 >(
-    rt: &R,
+    rt: &'a R,
     alloc: Global,
     team: Team<L>,
     relays: &'a mut Vec<Relay>,
     waiting: &'a mut Resequencer,
-    script: &Script,
-    natives: &NativeBook,
-    gate: &G,
+    script: &'a Script,
+    natives: &'a NativeBook,
+    gate: &'a G,
     capture: &'a mut Capture,
     source: &'a mut S,
     out: &'a mut O,
@@ -96,7 +96,7 @@ fn stream_team<
         source,
         out,
     };
-    run_team(
+    let (read, workers) = run_team(
         rt,
         alloc,
         team,
@@ -105,7 +105,8 @@ fn stream_team<
         gate,
         &failed,
         &mut streamer,
-    )
+    )?;
+    Ok((read, workers))
 }
 
 /// Runs an application over the packets of an opened capture, on several lanes, as `run_lanes` does, and writes the
