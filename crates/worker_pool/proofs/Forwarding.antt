@@ -1,13 +1,15 @@
 -- The team of a forward run.
-use Rattle.std.proofs.Common.{◌≡◌, ◌<◌, ◌≤◌, ◌+◌, ◌⊎◌, inl, inr, ℕ, zero, suc, All, List, [], ◌∷◌, ◌++◌, length, get_or, refl, sym, ap, subst, ◌∙◌, ⊎_elim, arith}
+use Rattle.std.proofs.Common.{◌≡◌, ◌≢◌, ◌<◌, ◌≤◌, ◌+◌, ◌⊎◌, inl, inr, ℕ, zero, suc, All, List, [], ◌∷◌, ◌++◌, length, get_or, refl, sym, ap, subst, ◌∙◌, ⊎_elim, arith}
 use Rattle.std.specs.Prelude.{◌^◌, ◌-◌, Some, None, Ok, Err, Result, Option, IsOk, IsErrOf, map, replicate, nat_lt, if◌then◌else◌, true}
 use Rattle.std.specs.Io.KnownBytes.{Appends}
 use Rattle.std.proofs.lemmas.List.{length_push, get_or_append_left, get_or_push, append-nil}
 use Rattle.std.proofs.lemmas.List.Elements.{All-push}
 use Rattle.std.proofs.lemmas.Bool.{cases_lt}
-use Rattle.mos_bytes.specs.Causes.{Rose}
+use Rattle.mos_bytes.specs.Causes.{Rose, HasCauseOf}
 use Rattle.mos_bytes.specs.Writes.{AppendsFront}
+use Rattle.app_api.specs.App.{Meaning}
 use Rattle.pcap_source.specs.Captured.{Captured}
+use Rattle.pcap_source.specs.Capture.{Frames}
 use Rattle.pcap_source.specs.Reading.{CaptureState}
 use Rattle.control_script.specs.declared.stamped.Stamped.{Stamped}
 use Rattle.lane_core.specs.declared.recorder.Recorder.{Ghosts}
@@ -23,6 +25,8 @@ use Rattle.worker_pool.specs.declared.forward.relay.Relay.{Relay}
 use Rattle.worker_pool.specs.declared.post.Post.{Post}
 use Rattle.worker_pool.specs.declared.dispatch.Whole.{Whole}
 use Rattle.worker_pool.specs.declared.job.PoolError.{PoolError}
+use Rattle.worker_pool.specs.declared.job.PoolError.TheVariants.{NoMemory}
+use Rattle.worker_pool.specs.Forward.{ForwardsFront, ForwardsOver}
 use Rattle.worker_pool.specs.Making.{AreUnused}
 use Rattle.worker_pool.specs.Streamed.{IsAnswered, AreRelays, Leaves, Dealt, StopsAs, lane_at, taken_from}
 
@@ -130,3 +134,12 @@ rose_after a b d later rose = ⊎_elim (λ more. inl (omega (arith, later, more)
 
 pub rose_before : (a b d : ℕ) → Rose a b → b ≤ d → Rose a d
 rose_before a b d rose later = ⊎_elim (λ more. inl (omega (arith, later, more))) (λ full. inr (omega (arith, later, full))) rose
+
+-- a run that memory was refused to before it began wrote nothing
+pub ended_early : (app : Meaning) (script : List Stamped) (lanes : ℕ) (f : Frames) (before : Option (List ℕ)) (result : Result (List ℕ) PoolError) → result ≡ Err NoMemory
+    → ForwardsFront app script lanes f.frames before before → ForwardsOver app script lanes f before before result
+ended_early app script lanes f before result is front = subst (λ (r : Result (List ℕ) PoolError). ForwardsOver app script lanes f before before r) (sym is) (tt, front)
+
+-- which is no fault
+pub no_fault_early : (count : ℕ) (fault : PoolError) (result : Result (List ℕ) PoolError) → result ≡ Err NoMemory → NoMemory ≢ fault → HasCauseOf count count (IsErrOf result fault)
+no_fault_early count fault result is other = record { later = omega arith; cause = λ told. absurd (other (cc)) }
