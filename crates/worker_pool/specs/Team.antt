@@ -69,8 +69,7 @@ module _ {L : Type 0} where
   TeamRan g script begins capture old new (Err Heavy) = ⊥
   TeamRan g script begins capture old new (Err NoMemory) = ⊤
 
--- What was read for a report: these frames are the whole capture, before a tail; or the capture is refused behind them. A fault is told
--- only where the source's count of faults rose.
+-- what was read for a report: these frames are the whole capture, before a tail; or the capture is refused behind them
 abbrev pub ReadsWhole : List Captured → CaptureState → Option (List ℕ) → Option (List ℕ) → Result Whole PoolError → Type 0
 ReadsWhole frames capture old new (Ok whole) = (length frames ≡ whole.packets)
     × ((rest : List ℕ) → old ≡ Some rest → (frames_at capture rest ≡ record { frames = frames; ending = tail whole.tail }) × (new ≡ Some []))
@@ -81,6 +80,7 @@ ReadsWhole frames capture old new (Err WriteFault) = ⊥
 ReadsWhole frames capture old new (Err Heavy) = ⊥
 ReadsWhole frames capture old new (Err NoMemory) = ⊤
 
+-- so it was, and a fault of the source is told only where its count rose
 pub record HasRead (frames : List Captured) (capture : CaptureState) (old new : Option (List ℕ)) (faults faults_now : ℕ) (result : Result Whole PoolError) : Type 0 where
   pub whole : ReadsWhole frames capture old new result
   pub cause : HasCauseOf faults faults_now (IsErrOf result ReadFault)

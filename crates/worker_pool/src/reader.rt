@@ -108,16 +108,7 @@ pub(crate) fn read_team<
         capture,
         source,
     };
-    let (read, workers) = run_team(
-        rt,
-        alloc,
-        team,
-        script,
-        natives,
-        gate,
-        &failed,
-        &mut reader,
-    )?;
+    let (read, workers) = run_team(rt, alloc, team, script, natives, gate, &failed, &mut reader)?;
     let whole = read?;
     Ok(Ran {
         workers,

@@ -122,11 +122,7 @@ fn run_threads<
     natives: &'c NativeBook,
     gate: &'c G,
     dealer: &'c mut E,
-) -> (
-    Result<Whole, PoolError>,
-    Vec<Worker<L>>,
-    &'c mut E,
-)
+) -> (Result<Whole, PoolError>, Vec<Worker<L>>, &'c mut E)
     requires starts { MayStart L.Recorder script.now (D.commands duty.now) (E.script dealer.old) team.workers.items team.packets.items posts.items (vec_capacity posts) back.items (vec_capacity back) (length stops.now) }
     requires may { E.may dealer.old team.workers.items }
     ensures served { Served L.Recorder script.now team.workers.items result.1.items (λ frames. E.did dealer.old result.2.now team.workers.items frames result.0) }
@@ -141,11 +137,7 @@ fn run_threads<
     thread::scope(
         thread::scope_env(),
         rt,
-        move |scope| -> (
-            Result<Whole, PoolError>,
-            Vec<Worker<L>>,
-            &mut E,
-        )
+        move |scope| -> (Result<Whole, PoolError>, Vec<Worker<L>>, &mut E)
             requires duty_shared { IsSync D.row }
             requires gate_shared { IsSync G.row }
             requires starts { MayStart L.Recorder script.now (D.commands duty.now) (E.script dealer.now) workers.items packets.items posts.items (vec_capacity posts) back.items (vec_capacity back) (length stops.now) }

@@ -40,8 +40,7 @@ pub(crate) struct Streamer<'a, R, S, O, G> {
 }
 
 impl<'a, R: Wait, L: Recorder + Drop, S: Source, O: Sink, G: Gate> Dealer<L>
-    for Streamer<'a, R, S, O, G>
-{
+    for Streamer<'a, R, S, O, G> {
     ghost use Rattle.std.specs.Prelude.{◌≡◌, [], length, IsErrOf};
     ghost use Rattle.mos_bytes.specs.Causes.{HasCauseOf};
     ghost use Rattle.pcap_source.specs.Reading.{Opened};

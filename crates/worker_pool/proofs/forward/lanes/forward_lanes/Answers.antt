@@ -58,8 +58,8 @@ returns-clause-forwards g c = λ rest is.
     let script = c.args.job.now.script.now in
     let s = c.in_ok-read.ensures.served in
     let over = c.leave.ensures.ends app s.frames c.in_ok-team.team.workers.items c.in_ok-team.team.packets.items c.args.capture.now
-        (g.S.Source.left c.args.source.now) (g.S.Source.left c.stream_team.new.source) (g.O.Sink.taken c.args.out.now) rest
-        s.few c.in_ok-team.ensures.team c.in_ok-team.ensures.keep s.served s.done is in
+    (g.S.Source.left c.args.source.now) (g.S.Source.left c.stream_team.new.source) (g.O.Sink.taken c.args.out.now) rest
+    s.few c.in_ok-team.ensures.team c.in_ok-team.ensures.keep s.served s.done is in
     subst (λ n. ForwardsOver app script n (frames_at c.args.capture.now rest) (g.O.Sink.taken c.args.out.now) (g.O.Sink.taken c.leave.new.out) c.leave.result) c.in_ok-team.ensures.count over
 
 pub returns-clause-read : goal.returns-clause-read
