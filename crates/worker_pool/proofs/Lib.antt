@@ -25,3 +25,4 @@ mod Crossed
 mod Draining
 mod Explaining
 mod Exits
+mod Forwarding

@@ -1,6 +1,7 @@
 -- One more worker of a team.
-use Rattle.std.proofs.Common.{◌≡◌, ◌<◌, ◌≤◌, ◌+◌, List, [], ◌∷◌, ◌++◌, length, get_or, sym, ap, subst, ◌∙◌, ⊎_elim, arith}
-use Rattle.std.specs.Prelude.{ℕ, Result, Ok, Err, IfOk}
+use Rattle.std.proofs.Common.{◌≡◌, ◌<◌, ◌≤◌, ◌+◌, List, [], ◌∷◌, ◌++◌, length, get_or, refl, sym, ap, subst, ◌∙◌, ⊎_elim, arith}
+use Rattle.std.specs.Prelude.{ℕ, Bool, Result, Ok, Err, Vec, IfOk}
+use Rattle.std.specs.Global.{Global}
 use Rattle.std.proofs.lemmas.List.{length_push, get_or_append_left, get_or_push}
 use Rattle.std.proofs.lemmas.List.Elements.{All-push}
 use Rattle.std.proofs.lemmas.Bool.{cases_lt}
@@ -11,14 +12,25 @@ use Rattle.lane_rings.specs.Ring.{sent, AreEnds}
 use Rattle.lane_core.specs.declared.recorder.Recorder.{Ghosts}
 use Rattle.worker_pool.specs.declared.worker.Worker.{Worker}
 use Rattle.worker_pool.specs.declared.team.Team.{Team}
-use Rattle.worker_pool.specs.Team.{IsNew, IsTeam}
+use Rattle.worker_pool.specs.declared.forward.relay.Relay.{Relay}
+use Rattle.worker_pool.specs.Team.{IsNew, IsTeam, AllKeep}
 use Rattle.worker_pool.specs.Making.{AreBegun}
 
-module _ {L : Type 0} (g : Ghosts L) (app : Meaning) where
+module _ {L : Type 0} (g : Ghosts L) (app : Meaning) (keep : Bool) where
+  -- nobody has begun
+  pub none_begun : AreBegun g app keep [] []
+  none_begun = record {
+    count = refl;
+    each_new = λ k w below. absurd (omega (arith, below));
+    each_ends = λ k w t below. absurd (omega (arith, below));
+    kept = λ k w below. absurd (omega (arith, below));
+    each_sent = λ k t below. absurd (omega (arith, below));
+  }
+
   -- a team with one more worker, and the sending end of its packet ring
-  pub begun_more : (workers : List (Worker L)) (packets : List (RingTx Packet)) (w : Worker L) (tx : RingTx Packet) → AreBegun g app workers packets → IsNew g app w → AreEnds tx w.packets → sent tx ≡ []
-      → AreBegun g app (workers ++ w ∷ []) (packets ++ tx ∷ [])
-  begun_more workers packets w tx begun new ends none = record {
+  pub begun_more : (workers : List (Worker L)) (packets : List (RingTx Packet)) (w : Worker L) (tx : RingTx Packet) → AreBegun g app keep workers packets → IsNew g app w → g.keeps w.lane ≡ keep → AreEnds tx w.packets → sent tx ≡ []
+      → AreBegun g app keep (workers ++ w ∷ []) (packets ++ tx ∷ [])
+  begun_more workers packets w tx begun new keeps ends none = record {
     count = length_push workers w ∙ ap (λ n. n + 1) begun.count ∙ sym (length_push packets tx);
     each_new = All-push (IsNew g app) workers w begun.each_new new;
     each_ends = λ k v t lt. ⊎_elim
@@ -32,17 +44,37 @@ module _ {L : Type 0} (g : Ghosts L) (app : Meaning) where
         subst (λ (x : RingTx Packet). AreEnds x (get_or (workers ++ w ∷ []) k v).packets) (sym (get_or_push packets tx t k there))
         (subst (λ (x : Worker L). AreEnds tx x.packets) (sym (get_or_push workers w v k here)) ends))
         (cases_lt k (length workers));
+    kept = All-push (λ (x : Worker L). g.keeps x.lane ≡ keep) workers w begun.kept keeps;
     each_sent = λ k t lt. All-push (λ (x : RingTx Packet). sent x ≡ []) packets tx begun.each_sent none k t lt;
   }
 
   -- at least one of them is a team
-  pub team_made : {E : Type 0} (r : Result (Team L) E) (n : ℕ) → 1 ≤ n → IfOk r (λ t. AreBegun g app t.workers.items t.packets.items) → IfOk r (λ t. length t.workers.items ≡ n)
-      → IfOk r (λ t. IsTeam g app t.workers.items t.packets.items)
-  team_made (Err e) n some begun count = tt
-  team_made (Ok t) n some begun count = record {
-    some = omega (arith, count);
+  pub team_begun : (workers : List (Worker L)) (packets : List (RingTx Packet)) → 1 ≤ length workers → AreBegun g app keep workers packets → IsTeam g app workers packets
+  team_begun workers packets some begun = record {
+    some = some;
     count = begun.count;
     each_new = begun.each_new;
     each_ends = begun.each_ends;
     each_sent = begun.each_sent;
   }
+
+  -- a team that is made
+  pub team_made : {E : Type 0} (r : Result (Team L) E) (n : ℕ) → 1 ≤ n → IfOk r (λ t. AreBegun g app keep t.workers.items t.packets.items) → IfOk r (λ t. length t.workers.items ≡ n)
+      → IfOk r (λ t. IsTeam g app t.workers.items t.packets.items)
+  team_made (Err e) n some begun count = tt
+  team_made (Ok t) n some begun count = team_begun t.workers.items t.packets.items (omega (arith, some, count)) begun
+
+  -- all its lanes are of one kind
+  pub kind_made : {E : Type 0} (r : Result (Team L) E) → IfOk r (λ t. AreBegun g app keep t.workers.items t.packets.items) → IfOk r (λ t. AllKeep g keep t.workers.items)
+  kind_made (Err e) begun = tt
+  kind_made (Ok t) begun = begun.kept
+
+  -- the same of a team with its relays
+  pub forward_team_made : {E : Type 0} (r : Result (Team L × Vec Relay Global) E) (n : ℕ) → 1 ≤ n → IfOk r (λ t. AreBegun g app keep t.0.workers.items t.0.packets.items) → IfOk r (λ t. length t.0.workers.items ≡ n)
+      → IfOk r (λ t. IsTeam g app t.0.workers.items t.0.packets.items)
+  forward_team_made (Err e) n some begun count = tt
+  forward_team_made (Ok t) n some begun count = team_begun t.0.workers.items t.0.packets.items (omega (arith, some, count)) begun
+
+  pub forward_kind_made : {E : Type 0} (r : Result (Team L × Vec Relay Global) E) → IfOk r (λ t. AreBegun g app keep t.0.workers.items t.0.packets.items) → IfOk r (λ t. AllKeep g keep t.0.workers.items)
+  forward_kind_made (Err e) begun = tt
+  forward_kind_made (Ok t) begun = begun.kept

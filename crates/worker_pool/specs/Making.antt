@@ -1,28 +1,38 @@
 -- Only for proofs: workers that are made one after the other.
-use Rattle.std.specs.Prelude.{◌≡◌, ℕ, ◌<◌, true, List, [], length, get_or, None}
+use Rattle.std.specs.Prelude.{◌≡◌, ℕ, ◌<◌, Bool, List, [], length, get_or, None}
+use Rattle.std.specs.List.{All}
 use Rattle.app_api.specs.App.{Meaning}
 use Rattle.forest_versions.specs.State.{start}
 use Rattle.lane_rings.specs.declared.items.Packet.{Packet}
 use Rattle.lane_rings.specs.declared.ring.RingTx.{RingTx}
-use Rattle.lane_rings.specs.Ring.{sent, AreEnds}
+use Rattle.lane_rings.specs.Ring.{sent, taken, AreEnds}
 use Rattle.lane_core.specs.declared.recorder.Recorder.{Ghosts}
 use Rattle.worker_pool.specs.declared.worker.Worker.{Worker}
-use Rattle.worker_pool.specs.Team.{IsNew}
+use Rattle.worker_pool.specs.declared.forward.relay.Relay.{Relay}
+use Rattle.worker_pool.specs.Team.{IsNew, AllKeep}
+use Rattle.worker_pool.specs.Streamed.{AreRelays}
 
-module _ {L : Type 0} (g : Ghosts L) (app : Meaning) where
-  -- a lane that stands for no events, under the presets alone
+module _ {L : Type 0} (g : Ghosts L) (app : Meaning) (keep : Bool) where
+  -- a lane that stands for no events, under the presets alone; it keeps entries, or doesn't
   pub record IsFresh (lane : L) : Type 0 where
     pub stands : g.stands lane []
     pub app_is : g.app lane ≡ app
-    pub keeps : g.keeps lane ≡ true
+    pub keeps : g.keeps lane ≡ keep
     pub control : g.control lane ≡ start app.presets
     pub given : g.given lane ≡ 0
     pub last : g.last lane ≡ None
     pub failed : g.failed lane ≡ None
 
-  -- new workers, each with the other end of its packet ring, into which nothing was sent
+  -- new workers over such lanes, each with the other end of its packet ring, into which nothing was sent
   pub record AreBegun (workers : List (Worker L)) (packets : List (RingTx Packet)) : Type 0 where
     pub count : length workers ≡ length packets
     pub each_new : (k : ℕ) (w : Worker L) → k < length workers → IsNew g app (get_or workers k w)
     pub each_ends : (k : ℕ) (w : Worker L) (tx : RingTx Packet) → k < length workers → AreEnds (get_or packets k tx) (get_or workers k w).packets
+    pub kept : AllKeep g keep workers
     pub each_sent : (k : ℕ) (tx : RingTx Packet) → k < length packets → sent (get_or packets k tx) ≡ []
+
+module _ {L : Type 0} where
+  -- the relays of workers that began so, to whose lanes nothing was sent, and from which nothing was taken
+  pub record AreUnused (workers : List (Worker L)) (relays : List Relay) : Type 0 where
+    pub relays_are : AreRelays workers [] relays
+    pub untaken : All (λ r. taken r.answers ≡ []) relays

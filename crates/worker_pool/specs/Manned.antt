@@ -1,8 +1,6 @@
 -- Only for proofs: workers and their posts, from the start of the threads to their end.
-use Rattle.std.specs.Prelude.{◌≡◌, ℕ, ◌≤◌, List, [], length, None, IsTrue, Option, Result}
+use Rattle.std.specs.Prelude.{◌≡◌, ℕ, ◌≤◌, List, [], length, None, IsTrue}
 use Rattle.pcap_source.specs.Captured.{Captured}
-use Rattle.pcap_source.specs.Reading.{CaptureState, Opened}
-use Rattle.pcap_source.specs.declared.errors.NextError.{NextError}
 use Rattle.app_api.specs.App.{Meaning}
 use Rattle.forest_versions.specs.declared.command.Command.{Command}
 use Rattle.forest_versions.specs.Lawful.{are_lawful}
@@ -17,8 +15,6 @@ use Rattle.worker_pool.specs.declared.worker.Worker.{Worker}
 use Rattle.worker_pool.specs.declared.post.Post.{Post}
 use Rattle.worker_pool.specs.Worked.{IsReady}
 use Rattle.worker_pool.specs.Posts.{IsPost}
-use Rattle.worker_pool.specs.declared.dispatch.Whole.{Whole}
-use Rattle.worker_pool.specs.Posts.{ReadsAs}
 use Rattle.worker_pool.specs.Team.{IsTeam, HasServed, HaveServed}
 
 module _ {L : Type 0} where
@@ -49,12 +45,12 @@ module _ {L : Type 0} where
     pub team : IsTeam g app workers packets
     pub lawful : IsTrue (are_lawful (start app.presets) (commands_of script))
 
-  -- A team may start on a capture: its duty is under the script, there is room for its posts and for its workers once they are back, and
-  -- a flag for each.
-  pub record MayStart (g : Ghosts L) (script : List Stamped) (commands : List Command) (capture : CaptureState) (workers : List (Worker L)) (packets : List (RingTx Packet))
+  -- A team may start: its duty and its dealer are under the script, there is room for its posts and for its workers once they are back,
+  -- and a flag for each.
+  pub record MayStart (g : Ghosts L) (script : List Stamped) (commands : List Command) (dealt_under : List Stamped) (workers : List (Worker L)) (packets : List (RingTx Packet))
       (posts : List (Post L)) (room : ℕ) (back : List (Worker L)) (places : ℕ) (flags : ℕ) : Type 0 where
-    pub opened : Opened capture
     pub duty : commands ≡ commands_of script
+    pub dealer : dealt_under ≡ script
     pub team : CanRun g script workers packets
     pub no_posts : posts ≡ []
     pub room_for_posts : length workers ≤ room
@@ -62,9 +58,9 @@ module _ {L : Type 0} where
     pub room_for_workers : length workers ≤ places
     pub flag_each : flags ≡ length workers
 
-  -- a capture was read, and workers that began so served its packets
-  pub record Served (g : Ghosts L) (script : List Stamped) (begins : List (Worker L)) (capture : CaptureState) (old new : Option (List ℕ)) (read : Result Whole NextError) (workers : List (Worker L)) : Type 0 where
+  -- Workers that began so served the packets of some frames, of which this holds.
+  pub record Served (g : Ghosts L) (script : List Stamped) (begins : List (Worker L)) (workers : List (Worker L)) (did : List Captured → Type 0) : Type 0 where
     pub frames : List Captured
     pub few : length frames ≤ 1048576
-    pub read_as : ReadsAs frames capture old new read
     pub served : HaveServed g script begins frames workers
+    pub done : did frames

@@ -1,5 +1,6 @@
 -- Workers that share a run, from their start to their end.
-use Rattle.std.specs.Prelude.{◌≡◌, ℕ, ◌<◌, ◌≤◌, Bool, true, List, [], length, get_or, Option, Some, None, IsTrue, Result, Ok, Err, ⊤}
+use Rattle.std.specs.Prelude.{◌≡◌, ℕ, ◌<◌, ◌≤◌, Bool, true, List, [], length, get_or, Option, Some, None, IsTrue, Result, Ok, Err, ⊤, IsErrOf}
+use Rattle.mos_bytes.specs.Causes.{HasCauseOf}
 use Rattle.pcap_source.specs.Captured.{Captured}
 use Rattle.pcap_source.specs.Capture.{tail, too_long, too_many}
 use Rattle.pcap_source.specs.Reading.{CaptureState, frames_at}
@@ -15,6 +16,7 @@ use Rattle.lane_core.specs.declared.recorder.Recorder.{Ghosts}
 use Rattle.app_api.specs.App.{Meaning}
 use Rattle.worker_pool.specs.declared.worker.Worker.{Worker}
 use Rattle.worker_pool.specs.declared.team.Ran.{Ran}
+use Rattle.worker_pool.specs.declared.dispatch.Whole.{Whole}
 use Rattle.worker_pool.specs.declared.job.PoolError.{PoolError}
 use Rattle.worker_pool.specs.declared.job.PoolError.TheVariants.{TooLong, TooMany, ReadFault, WriteFault, Heavy, NoMemory}
 use Rattle.worker_pool.specs.Worked.{Worked}
@@ -66,3 +68,19 @@ module _ {L : Type 0} where
   TeamRan g script begins capture old new (Err WriteFault) = ⊥
   TeamRan g script begins capture old new (Err Heavy) = ⊥
   TeamRan g script begins capture old new (Err NoMemory) = ⊤
+
+-- what was read for a report: these frames are the whole capture, before a tail; or the capture is refused behind them
+abbrev pub ReadsWhole : List Captured → CaptureState → Option (List ℕ) → Option (List ℕ) → Result Whole PoolError → Type 0
+ReadsWhole frames capture old new (Ok whole) = (length frames ≡ whole.packets)
+    × ((rest : List ℕ) → old ≡ Some rest → (frames_at capture rest ≡ record { frames = frames; ending = tail whole.tail }) × (new ≡ Some []))
+ReadsWhole frames capture old new (Err (TooLong offset)) = (rest : List ℕ) → old ≡ Some rest → (frames_at capture rest).ending ≡ too_long offset
+ReadsWhole frames capture old new (Err (TooMany offset)) = (rest : List ℕ) → old ≡ Some rest → (frames_at capture rest).ending ≡ too_many offset
+ReadsWhole frames capture old new (Err ReadFault) = ⊤
+ReadsWhole frames capture old new (Err WriteFault) = ⊥
+ReadsWhole frames capture old new (Err Heavy) = ⊥
+ReadsWhole frames capture old new (Err NoMemory) = ⊤
+
+-- so it was, and a fault of the source is told only where its count rose
+pub record HasRead (frames : List Captured) (capture : CaptureState) (old new : Option (List ℕ)) (faults faults_now : ℕ) (result : Result Whole PoolError) : Type 0 where
+  pub whole : ReadsWhole frames capture old new result
+  pub cause : HasCauseOf faults faults_now (IsErrOf result ReadFault)

@@ -6,3 +6,4 @@ pub(crate) mod lanes;
 mod leave;
 pub(crate) mod relay;
 mod stream;
+mod streamer;

@@ -13,7 +13,7 @@ use crate::conclude::conclude;
 use crate::gate::Gate;
 use crate::job::{Job, LanesEnd, PoolError};
 use crate::make::make_team;
-use crate::team::run_team;
+use crate::reader::read_team;
 use app_api::App;
 use mos_bytes::Source;
 use native_filters::NativeBook;
@@ -56,6 +56,6 @@ pub fn run_lanes<
     ensures lasts { S.lasting source.new ≡ S.lasting source.old }
 {
     let team = make_team(rt, alloc, job)?;
-    let ran = run_team(rt, alloc, team, job.script, natives, gate, capture, source)?;
+    let ran = read_team(rt, alloc, team, job.script, natives, gate, capture, source)?;
     conclude(alloc, job.script, ran)
 }

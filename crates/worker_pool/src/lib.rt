@@ -3,6 +3,7 @@
 
 mod conclude;
 mod control;
+mod dealer;
 mod dispatch;
 mod duty;
 mod ends;
@@ -15,6 +16,7 @@ mod left;
 mod make;
 mod places;
 mod post;
+mod reader;
 mod seat;
 mod team;
 #[cfg(test)]

@@ -1,21 +1,18 @@
 //! Workers that share a run: a thread for each lane, one for the script's commands, and the dispatcher in this one.
 
-ghost use Rattle.std.specs.Prelude.{◌≡◌, ◌≤◌, [], ◌∷◌, List, length, vec_len, All, IfOk, IsErrOf, IsTrue};
+ghost use Rattle.std.specs.Prelude.{◌≡◌, ◌≤◌, [], ◌∷◌, List, None, length, vec_len, All, IfOk, IfErr, IsTrue};
 ghost use Rattle.std.specs.List.{AllZip};
 ghost use Rattle.std.specs.Vec.{vec_capacity};
 ghost use Rattle.std.specs.Thread.{IsSync};
-ghost use Rattle.mos_bytes.specs.Causes.{HasCauseOf};
-ghost use Rattle.pcap_source.specs.Reading.{Opened};
-ghost use Rattle.app_api.specs.App.{Meaning};
 ghost use Rattle.forest_versions.specs.Lawful.{are_lawful};
 ghost use Rattle.forest_versions.specs.State.{start};
 ghost use Rattle.control_script.specs.Order.{commands_of};
 ghost use Rattle.worker_pool.specs.Worked.{IsReady, WorkedOn};
-ghost use Rattle.worker_pool.specs.Team.{IsTeam, TeamRan};
-ghost use Rattle.worker_pool.specs.Manned.{MayStart, Served};
+ghost use Rattle.worker_pool.specs.Manned.{CanRun, MayStart, Served};
 
 use crate::control::publish;
-use crate::dispatch::{Whole, dispatch};
+use crate::dealer::Dealer;
+use crate::dispatch::Whole;
 use crate::duty::{Duty, Shift};
 use crate::finish::finish_all;
 use crate::gate::Gate;
@@ -26,10 +23,8 @@ use crate::worker::Worker;
 use control_script::Script;
 use lane_core::Recorder;
 use lane_rings::{CommandTx, PacketTx};
-use mos_bytes::Source;
 use native_filters::NativeBook;
-use pcap_source::{Capture, NextError};
-use std::alloc::{AllocError, AllocFailed, Global};
+use std::alloc::{AllocError, Global};
 use std::collections::VecDeque;
 use std::snapshot::Snapshot;
 use std::sync::Wait;
@@ -106,14 +101,13 @@ fn join_control<R: Threads>(rt: &R, control: Option<JoinHandle<()>>) {
     }
 }
 
-// Starts the threads, sends the packets of the capture, and waits for the threads. The capture and its source are handed
-// back.
+// Starts the threads, has the packets of the capture dealt out, and waits for the threads. The dealer is handed back.
 fn run_threads<
     'c,
     R: Threads + Wait + Sync + Send + Copy + Drop + 'static,
     L: Recorder + Drop + Send,
     D: Duty<L> + Sync,
-    S: Source,
+    E: Dealer<L>,
     G: Gate + Sync,
 >(
     rt: &'c R,
@@ -127,19 +121,12 @@ fn run_threads<
     script: &'c Script,
     natives: &'c NativeBook,
     gate: &'c G,
-    capture: &'c mut Capture,
-    source: &'c mut S,
-) -> (
-    Result<Whole, NextError>,
-    Vec<Worker<L>>,
-    &'c mut Capture,
-    &'c mut S,
-)
-    requires starts { MayStart L.Recorder script.now (D.commands duty.now) capture.old team.workers.items team.packets.items posts.items (vec_capacity posts) back.items (vec_capacity back) (length stops.now) }
-    ensures served { Served L.Recorder script.now team.workers.items capture.old (S.left source.old) (S.left result.3.now) result.0 result.1.items }
-    ensures cause { HasCauseOf (S.faults source.old) (S.faults result.3.now) (IsErrOf result.0 NextError.ReadFault) }
-    ensures lasts { S.lasting result.3.now ≡ S.lasting source.old }
-    ensures same { result.3.ghost_name ≡ source.entry.ghost_name }
+    dealer: &'c mut E,
+) -> (Result<Whole, PoolError>, Vec<Worker<L>>, &'c mut E)
+    requires starts { MayStart L.Recorder script.now (D.commands duty.now) (E.script dealer.old) team.workers.items team.packets.items posts.items (vec_capacity posts) back.items (vec_capacity back) (length stops.now) }
+    requires may { E.may dealer.old team.workers.items }
+    ensures served { Served L.Recorder script.now team.workers.items result.1.items (λ frames. E.did dealer.old result.2.now team.workers.items frames result.0) }
+    ensures same { result.2.ghost_name ≡ dealer.entry.ghost_name }
 {
     let Team {
         workers,
@@ -150,19 +137,13 @@ fn run_threads<
     thread::scope(
         thread::scope_env(),
         rt,
-        move |scope| -> (
-            Result<Whole, NextError>,
-            Vec<Worker<L>>,
-            &mut Capture,
-            &mut S,
-        )
+        move |scope| -> (Result<Whole, PoolError>, Vec<Worker<L>>, &mut E)
             requires duty_shared { IsSync D.row }
             requires gate_shared { IsSync G.row }
-            requires starts { MayStart L.Recorder script.now (D.commands duty.now) capture.now workers.items packets.items posts.items (vec_capacity posts) back.items (vec_capacity back) (length stops.now) }
-            ensures served { Served L.Recorder script.entry.now workers.items capture.entry.now (S.left source.entry.now) (S.left result.3.now) result.0 result.1.items }
-            ensures cause { HasCauseOf (S.faults source.entry.now) (S.faults result.3.now) (IsErrOf result.0 NextError.ReadFault) }
-            ensures lasts { S.lasting result.3.now ≡ S.lasting source.entry.now }
-            ensures same { result.3.ghost_name ≡ source.entry.ghost_name }
+            requires starts { MayStart L.Recorder script.now (D.commands duty.now) (E.script dealer.now) workers.items packets.items posts.items (vec_capacity posts) back.items (vec_capacity back) (length stops.now) }
+            requires may { E.may dealer.now workers.items }
+            ensures served { Served L.Recorder script.entry.now workers.items result.1.items (λ frames. E.did dealer.entry.now result.2.now workers.items frames result.0) }
+            ensures same { result.2.ghost_name ≡ dealer.entry.ghost_name }
         {
             let control = start_control(scope, move || publish(commands, count, gate));
             let mut workers = VecDeque::from(workers);
@@ -183,22 +164,20 @@ fn run_threads<
                 let seat = start_work(scope, promise, stop, w, f);
                 posts.push_reserved(Post { packets, seat });
             }
-            let read = dispatch(
-                rt, alloc, &mut posts, script, natives, gate, failed, capture, source,
-            );
+            let read = dealer.deal(&mut posts);
             raise_all(stops);
             join_control(rt, control);
             let workers = finish_all(rt, alloc, posts, back, script, natives, gate, failed);
-            (read, workers, capture, source)
+            (read, workers, dealer)
         },
     )
 }
 
-// The same, with the capture and its source lent.
+// The same, with the dealer lent.
 fn serve<
     R: Threads + Wait + Sync + Send + Copy + Drop + 'static,
     L: Recorder + Drop + Send,
-    S: Source,
+    E: Dealer<L>,
     G: Gate + Sync,
 >(
     rt: &R,
@@ -210,40 +189,36 @@ fn serve<
     script: &Script,
     natives: &NativeBook,
     gate: &G,
-    capture: &mut Capture,
-    source: &mut S,
-) -> (Result<Whole, NextError>, Vec<Worker<L>>)
-    requires starts { MayStart L.Recorder script.now (commands_of script.now) capture.old team.workers.items team.packets.items posts.items (vec_capacity posts) back.items (vec_capacity back) (length stops.now) }
-    ensures served { Served L.Recorder script.now team.workers.items capture.old (S.left source.old) (S.left source.new) result.0 result.1.items }
-    ensures cause { HasCauseOf (S.faults source.old) (S.faults source.new) (IsErrOf result.0 NextError.ReadFault) }
-    ensures lasts { S.lasting source.new ≡ S.lasting source.old }
+    failed: &AtomicBool,
+    dealer: &mut E,
+) -> (Result<Whole, PoolError>, Vec<Worker<L>>)
+    requires starts { MayStart L.Recorder script.now (commands_of script.now) (E.script dealer.old) team.workers.items team.packets.items posts.items (vec_capacity posts) back.items (vec_capacity back) (length stops.now) }
+    requires may { E.may dealer.old team.workers.items }
+    ensures served { Served L.Recorder script.now team.workers.items result.1.items (λ frames. E.did dealer.old dealer.new team.workers.items frames result.0) }
 {
-    let failed = AtomicBool::new(false);
     let shift = Shift {
         rt,
         alloc,
         script,
         natives,
         gate,
-        failed: &failed,
+        failed,
     };
-    let (read, workers, _capture, _source) = run_threads(
-        rt, alloc, team, posts, back, stops, &failed, &shift, script, natives, gate, capture,
-        source,
+    let (read, workers, _dealer) = run_threads(
+        rt, alloc, team, posts, back, stops, failed, &shift, script, natives, gate, dealer,
     );
     (read, workers)
 }
 
-/// Runs a team over an opened capture: each packet is taken by the worker of its lane, and each of the script's commands
-/// is told to all. A lane for which no thread can be started is run in this one, and where the thread of the commands
-/// can't be started, they are told first.
+/// Runs a team over the packets that a dealer sends: each packet is taken by the worker of its lane, and each of the
+/// script's commands is told to all. Answers what the dealer ended with, and the workers. A lane for which no thread can be
+/// started is run in this one, and where the thread of the commands can't be started, they are told first.
 ///
-/// The capture is read to its end or its tail, also where a lane failed, or to where it is refused. An error is that
-/// refusal, a fault of the source, or want of memory.
+/// An error is want of memory, before the dealer has begun; it is as it was then. `failed` is raised where a lane fails.
 pub(crate) fn run_team<
     R: Threads + Wait + Sync + Send + Copy + Drop + 'static,
     L: Recorder + Drop + Send,
-    S: Source,
+    E: Dealer<L>,
     G: Gate + Sync,
 >(
     rt: &R,
@@ -252,27 +227,20 @@ pub(crate) fn run_team<
     script: &Script,
     natives: &NativeBook,
     gate: &G,
-    capture: &mut Capture,
-    source: &mut S,
-) -> Result<Ran<L>, PoolError>
-    requires opened { Opened capture.old }
-    requires team { (app : Meaning) × IsTeam L.Recorder app team.workers.items team.packets.items
-        × IsTrue (are_lawful (start app.presets) (commands_of script.now)) }
-    ensures ran { TeamRan L.Recorder script.now team.workers.items capture.old (S.left source.old) (S.left source.new) result }
-    ensures cause { HasCauseOf (S.faults source.old) (S.faults source.new) (IsErrOf result PoolError.ReadFault) }
-    ensures lasts { S.lasting source.new ≡ S.lasting source.old }
+    failed: &AtomicBool,
+    dealer: &mut E,
+) -> Result<(Result<Whole, PoolError>, Vec<Worker<L>>), AllocError>
+    requires script { E.script dealer.old ≡ script.now }
+    requires team { CanRun L.Recorder script.now team.workers.items team.packets.items }
+    requires may { E.may dealer.old team.workers.items }
+    ensures served { IfOk result (λ r. Served L.Recorder script.now team.workers.items r.1.items (λ frames. E.did dealer.old dealer.new team.workers.items frames r.0)) }
+    ensures unchanged { IfErr result (λ _. dealer.new ≡ dealer.old) }
 {
     let count = team.workers.len();
     let posts = Vec::with_capacity(alloc, count)?;
     let back = Vec::with_capacity(alloc, count)?;
     let stops = lowered_flags(alloc, count)?;
-    let (read, workers) = serve(
-        rt, alloc, team, posts, back, &stops, script, natives, gate, capture, source,
-    );
-    let whole = read?;
-    Ok(Ran {
-        workers,
-        packets: whole.packets,
-        tail: whole.tail,
-    })
+    Ok(serve(
+        rt, alloc, team, posts, back, &stops, script, natives, gate, failed, dealer,
+    ))
 }

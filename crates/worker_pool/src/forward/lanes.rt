@@ -1,23 +1,113 @@
 //! A forward run on several lanes.
 
-ghost use Rattle.std.specs.Prelude.{◌≡◌, ◌≤◌, [], ℕ, List, Some, IsOk, IsTrue, IsErrOf};
+ghost use Rattle.std.specs.Prelude.{◌≡◌, ◌≤◌, [], ℕ, List, Option, Some, length, IsOk, IsTrue, IsErrOf, IfOk, IfErr};
 ghost use Rattle.mos_bytes.specs.Causes.{HasCauseOf};
+ghost use Rattle.pcap_source.specs.Captured.{Captured};
 ghost use Rattle.pcap_source.specs.Reading.{Opened, frames_at};
+ghost use Rattle.app_api.specs.App.{Meaning};
 ghost use Rattle.forest_versions.specs.Lawful.{are_lawful};
 ghost use Rattle.forest_versions.specs.State.{start};
 ghost use Rattle.control_script.specs.Order.{commands_of};
-ghost use Rattle.worker_pool.specs.Forward.{ForwardsOver};
+ghost use Rattle.worker_pool.specs.Manned.{CanRun, Served};
+ghost use Rattle.worker_pool.specs.Streamed.{AreRelays, Leaves, Streamed, lane_at, taken_from};
+ghost use Rattle.worker_pool.specs.Forward.{ForwardsFront, ForwardsOver};
 
+use crate::dispatch::Whole;
+use crate::forward::leave::leave;
+use crate::forward::relay::Relay;
+use crate::forward::streamer::Streamer;
 use crate::gate::Gate;
 use crate::job::{Job, PoolError};
+use crate::make::{WAITING_ANSWERS, make_forward_team};
+use crate::team::{Team, run_team};
 use crate::versions::VersionList;
+use crate::worker::Worker;
 use app_api::App;
+use control_script::Script;
+use lane_core::Recorder;
+use lane_rings::Resequencer;
+use lane_rings::forward::beginning_is_right;
 use mos_bytes::{Sink, Source};
 use native_filters::NativeBook;
 use pcap_source::Capture;
-use std::alloc::Global;
+use std::alloc::{AllocError, Global};
 use std::sync::Wait;
+use std::sync::atomic::AtomicBool;
 use std::thread::Threads;
+use worker_laws::packets::packets_of_a_capture_rise;
+use worker_laws::versions::{a_script_gives_floors_and_ceilings, fronts_go_on_to_an_allowed_list};
+
+// A run that has written nothing has written a front of what it may write. This function does nothing: who ends a run
+// before it has begun calls it for what it says.
+fn nothing_is_a_front(script: &Script)
+    ensures front { (app : Meaning) (lanes : ℕ) (frames : List Captured) (before : Option (List ℕ)) → ForwardsFront app script.now lanes frames before before }
+{
+    let _commands = script.len();
+    a_script_gives_floors_and_ceilings();
+    packets_of_a_capture_rise();
+    fronts_go_on_to_an_allowed_list();
+}
+
+// Runs a team over an opened capture, reads that, and writes what the lanes let pass while it is read. Answers what the
+// dispatcher ended with, and the workers. An error is want of memory, before anything was read.
+fn stream_team<
+    'a,
+    R: Threads + Wait + Sync + Send + Copy + Drop + 'static,
+    L: Recorder + Drop + Send,
+    S: Source,
+    O: Sink,
+    G: Gate + Sync,
+>(
+    rt: &'a R,
+    alloc: Global,
+    team: Team<L>,
+    relays: &'a mut Vec<Relay>,
+    waiting: &'a mut Resequencer,
+    script: &'a Script,
+    natives: &'a NativeBook,
+    gate: &'a G,
+    capture: &'a mut Capture,
+    source: &'a mut S,
+    out: &'a mut O,
+) -> Result<(Result<Whole, PoolError>, Vec<Worker<L>>), AllocError>
+    requires opened { Opened capture.old }
+    requires team { CanRun L.Recorder script.now team.workers.items team.packets.items }
+    requires relays { AreRelays team.workers.items [] relays.old.items }
+    requires begins { Leaves (lane_at (length relays.old.items) []) 0 (taken_from relays.old.items) waiting.old (O.taken out.old) (O.taken out.old) }
+    ensures served { IfOk result (λ r. Served L.Recorder script.now team.workers.items r.1.items (λ frames. Streamed team.workers.items frames relays.new.items waiting.new
+        capture.old (S.left source.old) (S.left source.new) (O.taken out.old) (O.taken out.new) r.0)) }
+    ensures read_fault { IfOk result (λ r. HasCauseOf (S.faults source.old) (S.faults source.new) (IsErrOf r.0 PoolError.ReadFault)) }
+    ensures write_fault { IfOk result (λ r. HasCauseOf (O.faults out.old) (O.faults out.new) (IsErrOf r.0 PoolError.WriteFault)) }
+    ensures source_lasts { IfOk result (λ _. S.lasting source.new ≡ S.lasting source.old) }
+    ensures out_lasts { IfOk result (λ _. O.lasting out.new ≡ O.lasting out.old) }
+    ensures unchanged { IfErr result (λ _. (source.new ≡ source.old) × (out.new ≡ out.old)) }
+{
+    let failed = AtomicBool::new(false);
+    let mut streamer = Streamer {
+        rt,
+        alloc,
+        relays,
+        waiting,
+        script,
+        natives,
+        gate,
+        failed: &failed,
+        capture,
+        source,
+        out,
+    };
+    let (read, workers) = run_team(
+        rt,
+        alloc,
+        team,
+        script,
+        natives,
+        gate,
+        &failed,
+        &mut streamer,
+    )?;
+    Ok((read, workers))
+}
 
 /// Runs an application over the packets of an opened capture, on several lanes, as `run_lanes` does, and writes the
 /// records whose packets pass while the capture is read, in its order and each once. Answers the version of each record,
@@ -54,5 +144,24 @@ pub fn forward_lanes<
     ensures source_lasts { S.lasting source.new ≡ S.lasting source.old }
     ensures out_lasts { O.lasting out.new ≡ O.lasting out.old }
 {
-    unreachable!()
+    nothing_is_a_front(job.script);
+    beginning_is_right();
+    let (team, mut relays) = make_forward_team(rt, alloc, job)?;
+    let mut waiting = Resequencer::new(alloc, WAITING_ANSWERS)?;
+    let (read, workers) = stream_team(
+        rt,
+        alloc,
+        team,
+        &mut relays,
+        &mut waiting,
+        job.script,
+        natives,
+        gate,
+        capture,
+        source,
+        out,
+    )?;
+    leave(
+        alloc, job.script, workers, relays, waiting, read, capture, out,
+    )
 }

@@ -11,8 +11,8 @@ use Rattle.worker_pool.specs.Ending.{Concludes}
 use Rattle.worker_pool.proofs.Concluding.{concluded, no_fault, of_frames}
 use Rattle.worker_pool.proofs.lanes.run_lanes.Goals as goal
 
-pub run_team-requires-send-L : goal.run_team-requires-send-L
-run_team-requires-send-L g c κs within =
+pub read_team-requires-send-L : goal.read_team-requires-send-L
+read_team-requires-send-L g c κs within =
     let lane = lane_send _ _ (view.ghosts (copied 0 g.row.R)) c.type_bounds.send-A (user.the_send _ c.type_bounds.send-R) in
     param_send 1 _ (arg_send _ yes _ lane)
 
@@ -21,7 +21,7 @@ returns-clause-ends g c rest is =
     let app = g.A.App.meaning c.args.job.now.app in
     let script = c.args.job.now.script.now in
     let ran = c.in_ok-ran.ensures.ran in
-    let end = c.conclude.ensures.ends app ran.0 c.in_ok-team.team.workers.items c.in_ok-team.team.packets.items ran.1 ran.2 c.in_ok-team.ensures.team ran.4 in
+    let end = c.conclude.ensures.ends app ran.0 c.in_ok-team.team.workers.items c.in_ok-team.team.packets.items ran.1 ran.2 c.in_ok-team.ensures.team c.in_ok-team.ensures.keep ran.4 in
     let over = subst (λ n. Concludes app script n ran.0 c.in_ok-ran.ran.tail c.conclude.result) c.in_ok-team.ensures.count end in
     subst (λ (f : Frames). EndsOver app script c.args.job.now.workers f c.conclude.result) (sym (ran.3 rest is).0)
     (concluded app script c.args.job.now.workers ran.0 c.in_ok-ran.ran.tail c.conclude.result over)
@@ -30,7 +30,7 @@ pub returns-clause-whole : goal.returns-clause-whole
 returns-clause-whole g c =
     let app = g.A.App.meaning c.args.job.now.app in
     let ran = c.in_ok-ran.ensures.ran in
-    let end = c.conclude.ensures.ends app ran.0 c.in_ok-team.team.workers.items c.in_ok-team.team.packets.items ran.1 ran.2 c.in_ok-team.ensures.team ran.4 in
+    let end = c.conclude.ensures.ends app ran.0 c.in_ok-team.team.workers.items c.in_ok-team.team.packets.items ran.1 ran.2 c.in_ok-team.ensures.team c.in_ok-team.ensures.keep ran.4 in
     of_frames app c.args.job.now.script.now c.args.job.now.workers ran.0 c.in_ok-ran.ran.tail c.conclude.result
     (subst (λ n. Concludes app c.args.job.now.script.now n ran.0 c.in_ok-ran.ran.tail c.conclude.result) c.in_ok-team.ensures.count end)
 
@@ -44,5 +44,5 @@ returns-clause-cause g c = record {
       let app = g.A.App.meaning c.args.job.now.app in
       let ran = c.in_ok-ran.ensures.ran in
       absurd (no_fault app c.args.job.now.script.now (length c.in_ok-team.team.workers.items) ran.0 c.in_ok-ran.ran.tail c.conclude.result
-      (c.conclude.ensures.ends app ran.0 c.in_ok-team.team.workers.items c.in_ok-team.team.packets.items ran.1 ran.2 c.in_ok-team.ensures.team ran.4) fault);
+      (c.conclude.ensures.ends app ran.0 c.in_ok-team.team.workers.items c.in_ok-team.team.packets.items ran.1 ran.2 c.in_ok-team.ensures.team c.in_ok-team.ensures.keep ran.4) fault);
 }

@@ -6,9 +6,9 @@ use Rattle.worker_pool.proofs.make.team_of.Goals as goal
 pub loop-preserved : goal.loop-preserved
 loop-preserved g c = record {
   callable = c.loop.invariant.callable;
-  begun = λ app fresh.
-      c.in_ok-enlist.ensures.begun app
-      (IfOk-at_ok (λ lane. IsFresh g.L.Recorder app lane) c.in_ok-make.was (fresh c.make.result c.make.ensures))
-      (c.loop.invariant.begun app fresh);
+  begun = λ app keep fresh.
+      c.in_ok-enlist.ensures.begun app keep
+      (IfOk-at_ok (λ lane. IsFresh g.L.Recorder app keep lane) c.in_ok-make.was (fresh c.make.result c.make.ensures))
+      (c.loop.invariant.begun app keep fresh);
   count = c.in_ok-enlist.ensures.count ∙ ap (λ n. n + 1) c.loop.invariant.count;
 }

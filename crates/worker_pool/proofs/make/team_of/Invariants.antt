@@ -1,4 +1,4 @@
-use Rattle.std.proofs.Common.{◌≡◌, length, IfOk}
+use Rattle.std.proofs.Common.{◌≡◌, Bool, length, IfOk}
 use Rattle.app_api.specs.App.{Meaning}
 use Rattle.worker_pool.specs.Making.{IsFresh, AreBegun}
 use Rattle.worker_pool.proofs.make.team_of.Given as goal
@@ -7,6 +7,6 @@ use Rattle.worker_pool.proofs.make.team_of.Given as goal
 abbrev pub invariant-loop : goal.invariant-loop
 invariant-loop g l = record {
   callable : goal.F-IsAlwaysCallable g l.make;
-  begun : (app : Meaning) → ((made : _) → goal.F-post g l.make made → IfOk made (λ lane. IsFresh g.L.Recorder app lane)) → AreBegun g.L.Recorder app l.team.workers.items l.team.packets.items;
+  begun : (app : Meaning) (keep : Bool) → ((made : _) → goal.F-post g l.make made → IfOk made (λ lane. IsFresh g.L.Recorder app keep lane)) → AreBegun g.L.Recorder app keep l.team.workers.items l.team.packets.items;
   count : length l.team.workers.items ≡ l.counter;
 }

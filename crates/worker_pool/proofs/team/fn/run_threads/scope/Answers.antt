@@ -13,11 +13,12 @@ use Rattle.forest_versions.specs.State.{start}
 use Rattle.worker_pool.specs.Worked.{IsReady}
 use Rattle.worker_pool.specs.declared.worker.Worker.{Worker}
 use Rattle.worker_pool.specs.declared.post.Post.{Post}
-use Rattle.worker_pool.specs.Posts.{IsSeated}
+use Rattle.worker_pool.specs.Posts.{IsSeated, ArePosts}
 use Rattle.control_script.specs.declared.stamped.Stamped.{Stamped}
 use Rattle.worker_pool.specs.Manned.{MayBegin, IsFresh}
 use Rattle.worker_pool.proofs.Crossed.{flag_sync}
 use Rattle.worker_pool.proofs.Rows.{AllZip-more, AllZip-length, moved, no_other, zip_first, zip_others}
+use Rattle.worker_pool.proofs.Forwarding.{dealt_under}
 use Rattle.worker_pool.proofs.Manning.{all_may_begin, fresh, posts_of_all, all_manned, all_served}
 use Rattle.worker_pool.proofs.team.fn.run_threads.scope.Lts.{arg-7-2}
 use Rattle.worker_pool.proofs.team.fn.run_threads.scope.Goals as goal
@@ -26,7 +27,7 @@ pub start_control-control-requires-send-F : goal.start_control-control-requires-
 start_control-control-requires-send-F g c κs within = search (sendable, crosses, ring.the_field_send, c.requires.gate_shared) depth 40
 
 pub start_work-seat-requires-send-F : goal.start_work-seat-requires-send-F
-start_work-seat-requires-send-F g c κs within = param_send _ (arg-7-2 g.row.R g.row.L g.row.D g.row.S g.row.G g.R.laws g.L.laws g.D.laws g.S.laws g.G.laws g.R.copy g.R.Threads g.R.Threads-dict g.R.Wait g.R.Wait-dict g.R.Clone g.R.Clone-dict g.L.Recorder g.L.Recorder-dict g.D.Duty g.D.Duty-dict g.S.Source g.S.Source-dict g.G.Gate g.G.Gate-dict g.L.Destruct-dict g.fn-1 g.fn-1-has κs)
+start_work-seat-requires-send-F g c κs within = param_send _ (arg-7-2 g.row.R g.row.L g.row.D g.row.E g.row.G g.R.laws g.L.laws g.D.laws g.E.laws g.G.laws g.R.copy g.R.Threads g.R.Threads-dict g.R.Wait g.R.Wait-dict g.R.Clone g.R.Clone-dict g.L.Recorder g.L.Recorder-dict g.D.Duty g.D.Duty-dict g.E.Dealer g.E.Dealer-dict g.G.Gate g.G.Gate-dict g.L.Destruct-dict g.fn-1 g.fn-1-has κs)
     (record {
       owned = λ x vs ws. (tt, ((tt, c.requires.duty_shared.shared x.0.now x.0.ref_ptr.0 x.0.ref_ptr.1 _), ((tt, flag_sync.shared x.1.now x.1.ref_ptr.0 x.1.ref_ptr.1 _), tt)));
       leaving = search sendable;
@@ -87,15 +88,14 @@ loop-stop-preserved g c =
           omega (arith, e, f, h, r);
     }
 
-pub dispatch-read-requires : goal.dispatch-read-requires
-dispatch-read-requires g c =
+pub deal-read-requires : goal.deal-read-requires
+deal-read-requires g c =
     let i = c.loop-stop.invariant in
     let are = posts_of_all g.L.Recorder c.captures.script.now c.captures.workers.items c.from-workers.result.items i.front c.loop-stop.workers.items c.loop-stop.posts.items
     c.loop-stop.stop-index (length c.captures.stops.now) c.from-workers.ensures.0 i.whole i.fresh i.flags c.loop-stop-test.false in
     record {
-      opened = c.requires.starts.opened;
       some = let e = are.count in let f = c.requires.starts.team.team.some in omega (arith, e, f);
-      posts = (c.captures.workers.items, are);
+      begins = (c.captures.workers.items, subst (λ (s : List Stamped). ArePosts g.L.Recorder s c.captures.workers.items [] c.loop-stop.posts.items) (sym c.requires.starts.dealer) are, c.requires.may);
     }
 
 pub finish_all-workers-requires : goal.finish_all-workers-requires
@@ -103,9 +103,10 @@ finish_all-workers-requires g c =
     let i = c.loop-stop.invariant in
     let are = posts_of_all g.L.Recorder c.captures.script.now c.captures.workers.items c.from-workers.result.items i.front c.loop-stop.workers.items c.loop-stop.posts.items
     c.loop-stop.stop-index (length c.captures.stops.now) c.from-workers.ensures.0 i.whole i.fresh i.flags c.loop-stop-test.false in
-    let sent = c.dispatch-read.ensures.dispatched c.captures.workers.items are in
+    let under = subst (λ (s : List Stamped). ArePosts g.L.Recorder s c.captures.workers.items [] c.loop-stop.posts.items) (sym c.requires.starts.dealer) are in
+    let sent = dealt_under g.L.Recorder (g.E.Dealer.script c.captures.dealer.now) c.captures.script.now _ _ _ c.requires.starts.dealer (c.deal-read.ensures.dealt c.captures.workers.items under c.requires.may) in
     record {
-      manned = all_manned g.L.Recorder c.captures.script.now c.captures.workers.items sent.frames c.dispatch-read.new.posts.items sent.posts_are;
+      manned = all_manned g.L.Recorder c.captures.script.now c.captures.workers.items sent.frames c.deal-read.new.posts.items sent.posts_are;
       empty = c.requires.starts.none_back;
       places = let e = sent.posts_are.count in let f = c.requires.starts.room_for_workers in omega (arith, e, f);
     }
@@ -115,15 +116,14 @@ returns g c =
     let i = c.loop-stop.invariant in
     let are = posts_of_all g.L.Recorder c.captures.script.now c.captures.workers.items c.from-workers.result.items i.front c.loop-stop.workers.items c.loop-stop.posts.items
     c.loop-stop.stop-index (length c.captures.stops.now) c.from-workers.ensures.0 i.whole i.fresh i.flags c.loop-stop-test.false in
-    let sent = c.dispatch-read.ensures.dispatched c.captures.workers.items are in
+    let under = subst (λ (s : List Stamped). ArePosts g.L.Recorder s c.captures.workers.items [] c.loop-stop.posts.items) (sym c.requires.starts.dealer) are in
+    let sent = dealt_under g.L.Recorder (g.E.Dealer.script c.captures.dealer.now) c.captures.script.now _ _ _ c.requires.starts.dealer (c.deal-read.ensures.dealt c.captures.workers.items under c.requires.may) in
     record {
       served = record {
         frames = sent.frames;
         few = sent.few;
-        read_as = sent.read;
-        served = all_served g.L.Recorder c.captures.script.now c.captures.workers.items sent.frames c.dispatch-read.new.posts.items c.finish_all-workers.result.items sent.posts_are c.finish_all-workers.ensures.back;
+        served = all_served g.L.Recorder c.captures.script.now c.captures.workers.items sent.frames c.deal-read.new.posts.items c.finish_all-workers.result.items sent.posts_are c.finish_all-workers.ensures.back;
+        done = sent.done;
       };
-      cause = c.dispatch-read.ensures.cause;
-      lasts = c.dispatch-read.ensures.lasts;
       same = refl;
     }

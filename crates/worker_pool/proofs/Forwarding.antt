@@ -1,0 +1,145 @@
+-- The team of a forward run.
+use Rattle.std.proofs.Common.{◌≡◌, ◌≢◌, ◌<◌, ◌≤◌, ◌+◌, ◌⊎◌, inl, inr, ℕ, zero, suc, All, List, [], ◌∷◌, ◌++◌, length, get_or, refl, sym, ap, subst, ◌∙◌, ⊎_elim, arith}
+use Rattle.std.specs.Prelude.{◌^◌, ◌-◌, Some, None, Ok, Err, Result, Option, IsOk, IsErrOf, map, replicate, nat_lt, if◌then◌else◌, true}
+use Rattle.std.specs.Io.KnownBytes.{Appends}
+use Rattle.std.proofs.lemmas.List.{length_push, get_or_append_left, get_or_push, append-nil}
+use Rattle.std.proofs.lemmas.List.Elements.{All-push}
+use Rattle.std.proofs.lemmas.Bool.{cases_lt}
+use Rattle.mos_bytes.specs.Causes.{Rose, HasCauseOf}
+use Rattle.mos_bytes.specs.Writes.{AppendsFront}
+use Rattle.app_api.specs.App.{Meaning}
+use Rattle.pcap_source.specs.Captured.{Captured}
+use Rattle.pcap_source.specs.Capture.{Frames}
+use Rattle.pcap_source.specs.Reading.{CaptureState}
+use Rattle.control_script.specs.declared.stamped.Stamped.{Stamped}
+use Rattle.lane_core.specs.declared.recorder.Recorder.{Ghosts}
+use Rattle.lane_rings.specs.declared.items.Answer.{Answer}
+use Rattle.lane_rings.specs.declared.ring.RingTx.{RingTx}
+use Rattle.lane_rings.specs.declared.ring.RingRx.{RingRx}
+use Rattle.lane_rings.specs.Ring.{sent, taken, AreEnds}
+use Rattle.lane_rings.specs.Share.{share, rank}
+use Rattle.lane_rings.specs.Waiting.{Waiting}
+use Rattle.lane_rings.specs.Forward.{Leaving, Keeps, beginning}
+use Rattle.worker_pool.specs.declared.worker.Worker.{Worker}
+use Rattle.worker_pool.specs.declared.forward.relay.Relay.{Relay}
+use Rattle.worker_pool.specs.declared.post.Post.{Post}
+use Rattle.worker_pool.specs.declared.dispatch.Whole.{Whole}
+use Rattle.worker_pool.specs.declared.job.PoolError.{PoolError}
+use Rattle.worker_pool.specs.declared.job.PoolError.TheVariants.{NoMemory}
+use Rattle.worker_pool.specs.Forward.{ForwardsFront, ForwardsOver}
+use Rattle.worker_pool.specs.Making.{AreUnused}
+use Rattle.worker_pool.specs.Streamed.{IsAnswered, AreRelays, Leaves, Dealt, StopsAs, lane_at, taken_from}
+
+module _ {L : Type 0} where
+  no_relays : AreRelays {L = L} [] [] []
+  no_relays = record {
+    count = refl;
+    answered = λ k w r below. absurd (omega (arith, below));
+    sent_are = λ k r below. absurd (omega (arith, below));
+    taken_are = λ k r below. absurd (omega (arith, below));
+  }
+
+  -- nobody has a relay
+  pub none_relayed : AreUnused {L = L} [] []
+  none_relayed = record { relays_are = no_relays; untaken = λ k r below. absurd (omega (arith, below)) }
+
+  relayed : (workers : List (Worker L)) (relays : List Relay) (w : Worker L) (r : Relay) → AreRelays workers [] relays → IsAnswered w r
+      → r.sent ≡ 0 → r.taken ≡ length (taken r.answers) → AreRelays (workers ++ w ∷ []) [] (relays ++ r ∷ [])
+  unfolding share
+  relayed workers relays w r are one none same = record {
+    count = length_push workers w ∙ ap (λ n. n + 1) are.count ∙ sym (length_push relays r);
+    answered = λ k v t lt. ⊎_elim
+        (λ below.
+        let other : k < length workers = (let e = are.count in omega arith) in
+        subst (λ (x : Relay). IsAnswered (get_or (workers ++ w ∷ []) k v) x) (sym (get_or_append_left relays (r ∷ []) t k below))
+        (subst (λ (x : Worker L). IsAnswered x (get_or relays k t)) (sym (get_or_append_left workers (w ∷ []) v k other)) (are.answered k v t below)))
+        (λ past.
+        let there : length relays ≡ k = (let e = length_push relays r in omega arith) in
+        let here : length workers ≡ k = are.count ∙ there in
+        subst (λ (x : Relay). IsAnswered (get_or (workers ++ w ∷ []) k v) x) (sym (get_or_push relays r t k there))
+        (subst (λ (x : Worker L). IsAnswered x r) (sym (get_or_push workers w v k here)) one))
+        (cases_lt k (length relays));
+    sent_are = λ k t lt. All-push (λ (x : Relay). x.sent ≡ 0) relays r (λ j u below. are.sent_are j u below) none k t lt;
+    taken_are = λ k t lt. All-push (λ (x : Relay). x.taken ≡ length (taken x.answers)) relays r are.taken_are same k t lt;
+  }
+
+  -- one more worker that answers, with its relay
+  pub relayed_more : (workers : List (Worker L)) (relays : List Relay) (w : Worker L) (r : Relay) → AreUnused workers relays → IsAnswered w r
+      → r.sent ≡ 0 → r.taken ≡ length (taken r.answers) → taken r.answers ≡ [] → AreUnused (workers ++ w ∷ []) (relays ++ r ∷ [])
+  relayed_more workers relays w r are one none same empty = record {
+    relays_are = relayed workers relays w r are.relays_are one none same;
+    untaken = All-push (λ (x : Relay). taken x.answers ≡ []) relays r are.untaken empty;
+  }
+
+  -- what was dealt under the dealer's script was dealt under this one, which is the same
+  pub dealt_under : (g : Ghosts L) (script other : List Stamped) (begins : List (Worker L)) (posts : List (Post L)) (did : List Captured → Type 0) → script ≡ other
+      → Dealt g script begins posts did → Dealt g other begins posts did
+  dealt_under g script other begins posts did same dealt = subst (λ (s : List Stamped). Dealt g s begins posts did) same dealt
+
+-- ---- the beginning
+
+-- nothing was taken from any lane
+none_taken : (relays : List Relay) → All (λ r. taken r.answers ≡ []) relays → (l : ℕ) → taken_from relays l ≡ []
+none_taken [] empty l = refl
+none_taken (r ∷ relays) empty zero = empty 0 r (omega arith)
+none_taken (r ∷ relays) empty (suc l) = none_taken relays (λ k d below. empty (suc k) d (omega (arith, below))) l
+
+appends_nothing : (before : Option (List ℕ)) → Appends before before []
+appends_nothing None = tt
+appends_nothing (Some xs) = sym (append-nil xs)
+
+-- what is kept where nothing was taken is kept under any name for nothing
+kept_empty : (lane : ℕ → ℕ) (n : ℕ) (none : ℕ → List Answer) (s : Leaving) → ((l : ℕ) → none l ≡ []) → Keeps lane n (λ l. []) s → Keeps lane n none s
+kept_empty lane n none s empty keeps = record {
+  sent = λ l. subst (λ (t : List Answer). length t ≤ length (share lane l n)) (sym (empty l)) (keeps.sent l);
+  near = keeps.near;
+  right = λ answer indexed fronts.
+      let right = keeps.right answer indexed (λ l. refl) in
+      record {
+        behind = right.behind;
+        waits = λ d. subst (λ (t : List Answer). get_or s.waiting.window d None ≡ (if nat_lt (rank lane (s.waiting.next + d)) (length t) then Some (answer (s.waiting.next + d)) else None))
+            (sym (empty (lane (s.waiting.next + d)))) (right.waits d);
+        gone = λ i below. subst (λ (t : List Answer). nat_lt (rank lane i) (length t) ≡ true) (sym (empty (lane i))) (right.gone i below);
+        written = right.written;
+        kept = right.kept;
+      };
+}
+
+module _ {L : Type 0} where
+  -- a forward run begins: nothing has left
+  pub run_begins : (workers : List (Worker L)) (relays : List Relay) (waiting : Waiting) (before : Option (List ℕ)) → AreUnused workers relays
+      → Keeps (lane_at (length relays) []) 0 (λ l. []) (beginning waiting) → Leaves (lane_at (length relays) []) 0 (taken_from relays) waiting before before
+  run_begins workers relays waiting before unused keeps = record {
+    state = beginning waiting;
+    waits = refl;
+    keeps = kept_empty (lane_at (length relays) []) 0 (taken_from relays) (beginning waiting) (none_taken relays unused.untaken) keeps;
+    written = appends_nothing before;
+  }
+
+-- ---- the ends
+
+-- a run that wrote nothing wrote a front
+pub front_of_nothing : (before : Option (List ℕ)) (bytes : List ℕ) → AppendsFront before before bytes
+front_of_nothing before bytes = record { front = []; rest = bytes; added = appends_nothing before; whole = refl }
+
+-- the source of a run that was read to its end has nothing left
+pub read_all : (frames : List Captured) (capture : CaptureState) (old new : Option (List ℕ)) (read : Result Whole PoolError) → IsOk read → StopsAs frames capture old new read
+    → (rest : List ℕ) → old ≡ Some rest → new ≡ Some []
+read_all frames capture old new (Ok whole) ok stops rest is = (stops.1 rest is).1
+read_all frames capture old new (Err e) ok stops rest is = absurd (cc)
+
+-- a count that rose has risen also from an earlier moment, and to a later one
+pub rose_after : (a b d : ℕ) → a ≤ b → Rose b d → Rose a d
+rose_after a b d later rose = ⊎_elim (λ more. inl (omega (arith, later, more))) (λ full. inr full) rose
+
+pub rose_before : (a b d : ℕ) → Rose a b → b ≤ d → Rose a d
+rose_before a b d rose later = ⊎_elim (λ more. inl (omega (arith, later, more))) (λ full. inr (omega (arith, later, full))) rose
+
+-- a run that memory was refused to before it began wrote nothing
+pub ended_early : (app : Meaning) (script : List Stamped) (lanes : ℕ) (f : Frames) (before : Option (List ℕ)) (result : Result (List ℕ) PoolError) → result ≡ Err NoMemory
+    → ForwardsFront app script lanes f.frames before before → ForwardsOver app script lanes f before before result
+ended_early app script lanes f before result is front = subst (λ (r : Result (List ℕ) PoolError). ForwardsOver app script lanes f before before r) (sym is) (tt, front)
+
+-- which is no fault
+pub no_fault_early : (count : ℕ) (fault : PoolError) (result : Result (List ℕ) PoolError) → result ≡ Err NoMemory → NoMemory ≢ fault → HasCauseOf count count (IsErrOf result fault)
+no_fault_early count fault result is other = record { later = omega arith; cause = λ told. absurd (other (cc)) }

@@ -1,0 +1,86 @@
+use denote.Exit.{yes}
+use denote.Param.{copied}
+use denote.Param.Send.{param_send, arg_send}
+use Rattle.std.proofs.Common.{◌≡◌, ◌∙◌, ◌≤◌, refl, [], sym, ap, subst, Err, length, ⊎_elim, arith}
+use Rattle.std.proofs.lemmas.Result.{err_from_is_err_and}
+use Rattle.pcap_source.specs.Reading.{frames_at}
+use Rattle.shared_forest.proofs.store_user.StoreUser.TheSendSync as user
+use Rattle.shared_forest.specs.contracts.store_user.StoreUserForestView.TheImpl as view
+use Rattle.lane_core.proofs.Handed.{lane_send}
+use Rattle.worker_pool.specs.declared.job.PoolError.TheVariants.{ReadFault, WriteFault, NoMemory}
+use Rattle.worker_pool.specs.Forward.{ForwardsOver}
+use Rattle.worker_pool.specs.Streamed.{lane_at}
+use Rattle.worker_pool.proofs.Forwarding.{run_begins, ended_early, no_fault_early, read_all, rose_before, rose_after}
+use Rattle.worker_pool.proofs.forward.lanes.forward_lanes.Goals as goal
+
+pub stream_team-requires-send-L : goal.stream_team-requires-send-L
+stream_team-requires-send-L g c κs within =
+    let lane = lane_send _ _ (view.ghosts (copied 0 g.row.R)) c.type_bounds.send-A (user.the_send _ c.type_bounds.send-R) in
+    param_send 1 _ (arg_send _ yes _ lane)
+
+pub stream_team-requires-clause-begins : goal.stream_team-requires-clause-begins
+stream_team-requires-clause-begins g c κs within =
+    let relays = c.in_ok-team.relays.items in
+    run_begins c.in_ok-team.team.workers.items relays c.in_ok-waiting.waiting (g.O.Sink.taken c.args.out.now) c.in_ok-team.ensures.relays
+    (c.beginning_is_right.ensures.keeps (lane_at (length relays) []) c.in_ok-waiting.waiting 4096 c.in_ok-waiting.ensures.next c.in_ok-waiting.ensures.window)
+
+pub returns-in_err-waiting-clause-forwards : goal.returns-in_err-waiting-clause-forwards
+returns-in_err-waiting-clause-forwards g c = λ rest is.
+    let p = err_from_is_err_and c.from_residual-in_err-waiting.result c.from_residual-in_err-waiting.ensures.1 in
+    let app = g.A.App.meaning c.args.job.now.app in
+    let f = frames_at c.args.capture.now rest in
+    ended_early app c.args.job.now.script.now c.args.job.now.workers f (g.O.Sink.taken c.args.out.now) c.from_residual-in_err-waiting.result (p.1 ∙ ap Err p.2)
+    (c.nothing_is_a_front.ensures.front app c.args.job.now.workers f.frames (g.O.Sink.taken c.args.out.now))
+
+pub returns-in_err-waiting-clause-read_fault : goal.returns-in_err-waiting-clause-read_fault
+returns-in_err-waiting-clause-read_fault g c =
+    let p = err_from_is_err_and c.from_residual-in_err-waiting.result c.from_residual-in_err-waiting.ensures.1 in
+    no_fault_early (g.S.Source.faults c.args.source.now) ReadFault c.from_residual-in_err-waiting.result (p.1 ∙ ap Err p.2) (λ e. cc)
+
+pub returns-in_err-waiting-clause-write_fault : goal.returns-in_err-waiting-clause-write_fault
+returns-in_err-waiting-clause-write_fault g c =
+    let p = err_from_is_err_and c.from_residual-in_err-waiting.result c.from_residual-in_err-waiting.ensures.1 in
+    no_fault_early (g.O.Sink.faults c.args.out.now) WriteFault c.from_residual-in_err-waiting.result (p.1 ∙ ap Err p.2) (λ e. cc)
+
+pub returns-in_err-read-clause-forwards : goal.returns-in_err-read-clause-forwards
+returns-in_err-read-clause-forwards g c = λ rest is.
+    let p = err_from_is_err_and c.from_residual-in_err-read.result c.from_residual-in_err-read.ensures.1 in
+    let app = g.A.App.meaning c.args.job.now.app in
+    let f = frames_at c.args.capture.now rest in
+    subst (λ (o : g.row.O.Denot). ForwardsOver app c.args.job.now.script.now c.args.job.now.workers f (g.O.Sink.taken c.args.out.now) (g.O.Sink.taken o) c.from_residual-in_err-read.result)
+    (sym c.in_err-read.ensures.unchanged.1)
+    (ended_early app c.args.job.now.script.now c.args.job.now.workers f (g.O.Sink.taken c.args.out.now) c.from_residual-in_err-read.result (p.1 ∙ ap Err p.2)
+    (c.nothing_is_a_front.ensures.front app c.args.job.now.workers f.frames (g.O.Sink.taken c.args.out.now)))
+
+pub returns-clause-forwards : goal.returns-clause-forwards
+returns-clause-forwards g c = λ rest is.
+    let app = g.A.App.meaning c.args.job.now.app in
+    let script = c.args.job.now.script.now in
+    let s = c.in_ok-read.ensures.served in
+    let over = c.leave.ensures.ends app s.frames c.in_ok-team.team.workers.items c.in_ok-team.team.packets.items c.args.capture.now
+    (g.S.Source.left c.args.source.now) (g.S.Source.left c.stream_team.new.source) (g.O.Sink.taken c.args.out.now) rest
+    s.few c.in_ok-team.ensures.team c.in_ok-team.ensures.keep s.served s.done is in
+    subst (λ n. ForwardsOver app script n (frames_at c.args.capture.now rest) (g.O.Sink.taken c.args.out.now) (g.O.Sink.taken c.leave.new.out) c.leave.result) c.in_ok-team.ensures.count over
+
+pub returns-clause-read : goal.returns-clause-read
+returns-clause-read g c = λ ok rest is.
+    let s = c.in_ok-read.ensures.served in
+    read_all s.frames c.args.capture.now (g.S.Source.left c.args.source.now) (g.S.Source.left c.stream_team.new.source) c.in_ok-read.read (c.leave.ensures.ok ok) s.done.stops rest is
+
+pub returns-clause-read_fault : goal.returns-clause-read_fault
+returns-clause-read_fault g c = record {
+  later = c.in_ok-read.ensures.read_fault.later;
+  cause = λ fault. c.in_ok-read.ensures.read_fault.cause (c.leave.ensures.read_fault fault);
+}
+
+pub returns-clause-write_fault : goal.returns-clause-write_fault
+returns-clause-write_fault g c =
+    let before = c.in_ok-read.ensures.write_fault in
+    let then = c.leave.ensures.counts in
+    record {
+      later = let e = before.later in omega (arith, e, then);
+      cause = λ fault. ⊎_elim
+          (λ told. rose_before (g.O.Sink.faults c.args.out.now) (g.O.Sink.faults c.stream_team.new.out) (g.O.Sink.faults c.leave.new.out) (before.cause told) then)
+          (λ rose. rose_after (g.O.Sink.faults c.args.out.now) (g.O.Sink.faults c.stream_team.new.out) (g.O.Sink.faults c.leave.new.out) before.later rose)
+          (c.leave.ensures.write_fault fault);
+    }

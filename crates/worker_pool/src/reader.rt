@@ -1,0 +1,118 @@
+//! A run that is reported: this thread reads the capture, and sends its packets to the workers.
+
+ghost use Rattle.std.specs.Prelude.{◌≡◌, ◌≤◌, [], List, length, IsErrOf, IsTrue};
+ghost use Rattle.mos_bytes.specs.Causes.{HasCauseOf};
+ghost use Rattle.pcap_source.specs.Reading.{Opened};
+ghost use Rattle.app_api.specs.App.{Meaning};
+ghost use Rattle.forest_versions.specs.Lawful.{are_lawful};
+ghost use Rattle.forest_versions.specs.State.{start};
+ghost use Rattle.control_script.specs.Order.{commands_of};
+ghost use Rattle.worker_pool.specs.declared.worker.Worker.{Worker as Begun};
+ghost use Rattle.worker_pool.specs.Posts.{ArePosts};
+ghost use Rattle.worker_pool.specs.Streamed.{Dealt};
+ghost use Rattle.worker_pool.specs.Team.{IsTeam, TeamRan, HasRead};
+
+use crate::dealer::Dealer;
+use crate::dispatch::{Whole, dispatch};
+use crate::gate::Gate;
+use crate::job::PoolError;
+use crate::post::Post;
+use crate::team::{Ran, Team, run_team};
+use control_script::Script;
+use lane_core::Recorder;
+use mos_bytes::Source;
+use native_filters::NativeBook;
+use pcap_source::Capture;
+use std::alloc::Global;
+use std::sync::Wait;
+use std::sync::atomic::AtomicBool;
+use std::thread::Threads;
+
+/// Reads a capture for a report.
+#[derive(Drop)]
+pub(crate) struct Reader<'a, R, S, G> {
+    rt: &'a R,
+    alloc: Global,
+    script: &'a Script,
+    natives: &'a NativeBook,
+    gate: &'a G,
+    /// Raised where a lane fails.
+    failed: &'a AtomicBool,
+    capture: &'a mut Capture,
+    source: &'a mut S,
+}
+
+impl<'a, R: Wait, L: Recorder + Drop, S: Source, G: Gate> Dealer<L> for Reader<'a, R, S, G> {
+    ghost use Rattle.std.specs.Prelude.{◌≡◌};
+    ghost use Rattle.pcap_source.specs.Reading.{Opened};
+    ghost use Rattle.worker_pool.specs.Team.{HasRead};
+
+    ghost script = { λ d. d.script.now };
+
+    ghost may = { λ d begins. Opened d.capture.now };
+
+    ghost did = { λ d e begins frames result. HasRead frames d.capture.now (S.left d.source.now) (S.left e.source.now) (S.faults d.source.now) (S.faults e.source.now) result
+        × (S.lasting e.source.now ≡ S.lasting d.source.now)
+        × (e.capture.ghost_name ≡ d.capture.ghost_name) × (e.source.ghost_name ≡ d.source.ghost_name) };
+
+    fn deal(&mut self, posts: &mut Vec<Post<L>>) -> Result<Whole, PoolError> {
+        let whole = dispatch(
+            self.rt,
+            self.alloc,
+            posts,
+            self.script,
+            self.natives,
+            self.gate,
+            self.failed,
+            self.capture,
+            self.source,
+        )?;
+        Ok(whole)
+    }
+}
+
+/// Runs a team over an opened capture, and reads that.
+///
+/// The capture is read to its end or its tail, also where a lane failed, or to where it is refused. An error is that
+/// refusal, a fault of the source, or want of memory.
+pub(crate) fn read_team<
+    R: Threads + Wait + Sync + Send + Copy + Drop + 'static,
+    L: Recorder + Drop + Send,
+    S: Source,
+    G: Gate + Sync,
+>(
+    rt: &R,
+    alloc: Global,
+    team: Team<L>,
+    script: &Script,
+    natives: &NativeBook,
+    gate: &G,
+    capture: &mut Capture,
+    source: &mut S,
+) -> Result<Ran<L>, PoolError>
+    requires opened { Opened capture.old }
+    requires team { (app : Meaning) × IsTeam L.Recorder app team.workers.items team.packets.items
+        × IsTrue (are_lawful (start app.presets) (commands_of script.now)) }
+    ensures ran { TeamRan L.Recorder script.now team.workers.items capture.old (S.left source.old) (S.left source.new) result }
+    ensures cause { HasCauseOf (S.faults source.old) (S.faults source.new) (IsErrOf result PoolError.ReadFault) }
+    ensures lasts { S.lasting source.new ≡ S.lasting source.old }
+{
+    let failed = AtomicBool::new(false);
+    let mut reader = Reader {
+        rt,
+        alloc,
+        script,
+        natives,
+        gate,
+        failed: &failed,
+        capture,
+        source,
+    };
+    let (read, workers) = run_team(rt, alloc, team, script, natives, gate, &failed, &mut reader)?;
+    let whole = read?;
+    Ok(Ran {
+        workers,
+        packets: whole.packets,
+        tail: whole.tail,
+    })
+}
