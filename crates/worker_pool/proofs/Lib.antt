@@ -22,3 +22,5 @@ mod Rows
 mod Manning
 mod Crossed
 mod Draining
+mod Relaying
+mod Leaving

@@ -12,3 +12,4 @@ pub mod Manned
 pub mod Forward
 pub mod Streamed
 pub mod Drained
+pub mod Relayed
