@@ -8,6 +8,8 @@ use Rattle.std.proofs.lemmas.Bool.{cases_eq}
 use Rattle.packet_views.specs.Packet.{packet_of}
 use Rattle.pcap_source.specs.Captured.{Captured}
 use Rattle.pcap_source.specs.Reading.{CaptureState, frames_at}
+use Rattle.pcap_source.specs.declared.errors.NextError.{NextError}
+use Rattle.pcap_source.specs.declared.errors.NextError.TheVariants.{TooLong, TooMany, ReadFault, NoMemory}
 use Rattle.flow_table.specs.Lane.{lane_of_packet}
 use Rattle.lane_rings.specs.declared.items.Answer.{Answer}
 use Rattle.lane_rings.specs.Waiting.{Waiting, first_of}
@@ -21,10 +23,11 @@ use Rattle.worker_pool.specs.declared.post.Post.{Post}
 use Rattle.worker_pool.specs.declared.forward.relay.Relay.{Relay}
 use Rattle.worker_pool.specs.declared.dispatch.Whole.{Whole}
 use Rattle.worker_pool.specs.declared.job.PoolError.{PoolError}
-use Rattle.worker_pool.specs.declared.job.PoolError.TheVariants.{WriteFault, NoMemory}
-use Rattle.worker_pool.specs.Posts.{IsPost, ArePosts}
+use Rattle.worker_pool.specs.declared.job.PoolError.TheVariants.{WriteFault, NoMemory as OutOfMemory}
+use Rattle.worker_pool.specs.Refused.{read_refusal}
+use Rattle.worker_pool.specs.Posts.{IsPost, ArePosts, ReadsAs}
 use Rattle.worker_pool.specs.Sent.{packets_from, dealt}
-use Rattle.worker_pool.specs.Streamed.{AreRelays, Leaves, HasLeft, Streamed, StopsAs, lane_at, taken_from}
+use Rattle.worker_pool.specs.Streamed.{AreRelays, Leaves, HasLeft, Streamed, Dealt, StopsAs, lane_at, taken_from}
 use Rattle.worker_pool.specs.Drained.{OfferAll}
 use Rattle.worker_pool.specs.Relayed.{HaveTaken, AreSentTo, LeaveAll, CutAll, counted_on}
 use Rattle.worker_pool.proofs.Reading.{IsReadTo}
@@ -159,14 +162,92 @@ module _ {L : Type 0} where
           subst (λ n. HasLeft (lane_at n frames) (length frames) (taken_from relays_now) before new) (sym takes.count)
           (on.cut (lane_at (length relays_mid) frames) (length frames) before s.relays_are.sent_are (come.leaves begins before p r l))
 
+      -- a packet was sent
+      pub come_sent : (n : ℕ) (frame : Captured) → length frames ≡ n
+          → ((begins : List (Worker L)) (fs : List Captured) → length fs ≡ n → ArePosts g script begins fs posts_mid → AreRelays begins fs relays_mid
+          → ArePosts g script begins (fs ++ frame ∷ []) posts_now × AreRelays begins (fs ++ frame ∷ []) relays_now)
+          → ((begins : List (Worker L)) (fs : List Captured) (before : Option (List ℕ)) → length fs ≡ n → ArePosts g script begins fs posts_mid → AreRelays begins fs relays_mid
+          → Leaves (lane_at (length relays_mid) fs) n (taken_from relays_mid) v before mid
+          → Leaves (lane_at (length relays_now) (fs ++ frame ∷ [])) (n + 1) (taken_from relays_now) u before new)
+          → HasCome g script posts relays w old (frames ++ frame ∷ []) posts_now relays_now u new
+      come_sent n frame count sends on = record {
+        sent = λ begins p r.
+            let s = come.sent begins p r in
+            let t = sends begins frames count s.posts_are s.relays_are in
+            record { posts_are = t.0; relays_are = t.1 };
+        leaves = λ begins before p r l.
+            let s = come.sent begins p r in
+            subst (λ m. Leaves (lane_at (length relays_now) (frames ++ frame ∷ [])) m (taken_from relays_now) u before new) (sym (length_push frames frame ∙ ap (λ m. m + 1) count))
+            (on begins frames before count s.posts_are s.relays_are
+            (subst (λ m. Leaves (lane_at (length relays_mid) frames) m (taken_from relays_mid) v before mid) count (come.leaves begins before p r l)));
+      }
+
 -- ---- how it stops
 
 pub front_of : (start now : CaptureState) (bytes : List ℕ) (frames : List Captured) (left : Option (List ℕ)) → IsReadTo start bytes frames now left → IsPrefix frames (frames_at start bytes).frames
 front_of start now bytes frames left r = ((frames_at now r.rest).frames, sym (ap (λ f. f.frames) r.holds))
 
 -- where it is cut off, or out of memory, while it waits
-pub stops_early : (frames : List Captured) (start : CaptureState) (old new : Option (List ℕ)) (e : PoolError) → (e ≡ WriteFault) ⊎ (e ≡ NoMemory) → StopsAs frames start old new (Err e)
+pub stops_early : (frames : List Captured) (start : CaptureState) (old new : Option (List ℕ)) (e : PoolError) → (e ≡ WriteFault) ⊎ (e ≡ OutOfMemory) → StopsAs frames start old new (Err e)
 stops_early frames start old new e only = ⊎_elim
     (λ is. subst (λ (x : PoolError). StopsAs frames start old new (Err x)) (sym is) tt)
     (λ is. subst (λ (x : PoolError). StopsAs frames start old new (Err x)) (sym is) tt)
     only
+
+-- a refusal of the capture is told
+pub stops_refused : (frames : List Captured) (start : CaptureState) (old new : Option (List ℕ)) (e : NextError) → ReadsAs frames start old new (Err e) → StopsAs frames start old new (Err (read_refusal e))
+stops_refused frames start old new (TooLong offset) reads = reads
+stops_refused frames start old new (TooMany offset) reads = reads
+stops_refused frames start old new ReadFault reads = tt
+stops_refused frames start old new NoMemory reads = tt
+
+pub same_refusal : {T : Type 0} (a b : PoolError) (r : Result T PoolError) → r ≡ Err a → r ≡ Err b → a ≡ b
+same_refusal a b r one two = cc
+
+module _ {L : Type 0} (g : Ghosts L) (script : List Stamped) (posts : List (Post L)) (relays : List Relay) (w : Waiting) (out : Option (List ℕ)) (frames : List Captured) (few : length frames ≤ 1048576)
+    (start now : CaptureState) (old left new : Option (List ℕ)) (reads : (bytes : List ℕ) → old ≡ Some bytes → IsReadTo start bytes frames now left)
+    (begins : List (Worker L)) (before : Option (List ℕ)) (p : ArePosts g script begins [] posts) (r : AreRelays begins [] relays) (l : Leaves (lane_at (length relays) []) 0 (taken_from relays) w before out) where
+  -- what is told of a run that has come to these frames and stops
+  abbrev pub Told : List (Post L) → List Relay → Waiting → Option (List ℕ) → Result Whole PoolError → Type 0
+  Told posts_now relays_now v after result = Dealt g script begins posts_now (λ fs. Streamed begins fs relays_now v start old new before after result)
+
+  -- all that was taken and whose turn it was has left
+  pub told_whole : (posts_now : List (Post L)) (relays_now : List Relay) (v : Waiting) (after : Option (List ℕ)) (result : Result Whole PoolError)
+      → HasCome g script posts relays w out frames posts_now relays_now v after → StopsAs frames start old new result → Told posts_now relays_now v after result
+  told_whole posts_now relays_now v after result come stops =
+      let s = come.sent begins p r in
+      let whole = come.leaves begins before p r l in
+      record {
+        frames = frames;
+        few = few;
+        posts_are = s.posts_are;
+        done = record {
+          relays_are = s.relays_are;
+          left = left_whole (lane_at (length relays_now) frames) (length frames) (taken_from relays_now) v before after whole;
+          leaves = λ not. whole;
+          front = λ bytes is. front_of start now bytes frames left (reads bytes is);
+          stops = stops;
+        };
+      }
+
+  -- while a place was awaited
+  pub told_early : (posts_mid posts_now : List (Post L)) (relays_mid relays_now : List Relay) (v u : Waiting) (mid after : Option (List ℕ)) (e : PoolError)
+      → HasCome g script posts relays w out frames posts_mid relays_mid v mid
+      → ((bs : List (Worker L)) (fs : List Captured) → ArePosts g script bs fs posts_mid → ArePosts g script bs fs posts_now)
+      → HaveTaken relays_mid relays_now → (e ≢ WriteFault → LeaveAll relays_mid relays_now v u mid after) → CutAll relays_mid relays_now v mid after
+      → (e ≡ WriteFault) ⊎ (e ≡ OutOfMemory) → Told posts_now relays_now u after (Err e)
+  told_early posts_mid posts_now relays_mid relays_now v u mid after e come still takes whole cut only =
+      let s = come.sent begins p r in
+      record {
+        frames = frames;
+        few = few;
+        posts_are = still begins frames s.posts_are;
+        done = record {
+          relays_are = relays_after begins frames relays_mid relays_now takes s.relays_are;
+          left = come_cut g script posts relays w out frames posts_mid posts_now relays_mid relays_now v u mid after come begins before takes cut p r l;
+          leaves = λ not.
+              (come_on g script posts relays w out frames posts_mid posts_now relays_mid relays_now v u mid after come still takes (whole (λ is. not (ap (λ x. Err x) is)))).leaves begins before p r l;
+          front = λ bytes is. front_of start now bytes frames left (reads bytes is);
+          stops = stops_early frames start old new e only;
+        };
+      }
