@@ -1,16 +1,14 @@
 -- A forward run while it streams: what was sent, what has come back, and what has left.
-use Rattle.std.proofs.Common.{◌≡◌, ◌≢◌, ◌<◌, ◌≤◌, ℕ, zero, suc, ◌+◌, Bool, true, false, cond, Option, Some, None, List, [], ◌∷◌, ◌++◌, length, map, set, get_or, refl, sym, ap, subst, ◌∙◌, append_assoc, ◌⊎◌, inl, inr, ⊎_elim, arith}
-use Rattle.std.specs.Prelude.{Result, Ok, Err, nat_lt}
+use Rattle.std.proofs.Common.{◌≡◌, ◌≢◌, ◌<◌, ◌≤◌, ℕ, ◌+◌, true, Option, Some, List, [], ◌∷◌, ◌++◌, length, set, get_or, refl, sym, ap, subst, ◌∙◌, ◌⊎◌, ⊎_elim, arith}
+use Rattle.std.specs.Prelude.{Result, Err, nat_lt}
 use Rattle.std.specs.Io.KnownBytes.{Appends}
 use mathlib.Core.List.{IsPrefix}
 use Rattle.std.proofs.lemmas.List.{append-nil, length_push, get_or-set_same, get_or-set_other, length-set}
 use Rattle.std.proofs.lemmas.Bool.{cases_eq}
-use Rattle.packet_views.specs.Packet.{packet_of}
 use Rattle.pcap_source.specs.Captured.{Captured}
 use Rattle.pcap_source.specs.Reading.{CaptureState, frames_at}
 use Rattle.pcap_source.specs.declared.errors.NextError.{NextError}
 use Rattle.pcap_source.specs.declared.errors.NextError.TheVariants.{TooLong, TooMany, ReadFault, NoMemory}
-use Rattle.flow_table.specs.Lane.{lane_of_packet}
 use Rattle.lane_rings.specs.declared.items.Answer.{Answer}
 use Rattle.lane_rings.specs.Waiting.{Waiting, first_of}
 use Rattle.lane_rings.specs.Forward.{Leaving, Keeps, bytes_of_first}
@@ -29,10 +27,9 @@ use Rattle.worker_pool.specs.Posts.{IsPost, ArePosts, ReadsAs}
 use Rattle.worker_pool.specs.Sent.{packets_from, dealt}
 use Rattle.worker_pool.specs.Streamed.{AreRelays, Leaves, HasLeft, Streamed, Dealt, StopsAs, lane_at, taken_from}
 use Rattle.worker_pool.specs.Drained.{OfferAll}
-use Rattle.worker_pool.specs.Relayed.{HaveTaken, AreSentTo, LeaveAll, CutAll, counted_on}
+use Rattle.worker_pool.specs.Relayed.{HaveTaken, LeaveAll, CutAll, counted_on}
 use Rattle.worker_pool.proofs.Reading.{IsReadTo}
 use Rattle.worker_pool.proofs.Relaying.{still_sent, relays_after, sent_to, lane_before, counted_length, counted_taken}
-
 
 -- ---- posts to which nothing is sent
 

@@ -1,21 +1,18 @@
 -- Relays while a forward run streams: what was sent to their lanes, and what was taken from them.
-use Rattle.std.proofs.Common.{◌≡◌, ◌≢◌, ◌<◌, ◌≤◌, ℕ, zero, suc, ◌+◌, Bool, true, false, cond, Option, Some, None, List, [], ◌∷◌, ◌++◌, length, map, set, get_or, refl, sym, ap, subst, ◌∙◌, ◌⊎◌, inl, inr, ⊎_elim, arith}
+use Rattle.std.proofs.Common.{◌≡◌, ◌≢◌, ◌<◌, ◌≤◌, ℕ, zero, suc, ◌+◌, Bool, true, false, cond, List, [], ◌∷◌, ◌++◌, length, map, set, get_or, refl, sym, ap, subst, ◌∙◌, ⊎_elim, arith}
 use Rattle.std.specs.Prelude.{◌==◌}
-use Rattle.std.proofs.Math.Path.{fun_ext}
 use Rattle.std.proofs.Math.Seq.{map-set_same}
-use Rattle.std.proofs.lemmas.Bool.{cases_eq, cases_lt}
-use Rattle.std.proofs.lemmas.List.{length_push, length-map, length-append, get_or_default, get_or-map, map-set, get_or-set_same, get_or-set_other, length-set}
+use Rattle.std.proofs.lemmas.Bool.{cases_eq}
+use Rattle.std.proofs.lemmas.List.{length_push, length-map, get_or_default, get_or-map, map-set, get_or-set_same, get_or-set_other, length-set}
 use Rattle.packet_views.specs.Packet.{packet_of}
 use Rattle.pcap_source.specs.Captured.{Captured}
 use Rattle.flow_table.specs.Lane.{lane_of_packet}
-use Rattle.lane_rings.specs.declared.items.Answer.{Answer}
-use Rattle.lane_rings.specs.declared.ring.RingTx.{RingTx}
 use Rattle.lane_rings.specs.Ring.{taken}
 use Rattle.lane_rings.specs.Share.{share}
 use Rattle.lane_rings.specs.Waiting.{Waiting}
 use Rattle.worker_pool.specs.declared.worker.Worker.{Worker}
 use Rattle.worker_pool.specs.declared.forward.relay.Relay.{Relay}
-use Rattle.worker_pool.specs.Streamed.{Leaves, AreRelays, IsAnswered, lane_at, taken_from}
+use Rattle.worker_pool.specs.Streamed.{AreRelays, IsAnswered, lane_at, taken_from}
 use Rattle.worker_pool.specs.Drained.{Offers, OfferAll}
 use Rattle.worker_pool.specs.Relayed.{IsCounted, AreCounted, HasTaken, HaveTaken, AreSentTo, with_sent, counted_on}
 use Rattle.worker_pool.proofs.Rings.{SameRx-refl, SameRx-trans, SameTx-refl}

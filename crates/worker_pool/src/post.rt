@@ -63,15 +63,7 @@ pub(crate) fn take_turns<R: Wait, L: Recorder + Drop, G: Gate>(
         → ArePosts L.Recorder script.now begins frames posts.new.items }
 {
     for lane in 0..posts.len() {
-        make_room(
-            rt,
-            alloc,
-            &mut posts[lane],
-            script,
-            natives,
-            gate,
-            failed,
-        );
+        make_room(rt, alloc, &mut posts[lane], script, natives, gate, failed);
     }
 }
 

@@ -19,8 +19,8 @@ pub(crate) struct Relay {
     pub(crate) taken: u64,
 }
 
-// Offers an answer. One that comes back is let go: where all answers are right there is none.
-fn offer(waiting: &mut Resequencer, answer: Answer)
+/// Offers an answer. One that comes back is let go: where all answers are right there is none.
+pub(crate) fn offer(waiting: &mut Resequencer, answer: Answer)
     ensures { (s : Leaving) → s.waiting ≡ waiting.old → (offered answer s).waiting ≡ waiting.new }
 {
     let _ = waiting.offer(answer);

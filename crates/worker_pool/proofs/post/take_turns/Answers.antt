@@ -1,9 +1,7 @@
-use Rattle.std.proofs.Common.{◌≡◌, ◌<◌, List, length, sym, subst, ◌∙◌, arith}
-use Rattle.pcap_source.specs.Captured.{Captured}
+use Rattle.std.proofs.Common.{◌<◌, length, sym, subst, arith}
 use Rattle.control_script.specs.Order.{commands_of}
-use Rattle.worker_pool.specs.declared.worker.Worker.{Worker}
 use Rattle.worker_pool.specs.declared.post.Post.{Post}
-use Rattle.worker_pool.specs.Posts.{IsPost, ArePosts}
+use Rattle.worker_pool.specs.Posts.{IsPost}
 use Rattle.worker_pool.proofs.Posted.{post_of}
 use Rattle.worker_pool.proofs.Leaving.{same_posts}
 use Rattle.worker_pool.proofs.post.take_turns.Goals as goal

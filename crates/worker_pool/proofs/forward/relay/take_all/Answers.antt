@@ -1,4 +1,4 @@
-use Rattle.worker_pool.proofs.Relaying.{all_taken_none, all_taken_then, still_counted, offers_nothing, offers_then}
+use Rattle.worker_pool.proofs.Relaying.{all_taken_none, all_taken_then, offers_nothing, offers_then}
 use Rattle.worker_pool.proofs.forward.relay.take_all.Goals as goal
 
 pub loop-lane-init : goal.loop-lane-init

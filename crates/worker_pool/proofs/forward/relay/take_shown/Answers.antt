@@ -3,7 +3,6 @@ use Rattle.std.proofs.lemmas.List.{length_push}
 use Rattle.lane_rings.specs.Ring.{taken}
 use Rattle.worker_pool.proofs.Rings.{SameRx-refl, SameRx-trans}
 use Rattle.worker_pool.proofs.Draining.{offers_none, offers_one}
-use Rattle.worker_pool.proofs.Relaying.{offers_same}
 use Rattle.worker_pool.proofs.forward.relay.take_shown.Goals as goal
 
 pub loop-relay-init : goal.loop-relay-init

@@ -1,11 +1,7 @@
 use Rattle.std.proofs.Common.{◌≡◌, ◌<◌, ◌++◌, ◌∷◌, [], List, length, sym, ap, subst, ◌∙◌, arith}
 use Rattle.packet_views.specs.Packet.{packet_of}
-use Rattle.pcap_source.specs.Captured.{Captured}
 use Rattle.flow_table.specs.Lane.{lane_of_packet}
-use Rattle.worker_pool.specs.declared.worker.Worker.{Worker}
 use Rattle.worker_pool.specs.declared.forward.relay.Relay.{Relay}
-use Rattle.worker_pool.specs.Posts.{ArePosts}
-use Rattle.worker_pool.specs.Streamed.{AreRelays}
 use Rattle.worker_pool.specs.Drained.{OfferAll}
 use Rattle.worker_pool.specs.Relayed.{AreCounted, HaveTaken, counted_on}
 use Rattle.worker_pool.proofs.Relaying.{few_sent, some_relay, counted_length, are_counted, relays_after, relays_sent}
@@ -49,12 +45,11 @@ returns-clause-sent g c = λ begins frames count posts_are relays_are.
     let below : lane < length relays = omega (arith, c.send_frame-lane.ensures.within, posts_are.count, relays_are.count) in
     let r = some_relay relays lane below in
     let lanes : length c.args.posts.now.items ≡ length relays = omega (arith, posts_are.count, relays_are.count) in
-    let own : lane ≡ lane_of_packet (packet_of c.args.frame.bytes) (length relays) = c.send_frame-lane.ensures.lane ∙ ap (lane_of_packet (packet_of c.args.frame.bytes)) lanes in
-    (
+    let own : lane ≡ lane_of_packet (packet_of c.args.frame.bytes) (length relays) = c.send_frame-lane.ensures.lane ∙ ap (lane_of_packet (packet_of c.args.frame.bytes)) lanes in (
       c.send_frame-lane.ensures.sent begins frames count posts_are,
       relays_after begins (frames ++ c.args.frame ∷ []) (counted_on relays lane r) c.take_answers.new.relays.items
-      (subst (λ (xs : List Relay). HaveTaken xs c.take_answers.new.relays.items) (c.count_sent.ensures r) c.take_answers.ensures.takes)
-      (relays_sent c.sending_stays_right.ensures.own c.sending_stays_right.ensures.others c.later_lanes_change_nothing.ensures.share begins frames c.args.frame relays lane r below own relays_are),
+          (subst (λ (xs : List Relay). HaveTaken xs c.take_answers.new.relays.items) (c.count_sent.ensures r) c.take_answers.ensures.takes)
+          (relays_sent c.sending_stays_right.ensures.own c.sending_stays_right.ensures.others c.later_lanes_change_nothing.ensures.share begins frames c.args.frame relays lane r below own relays_are),
     )
 
 pub returns-clause-leaves : goal.returns-clause-leaves

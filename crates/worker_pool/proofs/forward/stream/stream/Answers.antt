@@ -1,4 +1,4 @@
-use Rattle.std.proofs.Common.{◌≡◌, ◌≤◌, ◌+◌, [], ◌∷◌, ◌++◌, List, length, Ok, Err, refl, ap, subst, ◌∙◌, le_refl, arith}
+use Rattle.std.proofs.Common.{◌≤◌, ◌+◌, [], ◌∷◌, ◌++◌, length, Ok, Err, refl, ap, subst, ◌∙◌, le_refl, arith}
 use Rattle.std.proofs.lemmas.List.{length-append}
 use Rattle.std.proofs.lemmas.Result.{err_from_is_err_and}
 use Rattle.pcap_source.specs.Reading.{NextGives}
@@ -75,8 +75,8 @@ send_next-requires-clause-begins g c =
     let at = c.loop-frame in
     let new = c.await_place.new in
     let come =
-        come_on g.L.Recorder c.args.script.now c.args.posts.now.items c.args.relays.now.items c.args.waiting.now (g.O.Sink.taken c.args.out.now) read.0 at.posts.items new.posts.items at.relays.items new.relays.items
-        at.waiting new.waiting (g.O.Sink.taken at.out) (g.O.Sink.taken new.out) read.2 c.await_place.ensures.posts c.await_place.ensures.takes (c.in_ok-await_place.ensures.leaves (λ is. absurd (cc))) in
+    come_on g.L.Recorder c.args.script.now c.args.posts.now.items c.args.relays.now.items c.args.waiting.now (g.O.Sink.taken c.args.out.now) read.0 at.posts.items new.posts.items at.relays.items new.relays.items
+    at.waiting new.waiting (g.O.Sink.taken at.out) (g.O.Sink.taken new.out) read.2 c.await_place.ensures.posts c.await_place.ensures.takes (c.in_ok-await_place.ensures.leaves (λ is. absurd (cc))) in
     let s = come.sent given.0 given.1 given.2 in
     (given.0, read.0, read.1, s.posts_are, s.relays_are)
 
@@ -91,8 +91,8 @@ loop-frame-preserved g c =
     let moved = c.in_ok-next.ensures.moved (ap (λ s. Ok s) c.in-Frame.is) in
     let gives = subst (λ s. NextGives at.capture c.next.new.self (g.S.Source.left at.source) (g.S.Source.left c.next.new.source) frame (Ok s)) c.in-Frame.is c.in_ok-next.ensures.gives in
     let come =
-        come_on g.L.Recorder c.args.script.now c.args.posts.now.items c.args.relays.now.items c.args.waiting.now (g.O.Sink.taken c.args.out.now) read.0 at.posts.items new.posts.items at.relays.items new.relays.items
-        at.waiting new.waiting (g.O.Sink.taken at.out) (g.O.Sink.taken new.out) read.2 c.await_place.ensures.posts c.await_place.ensures.takes (c.in_ok-await_place.ensures.leaves (λ is. absurd (cc))) in
+    come_on g.L.Recorder c.args.script.now c.args.posts.now.items c.args.relays.now.items c.args.waiting.now (g.O.Sink.taken c.args.out.now) read.0 at.posts.items new.posts.items at.relays.items new.relays.items
+    at.waiting new.waiting (g.O.Sink.taken at.out) (g.O.Sink.taken new.out) read.2 c.await_place.ensures.posts c.await_place.ensures.takes (c.in_ok-await_place.ensures.leaves (λ is. absurd (cc))) in
     record {
       live = c.in_ok-next.ensures.live.1 (ap (λ s. Ok s) c.in-Frame.is);
       count = moved.count ∙ ap (λ n. n + 1) inv.count;
@@ -110,9 +110,9 @@ loop-frame-preserved g c =
         read.0 ++ frame ∷ [],
         length-append read.0 (frame ∷ []) ∙ ap (λ n. n + 1) read.1,
         come_sent g.L.Recorder c.args.script.now c.args.posts.now.items c.args.relays.now.items c.args.waiting.now (g.O.Sink.taken c.args.out.now) read.0 new.posts.items sent.posts.items new.relays.items sent.relays.items
-        new.waiting sent.waiting (g.O.Sink.taken new.out) (g.O.Sink.taken new.out) come at.packets frame read.1
-        (λ begins fs count posts_are relays_are. c.send_next.ensures.sent begins fs count posts_are relays_are)
-        (λ begins fs before count posts_are relays_are l. c.send_next.ensures.leaves begins fs before (g.O.Sink.taken new.out) count posts_are relays_are c.in_ok-await_place.ensures.place l),
+            new.waiting sent.waiting (g.O.Sink.taken new.out) (g.O.Sink.taken new.out) come at.packets frame read.1
+            (λ begins fs count posts_are relays_are. c.send_next.ensures.sent begins fs count posts_are relays_are)
+            (λ begins fs before count posts_are relays_are l. c.send_next.ensures.leaves begins fs before (g.O.Sink.taken new.out) count posts_are relays_are c.in_ok-await_place.ensures.place l),
         λ bytes told. read_more c.args.capture.now bytes read.0 at.capture c.next.new.self frame (g.S.Source.left at.source) (g.S.Source.left c.next.new.source) gives (read.3 bytes told),
       );
     }

@@ -1,8 +1,5 @@
-use Rattle.std.proofs.Common.{◌≡◌, ℕ, ◌-◌, ◌≤◌, List, Option, Some, true, length, []}
+use Rattle.std.proofs.Common.{◌≡◌, ℕ, ◌-◌, ◌≤◌, List, Some, true, length}
 use Rattle.pcap_source.specs.Captured.{Captured}
-use Rattle.worker_pool.specs.declared.worker.Worker.{Worker}
-use Rattle.worker_pool.specs.Posts.{ArePosts}
-use Rattle.worker_pool.specs.Streamed.{AreRelays}
 use Rattle.worker_pool.proofs.Reading.{IsReadTo}
 use Rattle.worker_pool.proofs.Leaving.{HasCome}
 use Rattle.worker_pool.proofs.forward.stream.stream.Given as goal
