@@ -26,3 +26,5 @@ mod Draining
 mod Explaining
 mod Exits
 mod Forwarding
+mod Relaying
+mod Leaving

@@ -13,3 +13,4 @@ pub mod Forward
 pub mod Streamed
 pub mod Drained
 pub mod Explained
+pub mod Relayed

@@ -55,8 +55,8 @@ fn lane_of_frame(frame: &Frame, lanes: usize) -> usize
     }
 }
 
-// Sends the next frame of a capture, of which so many were sent, to the post of its lane.
-fn send_frame<R: Wait, L: Recorder + Drop, G: Gate>(
+/// Sends the next frame of a capture, of which so many were sent, to the post of its lane, and answers the lane.
+pub(crate) fn send_frame<R: Wait, L: Recorder + Drop, G: Gate>(
     rt: &R,
     alloc: Global,
     posts: &mut Vec<Post<L>>,
@@ -66,9 +66,11 @@ fn send_frame<R: Wait, L: Recorder + Drop, G: Gate>(
     natives: &NativeBook,
     gate: &G,
     failed: &AtomicBool,
-)
+) -> usize
     requires some { 1 ≤ length posts.old.items }
     requires posts { (begins : List (Begun L)) × (frames : List Captured) × ArePosts L.Recorder script.now begins frames posts.old.items }
+    ensures lane { result ≡ lane_of_packet (packet_of frame.bytes) (length posts.old.items) }
+    ensures within { result < length posts.old.items }
     ensures count { length posts.new.items ≡ length posts.old.items }
     ensures sent { (begins : List (Begun L)) (frames : List Captured) → length frames ≡ index
         → ArePosts L.Recorder script.now begins frames posts.old.items
@@ -91,6 +93,7 @@ fn send_frame<R: Wait, L: Recorder + Drop, G: Gate>(
         gate,
         failed,
     );
+    lane
 }
 
 /// Reads an opened capture to its end or its tail, or to where it is refused, and sends each packet to the post of its

@@ -4,7 +4,8 @@ ghost use Rattle.std.specs.Prelude.{◌≡◌, ◌++◌, [], ◌∷◌, List};
 ghost use Rattle.control_script.specs.Order.{commands_of};
 ghost use Rattle.lane_rings.specs.declared.items.Packet.{Packet as Sent};
 ghost use Rattle.worker_pool.specs.declared.worker.Worker.{Worker as Begun};
-ghost use Rattle.worker_pool.specs.Posts.{IsPost};
+ghost use Rattle.pcap_source.specs.Captured.{Captured};
+ghost use Rattle.worker_pool.specs.Posts.{IsPost, ArePosts};
 
 use crate::gate::Gate;
 use crate::seat::Seat;
@@ -44,6 +45,25 @@ fn make_room<R: Wait, L: Recorder + Drop, G: Gate>(
         Seat::Here(worker) => {
             take_turn(rt, alloc, worker, script, natives, gate, failed);
         }
+    }
+}
+
+/// Has each worker that is here take one packet out of its ring, and leaves those that are away the time to do so.
+pub(crate) fn take_turns<R: Wait, L: Recorder + Drop, G: Gate>(
+    rt: &R,
+    alloc: Global,
+    posts: &mut Vec<Post<L>>,
+    script: &Script,
+    natives: &NativeBook,
+    gate: &G,
+    failed: &AtomicBool,
+)
+    requires posts { (begins : List (Begun L)) × (frames : List Captured) × ArePosts L.Recorder script.now begins frames posts.old.items }
+    ensures { (begins : List (Begun L)) (frames : List Captured) → ArePosts L.Recorder script.now begins frames posts.old.items
+        → ArePosts L.Recorder script.now begins frames posts.new.items }
+{
+    for lane in 0..posts.len() {
+        make_room(rt, alloc, &mut posts[lane], script, natives, gate, failed);
     }
 }
 

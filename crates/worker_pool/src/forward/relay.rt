@@ -1,6 +1,13 @@
 //! What comes back from a lane.
 
-use lane_rings::AnswerRx;
+ghost use Rattle.std.specs.Prelude.{◌≡◌, ◌<◌, length, get_or};
+ghost use Rattle.lane_rings.specs.Forward.{Leaving, offered};
+ghost use Rattle.worker_pool.specs.declared.forward.relay.Relay.{Relay as Relayed};
+ghost use Rattle.worker_pool.specs.Drained.{Offers, OfferAll};
+ghost use Rattle.worker_pool.specs.Relayed.{IsCounted, AreCounted, HasTaken, HaveTaken, counted_on};
+
+use lane_rings::forward::taking_stays_right;
+use lane_rings::{Answer, AnswerRx, Resequencer};
 
 /// What comes back from the lane of a forward run.
 #[derive(Drop)]
@@ -10,4 +17,57 @@ pub(crate) struct Relay {
     pub(crate) sent: u64,
     /// How many answers were taken from it.
     pub(crate) taken: u64,
+}
+
+/// Offers an answer. One that comes back is let go: where all answers are right there is none.
+pub(crate) fn offer(waiting: &mut Resequencer, answer: Answer)
+    ensures { (s : Leaving) → s.waiting ≡ waiting.old → (offered answer s).waiting ≡ waiting.new }
+{
+    let _ = waiting.offer(answer);
+}
+
+// Takes what the ring of a lane shows, at most one answer for each packet that was sent to the lane, and offers it.
+fn take_shown(relay: &mut Relay, waiting: &mut Resequencer)
+    requires counted { IsCounted relay.old }
+    ensures takes { HasTaken relay.old relay.new }
+    ensures offers { Offers relay.old relay.new waiting.old waiting.new }
+{
+    taking_stays_right();
+    while relay.taken < relay.sent {
+        let Some(answer) = relay.answers.take() else {
+            return;
+        };
+        relay.taken += 1;
+        offer(waiting, answer);
+    }
+}
+
+/// Takes what a lane has answered so far, and offers it to `waiting`.
+pub(crate) fn take_answers(relays: &mut Vec<Relay>, lane: usize, waiting: &mut Resequencer)
+    requires within { lane < length relays.old.items }
+    requires counted { AreCounted relays.old.items }
+    ensures takes { HaveTaken relays.old.items relays.new.items }
+    ensures offers { OfferAll relays.old.items relays.new.items waiting.old waiting.new }
+{
+    take_shown(&mut relays[lane], waiting);
+}
+
+/// Takes what all lanes have answered so far, and offers it to `waiting`.
+pub(crate) fn take_all(relays: &mut Vec<Relay>, waiting: &mut Resequencer)
+    requires counted { AreCounted relays.old.items }
+    ensures takes { HaveTaken relays.old.items relays.new.items }
+    ensures offers { OfferAll relays.old.items relays.new.items waiting.old waiting.new }
+{
+    for lane in 0..relays.len() {
+        take_answers(relays, lane, waiting);
+    }
+}
+
+/// Counts one packet more that was sent to a lane.
+pub(crate) fn count_sent(relays: &mut Vec<Relay>, lane: usize)
+    requires within { lane < length relays.old.items }
+    requires few { (r : Relayed) → (get_or relays.old.items lane r).sent < 1048576 }
+    ensures { (r : Relayed) → relays.new.items ≡ counted_on relays.old.items lane r }
+{
+    relays[lane].sent += 1;
 }

@@ -1,26 +1,114 @@
 //! Reads a capture, sends each packet to its lane, and writes what the lanes let pass, in the order of the capture.
 
-ghost use Rattle.std.specs.Prelude.{◌≡◌, ◌≤◌, [], List, Option, ℕ, length, IsErrOf};
+ghost use Rattle.std.specs.Prelude.{◌≡◌, ◌≢◌, ◌<◌, ◌≤◌, ◌+◌, ◌++◌, ◌⊎◌, [], ◌∷◌, List, Option, ℕ, length, nat_lt, true, IfErr, OnOk, IsErrOf};
 ghost use Rattle.mos_bytes.specs.Causes.{HasCauseOf};
+ghost use Rattle.pcap_source.specs.Captured.{Captured};
 ghost use Rattle.pcap_source.specs.Reading.{Opened};
 ghost use Rattle.worker_pool.specs.declared.worker.Worker.{Worker as Begun};
 ghost use Rattle.worker_pool.specs.Posts.{ArePosts};
 ghost use Rattle.worker_pool.specs.Streamed.{AreRelays, Leaves, Streamed, Dealt, lane_at, taken_from};
+ghost use Rattle.worker_pool.specs.Relayed.{HaveTaken, LeaveAll, CutAll};
 
-use crate::dispatch::Whole;
-use crate::forward::relay::Relay;
+use crate::dispatch::{Whole, send_frame};
+use crate::forward::drain::write_ready;
+use crate::forward::relay::{Relay, count_sent, take_all, take_answers};
 use crate::gate::Gate;
 use crate::job::PoolError;
-use crate::post::Post;
+use crate::post::{Post, take_turns};
 use control_script::Script;
 use lane_core::Recorder;
 use lane_rings::Resequencer;
+use lane_rings::forward::{later_lanes_change_nothing, sending_stays_right};
 use mos_bytes::{Sink, Source};
 use native_filters::NativeBook;
-use pcap_source::Capture;
+use pcap_source::{Capture, Frame, Step};
 use std::alloc::Global;
 use std::sync::Wait;
-use std::sync::atomic::AtomicBool;
+use std::sync::atomic::{AtomicBool, Ordering};
+
+// Waits until `waiting` reaches the number of the next packet. Till then the records whose turn comes are written, workers
+// that are here take up packets, and answers are taken from all lanes.
+//
+// An error is that a record can't be written, or that a lane has failed: then its packets have no answers, and the place
+// may never come.
+fn await_place<R: Wait, L: Recorder + Drop, O: Sink, G: Gate>(
+    rt: &R,
+    alloc: Global,
+    posts: &mut Vec<Post<L>>,
+    relays: &mut Vec<Relay>,
+    waiting: &mut Resequencer,
+    index: u64,
+    script: &Script,
+    natives: &NativeBook,
+    gate: &G,
+    failed: &AtomicBool,
+    capture: &Capture,
+    out: &mut O,
+) -> Result<(), PoolError>
+    requires begins { (begins : List (Begun L)) × (frames : List Captured) × ArePosts L.Recorder script.now begins frames posts.old.items
+        × AreRelays begins frames relays.old.items }
+    ensures posts { (begins : List (Begun L)) (frames : List Captured) → ArePosts L.Recorder script.now begins frames posts.old.items
+        → ArePosts L.Recorder script.now begins frames posts.new.items }
+    ensures takes { HaveTaken relays.old.items relays.new.items }
+    ensures place { OnOk result (nat_lt index (waiting.new.next + length waiting.new.window) ≡ true) }
+    ensures leaves { result ≢ Err PoolError.WriteFault
+        → LeaveAll relays.old.items relays.new.items waiting.old waiting.new (O.taken out.old) (O.taken out.new) }
+    ensures cut { CutAll relays.old.items relays.new.items waiting.old (O.taken out.old) (O.taken out.new) }
+    ensures only { IfErr result (λ e. (e ≡ PoolError.WriteFault) ⊎ (e ≡ PoolError.NoMemory)) }
+    ensures cause { HasCauseOf (O.faults out.old) (O.faults out.new) (IsErrOf result PoolError.WriteFault) }
+    ensures lasts { O.lasting out.new ≡ O.lasting out.old }
+{
+    for _ in rt.forever() {
+        write_ready(waiting, capture, out)?;
+        if waiting.reaches(index) {
+            return Ok(());
+        }
+        if failed.load(Ordering::SeqCst) {
+            return Err(PoolError::NoMemory);
+        }
+        take_turns(rt, alloc, posts, script, natives, gate, failed);
+        take_all(relays, waiting);
+    }
+    unreachable!()
+}
+
+// Sends the next packet to its lane, and takes what that lane has answered so far, so that its frames don't wait for the
+// last place.
+fn send_next<R: Wait, L: Recorder + Drop, G: Gate>(
+    rt: &R,
+    alloc: Global,
+    posts: &mut Vec<Post<L>>,
+    relays: &mut Vec<Relay>,
+    waiting: &mut Resequencer,
+    index: u64,
+    frame: Frame,
+    script: &Script,
+    natives: &NativeBook,
+    gate: &G,
+    failed: &AtomicBool,
+)
+    requires some { 1 ≤ length posts.old.items }
+    requires few { index < 1048576 }
+    requires begins { (begins : List (Begun L)) × (frames : List Captured) × (length frames ≡ index)
+        × ArePosts L.Recorder script.now begins frames posts.old.items × AreRelays begins frames relays.old.items }
+    ensures count { length posts.new.items ≡ length posts.old.items }
+    ensures sent { (begins : List (Begun L)) (frames : List Captured) → length frames ≡ index
+        → ArePosts L.Recorder script.now begins frames posts.old.items → AreRelays begins frames relays.old.items
+        → ArePosts L.Recorder script.now begins (frames ++ frame ∷ []) posts.new.items × AreRelays begins (frames ++ frame ∷ []) relays.new.items }
+    ensures leaves { (begins : List (Begun L)) (frames : List Captured) (before now : Option (List ℕ)) → length frames ≡ index
+        → ArePosts L.Recorder script.now begins frames posts.old.items → AreRelays begins frames relays.old.items
+        → nat_lt index (waiting.old.next + length waiting.old.window) ≡ true
+        → Leaves (lane_at (length relays.old.items) frames) index (taken_from relays.old.items) waiting.old before now
+        → Leaves (lane_at (length relays.new.items) (frames ++ frame ∷ [])) (index + 1) (taken_from relays.new.items) waiting.new before now }
+{
+    sending_stays_right();
+    later_lanes_change_nothing();
+    let lane = send_frame(
+        rt, alloc, posts, index, frame, script, natives, gate, failed,
+    );
+    count_sent(relays, lane);
+    take_answers(relays, lane, waiting);
+}
 
 /// Reads an opened capture to its end or its tail, or to where it is refused, sends each packet to the post of its lane,
 /// and writes what the lanes let pass, in the order of the capture.
@@ -28,6 +116,9 @@ use std::sync::atomic::AtomicBool;
 /// A packet is read where `waiting` reaches its number, so never are more packets on their way than it has places. Till
 /// then answers are taken and written, and lanes whose workers are here are worked on. Where a lane raised `failed`, it ends
 /// with want of memory.
+///
+/// The answer ring of a lane has to have as many places as `waiting`. So a worker never waits for room to answer: one that
+/// is here would wait for good, since what it waits for is done by this thread.
 pub(crate) fn stream<R: Wait, L: Recorder + Drop, S: Source, O: Sink, G: Gate>(
     rt: &R,
     alloc: Global,
@@ -55,5 +146,22 @@ pub(crate) fn stream<R: Wait, L: Recorder + Drop, S: Source, O: Sink, G: Gate>(
     ensures source_lasts { S.lasting source.new ≡ S.lasting source.old }
     ensures out_lasts { O.lasting out.new ≡ O.lasting out.old }
 {
-    unreachable!()
+    let mut packets = 0;
+    loop {
+        await_place(
+            rt, alloc, posts, relays, waiting, packets, script, natives, gate, failed, capture, out,
+        )?;
+        let mut frame = Frame::new(alloc);
+        match capture.next(source, &mut frame)? {
+            Step::Frame => {
+                send_next(
+                    rt, alloc, posts, relays, waiting, packets, frame, script, natives, gate,
+                    failed,
+                );
+                packets += 1;
+            }
+            Step::Tail(tail) => return Ok(Whole { packets, tail }),
+            Step::End => return Ok(Whole { packets, tail: 0 }),
+        }
+    }
 }

@@ -1,0 +1,24 @@
+use Rattle.std.proofs.Common.{◌≡◌, ℕ, ◌-◌, ◌≤◌, List, Some, true, length}
+use Rattle.pcap_source.specs.Captured.{Captured}
+use Rattle.worker_pool.proofs.Reading.{IsReadTo}
+use Rattle.worker_pool.proofs.Leaving.{HasCome}
+use Rattle.worker_pool.proofs.forward.stream.stream.Given as goal
+
+-- The capture is live and has given so many frames. Their packets were sent, and they and what is left are the capture.
+abbrev pub invariant-loop-frame : goal.invariant-loop-frame
+invariant-loop-frame g l = record {
+  live : l.capture.is_live ≡ true;
+  count : l.capture.count ≡ l.packets;
+  few : l.packets ≤ 1048576;
+  some : 1 ≤ length l.posts.items;
+  read_faults : g.S.Source.faults l.fn.source ≤ g.S.Source.faults l.source;
+  write_faults : g.O.Sink.faults l.fn.out ≤ g.O.Sink.faults l.out;
+  source_lasts : g.S.Source.lasting l.source ≡ g.S.Source.lasting l.fn.source;
+  out_lasts : g.O.Sink.lasting l.out ≡ g.O.Sink.lasting l.fn.out;
+  read : (frames : List Captured) × (length frames ≡ l.packets)
+      × HasCome g.L.Recorder l.script l.fn.posts.items l.fn.relays.items l.fn.waiting (g.O.Sink.taken l.fn.out) frames l.posts.items l.relays.items l.waiting (g.O.Sink.taken l.out)
+      × ((bytes : List ℕ) → g.S.Source.left l.fn.source ≡ Some bytes → IsReadTo l.fn.capture bytes frames l.capture (g.S.Source.left l.source));
+}
+
+abbrev pub decreases-loop-frame : goal.decreases-loop-frame
+decreases-loop-frame g l = 1048576 - l.packets
