@@ -24,7 +24,7 @@ use Rattle.worker_pool.specs.Run.{MayHave, totals_of}
 use Rattle.mos_run.specs.declared.output.Output.{Output}
 use Rattle.mos_run.specs.declared.refusal.RunError.TheVariants.{Heavy, Capture, TooMany}
 use Rattle.mos_run.specs.Records.{control_at, packets_of, packets_with, records_of, verdicts_of, versions_of}
-use Rattle.mos_run.specs.Forward.{left_by_all}
+use Rattle.worker_pool.specs.Forward.{left_by_all}
 use Rattle.mos_run.specs.Outcome.{Outcome, refused, is_forward, closing, followed, outcome, outcome_by}
 use Rattle.mos_run.specs.Told.{frames_in}
 use Rattle.mos_run.specs.Laws.{ceilings_of}

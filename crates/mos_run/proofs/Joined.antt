@@ -80,6 +80,7 @@ module _ (app : Meaning) (script : List Stamped) (lanes : ℕ) (output : Output)
     stopped law ordered old (Pool.TooLong offset) is = stopped_any law ordered old (Run.Capture Fault.TooLong offset) (λ vs. inl (ap (λ o. o.ends) (outcome-at vs (too_long offset) is)))
     stopped law ordered old (Pool.TooMany offset) is = stopped_any law ordered old (Run.TooMany offset) (λ vs. inl (ap (λ o. o.ends) (outcome-at vs (too_many offset) is)))
     stopped law ordered old Pool.ReadFault is = stopped_any law ordered old Run.ReadFault (λ vs. inr (inl refl))
+    stopped law ordered old Pool.WriteFault is = absurd is
     stopped law ordered old Pool.NoMemory is = stopped_any law ordered old Run.NoMemory (λ vs. inr (inr (inl refl)))
     stopped law ordered old Pool.Heavy is =
         let heavy = is.2 in

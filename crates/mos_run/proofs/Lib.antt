@@ -10,3 +10,4 @@ pub mod Ceilings
 pub mod Outcomes
 pub mod Below
 pub mod Joined
+pub mod Forwarding

@@ -18,7 +18,7 @@ use Rattle.lane_core.specs.Shown.{weight, total}
 use Rattle.mos_run.specs.declared.output.Output.{Output}
 use Rattle.mos_run.specs.declared.output.Output.TheVariants.{Report, Forward, Summary}
 use Rattle.mos_run.specs.Records.{control_at, packets_of, records_of}
-use Rattle.mos_run.specs.Forward.{left_by}
+use Rattle.lane_rings.specs.Forwarded.{bytes_under as left_by}
 use Rattle.mos_run.specs.Outcome.{is_forward, is_heavy, streamed}
 use Rattle.mos_run.specs.Reading.{Follows, IsOver, IsRead, gained, packet_of}
 use Rattle.mos_run.proofs.Following.{both}

@@ -24,7 +24,9 @@ use Rattle.mos_run.specs.declared.output.Output.{Output}
 use Rattle.mos_run.specs.declared.refusal.RunError.{RunError}
 use Rattle.mos_run.specs.declared.refusal.RunError.TheVariants as Run
 use Rattle.mos_run.specs.Records.{control_at, packets_of, records_of}
-use Rattle.mos_run.specs.Forward.{left_by, left_by_all, forwarded}
+use Rattle.lane_rings.specs.Forwarded.{bytes_under as left_by}
+use Rattle.worker_pool.specs.Forward.{left_by_all}
+use Rattle.mos_run.specs.Forward.{forwarded}
 use Rattle.mos_run.specs.Refusal.{record_refusal, header_refusal}
 use Rattle.mos_run.specs.Outcome.{Outcome, is_forward, is_heavy, streamed, followed, weighed, refused, outcome, outcome_by}
 use Rattle.mos_run.specs.Outcome as Outcomes

@@ -16,7 +16,7 @@ use Rattle.lane_core.specs.Shown.{weight}
 use Rattle.lane_core.specs.Lane.{IsAfter}
 use Rattle.mos_run.specs.declared.output.Output.{Output}
 use Rattle.mos_run.specs.Records.{control_at, packets_of, records_of}
-use Rattle.mos_run.specs.Forward.{left_by}
+use Rattle.lane_rings.specs.Forwarded.{bytes_under as left_by}
 use Rattle.mos_run.specs.Outcome.{is_forward, is_heavy}
 
 -- the packet of a number, under the commands up to its ceiling

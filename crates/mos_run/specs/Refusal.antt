@@ -115,5 +115,6 @@ abbrev pub pool_refusal : PoolError → RunError
 pool_refusal (Pool.TooLong offset) = Capture Fault.TooLong offset
 pool_refusal (Pool.TooMany offset) = TooMany offset
 pool_refusal Pool.ReadFault = ReadFault
+pool_refusal Pool.WriteFault = WriteFault
 pool_refusal Pool.Heavy = Heavy
 pool_refusal Pool.NoMemory = NoMemory

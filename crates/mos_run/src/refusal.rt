@@ -178,6 +178,7 @@ impl From<PoolError> for RunError {
             PoolError::TooLong(offset) => RunError::Capture(CaptureFault::TooLong, offset),
             PoolError::TooMany(offset) => RunError::TooMany(offset),
             PoolError::ReadFault => RunError::ReadFault,
+            PoolError::WriteFault => RunError::WriteFault,
             PoolError::Heavy => RunError::Heavy,
             PoolError::NoMemory => RunError::NoMemory,
         }

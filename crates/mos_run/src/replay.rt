@@ -11,7 +11,7 @@ ghost use Rattle.forest_versions.specs.State.{start};
 ghost use Rattle.control_script.specs.Order.{commands_of};
 ghost use Rattle.app_api.specs.App.{IsLawful};
 ghost use Rattle.mos_run.specs.Records.{packets_of};
-ghost use Rattle.mos_run.specs.Forward.{left_by};
+ghost use Rattle.lane_rings.specs.Forwarded.{bytes_under as left_by};
 ghost use Rattle.mos_run.specs.Outcome.{is_forward, outcome, streamed};
 ghost use Rattle.mos_run.specs.Reading.{IsReady, IsRead, Replaying, gained};
 ghost use Rattle.mos_run.specs.Refusal.{status_of};

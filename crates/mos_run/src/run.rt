@@ -14,7 +14,6 @@ ghost use Rattle.mos_run.specs.Told.{Told, Asked, bytes_under, told};
 ghost use Rattle.mos_run.specs.Run.{FinishesUnder, RunsUnder, UnderSome, EndsAs, EndsWell, Tells, TellsOf, ComesBefore, NamesNone, Makes, ReadsCapture, forwards};
 
 use crate::laws::what_one_worker_has_is_allowed;
-use crate::output::output_of;
 use crate::refusal::RunError;
 use crate::script::script_of;
 use crate::several::run_several;
@@ -38,8 +37,7 @@ pub struct Ended {
     pub versions: VersionList,
 }
 
-// The run of these settings: with one worker, or with several. What is forwarded is written in the order of the capture
-// by one worker, however many are asked for.
+// The run of these settings: with one worker, or with several.
 fn run_asked<
     R: Threads + Wait + Sync + Send + Copy + Drop + 'static,
     S: Source,
@@ -72,7 +70,7 @@ fn run_asked<
     ensures out_lasts { O.lasting out.new ≡ O.lasting out.old }
 {
     what_one_worker_has_is_allowed();
-    if settings.workers == 1 || output_of(settings).is_forward() {
+    if settings.workers == 1 {
         return run_one(alloc, settings, capture, script, out, natives);
     }
     run_several(rt, alloc, settings, capture, script, out, natives, gate)
@@ -128,8 +126,8 @@ fn run<
 /// Each record lives under a version: so many commands of the script are in force for it. With one worker it is the ceiling
 /// of the record's first packet. With several, 2 to 16, each version lies from the floor of that packet to its ceiling, and
 /// never falls along the records of one worker; and the text is what one thread would write under the versions that are
-/// answered, whatever the order of the threads' steps. The call may wait for its threads. What is forwarded is forwarded by
-/// one worker. A thread that can't be started is no refusal. `gate` is told what threads are about to do; it is there for
+/// answered, whatever the order of the threads' steps. The call may wait for its threads. A thread that can't be started is
+/// no refusal. `gate` is told what threads are about to do; it is there for
 /// tests.
 ///
 /// | Status | Where |

@@ -10,7 +10,7 @@ use Rattle.mos_run.specs.Records.{packets_with}
 use Rattle.mos_run.specs.Outcome.{closing, is_forward}
 use Rattle.mos_run.proofs.Replaying.{opened_replay, refused_header}
 use Rattle.mos_run.proofs.Joined.{whole_is_tidy, stopped_any, stopped, finished, broke_off}
-use Rattle.mos_run.proofs.several.run_on.Goals as goal
+use Rattle.mos_run.proofs.several.report_on.Goals as goal
 
 pub returns-in_err-capture-clause-runs : goal.returns-in_err-capture-clause-runs
 returns-in_err-capture-clause-runs g c = λ bytes told.
