@@ -183,6 +183,16 @@ module _ (app : Meaning) (script : List Stamped) (lanes : ℕ) (frames : List Ca
   no_fault (Err (TooLong offset)) is fault = is
   no_fault (Err (TooMany offset)) is fault = is
 
+  -- nor of a sink
+  pub no_write : (r : Result LanesEnd PoolError) → Concludes app script lanes frames bytes r → IsErrOf r WriteFault → ⊥
+  no_write (Ok end) is fault = cc
+  no_write (Err NoMemory) is fault = cc
+  no_write (Err Heavy) is fault = cc
+  no_write (Err ReadFault) is fault = is
+  no_write (Err WriteFault) is fault = is
+  no_write (Err (TooLong offset)) is fault = is
+  no_write (Err (TooMany offset)) is fault = is
+
   -- a run that ends well is that of some frames
   pub of_frames : (r : Result LanesEnd PoolError) → Concludes app script lanes frames bytes r
       → IfOk r (λ end. (fs : List Captured) × (n : ℕ) × IsWhole app script lanes fs n end)

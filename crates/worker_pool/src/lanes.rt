@@ -53,6 +53,7 @@ pub fn run_lanes<
     ensures whole { IfOk result (λ end. (frames : List Captured) × (tail : ℕ) × IsWhole (A.meaning job.now.app) job.now.script.now job.now.workers frames tail end) }
     ensures read { IsOk result → (rest : List ℕ) → S.left source.old ≡ Some rest → S.left source.new ≡ Some [] }
     ensures cause { HasCauseOf (S.faults source.old) (S.faults source.new) (IsErrOf result PoolError.ReadFault) }
+    ensures no_write { IsErrOf result PoolError.WriteFault → ⊥ }
     ensures lasts { S.lasting source.new ≡ S.lasting source.old }
 {
     let team = make_team(rt, alloc, job)?;

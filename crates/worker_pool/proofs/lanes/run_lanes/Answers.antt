@@ -8,7 +8,7 @@ use Rattle.shared_forest.specs.contracts.store_user.StoreUserForestView.TheImpl 
 use Rattle.lane_core.proofs.Handed.{lane_send}
 use Rattle.worker_pool.specs.Run.{EndsOver}
 use Rattle.worker_pool.specs.Ending.{Concludes}
-use Rattle.worker_pool.proofs.Concluding.{concluded, no_fault, of_frames}
+use Rattle.worker_pool.proofs.Concluding.{concluded, no_fault, no_write, of_frames}
 use Rattle.worker_pool.proofs.lanes.run_lanes.Goals as goal
 
 pub read_team-requires-send-L : goal.read_team-requires-send-L
@@ -46,3 +46,10 @@ returns-clause-cause g c = record {
       absurd (no_fault app c.args.job.now.script.now (length c.in_ok-team.team.workers.items) ran.0 c.in_ok-ran.ran.tail c.conclude.result
       (c.conclude.ensures.ends app ran.0 c.in_ok-team.team.workers.items c.in_ok-team.team.packets.items ran.1 ran.2 c.in_ok-team.ensures.team c.in_ok-team.ensures.keep ran.4) fault);
 }
+
+pub returns-clause-no_write : goal.returns-clause-no_write
+returns-clause-no_write g c fault =
+    let app = g.A.App.meaning c.args.job.now.app in
+    let ran = c.in_ok-ran.ensures.ran in
+    no_write app c.args.job.now.script.now (length c.in_ok-team.team.workers.items) ran.0 c.in_ok-ran.ran.tail c.conclude.result
+    (c.conclude.ensures.ends app ran.0 c.in_ok-team.team.workers.items c.in_ok-team.team.packets.items ran.1 ran.2 c.in_ok-team.ensures.team c.in_ok-team.ensures.keep ran.4) fault
