@@ -1,6 +1,6 @@
 -- The end of a run on several lanes: what they end with is what is written, or why it isn't.
 use Rattle.std.proofs.Common.{◌≡◌, ◌≢◌, ℕ, ◌<◌, ◌≤◌, Bool, true, false, Option, List, [], ◌++◌, length, map, take, Result, Ok, Err, refl, sym, ap, subst, ◌∙◌, arith, inl, inr}
-use Rattle.std.specs.Prelude.{◌⊎◌, ◌&&◌, not, nat_lt, if◌then◌else◌}
+use Rattle.std.specs.Prelude.{◌⊎◌, ◌&&◌, IsErrOf, not, nat_lt, if◌then◌else◌}
 use Rattle.std.specs.Io.KnownBytes.{Appends}
 use Rattle.std.proofs.KnownBytes.{Appends-nil}
 use Rattle.mos_bytes.specs.Writes.{AppendsFront}
@@ -39,6 +39,15 @@ use Rattle.mos_run.proofs.Ceilings.{HasVersions}
 use Rattle.mos_run.proofs.Closing.{ends_well, ends_badly}
 use Rattle.mos_run.proofs.Events.{are_events}
 use Rattle.mos_run.proofs.Reading.{over-limit, under-limit}
+
+-- a run on lanes that tells no fault of writing is refused with none
+pub no_write_told : {T U : Type 0} (e : PoolError) → (IsErrOf {T = T} (Err e) Pool.WriteFault → ⊥) → IsErrOf {T = U} (Err (pool_refusal e)) Run.WriteFault → ⊥
+no_write_told (Pool.TooLong offset) never is = cc
+no_write_told (Pool.TooMany offset) never is = cc
+no_write_told Pool.ReadFault never is = cc
+no_write_told Pool.WriteFault never is = never refl
+no_write_told Pool.Heavy never is = cc
+no_write_told Pool.NoMemory never is = cc
 
 -- the records of a run are such as a report may have, whatever its versions
 abbrev pub NumbersOfRunRise : Type 0

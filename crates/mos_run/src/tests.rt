@@ -1,6 +1,7 @@
 //! Runs over whole captures: what is reported, what is refused, and what failing sources and sinks leave.
 
 mod captures;
+mod forwarding;
 mod limits;
 mod side_by_side;
 mod web_request;
@@ -663,10 +664,13 @@ fn forwards(rt: HostRuntime) -> Result<(), Fail> {
     let alloc = rt.alloc();
     let frames: [&[u8]; 4] = [&SYN, &SYN_ACK, &ACK, &DATA];
     let whole = capture(alloc, &LITTLE, &frames, &[1, 2, 3])?;
-    let rows: [(&str, usize); 3] = [
+    let rows: [(&str, usize); 6] = [
         ("--emit forward", 308),
         ("--emit forward --script drop", 234),
         ("--emit forward --app firewall", 24),
+        ("--emit forward --workers 2", 308),
+        ("--emit forward --script drop --workers 16", 234),
+        ("--emit forward --app firewall --workers 3", 24),
     ];
     for (words, len) in rows {
         let bytes = whole.as_slice().to_vec(alloc)?;

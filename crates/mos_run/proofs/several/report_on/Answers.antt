@@ -1,4 +1,4 @@
-use Rattle.std.proofs.Common.{◌≡◌, true, false, sym, subst, ap, ◌∙◌}
+use Rattle.std.proofs.Common.{◌≡◌, ◌≤◌, true, false, sym, subst, ap, ◌∙◌, arith}
 use Rattle.std.specs.Prelude.{◌⊎◌}
 use Rattle.std.specs.Io.KnownBytes.{Appends}
 use Rattle.std.proofs.lemmas.Result.{err_from_is_err_and}
@@ -9,7 +9,7 @@ use Rattle.mos_run.specs.declared.refusal.RunError.TheVariants as Run
 use Rattle.mos_run.specs.Records.{packets_with}
 use Rattle.mos_run.specs.Outcome.{closing, is_forward}
 use Rattle.mos_run.proofs.Replaying.{opened_replay, refused_header}
-use Rattle.mos_run.proofs.Joined.{whole_is_tidy, stopped_any, stopped, finished, broke_off}
+use Rattle.mos_run.proofs.Joined.{no_write_told, whole_is_tidy, stopped_any, stopped, finished, broke_off}
 use Rattle.mos_run.proofs.several.report_on.Goals as goal
 
 pub returns-in_err-capture-clause-runs : goal.returns-in_err-capture-clause-runs
@@ -68,3 +68,12 @@ returns-clause-runs g c = λ bytes told.
     finished app plan.script.now c.args.workers plan.output bytes f rep.holds c.requires.kept ends.0 ends.1 c.in_ok-end.end ends.2 c.a_run_has_its_versions.ensures.versions
     (g.O.Sink.taken c.args.out.now) (g.O.Sink.taken c.write_end.new.out)
     (subst (λ l. Appends (g.O.Sink.taken c.args.out.now) (g.O.Sink.taken c.write_end.new.out) (closing plan.output l c.in_ok-end.end.totals)) c.as_slice.ensures c.in_ok-write_end.ensures.text)
+
+pub returns-in_err-end-clause-write_fault : goal.returns-in_err-end-clause-write_fault
+returns-in_err-end-clause-write_fault g c =
+    let p = err_from_is_err_and c.from_residual-in_err-end.result c.from_residual-in_err-end.ensures.1 in
+    let faults = g.O.Sink.faults c.args.out.now in
+    rw (p.1, p.2) (record {
+      later = let same : faults ≤ faults = omega arith in same;
+      cause = λ fault. absurd (no_write_told c.in_err-end.field-0.0 c.in_err-end.ensures.no_write fault);
+    })
