@@ -1,6 +1,6 @@
 -- The team of a forward run.
-use Rattle.std.proofs.Common.{◌≡◌, ◌≢◌, ◌<◌, ◌≤◌, ◌+◌, ◌⊎◌, inl, inr, ℕ, zero, suc, All, List, [], ◌∷◌, ◌++◌, length, get_or, refl, sym, ap, subst, ◌∙◌, ⊎_elim, arith}
-use Rattle.std.specs.Prelude.{◌^◌, ◌-◌, Some, None, Ok, Err, Result, Option, IsOk, IsErrOf, map, replicate, nat_lt, if◌then◌else◌, true}
+use Rattle.std.proofs.Common.{◌≡◌, ◌≢◌, ◌<◌, ◌≤◌, ◌+◌, inl, inr, ℕ, zero, suc, All, List, [], ◌∷◌, ◌++◌, length, get_or, refl, sym, ap, subst, ◌∙◌, ⊎_elim, arith}
+use Rattle.std.specs.Prelude.{Some, None, Ok, Err, Result, Option, IsOk, IsErrOf, nat_lt, if◌then◌else◌, true}
 use Rattle.std.specs.Io.KnownBytes.{Appends}
 use Rattle.std.proofs.lemmas.List.{length_push, get_or_append_left, get_or_push, append-nil}
 use Rattle.std.proofs.lemmas.List.Elements.{All-push}
@@ -14,9 +14,7 @@ use Rattle.pcap_source.specs.Reading.{CaptureState}
 use Rattle.control_script.specs.declared.stamped.Stamped.{Stamped}
 use Rattle.lane_core.specs.declared.recorder.Recorder.{Ghosts}
 use Rattle.lane_rings.specs.declared.items.Answer.{Answer}
-use Rattle.lane_rings.specs.declared.ring.RingTx.{RingTx}
-use Rattle.lane_rings.specs.declared.ring.RingRx.{RingRx}
-use Rattle.lane_rings.specs.Ring.{sent, taken, AreEnds}
+use Rattle.lane_rings.specs.Ring.{sent, taken}
 use Rattle.lane_rings.specs.Share.{share, rank}
 use Rattle.lane_rings.specs.Waiting.{Waiting}
 use Rattle.lane_rings.specs.Forward.{Leaving, Keeps, beginning}

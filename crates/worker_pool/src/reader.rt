@@ -1,16 +1,13 @@
 //! A run that is reported: this thread reads the capture, and sends its packets to the workers.
 
-ghost use Rattle.std.specs.Prelude.{◌≡◌, ◌≤◌, [], List, length, IsErrOf, IsTrue};
+ghost use Rattle.std.specs.Prelude.{◌≡◌, IsErrOf, IsTrue};
 ghost use Rattle.mos_bytes.specs.Causes.{HasCauseOf};
 ghost use Rattle.pcap_source.specs.Reading.{Opened};
 ghost use Rattle.app_api.specs.App.{Meaning};
 ghost use Rattle.forest_versions.specs.Lawful.{are_lawful};
 ghost use Rattle.forest_versions.specs.State.{start};
 ghost use Rattle.control_script.specs.Order.{commands_of};
-ghost use Rattle.worker_pool.specs.declared.worker.Worker.{Worker as Begun};
-ghost use Rattle.worker_pool.specs.Posts.{ArePosts};
-ghost use Rattle.worker_pool.specs.Streamed.{Dealt};
-ghost use Rattle.worker_pool.specs.Team.{IsTeam, TeamRan, HasRead};
+ghost use Rattle.worker_pool.specs.Team.{IsTeam, TeamRan};
 
 use crate::dealer::Dealer;
 use crate::dispatch::{Whole, dispatch};

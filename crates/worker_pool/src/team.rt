@@ -1,7 +1,6 @@
 //! Workers that share a run: a thread for each lane, one for the script's commands, and the dispatcher in this one.
 
-ghost use Rattle.std.specs.Prelude.{◌≡◌, ◌≤◌, [], ◌∷◌, List, None, length, vec_len, All, IfOk, IfErr, IsTrue};
-ghost use Rattle.std.specs.List.{AllZip};
+ghost use Rattle.std.specs.Prelude.{◌≡◌, ◌≤◌, ◌∷◌, None, length, IfOk, IfErr, IsTrue};
 ghost use Rattle.std.specs.Vec.{vec_capacity};
 ghost use Rattle.std.specs.Thread.{IsSync};
 ghost use Rattle.forest_versions.specs.Lawful.{are_lawful};

@@ -1,10 +1,5 @@
 //! A run that is forwarded: this thread reads the capture, sends its packets to the workers, and writes what they let pass.
 
-ghost use Rattle.std.specs.Prelude.{◌≤◌, [], List, length};
-ghost use Rattle.worker_pool.specs.declared.worker.Worker.{Worker as Begun};
-ghost use Rattle.worker_pool.specs.Posts.{ArePosts};
-ghost use Rattle.worker_pool.specs.Streamed.{Dealt};
-
 use crate::dealer::Dealer;
 use crate::dispatch::Whole;
 use crate::forward::relay::Relay;

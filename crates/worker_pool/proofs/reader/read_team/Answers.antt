@@ -1,6 +1,4 @@
-use Rattle.std.proofs.Common.{◌≡◌, ℕ, List, [], Some, Ok, sym, subst}
-use Rattle.pcap_source.specs.Capture.{tail}
-use Rattle.pcap_source.specs.Reading.{frames_at}
+use Rattle.std.proofs.Common.{◌≡◌, [], Some, sym, subst}
 use Rattle.worker_pool.specs.Team.{ReadsWhole}
 use Rattle.worker_pool.proofs.reader.read_team.Goals as goal
 

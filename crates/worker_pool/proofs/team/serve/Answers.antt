@@ -1,5 +1,5 @@
 use denote.Param.Send.{sendable, param_sync}
-use Rattle.std.proofs.Common.{◌≡◌, sym, subst}
+use Rattle.std.proofs.Common.{sym, subst}
 use Rattle.worker_pool.specs.Manned.{Served}
 use Rattle.std.proofs.Crossing.{crosses}
 use Rattle.worker_pool.proofs.Crossed.{script_sync, book_sync, flag_sync}

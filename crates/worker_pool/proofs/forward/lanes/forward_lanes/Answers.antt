@@ -1,13 +1,13 @@
 use denote.Exit.{yes}
 use denote.Param.{copied}
 use denote.Param.Send.{param_send, arg_send}
-use Rattle.std.proofs.Common.{◌≡◌, ◌∙◌, ◌≤◌, refl, [], sym, ap, subst, Err, length, ⊎_elim, arith}
+use Rattle.std.proofs.Common.{◌∙◌, [], sym, ap, subst, Err, length, ⊎_elim, arith}
 use Rattle.std.proofs.lemmas.Result.{err_from_is_err_and}
 use Rattle.pcap_source.specs.Reading.{frames_at}
 use Rattle.shared_forest.proofs.store_user.StoreUser.TheSendSync as user
 use Rattle.shared_forest.specs.contracts.store_user.StoreUserForestView.TheImpl as view
 use Rattle.lane_core.proofs.Handed.{lane_send}
-use Rattle.worker_pool.specs.declared.job.PoolError.TheVariants.{ReadFault, WriteFault, NoMemory}
+use Rattle.worker_pool.specs.declared.job.PoolError.TheVariants.{ReadFault, WriteFault}
 use Rattle.worker_pool.specs.Forward.{ForwardsOver}
 use Rattle.worker_pool.specs.Streamed.{lane_at}
 use Rattle.worker_pool.proofs.Forwarding.{run_begins, ended_early, no_fault_early, read_all, rose_before, rose_after}

@@ -1,4 +1,4 @@
-use Rattle.std.proofs.Common.{◌≡◌, sym, subst}
+use Rattle.std.proofs.Common.{◌≡◌, sym}
 use Rattle.worker_pool.proofs.forward.lanes.stream_team.Goals as goal
 
 pub returns-clause-served : goal.returns-clause-served

@@ -1,8 +1,8 @@
 use denote.Param.Send.{sendable, param_send}
-use Rattle.std.proofs.Common.{true, None, ◌≡◌, ◌<◌, ◌∷◌, [], ◌++◌, ◌≤◌, ◌+◌, ℕ, length, get_or, refl, sym, subst, List, All, ap, ◌∙◌, arith, rules}
-use Rattle.std.proofs.lemmas.List.{length-append, append-nil}
+use Rattle.std.proofs.Common.{true, None, ◌≡◌, ◌∷◌, [], ◌++◌, length, refl, sym, subst, List, ap, ◌∙◌, arith, rules}
+use Rattle.std.proofs.lemmas.List.{length-append}
 use Rattle.std.specs.List.{AllZip}
-use Rattle.std.proofs.Crossing.{crosses, send}
+use Rattle.std.proofs.Crossing.{crosses}
 use Rattle.lane_rings.proofs.ring.RingTx.TheSendSync as ring
 use Rattle.lane_rings.specs.declared.ring.RingTx.{RingTx}
 use Rattle.lane_rings.specs.declared.items.Packet.{Packet}
@@ -17,7 +17,7 @@ use Rattle.worker_pool.specs.Posts.{IsSeated, ArePosts}
 use Rattle.control_script.specs.declared.stamped.Stamped.{Stamped}
 use Rattle.worker_pool.specs.Manned.{MayBegin, IsFresh}
 use Rattle.worker_pool.proofs.Crossed.{flag_sync}
-use Rattle.worker_pool.proofs.Rows.{AllZip-more, AllZip-length, moved, no_other, zip_first, zip_others}
+use Rattle.worker_pool.proofs.Rows.{AllZip-more, moved, zip_first, zip_others}
 use Rattle.worker_pool.proofs.Forwarding.{dealt_under}
 use Rattle.worker_pool.proofs.Manning.{all_may_begin, fresh, posts_of_all, all_manned, all_served}
 use Rattle.worker_pool.proofs.team.fn.run_threads.scope.Lts.{arg-7-2}
