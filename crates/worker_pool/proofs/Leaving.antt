@@ -28,6 +28,7 @@ use Rattle.worker_pool.specs.Sent.{packets_from, dealt}
 use Rattle.worker_pool.specs.Streamed.{AreRelays, Leaves, HasLeft, Streamed, Dealt, StopsAs, lane_at, taken_from}
 use Rattle.worker_pool.specs.Drained.{OfferAll}
 use Rattle.worker_pool.specs.Relayed.{HaveTaken, LeaveAll, CutAll, counted_on}
+use Rattle.worker_pool.proofs.Posted.{post_of}
 use Rattle.worker_pool.proofs.Reading.{IsReadTo}
 use Rattle.worker_pool.proofs.Relaying.{still_sent, relays_after, sent_to, lane_before, counted_length, counted_taken}
 
@@ -49,6 +50,13 @@ same_posts {L} g script begins frames posts lane d post below at still are = rec
       (are.each k w p (let e = length-set posts lane post in omega (arith, e, lt))))
       (cases_eq lane k));
 }
+
+-- one that is looked at is a post
+pub looked_at : {L : Type 0} (g : Ghosts L) (script : List Stamped) (begins : List (Worker L)) (frames : List Captured) (posts : List (Post L)) (lane : ℕ) (d : Post L) → d ≡ get_or posts lane d → lane < length posts
+    → ArePosts g script begins frames posts → (begin : Worker L) × (packets : List Packet) × IsPost g (commands_of script) begin packets d
+looked_at {L} g script begins frames posts lane d at below are =
+    let p = post_of g script begins frames posts lane d are below in
+    (p.0, p.1, subst (λ (q : Post L). IsPost g (commands_of script) p.0 p.1 q) (sym at) p.2)
 
 -- ---- what has left
 

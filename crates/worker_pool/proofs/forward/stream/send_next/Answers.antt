@@ -34,7 +34,7 @@ take_answers-requires-clause-counted g c =
     let r = some_relay relays lane below in
     let lanes : length c.args.posts.now.items ≡ length relays = omega (arith, given.3.count, given.4.count) in
     let own : lane ≡ lane_of_packet (packet_of c.args.frame.bytes) (length relays) = c.send_frame-lane.ensures.lane ∙ ap (lane_of_packet (packet_of c.args.frame.bytes)) lanes in
-    subst AreCounted (sym (c.count_sent.ensures r))
+    subst AreCounted (sym {A = List Relay} (c.count_sent.ensures r))
     (are_counted given.0 (given.1 ++ c.args.frame ∷ []) (counted_on relays lane r)
     (relays_sent c.sending_stays_right.ensures.own c.sending_stays_right.ensures.others c.later_lanes_change_nothing.ensures.share given.0 given.1 c.args.frame relays lane r below own given.4))
 
