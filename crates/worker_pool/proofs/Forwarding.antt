@@ -14,7 +14,7 @@ use Rattle.pcap_source.specs.Reading.{CaptureState}
 use Rattle.control_script.specs.declared.stamped.Stamped.{Stamped}
 use Rattle.lane_core.specs.declared.recorder.Recorder.{Ghosts}
 use Rattle.lane_rings.specs.declared.items.Answer.{Answer}
-use Rattle.lane_rings.specs.Ring.{sent, taken}
+use Rattle.lane_rings.specs.Ring.{taken}
 use Rattle.lane_rings.specs.Share.{share, rank}
 use Rattle.lane_rings.specs.Waiting.{Waiting}
 use Rattle.lane_rings.specs.Forward.{Leaving, Keeps, beginning}

@@ -1,5 +1,5 @@
 -- A team, from its start to its end: posts are manned, and workers come back from them.
-use Rattle.std.proofs.Common.{◌≡◌, ◌<◌, ◌≤◌, ℕ, List, [], ◌∷◌, ◌++◌, ◌+◌, length, take, get_or, All, None, true, refl, sym, ap, subst, ◌∙◌, arith}
+use Rattle.std.proofs.Common.{◌≡◌, ◌<◌, ◌≤◌, ℕ, List, [], ◌∷◌, ◌++◌, ◌+◌, length, take, get_or, All, true, refl, sym, ap, subst, ◌∙◌, arith}
 use Rattle.std.specs.List.{AllZip}
 use Rattle.app_api.specs.App.{Meaning}
 use Rattle.pcap_source.specs.Captured.{Captured}
@@ -10,15 +10,15 @@ use Rattle.control_script.specs.declared.stamped.Stamped.{Stamped}
 use Rattle.control_script.specs.Order.{commands_of}
 use Rattle.lane_rings.specs.declared.items.Packet.{Packet}
 use Rattle.lane_rings.specs.declared.ring.RingTx.{RingTx}
-use Rattle.lane_rings.specs.Ring.{sent, taken, AreEnds}
+use Rattle.lane_rings.specs.Ring.{sent, AreEnds}
 use Rattle.lane_core.specs.declared.recorder.Recorder.{Ghosts}
 use Rattle.worker_pool.specs.declared.worker.Worker.{Worker}
 use Rattle.worker_pool.specs.declared.post.Post.{Post}
 use Rattle.worker_pool.specs.declared.seat.Seat.{Seat}
 use Rattle.worker_pool.specs.Worked.{IsReady}
 use Rattle.worker_pool.specs.Sent.{packets_from, dealt}
-use Rattle.worker_pool.specs.Posts.{IsSeated, IsPost, ArePosts}
-use Rattle.worker_pool.specs.Team.{IsNew, IsTeam, HasServed, HaveServed}
+use Rattle.worker_pool.specs.Posts.{IsSeated, ArePosts}
+use Rattle.worker_pool.specs.Team.{IsNew, HasServed, HaveServed}
 use Rattle.worker_pool.specs.Manned.{MayBegin, IsFresh, IsManned, IsBack, CanRun}
 use Rattle.worker_pool.proofs.Rows.{AllZip-length, AllZip-at, all_zip, no_other}
 

@@ -1,19 +1,18 @@
 -- The worker of a post, from its start to its end.
-use Rattle.std.proofs.Common.{◌≡◌, ◌≢◌, Some, None, true, List, refl, sym, subst, ◌∙◌}
+use Rattle.std.proofs.Common.{◌≡◌, true, List, sym, subst, ◌∙◌}
 use Rattle.app_api.specs.App.{Meaning}
 use Rattle.forest_versions.specs.declared.command.Command.{Command}
 use Rattle.forest_versions.specs.Lawful.{are_lawful}
 use Rattle.forest_versions.specs.State.{start}
 use Rattle.lane_rings.specs.declared.items.Packet.{Packet}
 use Rattle.lane_rings.specs.declared.ring.RingTx.{RingTx}
-use Rattle.lane_rings.specs.Ring.{sent, taken, AreEnds, SameTx}
+use Rattle.lane_rings.specs.Ring.{sent, taken, AreEnds}
 use Rattle.lane_core.specs.declared.recorder.Recorder.{Ghosts}
 use Rattle.worker_pool.specs.declared.worker.Worker.{Worker}
 use Rattle.worker_pool.specs.declared.post.Post.{Post}
 use Rattle.worker_pool.specs.Worked.{Worked, WorkedOn}
 use Rattle.worker_pool.specs.Posts.{IsSeated, IsPost}
-use Rattle.worker_pool.specs.Team.{HasServed}
-use Rattle.worker_pool.specs.Manned.{IsManned, IsBack}
+use Rattle.worker_pool.specs.Manned.{IsBack}
 use Rattle.worker_pool.proofs.Rings.{SameTx-refl}
 use Rattle.worker_pool.proofs.Composed.{worked_two}
 use Rattle.worker_pool.proofs.Beside.{ends_after}

@@ -22,7 +22,8 @@ ghost use Rattle.worker_pool.specs.Forward.{ForwardsOver};
 
 use crate::conclude::ends_of;
 use crate::dispatch::Whole;
-use crate::forward::drain::{drain, write_ready};
+use crate::forward::drain::drain;
+use crate::forward::exit::write_ready;
 use crate::forward::explain::lanes_have_answered;
 use crate::forward::relay::Relay;
 use crate::job::PoolError;
@@ -104,11 +105,12 @@ pub(crate) fn leave<L: Recorder + Drop, O: Sink>(
     let mut workers = workers;
     let mut relays = relays;
     let mut waiting = waiting;
+    let mut spare = Vec::new(alloc);
     drain(&mut workers, &mut relays, &mut waiting);
     if is_write_fault(&read) {
         return Err(PoolError::WriteFault);
     }
-    write_ready(&mut waiting, capture, out)?;
+    write_ready(&mut waiting, capture, out, &mut spare)?;
     match read {
         Ok(_) => versions_in(alloc, workers),
         Err(error) => Err(error),

@@ -10,7 +10,7 @@ ghost use Rattle.worker_pool.specs.Streamed.{AreRelays, Leaves, Streamed, Dealt,
 ghost use Rattle.worker_pool.specs.Relayed.{HaveTaken, LeaveAll, CutAll};
 
 use crate::dispatch::{Whole, send_frame};
-use crate::forward::drain::write_ready;
+use crate::forward::exit::write_ready;
 use crate::forward::relay::{Relay, count_sent, take_all, take_answers};
 use crate::gate::Gate;
 use crate::job::PoolError;
@@ -44,6 +44,7 @@ fn await_place<R: Wait, L: Recorder + Drop, O: Sink, G: Gate>(
     failed: &AtomicBool,
     capture: &Capture,
     out: &mut O,
+    spare: &mut Vec<Frame>,
 ) -> Result<(), PoolError>
     requires begins { (begins : List (Begun L)) × (frames : List Captured) × ArePosts L.Recorder script.now begins frames posts.old.items
         × AreRelays begins frames relays.old.items }
@@ -59,7 +60,7 @@ fn await_place<R: Wait, L: Recorder + Drop, O: Sink, G: Gate>(
     ensures lasts { O.lasting out.new ≡ O.lasting out.old }
 {
     for _ in rt.forever() {
-        write_ready(waiting, capture, out)?;
+        write_ready(waiting, capture, out, spare)?;
         if waiting.reaches(index) {
             return Ok(());
         }
@@ -110,6 +111,14 @@ fn send_next<R: Wait, L: Recorder + Drop, G: Gate>(
     take_answers(relays, lane, waiting);
 }
 
+// A frame to read into: one that has left, whose memory serves again, where there is one.
+fn next_frame(alloc: Global, spare: &mut Vec<Frame>) -> Frame {
+    match spare.pop() {
+        Some(frame) => frame,
+        None => Frame::new(alloc),
+    }
+}
+
 /// Reads an opened capture to its end or its tail, or to where it is refused, sends each packet to the post of its lane,
 /// and writes what the lanes let pass, in the order of the capture.
 ///
@@ -147,11 +156,13 @@ pub(crate) fn stream<R: Wait, L: Recorder + Drop, S: Source, O: Sink, G: Gate>(
     ensures out_lasts { O.lasting out.new ≡ O.lasting out.old }
 {
     let mut packets = 0;
+    let mut spare = Vec::new(alloc);
     loop {
         await_place(
-            rt, alloc, posts, relays, waiting, packets, script, natives, gate, failed, capture, out,
+            rt, alloc, posts, relays, waiting, packets, script, natives, gate, failed, capture,
+            out, &mut spare,
         )?;
-        let mut frame = Frame::new(alloc);
+        let mut frame = next_frame(alloc, &mut spare);
         match capture.next(source, &mut frame)? {
             Step::Frame => {
                 send_next(

@@ -1,11 +1,11 @@
-use Rattle.std.proofs.Common.{◌≡◌, ◌<◌, ◌∷◌, [], ◌++◌, ◌≤◌, ℕ, length, get_or, refl, sym, subst, List, All, ap, ◌∙◌, arith, rules}
+use Rattle.std.proofs.Common.{◌∷◌, [], ◌++◌, length, refl, sym, subst, List, All, ap, ◌∙◌, arith}
 use Rattle.std.proofs.lemmas.List.{length-append}
 use Rattle.std.specs.List.{AllZip}
 use Rattle.control_script.specs.Order.{commands_of}
 use Rattle.worker_pool.specs.declared.post.Post.{Post}
 use Rattle.worker_pool.specs.declared.worker.Worker.{Worker}
 use Rattle.worker_pool.specs.Manned.{IsManned, IsBack}
-use Rattle.worker_pool.proofs.Rows.{AllZip-more, all_first, all_others, moved, no_other}
+use Rattle.worker_pool.proofs.Rows.{AllZip-more, all_first, all_others, moved}
 use Rattle.worker_pool.proofs.finish.finish_all.Goals as goal
 
 pub loop-post-init : goal.loop-post-init

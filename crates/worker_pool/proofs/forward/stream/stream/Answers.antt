@@ -7,8 +7,8 @@ use Rattle.worker_pool.proofs.Leaving.{come_none, come_on, come_sent, stops_refu
 use Rattle.worker_pool.specs.declared.job.PoolError.TheVariants.{WriteFault}
 use Rattle.worker_pool.proofs.forward.stream.stream.Goals as goal
 
-pub loop-frame-init : goal.loop-frame-init
-loop-frame-init g c = record {
+pub loop-spare-init : goal.loop-spare-init
+loop-spare-init g c = record {
   live = c.requires.opened.live;
   count = c.requires.opened.count;
   few = omega arith;
@@ -27,7 +27,7 @@ loop-frame-init g c = record {
 
 pub returns-in_err-await_place-clause-streamed : goal.returns-in_err-await_place-clause-streamed
 returns-in_err-await_place-clause-streamed g c = λ begins before posts_are relays_are l.
-    let at = c.loop-frame in
+    let at = c.loop-spare in
     let read = at.invariant.read in
     let new = c.await_place.new in
     let e = c.in_err-await_place.field-0.0 in
@@ -43,7 +43,7 @@ returns-in_err-await_place-clause-streamed g c = λ begins before posts_are rela
 
 pub returns-in_err-next-clause-streamed : goal.returns-in_err-next-clause-streamed
 returns-in_err-next-clause-streamed g c = λ begins before posts_are relays_are l.
-    let at = c.loop-frame in
+    let at = c.loop-spare in
     let read = at.invariant.read in
     let new = c.await_place.new in
     let first = g.S.Source.left c.args.source.now in
@@ -63,16 +63,16 @@ returns-in_err-next-clause-streamed g c = λ begins before posts_are relays_are 
 pub send_next-requires-clause-some : goal.send_next-requires-clause-some
 send_next-requires-clause-some g c =
     let given = c.requires.begins in
-    let read = c.loop-frame.invariant.read in
+    let read = c.loop-spare.invariant.read in
     let s = read.2.sent given.0 given.1 given.2 in
     let now = c.await_place.ensures.posts given.0 read.0 s.posts_are in
-    omega (arith, c.loop-frame.invariant.some, s.posts_are.count, now.count)
+    omega (arith, c.loop-spare.invariant.some, s.posts_are.count, now.count)
 
 pub send_next-requires-clause-begins : goal.send_next-requires-clause-begins
 send_next-requires-clause-begins g c =
     let given = c.requires.begins in
-    let read = c.loop-frame.invariant.read in
-    let at = c.loop-frame in
+    let read = c.loop-spare.invariant.read in
+    let at = c.loop-spare in
     let new = c.await_place.new in
     let come =
     come_on g.L.Recorder c.args.script.now c.args.posts.now.items c.args.relays.now.items c.args.waiting.now (g.O.Sink.taken c.args.out.now) read.0 at.posts.items new.posts.items at.relays.items new.relays.items
@@ -80,9 +80,9 @@ send_next-requires-clause-begins g c =
     let s = come.sent given.0 given.1 given.2 in
     (given.0, read.0, read.1, s.posts_are, s.relays_are)
 
-pub loop-frame-preserved : goal.loop-frame-preserved
-loop-frame-preserved g c =
-    let at = c.loop-frame in
+pub loop-spare-preserved : goal.loop-spare-preserved
+loop-spare-preserved g c =
+    let at = c.loop-spare in
     let inv = at.invariant in
     let read = inv.read in
     let new = c.await_place.new in
@@ -119,7 +119,7 @@ loop-frame-preserved g c =
 
 pub returns-in-Tail-clause-streamed : goal.returns-in-Tail-clause-streamed
 returns-in-Tail-clause-streamed g c = λ begins before posts_are relays_are l.
-    let at = c.loop-frame in
+    let at = c.loop-spare in
     let read = at.invariant.read in
     let new = c.await_place.new in
     let first = g.S.Source.left c.args.source.now in
@@ -135,7 +135,7 @@ returns-in-Tail-clause-streamed g c = λ begins before posts_are relays_are l.
 
 pub returns-in-End-clause-streamed : goal.returns-in-End-clause-streamed
 returns-in-End-clause-streamed g c = λ begins before posts_are relays_are l.
-    let at = c.loop-frame in
+    let at = c.loop-spare in
     let read = at.invariant.read in
     let new = c.await_place.new in
     let first = g.S.Source.left c.args.source.now in

@@ -5,8 +5,8 @@ use Rattle.worker_pool.proofs.Leaving.{HasCome}
 use Rattle.worker_pool.proofs.forward.stream.stream.Given as goal
 
 -- The capture is live and has given so many frames. Their packets were sent, and they and what is left are the capture.
-abbrev pub invariant-loop-frame : goal.invariant-loop-frame
-invariant-loop-frame g l = record {
+abbrev pub invariant-loop-spare : goal.invariant-loop-spare
+invariant-loop-spare g l = record {
   live : l.capture.is_live ≡ true;
   count : l.capture.count ≡ l.packets;
   few : l.packets ≤ 1048576;
@@ -20,5 +20,5 @@ invariant-loop-frame g l = record {
       × ((bytes : List ℕ) → g.S.Source.left l.fn.source ≡ Some bytes → IsReadTo l.fn.capture bytes frames l.capture (g.S.Source.left l.source));
 }
 
-abbrev pub decreases-loop-frame : goal.decreases-loop-frame
-decreases-loop-frame g l = 1048576 - l.packets
+abbrev pub decreases-loop-spare : goal.decreases-loop-spare
+decreases-loop-spare g l = 1048576 - l.packets

@@ -2,7 +2,7 @@ use Rattle.std.proofs.Common.{◌≡◌, ◌≤◌, ℕ, List, Option}
 use Rattle.lane_rings.specs.declared.items.Answer.{Answer}
 use Rattle.worker_pool.specs.Streamed.{Leaves}
 use Rattle.worker_pool.specs.Drained.{held}
-use Rattle.worker_pool.proofs.forward.drain.write_ready.Given as goal
+use Rattle.worker_pool.proofs.forward.exit.write_ready.Given as goal
 
 -- records whose turn it was left whole
 abbrev pub invariant-loop : goal.invariant-loop

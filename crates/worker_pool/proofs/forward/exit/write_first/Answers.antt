@@ -1,6 +1,6 @@
 use Rattle.std.proofs.Common.{sym}
 use Rattle.worker_pool.proofs.Draining.{written_on, held_falls}
-use Rattle.worker_pool.proofs.forward.drain.write_first.Goals as goal
+use Rattle.worker_pool.proofs.forward.exit.write_first.Goals as goal
 
 pub returns-clause-leaves : goal.returns-clause-leaves
 returns-clause-leaves g c lane n taken before l =
