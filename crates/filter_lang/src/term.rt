@@ -1,6 +1,6 @@
 //! The parts of a filter expression.
 
-ghost use Rattle.std.specs.Prelude.{◌≡◌, ◌++◌, ◌∷◌, [], OnOk, OnErr};
+ghost use Rattle.std.specs.Prelude.{◌≡◌, ◌++◌, ◌∷◌, [], OnOk, OnErr, IfErr};
 
 use std::alloc::{AllocFailed, Global};
 use std::marker::Model;
@@ -81,10 +81,11 @@ impl StepList {
         self.items.as_slice()
     }
 
-    /// Puts a step at the end. An error leaves the list as it was.
+    /// Puts a step at the end. An error leaves the list as it was, and hands the step back.
     pub fn push(&mut self, step: Step) -> Result<(), AllocFailed<Step>>
         ensures ok { OnOk result (self.new ≡ self.old ++ step ∷ []) }
         ensures err { OnErr result (self.new ≡ self.old) }
+        ensures back { IfErr result (λ refused. refused.value ≡ step) }
     {
         self.items.push(step)
     }
