@@ -77,12 +77,6 @@ abbrev pub forwards : Option Settings → Bool
 forwards None = false
 forwards (Some s) = is_forward (output_of s)
 
--- the words are accepted, and what they ask for is written at the end
-pub record WritesAtEnd (words : List (List ℕ)) : Type 0 where
-  pub settings : Settings
-  pub accepted : words_settings words ≡ Some settings
-  pub kept : is_forward (output_of settings) ≡ false
-
 -- the words name no script
 abbrev pub NamesNone : List (List ℕ) → Type 0
 NamesNone words = (s : Settings) → words_settings words ≡ Some s → s.script ≡ None

@@ -1,14 +1,13 @@
 //! The top call over an output of which each call costs much, as a file or a pipe.
 
-ghost use Rattle.std.specs.Prelude.{◌≡◌, ◌≢◌, ◌⊎◌, ◌≤◌, [], false, map, Some, None, IsOk, IsTrue, string_bytes};
+ghost use Rattle.std.specs.Prelude.{◌≡◌, ◌≢◌, ◌⊎◌, ◌≤◌, [], false, map, Some, None, IsOk, string_bytes};
 ghost use Rattle.mos_bytes.specs.Causes.{Rose, HasCauseOf};
 ghost use Rattle.mos_bytes.specs.Writes.{AppendsFront};
 ghost use Rattle.words.specs.Words.{words_settings};
 ghost use Rattle.mos_run.specs.Told.{Told, told};
-ghost use Rattle.mos_run.specs.Run.{FinishesUnder, UnderSome, EndsAs, EndsWell, Tells, ComesBefore, NamesNone, Makes, ReadsCapture, WritesAtEnd, forwards};
+ghost use Rattle.mos_run.specs.Run.{FinishesUnder, UnderSome, EndsAs, EndsWell, Tells, ComesBefore, NamesNone, Makes, ReadsCapture, forwards};
 
 use crate::laws::what_one_worker_has_is_allowed;
-use crate::output::output_of;
 use crate::refusal::RunError;
 use crate::run::{Ended, refuse, run_mos};
 use mos_bytes::{GatheringSink, Shelf, Sink, Source};
@@ -16,7 +15,6 @@ use native_filters::NativeBook;
 use std::alloc::{AllocFailed, Global};
 use std::sync::Wait;
 use std::thread::Threads;
-use words::read_words;
 use worker_pool::Gate;
 
 /// How a run ended, and the output that it was given.
@@ -26,23 +24,12 @@ pub struct GatheredRun<O> {
     pub out: O,
 }
 
-// Whether the words are accepted and ask for what is written at the end. It answers no where there is no memory to tell.
-fn writes_at_end(alloc: Global, words: &[String]) -> bool
-    ensures { IsTrue result → WritesAtEnd (map string_bytes words.now) }
-{
-    match read_words(alloc, words) {
-        Ok(settings) => !output_of(&settings).is_forward(),
-        Err(_) => false,
-    }
-}
-
-/// Runs as `run_mos` does, and gives the output back. A report or a summary, which is written line by line at the end, is
-/// gathered, so that `out` is called once for some 65,536 bytes. A forwarded capture isn't: its packets are for a reader who waits for
-/// them while more of the capture comes in.
+/// Runs as `run_mos` does, and gives the output back. What is written is gathered, so that `out` is called once for some 65,536
+/// bytes. The packets of a forwarded capture are handed on at the latest before more of the capture is asked of the outside.
 ///
-/// Each clause is that of `run_mos`, and speaks of `out` itself: at status 0 it has taken all, and nothing is held back. Where it
-/// fails in the last call, that is status 5 in place of 0; any other status stays. Memory for what is gathered may be refused:
-/// status 6. It may wait for its threads, as `run_mos` does.
+/// Each clause is that of `run_mos`, and speaks of `out` itself: at status 0 it has taken all, and nothing is held back. With
+/// another status what was gathered is handed on too. Where that fails in the last call, it is status 5 in place of 0; any other
+/// status stays. Memory for what is gathered may be refused: status 6. It may wait for its threads, as `run_mos` does.
 pub fn run_gathered<
     R: Threads + Wait + Sync + Send + Copy + Drop + 'static,
     S: Source,
@@ -104,13 +91,6 @@ pub fn run_gathered<
     ensures err_lasts { E.lasting err.new ≡ E.lasting err.old }
 {
     what_one_worker_has_is_allowed();
-    let mut out = out;
-    if !writes_at_end(alloc, words) {
-        let ended = run_mos(
-            rt, alloc, words, capture, shelf, &mut out, err, natives, gate,
-        );
-        return GatheredRun { ended, out };
-    }
     let mut gathering = match GatheringSink::new(alloc, out) {
         Ok(gathering) => gathering,
         Err(AllocFailed { value: out }) => {

@@ -1,7 +1,7 @@
 //! Reads a capture front to back, and hands its packets to a lane.
 
 ghost use Rattle.std.specs.Prelude.{◌≡◌, ◌≢◌, ◌⊎◌, ◌+◌, ◌<◌, ◌∷◌, ◌++◌, [], ℕ, List, Option, length, not, true, false, if◌then◌else◌, Some, IsOk, IsTrue, IfErr, IsErrOf, OnOk};
-ghost use Rattle.std.specs.Io.KnownBytes.{Appends};
+ghost use Rattle.std.specs.Io.KnownBytes.{Appends, Keeps};
 ghost use Rattle.mos_bytes.specs.Causes.{HasCause, HasCauseOf};
 ghost use Rattle.mos_bytes.specs.Writes.{WriteAdds};
 ghost use Rattle.pcap_source.specs.Captured.{Captured};
@@ -71,6 +71,25 @@ fn write_passed<O: Sink>(
         Verdict::Pass => capture.write_record(out, frame),
         Verdict::Drop(_) => Ok(()),
     }
+}
+
+// Hands on what the output gathers, where packets are written while the capture is read, before the source asks the outside
+// for the next one: who waits for them waits no longer than for more of the capture.
+fn hand_on<S: Source, O: Sink>(
+    output: Output,
+    capture: &Capture,
+    source: &S,
+    out: &mut O,
+) -> Result<(), Failed>
+    ensures bytes { Keeps (O.taken out.old) (O.taken out.new) }
+    ensures silent { is_forward output ≡ false → IsOk result × (out.new ≡ out.old) }
+    ensures cause { HasCause (O.faults out.old) (O.faults out.new) result }
+    ensures lasts { O.lasting out.new ≡ O.lasting out.old }
+{
+    if !output.is_forward() || capture.is_at_hand(source) {
+        return Ok(());
+    }
+    out.flush()
 }
 
 // One more packet. A lane whose records weigh too much takes none, and the capture is read on, since it may be refused.
@@ -145,6 +164,7 @@ fn read_on<L: Recorder + Drop, S: Source, O: Sink>(
     let mut frame = Frame::new(alloc);
     let mut packets = 0;
     loop {
+        hand_on(plan.output, &capture, source, out)?;
         match capture.next(source, &mut frame)? {
             Step::Frame => {
                 take(alloc, plan, &capture, &mut lane, packets, &frame, out)?;

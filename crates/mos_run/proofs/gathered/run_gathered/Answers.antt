@@ -1,6 +1,5 @@
 -- What the run did to the sink that gathers, and what is left to hand on, is what the output took.
 use Rattle.std.proofs.Common.{◌≡◌, ap, inl, inr, refl, rules, subst, sym, ◌∙◌}
-use Rattle.std.specs.Prelude.{IsTrue}
 use Rattle.mos_bytes.specs.Writes.{AppendsFront}
 use Rattle.mos_bytes.proofs.Writes.{AppendsFront-nil}
 use Rattle.mos_bytes.specs.Gathering.{IsFinished, given_to, start_of}
@@ -50,31 +49,29 @@ returns-in-Err-clause-told g c = λ failed.
 
 pub returns-then-is_err-clause-ends : goal.returns-then-is_err-clause-ends
 returns-then-is_err-clause-ends g c = λ t is.
-    let yes : IsTrue c.writes_at_end.result = search rules in
-    let done = c.run_mos-ended-2.ensures.done c.if-ended-eq0.true t is in
+    let done = c.run_mos-ended.ensures.done c.if-ended-eq0.true t is in
     under_more t (λ o. StopsAs o Run.WriteFault) (λ o. EndsAs o c.refuse-ended-then-is_err.result.status)
     (λ o stops. ends_as o Run.WriteFault c.refuse-ended-then-is_err.result.status stops c.refuse-ended-then-is_err.ensures.status)
-    (may_fail _ _ _ t Run.WriteFault _ _ _ (c.writes_at_end.ensures yes) is done (inl refl))
+    (may_fail t Run.WriteFault _ _ _ done (inl refl))
 
 pub returns-then-is_err-clause-told : goal.returns-then-is_err-clause-told
 returns-then-is_err-clause-told g c = λ failed.
-    let yes : IsTrue c.writes_at_end.result = search rules in
     let tells = c.refuse-ended-then-is_err.ensures.told in
     record {
       refusal = tells.refusal;
       status_is = tells.status_is;
-      of_run = λ t is. may_fail _ _ _ t tells.refusal _ _ _ (c.writes_at_end.ensures yes) is (c.run_mos-ended-2.ensures.done c.if-ended-eq0.true t is) tells.which;
+      of_run = λ t is. may_fail t tells.refusal _ _ _ (c.run_mos-ended.ensures.done c.if-ended-eq0.true t is) tells.which;
       text = subst (λ e. WritesText (g.E.Sink.taken e) (g.E.Sink.taken c.refuse-ended-then-is_err.new.err) (g.E.Sink.faults e) (g.E.Sink.faults c.refuse-ended-then-is_err.new.err) (refusal_text tells.refusal))
-          (c.run_mos-ended-2.ensures.told_nothing c.if-ended-eq0.true) tells.text;
+          (c.run_mos-ended.ensures.told_nothing c.if-ended-eq0.true) tells.text;
     }
 
 pub returns-then-is_err-clause-front : goal.returns-then-is_err-clause-front
 returns-then-is_err-clause-front g c = λ t is.
     let new = c.in-Ok.ensures.ok in
     let start : start_of c.finish-finished.new.self ≡ c.args.out =
-    ap (λ p. p.0) c.finish-finished.ensures.lasts ∙ ap (λ p. p.0) c.run_mos-ended-2.ensures.out_lasts ∙ new.start in
-    front_below g.O.Sink.taken c.args.out (start_of c.finish-finished.new.self) (given_to c.in-Ok.gathering) (given_to c.run_mos-ended-2.new.out) (given_to c.finish-finished.new.self)
-    (g.O.Sink.taken c.into_inner-out.result) t start new.given (c.run_mos-ended-2.ensures.front t is) c.finish-finished.ensures.given c.into_inner-out.ensures.between
+    ap (λ p. p.0) c.finish-finished.ensures.lasts ∙ ap (λ p. p.0) c.run_mos-ended.ensures.out_lasts ∙ new.start in
+    front_below g.O.Sink.taken c.args.out (start_of c.finish-finished.new.self) (given_to c.in-Ok.gathering) (given_to c.run_mos-ended.new.out) (given_to c.finish-finished.new.self)
+    (g.O.Sink.taken c.into_inner-out.result) t start new.given (c.run_mos-ended.ensures.front t is) c.finish-finished.ensures.given c.into_inner-out.ensures.between
 
 pub returns-clause-done : goal.returns-clause-done
 returns-clause-done g c = λ zero t is.
@@ -83,14 +80,14 @@ returns-clause-done g c = λ zero t is.
       | else-ended-eq0-via-then-ended-eq0+else-is_err w ↦ search rules
       | else-ended-eq0-via-else-ended-eq0 w ↦ search rules
     ] in
-    done_below t c.run_mos-ended-2.result.versions (g.O.Sink.taken c.args.out) (given_to c.in-Ok.gathering) (given_to c.run_mos-ended-2.new.out) (given_to c.finish-finished.new.self)
-    (g.O.Sink.taken c.into_inner-out.result) new.given (c.run_mos-ended-2.ensures.done zero t is) c.finish-finished.ensures.given
+    done_below t c.run_mos-ended.result.versions (g.O.Sink.taken c.args.out) (given_to c.in-Ok.gathering) (given_to c.run_mos-ended.new.out) (given_to c.finish-finished.new.self)
+    (g.O.Sink.taken c.into_inner-out.result) new.given (c.run_mos-ended.ensures.done zero t is) c.finish-finished.ensures.given
     (ap g.O.Sink.taken c.into_inner-out.ensures.inner ∙ finished.taken)
 
 pub returns-clause-front : goal.returns-clause-front
 returns-clause-front g c = λ t is.
     let new = c.in-Ok.ensures.ok in
     let start : start_of c.finish-finished.new.self ≡ c.args.out =
-    ap (λ p. p.0) c.finish-finished.ensures.lasts ∙ ap (λ p. p.0) c.run_mos-ended-2.ensures.out_lasts ∙ new.start in
-    front_below g.O.Sink.taken c.args.out (start_of c.finish-finished.new.self) (given_to c.in-Ok.gathering) (given_to c.run_mos-ended-2.new.out) (given_to c.finish-finished.new.self)
-    (g.O.Sink.taken c.into_inner-out.result) t start new.given (c.run_mos-ended-2.ensures.front t is) c.finish-finished.ensures.given c.into_inner-out.ensures.between
+    ap (λ p. p.0) c.finish-finished.ensures.lasts ∙ ap (λ p. p.0) c.run_mos-ended.ensures.out_lasts ∙ new.start in
+    front_below g.O.Sink.taken c.args.out (start_of c.finish-finished.new.self) (given_to c.in-Ok.gathering) (given_to c.run_mos-ended.new.out) (given_to c.finish-finished.new.self)
+    (g.O.Sink.taken c.into_inner-out.result) t start new.given (c.run_mos-ended.ensures.front t is) c.finish-finished.ensures.given c.into_inner-out.ensures.between

@@ -1,16 +1,18 @@
 use Rattle.std.proofs.Common.{◌≡◌, ◌≢◌, true, false, ◌+◌, ◌++◌, ◌∷◌, [], length, Some, Ok, Err, refl, sym, ap, subst, ◌∙◌, arith, le_refl}
 use Rattle.std.proofs.lemmas.List.{length-append}
 use Rattle.std.proofs.lemmas.Result.{err_from_is_err_and, IfErr-weaker}
+use Rattle.std.specs.Prelude.{IsErr}
 use Rattle.std.specs.Io.KnownBytes.{Appends}
-use Rattle.std.proofs.KnownBytes.{Appends-trans}
+use Rattle.std.proofs.KnownBytes.{Appends-kept, Appends-trans}
 use Rattle.pcap_source.specs.Reading.{NextGives}
 use Rattle.mos_run.specs.declared.refusal.RunError.TheVariants as Run
 use Rattle.mos_run.specs.Refusal.{record_refusal}
 use Rattle.mos_run.specs.Records.{packets_of}
-use Rattle.mos_run.specs.Outcome.{outcome, streamed}
+use Rattle.mos_run.specs.Outcome.{is_forward, outcome, streamed}
 use Rattle.mos_run.specs.Run.{RunsAs}
 use Rattle.mos_run.proofs.Refusals.{is_read_fault, no_write_fault, is_late, same_error, rose_since, late_by, no_read_fault}
-use Rattle.mos_run.proofs.Replaying.{step_told, replayed, streamed_last, refused_record, front_so_far, front_of_frame, stopped_by, ended_at}
+use Rattle.mos_run.proofs.Reading.{fails_forward}
+use Rattle.mos_run.proofs.Replaying.{stopped_writing, step_told, replayed, streamed_last, refused_record, front_so_far, front_of_frame, stopped_by, ended_at}
 use Rattle.mos_run.proofs.replay.read_on.Goals as goal
 
 pub loop-frame-init : goal.loop-frame-init
@@ -30,6 +32,40 @@ loop-frame-init g c = record {
   read = ([], refl, c.requires.read, λ before written. written, λ bytes r. r);
 }
 
+pub returns-in_err-hand_on-clause-runs : goal.returns-in_err-hand_on-clause-runs
+returns-in_err-hand_on-clause-runs g c = λ bytes before r written.
+    let at = c.loop-frame in
+    let inv = at.invariant in
+    let read = inv.read in
+    let plan = c.args.plan.now in
+    let app = g.L.Recorder.app at.lane in
+    let rep = read.4 bytes r in
+    let forward = fails_forward (is_forward plan.output) c.hand_on.result c.in_err-hand_on.field-0.0 c.in_err-hand_on.was (λ is. (c.hand_on.ensures.silent is).0) in
+    let p = err_from_is_err_and c.from_residual.result c.from_residual.ensures.1 in
+    rw (p.1, p.2)
+    (subst (λ a. RunsAs (outcome a plan.script.now (packets_of plan.script.now) plan.output bytes) before (g.O.Sink.taken c.hand_on.new.out) (Err Run.WriteFault)) inv.app (
+      stopped_writing app plan.script.now plan.output bytes _ at.capture read.0 rep forward inv.header,
+      front_so_far app plan.script.now plan.output bytes _ at.capture read.0 before (g.O.Sink.taken c.hand_on.new.out) rep
+          (Appends-kept before (g.O.Sink.taken at.out) (g.O.Sink.taken c.hand_on.new.out) _ (read.3 before written) c.hand_on.ensures.bytes),
+    ))
+
+pub returns-in_err-hand_on-clause-read_fault : goal.returns-in_err-hand_on-clause-read_fault
+returns-in_err-hand_on-clause-read_fault g c =
+    let p = err_from_is_err_and c.from_residual.result c.from_residual.ensures.1 in
+    record {
+      later = c.loop-frame.invariant.source_faults;
+      cause = λ fault. let is = p.1 in let why = p.2 in absurd (cc);
+    }
+
+pub returns-in_err-hand_on-clause-write_fault : goal.returns-in_err-hand_on-clause-write_fault
+returns-in_err-hand_on-clause-write_fault g c =
+    let before = c.loop-frame.invariant.out_faults in
+    let handed = c.hand_on.ensures.cause in
+    record {
+      later = let later = handed.later in omega (arith, before, later);
+      cause = λ fault. rose_since _ _ _ before (handed.failed (subst IsErr (sym c.in_err-hand_on.was) tt));
+    }
+
 pub returns-in_err-next-clause-runs : goal.returns-in_err-next-clause-runs
 returns-in_err-next-clause-runs g c = λ bytes before r written.
     let at = c.loop-frame in
@@ -39,34 +75,36 @@ returns-in_err-next-clause-runs g c = λ bytes before r written.
     let app = g.L.Recorder.app at.lane in
     let rep = read.4 bytes r in
     let step = step_told at.capture c.next.new.self _ _ rep.rest c.next.new.frame (Err c.in_err-next.field-0.0) c.in_err-next.ensures.gives rep.told in
-    let p = err_from_is_err_and c.from_residual.result c.from_residual.ensures.1 in
+    let p = err_from_is_err_and c.from_residual-in_err-next.result c.from_residual-in_err-next.ensures.1 in
     rw (p.1, p.2)
-    (subst (λ a. RunsAs (outcome a plan.script.now (packets_of plan.script.now) plan.output bytes) before (g.O.Sink.taken at.out) (Err (record_refusal c.in_err-next.field-0.0))) inv.app (
+    (subst (λ a. RunsAs (outcome a plan.script.now (packets_of plan.script.now) plan.output bytes) before (g.O.Sink.taken c.hand_on.new.out) (Err (record_refusal c.in_err-next.field-0.0))) inv.app (
       refused_record app plan.script.now plan.output bytes _ _ at.capture c.next.new.self read.0 c.next.new.frame c.in_err-next.field-0.0 rep step,
-      front_so_far app plan.script.now plan.output bytes _ at.capture read.0 before (g.O.Sink.taken at.out) rep (read.3 before written),
+      front_so_far app plan.script.now plan.output bytes _ at.capture read.0 before (g.O.Sink.taken c.hand_on.new.out) rep (Appends-kept before (g.O.Sink.taken at.out) (g.O.Sink.taken c.hand_on.new.out) _ (read.3 before written) c.hand_on.ensures.bytes),
     ))
 
 pub returns-in_err-next-clause-late : goal.returns-in_err-next-clause-late
 returns-in_err-next-clause-late g c =
-    let p = err_from_is_err_and c.from_residual.result c.from_residual.ensures.1 in
+    let p = err_from_is_err_and c.from_residual-in_err-next.result c.from_residual-in_err-next.ensures.1 in
     rw (p.1, p.2) (is_late c.in_err-next.field-0.0)
 
 pub returns-in_err-next-clause-read_fault : goal.returns-in_err-next-clause-read_fault
 returns-in_err-next-clause-read_fault g c =
-    let p = err_from_is_err_and c.from_residual.result c.from_residual.ensures.1 in
+    let p = err_from_is_err_and c.from_residual-in_err-next.result c.from_residual-in_err-next.ensures.1 in
     let before = c.loop-frame.invariant.source_faults in
     let next = c.next.ensures.cause in
     record {
       later = let later = next.later in omega (arith, before, later);
-      cause = λ fault. rose_since _ _ _ before (next.cause (c.in_err-next.was ∙ ap (λ e. Err e) (is_read_fault c.in_err-next.field-0.0 (sym p.2 ∙ same_error p.0 Run.ReadFault c.from_residual.result p.1 fault))));
+      cause = λ fault. rose_since _ _ _ before (next.cause (c.in_err-next.was ∙ ap (λ e. Err e) (is_read_fault c.in_err-next.field-0.0 (sym p.2 ∙ same_error p.0 Run.ReadFault c.from_residual-in_err-next.result p.1 fault))));
     }
 
 pub returns-in_err-next-clause-write_fault : goal.returns-in_err-next-clause-write_fault
 returns-in_err-next-clause-write_fault g c =
-    let p = err_from_is_err_and c.from_residual.result c.from_residual.ensures.1 in
+    let p = err_from_is_err_and c.from_residual-in_err-next.result c.from_residual-in_err-next.ensures.1 in
+    let before = c.loop-frame.invariant.out_faults in
+    let handed = c.hand_on.ensures.cause.later in
     record {
-      later = c.loop-frame.invariant.out_faults;
-      cause = λ fault. absurd (no_write_fault c.in_err-next.field-0.0 (sym p.2 ∙ same_error p.0 Run.WriteFault c.from_residual.result p.1 fault));
+      later = omega (arith, before, handed);
+      cause = λ fault. absurd (no_write_fault c.in_err-next.field-0.0 (sym p.2 ∙ same_error p.0 Run.WriteFault c.from_residual-in_err-next.result p.1 fault));
     }
 
 pub returns-in_err-take-in-Frame-clause-runs : goal.returns-in_err-take-in-Frame-clause-runs
@@ -84,7 +122,7 @@ returns-in_err-take-in-Frame-clause-runs g c = λ bytes before r written.
     rw (p.1, p.2)
     (subst (λ a. RunsAs (outcome a plan.script.now (packets_of plan.script.now) plan.output bytes) before (g.O.Sink.taken c.take.new.out) (Err e)) inv.app (
       stopped_by app plan.script.now plan.output bytes _ at.capture read.0 e rep inv.header c.in_err-take-in-Frame.ensures.only,
-      front_of_frame app plan.script.now plan.output bytes _ _ at.capture c.next.new.self read.0 c.next.new.frame before (g.O.Sink.taken at.out) (g.O.Sink.taken c.take.new.out) rep step (read.3 before written)
+      front_of_frame app plan.script.now plan.output bytes _ _ at.capture c.next.new.self read.0 c.next.new.frame before (g.O.Sink.taken c.hand_on.new.out) (g.O.Sink.taken c.take.new.out) rep step (Appends-kept before (g.O.Sink.taken at.out) (g.O.Sink.taken c.hand_on.new.out) _ (read.3 before written) c.hand_on.ensures.bytes)
           (c.in_err-take-in-Frame.ensures.writes read.0 read.1 read.2),
     ))
 
@@ -105,7 +143,9 @@ returns-in_err-take-in-Frame-clause-read_fault g c =
 pub returns-in_err-take-in-Frame-clause-write_fault : goal.returns-in_err-take-in-Frame-clause-write_fault
 returns-in_err-take-in-Frame-clause-write_fault g c =
     let p = err_from_is_err_and c.from_residual-in_err-take-in-Frame.result c.from_residual-in_err-take-in-Frame.ensures.1 in
-    let before = c.loop-frame.invariant.out_faults in
+    let was = c.loop-frame.invariant.out_faults in
+    let handed = c.hand_on.ensures.cause.later in
+    let before = omega (arith, was, handed) in
     let take = c.take.ensures.cause in
     record {
       later = let later = take.later in omega (arith, before, later);
@@ -131,11 +171,11 @@ loop-frame-preserved g c =
       app = c.take.ensures.app ∙ inv.app;
       ready = taken.ready refl;
       keeps = c.take.ensures.keeps ∙ inv.keeps;
-      silent = λ is. c.take.ensures.silent is ∙ inv.silent is;
+      silent = λ is. c.take.ensures.silent is ∙ (c.hand_on.ensures.silent is).1 ∙ inv.silent is;
       source_faults = let before = inv.source_faults in let later = c.next.ensures.cause.later in omega (arith, before, later);
-      out_faults = let before = inv.out_faults in let later = c.take.ensures.cause.later in omega (arith, before, later);
+      out_faults = let before = inv.out_faults in let handed = c.hand_on.ensures.cause.later in let later = c.take.ensures.cause.later in omega (arith, before, handed, later);
       source_lasts = c.next.ensures.lasts ∙ inv.source_lasts;
-      out_lasts = c.take.ensures.lasts ∙ inv.out_lasts;
+      out_lasts = c.take.ensures.lasts ∙ c.hand_on.ensures.lasts ∙ inv.out_lasts;
       read = (
         read.0 ++ frame ∷ [],
         length-append read.0 (frame ∷ []) ∙ ap (λ n. n + 1) read.1,
@@ -144,7 +184,7 @@ loop-frame-preserved g c =
             subst (λ a. Appends before (g.O.Sink.taken c.take.new.out) (streamed a plan.script.now (packets_of plan.script.now) plan.output c.next.new.self.header (read.0 ++ frame ∷ []))) (sym c.take.ensures.app)
             (subst (λ h. Appends before (g.O.Sink.taken c.take.new.out) (streamed app plan.script.now (packets_of plan.script.now) plan.output h (read.0 ++ frame ∷ []))) (sym moved.header)
             (subst (Appends before (g.O.Sink.taken c.take.new.out)) (sym (streamed_last app plan.script.now plan.output at.capture.header read.0 frame))
-            (Appends-trans before (g.O.Sink.taken at.out) (g.O.Sink.taken c.take.new.out) _ _ (read.3 before written) (taken.writes read.0 read.1 read.2)))),
+            (Appends-trans before (g.O.Sink.taken c.hand_on.new.out) (g.O.Sink.taken c.take.new.out) _ _ (Appends-kept before (g.O.Sink.taken at.out) (g.O.Sink.taken c.hand_on.new.out) _ (read.3 before written) c.hand_on.ensures.bytes) (taken.writes read.0 read.1 read.2)))),
         λ bytes r.
             let rep = read.4 bytes r in
             let gives = subst (λ s. NextGives at.capture c.next.new.self (g.S.Source.left at.source) (g.S.Source.left c.next.new.source) frame (Ok s)) c.in-Frame.is c.in_ok-next.ensures.gives in
@@ -171,7 +211,7 @@ returns-in-Tail-clause-runs g c = λ bytes before r written.
     let step = step_told at.capture c.next.new.self _ _ rep.rest c.next.new.frame _ gives rep.told in
     subst (λ a. RunsAs (outcome a plan.script.now (packets_of plan.script.now) plan.output bytes) before (g.O.Sink.taken c.close.new.out) c.close.result) inv.app
     (subst (λ o. RunsAs o before (g.O.Sink.taken c.close.new.out) c.close.result) (sym (ended_at app plan.script.now plan.output bytes _ at.capture read.0 c.in-Tail.bytes rep step.steps.0))
-    (c.close.ensures.ends at.capture.header read.0 before read.1 read.2 (read.3 before written)))
+    (c.close.ensures.ends at.capture.header read.0 before read.1 read.2 (Appends-kept before (g.O.Sink.taken at.out) (g.O.Sink.taken c.hand_on.new.out) _ (read.3 before written) c.hand_on.ensures.bytes)))
 
 pub returns-in-Tail-clause-read : goal.returns-in-Tail-clause-read
 returns-in-Tail-clause-read g c = λ ok bytes r.
@@ -182,7 +222,7 @@ returns-in-Tail-clause-read g c = λ ok bytes r.
     step.told ∙ ap (λ l. Some l) step.steps.2
 
 pub returns-in-Tail-clause-silent : goal.returns-in-Tail-clause-silent
-returns-in-Tail-clause-silent g c = λ is. IfErr-weaker c.close.result _ _ (λ e same write memory. same write memory ∙ c.loop-frame.invariant.silent is) c.close.ensures.silent
+returns-in-Tail-clause-silent g c = λ is. IfErr-weaker c.close.result _ _ (λ e same write memory. same write memory ∙ (c.hand_on.ensures.silent is).1 ∙ c.loop-frame.invariant.silent is) c.close.ensures.silent
 
 pub returns-in-End-clause-runs : goal.returns-in-End-clause-runs
 returns-in-End-clause-runs g c = λ bytes before r written.
@@ -196,7 +236,7 @@ returns-in-End-clause-runs g c = λ bytes before r written.
     let step = step_told at.capture c.next.new.self _ _ rep.rest c.next.new.frame _ gives rep.told in
     subst (λ a. RunsAs (outcome a plan.script.now (packets_of plan.script.now) plan.output bytes) before (g.O.Sink.taken c.close-in-End.new.out) c.close-in-End.result) inv.app
     (subst (λ o. RunsAs o before (g.O.Sink.taken c.close-in-End.new.out) c.close-in-End.result) (sym (ended_at app plan.script.now plan.output bytes _ at.capture read.0 0 rep step.steps.0))
-    (c.close-in-End.ensures.ends at.capture.header read.0 before read.1 read.2 (read.3 before written)))
+    (c.close-in-End.ensures.ends at.capture.header read.0 before read.1 read.2 (Appends-kept before (g.O.Sink.taken at.out) (g.O.Sink.taken c.hand_on.new.out) _ (read.3 before written) c.hand_on.ensures.bytes)))
 
 pub returns-in-End-clause-read : goal.returns-in-End-clause-read
 returns-in-End-clause-read g c = λ ok bytes r.
@@ -207,4 +247,4 @@ returns-in-End-clause-read g c = λ ok bytes r.
     step.told ∙ ap (λ l. Some l) step.steps.1
 
 pub returns-in-End-clause-silent : goal.returns-in-End-clause-silent
-returns-in-End-clause-silent g c = λ is. IfErr-weaker c.close-in-End.result _ _ (λ e same write memory. same write memory ∙ c.loop-frame.invariant.silent is) c.close-in-End.ensures.silent
+returns-in-End-clause-silent g c = λ is. IfErr-weaker c.close-in-End.result _ _ (λ e same write memory. same write memory ∙ (c.hand_on.ensures.silent is).1 ∙ c.loop-frame.invariant.silent is) c.close-in-End.ensures.silent
