@@ -5,6 +5,7 @@ ghost use Rattle.std.specs.Io.{ReadsAtMost};
 ghost use Rattle.std.specs.Io.KnownBytes.{ReadConsumes};
 ghost use Rattle.mos_bytes.specs.Causes.{HasCause, risen};
 ghost use Rattle.mos_bytes.specs.Memory.{SourceState};
+ghost use Rattle.mos_bytes.specs.Reads.{BeginsWith};
 
 use crate::copy::copy_front;
 use crate::{Failed, Source};
@@ -79,5 +80,13 @@ impl Source for MemSource {
         let count = copy_front(&self.bytes[self.place..], buf);
         self.place += count;
         Ok(count)
+    }
+
+    /// All that is left.
+    fn at_hand(&self) -> &[u8]
+        ensures front { BeginsWith (Some self.now.left) result.now }
+        ensures all { result.now ≡ self.now.left }
+    {
+        &self.bytes[self.place..]
     }
 }
