@@ -1,7 +1,8 @@
 //! Reads and writes that fail in turn, and captures that are cut off at each length: what is left.
 
 use super::captures::handshake;
-use super::{HANDSHAKE, run, run_failing, run_gathering, undisturbed};
+use super::web_request::{ACCOUNTS, web_request};
+use super::{HANDSHAKE, run, run_asked, run_failing, run_gathering, undisturbed};
 use std::alloc::{AllocError, Global};
 use std::test::Fail;
 
@@ -122,6 +123,138 @@ fn a_gathered_output(rt: HostRuntime) -> Result<(), Fail> {
         assert_eq!(rt; run.ended.status, status, "{words}");
         assert_eq!(rt; run.err.bytes(), text, "{words}");
         assert_eq!(rt; Some(run.out.bytes()), written, "{words}");
+    }
+    Ok(())
+}
+
+// Where the header of the web request ends and each of its packets, and how many callbacks its accounts have up to there.
+const ENDS: [(usize, usize); 11] = [
+    (24, 0),
+    (100, 3),
+    (176, 5),
+    (252, 7),
+    (340, 9),
+    (416, 10),
+    (3406, 12),
+    (3482, 13),
+    (3558, 16),
+    (3634, 19),
+    (3710, 22),
+];
+
+// The last line of the accounts where so many bytes of the web request are there.
+fn cut_totals(alloc: Global, len: usize) -> Result<String, AllocError> {
+    let mut whole = (0, 0, 0);
+    for (packets, (end, callbacks)) in ENDS.iter().enumerate() {
+        if *end <= len {
+            whole = (packets, *callbacks, len - *end);
+        }
+    }
+    let (packets, callbacks, tail) = whole;
+    let records = packets.min(1);
+    format!(in alloc;
+        "end packets {packets} records {records} callbacks {callbacks} drops 0 tail {tail}\n"
+    )
+}
+
+// Whole packets count, and the bytes behind them are the tail.
+#[test]
+fn a_web_request_that_is_cut(rt: HostRuntime) -> Result<(), Fail> {
+    let alloc = rt.alloc();
+    let bytes = web_request(alloc)?;
+    assert_eq!(rt; bytes.len(), 3710);
+    for len in 0..=bytes.len() {
+        let front = bytes[..len].to_vec(alloc)?;
+        let run = run_asked(&rt, alloc, front, &undisturbed("--app acct", &[]))?;
+        if len < 24 {
+            let want = format!(in alloc; "mos: capture: short header at {len}\n")?;
+            assert_eq!(rt; run.ended.status, 3, "{len} bytes");
+            assert_eq!(rt; run.err.bytes(), want.as_bytes());
+            assert_eq!(rt; run.out.bytes(), b"".as_slice());
+        } else {
+            let want = cut_totals(alloc, len)?;
+            assert_eq!(rt; run.ended.status, 0, "{len} bytes");
+            assert!(rt; run.out.bytes().ends_with(want.as_bytes()), "{len} bytes");
+            assert_eq!(rt; run.err.bytes(), b"".as_slice());
+        }
+    }
+    Ok(())
+}
+
+// How much of the web request has left where the read of this number fails: the header once it was read, and each packet once
+// its two reads were made.
+fn forwarded_before(call: u64) -> usize {
+    if call == 0 {
+        return 0;
+    }
+    let packets = ((call - 1) / 2) as usize;
+    match ENDS.get(packets) {
+        Some((end, _)) => *end,
+        None => 0,
+    }
+}
+
+// 22 calls read the web request, of which the last one finds its end.
+#[test]
+fn each_read_of_a_web_request_that_fails(rt: HostRuntime) -> Result<(), Fail> {
+    let alloc = rt.alloc();
+    let capture = web_request(alloc)?;
+    for call in 0..=22 {
+        let mut report = undisturbed("--app acct", &[]);
+        report.read = call;
+        let mut forward = report;
+        forward.words = "--app acct --emit forward";
+        let report = run_asked(&rt, alloc, web_request(alloc)?, &report)?;
+        let forward = run_asked(&rt, alloc, web_request(alloc)?, &forward)?;
+        if call < 22 {
+            let left = forwarded_before(call);
+            assert_eq!(rt;
+                (report.ended.status, forward.ended.status),
+                (4, 4),
+                "read {call}"
+            );
+            assert_eq!(rt; report.out.bytes(), b"".as_slice(), "read {call}");
+            assert_eq!(rt; report.err.bytes(), b"mos: read fault\n".as_slice());
+            assert_eq!(rt;
+                Some(forward.out.bytes()),
+                capture.get(..left),
+                "read {call}"
+            );
+            assert_eq!(rt; forward.err.bytes(), b"mos: read fault\n".as_slice());
+        } else {
+            assert_eq!(rt; (report.ended.status, forward.ended.status), (0, 0));
+            assert_eq!(rt; report.out.bytes(), ACCOUNTS);
+            assert_eq!(rt; forward.out.bytes(), capture.as_slice());
+        }
+    }
+    Ok(())
+}
+
+fn lines_in(text: &[u8]) -> u64 {
+    let mut lines: u64 = 0;
+    for byte in text {
+        lines = lines.saturating_add(u64::from(*byte == b'\n'));
+    }
+    lines
+}
+
+// Each of the 32 lines is written by one call, and the one that fails takes a part of its line.
+#[test]
+fn each_write_of_accounts_that_fails(rt: HostRuntime) -> Result<(), Fail> {
+    let alloc = rt.alloc();
+    for call in 0..=32 {
+        let mut asked = undisturbed("--app acct", &[]);
+        asked.write = call;
+        let run = run_asked(&rt, alloc, web_request(alloc)?, &asked)?;
+        assert!(rt; ACCOUNTS.starts_with(run.out.bytes()), "write {call}");
+        assert_eq!(rt; lines_in(run.out.bytes()), call);
+        if call < 32 {
+            assert_eq!(rt; run.ended.status, 5, "write {call}");
+            assert_eq!(rt; run.err.bytes(), b"mos: write fault\n".as_slice());
+        } else {
+            assert_eq!(rt; run.ended.status, 0);
+            assert_eq!(rt; run.err.bytes(), b"".as_slice());
+        }
     }
     Ok(())
 }

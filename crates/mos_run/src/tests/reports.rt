@@ -7,6 +7,7 @@ use super::captures::{
 use super::{HANDSHAKE, run, run_plain, shelf, sink};
 use crate::OpenGate;
 use mos_bytes::MemSource;
+use std::alloc::{AllocError, Global};
 use std::test::Fail;
 
 const NOTHING: &[u8] = b"end packets 0 records 0 callbacks 0 drops 0 tail 0\n";
@@ -103,6 +104,53 @@ fn reports(rt: HostRuntime) -> Result<(), Fail> {
         assert_eq!(rt; run.ended.status, 0);
         assert_eq!(rt; run.out.bytes(), want);
         assert_eq!(rt; run.err.bytes(), b"".as_slice());
+    }
+    Ok(())
+}
+
+// How much of the SYN of a handshake was captured, which of its bytes are others, and the class that it has then.
+const CHANGED: [(usize, &[(usize, u8)], &str); 13] = [
+    (13, &[], "other"),
+    (17, &[(12, 0x81)], "other"),
+    (33, &[], "cut"),
+    (54, &[(17, 41)], "cut"),
+    (54, &[(14, 0x55)], "bad"),
+    (54, &[(14, 0x44)], "bad"),
+    (54, &[(17, 19)], "bad"),
+    (54, &[(17, 39)], "bad"),
+    (54, &[(46, 0x40)], "bad"),
+    (54, &[(46, 0x60)], "bad"),
+    (54, &[(23, 17), (17, 41)], "other"),
+    (54, &[(21, 1)], "fragment"),
+    (54, &[(47, 0x06)], "tcp"),
+];
+
+// A capture of the SYN alone, cut off and changed so.
+fn changed_syn(
+    alloc: Global,
+    captured: usize,
+    changes: &[(usize, u8)],
+) -> Result<Vec<u8>, AllocError> {
+    let mut frame = SYN;
+    for (at, byte) in changes {
+        if *at < 54 {
+            frame[*at] = *byte;
+        }
+    }
+    capture(alloc, &BIG, &[frame.get(..captured).unwrap_or(&[])], &[])
+}
+
+// Each is a record of its own.
+#[test]
+fn classes_of_changed_openings(rt: HostRuntime) -> Result<(), Fail> {
+    let alloc = rt.alloc();
+    for (captured, changes, class) in CHANGED {
+        let run = run(&rt, alloc, changed_syn(alloc, captured, changes)?)?;
+        let want = format!(in alloc;
+            "orphan 0 {class} v 0\ncb 0 snd orphan 3\nend packets 1 records 1 callbacks 1 drops 0 tail 0\n"
+        )?;
+        assert_eq!(rt; run.ended.status, 0, "{captured} {class}");
+        assert_eq!(rt; run.out.bytes(), want.as_bytes(), "{captured} {class}");
     }
     Ok(())
 }

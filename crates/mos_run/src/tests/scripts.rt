@@ -1,6 +1,6 @@
 //! Runs under scripts and applications.
 
-use super::captures::exchange;
+use super::captures::{exchange, handshake};
 use super::{run_asked, undisturbed};
 use std::test::Fail;
 
@@ -80,6 +80,64 @@ fn scripts(rt: HostRuntime) -> Result<(), Fail> {
         assert_eq!(rt; run.err.bytes(), b"".as_slice());
         assert_eq!(rt; run.out.bytes(), want, "{words}");
         assert_eq!(rt; run.ended.status, 0, "{words}");
+    }
+    Ok(())
+}
+
+// What a script has, what is told of it, and how many commands are in force where it is accepted.
+const LINES: [(&[u8], &[u8], &[u32]); 9] = [
+    (
+        b"rbuf 1\nrbuf 2 \x80\n",
+        b"mos: script: line 2: Syntax\n",
+        &[],
+    ),
+    (
+        b"# \x80\n\nunreg 99 \x80\n",
+        b"mos: script: line 3: Syntax\n",
+        &[],
+    ),
+    (
+        b"event 1 under pkt_in len\x80 > 0\n",
+        b"mos: script: line 1: Syntax\n",
+        &[],
+    ),
+    (b"# \x80\nrbuf 1\n \t#\x80\nrbuf 2", b"", &[2]),
+    (
+        b"reg 16 packet snd\n",
+        b"mos: script: line 1: UnknownName\n",
+        &[],
+    ),
+    (
+        b"reg 16 pkt_in snd\n\nreg 16 pkt_in rcv\n",
+        b"mos: script: line 3: Duplicate\n",
+        &[],
+    ),
+    (
+        b"unreg 1\nunreg 1\n",
+        b"mos: script: line 2: NoSuchNumber\n",
+        &[],
+    ),
+    (
+        b"at 5 rbuf 10\nrbuf 20\n",
+        b"mos: script: line 2: StampOrder\n",
+        &[],
+    ),
+    (b"", b"", &[0]),
+];
+
+// Nothing is written where a line is refused.
+#[test]
+fn lines_of_scripts(rt: HostRuntime) -> Result<(), Fail> {
+    let alloc = rt.alloc();
+    for (text, told, versions) in LINES {
+        let scripts = [("lines", text)];
+        let asked = undisturbed("--script lines", &scripts);
+        let run = run_asked(&rt, alloc, handshake(alloc)?, &asked)?;
+        let status = if told.is_empty() { 0 } else { 2 };
+        assert_eq!(rt; run.err.bytes(), told);
+        assert_eq!(rt; run.ended.status, status);
+        assert_eq!(rt; run.ended.versions.as_slice(), versions);
+        assert_eq!(rt; run.out.bytes().is_empty(), status == 2);
     }
     Ok(())
 }
