@@ -159,49 +159,65 @@ fn run_by<R: Threads + Wait + Sync + Send + Copy + Drop + 'static>(
     run_asked(rt, alloc, bytes, &undisturbed(&words, &SCRIPTS))
 }
 
+// The SYN, from port 1000 or another of which this is the lower byte, to this port.
+fn opening(from: u8, to: u8) -> [u8; 54] {
+    let mut frame = SYN;
+    frame[35] = from;
+    frame[37] = to;
+    frame
+}
+
 // Nine frames without a key, and SYNs from two ports.
-fn keyless_and_two_openings(alloc: Global) -> Result<Vec<u8>, AllocError> {
-    let mut other = SYN;
-    other[35] = 0xe9;
+fn late_openings(alloc: Global) -> Result<Vec<u8>, AllocError> {
+    let other = opening(0xe9, 80);
     let mut frames: [&[u8]; 11] = [&ARP; 11];
     frames[9] = &SYN;
     frames[10] = &other;
     capture(alloc, &BIG, &frames, &[])
 }
 
-// Of two SYNs to port 23 and one to port 80 the last is allowed; and a handshake is forwarded without the bytes behind it.
+// A SYN to port 23, the same again, and one to port 80.
+fn three_openings(alloc: Global) -> Result<Vec<u8>, AllocError> {
+    let denied = opening(0xe8, 23);
+    let allowed = opening(0xe9, 80);
+    let frames: [&[u8]; 3] = [&denied, &denied, &allowed];
+    capture(alloc, &BIG, &frames, &[])
+}
+
+// Of three packets one passes; and a handshake is forwarded without the bytes behind it.
 #[test]
 fn one_output_by_1_2_and_16_workers(rt: HostRuntime) -> Result<(), Fail> {
     let alloc = rt.alloc();
-    let mut denied = SYN;
-    denied[37] = 23;
-    let mut allowed = SYN;
-    allowed[35] = 0xe9;
-    let three = capture(alloc, &BIG, &[&denied, &denied, &allowed], &[])?;
-    let third = capture(alloc, &BIG, &[&allowed], &[])?;
-    let keyless = keyless_and_two_openings(alloc)?;
-    let hello = handshake(alloc)?;
+    let third = capture(alloc, &BIG, &[&opening(0xe9, 80)], &[])?;
     let with_tail = capture(alloc, &BIG, &[&SYN, &SYN_ACK, &ACK], &[0, 1, 2, 3, 4, 5, 6])?;
-    let rows: [(&str, &[u8], &[u8]); 5] = [
-        ("--app log", &hello, HANDSHAKE),
-        ("--script later", &keyless, FROM_PACKET_10),
-        ("--app firewall --script rules", &three, RULED),
+    let rows: [(&str, Vec<u8>, Vec<u8>); 5] = [
+        ("--app log", handshake(alloc)?, HANDSHAKE.to_vec(alloc)?),
+        (
+            "--script later",
+            late_openings(alloc)?,
+            FROM_PACKET_10.to_vec(alloc)?,
+        ),
+        (
+            "--app firewall --script rules",
+            three_openings(alloc)?,
+            RULED.to_vec(alloc)?,
+        ),
         (
             "--app firewall --script rules --emit forward",
-            &three,
-            &third,
+            three_openings(alloc)?,
+            third,
         ),
-        ("--emit forward", &with_tail, &hello),
+        ("--emit forward", with_tail, handshake(alloc)?),
     ];
     for (words, bytes, want) in rows {
-        let one = run_by(&rt, alloc, 1, words, bytes)?;
-        let two = run_by(&rt, alloc, 2, words, bytes)?;
-        let sixteen = run_by(&rt, alloc, 16, words, bytes)?;
+        let one = run_by(&rt, alloc, 1, words, &bytes)?;
+        let two = run_by(&rt, alloc, 2, words, &bytes)?;
+        let sixteen = run_by(&rt, alloc, 16, words, &bytes)?;
         let statuses = (one.ended.status, two.ended.status, sixteen.ended.status);
         assert_eq!(rt; statuses, (0, 0, 0), "{words}");
-        assert_eq!(rt; one.out.bytes(), want, "{words}");
-        assert_eq!(rt; two.out.bytes(), want, "{words}");
-        assert_eq!(rt; sixteen.out.bytes(), want, "{words}");
+        assert_eq!(rt; one.out.bytes(), want.as_slice(), "{words}");
+        assert_eq!(rt; two.out.bytes(), want.as_slice(), "{words}");
+        assert_eq!(rt; sixteen.out.bytes(), want.as_slice(), "{words}");
     }
     Ok(())
 }
