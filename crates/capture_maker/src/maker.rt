@@ -4,6 +4,7 @@ ghost use Rattle.std.specs.Prelude.{◌≡◌, ◌+◌, ◌*◌, ◌≤◌, ℕ,
 ghost use Rattle.std.specs.Io.{ReadsAtMost};
 ghost use Rattle.std.specs.Io.KnownBytes.{ReadConsumes};
 ghost use Rattle.mos_bytes.specs.Causes.{HasCause};
+ghost use Rattle.mos_bytes.specs.Reads.{BeginsWith};
 ghost use Rattle.capture_maker.specs.Made.{MakerState, made, records_from};
 
 use crate::piece::Piece;
@@ -116,5 +117,12 @@ impl Source for Maker {
         let count = copy_front(self.piece.from(self.place), buf);
         self.place += count;
         Ok(count)
+    }
+
+    /// Nothing, though a record may be there: a made capture is never forwarded, so nobody waits for what is held back.
+    fn at_hand(&self) -> &[u8]
+        ensures front { BeginsWith (Some self.now.left) result.now }
+    {
+        &[]
     }
 }

@@ -1,6 +1,6 @@
 -- What moves from a source into a buffer.
-use Rattle.std.proofs.Common.{◌≡◌, ℕ, ◌+◌, ◌-◌, ◌≤◌, List, ◌++◌, length, take, drop, slice_range, sym, ap, subst, ◌∙◌, arith, drop_at, length-take-le, length-drop, le_refl, take_all}
-use Rattle.std.proofs.lemmas.List.{take-append-drop, take-append-le}
+use Rattle.std.proofs.Common.{◌≡◌, ℕ, ◌+◌, ◌-◌, ◌≤◌, List, ◌++◌, length, take, drop, slice_range, sym, ap, ◌∙◌, arith, drop_at, length-take-le, length-take, le_refl}
+use Rattle.std.proofs.lemmas.List.{take-append-drop, take-append-le, take-take}
 use Rattle.std.proofs.lemmas.Slice.{take-put_mid_below}
 use Rattle.std.proofs.Math.Seq.{take-append_seam, take-add}
 use Rattle.std.specs.declared.option.Option.{Option}
@@ -47,15 +47,16 @@ front_grows a k n xs ys within fits =
     ap (λ l. take a xs ++ l) (sym (slice_range-put_mid a k n xs ys within fits))
     ∙ take_split a (a + n) xs (put_mid a k xs ys) (omega arith) (take-put_mid_below a k xs ys a (le_refl a) within)
 
--- the same where the list is what a vector lends from this place on
-pub read_front : (n place : ℕ) (left lent items to rest : List ℕ) → lent ≡ items → left ≡ drop place items
-    → n ≤ length (take (length lent - place) (drop place lent)) → to ≡ take n (take (length lent - place) (drop place lent)) ++ rest
+-- the same where the list is a piece of what a vector lends from this place on
+pub read_front : (n place piece : ℕ) (left lent items to rest : List ℕ) → lent ≡ items → left ≡ drop place items
+    → n ≤ length (take piece (drop place lent)) → to ≡ take n (take piece (drop place lent)) ++ rest
     → left ≡ take n to ++ drop (place + n) items
-read_front n place left lent items to rest same is_left within copied =
-    let all : take (length lent - place) (drop place lent) ≡ drop place lent = take_all _ _ (omega (arith, length-drop place lent)) in
-    let bounded : n ≤ length (drop place lent) = subst (λ l. n ≤ length l) all within in
+read_front n place piece left lent items to rest same is_left within copied =
+    let bounded : n ≤ length (drop place lent) = omega (arith, length-take piece (drop place lent)) in
+    let front : take n (take piece (drop place lent)) ≡ take n (drop place lent) =
+    take-take n piece (drop place lent) (omega (arith, length-take piece (drop place lent))) in
     is_left ∙ ap (drop place) (sym same) ∙ front_copied n place lent rest bounded
-    ∙ ap (λ l. take n (take n l ++ rest) ++ drop (place + n) lent) (sym all)
+    ∙ ap (λ l. take n (l ++ rest) ++ drop (place + n) lent) (sym front)
     ∙ ap (λ l. take n l ++ drop (place + n) lent) (sym copied) ∙ ap (λ l. take n to ++ drop (place + n) l) same
 
 -- what a room holds in front of a place, after a write through what it lends

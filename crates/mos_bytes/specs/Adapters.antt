@@ -18,6 +18,14 @@ sink_faults s = s.faults
 abbrev pub shelf_faults : {R : Type 0} → FolderShelf R → ℕ
 shelf_faults s = s.faults
 
+-- how many bytes the last fetch of such a shelf got
+abbrev pub shelf_came : {R : Type 0} → FolderShelf R → ℕ
+shelf_came s = s.came
+
+-- the reader
+abbrev pub reader_of : {R : Type 0} → ReadSource R → R
+reader_of s = s.inner
+
 -- the bytes that were read ahead
 abbrev pub ahead_of : {R : Type 0} → ReadSource R → List ℕ
 ahead_of s = slice_range s.buffer s.start s.end

@@ -3,9 +3,16 @@ use Rattle.std.specs.Prelude.{ℕ, List}
 use Rattle.std.specs.declared.option.Option.{Option}
 use Rattle.mos_bytes.specs.Fetches.{content_of}
 
--- a source: the bytes left, the calls that are to fail (numbered from 0), the number of the next call, the faults so far
+-- what no call of such a source changes: the most bytes that a read gives, and the calls that are to fail
+pub record SourceLasting : Type 0 where
+  pub piece : ℕ
+  pub fails : List ℕ
+
+-- a source: the bytes left, the most bytes that a read gives, the calls that are to fail (numbered from 0), the number of the
+-- next call, the faults so far
 pub record SourceState : Type 0 where
   pub left : List ℕ
+  pub piece : ℕ
   pub fails : List ℕ
   pub calls : ℕ
   pub faults : ℕ

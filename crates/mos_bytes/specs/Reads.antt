@@ -1,8 +1,15 @@
--- What `fill` does to the bytes that are left in a source, where it tells them.
-use Rattle.std.specs.Prelude.{ℕ, ◌<◌, ◌≤◌, List, length, take, Result, MatchResult}
+-- What a source has at hand, and what `fill` does to the bytes that are left in it, where it tells them.
+use Rattle.std.specs.Prelude.{ℕ, ◌<◌, ◌≤◌, ⊤, List, length, take, Result, MatchResult}
+use Rattle.std.specs.Io.{StartsWith}
 use Rattle.std.specs.declared.option.Option.{Option}
+use Rattle.std.specs.declared.option.Option.TheVariants.{None, Some}
 use Rattle.std.specs.Io.KnownBytes.{Consumes, IsAtEnd}
 use Rattle.mos_bytes.specs.declared.failed.Failed.{Failed}
+
+-- the bytes that are left begin with these, where they are told
+abbrev pub BeginsWith : Option (List ℕ) → List ℕ → Type 0
+BeginsWith None bytes = ⊤
+BeginsWith (Some left) bytes = StartsWith left bytes
 
 -- n bytes were consumed, those at the front of buf, and fewer than buf has room for only where none is left
 pub record Fills (old new : Option (List ℕ)) (n : ℕ) (buf : List ℕ) : Type 0 where

@@ -179,7 +179,7 @@ impl<S: Sink> GatheringSink<S> {
 }
 
 impl<S: Sink> Sink for GatheringSink<S> {
-    ghost use Rattle.mos_bytes.specs.Gathering.{inner_of, held_of, failures_of, given_to, gathering_faults, gathering_lasting};
+    ghost use Rattle.mos_bytes.specs.Gathering.{IsFinished, inner_of, held_of, failures_of, given_to, gathering_faults, gathering_lasting};
 
     ghost taken = { given_to };
 
@@ -212,5 +212,21 @@ impl<S: Sink> Sink for GatheringSink<S> {
         }
         self.hold(bytes);
         Ok(())
+    }
+
+    /// Hands on what is held, as `finish` does.
+    fn flush(&mut self) -> Result<(), Failed>
+        ensures bytes { Keeps (given_to self.old) (given_to self.new) }
+        ensures finished { OnOk result (IsFinished self.new) }
+        ensures sound { IsOk result ↔ (failures_of self.new ≡ 0) }
+        ensures cause { HasCause (gathering_faults self.old) (gathering_faults self.new) result }
+        ensures lasts { gathering_lasting self.new ≡ gathering_lasting self.old }
+
+        // A first fault is one of the sink below. That one isn't called where nothing is held, nor after a fault.
+        ensures below { failures_of self.old ≡ 0 → HasCause (S.faults (inner_of self.old)) (S.faults (inner_of self.new)) result }
+        ensures idle { failures_of self.old ≡ 0 → held_of self.old ≡ [] → IsOk result × (self.new ≡ self.old) }
+        ensures stopped { failures_of self.old ≢ 0 → IsErr result × (inner_of self.new ≡ inner_of self.old) }
+    {
+        self.finish()
     }
 }

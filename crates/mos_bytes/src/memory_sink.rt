@@ -1,6 +1,7 @@
 //! A sink into memory, for tests.
 
-ghost use Rattle.std.specs.Prelude.{◌≡◌, ◌+◌, ◌-◌, ◌/◌, ◌<◌, ◌≤◌, ◌↔◌, ◌⊎◌, ◌++◌, [], ℕ, List, length, take, min, Some, IsErr, OnOk, OnErr, Contains};
+ghost use Rattle.std.specs.Prelude.{◌≡◌, ◌+◌, ◌-◌, ◌/◌, ◌<◌, ◌≤◌, ◌↔◌, ◌⊎◌, ◌++◌, [], ℕ, List, length, take, min, Some, IsOk, IsErr, OnOk, OnErr, Contains};
+ghost use Rattle.std.specs.Io.KnownBytes.{Keeps};
 ghost use Rattle.mos_bytes.specs.Causes.{HasCause, risen};
 ghost use Rattle.mos_bytes.specs.Memory.{SinkLasting, SinkState};
 ghost use Rattle.mos_bytes.specs.Writes.{WriteAdds};
@@ -103,6 +104,15 @@ impl Sink for MemSink {
             return Err(Failed);
         }
         self.place = put(&mut self.room, self.place, bytes);
+        Ok(())
+    }
+
+    /// Nothing is held back, so there is nothing to do.
+    fn flush(&mut self) -> Result<(), Failed>
+        ensures bytes { Keeps (Some self.old.taken) (Some self.new.taken) }
+        ensures cause { HasCause self.old.faults self.new.faults result }
+        ensures idle { IsOk result × (self.new ≡ self.old) }
+    {
         Ok(())
     }
 }

@@ -1,10 +1,11 @@
 //! A source over bytes in memory, for tests.
 
-ghost use Rattle.std.specs.Prelude.{◌≡◌, ◌≤◌, ◌↔◌, ℕ, List, length, take, drop, min, Some, IfOk, IsErr, OnOk, OnErr, Contains};
+ghost use Rattle.std.specs.Prelude.{◌≡◌, ◌-◌, ◌^◌, ◌≤◌, ◌↔◌, ℕ, List, length, take, drop, min, Some, IfOk, IsErr, OnOk, OnErr, Contains};
 ghost use Rattle.std.specs.Io.{ReadsAtMost};
 ghost use Rattle.std.specs.Io.KnownBytes.{ReadConsumes};
 ghost use Rattle.mos_bytes.specs.Causes.{HasCause, risen};
-ghost use Rattle.mos_bytes.specs.Memory.{SourceState};
+ghost use Rattle.mos_bytes.specs.Memory.{SourceLasting, SourceState};
+ghost use Rattle.mos_bytes.specs.Reads.{BeginsWith};
 
 use crate::copy::copy_front;
 use crate::{Failed, Source};
@@ -15,6 +16,8 @@ use std::marker::Model;
 pub struct MemSource {
     bytes: Vec<u8>,
     place: usize,
+    // The most bytes that a read gives.
+    piece: usize,
     fails: Vec<u64>,
     calls: u64,
     faults: u64,
@@ -25,25 +28,42 @@ impl Model for MemSource {
 
     ghost view = { λ s. record {
       left = drop s.place s.bytes.items;
+      piece = s.piece;
       fails = s.fails.items;
       calls = s.calls;
       faults = s.faults;
     } };
 
-    ghost invariant = { λ s. s.place ≤ length s.bytes.items };
+    ghost invariant = { λ s. (s.place ≤ length s.bytes.items) × (1 ≤ s.piece) };
 }
 
 impl MemSource {
-    /// A source of these bytes, whose calls fail that `fails` lists by their numbers from 0.
+    /// A source of these bytes, whose calls fail that `fails` lists by their numbers from 0. A read gives as much as has room.
     pub fn new(bytes: Vec<u8>, fails: Vec<u64>) -> Self
-        ensures { result ≡ record { left = bytes.items; fails = fails.items; calls = 0; faults = 0 } }
+        ensures { result ≡ record { left = bytes.items; piece = 2 ^ 64 - 1; fails = fails.items; calls = 0; faults = 0 } }
     {
         MemSource {
             bytes,
             place: 0,
+            piece: usize::MAX,
             fails,
             calls: 0,
             faults: 0,
+        }
+    }
+
+    /// The same source, of which a read gives at most `piece` bytes, as a pipe may. It asks at least 1, and takes no memory.
+    pub fn cut(self, piece: usize) -> Self
+        requires { 1 ≤ piece }
+        ensures { result ≡ record self { piece = piece } }
+    {
+        MemSource {
+            bytes: self.bytes,
+            place: self.place,
+            piece,
+            fails: self.fails,
+            calls: self.calls,
+            faults: self.faults,
         }
     }
 }
@@ -53,22 +73,23 @@ impl Source for MemSource {
 
     ghost faults = { λ s. s.faults };
 
-    // The calls that are to fail.
-    ghost Lasting = { List ℕ };
+    // The most bytes that a read gives, and the calls that are to fail.
+    ghost Lasting = { SourceLasting };
 
-    ghost lasting = { λ s. s.fails };
+    ghost lasting = { λ s. record { piece = s.piece; fails = s.fails } };
 
-    /// Gives as many bytes as `buf` has room for and are left. A listed call fails and gives none.
+    /// Gives as many bytes as `buf` has room for and are left, and no more than a piece. A listed call fails and gives none.
     fn read(&mut self, buf: &mut [u8]) -> Result<usize, Failed>
         ensures bound { ReadsAtMost result buf.new }
         ensures bytes { ReadConsumes (Some self.old.left) (Some self.new.left) result buf.new }
         ensures cause { HasCause self.old.faults self.new.faults result }
         ensures listed { IsErr result ↔ Contains self.old.fails self.old.calls }
-        ensures count { IfOk result (λ n. n ≡ min (length buf.old) (length self.old.left)) }
+        ensures count { IfOk result (λ n. n ≡ min (length buf.old) (min self.old.piece (length self.old.left))) }
         ensures ok { OnOk result (self.new.faults ≡ self.old.faults) }
         ensures err { OnErr result (self.new.faults ≡ risen self.old.faults) }
         ensures calls { self.new.calls ≡ risen self.old.calls }
-        ensures lasts { self.new.fails ≡ self.old.fails }
+        ensures piece { self.new.piece ≡ self.old.piece }
+        ensures fails { self.new.fails ≡ self.old.fails }
     {
         let call = self.calls;
         self.calls = call.saturating_add(1);
@@ -76,8 +97,17 @@ impl Source for MemSource {
             self.faults = self.faults.saturating_add(1);
             return Err(Failed);
         }
-        let count = copy_front(&self.bytes[self.place..], buf);
+        let end = self.place + self.piece.min(self.bytes.len() - self.place);
+        let count = copy_front(&self.bytes[self.place..end], buf);
         self.place += count;
         Ok(count)
+    }
+
+    /// All that is left.
+    fn at_hand(&self) -> &[u8]
+        ensures front { BeginsWith (Some self.now.left) result.now }
+        ensures all { result.now ≡ self.now.left }
+    {
+        &self.bytes[self.place..]
     }
 }

@@ -1,9 +1,10 @@
 //! A source over any reader of std.
 
-ghost use Rattle.std.specs.Prelude.{◌≡◌, ◌+◌, ◌-◌, ◌≤◌, ⊤, length, take, min, OnOk, OnErr};
+ghost use Rattle.std.specs.Prelude.{◌≡◌, ◌≢◌, [], ◌+◌, ◌-◌, ◌≤◌, ⊤, length, take, min, IsOk, OnOk, OnErr};
 ghost use Rattle.std.specs.Io.{ReadsAtMost};
 ghost use Rattle.std.specs.Io.KnownBytes.{Consumes, IsAtEnd, Keeps, ReadConsumes};
 ghost use Rattle.mos_bytes.specs.Causes.{HasCause, risen};
+ghost use Rattle.mos_bytes.specs.Reads.{BeginsWith};
 
 use crate::copy::copy_front;
 use crate::{Failed, Source};
@@ -92,7 +93,7 @@ impl<R: Read> ReadSource<R> {
 }
 
 impl<R: Read> Source for ReadSource<R> {
-    ghost use Rattle.mos_bytes.specs.Adapters.{source_faults, source_left};
+    ghost use Rattle.mos_bytes.specs.Adapters.{ahead_of, reader_of, source_faults, source_left};
 
     ghost left = { source_left R.remaining };
 
@@ -109,6 +110,9 @@ impl<R: Read> Source for ReadSource<R> {
         ensures cause { HasCause (source_faults self.old) (source_faults self.new) result }
         ensures ok { OnOk result (source_faults self.new ≡ source_faults self.old) }
         ensures err { OnErr result (source_faults self.new ≡ risen (source_faults self.old)) }
+
+        // The reader isn't called where something was read ahead.
+        ensures quiet { ahead_of self.old ≢ [] → IsOk result × (reader_of self.new ≡ reader_of self.old) }
     {
         if self.start == self.end {
             // A long read needs no buffer between.
@@ -118,5 +122,13 @@ impl<R: Read> Source for ReadSource<R> {
             self.refill()?;
         }
         Ok(self.read_ahead(buf))
+    }
+
+    /// What was read ahead.
+    fn at_hand(&self) -> &[u8]
+        ensures front { BeginsWith (source_left R.remaining self.now) result.now }
+        ensures ahead { result.now ≡ ahead_of self.now }
+    {
+        &self.buffer[self.start..self.end]
     }
 }

@@ -79,22 +79,27 @@ pub trait Shelf {
         ensures lasts { lasting self.new ≡ lasting self.old };
 }
 
-/// Reads a source to its end, where it has at most `limit` bytes left. At `TooLong` more than `limit` bytes came.
+// Reads a source to its end, where it has at most `limit` bytes left. It tells how many bytes came before the answer was known.
 pub(crate) fn read_whole<S: Source>(
     alloc: Global,
     source: &mut S,
     limit: usize,
+    came: &mut usize,
 ) -> Result<Vec<u8>, FetchError>
     ensures whole { IfOk result (λ bytes. Consumes (S.left source.old) (S.left source.new) bytes.items × IsAtEnd (S.left source.new)) }
     ensures within { IfOk result (λ bytes. length bytes.items ≤ limit) }
     ensures too_long { result ≡ Err FetchError.TooLong → ReadsOver (S.left source.old) (S.left source.new) limit }
+    ensures over { result ≡ Err FetchError.TooLong → limit < came.new }
+    ensures came { IfOk result (λ bytes. came.new ≡ length bytes.items) }
     ensures cause { HasCauseOf (S.faults source.old) (S.faults source.new) (IsErrOf result FetchError.Failed) }
     ensures lasts { S.lasting source.new ≡ S.lasting source.old }
 {
     let mut bytes = Vec::new(alloc);
     let mut piece = [0; PIECE];
+    *came = 0;
     loop {
         let count = fill(source, &mut piece)?;
+        *came = bytes.len() + count;
         if count > limit - bytes.len() {
             return Err(FetchError::TooLong);
         }

@@ -2,6 +2,7 @@
 
 ghost use Rattle.std.specs.Prelude.{◌≡◌, ℕ, List};
 ghost use Rattle.std.specs.declared.option.Option.{Option};
+ghost use Rattle.std.specs.Io.KnownBytes.{Keeps};
 ghost use Rattle.mos_bytes.specs.Causes.{HasCause};
 ghost use Rattle.mos_bytes.specs.Writes.{WriteAdds};
 
@@ -23,6 +24,12 @@ pub trait Sink {
     /// Takes all of `bytes`, or at `Failed` a front of them.
     fn write_all(&mut self, bytes: &[u8]) -> Result<(), Failed>
         ensures bytes { WriteAdds (taken self.old) (taken self.new) result bytes.now }
+        ensures cause { HasCause (faults self.old) (faults self.new) result }
+        ensures lasts { lasting self.new ≡ lasting self.old };
+
+    /// Hands on what the sink holds back, where it gathers. What counts as taken is as it was.
+    fn flush(&mut self) -> Result<(), Failed>
+        ensures bytes { Keeps (taken self.old) (taken self.new) }
         ensures cause { HasCause (faults self.old) (faults self.new) result }
         ensures lasts { lasting self.new ≡ lasting self.old };
 }

@@ -5,7 +5,7 @@ ghost use Rattle.std.specs.declared.option.Option.{Option};
 ghost use Rattle.std.specs.Io.{ReadsAtMost};
 ghost use Rattle.std.specs.Io.KnownBytes.{ReadConsumes};
 ghost use Rattle.mos_bytes.specs.Causes.{HasCause};
-ghost use Rattle.mos_bytes.specs.Reads.{FillConsumes};
+ghost use Rattle.mos_bytes.specs.Reads.{BeginsWith, FillConsumes};
 
 use crate::Failed;
 
@@ -29,6 +29,11 @@ pub trait Source {
         ensures bytes { ReadConsumes (left self.old) (left self.new) result buf.new }
         ensures cause { HasCause (faults self.old) (faults self.new) result }
         ensures lasts { lasting self.new ≡ lasting self.old };
+
+    /// The bytes at hand: the next reads give these first, and nothing outside is asked until all of them were given.
+    /// There may be fewer than the source could tell of, and none is always an answer.
+    fn at_hand(&self) -> &[u8]
+        ensures front { BeginsWith (left self.now) result.now };
 }
 
 /// Reads until `buf` is full or the source ends, and answers how many bytes stand in the front of `buf`:

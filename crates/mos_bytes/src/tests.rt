@@ -22,6 +22,34 @@ fn a_memory_source_fails_at_listed_calls(rt: HostRuntime) -> std::result::Result
     Ok(())
 }
 
+// A read gives a piece at most, and all that is left stays at hand.
+#[test]
+fn a_memory_source_in_pieces(rt: HostRuntime) -> std::result::Result<(), Fail> {
+    let alloc = rt.alloc();
+    let mut bytes = Vec::new(alloc);
+    for number in 0..40 {
+        bytes.push(number)?;
+    }
+    for (piece, first) in [(1, 1), (7, 7), (4_096, 30)] {
+        let mut source = MemSource::new(bytes.clone()?, Vec::new(alloc)).cut(piece);
+        let mut buf = [0; 30];
+        let count = source.read(&mut buf);
+        assert_eq!(rt; count, Ok(first), "pieces of {piece}");
+        assert_eq!(rt; Some(source.at_hand()), bytes.get(first..));
+        let mut rest = [0; 50];
+        assert_eq!(rt;
+            fill(&mut source, &mut rest),
+            Ok(40_usize.wrapping_sub(first))
+        );
+        assert_eq!(rt; buf.get(..first), bytes.get(..first));
+        assert_eq!(rt;
+            rest.get(..40_usize.wrapping_sub(first)),
+            bytes.get(first..)
+        );
+    }
+    Ok(())
+}
+
 // One of three pieces of 3 bytes fails, or the last has no room.
 #[test]
 fn a_memory_sink_takes_half_or_nothing(rt: HostRuntime) -> std::result::Result<(), Fail> {
@@ -78,7 +106,9 @@ impl Write for Broken {
 fn a_reader_as_a_source(rt: HostRuntime) {
     let mut source = ReadSource::new([1, 2, 3, 4, 5].as_slice());
     let mut buf = [0; 3];
+    assert_eq!(rt; source.at_hand(), b"".as_slice());
     assert_eq!(rt; source.read(&mut buf), Ok(3));
+    assert_eq!(rt; source.at_hand(), [4, 5].as_slice());
     assert_eq!(rt; fill(&mut source, &mut buf), Ok(2));
     assert_eq!(rt; buf, [4, 5, 3]);
     assert_eq!(rt; ReadSource::new(Broken).read(&mut buf), Err(Failed));
@@ -143,6 +173,26 @@ fn a_sink_that_gathers(rt: HostRuntime) -> std::result::Result<(), Fail> {
         }
         assert_eq!(rt; went_well, well, "{lens:?} failing {fails}");
         assert_eq!(rt; Some(sink.bytes()), given.get(..taken));
+    }
+    Ok(())
+}
+
+// What is held is handed on, and a fault of the sink below is told.
+#[test]
+fn a_flush_hands_on_what_is_held(rt: HostRuntime) -> std::result::Result<(), Fail> {
+    let alloc = rt.alloc();
+    for (fails, want, taken) in [
+        (9, Ok(()), b"abcd".as_slice()),
+        (0, Err(Failed), b"a"),
+        (1, Ok(()), b"abc"),
+    ] {
+        let below = MemSink::new(vec![in alloc; 0; 8]?, [fails].to_vec(alloc)?);
+        let mut sink = GatheringSink::new(alloc, below)?;
+        assert_eq!(rt; sink.write_all(b"ab"), Ok(()));
+        assert_eq!(rt; sink.flush(), want);
+        let _ = sink.write_all(b"cd");
+        let _ = sink.flush();
+        assert_eq!(rt; sink.into_inner().bytes(), taken, "failing {fails}");
     }
     Ok(())
 }

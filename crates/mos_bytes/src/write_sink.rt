@@ -1,8 +1,8 @@
 //! A sink over any writer of std.
 
-ghost use Rattle.std.specs.Prelude.{◌≡◌, ⊤, OnOk, OnErr};
+ghost use Rattle.std.specs.Prelude.{◌≡◌, ⊤, IsOk, OnOk, OnErr};
 ghost use Rattle.std.specs.Bool.{OnTrue, OnFalse};
-ghost use Rattle.std.specs.Io.KnownBytes.{Appends};
+ghost use Rattle.std.specs.Io.KnownBytes.{Appends, Keeps};
 ghost use Rattle.mos_bytes.specs.Causes.{HasCause, risen};
 ghost use Rattle.mos_bytes.specs.Writes.{AppendsFront, WriteAdds};
 
@@ -68,5 +68,14 @@ impl<W: Write> Sink for WriteSink<W> {
         }
         self.faults = self.faults.saturating_add(1);
         Err(Failed)
+    }
+
+    /// Each write has flushed the writer, so nothing is held back, and the writer isn't called.
+    fn flush(&mut self) -> Result<(), Failed>
+        ensures bytes { Keeps (sink_taken W.contents self.old) (sink_taken W.contents self.new) }
+        ensures cause { HasCause (sink_faults self.old) (sink_faults self.new) result }
+        ensures idle { IsOk result × (self.new ≡ self.old) }
+    {
+        Ok(())
     }
 }

@@ -1,9 +1,10 @@
 //! Reading a capture front to back.
 
-ghost use Rattle.std.specs.Prelude.{◌≡◌, ◌+◌, ◌*◌, ◌<◌, ◌≤◌, ◌⊎◌, ◌↔◌, ◌++◌, ℕ, List, length, IsTrue, IfOk, OnOk, IfErr, IsErrOf, true, false};
+ghost use Rattle.std.specs.Prelude.{◌≡◌, ◌+◌, ◌*◌, ◌<◌, ◌≤◌, ◌⊎◌, ◌↔◌, ◌++◌, ℕ, List, length, Some, IsTrue, IfOk, OnOk, IfErr, IsErrOf, true, false};
 ghost use Rattle.std.specs.Io.KnownBytes.{Consumes};
 ghost use Rattle.mos_bytes.specs.Causes.{HasCauseOf};
 ghost use Rattle.mos_bytes.specs.Reads.{Fills};
+ghost use Rattle.pcap_source.specs.Capture.{is_whole};
 ghost use Rattle.pcap_source.specs.Reading.{CaptureState, IsRecord, IsTold, NextGives, RefusesAt, reading};
 
 use crate::header::{HEADER, judge_header};
@@ -137,6 +138,18 @@ impl Capture {
             offset: HEADER as u64,
             is_live: true,
         })
+    }
+
+    /// Whether the next record stands whole among the bytes that the source has at hand: then `next` asks nothing outside.
+    pub fn is_at_hand<S: Source>(&self, source: &S) -> bool
+        ensures whole { IsTrue result → (bytes : List ℕ) → S.left source.now ≡ Some bytes → IsTrue (is_whole self.now.order bytes) }
+    {
+        let bytes = source.at_hand();
+        if bytes.len() < HEAD {
+            return false;
+        }
+        let captured = self.order.u32_at(&bytes[..HEAD], 8);
+        captured <= CAPTURED_LIMIT && HEAD + captured as usize <= bytes.len()
     }
 
     /// Reads the next record into the frame, whose memory it uses again. After any answer but `Step::Frame` the capture

@@ -86,6 +86,10 @@ impl<'a> Source for CountedSource<'a> {
         self.served.note_read();
         self.maker.read(buf)
     }
+
+    fn at_hand(&self) -> &[u8] {
+        &[]
+    }
 }
 
 // A sink that counts its writes.
@@ -110,6 +114,10 @@ impl<'a> Sink for CountedSink<'a> {
     fn write_all(&mut self, bytes: &[u8]) -> Result<(), Failed> {
         self.served.writes.fetch_add(1, Ordering::SeqCst);
         self.below.write_all(bytes)
+    }
+
+    fn flush(&mut self) -> Result<(), Failed> {
+        self.below.flush()
     }
 }
 

@@ -1,7 +1,7 @@
 // The limits of a capture, and reads that fail.
 use super::captures::{BIG, BIG_HEAD, handshake, read_bytes, read_through};
-use crate::{NextError, OpenError, Step};
-use mos_bytes::MemSource;
+use crate::{Capture, NextError, OpenError, Step};
+use mos_bytes::{MemSource, ReadSource};
 use std::alloc::{AllocError, Global};
 use std::test::Fail;
 
@@ -28,6 +28,38 @@ fn a_record_has_at_most_262144_bytes(rt: HostRuntime) -> Result<(), Fail> {
     for (captured, there, want) in cases {
         let bytes = one_record(alloc, captured, there)?;
         assert_eq!(rt; read_bytes(alloc, bytes), Ok(want), "{there} of {captured}");
+    }
+    Ok(())
+}
+
+// A record that is cut or too long isn't at hand, nor is one that a reader wasn't asked for yet.
+#[test]
+fn whole_records_are_at_hand(rt: HostRuntime) -> Result<(), Fail> {
+    let alloc = rt.alloc();
+    let cases = [
+        (0, 0, true),
+        (9, 9, true),
+        (9, 8, false),
+        (9, 40, true),
+        (262_144, 262_144, true),
+        (262_145, 262_145, false),
+    ];
+    for (captured, there, want) in cases {
+        let mut source = MemSource::new(one_record(alloc, captured, there)?, Vec::new(alloc));
+        let capture = Capture::open(&mut source)?;
+        assert_eq!(rt; capture.is_at_hand(&source), want, "{there} of {captured}");
+    }
+    let mut none = MemSource::new(BIG.to_vec(alloc)?, Vec::new(alloc));
+    assert_eq!(rt; Capture::open(&mut none)?.is_at_hand(&none), false);
+    for (captured, want) in [(9, true), (16_384, false)] {
+        let bytes = one_record(alloc, captured, captured as usize)?;
+        let mut source = ReadSource::new(bytes.as_slice());
+        let capture = Capture::open(&mut source)?;
+        assert_eq!(rt;
+            capture.is_at_hand(&source),
+            want,
+            "{captured} over a reader"
+        );
     }
     Ok(())
 }

@@ -24,4 +24,8 @@ impl Source for ShortSource {
         let most = self.most.min(buf.len());
         self.inner.read(&mut buf[..most])
     }
+
+    fn at_hand(&self) -> &[u8] {
+        self.inner.at_hand()
+    }
 }

@@ -10,8 +10,10 @@ returns-clause-bytes c =
     let count = c.copy_front-count.result in
     let items = c.self.inside.bytes.items in
     let lent = c.deref-2.result.now in
-    let all = length-take (length lent - place) (drop place lent) in
-    let bounded : count ≤ length (take (length lent - place) (drop place lent)) = omega (arith, c.copy_front-count.ensures.count) in (
-      read_front count place _ lent items _ _ c.deref-2.ensures.value (rw (← c.self.view_is) refl) bounded c.copy_front-count.ensures.copied,
-      λ none room. drop_all (place + count) items (omega (arith, c.copy_front-count.ensures.count, all, length-drop place lent, c.copy_front-count.auto.to, c.deref-2.ensures.len)),
+    let piece = (place + c.min.result) - place in
+    let given = length-take piece (drop place lent) in
+    let bounded : count ≤ length (take piece (drop place lent)) = omega (arith, c.copy_front-count.ensures.count) in (
+      read_front count place piece _ lent items _ _ c.deref-2.ensures.value (rw (← c.self.view_is) refl) bounded c.copy_front-count.ensures.copied,
+      λ none room. drop_all (place + count) items
+          (omega (arith, c.copy_front-count.ensures.count, given, length-drop place lent, c.copy_front-count.auto.to, c.deref-2.ensures.len, c.len.ensures, c.min.ensures, c.self.invariant)),
     )
