@@ -1,5 +1,5 @@
 -- One event more at the end of a run.
-use Rattle.std.proofs.Common.{◌≡◌, ℕ, zero, suc, ◌+◌, ◌<◌, ◌≤◌, Bool, true, false, Option, Some, None, List, [], ◌∷◌, ◌++◌, length, take, refl, sym, ap, subst, ◌∙◌, arith, add-zero, append_assoc, le_refl}
+use Rattle.std.proofs.Common.{◌≡◌, ◌↔◌, ℕ, zero, suc, ◌+◌, ◌<◌, ◌≤◌, Bool, true, false, Option, Some, None, List, [], ◌∷◌, ◌++◌, length, take, refl, sym, ap, subst, ◌∙◌, arith, add-zero, append_assoc, le_refl}
 use Rattle.std.specs.Prelude.{if◌then◌else◌}
 use Rattle.std.proofs.lemmas.List.{length-append}
 use Rattle.app_api.specs.App.{Meaning}
@@ -8,10 +8,10 @@ use Rattle.forest_versions.specs.declared.command.Command.{Command}
 use Rattle.forest_versions.specs.State.{ControlState, control, master}
 use Rattle.lane_core.specs.Sight.{Arrival}
 use Rattle.lane_core.specs.Records.{VersionedPacket, RecordSoFar, belongs_to, first_history, history_after, continued_by, added, records_from, first_verdict, verdict_after, verdict_on}
-use Rattle.lane_core.specs.Run.{LaneEvent, Gave, Arrived, commands_of, versioned_from, control_of, lane_run, last_number, newest_of}
+use Rattle.lane_core.specs.Run.{LaneEvent, Gave, Arrived, commands_of, versioned_from, packets_of, control_of, lane_run, last_number, newest_of}
 use Rattle.lane_core.specs.Shown.{total, weight}
 use Rattle.lane_core.specs.Lane.{IsHeavy, next_verdict, with_event}
-use Rattle.lane_core.specs.Laws.{OneEventMore, LaterCommandsChangeNone, LastPacketIsAdded}
+use Rattle.lane_core.specs.Laws.{OneEventMore, NewestIsTheLast, LaterCommandsChangeNone, LastPacketIsAdded}
 use Rattle.lane_core.proofs.Weighing.{weight_never_falls}
 
 -- ---- the events, one more at the end
@@ -35,6 +35,25 @@ pub newest-gave : (last : Option ℕ) (es : List LaneEvent) (c : Command) → la
 newest-gave last [] c = refl
 newest-gave last (Gave d ∷ es) c = newest-gave last es c
 newest-gave last (Arrived b ∷ es) c = newest-gave (Some b.number) es c
+
+-- after a packet there is a number
+newest-some : (n : ℕ) (es : List LaneEvent) → last_number (Some n) es ≡ None → ⊥
+newest-some n [] none = absurd (cc)
+newest-some n (Gave d ∷ es) none = newest-some n es none
+newest-some n (Arrived b ∷ es) none = newest-some b.number es none
+
+packets-none : (es : List LaneEvent) → newest_of es ≡ None → packets_of es ≡ []
+packets-none [] none = refl
+packets-none (Gave d ∷ es) none = packets-none es none
+packets-none (Arrived b ∷ es) none = absurd (newest-some b.number es none)
+
+newest-none : (es : List LaneEvent) → packets_of es ≡ [] → newest_of es ≡ None
+newest-none [] none = refl
+newest-none (Gave d ∷ es) none = newest-none es none
+newest-none (Arrived b ∷ es) none = absurd (cc)
+
+pub newest_none_is : (es : List LaneEvent) → (newest_of es ≡ None) ↔ (packets_of es ≡ [])
+newest_none_is es = (packets-none es, newest-none es)
 
 versioned-gave : (v : ℕ) (es : List LaneEvent) (c : Command) → versioned_from v (es ++ Gave c ∷ []) ≡ versioned_from v es
 versioned-gave v [] c = refl
@@ -173,6 +192,9 @@ one_event_more = record {
   command = λ es c. (commands-gave es c, versioned-gave 0 es c);
   packet = λ es a. (commands-arrived es a, versioned-arrived 0 es a ∙ ap (λ n. versioned_from 0 es ++ record { version = n; arrival = a } ∷ []) (let none_more : 0 + length (commands_of es) ≡ length (commands_of es) = omega arith in none_more));
 }
+
+pub newest_is_the_last : NewestIsTheLast
+newest_is_the_last = record { none = newest_none_is; packet = newest-arrived None; command = newest-gave None }
 
 pub later_commands_change_none : LaterCommandsChangeNone
 later_commands_change_none = record { records = later_records; verdicts = later_verdict }

@@ -1,6 +1,6 @@
 -- What a lane stands for, one event later.
 use Rattle.std.proofs.Common.{◌≡◌, ℕ, zero, suc, ◌+◌, ◌<◌, ◌≤◌, ◌&&◌, nat_lt, Bool, true, false, Option, Some, None, List, [], ◌∷◌, ◌++◌, length, take, Result, Ok, Err, refl, sym, ap, subst, ◌∙◌, arith}
-use Rattle.std.specs.Prelude.{OnOk, is_err}
+use Rattle.std.specs.Prelude.{◌-◌, OnOk, SomeIff, is_err}
 use Rattle.std.proofs.lemmas.List.{take_all}
 use Rattle.std.proofs.lemmas.Grind.{common_steps}
 use Rattle.app_api.specs.App.{Meaning}
@@ -36,6 +36,13 @@ on_ok_always (Err e) p = tt
 pub newest_next : (n k : ℕ) → k ≡ n + 1 → newest_by k ≡ Some n
 newest_next n zero is = absurd (omega arith)
 newest_next n (suc k) is = let same : k ≡ n = omega arith in ap Some same
+
+-- the number below this one, where there is one
+pub newest_below : (next : ℕ) (below : Option ℕ) → SomeIff below (1 ≤ next) (next - 1) → below ≡ newest_by next
+newest_below zero None is = refl
+newest_below zero (Some n) is = let some = is.0 in absurd (omega (arith, some))
+newest_below (suc k) None is = absurd (is (omega arith))
+newest_below (suc k) (Some n) is = let same : n ≡ k = omega (arith, is.1) in ap Some same
 
 dropped_once : (verdict : Verdict) (number : ℕ) → length (drops_of verdict number) ≡ length (drops_of verdict 0)
 dropped_once Pass number = refl

@@ -1,5 +1,5 @@
 -- Laws on the records of packets, in the subject's own words.
-use Rattle.std.specs.Prelude.{◌≡◌, ◌≤◌, ℕ, Bool, IsTrue, if◌then◌else◌, List, [], ◌∷◌, ◌++◌, filter, length, map}
+use Rattle.std.specs.Prelude.{◌≡◌, ◌≤◌, ◌↔◌, ℕ, Bool, IsTrue, if◌then◌else◌, Some, None, List, [], ◌∷◌, ◌++◌, filter, length, map}
 use Rattle.std.specs.List.{list_any, list_all}
 use Rattle.tcp_emulation.specs.declared.segment.Side.{Side}
 use Rattle.native_filters.specs.declared.facts.Hook.TheVariants.{Snd, Rcv}
@@ -16,7 +16,7 @@ use Rattle.forest_versions.specs.State.{ControlState, start, master, active as f
 use Rattle.connection_core.specs.History.{History, followed, orphaned}
 use Rattle.forest_versions.specs.declared.command.Command.{Command}
 use Rattle.lane_core.specs.Sight.{Segment, Sight, Tcp, Other, Arrival, key_of_segment}
-use Rattle.lane_core.specs.Run.{LaneEvent, Gave, Arrived, commands_of, versioned_from, control_of, lane_run}
+use Rattle.lane_core.specs.Run.{LaneEvent, Gave, Arrived, commands_of, packets_of, versioned_from, control_of, lane_run, newest_of}
 use Rattle.lane_core.specs.Lane.{IsHeavy, next_verdict, with_event}
 use Rattle.lane_core.specs.Shown.{record_of, weight}
 use Rattle.lane_core.specs.Records.{VersionedPacket, RecordSoFar, belongs_to, started_by, continued_by, added, verdict_on, records, orphan_raises_of}
@@ -114,6 +114,13 @@ pub record OneEventMore : Type 0 where
       × (versioned_from 0 (with_event (Gave c) events) ≡ versioned_from 0 events)
   pub packet : (events : List LaneEvent) (a : Arrival) → (commands_of (with_event (Arrived a) events) ≡ commands_of events)
       × (versioned_from 0 (with_event (Arrived a) events) ≡ versioned_from 0 events ++ record { version = length (commands_of events); arrival = a } ∷ [])
+
+-- The number of a run's last packet: none exactly where the run has no packet; a packet's own once that packet comes, whatever
+-- came before; and one command more changes nothing.
+pub record NewestIsTheLast : Type 0 where
+  pub none : (events : List LaneEvent) → (newest_of events ≡ None) ↔ (packets_of events ≡ [])
+  pub packet : (events : List LaneEvent) (a : Arrival) → newest_of (with_event (Arrived a) events) ≡ Some a.number
+  pub command : (events : List LaneEvent) (c : Command) → newest_of (with_event (Gave c) events) ≡ newest_of events
 
 -- Commands behind those of a run change neither its records nor what becomes of one more packet.
 pub record LaterCommandsChangeNone : Type 0 where

@@ -17,7 +17,13 @@ commands_of [] = []
 commands_of (Gave c ∷ events) = c ∷ commands_of events
 commands_of (Arrived a ∷ events) = commands_of events
 
--- the packets among them, each with the number of commands before it; v stand before all
+-- the packets among them
+abbrev pub packets_of : List LaneEvent → List Arrival
+packets_of [] = []
+packets_of (Gave c ∷ events) = packets_of events
+packets_of (Arrived a ∷ events) = a ∷ packets_of events
+
+-- the same, each with the number of commands before it; v stand before all
 abbrev pub versioned_from : ℕ → List LaneEvent → List VersionedPacket
 versioned_from v [] = []
 versioned_from v (Gave c ∷ events) = versioned_from (v + 1) events
@@ -31,7 +37,7 @@ control_of app events = master app.presets (commands_of events)
 unfoldable pub lane_run : Meaning → List LaneEvent → List RecordSoFar
 lane_run app events = records app (control_of app events) (versioned_from 0 events)
 
--- the number of the last packet
+-- the number of the last packet; `last` where there is none
 abbrev pub last_number : Option ℕ → List LaneEvent → Option ℕ
 last_number last [] = last
 last_number last (Gave c ∷ events) = last_number last events

@@ -1,6 +1,6 @@
 //! Commands, as the open connections of a lane live through them.
 
-ghost use Rattle.std.specs.Prelude.{◌≡◌, ◌+◌, ◌<◌, ◌≤◌, ◌++◌, ◌∷◌, [], ℕ, List, OnOk, IsTrue};
+ghost use Rattle.std.specs.Prelude.{◌≡◌, ◌+◌, ◌<◌, ◌≤◌, ◌++◌, ◌∷◌, [], ℕ, List, OnOk, OnErr, IsTrue};
 ghost use Rattle.app_api.specs.declared.registration.Reg.{Reg as RegOf};
 ghost use Rattle.shared_forest.specs.Lists.{TreeLists};
 ghost use Rattle.shared_forest.specs.Listing.{listing};
@@ -19,7 +19,7 @@ use forest_versions::{Command, Master};
 use shared_forest::Forests;
 use std::alloc::{AllocError, Global};
 
-/// Gives a command. What earlier versions registered is called by the same trees as before.
+/// Gives a command. What earlier versions registered is called by the same trees as before. An error changes nothing.
 pub(crate) fn give_to<F: Forests>(
     alloc: Global,
     master: &mut Master,
@@ -40,6 +40,8 @@ pub(crate) fn give_to<F: Forests>(
     ensures counted { CountsAtMost (F.interns forests.old) (F.interns forests.new) }
     ensures trees { (v : ℕ) (tree : TreeLists) → v ≤ master.old.version → IsTree master.old v tree → IsTree master.new v tree }
     ensures lists { (v : ℕ) (tree : TreeLists) → v ≤ master.old.version → IsTree master.old v tree → active_in (told_at master.new v) tree ≡ active_in (told_at master.old v) tree }
+    ensures unchanged { OnErr result (master.new ≡ master.old) }
+    ensures store_unchanged { OnErr result (forests.new ≡ forests.old) }
 {
     master.tells_the_present();
     master.tells_each_version();

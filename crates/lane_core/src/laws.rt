@@ -1,6 +1,6 @@
 //! Laws on the records of packets: what the definition of records says in other words.
 
-ghost use Rattle.lane_core.specs.Laws.{RecordsGrow, RecordsByKey, PresetsAreCalled, RecordsAreTidy, WeightNeverFalls, PacketIsAdded, CommandChangesNone, HeavyStays, OneEventMore, LaterCommandsChangeNone, LastPacketIsAdded};
+ghost use Rattle.lane_core.specs.Laws.{RecordsGrow, RecordsByKey, PresetsAreCalled, RecordsAreTidy, WeightNeverFalls, PacketIsAdded, CommandChangesNone, HeavyStays, OneEventMore, NewestIsTheLast, LaterCommandsChangeNone, LastPacketIsAdded};
 
 /// Each packet that no open connection takes begins a record, and a record takes each later packet of its key while it is
 /// open: the definition by one record at a time.
@@ -49,6 +49,11 @@ pub fn heavy_stays()
 /// One event more at the end of a run: its commands, and its packets with their versions.
 pub fn one_event_more()
     ensures { OneEventMore }
+{}
+
+/// The newest number of a run is that of its last packet, and there is none exactly where the run has no packet.
+pub fn newest_is_the_last()
+    ensures { NewestIsTheLast }
 {}
 
 /// Commands behind those of a run change neither its records nor what becomes of one more packet.

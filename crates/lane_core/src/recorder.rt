@@ -1,12 +1,12 @@
 //! What a lane promises.
 
-ghost use Rattle.std.specs.Prelude.{◌≡◌, ◌≢◌, ◌+◌, ◌<◌, ◌↔◌, OnOk, IfOk, IfErr, IsTrue, Err, Some, None, true};
+ghost use Rattle.std.specs.Prelude.{◌≡◌, ◌≢◌, ◌+◌, ◌<◌, ◌↔◌, [], OnOk, OnErr, IfOk, IfErr, IsTrue, Err, Some, None, true};
 ghost use Rattle.forest_versions.specs.Lawful.{is_lawful};
 ghost use Rattle.forest_versions.specs.State.{after};
 ghost use Rattle.connection_core.specs.Trees.{InternsWithin};
 ghost use Rattle.shared_forest.specs.Store.{CountsAtMost};
 ghost use Rattle.lane_core.specs.Sight.{arrival_of};
-ghost use Rattle.lane_core.specs.Run.{Gave, Arrived, lane_run};
+ghost use Rattle.lane_core.specs.Run.{Gave, Arrived, lane_run, newest_of, packets_of};
 ghost use Rattle.lane_core.specs.Shown.{alterations};
 ghost use Rattle.lane_core.specs.Lane.{IsEnd, IsHeavy, IsAfter, next_verdict, with_event};
 
@@ -55,7 +55,8 @@ pub trait Recorder {
 
     /// One more command, which may be given now. Records that begin later live under it.
     ///
-    /// An error is want of memory, or that for which the lane failed before.
+    /// An error is want of memory, or that for which the lane failed before. What is in force, the commands so far and the
+    /// store's interns are then as before.
     fn command(&mut self, alloc: Global, c: &Command) -> Result<(), LaneError>
         requires lawful { IsTrue (is_lawful (Self.control self.old) c.now) }
         requires few { Self.given self.old < 4096 }
@@ -66,10 +67,13 @@ pub trait Recorder {
         ensures no_memory { Self.failed self.old ≡ None → IfErr result (λ e. e ≡ Error.NoMemory) }
         ensures control { OnOk result (Self.control self.new ≡ after (Self.control self.old) c.now) }
         ensures version { OnOk result (Self.given self.new ≡ Self.given self.old + 1) }
+        ensures control_stays { OnErr result (Self.control self.new ≡ Self.control self.old) }
+        ensures version_stays { OnErr result (Self.given self.new ≡ Self.given self.old) }
         ensures newest { Self.last self.new ≡ Self.last self.old }
         ensures app { Self.app self.new ≡ Self.app self.old }
         ensures keeps { Self.keeps self.new ≡ Self.keeps self.old }
-        ensures interned { CountsAtMost (Self.interns self.old) (Self.interns self.new) };
+        ensures interned { CountsAtMost (Self.interns self.old) (Self.interns self.new) }
+        ensures interns_stay { OnErr result (Self.interns self.new ≡ Self.interns self.old) };
 
     /// One more packet, of a number above all before. Answers what becomes of it.
     ///
@@ -95,6 +99,8 @@ pub trait Recorder {
             → IsHeavy (Self.app self.old) (with_event (Arrived (arrival_of number frame.now)) events)) }
         ensures interned { OnOk result ((events : List LaneEvent) → Self.stands self.old events → InternsWithin (Self.interns self.old) (Self.interns self.new)
             (alterations (lane_run (Self.app self.old) events)) (alterations (lane_run (Self.app self.old) (with_event (Arrived (arrival_of number frame.now)) events)))) }
+        ensures interned_heavy { Self.failed self.old ≡ None → result ≡ Err Error.Heavy → (events : List LaneEvent) → Self.stands self.old events → InternsWithin (Self.interns self.old) (Self.interns self.new)
+            (alterations (lane_run (Self.app self.old) events)) (alterations (lane_run (Self.app self.old) (with_event (Arrived (arrival_of number frame.now)) events))) }
         ensures newest { Self.failed self.old ≡ None → Self.last self.new ≡ Some number }
         ensures version { Self.given self.new ≡ Self.given self.old }
         ensures control { Self.control self.new ≡ Self.control self.old }
@@ -105,9 +111,12 @@ pub trait Recorder {
     fn version(&self) -> u32
         ensures { result ≡ Self.given self.now };
 
-    /// The number of the last packet, that at which it failed included; `None` before the first.
+    /// The number of the last packet of the list for which it stands, that at which it failed included; `None` exactly where
+    /// that list has no packet.
     fn newest(&self) -> Option<u64>
-        ensures { result ≡ Self.last self.now };
+        ensures last { result ≡ Self.last self.now }
+        ensures of_list { (events : List LaneEvent) → Self.stands self.now events → result ≡ newest_of events }
+        ensures none { (events : List LaneEvent) → Self.stands self.now events → (result ≡ None) ↔ (packets_of events ≡ []) };
 
     /// What is in force now, for a record that begins.
     fn in_force(&self) -> &Control

@@ -14,10 +14,11 @@ abbrev pub IsLonger : Option (List ℕ) → ℕ → Type 0
 IsLonger None limit = ⊤
 IsLonger (Some content) limit = limit < length content
 
--- more bytes than the limit were consumed
-pub record ReadsOver (old new : Option (List ℕ)) (limit : ℕ) : Type 0 where
+-- so many bytes were consumed, and they are more than the limit
+pub record ReadsOver (old new : Option (List ℕ)) (limit count : ℕ) : Type 0 where
   pub bytes : List ℕ
   pub consumed : Consumes old new bytes
+  pub counted : length bytes ≡ count
   pub over : limit < length bytes
 
 -- the content beside the first name that is this one

@@ -88,7 +88,7 @@ pub(crate) fn read_whole<S: Source>(
 ) -> Result<Vec<u8>, FetchError>
     ensures whole { IfOk result (λ bytes. Consumes (S.left source.old) (S.left source.new) bytes.items × IsAtEnd (S.left source.new)) }
     ensures within { IfOk result (λ bytes. length bytes.items ≤ limit) }
-    ensures too_long { result ≡ Err FetchError.TooLong → ReadsOver (S.left source.old) (S.left source.new) limit }
+    ensures too_long { result ≡ Err FetchError.TooLong → ReadsOver (S.left source.old) (S.left source.new) limit came.new }
     ensures over { result ≡ Err FetchError.TooLong → limit < came.new }
     ensures came { IfOk result (λ bytes. came.new ≡ length bytes.items) }
     ensures cause { HasCauseOf (S.faults source.old) (S.faults source.new) (IsErrOf result FetchError.Failed) }

@@ -1,6 +1,6 @@
 //! What a packet or a command does to a lane that hasn't failed.
 
-ghost use Rattle.std.specs.Prelude.{◌≡◌, ◌+◌, ◌*◌, ◌<◌, ◌≤◌, ◌&&◌, nat_lt, ℕ, List, [], ◌∷◌, ◌++◌, length, OnOk, IfOk, IsTrue, None, true};
+ghost use Rattle.std.specs.Prelude.{◌≡◌, ◌+◌, ◌*◌, ◌<◌, ◌≤◌, ◌&&◌, nat_lt, ℕ, List, [], ◌∷◌, ◌++◌, length, OnOk, OnErr, IfOk, IsTrue, None, true};
 ghost use Rattle.std.specs.Option.{option_copied};
 ghost use Rattle.flow_table.specs.Table.{found};
 ghost use Rattle.app_api.specs.declared.registration.Reg.{Reg as RegOf};
@@ -278,7 +278,7 @@ impl<A: App + Drop, F: Forests + Drop> Lane<A, F> {
         self.world.keep && weight > WEIGHT
     }
 
-    /// One more command.
+    /// One more command. An error leaves what is in force and the store as they were.
     pub(crate) fn give(&mut self, alloc: Global, c: &Command) -> Result<(), AllocError>
         requires lawful { IsTrue (is_lawful self.old.world.master.now c.now) }
         requires below { self.old.world.master.version < 4096 }
@@ -292,6 +292,8 @@ impl<A: App + Drop, F: Forests + Drop> Lane<A, F> {
         ensures keep { self.new.world.keep ≡ self.old.world.keep }
         ensures same { self.new.kept ≡ self.old.kept }
         ensures interned { CountsAtMost (F.interns self.old.forests) (F.interns self.new.forests) }
+        ensures world_stays { OnErr result (self.new.world ≡ self.old.world) }
+        ensures forests_stay { OnErr result (self.new.forests ≡ self.old.forests) }
         ensures next { self.new.next ≡ self.old.next }
         ensures failed { self.new.failed ≡ self.old.failed }
     {

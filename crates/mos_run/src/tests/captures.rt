@@ -165,6 +165,11 @@ pub fn handshake(alloc: Global) -> Result<Vec<u8>, AllocError> {
     capture(alloc, &BIG, &[&SYN, &SYN_ACK, &ACK], &[])
 }
 
+// A handshake, and four bytes from the client.
+pub fn exchange(alloc: Global) -> Result<Vec<u8>, AllocError> {
+    capture(alloc, &BIG, &[&SYN, &SYN_ACK, &ACK, &DATA], &[])
+}
+
 // A header, and so many records without data, whose heads are zero.
 pub fn empty_records(alloc: Global, count: usize) -> Result<Vec<u8>, AllocError> {
     let mut bytes = BIG.header.to_vec(alloc)?;

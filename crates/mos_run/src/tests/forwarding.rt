@@ -1,6 +1,7 @@
-//! Forward runs of several workers: what leaves, and how much is on its way.
+//! Forward runs: what leaves, and how much is on its way where several workers run.
 
-use super::captures::{ACK, BIG, DATA, SYN, SYN_ACK, capture};
+use super::captures::{ACK, BIG, DATA, LITTLE, SYN, SYN_ACK, capture};
+use super::scripts::SCRIPTS;
 use super::{run_asked, shelf, sink, undisturbed, words_of};
 use crate::{OpenGate, run_mos};
 use capture_maker::Maker;
@@ -12,6 +13,34 @@ use native_filters::{
 use std::alloc::{AllocError, Global};
 use std::sync::atomic::{AtomicU64, Ordering};
 use std::test::Fail;
+
+// The packets that pass, as they were read, without the tail; or a front of them.
+#[test]
+fn forwards(rt: HostRuntime) -> Result<(), Fail> {
+    let alloc = rt.alloc();
+    let frames: [&[u8]; 4] = [&SYN, &SYN_ACK, &ACK, &DATA];
+    let whole = capture(alloc, &LITTLE, &frames, &[1, 2, 3])?;
+    let rows: [(&str, usize); 6] = [
+        ("--emit forward", 308),
+        ("--emit forward --script drop", 234),
+        ("--emit forward --app firewall", 24),
+        ("--emit forward --workers 2", 308),
+        ("--emit forward --script drop --workers 16", 234),
+        ("--emit forward --app firewall --workers 3", 24),
+    ];
+    for (words, len) in rows {
+        let bytes = whole.as_slice().to_vec(alloc)?;
+        let run = run_asked(&rt, alloc, bytes, &undisturbed(words, &SCRIPTS))?;
+        assert_eq!(rt; run.ended.status, 0, "{words}");
+        assert_eq!(rt; Some(run.out.bytes()), whole.get(..len), "{words}");
+    }
+    let mut half = undisturbed("--emit forward", &[]);
+    half.write = 1;
+    let run = run_asked(&rt, alloc, whole.as_slice().to_vec(alloc)?, &half)?;
+    assert_eq!(rt; run.ended.status, 5);
+    assert_eq!(rt; Some(run.out.bytes()), whole.get(..32));
+    Ok(())
+}
 
 // A client's packets with those of another one between them, which go to other lanes where there are enough.
 fn two_clients(alloc: Global) -> Result<Vec<u8>, AllocError> {

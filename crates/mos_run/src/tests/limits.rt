@@ -1,6 +1,6 @@
-//! The limits of a run: the length of a script, and what the callbacks of a report may weigh.
+//! The limits of a run: of a script, and of what the callbacks of a report may weigh.
 
-use super::captures::{ACK, BIG, SYN, SYN_ACK, capture, padded, segment};
+use super::captures::{ACK, BIG, SYN, SYN_ACK, capture, handshake, padded, segment};
 use super::{run_asked, undisturbed};
 use std::alloc::{AllocError, Global};
 use std::test::Fail;
@@ -19,6 +19,56 @@ fn a_script_has_262144_bytes_at_most(rt: HostRuntime) -> Result<(), Fail> {
         let run = run_asked(&rt, alloc, bytes, &undisturbed("--script long", &scripts))?;
         assert_eq!(rt; run.ended.status, status, "{len} bytes");
         assert_eq!(rt; run.err.bytes(), text, "{len} bytes");
+    }
+    Ok(())
+}
+
+// A comment, and so many commands, one in each line.
+fn commands(alloc: Global, count: usize) -> Result<Vec<u8>, AllocError> {
+    let mut script = b"# limits\n".to_vec(alloc)?;
+    for _ in 0..count {
+        script.extend_from_slice(b"rbuf 1\n")?;
+    }
+    Ok(script)
+}
+
+// A command, and an event whose filter stands in so many parentheses.
+fn parentheses(alloc: Global, depth: usize) -> Result<Vec<u8>, AllocError> {
+    let mut script = b"rbuf 1\nevent 1 under pkt_in ".to_vec(alloc)?;
+    script.extend_from_slice(&vec![in alloc; b'('; depth]?)?;
+    script.extend_from_slice(b"true")?;
+    script.extend_from_slice(&vec![in alloc; b')'; depth]?)?;
+    Ok(script)
+}
+
+#[test]
+fn a_script_has_4096_commands_and_filters_nested_32_deep_at_most(
+    rt: HostRuntime,
+) -> Result<(), Fail> {
+    let alloc = rt.alloc();
+    let rows: [(Vec<u8>, u8, &[u8], &[u32]); 4] = [
+        (commands(alloc, 4096)?, 0, b"", &[4096]),
+        (
+            commands(alloc, 4097)?,
+            2,
+            b"mos: script: line 4098: TooMany\n",
+            &[],
+        ),
+        (parentheses(alloc, 32)?, 0, b"", &[2]),
+        (
+            parentheses(alloc, 33)?,
+            2,
+            b"mos: script: line 2: TooDeep\n",
+            &[],
+        ),
+    ];
+    for (script, status, text, versions) in rows {
+        let scripts = [("limits", script.as_slice())];
+        let asked = undisturbed("--script limits", &scripts);
+        let run = run_asked(&rt, alloc, handshake(alloc)?, &asked)?;
+        assert_eq!(rt; run.err.bytes(), text);
+        assert_eq!(rt; run.ended.status, status);
+        assert_eq!(rt; run.ended.versions.as_slice(), versions);
     }
     Ok(())
 }

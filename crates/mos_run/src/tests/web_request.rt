@@ -1,7 +1,9 @@
-//! A web request as flow accounting tells it: whole, and where its second line can't be written.
+//! A web request as flow accounting tells it: whole, in pieces, and where its second line can't be written.
 
 use super::captures::{ACK, BIG, SYN, SYN_ACK, capture, padded};
-use super::{run_asked, undisturbed};
+use super::{run_asked, run_plain, shelf, sink, undisturbed, words_of};
+use crate::OpenGate;
+use mos_bytes::MemSource;
 use std::alloc::{AllocError, Global};
 use std::test::Fail;
 
@@ -70,6 +72,32 @@ fn accounts_of_a_web_request(rt: HostRuntime) -> Result<(), Fail> {
     )?;
     assert_eq!(rt; run.out.bytes(), ACCOUNTS);
     assert_eq!(rt; run.ended.status, 0);
+    Ok(())
+}
+
+// A read gives 1 byte, 7 or 4,096 at most.
+#[test]
+fn accounts_of_a_web_request_in_pieces(rt: HostRuntime) -> Result<(), Fail> {
+    let alloc = rt.alloc();
+    let words = words_of(alloc, "--app acct")?;
+    for piece in [1, 7, 4096] {
+        let mut source = MemSource::new(web_request(alloc)?, Vec::new(alloc)).cut(piece);
+        let mut shelf = shelf(alloc, &[], u64::MAX)?;
+        let mut out = sink(alloc, 1024, u64::MAX)?;
+        let mut err = sink(alloc, 160, 9)?;
+        let ended = run_plain(
+            &rt,
+            alloc,
+            &words,
+            &mut source,
+            &mut shelf,
+            &mut out,
+            &mut err,
+            &OpenGate,
+        );
+        assert_eq!(rt; ended.status, 0, "{piece}");
+        assert_eq!(rt; out.bytes(), ACCOUNTS, "{piece}");
+    }
     Ok(())
 }
 

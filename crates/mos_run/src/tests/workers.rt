@@ -1,9 +1,12 @@
 //! Runs of several workers: the text of one, where no command is live; else the text under the versions that are answered.
 
-use super::captures::{BIG, SYN, capture};
+use super::captures::{ACK, ARP, BIG, SYN, SYN_ACK, capture, handshake};
 use super::web_request::{ACCOUNTS, web_request};
-use super::{run_asked, undisturbed};
+use super::{Finished, HANDSHAKE, run_asked, undisturbed};
+use std::alloc::{AllocError, Global};
+use std::sync::Wait;
 use std::test::Fail;
+use std::thread::Threads;
 
 #[test]
 fn accounts_by_five_workers(rt: HostRuntime) -> Result<(), Fail> {
@@ -87,6 +90,118 @@ fn a_live_command_by_two_workers(rt: HostRuntime) -> Result<(), Fail> {
     } else {
         assert_eq!(rt; run.ended.versions.as_slice(), [1, 2].as_slice());
         assert_eq!(rt; run.out.bytes(), ONCE_IT_CAME);
+    }
+    Ok(())
+}
+
+// No command is live, so each packet has one version.
+const SCRIPTS: [(&str, &[u8]); 2] = [
+    ("later", b"at 10 reg 16 start snd\n"),
+    (
+        "rules",
+        b"rule 10 deny 10.0.0.0/8 any 23\nrule 20 allow any any any\n",
+    ),
+];
+
+const FROM_PACKET_10: &[u8] = b"orphan 0 other v 0\n\
+    cb 0 snd orphan 3\n\
+    orphan 1 other v 0\n\
+    cb 1 snd orphan 3\n\
+    orphan 2 other v 0\n\
+    cb 2 snd orphan 3\n\
+    orphan 3 other v 0\n\
+    cb 3 snd orphan 3\n\
+    orphan 4 other v 0\n\
+    cb 4 snd orphan 3\n\
+    orphan 5 other v 0\n\
+    cb 5 snd orphan 3\n\
+    orphan 6 other v 0\n\
+    cb 6 snd orphan 3\n\
+    orphan 7 other v 0\n\
+    cb 7 snd orphan 3\n\
+    orphan 8 other v 0\n\
+    cb 8 snd orphan 3\n\
+    conn 9 10.0.0.1:1000 > 10.0.0.2:80 v 0\n\
+    cb 9 snd pkt_in 1\n\
+    cb 9 rcv pkt_in 2\n\
+    conn 10 10.0.0.1:1001 > 10.0.0.2:80 v 1\n\
+    cb 10 snd start 16\n\
+    cb 10 snd pkt_in 1\n\
+    cb 10 rcv pkt_in 2\n\
+    end packets 11 records 11 callbacks 14 drops 0 tail 0\n";
+
+const RULED: &[u8] = b"conn 0 10.0.0.1:1000 > 10.0.0.2:23 v 2\n\
+    cb 0 snd pkt_in 1\n\
+    cb 1 snd pkt_in 1\n\
+    drop 0 rule 10\n\
+    drop 1 rule 10\n\
+    field passed 0\n\
+    field dropped 2\n\
+    field rule 10\n\
+    conn 2 10.0.0.1:1001 > 10.0.0.2:80 v 2\n\
+    cb 2 snd pkt_in 1\n\
+    cb 2 rcv pkt_in 2\n\
+    field passed 1\n\
+    field dropped 0\n\
+    field rule 20\n\
+    end packets 3 records 2 callbacks 4 drops 2 tail 0\n";
+
+// A run of so many workers over these bytes.
+fn run_by<R: Threads + Wait + Sync + Send + Copy + Drop + 'static>(
+    rt: &R,
+    alloc: Global,
+    workers: u8,
+    words: &str,
+    bytes: &[u8],
+) -> Result<Finished, AllocError> {
+    let words = format!(in alloc; "--workers {workers} {words}")?;
+    let bytes = bytes.to_vec(alloc)?;
+    run_asked(rt, alloc, bytes, &undisturbed(&words, &SCRIPTS))
+}
+
+// Nine frames without a key, and SYNs from two ports.
+fn keyless_and_two_openings(alloc: Global) -> Result<Vec<u8>, AllocError> {
+    let mut other = SYN;
+    other[35] = 0xe9;
+    let mut frames: [&[u8]; 11] = [&ARP; 11];
+    frames[9] = &SYN;
+    frames[10] = &other;
+    capture(alloc, &BIG, &frames, &[])
+}
+
+// Of two SYNs to port 23 and one to port 80 the last is allowed; and a handshake is forwarded without the bytes behind it.
+#[test]
+fn one_output_by_1_2_and_16_workers(rt: HostRuntime) -> Result<(), Fail> {
+    let alloc = rt.alloc();
+    let mut denied = SYN;
+    denied[37] = 23;
+    let mut allowed = SYN;
+    allowed[35] = 0xe9;
+    let three = capture(alloc, &BIG, &[&denied, &denied, &allowed], &[])?;
+    let third = capture(alloc, &BIG, &[&allowed], &[])?;
+    let keyless = keyless_and_two_openings(alloc)?;
+    let hello = handshake(alloc)?;
+    let with_tail = capture(alloc, &BIG, &[&SYN, &SYN_ACK, &ACK], &[0, 1, 2, 3, 4, 5, 6])?;
+    let rows: [(&str, &[u8], &[u8]); 5] = [
+        ("--app log", &hello, HANDSHAKE),
+        ("--script later", &keyless, FROM_PACKET_10),
+        ("--app firewall --script rules", &three, RULED),
+        (
+            "--app firewall --script rules --emit forward",
+            &three,
+            &third,
+        ),
+        ("--emit forward", &with_tail, &hello),
+    ];
+    for (words, bytes, want) in rows {
+        let one = run_by(&rt, alloc, 1, words, bytes)?;
+        let two = run_by(&rt, alloc, 2, words, bytes)?;
+        let sixteen = run_by(&rt, alloc, 16, words, bytes)?;
+        let statuses = (one.ended.status, two.ended.status, sixteen.ended.status);
+        assert_eq!(rt; statuses, (0, 0, 0), "{words}");
+        assert_eq!(rt; one.out.bytes(), want, "{words}");
+        assert_eq!(rt; two.out.bytes(), want, "{words}");
+        assert_eq!(rt; sixteen.out.bytes(), want, "{words}");
     }
     Ok(())
 }

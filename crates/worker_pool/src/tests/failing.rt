@@ -7,7 +7,7 @@ use native_filters::NativeBook;
 use pcap_source::Frame;
 use std::alloc::Global;
 
-/// Is the inner lane up to the packet of a number, and fails there.
+/// Is the inner lane up to the packet of a number. This packet it still takes, and has failed from then on.
 #[derive(Drop)]
 pub struct Failing<L: Recorder + Drop> {
     pub inner: L,
@@ -16,10 +16,10 @@ pub struct Failing<L: Recorder + Drop> {
 }
 
 impl<L: Recorder + Drop> Recorder for Failing<L> {
-    ghost use Rattle.std.specs.Prelude.{◌≡◌, Some, false, if◌then◌else◌};
+    ghost use Rattle.std.specs.Prelude.{Some, if◌then◌else◌};
     ghost use Rattle.lane_core.specs.declared.errors.LaneError.TheVariants.{NoMemory};
 
-    ghost stands = { λ s events. s.has_failed ≡ false → L.stands s.inner events };
+    ghost stands = { λ s events. L.stands s.inner events };
 
     ghost app = { λ s. L.app s.inner };
 
@@ -29,7 +29,7 @@ impl<L: Recorder + Drop> Recorder for Failing<L> {
 
     ghost given = { λ s. L.given s.inner };
 
-    ghost last = { λ s. if s.has_failed then Some s.at else L.last s.inner };
+    ghost last = { λ s. L.last s.inner };
 
     ghost failed = { λ s. if s.has_failed then Some NoMemory else L.failed s.inner };
 
@@ -53,6 +53,7 @@ impl<L: Recorder + Drop> Recorder for Failing<L> {
             return Err(LaneError::NoMemory);
         }
         if number == self.at && !self.inner.has_failed() {
+            let _taken = self.inner.packet(alloc, number, frame, natives);
             self.has_failed = true;
             return Err(LaneError::NoMemory);
         }
@@ -64,11 +65,7 @@ impl<L: Recorder + Drop> Recorder for Failing<L> {
     }
 
     fn newest(&self) -> Option<u64> {
-        if self.has_failed {
-            Some(self.at)
-        } else {
-            self.inner.newest()
-        }
+        self.inner.newest()
     }
 
     fn in_force(&self) -> &Control {

@@ -13,5 +13,6 @@ returns-then-count-limit-clause-too_long g c = λ told.
     record {
       bytes = kept ++ front;
       consumed = Consumes-trans _ _ _ _ _ c.loop-bytes.invariant.consumed came.consumed;
+      counted = omega (arith, length-append kept front, length-take-le count c.fill.new.buf came.within, c.len.ensures);
       over = omega (arith, length-append kept front, length-take-le count c.fill.new.buf came.within, c.len.ensures, c.if-count-limit.true, c.loop-bytes.invariant.within);
     }

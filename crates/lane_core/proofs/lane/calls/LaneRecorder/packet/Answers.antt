@@ -47,6 +47,18 @@ returns-then-is_heavy-clause-heavy g c = λ good is.
           (g.F.ForestView.interns new.forests) c.in-Ok.verdict run c.in-Ok.ensures.stands over,
     )
 
+pub returns-then-is_heavy-clause-interned_heavy : goal.returns-then-is_heavy-clause-interned_heavy
+returns-then-is_heavy-clause-interned_heavy g c = λ good is events r.
+    let self = c.args.self.now in
+    let new = c.take.new.self in
+    let app = g.A.App.meaning self.world.app in
+    let a = arrival_of c.args.number c.args.frame.now in
+    let run : IsRun app self.world.keep self.world.master (g.F.ForestView.content self.forests) self.kept self.next None events =
+    subst (λ f. IsRun app self.world.keep self.world.master (g.F.ForestView.content self.forests) self.kept self.next f events) good r in
+    subst (λ rs. InternsWithin (g.F.ForestView.interns self.forests) (g.F.ForestView.interns new.forests) (alterations (lane_run app events)) (alterations rs)) (sym (packet_is_added app events a))
+    (run_added app self.world.keep self.world.master (g.F.ForestView.content self.forests) (g.F.ForestView.content new.forests) self.kept new.kept self.next events a (g.F.ForestView.interns self.forests)
+    (g.F.ForestView.interns new.forests) c.in-Ok.verdict run c.in-Ok.ensures.stands).interned
+
 pub returns-clause-stands : goal.returns-clause-stands
 returns-clause-stands g c = λ good events r.
     let self = c.args.self.now in
