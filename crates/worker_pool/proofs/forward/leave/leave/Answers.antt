@@ -7,7 +7,7 @@ use Rattle.worker_pool.specs.Team.{HaveServed}
 use Rattle.worker_pool.specs.Ending.{CameTo}
 use Rattle.worker_pool.specs.Streamed.{StopsAs, lane_at, taken_from}
 use Rattle.worker_pool.specs.Explained.{AreGood, LeavesFront, LeavesAll}
-use Rattle.worker_pool.proofs.Exits.{never_too_heavy, are_beside, refused_as, leaves_now, cut_before, cut_at, stopped_at, over_at}
+use Rattle.worker_pool.proofs.Exits.{came_after, never_too_heavy, are_beside, refused_as, leaves_now, cut_before, cut_at, stopped_at, over_at}
 use Rattle.worker_pool.proofs.forward.leave.leave.Goals as goal
 
 pub drain-requires : goal.drain-requires
