@@ -6,7 +6,8 @@ ghost use Rattle.app_api.specs.App.{is_field_name};
 
 use crate::record::{Record, RecordKind, Totals};
 use crate::words::{
-    class_name, hook_name, push_endpoint, push_event, push_name, push_reason, push_seen,
+    class_name, hook_word, push_endpoint, push_event, push_labelled, push_name, push_reason,
+    push_seen,
 };
 use app_api::{Entry, Reason};
 use std::alloc::{AllocError, Global};
@@ -17,14 +18,16 @@ fn push_kind(line: &mut String, name: u64, kind: &RecordKind) -> Result<(), Allo
 {
     match kind {
         RecordKind::Conn { client, server } => {
-            write!(line, "conn {name} ")?;
+            push_labelled(line, "conn ", name)?;
+            line.push(' ')?;
             push_endpoint(line, client)?;
             line.push_str(" > ")?;
             push_endpoint(line, server)
         }
         RecordKind::Orphan { class } => {
-            let class = class_name(*class);
-            write!(line, "orphan {name} {class}")
+            push_labelled(line, "orphan ", name)?;
+            line.push(' ')?;
+            line.push_str(class_name(*class))
         }
     }
 }
@@ -34,8 +37,8 @@ pub(crate) fn push_first_line(line: &mut String, of: &Record) -> Result<(), Allo
     ensures { OnOk result (string_bytes line.new ≡ string_bytes line.old ++ first_line of.now) }
 {
     push_kind(line, of.name, &of.kind)?;
-    let version = of.version;
-    writeln!(line, " v {version}")
+    push_labelled(line, " v ", u64::from(of.version))?;
+    line.push('\n')
 }
 
 #[tactic(auto, unfolding(crate::specs::Lines::callback_line))]
@@ -46,23 +49,22 @@ pub(crate) fn push_callback(
 ) -> Result<(), AllocError>
     ensures { OnOk result (string_bytes line.new ≡ string_bytes line.old ++ callback_line entry.now) }
 {
-    let index = entry.index;
-    let hook = hook_name(entry.hook);
-    let reg = entry.reg;
-    write!(line, "cb {index} {hook} ")?;
+    push_labelled(line, "cb ", entry.index)?;
+    line.push_str(hook_word(entry.hook))?;
     push_event(line, entry.event)?;
-    write!(line, " {reg}")?;
+    push_labelled(line, " ", u64::from(entry.reg))?;
     push_seen(alloc, line, &entry.seen)?;
-    line.push_str("\n")
+    line.push('\n')
 }
 
 #[tactic(auto, unfolding(crate::specs::Lines::drop_line))]
 pub(crate) fn push_drop(line: &mut String, index: u64, reason: Reason) -> Result<(), AllocError>
     ensures { OnOk result (string_bytes line.new ≡ string_bytes line.old ++ drop_line (index, reason)) }
 {
-    write!(line, "drop {index} ")?;
+    push_labelled(line, "drop ", index)?;
+    line.push(' ')?;
     push_reason(line, reason)?;
-    line.push_str("\n")
+    line.push('\n')
 }
 
 #[tactic(auto, unfolding(crate::specs::Lines::field_line))]
@@ -72,7 +74,8 @@ pub(crate) fn push_field(line: &mut String, name: &[u8], value: u64) -> Result<(
 {
     line.push_str("field ")?;
     push_name(line, name)?;
-    writeln!(line, " {value}")
+    push_labelled(line, " ", value)?;
+    line.push('\n')
 }
 
 #[tactic(auto, unfolding(crate::specs::Lines::totals_line))]

@@ -1,18 +1,47 @@
 //! The parts of a line: names of classes, hooks and events, endpoints, and what a callback saw.
 
-ghost use Rattle.std.specs.Prelude.{◌≡◌, ◌==◌, ◌++◌, IfSome, IfNone, IsTrue, is_some, OnOk, string_bytes};
+ghost use Rattle.std.specs.Prelude.{◌≡◌, ◌==◌, ◌++◌, codes, IfSome, IfNone, IsTrue, is_some, OnOk, string_bytes};
 ghost use Rattle.std.specs.Fmt.{decimal};
+ghost use Rattle.std.specs.Net.Text.{ipv4_text};
 ghost use Rattle.std.specs.List.{list_any};
 ghost use Rattle.report_text.specs.Words.{class_text, hook_text, event_names, event_text, groups_of, groups_text, v6_text, endpoint_text, bytes_text, piece_text, pieces_text, seen_text, reason_text};
 ghost use Rattle.app_api.specs.App.{is_field_name};
 
 use app_api::{Bytes, Reason, Seen};
 use flow_table::Endpoint;
+use itoa::Buffer;
 use native_filters::Hook;
 use packet_views::Class;
 use std::alloc::{AllocError, Global};
 use std::fmt::Write;
 use std::net::{Ipv4Addr, Ipv6Addr};
+
+// A number in decimal. Most numbers of a line have one digit, which takes no buffer.
+#[tactic(auto, using(std::proofs::lemmas::Fmt::decimal_digit))]
+#[inline(always)]
+pub(crate) fn push_number(line: &mut String, n: u64) -> Result<(), AllocError>
+    ensures { OnOk result (string_bytes line.new ≡ string_bytes line.old ++ decimal n) }
+{
+    if n < 10 {
+        return line.push(char::from(b'0' + n as u8));
+    }
+    push_digits(line, n)
+}
+
+#[inline(never)]
+fn push_digits(line: &mut String, n: u64) -> Result<(), AllocError>
+    ensures { OnOk result (string_bytes line.new ≡ string_bytes line.old ++ decimal n) }
+{
+    line.push_str(Buffer::new().format(n))
+}
+
+// A text and behind it a number in decimal.
+pub(crate) fn push_labelled(line: &mut String, label: &str, n: u64) -> Result<(), AllocError>
+    ensures { OnOk result (string_bytes line.new ≡ string_bytes line.old ++ (label.now ++ decimal n)) }
+{
+    line.push_str(label)?;
+    push_number(line, n)
+}
 
 pub(crate) fn class_name(class: Class) -> &'static str
     ensures { result.now ≡ class_text class }
@@ -26,12 +55,13 @@ pub(crate) fn class_name(class: Class) -> &'static str
     }
 }
 
-pub(crate) fn hook_name(hook: Hook) -> &'static str
-    ensures { result.now ≡ hook_text hook }
+// A hook with a blank on either side.
+pub(crate) fn hook_word(hook: Hook) -> &'static str
+    ensures { result.now ≡ codes " " ++ (hook_text hook ++ codes " ") }
 {
     match hook {
-        Hook::Snd => "snd",
-        Hook::Rcv => "rcv",
+        Hook::Snd => " snd ",
+        Hook::Rcv => " rcv ",
     }
 }
 
@@ -61,7 +91,7 @@ pub(crate) fn push_event(line: &mut String, event: u16) -> Result<(), AllocError
 {
     match event_name(event) {
         Some(name) => line.push_str(name),
-        None => write!(line, "{event}"),
+        None => push_number(line, u64::from(event)),
     }
 }
 
@@ -94,14 +124,25 @@ fn push_v6(line: &mut String, addr: u128, port: u16) -> Result<(), AllocError>
     write!(line, "]:{port}")
 }
 
+// An IPv4 address as four numbers with dots.
+fn push_v4(line: &mut String, octets: [u8; 4]) -> Result<(), AllocError>
+    ensures { OnOk result (string_bytes line.new ≡ string_bytes line.old ++ ipv4_text octets) }
+{
+    let [a, b, c, d] = octets;
+    push_number(line, u64::from(a))?;
+    push_labelled(line, ".", u64::from(b))?;
+    push_labelled(line, ".", u64::from(c))?;
+    push_labelled(line, ".", u64::from(d))
+}
+
 #[tactic(auto, unfolding(crate::specs::Words::endpoint_text, std::specs::Net::Addr::IsIpv4OfBits))]
 pub(crate) fn push_endpoint(line: &mut String, endpoint: &Endpoint) -> Result<(), AllocError>
     ensures { OnOk result (string_bytes line.new ≡ string_bytes line.old ++ endpoint_text endpoint.now) }
 {
     match *endpoint {
         Endpoint::V4 { addr, port } => {
-            let addr = Ipv4Addr::from_bits(addr);
-            write!(line, "{addr}:{port}")
+            push_v4(line, Ipv4Addr::from_bits(addr).octets())?;
+            push_labelled(line, ":", u64::from(port))
         }
         Endpoint::V6 { addr, port } => push_v6(line, addr, port),
     }
@@ -121,7 +162,8 @@ fn push_bytes(alloc: Global, line: &mut String, bytes: &[u8]) -> Result<(), Allo
 fn push_piece(alloc: Global, line: &mut String, at: u64, bytes: &[u8]) -> Result<(), AllocError>
     ensures { OnOk result (string_bytes line.new ≡ string_bytes line.old ++ piece_text (at, bytes.now)) }
 {
-    write!(line, " {at}:")?;
+    push_labelled(line, " ", at)?;
+    line.push(':')?;
     push_bytes(alloc, line, bytes)
 }
 
@@ -141,11 +183,13 @@ pub(crate) fn push_seen(alloc: Global, line: &mut String, seen: &Seen) -> Result
     match seen {
         Seen::Nothing => Ok(()),
         Seen::Next { at, missed, bytes } => {
-            write!(line, " peek {at} {missed} ")?;
+            push_labelled(line, " peek ", *at)?;
+            push_labelled(line, " ", *missed)?;
+            line.push(' ')?;
             push_bytes(alloc, line, bytes.as_slice())
         }
         Seen::At { off, pieces } => {
-            write!(line, " at {off}")?;
+            push_labelled(line, " at ", *off)?;
             push_pieces(alloc, line, pieces.as_slice())
         }
     }
@@ -155,8 +199,8 @@ pub(crate) fn push_reason(line: &mut String, reason: Reason) -> Result<(), Alloc
     ensures { OnOk result (string_bytes line.new ≡ string_bytes line.old ++ reason_text reason) }
 {
     match reason {
-        Reason::Reg(number) => write!(line, "reg {number}"),
-        Reason::Rule(number) => write!(line, "rule {number}"),
+        Reason::Reg(number) => push_labelled(line, "reg ", u64::from(number)),
+        Reason::Rule(number) => push_labelled(line, "rule ", u64::from(number)),
     }
 }
 
