@@ -3,6 +3,7 @@
 mod captures;
 mod failing;
 mod forwarding;
+mod handing_on;
 mod limits;
 mod refusals;
 mod reports;
