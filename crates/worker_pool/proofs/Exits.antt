@@ -229,6 +229,10 @@ refused_as frames start old new rest WriteFault stops is = stops
 refused_as frames start old new rest Heavy stops is = stops
 refused_as frames start old new rest NoMemory stops is = stops
 
+-- the dispatcher never stops as too heavy
+pub never_too_heavy : (frames : List Captured) (start : CaptureState) (old new : Option (List ℕ)) (e : PoolError) → StopsAs frames start old new (Err e) → e ≢ Heavy
+never_too_heavy frames start old new e stops is = subst (λ x. StopsAs frames start old new (Err x)) is stops
+
 module _ {L : Type 0} (g : Ghosts L) (app : Meaning) (script : List Stamped) (frames : List Captured) (begins workers : List (Worker L)) (relays after : List Relay) (waiting kept : Waiting) (start : CaptureState)
     (old new before now : Option (List ℕ)) (rest : List ℕ) (read : Result Whole PoolError) (served : HaveServed g script begins frames workers)
     (streamed : Streamed begins frames relays waiting start old new before now read) (drained : AreDrained workers relays after) (offered : OfferAll relays after waiting kept)

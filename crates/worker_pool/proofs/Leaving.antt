@@ -1,7 +1,8 @@
 -- A forward run while it streams: what was sent, what has come back, and what has left.
 use Rattle.std.proofs.Common.{◌≡◌, ◌≢◌, ◌<◌, ◌≤◌, ℕ, ◌+◌, true, Option, Some, List, [], ◌∷◌, ◌++◌, length, set, get_or, refl, sym, ap, subst, ◌∙◌, ◌⊎◌, ⊎_elim, arith}
 use Rattle.std.specs.Prelude.{Result, Err, nat_lt}
-use Rattle.std.specs.Io.KnownBytes.{Appends}
+use Rattle.std.specs.Io.KnownBytes.{Appends, Keeps as Stays}
+use Rattle.std.proofs.KnownBytes.{Appends-kept}
 use mathlib.Core.List.{IsPrefix}
 use Rattle.std.proofs.lemmas.List.{append-nil, length_push, get_or-set_same, get_or-set_other, length-set}
 use Rattle.std.proofs.lemmas.Bool.{cases_eq}
@@ -70,12 +71,25 @@ left_whole lane n taken_so_far w old new l = record {
   written = subst (Appends old new) (sym (append-nil l.state.out)) l.written;
 }
 
+-- the output may hand on what it gathers
+handed_on : (lane : ℕ → ℕ) (n : ℕ) (taken_so_far : ℕ → List Answer) (w : Waiting) (before mid new : Option (List ℕ)) → Stays mid new
+    → Leaves lane n taken_so_far w before mid → Leaves lane n taken_so_far w before new
+handed_on lane n taken_so_far w before mid new same l = record {
+  state = l.state;
+  waits = l.waits;
+  keeps = l.keeps;
+  written = Appends-kept before mid new l.state.out l.written same;
+}
+
 module _ (a b : List Relay) (w v : Waiting) (old mid : Option (List ℕ)) (so_far : LeaveAll a b w v old mid) where
   -- more is written
   pub written_then : (u : Waiting) (new : Option (List ℕ))
       → ((lane : ℕ → ℕ) (n : ℕ) (taken_so_far : ℕ → List Answer) (before : Option (List ℕ)) → Leaves lane n taken_so_far v before mid → Leaves lane n taken_so_far u before new)
       → LeaveAll a b w u old new
   written_then u new on = record { leaves = λ lane n before counts l. on lane n (taken_from b) before (so_far.leaves lane n before counts l) }
+
+  pub handed_then : (new : Option (List ℕ)) → Stays mid new → LeaveAll a b w v old new
+  handed_then new same = written_then v new (λ lane n taken_so_far before. handed_on lane n taken_so_far v before mid new same)
 
   pub cut_then : (new : Option (List ℕ))
       → ((lane : ℕ → ℕ) (n : ℕ) (taken_so_far : ℕ → List Answer) (before : Option (List ℕ)) → Leaves lane n taken_so_far v before mid → HasLeft lane n taken_so_far before new)

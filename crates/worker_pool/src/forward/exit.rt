@@ -1,6 +1,7 @@
 //! Where packets leave: what was answered is written in the order of the capture.
 
 ghost use Rattle.std.specs.Prelude.{◌≡◌, ◌<◌, List, Option, ℕ, None, true, false, IfOk, IfErr, OnOk};
+ghost use Rattle.std.specs.Io.KnownBytes.{Keeps};
 ghost use Rattle.mos_bytes.specs.Causes.{HasCause};
 ghost use Rattle.mos_bytes.specs.Writes.{WriteAdds};
 ghost use Rattle.lane_rings.specs.declared.items.Answer.{Answer as Answered};
@@ -12,7 +13,7 @@ ghost use Rattle.worker_pool.specs.Drained.{held};
 use app_api::Verdict;
 use lane_rings::forward::writing_stays_right;
 use lane_rings::{Answer, Resequencer};
-use mos_bytes::{Failed, Sink};
+use mos_bytes::{Failed, Sink, Source};
 use pcap_source::{Capture, Frame};
 
 // Writes what a packet leaves.
@@ -70,4 +71,21 @@ pub(crate) fn write_ready<O: Sink>(
 {
     while write_first(waiting, capture, out, spare)? {}
     Ok(())
+}
+
+/// Hands on what the output gathers, where the source would ask the outside for the next packet: who waits for what was
+/// written waits no longer than for more of the capture.
+pub(crate) fn hand_on<S: Source, O: Sink>(
+    capture: &Capture,
+    source: &S,
+    out: &mut O,
+) -> Result<(), Failed>
+    ensures bytes { Keeps (O.taken out.old) (O.taken out.new) }
+    ensures cause { HasCause (O.faults out.old) (O.faults out.new) result }
+    ensures lasts { O.lasting out.new ≡ O.lasting out.old }
+{
+    if capture.is_at_hand(source) {
+        return Ok(());
+    }
+    out.flush()
 }

@@ -1,6 +1,6 @@
 //! A forward run on several lanes.
 
-ghost use Rattle.std.specs.Prelude.{◌≡◌, ◌≤◌, [], ℕ, List, Option, Some, length, IsOk, IsTrue, IsErrOf, IfOk, IfErr};
+ghost use Rattle.std.specs.Prelude.{◌≡◌, ◌≢◌, ◌≤◌, [], ℕ, List, Option, Some, length, IsOk, IsTrue, IsErrOf, IfOk, IfErr};
 ghost use Rattle.mos_bytes.specs.Causes.{HasCauseOf};
 ghost use Rattle.pcap_source.specs.Captured.{Captured};
 ghost use Rattle.pcap_source.specs.Reading.{Opened, frames_at};
@@ -139,6 +139,9 @@ pub fn forward_lanes<
     ensures forwards { (rest : List ℕ) → S.left source.old ≡ Some rest
         → ForwardsOver (A.meaning job.now.app) job.now.script.now job.now.workers (frames_at capture.old rest) (O.taken out.old) (O.taken out.new) result }
     ensures read { IsOk result → (rest : List ℕ) → S.left source.old ≡ Some rest → S.left source.new ≡ Some [] }
+
+    // It keeps no entries, so they never weigh too much.
+    ensures never_heavy { IfErr result (λ e. e ≢ PoolError.Heavy) }
     ensures read_fault { HasCauseOf (S.faults source.old) (S.faults source.new) (IsErrOf result PoolError.ReadFault) }
     ensures write_fault { HasCauseOf (O.faults out.old) (O.faults out.new) (IsErrOf result PoolError.WriteFault) }
     ensures source_lasts { S.lasting source.new ≡ S.lasting source.old }

@@ -95,6 +95,12 @@ pub(crate) fn leave<L: Recorder + Drop, O: Sink>(
         → HaveServed L.Recorder script.now begins frames workers.items
         → Streamed begins frames relays.items waiting start old new before (O.taken out.old) read → old ≡ Some rest
         → ForwardsOver app script.now (length begins) (frames_at start rest) before (O.taken out.new) result }
+    ensures never_heavy { (app : Meaning) (frames : List Captured) (begins : List (Begun L)) (packets : List (RingTx Packet))
+        (start : CaptureState) (old new before : Option (List ℕ))
+        → length frames ≤ 1048576 → IsTeam L.Recorder app begins packets → AllKeep L.Recorder false begins
+        → HaveServed L.Recorder script.now begins frames workers.items
+        → Streamed begins frames relays.items waiting start old new before (O.taken out.old) read
+        → IfErr result (λ e. e ≢ PoolError.Heavy) }
     ensures ok { IsOk result → IsOk read }
     ensures read_fault { IsErrOf result PoolError.ReadFault → IsErrOf read PoolError.ReadFault }
     ensures write_fault { IsErrOf result PoolError.WriteFault → IsErrOf read PoolError.WriteFault ⊎ Rose (O.faults out.old) (O.faults out.new) }

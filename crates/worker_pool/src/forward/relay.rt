@@ -71,3 +71,13 @@ pub(crate) fn count_sent(relays: &mut Vec<Relay>, lane: usize)
 {
     relays[lane].sent += 1;
 }
+
+/// Whether all packets that were sent have been answered, and their answers taken.
+pub(crate) fn have_answered(relays: &[Relay]) -> bool {
+    for relay in relays {
+        if relay.taken < relay.sent {
+            return false;
+        }
+    }
+    true
+}

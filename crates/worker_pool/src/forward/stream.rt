@@ -10,8 +10,8 @@ ghost use Rattle.worker_pool.specs.Streamed.{AreRelays, Leaves, Streamed, Dealt,
 ghost use Rattle.worker_pool.specs.Relayed.{HaveTaken, LeaveAll, CutAll};
 
 use crate::dispatch::{Whole, send_frame};
-use crate::forward::exit::write_ready;
-use crate::forward::relay::{Relay, count_sent, take_all, take_answers};
+use crate::forward::exit::{hand_on, write_ready};
+use crate::forward::relay::{Relay, count_sent, have_answered, take_all, take_answers};
 use crate::gate::Gate;
 use crate::job::PoolError;
 use crate::post::{Post, take_turns};
@@ -26,12 +26,26 @@ use std::alloc::Global;
 use std::sync::Wait;
 use std::sync::atomic::{AtomicBool, Ordering};
 
-// Waits until `waiting` reaches the number of the next packet. Till then the records whose turn comes are written, workers
-// that are here take up packets, and answers are taken from all lanes.
+// Whether the next packet may be read: its place is there, and where the source would ask the outside for it, no packet is
+// on its way any more. So what has come in is decided and written before more is waited for.
+fn may_read<S: Source>(
+    relays: &[Relay],
+    waiting: &Resequencer,
+    index: u64,
+    capture: &Capture,
+    source: &S,
+) -> bool
+    ensures { result ≡ true → nat_lt index (waiting.now.next + length waiting.now.window) ≡ true }
+{
+    waiting.reaches(index) && (capture.is_at_hand(source) || have_answered(relays))
+}
+
+// Waits until the next packet may be read. Till then the records whose turn comes are written, workers that are here take up
+// packets, and answers are taken from all lanes. At `Ok` the output holds nothing back that the outside could wait for.
 //
 // An error is that a record can't be written, or that a lane has failed: then its packets have no answers, and the place
 // may never come.
-fn await_place<R: Wait, L: Recorder + Drop, O: Sink, G: Gate>(
+fn await_place<R: Wait, L: Recorder + Drop, S: Source, O: Sink, G: Gate>(
     rt: &R,
     alloc: Global,
     posts: &mut Vec<Post<L>>,
@@ -43,6 +57,7 @@ fn await_place<R: Wait, L: Recorder + Drop, O: Sink, G: Gate>(
     gate: &G,
     failed: &AtomicBool,
     capture: &Capture,
+    source: &S,
     out: &mut O,
     spare: &mut Vec<Frame>,
 ) -> Result<(), PoolError>
@@ -61,8 +76,8 @@ fn await_place<R: Wait, L: Recorder + Drop, O: Sink, G: Gate>(
 {
     for _ in rt.forever() {
         write_ready(waiting, capture, out, spare)?;
-        if waiting.reaches(index) {
-            return Ok(());
+        if may_read(relays.as_slice(), waiting, index, capture, source) {
+            return Ok(hand_on(capture, source, out)?);
         }
         if failed.load(Ordering::SeqCst) {
             return Err(PoolError::NoMemory);
@@ -73,8 +88,7 @@ fn await_place<R: Wait, L: Recorder + Drop, O: Sink, G: Gate>(
     unreachable!()
 }
 
-// Sends the next packet to its lane, and takes what that lane has answered so far, so that its frames don't wait for the
-// last place.
+// Sends the next packet to its lane, and takes what that lane has answered so far, so that its frames come back soon.
 fn send_next<R: Wait, L: Recorder + Drop, G: Gate>(
     rt: &R,
     alloc: Global,
@@ -122,9 +136,9 @@ fn next_frame(alloc: Global, spare: &mut Vec<Frame>) -> Frame {
 /// Reads an opened capture to its end or its tail, or to where it is refused, sends each packet to the post of its lane,
 /// and writes what the lanes let pass, in the order of the capture.
 ///
-/// A packet is read where `waiting` reaches its number, so never are more packets on their way than it has places. Till
-/// then answers are taken and written, and lanes whose workers are here are worked on. Where a lane raised `failed`, it ends
-/// with want of memory.
+/// A packet is read where `waiting` reaches its number, so never are more packets on their way than it has places. Where the
+/// source would ask the outside for it, all packets before it have been decided and written. Till then answers are taken and
+/// written, and lanes whose workers are here are worked on. Where a lane raised `failed`, it ends with want of memory.
 ///
 /// The answer ring of a lane has to have as many places as `waiting`. So a worker never waits for room to answer: one that
 /// is here would wait for good, since what it waits for is done by this thread.
@@ -160,7 +174,7 @@ pub(crate) fn stream<R: Wait, L: Recorder + Drop, S: Source, O: Sink, G: Gate>(
     loop {
         await_place(
             rt, alloc, posts, relays, waiting, packets, script, natives, gate, failed, capture,
-            out, &mut spare,
+            source, out, &mut spare,
         )?;
         let mut frame = next_frame(alloc, &mut spare);
         match capture.next(source, &mut frame)? {

@@ -84,3 +84,20 @@ returns-clause-write_fault g c =
           (λ rose. rose_after (g.O.Sink.faults c.args.out.now) (g.O.Sink.faults c.stream_team.new.out) (g.O.Sink.faults c.leave.new.out) before.later rose)
           (c.leave.ensures.write_fault fault);
     }
+
+pub returns-in_err-waiting-clause-never_heavy : goal.returns-in_err-waiting-clause-never_heavy
+returns-in_err-waiting-clause-never_heavy g c =
+    let p = err_from_is_err_and c.from_residual-in_err-waiting.result c.from_residual-in_err-waiting.ensures.1 in
+    rw (p.1, p.2) (λ is. cc)
+
+pub returns-in_err-read-clause-never_heavy : goal.returns-in_err-read-clause-never_heavy
+returns-in_err-read-clause-never_heavy g c =
+    let p = err_from_is_err_and c.from_residual-in_err-read.result c.from_residual-in_err-read.ensures.1 in
+    rw (p.1, p.2) (λ is. cc)
+
+pub returns-clause-never_heavy : goal.returns-clause-never_heavy
+returns-clause-never_heavy g c =
+    let s = c.in_ok-read.ensures.served in
+    c.leave.ensures.never_heavy (g.A.App.meaning c.args.job.now.app) s.frames c.in_ok-team.team.workers.items c.in_ok-team.team.packets.items c.args.capture.now
+    (g.S.Source.left c.args.source.now) (g.S.Source.left c.stream_team.new.source) (g.O.Sink.taken c.args.out.now)
+    s.few c.in_ok-team.ensures.team c.in_ok-team.ensures.keep s.served s.done

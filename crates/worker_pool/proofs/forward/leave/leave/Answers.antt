@@ -1,5 +1,5 @@
-use Rattle.std.proofs.Common.{List, length, false, sym, subst}
-use Rattle.std.proofs.lemmas.Result.{err_from_is_err_and}
+use Rattle.std.proofs.Common.{List, length, false, sym, subst, ◌∙◌}
+use Rattle.std.proofs.lemmas.Result.{err_from_is_err_and, IfErr-weaker}
 use Rattle.pcap_source.specs.Reading.{frames_at}
 use Rattle.lane_core.specs.Run.{LaneEvent}
 use Rattle.worker_pool.specs.declared.worker.Worker.{Worker}
@@ -7,7 +7,7 @@ use Rattle.worker_pool.specs.Team.{HaveServed}
 use Rattle.worker_pool.specs.Ending.{CameTo}
 use Rattle.worker_pool.specs.Streamed.{StopsAs, lane_at, taken_from}
 use Rattle.worker_pool.specs.Explained.{AreGood, LeavesFront, LeavesAll}
-use Rattle.worker_pool.proofs.Exits.{are_beside, refused_as, leaves_now, cut_before, cut_at, stopped_at, over_at}
+use Rattle.worker_pool.proofs.Exits.{came_after, never_too_heavy, are_beside, refused_as, leaves_now, cut_before, cut_at, stopped_at, over_at}
 use Rattle.worker_pool.proofs.forward.leave.leave.Goals as goal
 
 pub drain-requires : goal.drain-requires
@@ -75,3 +75,17 @@ returns-in-Ok-clause-ends g c app frames begins packets start old new before res
     c.in_ok-write_ready.ensures.none c.in-Ok.field-0 (subst (StopsAs frames start old new) c.in-Ok.is streamed.stops) is c.versions_in.result c.versions_in.ensures.good
     (λ lanes vs came one may_have. c.versions_in.ensures.versions app script frames lanes vs came one may_have)
     (λ lanes came. c.versions_in.ensures.no_memory app script frames lanes came)
+
+pub returns-in-Err-clause-never_heavy : goal.returns-in-Err-clause-never_heavy
+returns-in-Err-clause-never_heavy g c app frames begins packets start old new before few team kept served streamed =
+    never_too_heavy frames start old new c.in-Err.error (subst (StopsAs frames start old new) c.in-Err.is streamed.stops)
+
+pub returns-in-Ok-clause-never_heavy : goal.returns-in-Ok-clause-never_heavy
+returns-in-Ok-clause-never_heavy g c app frames begins packets start old new before few team kept served streamed =
+    let script = c.args.script.now in
+    let workers = c.args.workers.items in
+    let seen = c.as_slice.ensures.value in
+    let whole = subst (λ (ws : List (Worker g.row.L.Denot)). (lanes : List (List LaneEvent)) × CameTo g.L.Recorder false app script frames ws lanes × (AreGood g.L.Recorder ws → LeavesAll app script frames ws lanes)) seen
+    (c.lanes_have_answered.ensures.whole app frames begins packets c.args.relays.items few team kept (subst (HaveServed g.L.Recorder script begins frames) (sym seen) served) streamed.relays_are) in
+    let came = came_after g.L.Recorder workers c.drain.new.workers.items c.drain.ensures.lanes false app script frames whole.0 whole.1 in
+    IfErr-weaker c.versions_in.result _ _ (λ e memory heavy. let same = sym memory ∙ heavy in cc) (c.versions_in.ensures.no_memory app script frames whole.0 came)
