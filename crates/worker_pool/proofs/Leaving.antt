@@ -72,7 +72,7 @@ left_whole lane n taken_so_far w old new l = record {
 }
 
 -- the output may hand on what it gathers
-pub handed_on : (lane : ℕ → ℕ) (n : ℕ) (taken_so_far : ℕ → List Answer) (w : Waiting) (before mid new : Option (List ℕ)) → Stays mid new
+handed_on : (lane : ℕ → ℕ) (n : ℕ) (taken_so_far : ℕ → List Answer) (w : Waiting) (before mid new : Option (List ℕ)) → Stays mid new
     → Leaves lane n taken_so_far w before mid → Leaves lane n taken_so_far w before new
 handed_on lane n taken_so_far w before mid new same l = record {
   state = l.state;
@@ -87,6 +87,9 @@ module _ (a b : List Relay) (w v : Waiting) (old mid : Option (List ℕ)) (so_fa
       → ((lane : ℕ → ℕ) (n : ℕ) (taken_so_far : ℕ → List Answer) (before : Option (List ℕ)) → Leaves lane n taken_so_far v before mid → Leaves lane n taken_so_far u before new)
       → LeaveAll a b w u old new
   written_then u new on = record { leaves = λ lane n before counts l. on lane n (taken_from b) before (so_far.leaves lane n before counts l) }
+
+  pub handed_then : (new : Option (List ℕ)) → Stays mid new → LeaveAll a b w v old new
+  handed_then new same = written_then v new (λ lane n taken_so_far before. handed_on lane n taken_so_far v before mid new same)
 
   pub cut_then : (new : Option (List ℕ))
       → ((lane : ℕ → ℕ) (n : ℕ) (taken_so_far : ℕ → List Answer) (before : Option (List ℕ)) → Leaves lane n taken_so_far v before mid → HasLeft lane n taken_so_far before new)

@@ -1,20 +1,40 @@
 use Rattle.std.proofs.Common.{rules}
 use Rattle.worker_pool.proofs.Relaying.{all_taken_then}
-use Rattle.worker_pool.proofs.Leaving.{written_then, cut_nowhere, offered_then, handed_on}
+use Rattle.worker_pool.proofs.Leaving.{written_then, cut_nowhere, offered_then, handed_then}
 use Rattle.worker_pool.proofs.forward.stream.await_place.Goals as goal
 
-pub returns-then-may_read-in_err-hand_on-clause-cut : goal.returns-then-may_read-in_err-hand_on-clause-cut
-returns-then-may_read-in_err-hand_on-clause-cut g c =
+pub returns-in_err-hand_on-clause-cut : goal.returns-in_err-hand_on-clause-cut
+returns-in_err-hand_on-clause-cut g c =
     let first = c.args.relays.now.items in
     let now = c.loop.relays.items in
     let old = g.O.Sink.taken c.args.out.now in
     let mid = g.O.Sink.taken c.write_ready.new.out in
     let new = g.O.Sink.taken c.hand_on.new.out in
     let waiting = c.write_ready.new.waiting in
-    cut_nowhere first now c.args.waiting.now waiting old new
-    (written_then first now c.args.waiting.now waiting old mid
-    (written_then first now c.args.waiting.now c.loop.waiting old (g.O.Sink.taken c.loop.out) c.loop.invariant.leaves waiting mid c.in_ok-write_ready.ensures.leaves)
-    waiting new (λ lane n taken_so_far before. handed_on lane n taken_so_far waiting before mid new c.hand_on.ensures.bytes))
+    let so_far = written_then first now c.args.waiting.now c.loop.waiting old (g.O.Sink.taken c.loop.out) c.loop.invariant.leaves waiting mid c.in_ok-write_ready.ensures.leaves in
+    cut_nowhere first now c.args.waiting.now waiting old new (handed_then first now c.args.waiting.now waiting old mid so_far new c.hand_on.ensures.bytes)
+
+pub returns-then-may_read-clause-leaves : goal.returns-then-may_read-clause-leaves
+returns-then-may_read-clause-leaves g c =
+    let first = c.args.relays.now.items in
+    let now = c.loop.relays.items in
+    let old = g.O.Sink.taken c.args.out.now in
+    let mid = g.O.Sink.taken c.write_ready.new.out in
+    let new = g.O.Sink.taken c.hand_on.new.out in
+    let waiting = c.write_ready.new.waiting in
+    let so_far = written_then first now c.args.waiting.now c.loop.waiting old (g.O.Sink.taken c.loop.out) c.loop.invariant.leaves waiting mid c.in_ok-write_ready.ensures.leaves in
+    λ other. handed_then first now c.args.waiting.now waiting old mid so_far new c.hand_on.ensures.bytes
+
+pub returns-then-may_read-clause-cut : goal.returns-then-may_read-clause-cut
+returns-then-may_read-clause-cut g c =
+    let first = c.args.relays.now.items in
+    let now = c.loop.relays.items in
+    let old = g.O.Sink.taken c.args.out.now in
+    let mid = g.O.Sink.taken c.write_ready.new.out in
+    let new = g.O.Sink.taken c.hand_on.new.out in
+    let waiting = c.write_ready.new.waiting in
+    let so_far = written_then first now c.args.waiting.now c.loop.waiting old (g.O.Sink.taken c.loop.out) c.loop.invariant.leaves waiting mid c.in_ok-write_ready.ensures.leaves in
+    cut_nowhere first now c.args.waiting.now waiting old new (handed_then first now c.args.waiting.now waiting old mid so_far new c.hand_on.ensures.bytes)
 
 pub returns-then-load-clause-cut : goal.returns-then-load-clause-cut
 returns-then-load-clause-cut g c =
