@@ -1,4 +1,4 @@
-use Rattle.std.proofs.Common.{◌≡◌, ◌≢◌, true, false, ◌+◌, ◌++◌, ◌∷◌, [], length, Some, Ok, Err, refl, sym, ap, subst, ◌∙◌, arith, le_refl}
+use Rattle.std.proofs.Common.{◌≡◌, ◌≢◌, ◌≤◌, true, false, ◌+◌, ◌++◌, ◌∷◌, [], length, Some, Ok, Err, refl, sym, ap, subst, ◌∙◌, arith, le_refl}
 use Rattle.std.proofs.lemmas.List.{length-append}
 use Rattle.std.proofs.lemmas.Result.{err_from_is_err_and, IfErr-weaker}
 use Rattle.std.specs.Prelude.{IsErr}
@@ -63,7 +63,7 @@ returns-in_err-hand_on-clause-write_fault g c =
     let handed = c.hand_on.ensures.cause in
     record {
       later = let later = handed.later in omega (arith, before, later);
-      cause = λ fault. rose_since _ _ _ before (handed.failed (subst IsErr (sym c.in_err-hand_on.was) tt));
+      cause = λ fault. rose_since _ _ _ before (handed.failed (subst IsErr (sym c.in_err-hand_on.was) refl));
     }
 
 pub returns-in_err-next-clause-runs : goal.returns-in_err-next-clause-runs
@@ -145,7 +145,7 @@ returns-in_err-take-in-Frame-clause-write_fault g c =
     let p = err_from_is_err_and c.from_residual-in_err-take-in-Frame.result c.from_residual-in_err-take-in-Frame.ensures.1 in
     let was = c.loop-frame.invariant.out_faults in
     let handed = c.hand_on.ensures.cause.later in
-    let before = omega (arith, was, handed) in
+    let before : g.O.Sink.faults c.args.out.now ≤ g.O.Sink.faults c.hand_on.new.out = omega (arith, was, handed) in
     let take = c.take.ensures.cause in
     record {
       later = let later = take.later in omega (arith, before, later);
