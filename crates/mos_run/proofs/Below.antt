@@ -13,12 +13,15 @@ use Rattle.pcap_source.specs.Capture.{Frames, Ending, tail, too_long, too_many, 
 use Rattle.pcap_source.specs.declared.errors.OpenError.{OpenError}
 use Rattle.control_script.specs.declared.stamped.Stamped.{Stamped}
 use Rattle.lane_core.specs.Records.{VersionedPacket}
+use Rattle.lane_core.specs.Shown.{record_of}
+use Rattle.worker_pool.specs.Run.{totals_of}
 use Rattle.mos_run.specs.declared.output.Output.{Output}
 use Rattle.mos_run.specs.declared.output.Output.TheVariants.{Report, Forward, Summary}
 use Rattle.mos_run.specs.declared.refusal.RunError.{RunError}
 use Rattle.mos_run.specs.declared.refusal.RunError.TheVariants as Run
 use Rattle.mos_run.specs.Apps.{meaning_of}
-use Rattle.mos_run.specs.Records.{packets_with}
+use Rattle.mos_run.specs.Records.{packets_with, records_of}
+use Rattle.mos_run.specs.Forward.{forwarded}
 use Rattle.mos_run.specs.Outcome.{is_heavy, refused, outcome, outcome_by, followed, weighed, ended, output_of}
 use Rattle.mos_run.specs.Told.{Told, Refused, Asked, outcome_under}
 use Rattle.mos_run.specs.Run.{Finishes, FinishesUnder, StopsAs, UnderSome}
@@ -34,9 +37,11 @@ front-not-empty (x ∷ xs) ys zs some = λ none. cc
 module _ (app : Meaning) (script : List Stamped) (given : List Captured → List VersionedPacket) where
   -- a forwarded capture has its header, and a report or a summary its last line
   some-ended : (output : Output) (header : List ℕ) (frames : List Captured) (n : ℕ) → header ≢ [] → (ended app script given output header frames n).text ≢ []
-  some-ended Report header frames n some = some-closing Report _ _ refl
-  some-ended Forward header frames n some = front-not-empty header _ [] some
-  some-ended (Summary m) header frames n some = some-closing (Summary m) _ _ refl
+  some-ended Report header frames n some =
+      some-closing Report (map (record_of app) (records_of app script given frames)) (totals_of (records_of app script given frames) (length frames) n) refl
+  some-ended Forward header frames n some = front-not-empty header (forwarded app script given frames) [] some
+  some-ended (Summary m) header frames n some =
+      some-closing (Summary m) (map (record_of app) (records_of app script given frames)) (totals_of (records_of app script given frames) (length frames) n) refl
 
 module _ (app : Meaning) (script : List Stamped) (given : List Captured → List VersionedPacket) (output : Output) (versions : List ℕ) where
   some_weighed : (header : List ℕ) (frames : List Captured) (n : ℕ) (heavy : Bool) → header ≢ [] → is_heavy app script given output frames ≡ heavy
@@ -108,3 +113,15 @@ done_below t versions start first given handed now none done kept same = record 
         (Appends-kept start given handed _ (subst (λ a. Appends a given (outcome_under versions t).text) none done.finishes.written) kept);
   };
 }
+
+-- ---- its faults
+
+rose-later : (base first run handed : ℕ) → first ≡ base → run ≤ handed → Rose first run → Rose base handed
+rose-later base first run handed none later (inl less) = inl (omega (arith, none, later, less))
+rose-later base first run handed none later (inr full) = inr (omega (arith, later, full))
+
+-- where the sink that gathers counts a fault, the sink below has counted one
+pub rose_below : {S : Type 0} (faults : S → ℕ) (out start : S) (first run handed now : ℕ) → start ≡ out → first ≡ faults out → run ≤ handed
+    → (Rose (faults start) handed → Rose (faults start) now) → Rose first run → Rose (faults out) now
+rose_below faults out start first run handed now same none later cause rose =
+    subst (λ s. Rose (faults s) now) same (cause (subst (λ s. Rose (faults s) handed) (sym same) (rose-later (faults out) first run handed none later rose)))

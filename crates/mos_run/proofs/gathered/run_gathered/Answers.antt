@@ -1,13 +1,13 @@
 -- What the run did to the sink that gathers, and what is left to hand on, is what the output took.
-use Rattle.std.proofs.Common.{◌≡◌, ap, inl, inr, refl, rules, subst, sym, ◌∙◌}
+use Rattle.std.proofs.Common.{◌≡◌, ap, arith, inl, inr, refl, rules, subst, sym, ◌∙◌}
 use Rattle.mos_bytes.specs.Writes.{AppendsFront}
 use Rattle.mos_bytes.proofs.Writes.{AppendsFront-nil}
-use Rattle.mos_bytes.specs.Gathering.{IsFinished, given_to, start_of}
+use Rattle.mos_bytes.specs.Gathering.{IsFinished, gathering_faults, given_to, inner_of, start_of}
 use Rattle.mos_run.specs.declared.refusal.RunError.TheVariants as Run
 use Rattle.mos_run.specs.Refusal.{refusal_text}
 use Rattle.mos_run.specs.Told.{outcome_under}
 use Rattle.mos_run.specs.Run.{EndsAs, StopsAs, WritesText}
-use Rattle.mos_run.proofs.Below.{done_below, front_below, may_fail}
+use Rattle.mos_run.proofs.Below.{done_below, front_below, may_fail, rose_below}
 use Rattle.mos_run.proofs.Outcomes.{ends_as, has_some, stops_or_memory, under_more}
 use Rattle.mos_run.proofs.gathered.run_gathered.Goals.{else-ended-eq0-via-then-ended-eq0+else-is_err, else-ended-eq0-via-else-ended-eq0}
 use Rattle.mos_run.proofs.gathered.run_gathered.Goals as goal
@@ -91,3 +91,15 @@ returns-clause-front g c = λ t is.
     ap (λ p. p.0) c.finish-finished.ensures.lasts ∙ ap (λ p. p.0) c.run_mos-ended.ensures.out_lasts ∙ new.start in
     front_below g.O.Sink.taken c.args.out (start_of c.finish-finished.new.self) (given_to c.in-Ok.gathering) (given_to c.run_mos-ended.new.out) (given_to c.finish-finished.new.self)
     (g.O.Sink.taken c.into_inner-out.result) t start new.given (c.run_mos-ended.ensures.front t is) c.finish-finished.ensures.given c.into_inner-out.ensures.between
+
+pub returns-clause-complete : goal.returns-clause-complete
+returns-clause-complete g c = λ t is well capture shelf out.
+    let new = c.in-Ok.ensures.ok in
+    let start : start_of c.finish-finished.new.self ≡ c.args.out =
+    ap (λ p. p.0) c.finish-finished.ensures.lasts ∙ ap (λ p. p.0) c.run_mos-ended.ensures.out_lasts ∙ new.start in
+    let below : g.O.Sink.faults (inner_of c.in-Ok.gathering) ≡ g.O.Sink.faults c.args.out = ap g.O.Sink.faults new.over in
+    let sound = new.sound in
+    let first : gathering_faults c.in-Ok.gathering ≡ g.O.Sink.faults c.args.out = omega (arith, below, sound) in
+    c.run_mos-ended.ensures.complete t is well capture shelf (λ rose. out (
+    rose_below g.O.Sink.faults c.args.out (start_of c.finish-finished.new.self) (gathering_faults c.in-Ok.gathering) (gathering_faults c.run_mos-ended.new.out) (gathering_faults c.finish-finished.new.self)
+    (g.O.Sink.faults c.into_inner-out.result) start first c.finish-finished.ensures.cause.later c.into_inner-out.ensures.cause rose))
