@@ -121,7 +121,7 @@ fn run_gated<R: Threads + Wait + Sync + Send + Copy + Drop + 'static, G: Gate + 
     let words = words_of(alloc, asked.words)?;
     let mut source = MemSource::new(bytes, [asked.read].to_vec(alloc)?);
     let mut shelf = shelf(alloc, asked.scripts, asked.fetch)?;
-    let mut out = sink(alloc, 1024, asked.write)?;
+    let mut out = sink(alloc, 4096, asked.write)?;
     let mut err = sink(alloc, 160, 9)?;
     let ended = run_plain(
         rt,
