@@ -82,8 +82,7 @@ fn a_write_that_fails(rt: HostRuntime) -> Result<(), Fail> {
     Ok(())
 }
 
-// A report is written by one call, the first or none; a forwarded capture by one for each piece, of which the second is the
-// head of the first packet.
+// What is written is handed on by one call, the first or none; so is a forwarded capture, since all of it is at hand.
 #[test]
 fn a_gathered_output(rt: HostRuntime) -> Result<(), Fail> {
     let alloc = rt.alloc();
@@ -97,13 +96,13 @@ fn a_gathered_output(rt: HostRuntime) -> Result<(), Fail> {
             b"mos: write fault\n",
             HANDSHAKE.get(..HANDSHAKE.len() / 2),
         ),
-        ("--emit forward", 9, 0, b"", Some(capture.as_slice())),
+        ("--emit forward", 1, 0, b"", Some(capture.as_slice())),
         (
             "--emit forward",
-            1,
+            0,
             5,
             b"mos: write fault\n",
-            capture.get(..32),
+            capture.get(..117),
         ),
         ("--script gone", 0, 4, b"mos: read fault\n", Some(b"")),
         (
