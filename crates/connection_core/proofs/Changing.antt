@@ -1,12 +1,12 @@
 -- One change of a connection's registrations, and the tree after it.
-use Rattle.std.proofs.Common.{◌≡◌, ℕ, suc, ◌+◌, ◌<◌, ◌==◌, ◌||◌, Bool, true, false, not, cond, is_some, Some, None, Option, List, [], ◌∷◌, ◌++◌, length, map, take, get_or, refl, sym, ap, subst, ◌∙◌, arith}
+use Rattle.std.proofs.Common.{◌≡◌, ℕ, suc, ◌+◌, ◌<◌, ◌≤◌, ◌==◌, ◌||◌, Bool, true, false, not, cond, is_some, Some, None, Option, List, [], ◌∷◌, ◌++◌, length, map, take, drop, get_or, refl, sym, ap, subst, ◌∙◌, arith}
 use Rattle.std.specs.Prelude.{◌≢◌, if◌then◌else◌}
 use Rattle.std.specs.List.{All, AllByRecursion, Contains, list_any}
 use Rattle.std.specs.Option.{option_to_list}
 use Rattle.std.specs.Ordering.{is_lt}
 use Rattle.std.proofs.lemmas.Bool.Decides.{nat_tests}
 use Rattle.std.proofs.lemmas.Bool.{false≢true, not-false}
-use Rattle.std.proofs.lemmas.List.{take_more}
+use Rattle.std.proofs.lemmas.List.{take_more, take-append-drop}
 use Rattle.std.proofs.lemmas.List.Elements.{All-from_recursion, recursion_from_All, All-filter}
 use Rattle.app_api.specs.declared.changes.Change1.{Change1}
 use Rattle.app_api.specs.declared.registration.Reg.{Reg}
@@ -22,7 +22,7 @@ use Rattle.event_trees.specs.Edit.{IsForestOf, IsSwitchable}
 use Rattle.forest_versions.specs.State.{ControlState}
 use Rattle.connection_core.specs.Course.{Course, is_on, is_so, altered_to, switched, changed, changed_all}
 use Rattle.connection_core.specs.Trees.{regs_named, active_in, IsTreeOf, IsForestIn, InternsWithin}
-use Rattle.connection_core.specs.Standing.{Alters}
+use Rattle.connection_core.specs.Standing.{Alters, Costs}
 
 -- ---- the private list that a tree names
 
@@ -147,6 +147,34 @@ within-on (Some l) None k a b d p q = absurd p
 within-on (Some l) (Some m) None a b d p q = absurd q
 within-on (Some l) (Some m) (Some n) a b d p q = (omega (arith, p.0, q.0), omega (arith, p.1, q.1))
 
+pub within-up : (i j : Option ℕ) (a b d : ℕ) → b ≤ d → InternsWithin i j a b → InternsWithin i j a d
+within-up None None a b d up p = tt
+within-up None (Some n) a b d up p = absurd p
+within-up (Some m) None a b d up p = absurd p
+within-up (Some m) (Some n) a b d up p = (p.0, omega (arith, p.1, up))
+
+-- ---- alterations are never taken back
+
+switched_rises : (s : ControlState) (o : Option Reg) (on : Bool) (c : Course) → c.altered ≤ (switched s o on c).altered
+switched_rises s None on c = omega arith
+switched_rises s (Some r) on c =
+    elim (is_so (is_on r.number c.active) on) as (λ b. c.altered ≤ (cond b c (altered_to (edited s.defs c.active r on) c)).altered) [
+      | true ↦ omega arith
+      | false ↦ omega arith
+    ]
+
+changed_rises : (s : ControlState) (change : Change1) (c : Course) → c.altered ≤ (changed s change c).altered
+unfolding changed
+changed_rises s change c = switched_rises s (reg_of s.regs change.reg) change.on c
+
+pub changed_all_rises : (s : ControlState) (changes : List Change1) (c : Course) → c.altered ≤ (changed_all s changes c).altered
+changed_all_rises s [] c = omega arith
+changed_all_rises s (change ∷ changes) c =
+    let one = changed_rises s change c in
+    let others = changed_all_rises s changes (changed s change c) in omega (arith, one, others)
+
+-- ---- what changes make
+
 -- the change of a number that isn't registered
 pub alters_none : (s : ControlState) (change : Change1) (list : List Reg) (i : Option ℕ) → reg_of s.regs change.reg ≡ None → Alters list list i i (changed s change)
 unfolding changed
@@ -202,6 +230,18 @@ alters_more s changes n d list now after i j k within so_far step =
       interned = λ c is. subst (λ (w : Course). InternsWithin i k c.altered w.altered) (sym (same c))
           (within-on i j k c.altered (changed_all s (take n changes) c).altered (changed s change (changed_all s (take n changes) c)).altered
           (so_far.interned c is) (step.interned (changed_all s (take n changes) c) (so_far.made c is)));
+    }
+
+-- where only so many of the changes were made
+pub costs_of_front : (s : ControlState) (changes : List Change1) (n : ℕ) (list now : List Reg) (i j : Option ℕ)
+    → Alters list now i j (changed_all s (take n changes)) → Costs list i j (changed_all s changes)
+costs_of_front s changes n list now i j so_far =
+    let same : (c : Course) → changed_all s changes c ≡ changed_all s (drop n changes) (changed_all s (take n changes) c) =
+    λ c. ap (λ l. changed_all s l c) (sym (take-append-drop n changes)) ∙ changed_all-append s (take n changes) (drop n changes) c in record {
+      interned = λ c is.
+          let front = changed_all s (take n changes) c in
+          subst (λ (w : Course). InternsWithin i j c.altered w.altered) (sym (same c))
+          (within-up i j c.altered front.altered (changed_all s (drop n changes) front).altered (changed_all_rises s (drop n changes) front) (so_far.interned c is));
     }
 
 pub so-true : (now on : Bool) → on ≡ true → is_so now on ≡ now

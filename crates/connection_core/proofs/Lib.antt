@@ -1,3 +1,4 @@
+pub mod Errors
 pub mod Looking
 pub mod Earlier
 pub mod Callbacks

@@ -1,5 +1,5 @@
 -- The phases of a packet: its raises, the changes that they ask, and what its connection has come to.
-use Rattle.std.proofs.Common.{◌≡◌, ℕ, ◌+◌, eqb, Bool, true, false, cond, Some, None, Option, List, [], ◌∷◌, ◌++◌, refl, sym, ap, subst, ◌∙◌, append-nil}
+use Rattle.std.proofs.Common.{◌≡◌, ℕ, ◌+◌, ◌≤◌, eqb, Bool, true, false, cond, Some, None, Option, List, [], ◌∷◌, ◌++◌, refl, sym, ap, subst, ◌∙◌, append-nil, arith}
 use Rattle.packet_views.specs.declared.packet.Head.{Head}
 use Rattle.tcp_emulation.specs.declared.segment.Side.{Side}
 use Rattle.flow_socket.specs.View.{SocketView, SocketStandsFor}
@@ -24,10 +24,10 @@ use Rattle.connection_core.specs.declared.ledger.Notes.{Notes}
 use Rattle.connection_core.specs.declared.ledger.Counts.{Counts}
 use Rattle.connection_core.specs.declared.ledger.Ledger.{Ledger}
 use Rattle.connection_core.specs.Course.{Course, is_on, is_so, altered_to, called, called_all, called_at, raised, switched, changed, changed_all, settled, phase}
-use Rattle.connection_core.specs.History.{History, fresh, lone_course, begin, go_on, done, sender_phase, receiver_phase, received_unless, verdict_of, drops_of}
-use Rattle.connection_core.specs.Trees.{active_in}
-use Rattle.connection_core.specs.Standing.{IsNoted, IsConnection, IsUnder, Steps, Alters, Reached, Makes, Stepped}
-use Rattle.connection_core.proofs.Changing.{within-same}
+use Rattle.connection_core.specs.History.{History, fresh, lone_course, begin, go_on, done, sender_phase, receiver_phase, received_unless, followed, verdict_of, drops_of}
+use Rattle.connection_core.specs.Trees.{active_in, InternsWithin}
+use Rattle.connection_core.specs.Standing.{IsNoted, IsConnection, IsUnder, Steps, Alters, Costs, CostsUnder, Reached, Makes, Stepped}
+use Rattle.connection_core.proofs.Changing.{within-same, within-up, changed_all_rises}
 
 -- ---- what callbacks and changes leave alone
 
@@ -140,19 +140,51 @@ phase_made app s keep list after i j number from raises socket socket_after note
       subst (λ n. Reached keep others after socket_after notes_after emptied i j n (settled s made)) (altered-raised app s number from raises c) reached;
 }
 
+phase_rises : (app : Meaning) (s : ControlState) (number : ℕ) (from : Side) (raises : List Raise) (c : Course) → c.altered ≤ (phase app s number from raises c).altered
+unfolding phase settled
+phase_rises app s number from raises c =
+    let made = raised app s number from raises c in
+    subst (λ n. n ≤ (changed_all s made.asked made).altered) (altered-raised app s number from raises c) (changed_all_rises s made.asked made)
+
+-- a phase that failed before its changes
+pub phase_costs_none : (app : Meaning) (s : ControlState) (keep : Bool) (list : List Reg) (i : Option ℕ) (number : ℕ) (from : Side) (raises : List Raise) (socket : SocketView) (notes : Notes) (ledger : Ledger)
+    → CostsUnder keep list socket notes ledger i i (phase app s number from raises)
+phase_costs_none app s keep list i number from raises socket notes ledger = record {
+  interned = λ others c u. within-up i i c.altered c.altered (phase app s number from raises c).altered (phase_rises app s number from raises c) (within-same i c.altered);
+}
+
+-- one that failed among them
+pub phase_costs : (app : Meaning) (s : ControlState) (keep : Bool) (list : List Reg) (i j : Option ℕ) (number : ℕ) (from : Side) (raises : List Raise)
+    (socket socket_after : SocketView) (notes notes_after : Notes) (ledger roomy called_for : Ledger)
+    → roomy.changes.items ≡ ledger.changes.items → roomy.drop ≡ ledger.drop → roomy.counts ≡ ledger.counts
+    → Steps keep list socket notes roomy socket_after notes_after called_for (raised app s number from raises)
+    → Costs list i j (changed_all s called_for.changes.items)
+    → CostsUnder keep list socket notes ledger i j (phase app s number from raises)
+unfolding phase settled
+phase_costs app s keep list i j number from raises socket socket_after notes notes_after ledger roomy called_for changes drop counts steps costs = record {
+  interned = λ others c u.
+      let made = raised app s number from raises c in
+      let under = steps.stands others c (under_room keep others list socket notes ledger roomy c changes drop counts u) in
+      let asked : InternsWithin i j made.altered (changed_all s made.asked made).altered =
+      subst (λ l. InternsWithin i j made.altered (changed_all s l made).altered) under.asked (costs.interned made under.active) in
+      subst (λ n. InternsWithin i j n (changed_all s made.asked made).altered) (altered-raised app s number from raises c) asked;
+}
+
 -- ---- the sender's phase
 
-pub sender_reached : (app : Meaning) (s : ControlState) (keep : Bool) (others : Counts) (at : ℕ → Option Reg) (tree : TreeLists) (after : List Reg) (i j : Option ℕ) (number : ℕ) (from : Side) (head : Head)
-    (answer : Sent) (raises : List Raise) (flow : Flow) (socket socket_after : SocketView) (notes notes_after : Notes) (ledger begun ledger_after : Ledger) (h : History)
+-- What a phase makes of each course that stands, that of the sender makes of the connection's. `R` is what is known of a course
+-- before and after.
+pub sender_makes : (app : Meaning) (s : ControlState) (keep : Bool) (others : Counts) (at : ℕ → Option Reg) (tree : TreeLists) (number : ℕ) (from : Side) (head : Head)
+    (answer : Sent) (raises : List Raise) (flow : Flow) (socket : SocketView) (notes : Notes) (ledger begun : Ledger) (h : History) (R : Course → Course → Type 0)
     → IsConnection keep others at tree flow notes ledger.counts h
     → ((e : Emulation) → SocketStandsFor flow.socket e → SocketStandsFor socket (sent from head e))
     → ((e : Emulation) → SocketStandsFor flow.socket e → answer ≡ sent_answer from head e)
     → raises ≡ sender_raises head from flow.count (eqb flow.count 0) answer
     → begun.changes.items ≡ [] → begun.drop ≡ None → begun.counts ≡ ledger.counts
-    → Makes keep (active_in at tree) socket notes begun i after socket_after notes_after ledger_after j (phase app s number from raises)
-    → Reached keep others after socket_after notes_after ledger_after i j h.altered (sender_phase app s number from head h)
+    → ((c : Course) → IsUnder keep others (active_in at tree) socket notes begun c → R c (phase app s number from raises c))
+    → R (begin (sent from head h.emulation) h) (sender_phase app s number from head h)
 unfolding sender_phase
-sender_reached app s keep others at tree after i j number from head answer raises flow socket socket_after notes notes_after ledger begun ledger_after h is heard answers raised_are none no_drop counts makes =
+sender_makes app s keep others at tree number from head answer raises flow socket notes ledger begun h R is heard answers raised_are none no_drop counts makes =
     let e = h.emulation in
     let all : raises ≡ sender_raises head from h.count (eqb h.count 0) (sent_answer from head e) =
     raised_are ∙ ap (λ n. sender_raises head from n (eqb n 0) answer) is.kept.count ∙ ap (λ a. sender_raises head from h.count (eqb h.count 0) a) (answers e is.kept.socket) in
@@ -164,20 +196,21 @@ sender_reached app s keep others at tree after i j number from head answer raise
       asked = none;
       drop = no_drop;
     } in
-    subst (λ l. Reached keep others after socket_after notes_after ledger_after i j h.altered (phase app s number from l c)) all (makes.stands others c under)
+    subst (λ l. R c (phase app s number from l c)) all (makes c under)
 
 -- ---- the receiver's phase
 
-pub receiver_reached : (app : Meaning) (s : ControlState) (keep : Bool) (others : Counts) (list after : List Reg) (i j : Option ℕ) (number : ℕ) (from : Side) (head : Head) (payload : List ℕ) (count : ℕ)
-    (answer : Got) (raises : List Raise) (socket heard socket_after : SocketView) (notes notes_after : Notes) (ledger ledger_after : Ledger) (c : Course)
+-- the same of the receiver's
+pub receiver_makes : (app : Meaning) (s : ControlState) (keep : Bool) (others : Counts) (list : List Reg) (number : ℕ) (from : Side) (head : Head) (payload : List ℕ) (count : ℕ)
+    (answer : Got) (raises : List Raise) (socket heard : SocketView) (notes : Notes) (ledger : Ledger) (c : Course) (R : Course → Course → Type 0)
     → IsUnder keep others list socket notes ledger c
     → ((e : Emulation) → SocketStandsFor socket e → SocketStandsFor heard (received from head payload e))
     → ((e : Emulation) → SocketStandsFor socket e → answer ≡ got_of from head payload e)
     → raises ≡ receiver_raises head from count answer
-    → Makes keep list heard notes ledger i after socket_after notes_after ledger_after j (phase app s number from raises)
-    → Reached keep others after socket_after notes_after ledger_after i j c.altered (receiver_phase app s number from head payload count c)
+    → ((d : Course) → IsUnder keep others list heard notes ledger d → R d (phase app s number from raises d))
+    → R (go_on (received from head payload c.emulation) c) (receiver_phase app s number from head payload count c)
 unfolding receiver_phase
-receiver_reached app s keep others list after i j number from head payload count answer raises socket heard socket_after notes notes_after ledger ledger_after c u stands answers raised_are makes =
+receiver_makes app s keep others list number from head payload count answer raises socket heard notes ledger c R u stands answers raised_are makes =
     let e = c.emulation in
     let all : raises ≡ receiver_raises head from count (got_of from head payload e) = raised_are ∙ ap (λ a. receiver_raises head from count a) (answers e u.heard) in
     let d = go_on (received from head payload e) c in
@@ -188,7 +221,21 @@ receiver_reached app s keep others list after i j number from head payload count
       asked = u.asked;
       drop = u.drop;
     } in
-    subst (λ l. Reached keep others after socket_after notes_after ledger_after i j c.altered (phase app s number from l d)) all (makes.stands others d under)
+    subst (λ l. R d (phase app s number from l d)) all (makes d under)
+
+receiver_rises : (app : Meaning) (s : ControlState) (number : ℕ) (from : Side) (head : Head) (payload : List ℕ) (count : ℕ) (c : Course)
+    → c.altered ≤ (receiver_phase app s number from head payload count c).altered
+unfolding receiver_phase
+receiver_rises app s number from head payload count c =
+    phase_rises app s number from (receiver_raises head from count (got_of from head payload c.emulation)) (go_on (received from head payload c.emulation) c)
+
+-- one that failed before its phase
+pub receiver_costs_none : (app : Meaning) (s : ControlState) (keep : Bool) (list : List Reg) (i : Option ℕ) (number : ℕ) (from : Side) (head : Head) (payload : List ℕ) (count : ℕ)
+    (socket : SocketView) (notes : Notes) (ledger : Ledger) → CostsUnder keep list socket notes ledger i i (receiver_phase app s number from head payload count)
+receiver_costs_none app s keep list i number from head payload count socket notes ledger = record {
+  interned = λ others c u.
+      within-up i i c.altered c.altered (receiver_phase app s number from head payload count c).altered (receiver_rises app s number from head payload count c) (within-same i c.altered);
+}
 
 -- ---- the packet
 
@@ -225,6 +272,27 @@ received_stepped keep others at tree flow notes before ledger i j number c r h c
       interned = reached.interned;
     } in
     subst (λ o. Stepped keep others at tree flow notes ledger.counts i j c.altered (received_unless o number c r h)) drop is
+
+-- it failed at its receiver
+pub received_costs : (i j : Option ℕ) (number : ℕ) (c r : Course) (h : History) (before : Ledger) → before.drop ≡ None → before.drop ≡ c.drop → InternsWithin i j c.altered r.altered
+    → InternsWithin i j c.altered (received_unless c.drop number c r h).altered
+received_costs i j number c r h before none asked costs =
+    let drop : None ≡ c.drop = sym none ∙ asked in
+    subst (λ o. InternsWithin i j c.altered (received_unless o number c r h).altered) drop costs
+
+received_rises : (o : Option Reason) (number : ℕ) (c r : Course) (h : History) → c.altered ≤ r.altered → c.altered ≤ (received_unless o number c r h).altered
+received_rises None number c r h up = up
+received_rises (Some reason) number c r h up = omega arith
+
+-- it failed at its sender
+pub sender_costs : (app : Meaning) (s : ControlState) (i j : Option ℕ) (number : ℕ) (from : Side) (head : Head) (payload : List ℕ) (h : History)
+    → InternsWithin i j h.altered (sender_phase app s number from head h).altered → InternsWithin i j h.altered (followed app s number from head payload h).altered
+unfolding followed
+sender_costs app s i j number from head payload h costs =
+    let sent = sender_phase app s number from head h in
+    let received = receiver_phase app s number from head payload h.count sent in
+    within-up i j h.altered sent.altered (received_unless sent.drop number sent received h).altered
+    (received_rises sent.drop number sent received h (receiver_rises app s number from head payload h.count sent)) costs
 
 pub drops_more : (o : Option Reason) (number : ℕ) (c r : Course) (h : History) → (received_unless o number c r h).drops ≡ h.drops ++ drops_of (verdict_of o) number
 drops_more None number c r h = sym (append-nil h.drops)

@@ -51,6 +51,14 @@ pub record Alters (list list_after : List Reg) (interns interns_after : Option �
   pub made : (c : Course) → c.active ≡ list → (step c).active ≡ list_after
   pub interned : (c : Course) → c.active ≡ list → InternsWithin interns interns_after c.altered (step c).altered
 
+-- a step over this private list, which may have failed on its way, cost at most one intern for each alteration that it makes
+pub record Costs (list : List Reg) (interns interns_after : Option ℕ) (step : Course → Course) : Type 0 where
+  pub interned : (c : Course) → c.active ≡ list → InternsWithin interns interns_after c.altered (step c).altered
+
+-- the same of a step of whatever course a ledger stands for
+pub record CostsUnder (keep : Bool) (list : List Reg) (socket : SocketView) (notes : Notes) (ledger : Ledger) (interns interns_after : Option ℕ) (step : Course → Course) : Type 0 where
+  pub interned : (others : Counts) (c : Course) → IsUnder keep others list socket notes ledger c → InternsWithin interns interns_after c.altered (step c).altered
+
 -- a packet has come to this course, with at most one intern for each alteration since the list was altered so often
 pub record Reached (keep : Bool) (others : Counts) (list : List Reg) (socket : SocketView) (notes : Notes) (ledger : Ledger) (interns interns_after : Option ℕ) (altered : ℕ) (c : Course) : Type 0 where
   pub under : IsUnder keep others list socket notes ledger c

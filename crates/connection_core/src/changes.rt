@@ -1,13 +1,13 @@
 //! The changes of a connection's registrations.
 
-ghost use Rattle.std.specs.Prelude.{◌≡◌, ◌==◌, OnOk};
+ghost use Rattle.std.specs.Prelude.{◌≡◌, ◌==◌, OnOk, OnErr};
 ghost use Rattle.std.specs.List.{list_any};
 ghost use Rattle.shared_forest.specs.Store.{Keeps};
 ghost use Rattle.forest_versions.specs.State.{ControlState};
 ghost use Rattle.connection_core.specs.InForce.{told, defs_at, IsInForce};
 ghost use Rattle.connection_core.specs.Course.{is_so, changed, changed_all};
 ghost use Rattle.connection_core.specs.Trees.{active_in, IsForestIn};
-ghost use Rattle.connection_core.specs.Standing.{Alters};
+ghost use Rattle.connection_core.specs.Standing.{Alters, Costs};
 
 use crate::in_force::InForce;
 use app_api::Change1;
@@ -33,7 +33,7 @@ fn is_so(tree: &Tree, change: Change1) -> bool
     }
 }
 
-// Makes one change, where its number is registered and isn't so already.
+// Makes one change, where its number is registered and isn't so already. An error changes nothing.
 fn change<F: Forests>(
     alloc: Global,
     in_force: &InForce,
@@ -48,6 +48,7 @@ fn change<F: Forests>(
     ensures kept { Keeps F.answered F.content forests.old forests.new }
     ensures made { OnOk result ((s : ControlState) → IsInForce in_force.now s → Alters (active_in (told in_force.now) (F.content forests.old forest.old)) (active_in (told in_force.now) (F.content forests.new forest.new))
         (F.interns forests.old) (F.interns forests.new) (changed s change)) }
+    ensures err { OnErr result (forests.new ≡ forests.old) }
 {
     let Some(reg) = in_force.reg_at(change.reg) else {
         return Ok(());
@@ -80,6 +81,8 @@ pub(crate) fn change_all<F: Forests>(
     ensures kept { Keeps F.answered F.content forests.old forests.new }
     ensures made { OnOk result ((s : ControlState) → IsInForce in_force.now s → Alters (active_in (told in_force.now) (F.content forests.old forest.old)) (active_in (told in_force.now) (F.content forests.new forest.new))
         (F.interns forests.old) (F.interns forests.new) (changed_all s changes.now)) }
+    ensures failed { OnErr result ((s : ControlState) → IsInForce in_force.now s
+        → Costs (active_in (told in_force.now) (F.content forests.old forest.old)) (F.interns forests.old) (F.interns forests.new) (changed_all s changes.now)) }
 {
     for asked in changes {
         change(alloc, in_force, forests, forest, *asked)?;

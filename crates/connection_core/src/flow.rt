@@ -1,6 +1,6 @@
 //! An open connection: its monitoring socket, and the tree of its registrations.
 
-ghost use Rattle.std.specs.Prelude.{◌≡◌, ◌+◌, ◌<◌, ◌≤◌, ◌^◌, ◌++◌, [], OnOk, IfOk};
+ghost use Rattle.std.specs.Prelude.{◌≡◌, ◌+◌, ◌<◌, ◌≤◌, ◌^◌, ◌++◌, [], OnOk, OnErr, IfOk};
 ghost use Rattle.shared_forest.specs.Store.{Keeps};
 ghost use Rattle.app_api.specs.declared.reaction.Verdict.{Verdict as VerdictOf};
 ghost use Rattle.connection_core.specs.Trees.{active_in, IsForestIn, InternsWithin};
@@ -50,7 +50,7 @@ impl Flow {
     ghost use Rattle.connection_core.specs.declared.ledger.Counts.{Counts};
     ghost use Rattle.connection_core.specs.Course.{Course, changed_all, phase as made};
     ghost use Rattle.connection_core.specs.History.{History, fresh, sender_phase, receiver_phase, received_unless, followed, verdict, drops_of, is_over};
-    ghost use Rattle.connection_core.specs.Standing.{IsFlow, IsConnection, IsUnder, RiseBy, Alters, Makes, Reached, Stepped};
+    ghost use Rattle.connection_core.specs.Standing.{IsFlow, IsConnection, IsUnder, RiseBy, Alters, Costs, CostsUnder, Makes, Reached, Stepped};
 
     /// A connection before its first packet, with the tree of the registrations that are on at its start. It takes no memory.
     pub fn new(alloc: Global, in_force: &InForce, forest: Shared) -> Flow
@@ -82,6 +82,8 @@ impl Flow {
         ensures made { OnOk result ((s : ControlState) → IsInForce in_force.now s
             → Alters (active_in (told in_force.now) (F.content forests.old self.old.forest)) (active_in (told in_force.now) (F.content forests.new self.new.forest))
             (F.interns forests.old) (F.interns forests.new) (changed_all s ledger.old.changes.items)) }
+        ensures failed { OnErr result ((s : ControlState) → IsInForce in_force.now s
+            → Costs (active_in (told in_force.now) (F.content forests.old self.old.forest)) (F.interns forests.old) (F.interns forests.new) (changed_all s ledger.old.changes.items)) }
         ensures asked { OnOk result (ledger.new.changes.items ≡ []) }
         ensures drop { ledger.new.drop ≡ ledger.old.drop }
         ensures counts { ledger.new.counts ≡ ledger.old.counts }
@@ -120,6 +122,9 @@ impl Flow {
             → Makes terms.now.keep (active_in (told terms.now.in_force) (F.content forests.old self.old.forest)) self.old.socket notes.old ledger.old (F.interns forests.old)
             (active_in (told terms.now.in_force) (F.content forests.new self.new.forest)) self.new.socket notes.new ledger.new (F.interns forests.new)
             (made (A.meaning terms.now.app.now) s phase.now.number phase.now.from (raises_of phase.now.raised))) }
+        ensures failed { OnErr result ((s : ControlState) → IsInForce terms.now.in_force s
+            → CostsUnder terms.now.keep (active_in (told terms.now.in_force) (F.content forests.old self.old.forest)) self.old.socket notes.old ledger.old (F.interns forests.old) (F.interns forests.new)
+            (made (A.meaning terms.now.app.now) s phase.now.number phase.now.from (raises_of phase.now.raised))) }
         ensures rise { RiseBy 1530 ledger.old.counts ledger.new.counts }
         ensures count { self.new.count ≡ self.old.count }
     {
@@ -151,6 +156,9 @@ impl Flow {
             → IsConnection terms.now.keep others (told terms.now.in_force) (F.content forests.old self.old.forest) self.old notes.old ledger.old.counts h
             → Reached terms.now.keep others (active_in (told terms.now.in_force) (F.content forests.new self.new.forest)) self.new.socket notes.new ledger.new
             (F.interns forests.old) (F.interns forests.new) h.altered (sender_phase (A.meaning terms.now.app.now) s arrived.now.number arrived.now.from arrived.now.head.now h)) }
+        ensures failed { OnErr result ((s : ControlState) (others : Counts) (h : History) → IsInForce terms.now.in_force s
+            → IsConnection terms.now.keep others (told terms.now.in_force) (F.content forests.old self.old.forest) self.old notes.old ledger.old.counts h
+            → InternsWithin (F.interns forests.old) (F.interns forests.new) h.altered (sender_phase (A.meaning terms.now.app.now) s arrived.now.number arrived.now.from arrived.now.head.now h).altered) }
         ensures rise { RiseBy 1530 ledger.old.counts ledger.new.counts }
         ensures count { self.new.count ≡ self.old.count }
     {
@@ -193,6 +201,9 @@ impl Flow {
             → IsUnder terms.now.keep others (active_in (told terms.now.in_force) (F.content forests.old self.old.forest)) self.old.socket notes.old ledger.old c
             → Reached terms.now.keep others (active_in (told terms.now.in_force) (F.content forests.new self.new.forest)) self.new.socket notes.new ledger.new
             (F.interns forests.old) (F.interns forests.new) c.altered (receiver_phase (A.meaning terms.now.app.now) s arrived.now.number arrived.now.from arrived.now.head.now arrived.now.payload.now self.old.count c)) }
+        ensures failed { OnErr result ((s : ControlState) → IsInForce terms.now.in_force s
+            → CostsUnder terms.now.keep (active_in (told terms.now.in_force) (F.content forests.old self.old.forest)) self.old.socket notes.old ledger.old (F.interns forests.old) (F.interns forests.new)
+            (receiver_phase (A.meaning terms.now.app.now) s arrived.now.number arrived.now.from arrived.now.head.now arrived.now.payload.now self.old.count)) }
         ensures rise { RiseBy 1530 ledger.old.counts ledger.new.counts }
         ensures count { self.new.count ≤ self.old.count + 1 }
         ensures counted { OnOk result (self.new.count ≡ self.old.count + 1) }
@@ -232,6 +243,10 @@ impl Flow {
             → IsUnder terms.now.keep others (active_in (told terms.now.in_force) (F.content forests.old self.old.forest)) self.old.socket notes.old ledger.old c
             → Stepped terms.now.keep others (told terms.now.in_force) (F.content forests.new self.new.forest) self.new notes.new ledger.new.counts (F.interns forests.old) (F.interns forests.new) c.altered
             (received_unless c.drop arrived.now.number c (receiver_phase (A.meaning terms.now.app.now) s arrived.now.number arrived.now.from arrived.now.head.now arrived.now.payload.now h.count c) h)) }
+        ensures failed { OnErr result ((s : ControlState) (others : Counts) (h : History) (c : Course) → IsInForce terms.now.in_force s → self.old.count ≡ h.count
+            → IsUnder terms.now.keep others (active_in (told terms.now.in_force) (F.content forests.old self.old.forest)) self.old.socket notes.old ledger.old c
+            → InternsWithin (F.interns forests.old) (F.interns forests.new) c.altered
+            (received_unless c.drop arrived.now.number c (receiver_phase (A.meaning terms.now.app.now) s arrived.now.number arrived.now.from arrived.now.head.now arrived.now.payload.now h.count c) h).altered) }
         ensures rise { RiseBy 1530 ledger.old.counts ledger.new.counts }
         ensures count { self.new.count ≤ self.old.count + 1 }
     {
@@ -269,10 +284,10 @@ impl Flow {
             → IsConnection terms.now.keep others (told terms.now.in_force) (F.content forests.old self.old.forest) self.old notes.old ledger.old.counts h
             → IsConnection terms.now.keep others (told terms.now.in_force) (F.content forests.new self.new.forest) self.new notes.new ledger.new.counts (followed (A.meaning terms.now.app.now) s arrived.now.number arrived.now.from arrived.now.head.now arrived.now.payload.now h)) }
 
-        // At most one intern for each change that altered the private list.
-        ensures interned { OnOk result ((s : ControlState) (others : Counts) (h : History) → IsInForce terms.now.in_force s
+        // At most one intern for each change that alters the private list, also where memory is refused on the way.
+        ensures interned { (s : ControlState) (others : Counts) (h : History) → IsInForce terms.now.in_force s
             → IsConnection terms.now.keep others (told terms.now.in_force) (F.content forests.old self.old.forest) self.old notes.old ledger.old.counts h
-            → InternsWithin (F.interns forests.old) (F.interns forests.new) h.altered (followed (A.meaning terms.now.app.now) s arrived.now.number arrived.now.from arrived.now.head.now arrived.now.payload.now h).altered) }
+            → InternsWithin (F.interns forests.old) (F.interns forests.new) h.altered (followed (A.meaning terms.now.app.now) s arrived.now.number arrived.now.from arrived.now.head.now arrived.now.payload.now h).altered }
 
         ensures over { IfOk result (λ step. (s : ControlState) (others : Counts) (h : History) → IsInForce terms.now.in_force s
             → IsConnection terms.now.keep others (told terms.now.in_force) (F.content forests.old self.old.forest) self.old notes.old ledger.old.counts h

@@ -13,7 +13,6 @@ use Rattle.forest_versions.specs.State.{ControlState}
 use Rattle.forest_versions.specs.Master.{Versions, Tells}
 use Rattle.connection_core.specs.declared.flow.Step.{Step}
 use Rattle.connection_core.specs.declared.ledger.Counts.{Counts}
-use Rattle.connection_core.specs.declared.ledger.Notes.{Notes}
 use Rattle.connection_core.specs.History.{History, followed, verdict, drops_of, is_over, weight_of}
 use Rattle.connection_core.specs.InForce.{told_at}
 use Rattle.connection_core.specs.Standing.{IsFlow, IsConnection}
@@ -22,9 +21,9 @@ use Rattle.lane_core.specs.declared.connection.Connection.{Connection}
 use Rattle.lane_core.specs.declared.slot.Slot.{Slot}
 use Rattle.lane_core.specs.Sight.{Segment, Tcp, Moment, key_of_segment}
 use Rattle.lane_core.specs.Records.{RecordSoFar, VersionedPacket, is_open_at, side_of, side_in, history_after, verdict_after, verdict_on, started_by, continued_by, added}
-use Rattle.lane_core.specs.Shown.{total, alterations, drops_of as drops_in}
+use Rattle.lane_core.specs.Shown.{alterations, drops_of as drops_in}
 use Rattle.lane_core.specs.Places.{place_of, IsSingle}
-use Rattle.lane_core.specs.Steps.{stepped, Stepping, IsStep, Follows, noted_in}
+use Rattle.lane_core.specs.Steps.{stepped, Stepping, IsStep, Follows, Failed}
 use Rattle.lane_core.specs.Kept.{IsOpen, IsOpenAt, AreKept, slot_of, arrived}
 use Rattle.lane_core.proofs.Places.{place_by-within, place_by-passes, joins, IsSingle-set}
 use Rattle.lane_core.proofs.Holding.{left_of_and, holds_before, holds_after}
@@ -80,6 +79,26 @@ module _ (app : Meaning) (control_at : ℕ → ControlState) (keep : Bool) (m : 
     };
   }
 
+  -- the history of the record that takes a packet is that of its connection's step
+  next_history : (content : Shared → TreeLists) (number : ℕ) (moment : Moment) (segment : Segment) (p : VersionedPacket) → p ≡ arrived p.version number moment (Tcp segment)
+      → (conn : Connection) (past : RecordSoFar) → IsOpen told content conn past
+      → stepped app (control_at conn.version) conn number segment past.history ≡ (continued_by app control_at p.arrival past).history
+  unfolding history_after
+  next_history content number moment segment p is_p conn past is =
+      rw is_p (ap (λ side. followed app (control_at conn.version) number side segment.head segment.payload past.history) (is.sides segment)
+      ∙ ap (λ v. followed app (control_at v) number (side_in past.first.sight segment) segment.head segment.payload past.history) is.version)
+
+  -- what one record's alterations cost, all of them cost
+  altered_in : (interns interns' : Option ℕ) (p : VersionedPacket) (pasts : List RecordSoFar) (i : ℕ) (d : RecordSoFar) → i < length pasts
+      → added app control_at p pasts ≡ set pasts i (continued_by app control_at p.arrival (get_or pasts i d))
+      → InternsWithin interns interns' (get_or pasts i d).history.altered (continued_by app control_at p.arrival (get_or pasts i d)).history.altered
+      → InternsWithin interns interns' (alterations pasts) (alterations (added app control_at p pasts))
+  altered_in interns interns' p pasts i d within new costs =
+      let past = get_or pasts i d in
+      let next = continued_by app control_at p.arrival past in
+      rw new (InternsWithin-others interns interns' (others_of (λ r. r.history.altered) pasts i) past.history.altered next.history.altered (alterations pasts) (alterations (set pasts i next))
+      (others_and (λ r. r.history.altered) pasts i d within) (others_with (λ r. r.history.altered) pasts i next within) costs)
+
   module _ (content content' : Shared → TreeLists) (interns interns' : Option ℕ) (number : ℕ) (moment : Moment) (segment : Segment) (p : VersionedPacket) (is_p : p ≡ arrived p.version number moment (Tcp segment))
       (conn after : Connection) (slot slot' : Slot) (counts counts' : Counts) (step : Step) (past : RecordSoFar) (rest : Counts) where
     abbrev next : RecordSoFar
@@ -92,10 +111,7 @@ module _ (app : Meaning) (control_at : ℕ → ControlState) (keep : Bool) (m : 
     Stepped = IsStep app keep (told conn.version) (control_at conn.version) (content conn.flow.forest) (content' after.flow.forest) interns interns' conn after slot slot' counts counts' number segment step
 
     next_is : IsOpen told content conn past → stepped app (control_at conn.version) conn number segment past.history ≡ next.history
-    unfolding history_after
-    next_is is =
-        rw is_p (ap (λ side. followed app (control_at conn.version) number side segment.head segment.payload past.history) (is.sides segment)
-        ∙ ap (λ v. followed app (control_at v) number (side_in past.first.sight segment) segment.head segment.payload past.history) is.version)
+    next_is is = next_history content number moment segment p is_p conn past is
 
     open_is : IsOpen told content conn past → Stepped → Went → IsOpen told content' after next
     open_is is st went = record {
@@ -179,9 +195,7 @@ module _ (app : Meaning) (control_at : ℕ → ControlState) (keep : Bool) (m : 
           weighed = noted.weight ∙ ap (λ (h : History). others_of (λ r. weight_of r.history.entries) pasts i + weight_of h.entries) same
               ∙ sym (others_with (λ r. weight_of r.history.entries) pasts i next within);
         });
-        interned = rw new (InternsWithin-others interns interns' (others_of (λ r. r.history.altered) pasts i) past.history.altered next.history.altered (alterations pasts) (alterations (set pasts i next))
-            (others_and (λ r. r.history.altered) pasts i d within) (others_with (λ r. r.history.altered) pasts i next within)
-            (subst (λ (h : History). InternsWithin interns interns' past.history.altered h.altered) same went.interned));
+        interned = altered_in interns interns' p pasts i d within new (subst (λ (h : History). InternsWithin interns interns' past.history.altered h.altered) same went.interned);
         verdict_is = verdict_in content content' interns interns' number moment segment p refl f.conn f.conn_after f.slot f.slot_after counts counts' step past (others pasts i) is went
             ∙ sym (verdict_on-some app control_at p pasts i d there);
         dropped =
@@ -190,3 +204,24 @@ module _ (app : Meaning) (control_at : ℕ → ControlState) (keep : Bool) (m : 
             rw new (dropped_on (drops_in (set pasts i next)) (drops_in pasts) (others_of (λ r. length r.history.drops) pasts i) (length past.history.drops) (length next.history.drops) (length (drops_of step.verdict number))
             (others_with (λ r. length r.history.drops) pasts i next within) (others_and (λ r. length r.history.drops) pasts i d within) longer);
       }
+
+  -- the open connection failed to take it
+  pub continued_costs : (content : Shared → TreeLists) (interns interns' : Option ℕ) (flows : Flows Connection) (slots : List Slot) (counts : Counts) (key : EndpointPair) (version number : ℕ) (moment : Moment) (segment : Segment) (pasts : List RecordSoFar)
+      → ((v : ℕ) → Tells m v (control_at v)) → AreKept keep told content flows slots counts pasts → key ≡ key_of_segment segment
+      → Failed app keep m content interns interns' flows slots counts key number segment
+      → InternsWithin interns interns' (alterations pasts) (alterations (added app control_at (arrived version number moment (Tcp segment)) pasts))
+  continued_costs content interns interns' flows slots counts key version number moment segment pasts tells stands key_is f =
+      let p = arrived version number moment (Tcp segment) in
+      let own = key_of_segment segment in
+      let i = f.conn.place in
+      let d = started_by app control_at p in
+      let was : found flows own ≡ Some f.conn = ap (λ k. found flows k) (sym key_is) ∙ f.was in
+      let at = subst (λ o. IsOpenAt told content o (place_of own pasts) pasts) was (stands.placed own) in
+      let there : place_of own pasts ≡ Some i = at.0 in
+      let past = get_or pasts i d in
+      let is : IsOpen told content f.conn past = at.1 d in
+      let within = place_by-within (is_open_at own) pasts i there in
+      let slot_was : f.slot ≡ slot_of keep past = f.slot_is ∙ ap (λ ss. get_or ss i f.slot) stands.shown ∙ get_or-map (slot_of keep) pasts i d f.slot within in
+      let costs = (f.costs (control_at f.conn.version) (tells f.conn.version)).interned (others pasts i) past.history (connection_in content flows slots counts pasts i d f.conn f.slot stands within is slot_was) in
+      altered_in interns interns' p pasts i d within ((joins app control_at p pasts i there).changed d)
+      (subst (λ (h : History). InternsWithin interns interns' past.history.altered h.altered) (next_history content number moment segment p refl f.conn past is) costs)

@@ -2,12 +2,11 @@
 use Rattle.std.proofs.Common.{◌≡◌, ℕ, Bool, true, false, List, [], ◌∷◌, map, refl, ap, ◌∙◌}
 use Rattle.std.specs.Prelude.{if◌then◌else◌}
 use Rattle.app_api.specs.App.{Meaning}
-use Rattle.report_text.specs.declared.record.Record.{Record}
 use Rattle.report_text.specs.declared.record.RecordKind.TheVariants.{Conn, Orphan}
 use Rattle.packet_views.specs.declared.packet.Class.TheVariants as Class
 use Rattle.lane_core.specs.Sight.{Segment, Sight, Tcp, Other}
 use Rattle.lane_core.specs.Records.{RecordSoFar, opens}
-use Rattle.lane_core.specs.Shown.{kind_of, record_of}
+use Rattle.lane_core.specs.Shown.{kind_of}
 use Rattle.lane_core.specs.Kept.{slot_of}
 use Rattle.lane_core.specs.End.{ended, is_conn}
 use Rattle.lane_core.specs.Lane.{shown}

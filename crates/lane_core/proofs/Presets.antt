@@ -7,7 +7,7 @@ use Rattle.packet_views.specs.declared.packet.Class.TheVariants as Class
 use Rattle.packet_views.specs.declared.packet.Head.{Head}
 use Rattle.tcp_emulation.specs.declared.segment.Side.{Side}
 use Rattle.tcp_emulation.specs.declared.segment.Side.TheVariants.{Client}
-use Rattle.flow_socket.specs.Emulation.{Emulation, sent, sent_answer, received, got_of}
+use Rattle.flow_socket.specs.Emulation.{sent, sent_answer, received, got_of}
 use Rattle.flow_socket.specs.declared.answers.Sent.{Sent}
 use Rattle.flow_socket.specs.declared.answers.Got.{Got}
 use Rattle.app_api.specs.Events.{START, PKT_IN, REXMIT, NEW_DATA, ERROR, STATE, END, ORPHAN}
@@ -23,7 +23,7 @@ use Rattle.event_trees.specs.Defs.{path}
 use Rattle.event_trees.specs.Fires.{fires}
 use Rattle.forest_versions.specs.State.{ControlState, start, active as first_active}
 use Rattle.connection_core.specs.Course.{Course, first_reason, called, called_all, called_at, raised, changed_all, settled, phase}
-use Rattle.connection_core.specs.History.{History, followed, sender_phase, receiver_phase, received_unless, begin, go_on, orphaned, lone_course}
+use Rattle.connection_core.specs.History.{History, followed, sender_phase, receiver_phase, received_unless, begin, go_on, orphaned}
 use Rattle.lane_core.specs.Sight.{Segment, Sight, Tcp, Other}
 use Rattle.lane_core.specs.Records.{orphan_raises_of}
 use Rattle.lane_core.specs.Laws.{at_sender, at_receiver, at_orphan, PresetsAreCalled}

@@ -1,15 +1,13 @@
 -- One event more at the end of a run.
-use Rattle.std.proofs.Common.{◌≡◌, ◌↔◌, ℕ, zero, suc, ◌+◌, ◌<◌, ◌≤◌, Bool, true, false, Option, Some, None, List, [], ◌∷◌, ◌++◌, length, take, refl, sym, ap, subst, ◌∙◌, arith, add-zero, append_assoc, le_refl}
+use Rattle.std.proofs.Common.{◌≡◌, ◌↔◌, ℕ, zero, suc, ◌+◌, ◌<◌, ◌≤◌, true, false, Option, Some, None, List, [], ◌∷◌, ◌++◌, length, take, refl, sym, ap, subst, ◌∙◌, arith, add-zero, le_refl}
 use Rattle.std.specs.Prelude.{if◌then◌else◌}
-use Rattle.std.proofs.lemmas.List.{length-append}
 use Rattle.app_api.specs.App.{Meaning}
-use Rattle.app_api.specs.declared.registration.Reg.{Reg}
 use Rattle.forest_versions.specs.declared.command.Command.{Command}
 use Rattle.forest_versions.specs.State.{ControlState, control, master}
 use Rattle.lane_core.specs.Sight.{Arrival}
 use Rattle.lane_core.specs.Records.{VersionedPacket, RecordSoFar, belongs_to, first_history, history_after, continued_by, added, records_from, first_verdict, verdict_after, verdict_on}
 use Rattle.lane_core.specs.Run.{LaneEvent, Gave, Arrived, commands_of, versioned_from, packets_of, control_of, lane_run, last_number, newest_of}
-use Rattle.lane_core.specs.Shown.{total, weight}
+use Rattle.lane_core.specs.Shown.{weight}
 use Rattle.lane_core.specs.Lane.{IsHeavy, next_verdict, with_event}
 use Rattle.lane_core.specs.Laws.{OneEventMore, NewestIsTheLast, LaterCommandsChangeNone, LastPacketIsAdded}
 use Rattle.lane_core.proofs.Weighing.{weight_never_falls}

@@ -1,6 +1,6 @@
 -- What a lane stands for, one event later.
-use Rattle.std.proofs.Common.{◌≡◌, ℕ, zero, suc, ◌+◌, ◌<◌, ◌≤◌, ◌&&◌, nat_lt, Bool, true, false, Option, Some, None, List, [], ◌∷◌, ◌++◌, length, take, Result, Ok, Err, refl, sym, ap, subst, ◌∙◌, arith}
-use Rattle.std.specs.Prelude.{◌-◌, OnOk, SomeIff, is_err}
+use Rattle.std.proofs.Common.{◌≡◌, ℕ, zero, suc, ◌+◌, ◌<◌, ◌≤◌, ◌&&◌, nat_lt, Bool, true, false, Option, Some, None, List, [], ◌∷◌, ◌++◌, length, Result, Ok, Err, refl, sym, ap, subst, ◌∙◌, arith}
+use Rattle.std.specs.Prelude.{◌-◌, OnOk, OnErr, SomeIff, is_err}
 use Rattle.std.proofs.lemmas.List.{take_all}
 use Rattle.std.proofs.lemmas.Grind.{common_steps}
 use Rattle.app_api.specs.App.{Meaning}
@@ -9,7 +9,7 @@ use Rattle.app_api.specs.declared.reaction.Verdict.TheVariants.{Pass, Drop}
 use Rattle.shared_forest.specs.declared.store.Shared.{Shared}
 use Rattle.shared_forest.specs.Lists.{TreeLists}
 use Rattle.forest_versions.specs.declared.command.Command.{Command}
-use Rattle.forest_versions.specs.State.{ControlState, control, master}
+use Rattle.forest_versions.specs.State.{control, master}
 use Rattle.forest_versions.specs.Master.{Versions, StandsFor}
 use Rattle.connection_core.specs.History.{drops_of}
 use Rattle.connection_core.specs.InForce.{told_at}
@@ -18,16 +18,20 @@ use Rattle.lane_core.specs.declared.errors.LaneError.{LaneError}
 use Rattle.lane_core.specs.declared.errors.LaneError.TheVariants.{Heavy, NoMemory}
 use Rattle.lane_core.specs.declared.kept.Kept.{Kept}
 use Rattle.lane_core.specs.Sight.{Arrival}
-use Rattle.lane_core.specs.Records.{RecordSoFar, added, records_from, verdict_on}
-use Rattle.lane_core.specs.Run.{LaneEvent, Gave, Arrived, commands_of, control_of, lane_run, newest_of}
-use Rattle.lane_core.specs.Shown.{total, alterations, weight, drops_of as drops_in}
-use Rattle.lane_core.specs.Kept.{Keeps, Adds, AddsTo}
-use Rattle.lane_core.specs.Lane.{IsRun, IsHeavy, newest_by, next_verdict, with_event}
+use Rattle.lane_core.specs.Records.{RecordSoFar, added}
+use Rattle.lane_core.specs.Run.{LaneEvent, Gave, Arrived, commands_of, control_of, lane_run}
+use Rattle.lane_core.specs.Shown.{alterations, weight, drops_of as drops_in}
+use Rattle.lane_core.specs.Kept.{Keeps, Adds, AddsTo, CostsAtMost}
+use Rattle.lane_core.specs.Lane.{IsRun, IsHeavy, newest_by, with_event}
 use Rattle.lane_core.proofs.Runs.{commands-arrived, commands-gave, newest-arrived, newest-gave, packet_is_added, command_changes_none}
 
 pub ok_value : {T E : Type 0} (P : Type 0) (r : Result T E) → is_err r ≡ false → OnOk r P → P
 ok_value P (Ok v) ok p = p
 ok_value P (Err e) ok p = absurd (cc)
+
+pub err_value : {T E P : Type 0} (r : Result T E) → ((v : T) → r ≡ Ok v → ⊥) → OnErr r P → P
+err_value (Ok v) none p = absurd (none v refl)
+err_value (Err e) none p = p
 
 pub on_ok_always : {T E P : Type 0} (r : Result T E) → P → OnOk r P
 on_ok_always (Ok v) p = p
@@ -106,6 +110,17 @@ module _ (app : Meaning) (keep : Bool) (m : Versions) where
         not_over : (b : Bool) (n : ℕ) → (b && nat_lt 134217728 n) ≡ false → b ≡ true → 134217728 < n → ⊥
         not_over true n under keeps over = grind (arith, common_steps)
         not_over false n under keeps over = absurd (cc)
+
+  -- a packet at which memory was refused
+  pub packet_costs : (content : Shared → TreeLists) (kept : Kept) (next : ℕ) (events : List LaneEvent) (a : Arrival) (interns interns' : Option ℕ) → IsRun app keep m content kept next None events
+      → CostsAtMost app keep m (record { version = m.version; arrival = a }) content kept interns interns'
+      → InternsWithin interns interns' (alterations (lane_run app events)) (alterations (lane_run app (with_event (Arrived a) events)))
+  packet_costs content kept next events a interns interns' r costs =
+      let commands = r.commands refl in
+      let before = alterations (lane_run app events) in
+      subst (λ rs. InternsWithin interns interns' before (alterations rs)) (sym (packet_is_added app events a))
+      (subst (λ v. InternsWithin interns interns' before (alterations (added app (control_of app events) (record { version = v; arrival = a }) (lane_run app events)))) commands.version
+      (costs (control_of app events) (lane_run app events) commands.told (now_is (commands_of events) commands) (r.records refl)))
 
   -- a lane that failed for this packet
   pub packet_failed : (content content' : Shared → TreeLists) (kept kept' : Kept) (next next' : ℕ) (events : List LaneEvent) (a : Arrival) (e : LaneError) → next' ≡ a.number + 1

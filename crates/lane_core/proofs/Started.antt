@@ -1,7 +1,7 @@
 -- A packet that starts a record: a connection that it opens, or an orphan.
-use Rattle.std.proofs.Common.{◌≡◌, ℕ, zero, ◌+◌, ◌≤◌, Bool, true, false, Option, Some, None, List, [], ◌∷◌, ◌++◌, length, refl, sym, ap, subst, ◌∙◌, arith}
+use Rattle.std.proofs.Common.{◌≡◌, ℕ, ◌+◌, Bool, true, false, Option, Some, None, List, [], ◌∷◌, ◌++◌, length, refl, sym, ap, subst, ◌∙◌, arith}
 use Rattle.std.proofs.lemmas.List.{map-append}
-use Rattle.std.specs.Prelude.{if◌then◌else◌, ◌&&◌, not, map}
+use Rattle.std.specs.Prelude.{if◌then◌else◌, ◌&&◌, not}
 use Rattle.packet_views.specs.declared.packet.Head.{Head}
 use Rattle.packet_views.specs.declared.packet.Class.{Class}
 use Rattle.flow_table.specs.Key.{EndpointPair, same_key}
@@ -17,6 +17,7 @@ use Rattle.builtin_events.specs.Raises.{orphan_raises}
 use Rattle.report_text.specs.declared.record.RecordKind.TheVariants.{Conn, Orphan}
 use Rattle.forest_versions.specs.State.{ControlState}
 use Rattle.forest_versions.specs.Master.{Versions, Tells}
+use Rattle.connection_core.specs.declared.flow.Flow.{Flow}
 use Rattle.connection_core.specs.declared.flow.Step.{Step}
 use Rattle.connection_core.specs.declared.ledger.Counts.{Counts}
 use Rattle.connection_core.specs.declared.ledger.Notes.{Notes}
@@ -30,7 +31,7 @@ use Rattle.lane_core.specs.Sight.{Segment, Sight, Tcp, Moment, key_of_segment}
 use Rattle.lane_core.specs.Records.{RecordSoFar, VersionedPacket, opens, is_between, is_open_at, belongs_to, side_of, history_after, verdict_after, verdict_on, orphan_raises_of, started_by, added}
 use Rattle.lane_core.specs.Shown.{kind_of, alterations, drops_of as drops_in}
 use Rattle.lane_core.specs.Places.{place_by, place_of}
-use Rattle.lane_core.specs.Steps.{stepped, Stepping, IsStep, IsLone, Opens, noted_in}
+use Rattle.lane_core.specs.Steps.{stepped, IsLone, Opens, opened_by}
 use Rattle.lane_core.specs.Kept.{IsOpen, IsOpenAt, AreKept, IsStray, slot_of, arrived}
 use Rattle.lane_core.proofs.Places.{place_with, place_by-append, added-new, IsSingle-append}
 use Rattle.lane_core.proofs.Holding.{and_true, and_false, left_of_and}
@@ -46,6 +47,19 @@ is_false_true false fails passes = cc
 none_kept : (keep : Bool) (es : List Entry) → es ≡ [] → es ≡ (if keep then [] else [])
 none_kept true es none = none
 none_kept false es none = none
+
+-- a connection of no packet, whose record has no callback
+pub fresh_connection : (app : Meaning) (keep : Bool) (at : ℕ → Option Reg) (tree : TreeLists) (flow : Flow) (notes : Notes) (counts : Counts) (s : ControlState)
+    → IsFlow at tree flow (fresh app s) → notes ≡ record { tally = app.fresh; entries = [] } → IsConnection keep counts at tree flow notes counts (fresh app s)
+fresh_connection app keep at tree flow notes counts s new is = record {
+  kept = new;
+  noted = record {
+    tally = ap (λ (n : Notes). n.tally) is;
+    entries = none_kept keep notes.entries (ap (λ (n : Notes). n.entries) is);
+    callbacks = omega arith;
+    weight = omega arith;
+  };
+}
 
 -- what the table has for a key, with one record more
 started_at : (told : ℕ → ℕ → Option Reg) (content : Shared → TreeLists) (flows after : Flows Connection) (pasts : List RecordSoFar) (past : RecordSoFar) (conn : Connection) (own key : EndpointPair) (over : Bool)
@@ -100,7 +114,20 @@ module _ (app : Meaning) (control_at : ℕ → ControlState) (keep : Bool) (m : 
     pub verdict_is : verdict ≡ verdict_on app control_at p pasts
     pub dropped : drops_in (added app control_at p pasts) ≡ drops_in pasts + length (drops_of verdict p.arrival.number)
 
+  -- what its record's alterations cost, all of them cost
+  altered_by : (interns interns' : Option ℕ) (p : VersionedPacket) (pasts : List RecordSoFar) → place_by (belongs_to p.arrival.sight) pasts ≡ None
+      → InternsWithin interns interns' 0 (started_by app control_at p).history.altered → InternsWithin interns interns' (alterations pasts) (alterations (added app control_at p pasts))
+  altered_by interns interns' p pasts none costs =
+      let r = started_by app control_at p in
+      rw (added-new app control_at p pasts none)
+      (InternsWithin-others interns interns' (alterations pasts) 0 r.history.altered (alterations pasts) (alterations (pasts ++ r ∷ [])) (omega arith) (total-append (λ q. q.history.altered) pasts r) costs)
+
   -- ---- a packet of no connection
+
+  -- it costs no intern
+  pub stray_costs : (interns : Option ℕ) (p : VersionedPacket) (pasts : List RecordSoFar) → place_by (belongs_to p.arrival.sight) pasts ≡ None
+      → InternsWithin interns interns (alterations pasts) (alterations (added app control_at p pasts))
+  stray_costs interns p pasts none = altered_by interns interns p pasts none (InternsWithin-none interns 0 (started_by app control_at p).history.altered (omega arith))
 
   -- the record of a packet of no connection
   stray_is : (version number : ℕ) (moment : Moment) (sight : Sight) → opens sight ≡ false
@@ -144,8 +171,7 @@ module _ (app : Meaning) (control_at : ℕ → ControlState) (keep : Bool) (m : 
             (noted.weight ∙ ap (λ (g : History). counts.weight + weight_of g.entries) (sym same))
             (λ key. unopened told content flows flows pasts r key (shut_at key) refl (stands.placed key))
             (λ key passes. absurd (is_false_true (is_open_at key r) (shut_at key) passes));
-        interned = rw (added-new app control_at p pasts stray.untaken)
-            (InternsWithin-none interns (alterations pasts) (alterations (pasts ++ r ∷ [])) (rw (total-append (λ q. q.history.altered) pasts r) (omega arith)));
+        interned = stray_costs interns p pasts stray.untaken;
         verdict_is = lone.passes counts before ∙ ap (orphan_verdict app m.now number) (sym stray.raises) ∙ ap (λ c. orphan_verdict app c number (orphan_raises_of sight)) (sym now_is)
             ∙ sym (verdict_on-none app control_at p pasts stray.untaken ∙ (rw stray.shut refl));
         dropped = ap drops_in (added-new app control_at p pasts stray.untaken) ∙ total-append (λ q. length q.history.drops) pasts r
@@ -178,13 +204,7 @@ module _ (app : Meaning) (control_at : ℕ → ControlState) (keep : Bool) (m : 
       let none : place_of own pasts ≡ None = subst (λ o. IsOpenAt told content o (place_of own pasts) pasts) (ap (λ k. found flows k) (sym key_is) ∙ absent) (stands.placed own) in
       let st = o.step_is s (subst (λ v. Tells m v s) (sym version_is) (tells version)) in
       let notes_were = ap (λ (t : Slot). t.notes) slot_was in
-      let noted_before : IsNoted keep counts h0.tally [] slot.notes counts = record {
-        tally = ap (λ (n : Notes). n.tally) notes_were;
-        entries = none_kept keep slot.notes.entries (ap (λ (n : Notes). n.entries) notes_were);
-        callbacks = omega arith;
-        weight = omega arith;
-      } in
-      let went = st.stands counts h0 (record { kept = new; noted = noted_before }) in
+      let went = st.stands counts h0 (fresh_connection app keep (told conn.version) o.tree conn.flow slot.notes counts s new notes_were) in
       let h1 = stepped app s conn number segment h0 in
       let same : h1 ≡ r.history = rw opening (ap (λ c. followed app s number (side_of c segment) segment.head segment.payload h0) client) in
       let noted = went.stands.noted in
@@ -221,10 +241,21 @@ module _ (app : Meaning) (control_at : ℕ → ControlState) (keep : Bool) (m : 
             (left k ∙ ap (λ w. if not step.over && same_key w k then Some stepped_open else found flows k) key_is) (st.place ∙ last) open_is
             (IsOpenAt-stored keep told content content' (found flows k) (place_of k pasts) pasts (stored k) (stands.placed k)))
             (λ k passes. subst (λ w. place_of w pasts ≡ None) (same_key-equal own k (left_of_and (same_key own k) (not step.over) (sym (own_key k) ∙ passes))) none);
-        interned = rw (added-new app control_at p pasts none)
-            (InternsWithin-others interns interns' (alterations pasts) 0 r.history.altered (alterations pasts) (alterations (pasts ++ r ∷ [])) (omega arith) (total-append (λ q. q.history.altered) pasts r)
-            (subst (λ (g : History). InternsWithin interns interns' 0 g.altered) same went.interned));
+        interned = altered_by interns interns' p pasts none (subst (λ (g : History). InternsWithin interns interns' 0 g.altered) same went.interned);
         verdict_is = went.verdict_is ∙ ap (λ c. verdict app s number (side_of c segment) segment.head h0) client ∙ sym (verdict_on-none app control_at p pasts none ∙ (rw opening refl));
         dropped = ap drops_in (added-new app control_at p pasts none) ∙ total-append (λ q. length q.history.drops) pasts r
             ∙ ap (λ ds. drops_in pasts + length ds) (ap (λ (g : History). g.drops) (sym same) ∙ went.drops);
       }
+
+  -- one that failed on its way
+  pub opening_costs : (content : Shared → TreeLists) (interns interns' : Option ℕ) (flows : Flows Connection) (slots : List Slot) (counts : Counts) (key : EndpointPair) (number : ℕ) (moment : Moment) (segment : Segment) (pasts : List RecordSoFar)
+      → control_at m.version ≡ m.now → AreKept keep told content flows slots counts pasts → key ≡ key_of_segment segment → found flows key ≡ None → opens (Tcp segment) ≡ true
+      → InternsWithin interns interns' 0 (opened_by app m.now number segment).altered
+      → InternsWithin interns interns' (alterations pasts) (alterations (added app control_at (arrived m.version number moment (Tcp segment)) pasts))
+  unfolding history_after
+  opening_costs content interns interns' flows slots counts key number moment segment pasts now_is stands key_is absent opening costs =
+      let p = arrived m.version number moment (Tcp segment) in
+      let own = key_of_segment segment in
+      let none : place_of own pasts ≡ None = subst (λ o. IsOpenAt told content o (place_of own pasts) pasts) (ap (λ k. found flows k) (sym key_is) ∙ absent) (stands.placed own) in
+      let same : opened_by app m.now number segment ≡ (started_by app control_at p).history = rw opening (ap (λ c. opened_by app c number segment) (sym now_is)) in
+      altered_by interns interns' p pasts none (subst (λ (g : History). InternsWithin interns interns' 0 g.altered) same costs)

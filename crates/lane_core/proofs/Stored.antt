@@ -1,8 +1,7 @@
 -- A lane stands for the same records over a store that keeps the trees of its open connections, and before its first packet for none.
 use Rattle.std.proofs.Common.{◌≡◌, ℕ, Bool, Option, Some, None, List, [], refl, sym, subst}
-use Rattle.std.specs.FinMap as fin
 use Rattle.flow_table.specs.Key.{EndpointPair}
-use Rattle.flow_table.specs.Table.{Flows, found, key_cmp}
+use Rattle.flow_table.specs.Table.{Flows, found}
 use Rattle.app_api.specs.declared.registration.Reg.{Reg}
 use Rattle.shared_forest.specs.declared.store.Shared.{Shared}
 use Rattle.shared_forest.specs.Lists.{TreeLists}
@@ -10,7 +9,7 @@ use Rattle.connection_core.specs.declared.ledger.Counts.{Counts}
 use Rattle.connection_core.specs.Standing.{IsFlow}
 use Rattle.lane_core.specs.declared.connection.Connection.{Connection}
 use Rattle.lane_core.specs.declared.slot.Slot.{Slot}
-use Rattle.lane_core.specs.Records.{RecordSoFar, is_open_at}
+use Rattle.lane_core.specs.Records.{RecordSoFar}
 use Rattle.lane_core.specs.Shown.{total}
 use Rattle.lane_core.specs.Places.{place_by, place_of, IsSingle}
 use Rattle.lane_core.specs.Kept.{IsOpen, IsOpenAt, AreKept}
@@ -49,3 +48,12 @@ module _ (keep : Bool) (told : ℕ → ℕ → Option Reg) where
     counted = stands.counted;
     weighed = stands.weighed;
   }
+
+-- where no open connection took a packet, what was kept is kept still
+pub kept_unfollowed : {S : Type 0} (content : S → Shared → TreeLists) (keep : Bool) (told : ℕ → ℕ → Option Reg) (old new : S) (flows after : Flows Connection) (slots slots' : List Slot) (counts counts' : Counts) (pasts : List RecordSoFar)
+    → after ≡ flows → slots' ≡ slots → new ≡ old → counts' ≡ counts → AreKept keep told (content old) flows slots counts pasts → AreKept keep told (content new) after slots' counts' pasts
+kept_unfollowed content keep told old new flows after slots slots' counts counts' pasts flows_are slots_are store_is counts_are kept =
+    subst (λ n. AreKept keep told (content new) after slots' n pasts) (sym counts_are)
+    (subst (λ s. AreKept keep told (content s) after slots' counts pasts) (sym store_is)
+    (subst (λ ss. AreKept keep told (content old) after ss counts pasts) (sym slots_are)
+    (subst (λ (f : Flows Connection). AreKept keep told (content old) f slots counts pasts) (sym flows_are) kept)))

@@ -1,6 +1,6 @@
 -- Records as they are defined are tidy.
-use Rattle.std.proofs.Common.{◌≡◌, ℕ, ◌+◌, ◌≤◌, ◌&&◌, ◌||◌, ◌==◌, not, Bool, true, false, if◌then◌else◌, Option, Some, None, List, [], ◌∷◌, ◌++◌, map, refl, sym, ap, subst, ◌∙◌, arith, le_refl}
-use Rattle.std.specs.Prelude.{IsTrue, nat_le, nat_lt}
+use Rattle.std.proofs.Common.{◌≡◌, ℕ, ◌+◌, ◌≤◌, ◌&&◌, ◌==◌, not, Bool, true, false, if◌then◌else◌, Option, Some, None, List, [], ◌∷◌, ◌++◌, map, refl, ◌∙◌, arith, le_refl}
+use Rattle.std.specs.Prelude.{nat_le}
 use Rattle.std.specs.List.{list_all, filter}
 use Rattle.std.specs.Ordering.{is_lt}
 use Rattle.std.proofs.lemmas.List.Folds.{list_all-append}
@@ -22,17 +22,16 @@ use Rattle.app_api.specs.declared.registration.Reg.{Reg}
 use Rattle.builtin_events.specs.declared.raise.Raise.{Raise}
 use Rattle.builtin_events.specs.Raises.{sender_raises, receiver_raises}
 use Rattle.event_trees.specs.declared.defs.EventDef.{EventDef}
-use Rattle.event_trees.specs.Private.{reg_cmp, put_reg, without, edited}
+use Rattle.event_trees.specs.Private.{reg_cmp, put_reg, edited}
 use Rattle.event_trees.specs.Fires.{is_called, fires}
-use Rattle.report_text.specs.declared.record.RecordKind.{RecordKind}
 use Rattle.report_text.specs.declared.record.RecordKind.TheVariants.{Conn, Orphan}
 use Rattle.report_text.specs.Tidy.{is_event, is_tidy_seen, is_tidy_entry, may_have, are_named, is_tidy_record, tidy}
-use Rattle.forest_versions.specs.State.{ControlState, active as first_active}
+use Rattle.forest_versions.specs.State.{ControlState}
 use Rattle.connection_core.specs.Course.{Course, seen_by, is_on, is_so, altered_to, switched, changed, changed_all, settled, called, called_all, called_at, raised, phase}
 use Rattle.connection_core.specs.History.{History, fresh, begin, go_on, sender_phase, receiver_phase, received_unless, followed, lone_course, orphaned, verdict_of, drops_of}
-use Rattle.lane_core.specs.Sight.{Segment, Sight, Tcp, Other, Arrival}
+use Rattle.lane_core.specs.Sight.{Sight, Tcp, Other, Arrival}
 use Rattle.lane_core.specs.Records.{RecordSoFar, VersionedPacket, opens, belongs_to, side_in, history_after, orphan_raises_of, continued_by, added, records_from}
-use Rattle.lane_core.specs.Shown.{record_of, kind_of, fields_of}
+use Rattle.lane_core.specs.Shown.{record_of, kind_of}
 use Rattle.lane_core.specs.Laws.{AreEvents, rise}
 use Rattle.lane_core.proofs.Pieces.{pieces_have_bytes}
 

@@ -10,13 +10,11 @@ use Rattle.app_api.specs.declared.reaction.Reason.{Reason}
 use Rattle.app_api.specs.declared.registration.Reg.{Reg}
 use Rattle.app_api.specs.Reg.{reg_of}
 use Rattle.builtin_events.specs.declared.raise.Raise.{Raise}
-use Rattle.builtin_events.specs.Raises.{sender_raises, receiver_raises}
 use Rattle.event_trees.specs.Fires.{fires}
 use Rattle.event_trees.specs.Private.{edited}
-use Rattle.flow_socket.specs.Emulation.{Emulation}
 use Rattle.forest_versions.specs.State.{ControlState}
-use Rattle.connection_core.specs.Course.{Course, bytes_seen, is_on, is_so, altered_to, switched, changed, changed_all, settled, called, called_all, called_at, raised, phase}
-use Rattle.connection_core.specs.History.{History, begin, go_on, sender_phase, receiver_phase, received_unless, followed, weight_of}
+use Rattle.connection_core.specs.Course.{Course, is_on, is_so, altered_to, switched, changed, changed_all, settled, called, called_all, called_at, raised, phase}
+use Rattle.connection_core.specs.History.{History, sender_phase, receiver_phase, received_unless, followed, weight_of}
 use Rattle.lane_core.specs.Sight.{Sight, Tcp, Other, Arrival}
 use Rattle.lane_core.specs.Records.{VersionedPacket, RecordSoFar, belongs_to, side_in, history_after, continued_by, added}
 use Rattle.lane_core.specs.Shown.{total, weight}

@@ -1,5 +1,5 @@
 -- Only for proofs: records under way as records of the report.
-use Rattle.std.specs.Prelude.{ℕ, Bool, true, false, [], if◌then◌else◌}
+use Rattle.std.specs.Prelude.{Bool, true, false, [], if◌then◌else◌}
 use Rattle.app_api.specs.App.{Meaning}
 use Rattle.report_text.specs.declared.record.RecordKind.{RecordKind}
 use Rattle.report_text.specs.declared.record.RecordKind.TheVariants.{Conn, Orphan}

@@ -76,6 +76,12 @@ AddsTo app keep m p content interns kept content_after interns_after kept_after 
     (control_at : ℕ → ControlState) (so_far : List RecordSoFar) → ((v : ℕ) → Tells m v (control_at v)) → control_at m.version ≡ m.now → Keeps keep (told_at m) content kept so_far
     → Adds app control_at p so_far keep (told_at m) content_after kept_after interns_after interns verdict
 
+-- A packet at which the lane failed: it cost at most one intern for each alteration of a private list that it makes.
+abbrev pub CostsAtMost : Meaning → Bool → Versions → VersionedPacket → (Shared → TreeLists) → Kept → Option ℕ → Option ℕ → Type 0
+CostsAtMost app keep m p content kept interns interns_after =
+    (control_at : ℕ → ControlState) (so_far : List RecordSoFar) → ((v : ℕ) → Tells m v (control_at v)) → control_at m.version ≡ m.now → Keeps keep (told_at m) content kept so_far
+    → InternsWithin interns interns_after (alterations so_far) (alterations (added app control_at p so_far))
+
 -- a packet of this version, with its number, its time and what is seen of it
 abbrev pub arrived : ℕ → ℕ → Moment → Sight → VersionedPacket
 arrived version number moment sight = record { version = version; arrival = record { number = number; moment = moment; sight = sight } }

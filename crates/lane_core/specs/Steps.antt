@@ -1,5 +1,5 @@
 -- Only for proofs: what a packet does to an open connection, to the record under way and to the table of open connections.
-use Rattle.std.specs.Prelude.{◌≡◌, ℕ, ◌≤◌, ◌<◌, Bool, Option, Some, None, List, [], ◌++◌, length, if◌then◌else◌, slice_set, get_or}
+use Rattle.std.specs.Prelude.{◌≡◌, ℕ, Bool, Option, Some, None, List, [], ◌++◌, if◌then◌else◌, slice_set, get_or}
 use Rattle.flow_table.specs.Key.{EndpointPair, same_key}
 use Rattle.flow_table.specs.Table.{Flows, found}
 use Rattle.app_api.specs.App.{Meaning}
@@ -52,6 +52,17 @@ pub record IsStep (app : Meaning) (keep : Bool) (at : ℕ → Option Reg) (contr
   pub stands : (others : Counts) (h : History) → IsConnection keep others at tree conn.flow slot.notes counts h
       → Stepping app keep at control others tree tree_after interns interns_after conn conn_after slot slot_after counts counts_after number segment step h
 
+-- a connection's step, which may have failed on its way, cost at most one intern for each alteration that it makes
+pub record StepCosts (app : Meaning) (keep : Bool) (at : ℕ → Option Reg) (control : ControlState) (tree : TreeLists) (interns interns_after : Option ℕ)
+    (conn : Connection) (slot : Slot) (counts : Counts) (number : ℕ) (segment : Segment) : Type 0 where
+  pub interned : (others : Counts) (h : History) → IsConnection keep others at tree conn.flow slot.notes counts h
+      → InternsWithin interns interns_after h.altered (stepped app control conn number segment h).altered
+
+-- a connection's history after the segment that opens it
+abbrev pub opened_by : Meaning → ControlState → ℕ → Segment → History
+opened_by app control number segment =
+    followed app control number (side_of segment.sender segment) segment.head segment.payload (fresh app control)
+
 -- a packet of no connection was called for: `slot` is a record of no callback
 pub record IsLone (app : Meaning) (keep : Bool) (control : ControlState) (slot slot_after : Slot) (counts counts_after : Counts) (number : ℕ) (raises : List Raise) (verdict_is : Verdict) : Type 0 where
   pub name : slot_after.name ≡ slot.name
@@ -78,7 +89,17 @@ pub record Steps (app : Meaning) (keep : Bool) (m : Versions) (content content_a
   pub left : (other : EndpointPair) → found new other ≡ (if same_key key other then Some conn_after else found old other)
   pub noted : slots_after ≡ slice_set slots conn.place slot_after
 
--- the same, and the connection was closed where it is over
+-- the open connection of a key failed to make a step
+pub record Failed (app : Meaning) (keep : Bool) (m : Versions) (content : Shared → TreeLists) (interns interns_after : Option ℕ)
+    (flows : Flows Connection) (slots : List Slot) (counts : Counts) (key : EndpointPair) (number : ℕ) (segment : Segment) : Type 0 where
+  pub conn : Connection
+  pub slot : Slot
+  pub was : found flows key ≡ Some conn
+  pub slot_is : slot ≡ get_or slots conn.place slot
+  pub costs : (control : ControlState) → Tells m conn.version control
+      → StepCosts app keep (told_at m conn.version) control (content conn.flow.forest) interns interns_after conn slot counts number segment
+
+-- the open connection of a key made a step, and it was closed where it is over
 pub record Follows (app : Meaning) (keep : Bool) (m : Versions) (content content_after : Shared → TreeLists) (interns interns_after : Option ℕ)
     (old new : Flows Connection) (slots slots_after : List Slot) (counts counts_after : Counts) (key : EndpointPair) (number : ℕ) (segment : Segment) (step : Step) : Type 0 where
   pub conn : Connection

@@ -7,7 +7,7 @@ ghost use Rattle.shared_forest.specs.Store.{Keeps};
 ghost use Rattle.connection_core.specs.Standing.{RiseBy};
 ghost use Rattle.lane_core.specs.Seen.{seen};
 ghost use Rattle.lane_core.specs.Trees.{AreAnswered, AreTrees, ArePlaced, AreSince, AreShort};
-ghost use Rattle.lane_core.specs.Steps.{Steps, Follows};
+ghost use Rattle.lane_core.specs.Steps.{Steps, Follows, Failed};
 
 use crate::connection::Connection;
 use crate::packet::step_one;
@@ -44,6 +44,8 @@ fn step_flow<A: App, F: Forests>(
     ensures some { IfOk result (λ step. IfSome step (λ s. Steps (A.meaning world.now.app) world.now.keep world.now.master
         (F.content forests.old) (F.content forests.new) (F.interns forests.old) (F.interns forests.new)
         flows.old flows.new slots.old slots.new ledger.old.counts ledger.new.counts key.now number (seen segment.now) s)) }
+    ensures failed { OnErr result (Failed (A.meaning world.now.app) world.now.keep world.now.master (F.content forests.old) (F.interns forests.old) (F.interns forests.new)
+        flows.old slots.old ledger.old.counts key.now number (seen segment.now)) }
     ensures placed { ArePlaced (length slots.new) flows.new }
     ensures answered { AreAnswered (F.answered forests.new) flows.new }
     ensures trees { AreTrees world.now.master (F.content forests.new) flows.new }
@@ -98,6 +100,8 @@ pub(crate) fn follow<A: App, F: Forests>(
     ensures some { IfOk result (λ step. IfSome step (λ s. Follows (A.meaning world.now.app) world.now.keep world.now.master
         (F.content forests.old) (F.content forests.new) (F.interns forests.old) (F.interns forests.new)
         flows.old flows.new slots.old slots.new ledger.old.counts ledger.new.counts key.now number (seen segment.now) s)) }
+    ensures failed { OnErr result (Failed (A.meaning world.now.app) world.now.keep world.now.master (F.content forests.old) (F.interns forests.old) (F.interns forests.new)
+        flows.old slots.old ledger.old.counts key.now number (seen segment.now)) }
     ensures placed { ArePlaced (length slots.new) flows.new }
     ensures answered { AreAnswered (F.answered forests.new) flows.new }
     ensures trees { AreTrees world.now.master (F.content forests.new) flows.new }

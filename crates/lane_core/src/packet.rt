@@ -1,6 +1,6 @@
 //! What a packet does to one record: to that of an open connection, of one that it opens, or of its own.
 
-ghost use Rattle.std.specs.Prelude.{◌≡◌, ◌+◌, ◌<◌, ◌≤◌, ◌^◌, IfOk};
+ghost use Rattle.std.specs.Prelude.{◌≡◌, ◌+◌, ◌<◌, ◌≤◌, ◌^◌, IfOk, OnErr};
 ghost use Rattle.shared_forest.specs.Listing.{listing};
 ghost use Rattle.shared_forest.specs.Store.{Keeps};
 ghost use Rattle.event_trees.specs.Edit.{IsForestOf};
@@ -9,9 +9,10 @@ ghost use Rattle.forest_versions.specs.Master.{Tells};
 ghost use Rattle.forest_versions.specs.State.{ControlState, active};
 ghost use Rattle.connection_core.specs.InForce.{told_at};
 ghost use Rattle.connection_core.specs.Standing.{RiseBy};
+ghost use Rattle.connection_core.specs.Trees.{InternsWithin};
 ghost use Rattle.lane_core.specs.Seen.{seen};
 ghost use Rattle.lane_core.specs.Trees.{IsTree};
-ghost use Rattle.lane_core.specs.Steps.{IsStep, IsLone, Opens};
+ghost use Rattle.lane_core.specs.Steps.{IsStep, IsLone, Opens, StepCosts, opened_by};
 
 use crate::connection::Connection;
 use crate::segment::Segment;
@@ -63,6 +64,9 @@ pub(crate) fn step_one<A: App, F: Forests>(
         → IsStep (A.meaning world.now.app) world.now.keep (told_at world.now.master conn.old.version) control
         (F.content forests.old conn.old.flow.forest) (F.content forests.new conn.new.flow.forest) (F.interns forests.old) (F.interns forests.new)
         conn.old conn.new slot.old slot.new ledger.old.counts ledger.new.counts number (seen segment.now) step) }
+    ensures costs { OnErr result ((control : ControlState) → Tells world.now.master conn.old.version control
+        → StepCosts (A.meaning world.now.app) world.now.keep (told_at world.now.master conn.old.version) control
+        (F.content forests.old conn.old.flow.forest) (F.interns forests.old) (F.interns forests.new) conn.old slot.old ledger.old.counts number (seen segment.now)) }
 {
     let terms = Terms {
         app: &world.app,
@@ -110,6 +114,7 @@ pub(crate) fn start_one<A: App, F: Forests>(
     ensures tree { IfOk result (λ opened. IsTree world.now.master opened.conn.version (F.content forests.new opened.conn.flow.forest)) }
     ensures stands { IfOk result (λ opened. Opens (A.meaning world.now.app) world.now.keep world.now.master (F.content forests.new) (F.interns forests.old) (F.interns forests.new)
         ledger.old.counts ledger.new.counts place number (seen segment.now) opened.conn opened.slot opened.step) }
+    ensures interned { InternsWithin (F.interns forests.old) (F.interns forests.new) 0 (opened_by (A.meaning world.now.app) world.now.master.now number (seen segment.now)).altered }
 {
     let version = world.master.version();
     let kind = RecordKind::Conn {

@@ -78,7 +78,8 @@ pub trait Recorder {
     /// One more packet, of a number above all before. Answers what becomes of it.
     ///
     /// An error is want of memory; that the lane keeps entries and its callbacks weigh more than 134,217,728 with this
-    /// packet; or that for which the lane failed before.
+    /// packet; or that for which the lane failed before. Whatever is answered, the store interned at most once for each change
+    /// that the packet makes of a connection's private list.
     fn packet(
         &mut self,
         alloc: Global,
@@ -97,9 +98,7 @@ pub trait Recorder {
             → IsHeavy (Self.app self.old) (with_event (Arrived (arrival_of number frame.now)) events) → ⊥) }
         ensures heavy { Self.failed self.old ≡ None → result ≡ Err Error.Heavy → (Self.keeps self.old ≡ true) × ((events : List LaneEvent) → Self.stands self.old events
             → IsHeavy (Self.app self.old) (with_event (Arrived (arrival_of number frame.now)) events)) }
-        ensures interned { OnOk result ((events : List LaneEvent) → Self.stands self.old events → InternsWithin (Self.interns self.old) (Self.interns self.new)
-            (alterations (lane_run (Self.app self.old) events)) (alterations (lane_run (Self.app self.old) (with_event (Arrived (arrival_of number frame.now)) events)))) }
-        ensures interned_heavy { Self.failed self.old ≡ None → result ≡ Err Error.Heavy → (events : List LaneEvent) → Self.stands self.old events → InternsWithin (Self.interns self.old) (Self.interns self.new)
+        ensures interned { Self.failed self.old ≡ None → (events : List LaneEvent) → Self.stands self.old events → InternsWithin (Self.interns self.old) (Self.interns self.new)
             (alterations (lane_run (Self.app self.old) events)) (alterations (lane_run (Self.app self.old) (with_event (Arrived (arrival_of number frame.now)) events))) }
         ensures newest { Self.failed self.old ≡ None → Self.last self.new ≡ Some number }
         ensures version { Self.given self.new ≡ Self.given self.old }

@@ -14,7 +14,7 @@ ghost use Rattle.connection_core.specs.InForce.{told_at};
 ghost use Rattle.lane_core.specs.Sight.{Tcp, Other, Moment, arrival_of, key_of_segment};
 ghost use Rattle.lane_core.specs.Seen.{seen};
 ghost use Rattle.lane_core.specs.Records.{RecordSoFar, opens};
-ghost use Rattle.lane_core.specs.Kept.{Keeps, AddsTo, AddsStray, arrived};
+ghost use Rattle.lane_core.specs.Kept.{Keeps, AddsTo, AddsStray, CostsAtMost, arrived};
 
 use crate::command::give_to;
 use crate::flows::{follow, keep};
@@ -54,6 +54,9 @@ impl<A: App + Drop, F: Forests + Drop> Lane<A, F> {
         ensures stands { IfOk result (λ verdict. (moment : Moment)
             → AddsTo (A.meaning self.old.world.app) self.old.world.keep self.old.world.master (arrived self.old.world.master.version number moment (Tcp (seen segment.now)))
             (F.content self.old.forests) (F.interns self.old.forests) self.old.kept (F.content self.new.forests) (F.interns self.new.forests) self.new.kept verdict) }
+        ensures costs { OnErr result ((moment : Moment)
+            → CostsAtMost (A.meaning self.old.world.app) self.old.world.keep self.old.world.master (arrived self.old.world.master.version number moment (Tcp (seen segment.now)))
+            (F.content self.old.forests) self.old.kept (F.interns self.old.forests) (F.interns self.new.forests)) }
         ensures world { self.new.world ≡ self.old.world }
         ensures next { self.new.next ≡ self.old.next }
         ensures failed { self.new.failed ≡ self.old.failed }
@@ -88,6 +91,7 @@ impl<A: App + Drop, F: Forests + Drop> Lane<A, F> {
         requires weight { self.old.kept.ledger.counts.weight + 881280 ≤ 881280 * self.old.next }
         ensures stands { IfOk result (λ verdict. AddsStray (A.meaning self.old.world.app) self.old.world.keep self.old.world.master number class (option_copied head.entry)
             (F.content self.old.forests) (F.interns self.old.forests) self.old.kept (F.content self.new.forests) (F.interns self.new.forests) self.new.kept verdict) }
+        ensures forests { self.new.forests ≡ self.old.forests }
         ensures world { self.new.world ≡ self.old.world }
         ensures next { self.new.next ≡ self.old.next }
         ensures failed { self.new.failed ≡ self.old.failed }
@@ -123,6 +127,9 @@ impl<A: App + Drop, F: Forests + Drop> Lane<A, F> {
         ensures stands { IfOk result (λ verdict. (moment : Moment)
             → AddsTo (A.meaning self.old.world.app) self.old.world.keep self.old.world.master (arrived self.old.world.master.version number moment (Tcp (seen segment.now)))
             (F.content self.old.forests) (F.interns self.old.forests) self.old.kept (F.content self.new.forests) (F.interns self.new.forests) self.new.kept verdict) }
+        ensures costs { OnErr result ((moment : Moment)
+            → CostsAtMost (A.meaning self.old.world.app) self.old.world.keep self.old.world.master (arrived self.old.world.master.version number moment (Tcp (seen segment.now)))
+            (F.content self.old.forests) self.old.kept (F.interns self.old.forests) (F.interns self.new.forests)) }
         ensures world { self.new.world ≡ self.old.world }
         ensures next { self.new.next ≡ number + 1 }
         ensures failed { self.new.failed ≡ self.old.failed }
@@ -167,6 +174,9 @@ impl<A: App + Drop, F: Forests + Drop> Lane<A, F> {
         ensures stands { IfOk result (λ verdict. (moment : Moment)
             → AddsTo (A.meaning self.old.world.app) self.old.world.keep self.old.world.master (arrived self.old.world.master.version number moment (Other class))
             (F.content self.old.forests) (F.interns self.old.forests) self.old.kept (F.content self.new.forests) (F.interns self.new.forests) self.new.kept verdict) }
+        ensures costs { OnErr result ((moment : Moment)
+            → CostsAtMost (A.meaning self.old.world.app) self.old.world.keep self.old.world.master (arrived self.old.world.master.version number moment (Other class))
+            (F.content self.old.forests) self.old.kept (F.interns self.old.forests) (F.interns self.new.forests)) }
         ensures world { self.new.world ≡ self.old.world }
         ensures next { self.new.next ≡ number + 1 }
         ensures failed { self.new.failed ≡ self.old.failed }
@@ -220,6 +230,9 @@ impl<A: App + Drop, F: Forests + Drop> Lane<A, F> {
         ensures stands { IfOk result (λ verdict.
             AddsTo (A.meaning self.old.world.app) self.old.world.keep self.old.world.master (record { version = self.old.world.master.version; arrival = arrival_of number frame.now })
             (F.content self.old.forests) (F.interns self.old.forests) self.old.kept (F.content self.new.forests) (F.interns self.new.forests) self.new.kept verdict) }
+        ensures costs { OnErr result (
+            CostsAtMost (A.meaning self.old.world.app) self.old.world.keep self.old.world.master (record { version = self.old.world.master.version; arrival = arrival_of number frame.now })
+            (F.content self.old.forests) self.old.kept (F.interns self.old.forests) (F.interns self.new.forests)) }
         ensures world { self.new.world ≡ self.old.world }
         ensures next { self.new.next ≡ number + 1 }
         ensures failed { self.new.failed ≡ self.old.failed }
@@ -259,6 +272,9 @@ impl<A: App + Drop, F: Forests + Drop> Lane<A, F> {
         ensures stands { IfOk result (λ verdict.
             AddsTo (A.meaning self.old.world.app) self.old.world.keep self.old.world.master (record { version = self.old.world.master.version; arrival = arrival_of number frame.now })
             (F.content self.old.forests) (F.interns self.old.forests) self.old.kept (F.content self.new.forests) (F.interns self.new.forests) self.new.kept verdict) }
+        ensures costs { OnErr result (
+            CostsAtMost (A.meaning self.old.world.app) self.old.world.keep self.old.world.master (record { version = self.old.world.master.version; arrival = arrival_of number frame.now })
+            (F.content self.old.forests) self.old.kept (F.interns self.old.forests) (F.interns self.new.forests)) }
         ensures dropped { IfOk result (λ verdict. self.new.kept.dropped ≡ self.old.kept.dropped + length (drops_of verdict 0)) }
         ensures world { self.new.world ≡ self.old.world }
         ensures next { self.new.next ≡ number + 1 }

@@ -1,10 +1,11 @@
-use Rattle.std.proofs.Common.{◌≡◌, take, refl, subst, ◌∙◌}
+use Rattle.std.proofs.Common.{◌≡◌, take, refl, sym, subst, ◌∙◌}
 use Rattle.std.proofs.lemmas.List.{take_all}
 use Rattle.connection_core.specs.InForce.{told}
 use Rattle.connection_core.specs.Course.{changed_all}
 use Rattle.connection_core.specs.Trees.{active_in}
-use Rattle.connection_core.specs.Standing.{Alters}
-use Rattle.connection_core.proofs.Changing.{alters_nothing, alters_more}
+use Rattle.connection_core.specs.Standing.{Alters, Costs}
+use Rattle.connection_core.proofs.Changing.{alters_nothing, alters_more, costs_of_front}
+use Rattle.connection_core.proofs.Errors.{on_err_always}
 use Rattle.connection_core.proofs.changes.change_all.Goals as goal
 
 pub loop-asked-init : goal.loop-asked-init
@@ -38,3 +39,12 @@ returns-clause-made g c = λ s force.
     let whole : take c.loop-asked.asked-index c.args.changes.now ≡ c.args.changes.now = take_all c.loop-asked.asked-index c.args.changes.now c.loop-asked-test.false in
     subst (λ l. Alters (active_in (told c.args.in_force.now) (g.F.ForestView.content c.args.forests.now c.args.forest.now)) (active_in (told c.args.in_force.now) (g.F.ForestView.content c.loop-asked.forests c.loop-asked.forest))
     (g.F.ForestView.interns c.args.forests.now) (g.F.ForestView.interns c.loop-asked.forests) (changed_all s l)) whole (c.loop-asked.invariant.made s force)
+
+pub returns-in_err-change-clause-failed : goal.returns-in_err-change-clause-failed
+returns-in_err-change-clause-failed g c = on_err_always c.from_residual.result (λ s force.
+    let content = g.F.ForestView.content in
+    let interns = g.F.ForestView.interns in
+    let list = active_in (told c.args.in_force.now) (content c.args.forests.now c.args.forest.now) in
+    subst (λ f. Costs list (interns c.args.forests.now) (interns f) (changed_all s c.args.changes.now)) (sym c.in_err-change.ensures.err)
+    (costs_of_front s c.args.changes.now c.loop-asked.asked-index list (active_in (told c.args.in_force.now) (content c.loop-asked.forests c.loop-asked.forest))
+    (interns c.args.forests.now) (interns c.loop-asked.forests) (c.loop-asked.invariant.made s force)))

@@ -1,7 +1,5 @@
-use Rattle.std.proofs.Common.{◌≡◌, ◌≤◌, ◌∙◌, ℕ, sym, subst, le_refl}
-use Rattle.event_trees.specs.declared.defs.EventDef.{EventDef}
+use Rattle.std.proofs.Common.{◌≤◌, ◌∙◌, ℕ, sym, subst, le_refl}
 use Rattle.event_trees.specs.Later.{IsEarlier}
-use Rattle.forest_versions.specs.Master.{defs_of}
 use Rattle.connection_core.specs.InForce.{told_at}
 use Rattle.connection_core.specs.Trees.{IsForestIn}
 use Rattle.lane_core.proofs.command.give_to.Goals as goal

@@ -1,7 +1,8 @@
-use Rattle.std.proofs.Common.{◌≡◌, Some, ◌<◌, ◌≤◌, ℕ, length, get_or, set, refl, sym, ap, subst}
+use Rattle.std.proofs.Common.{◌≡◌, Some, ◌<◌, ◌≤◌, length, get_or, set, refl, sym, ap, subst}
 use Rattle.std.proofs.Math.Seq.{lt-length-set}
 use Rattle.std.specs.Option.{OnSome}
 use Rattle.flow_table.specs.Key.{EndpointPair}
+use Rattle.connection_core.proofs.Errors.{on_err_always}
 use Rattle.flow_table.specs.Table.{Flows, Rewrites, found}
 use Rattle.lane_core.specs.declared.connection.Connection.{Connection}
 use Rattle.lane_core.specs.Trees.{IsTree}
@@ -134,3 +135,14 @@ returns-in_ok-step-in-Some-clause-some g c =
 
 pub returns-in-None-clause-trees : goal.returns-in-None-clause-trees
 returns-in-None-clause-trees g c = subst (λ (m : Flows Connection). (key : EndpointPair) (x : Connection) → found m key ≡ Some x → IsTree c.args.world.now.master x.version (g.F.ForestView.content c.args.forests.now x.flow.forest)) (sym c.get_mut.follows.holds-at-none) c.requires.trees
+
+pub returns-in_err-step-in-Some-clause-failed : goal.returns-in_err-step-in-Some-clause-failed
+returns-in_err-step-in-Some-clause-failed g c =
+    let conn = c.in-Some.conn.now in
+    on_err_always c.from_residual.result (record {
+      conn = conn;
+      slot = get_or c.args.slots.now conn.place c.index-slots-place.result;
+      was = sym c.in-Some.ensures.value;
+      slot_is = ap (λ d. get_or c.args.slots.now conn.place d) c.index-slots-place.is;
+      costs = c.in_err-step-in-Some.ensures.costs;
+    })

@@ -1,9 +1,8 @@
-use Rattle.std.proofs.Common.{◌≡◌, ℕ, [], sym, ap, subst, ◌∙◌}
+use Rattle.std.proofs.Common.{◌≡◌, sym, ap, subst, ◌∙◌}
 use Rattle.forest_versions.specs.Master.{Tells}
 use Rattle.forest_versions.specs.State.{active}
 use Rattle.shared_forest.specs.Listing.{listing}
 use Rattle.shared_forest.specs.Lists.{TreeLists}
-use Rattle.shared_forest.specs.declared.store.Shared.{Shared}
 use Rattle.event_trees.specs.Edit.{IsForestOf}
 use Rattle.builtin_events.specs.Raised.{raises_of}
 use Rattle.connection_core.specs.History.{orphaned, drops_of}

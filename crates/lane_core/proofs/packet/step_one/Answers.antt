@@ -1,8 +1,9 @@
-use Rattle.std.proofs.Common.{◌≡◌, ◌++◌, refl, sym, ap, subst, ◌∙◌}
+use Rattle.std.proofs.Common.{◌≡◌, ◌++◌, refl, sym, subst}
 use Rattle.connection_core.specs.History.{followed, verdict, drops_of, is_over}
 use Rattle.connection_core.specs.InForce.{told_at}
 use Rattle.connection_core.specs.Standing.{IsConnection}
 use Rattle.connection_core.specs.Trees.{InternsWithin}
+use Rattle.connection_core.proofs.Errors.{on_err_always}
 use Rattle.lane_core.specs.Records.{side_of}
 use Rattle.lane_core.specs.Seen.{seen}
 use Rattle.lane_core.proofs.Noting.{noted, notes_after}
@@ -38,3 +39,19 @@ returns-clause-stands g c = λ control tells.
             (e.drops control others h tells connected);
       };
     }
+
+pub returns-in_err-step-clause-costs : goal.returns-in_err-step-clause-costs
+returns-in_err-step-clause-costs g c = on_err_always c.from_residual.result (λ control tells. record {
+  interned = λ others h connected.
+      let segment = seen c.args.segment.now in
+      subst (λ side. InternsWithin (g.F.ForestView.interns c.args.forests.now) (g.F.ForestView.interns c.step.new.forests) h.altered
+      (followed (g.A.App.meaning c.args.world.now.app) control c.args.number side segment.head segment.payload h).altered) c.side_of.ensures (c.step.ensures.interned control others h tells connected);
+})
+
+pub returns-in_err-note-clause-costs : goal.returns-in_err-note-clause-costs
+returns-in_err-note-clause-costs g c = on_err_always c.from_residual-in_err-note.result (λ control tells. record {
+  interned = λ others h connected.
+      let segment = seen c.args.segment.now in
+      subst (λ side. InternsWithin (g.F.ForestView.interns c.args.forests.now) (g.F.ForestView.interns c.step.new.forests) h.altered
+      (followed (g.A.App.meaning c.args.world.now.app) control c.args.number side segment.head segment.payload h).altered) c.side_of.ensures (c.step.ensures.interned control others h tells connected);
+})

@@ -1,9 +1,10 @@
-use Rattle.std.proofs.Common.{◌+◌, refl, subst}
+use Rattle.std.proofs.Common.{ℕ, ◌+◌, refl, subst}
 use Rattle.connection_core.specs.InForce.{told}
-use Rattle.connection_core.specs.Trees.{active_in}
+use Rattle.connection_core.specs.Trees.{active_in, InternsWithin}
 use Rattle.connection_core.specs.Standing.{Reached}
 use Rattle.connection_core.specs.History.{receiver_phase}
-use Rattle.connection_core.proofs.Phases.{received_stepped, dropped_stepped}
+use Rattle.connection_core.proofs.Errors.{on_err_always}
+use Rattle.connection_core.proofs.Phases.{received_stepped, dropped_stepped, received_costs}
 use Rattle.connection_core.proofs.flow.Flow.go_on.Goals as goal
 
 pub returns-in-Some-clause-stands : goal.returns-in-Some-clause-stands
@@ -26,3 +27,12 @@ returns-in_ok-receive-in-None-clause-stands g c = λ s others h course force cou
     (subst (λ n. Reached c.args.terms.now.keep others (active_in (told c.args.terms.now.in_force) (g.F.ForestView.content c.receive.new.forests c.receive.new.self.forest)) c.receive.new.self.socket c.receive.new.notes c.receive.new.ledger
     (g.F.ForestView.interns c.args.forests.now) (g.F.ForestView.interns c.receive.new.forests) course.altered (receiver_phase app s arrived.number arrived.from arrived.head.now arrived.payload.now n course)) count
     (c.in_ok-receive-in-None.ensures.stands s others course force u))
+
+pub returns-in_err-receive-in-None-clause-failed : goal.returns-in_err-receive-in-None-clause-failed
+returns-in_err-receive-in-None-clause-failed g c = on_err_always c.from_residual.result (λ s others h course force count u.
+    let arrived = c.args.arrived.now in
+    let interns = g.F.ForestView.interns c.args.forests.now in
+    let interns_after = g.F.ForestView.interns c.receive.new.forests in
+    let received = λ (n : ℕ). receiver_phase (g.A.App.meaning c.args.terms.now.app.now) s arrived.number arrived.from arrived.head.now arrived.payload.now n course in
+    received_costs interns interns_after arrived.number course (received h.count) h c.args.ledger.now c.in-None.is u.drop
+    (subst (λ n. InternsWithin interns interns_after course.altered (received n).altered) count ((c.in_err-receive-in-None.ensures.failed s force).interned others course u)))

@@ -6,7 +6,8 @@ use Rattle.connection_core.specs.InForce.{told}
 use Rattle.connection_core.specs.Course.{raised}
 use Rattle.connection_core.specs.Trees.{active_in}
 use Rattle.connection_core.specs.Standing.{Steps}
-use Rattle.connection_core.proofs.Phases.{phase_made}
+use Rattle.connection_core.proofs.Errors.{on_err_always}
+use Rattle.connection_core.proofs.Phases.{phase_made, phase_costs_none, phase_costs}
 use Rattle.connection_core.proofs.flow.Flow.make.Goals as goal
 
 pub returns-clause-made : goal.returns-clause-made
@@ -24,3 +25,27 @@ returns-clause-made g c = λ s force.
     c.make_room.ensures.changes c.make_room.ensures.drop c.make_room.ensures.counts
     (subst (λ (k : SocketView). Steps keep list c.args.self.now.socket c.args.notes.now c.make_room.new.self k c.raise_all.new.notes c.raise_all.new.ledger step) (sym c.settle.ensures.socket) steps)
     (c.in_ok-settle.ensures.made s force) c.in_ok-settle.ensures.asked c.settle.ensures.drop c.settle.ensures.counts
+
+pub returns-in_err-make_room-clause-failed : goal.returns-in_err-make_room-clause-failed
+returns-in_err-make_room-clause-failed g c = on_err_always c.from_residual.result (λ s force.
+    phase_costs_none (g.A.App.meaning c.args.terms.now.app.now) s c.args.terms.now.keep (active_in (told c.args.terms.now.in_force) (g.F.ForestView.content c.args.forests.now c.args.self.now.forest))
+    (g.F.ForestView.interns c.args.forests.now) c.args.phase.now.number c.args.phase.now.from (raises_of c.args.phase.now.raised) c.args.self.now.socket c.args.notes.now c.args.ledger.now)
+
+pub returns-in_err-raise_all-clause-failed : goal.returns-in_err-raise_all-clause-failed
+returns-in_err-raise_all-clause-failed g c = on_err_always c.from_residual-in_err-raise_all.result (λ s force.
+    phase_costs_none (g.A.App.meaning c.args.terms.now.app.now) s c.args.terms.now.keep (active_in (told c.args.terms.now.in_force) (g.F.ForestView.content c.args.forests.now c.args.self.now.forest))
+    (g.F.ForestView.interns c.args.forests.now) c.args.phase.now.number c.args.phase.now.from (raises_of c.args.phase.now.raised) c.args.self.now.socket c.args.notes.now c.args.ledger.now)
+
+pub returns-in_err-settle-clause-failed : goal.returns-in_err-settle-clause-failed
+returns-in_err-settle-clause-failed g c = on_err_always c.from_residual-in_err-settle.result (λ s force.
+    let app = g.A.App.meaning c.args.terms.now.app.now in
+    let at = told c.args.terms.now.in_force in
+    let keep = c.args.terms.now.keep in
+    let step = raised app s c.args.phase.now.number c.args.phase.now.from (raises_of c.args.phase.now.raised) in
+    phase_costs app s keep (active_in at (g.F.ForestView.content c.args.forests.now c.args.self.now.forest)) (g.F.ForestView.interns c.args.forests.now) (g.F.ForestView.interns c.settle.new.forests)
+    c.args.phase.now.number c.args.phase.now.from (raises_of c.args.phase.now.raised)
+    c.args.self.now.socket c.raise_all.new.socket c.args.notes.now c.raise_all.new.notes c.args.ledger.now c.make_room.new.self c.raise_all.new.ledger
+    c.make_room.ensures.changes c.make_room.ensures.drop c.make_room.ensures.counts
+    (subst (λ (t : TreeLists). Steps keep (active_in at t) c.args.self.now.socket c.args.notes.now c.make_room.new.self c.raise_all.new.socket c.raise_all.new.notes c.raise_all.new.ledger step)
+    c.tree_of-tree.ensures (c.in_ok-raise_all.ensures.stands s force))
+    (c.in_err-settle.ensures.failed s force))

@@ -1,8 +1,10 @@
-use Rattle.std.proofs.lemmas.Result.{on_ok_weaker}
+use Rattle.std.proofs.lemmas.Result.{on_ok_weaker, on_err_weaker}
 use Rattle.builtin_events.specs.Raised.{raises_of}
 use Rattle.connection_core.specs.InForce.{told}
-use Rattle.connection_core.specs.Trees.{active_in}
-use Rattle.connection_core.proofs.Phases.{receiver_reached}
+use Rattle.connection_core.specs.Standing.{Reached}
+use Rattle.connection_core.specs.Trees.{active_in, InternsWithin}
+use Rattle.connection_core.proofs.Errors.{on_err_always}
+use Rattle.connection_core.proofs.Phases.{receiver_makes, receiver_costs_none}
 use Rattle.connection_core.proofs.flow.Flow.receive.Goals as goal
 
 pub returns-clause-stands : goal.returns-clause-stands
@@ -10,8 +12,29 @@ returns-clause-stands g c =
     on_ok_weaker c.make.result (λ makes. λ s others course force u.
     let app = g.A.App.meaning c.args.terms.now.app.now in
     let at = told c.args.terms.now.in_force in
-    receiver_reached app s c.args.terms.now.keep others (active_in at (g.F.ForestView.content c.args.forests.now c.args.self.now.forest)) (active_in at (g.F.ForestView.content c.make.new.forests c.make.new.self.forest))
-    (g.F.ForestView.interns c.args.forests.now) (g.F.ForestView.interns c.make.new.forests) c.args.arrived.now.number c.args.arrived.now.from c.args.arrived.now.head.now c.args.arrived.now.payload.now c.args.self.now.count
-    c.in_ok-got.got (raises_of c.raised_at_receiver.result) c.args.self.now.socket c.receive.new.self c.make.new.self.socket c.args.notes.now c.make.new.notes c.args.ledger.now c.make.new.ledger course
-    u c.in_ok-got.ensures.stands c.in_ok-got.ensures.answer c.raised_at_receiver.ensures.raises (makes s force))
+    let keep = c.args.terms.now.keep in
+    receiver_makes app s keep others (active_in at (g.F.ForestView.content c.args.forests.now c.args.self.now.forest))
+    c.args.arrived.now.number c.args.arrived.now.from c.args.arrived.now.head.now c.args.arrived.now.payload.now c.args.self.now.count
+    c.in_ok-got.got (raises_of c.raised_at_receiver.result) c.args.self.now.socket c.receive.new.self c.args.notes.now c.args.ledger.now course
+    (λ before after. Reached keep others (active_in at (g.F.ForestView.content c.make.new.forests c.make.new.self.forest)) c.make.new.self.socket c.make.new.notes c.make.new.ledger
+    (g.F.ForestView.interns c.args.forests.now) (g.F.ForestView.interns c.make.new.forests) before.altered after)
+    u c.in_ok-got.ensures.stands c.in_ok-got.ensures.answer c.raised_at_receiver.ensures.raises ((makes s force).stands others))
     c.make.ensures.made
+
+pub returns-clause-failed : goal.returns-clause-failed
+returns-clause-failed g c =
+    on_err_weaker c.make.result (λ costs. λ s force. record {
+      interned = λ others course u.
+          receiver_makes (g.A.App.meaning c.args.terms.now.app.now) s c.args.terms.now.keep others (active_in (told c.args.terms.now.in_force) (g.F.ForestView.content c.args.forests.now c.args.self.now.forest))
+          c.args.arrived.now.number c.args.arrived.now.from c.args.arrived.now.head.now c.args.arrived.now.payload.now c.args.self.now.count
+          c.in_ok-got.got (raises_of c.raised_at_receiver.result) c.args.self.now.socket c.receive.new.self c.args.notes.now c.args.ledger.now course
+          (λ before after. InternsWithin (g.F.ForestView.interns c.args.forests.now) (g.F.ForestView.interns c.make.new.forests) before.altered after.altered)
+          u c.in_ok-got.ensures.stands c.in_ok-got.ensures.answer c.raised_at_receiver.ensures.raises ((costs s force).interned others);
+    })
+    c.make.ensures.failed
+
+pub returns-in_err-got-clause-failed : goal.returns-in_err-got-clause-failed
+returns-in_err-got-clause-failed g c = on_err_always c.from_residual.result (λ s force.
+    receiver_costs_none (g.A.App.meaning c.args.terms.now.app.now) s c.args.terms.now.keep (active_in (told c.args.terms.now.in_force) (g.F.ForestView.content c.args.forests.now c.args.self.now.forest))
+    (g.F.ForestView.interns c.args.forests.now) c.args.arrived.now.number c.args.arrived.now.from c.args.arrived.now.head.now c.args.arrived.now.payload.now c.args.self.now.count
+    c.args.self.now.socket c.args.notes.now c.args.ledger.now)

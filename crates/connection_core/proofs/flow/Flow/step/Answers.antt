@@ -1,7 +1,7 @@
 use Rattle.std.proofs.Common.{◌++◌, sym, ap, ◌∙◌}
 use Rattle.connection_core.specs.History.{receiver_phase, sender_phase, followed, verdict, verdict_of, drops_of, is_over}
 use Rattle.connection_core.proofs.Changing.{within-on}
-use Rattle.connection_core.proofs.Phases.{drops_more}
+use Rattle.connection_core.proofs.Phases.{drops_more, sender_costs}
 use Rattle.connection_core.proofs.flow.Flow.step.Goals as goal
 
 pub returns-clause-stands : goal.returns-clause-stands
@@ -16,6 +16,18 @@ returns-clause-interned g c = λ s others h force is.
     let reached = c.in_ok-send.ensures.stands s others h force is in
     let stepped = c.in_ok-go_on.ensures.stands s others h _ force (c.send.ensures.count ∙ is.kept.count) reached.under in
     within-on _ _ _ _ _ _ reached.interned stepped.interned
+
+pub returns-in_err-send-clause-interned : goal.returns-in_err-send-clause-interned
+returns-in_err-send-clause-interned g c = λ s others h force is.
+    let arrived = c.args.arrived.now in
+    sender_costs (g.A.App.meaning c.args.terms.now.app.now) s (g.F.ForestView.interns c.args.forests.now) (g.F.ForestView.interns c.send.new.forests) arrived.number arrived.from arrived.head.now arrived.payload.now h
+    (c.in_err-send.ensures.failed s others h force is)
+
+pub returns-in_err-go_on-clause-interned : goal.returns-in_err-go_on-clause-interned
+unfolding followed
+returns-in_err-go_on-clause-interned g c = λ s others h force is.
+    let reached = c.in_ok-send.ensures.stands s others h force is in
+    within-on _ _ _ _ _ _ reached.interned (c.in_err-go_on.ensures.failed s others h _ force (c.send.ensures.count ∙ is.kept.count) reached.under)
 
 pub returns-clause-over : goal.returns-clause-over
 unfolding followed is_over

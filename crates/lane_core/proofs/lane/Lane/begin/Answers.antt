@@ -1,4 +1,4 @@
-use Rattle.std.proofs.Common.{◌≡◌, ◌<◌, ◌≤◌, length, sym, ap, subst, ◌∙◌, arith}
+use Rattle.std.proofs.Common.{◌<◌, ◌≤◌, length, sym, ap, subst, ◌∙◌, arith}
 use Rattle.std.specs.Prelude.{vec_len}
 use Rattle.std.proofs.lemmas.List.{length-map}
 use Rattle.shared_forest.specs.Listing.{listing}
@@ -12,7 +12,8 @@ use Rattle.lane_core.specs.Seen.{seen}
 use Rattle.lane_core.specs.Kept.{AreKept, slot_of, arrived}
 use Rattle.lane_core.specs.Steps.{Opens}
 use Rattle.lane_core.specs.Trees.{IsTree}
-use Rattle.lane_core.proofs.Started.{opening_started}
+use Rattle.connection_core.proofs.Errors.{on_err_always}
+use Rattle.lane_core.proofs.Started.{opening_started, opening_costs}
 use Rattle.lane_core.proofs.Tables.{all_kept, answered_kept, trees_kept, contents_kept}
 use Rattle.lane_core.proofs.lane.Lane.begin.Goals as goal
 
@@ -108,3 +109,24 @@ returns-clause-stands g c = λ moment control_at pasts tells now stands.
       verdict_is = s.verdict_is;
       dropped = s.dropped;
     }
+
+pub returns-in_err-opened-clause-costs : goal.returns-in_err-opened-clause-costs
+returns-in_err-opened-clause-costs g c = on_err_always c.from_residual.result (λ moment control_at pasts tells now stands.
+    let self = c.args.self.now in
+    let kept = self.kept in
+    opening_costs (g.A.App.meaning self.world.app) control_at self.world.keep self.world.master (g.F.ForestView.content self.forests) (g.F.ForestView.interns self.forests) (g.F.ForestView.interns c.start_one.new.forests)
+    kept.flows kept.slots.items kept.ledger.counts c.args.key c.args.number moment (seen c.args.segment.now) pasts now stands c.requires.key c.requires.absent c.requires.opens c.start_one.ensures.interned)
+
+pub returns-in_err-push-clause-costs : goal.returns-in_err-push-clause-costs
+returns-in_err-push-clause-costs g c = on_err_always c.from_residual-in_err-push.result (λ moment control_at pasts tells now stands.
+    let self = c.args.self.now in
+    let kept = self.kept in
+    opening_costs (g.A.App.meaning self.world.app) control_at self.world.keep self.world.master (g.F.ForestView.content self.forests) (g.F.ForestView.interns self.forests) (g.F.ForestView.interns c.start_one.new.forests)
+    kept.flows kept.slots.items kept.ledger.counts c.args.key c.args.number moment (seen c.args.segment.now) pasts now stands c.requires.key c.requires.absent c.requires.opens c.start_one.ensures.interned)
+
+pub returns-in_err-keep-clause-costs : goal.returns-in_err-keep-clause-costs
+returns-in_err-keep-clause-costs g c = on_err_always c.from_residual-in_err-keep.result (λ moment control_at pasts tells now stands.
+    let self = c.args.self.now in
+    let kept = self.kept in
+    opening_costs (g.A.App.meaning self.world.app) control_at self.world.keep self.world.master (g.F.ForestView.content self.forests) (g.F.ForestView.interns self.forests) (g.F.ForestView.interns c.start_one.new.forests)
+    kept.flows kept.slots.items kept.ledger.counts c.args.key c.args.number moment (seen c.args.segment.now) pasts now stands c.requires.key c.requires.absent c.requires.opens c.start_one.ensures.interned)

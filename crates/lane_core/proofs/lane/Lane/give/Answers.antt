@@ -1,4 +1,4 @@
-use Rattle.std.proofs.Common.{◌≡◌, ◌≤◌, arith}
+use Rattle.std.proofs.Common.{arith}
 use Rattle.lane_core.proofs.Tables.{answered_kept, contents_kept}
 use Rattle.lane_core.proofs.Commands.{trees_on, kept_on}
 use Rattle.lane_core.proofs.Standing.{on_ok_always}

@@ -1,8 +1,7 @@
-use Rattle.std.proofs.Common.{◌≡◌, [], ◌∙◌, refl, sym, ap, subst}
+use Rattle.std.proofs.Common.{[], ◌∙◌, refl, ap, subst}
 use Rattle.forest_versions.specs.Master.{StandsFor}
 use Rattle.forest_versions.specs.State.{start, control}
 use Rattle.connection_core.specs.InForce.{told_at}
-use Rattle.lane_core.specs.Lane.{IsRun}
 use Rattle.lane_core.specs.Records.{records_from}
 use Rattle.lane_core.specs.Run.{lane_run}
 use Rattle.lane_core.specs.Shown.{total}

@@ -1,26 +1,27 @@
-use Rattle.std.proofs.Common.{◌≡◌, ◌+◌, ◌<◌, ◌≤◌, length, Ok, Some, None, drop, false, refl, sym, ap, subst, ◌∙◌, ◌++◌, arith}
-use Rattle.std.specs.Prelude.{vec_len}
+use Rattle.std.proofs.Common.{◌≡◌, ◌+◌, length, Ok, None, drop, false, refl, sym, ap, subst, ◌∙◌, arith}
 use Rattle.std.specs.Option.{IfSome}
 use Rattle.std.proofs.lemmas.List.{take_at}
-use Rattle.std.proofs.lemmas.Result.{IfOk-weaker}
+use Rattle.std.proofs.lemmas.Result.{IfOk-weaker, on_err_weaker}
 use Rattle.packet_views.specs.declared.packet.Class.TheVariants as Class
-use Rattle.flow_table.specs.Table.{Flows, found}
+use Rattle.flow_table.specs.Table.{found}
 use Rattle.shared_forest.specs.Listing.{listing}
 use Rattle.event_trees.specs.Edit.{IsForestOf}
 use Rattle.forest_versions.specs.State.{active}
 use Rattle.report_text.specs.declared.record.RecordKind.TheVariants.{Orphan}
 use Rattle.connection_core.specs.declared.flow.Step.{Step}
-use Rattle.connection_core.specs.declared.ledger.Counts.{Counts}
 use Rattle.connection_core.specs.InForce.{told_at}
-use Rattle.lane_core.specs.declared.connection.Connection.{Connection}
 use Rattle.lane_core.specs.Sight.{Tcp, key_of_segment}
 use Rattle.lane_core.specs.Seen.{seen}
 use Rattle.lane_core.specs.Records.{opens, added}
-use Rattle.lane_core.specs.Shown.{kind_of}
+use Rattle.lane_core.specs.Shown.{kind_of, alterations}
 use Rattle.lane_core.specs.Places.{place_of}
 use Rattle.lane_core.specs.Steps.{Follows}
 use Rattle.lane_core.specs.Kept.{IsOpenAt, AreKept, Adds, arrived}
-use Rattle.lane_core.proofs.Continued.{continued}
+use Rattle.connection_core.specs.Trees.{InternsWithin}
+use Rattle.connection_core.proofs.Errors.{on_err_always}
+use Rattle.lane_core.proofs.Continued.{continued, continued_costs}
+use Rattle.lane_core.proofs.Started.{stray_costs}
+use Rattle.lane_core.proofs.Stored.{kept_unfollowed}
 use Rattle.lane_core.proofs.Tables.{short_longer, contents_kept}
 use Rattle.lane_core.proofs.lane.Lane.segment.Goals as goal
 
@@ -73,6 +74,42 @@ returns-in-Some-clause-stands g c = λ moment control_at pasts tells now stands.
       dropped = s.dropped;
     }
 
+pub returns-then-is_opening-clause-stands : goal.returns-then-is_opening-clause-stands
+returns-then-is_opening-clause-stands g c =
+    let self = c.args.self.now in
+    let m = self.world.master in
+    let app = g.A.App.meaning self.world.app in
+    let keep = self.world.keep in
+    let kept = self.kept in
+    let met = c.follow.new in
+    let none = c.in_ok-followed.ensures.none (ap Ok c.in-None.is) in
+    let same = c.deref_mut.ensures.value in
+    let back = take_at met.slots (drop (length met.slots) kept.slots.items) kept.slots.len (c.follow.ensures.len ∙ ap length same ∙ sym kept.slots.ok.0) ∙ none.2 ∙ same in
+    IfOk-weaker c.begin.result _ _ (λ verdict any. λ moment control_at pasts tells now stands.
+    let packet = arrived m.version c.args.number moment (Tcp (seen c.args.segment.now)) in
+    subst (λ f. Adds app control_at packet pasts keep (told_at m) (g.F.ForestView.content c.begin.new.self.forests) c.begin.new.self.kept (g.F.ForestView.interns c.begin.new.self.forests) (g.F.ForestView.interns f) verdict) none.3
+    (any moment control_at pasts tells now
+    (kept_unfollowed g.F.ForestView.content keep (told_at m) self.forests met.forests kept.flows met.flows kept.slots.items _ kept.ledger.counts met.ledger.counts pasts none.1 back none.3 none.4 stands)))
+    c.begin.ensures.stands
+
+pub returns-then-is_opening-clause-costs : goal.returns-then-is_opening-clause-costs
+returns-then-is_opening-clause-costs g c =
+    let self = c.args.self.now in
+    let m = self.world.master in
+    let app = g.A.App.meaning self.world.app in
+    let keep = self.world.keep in
+    let kept = self.kept in
+    let met = c.follow.new in
+    let none = c.in_ok-followed.ensures.none (ap Ok c.in-None.is) in
+    let same = c.deref_mut.ensures.value in
+    let back = take_at met.slots (drop (length met.slots) kept.slots.items) kept.slots.len (c.follow.ensures.len ∙ ap length same ∙ sym kept.slots.ok.0) ∙ none.2 ∙ same in
+    on_err_weaker c.begin.result (λ any. λ moment control_at pasts tells now stands.
+    let packet = arrived m.version c.args.number moment (Tcp (seen c.args.segment.now)) in
+    subst (λ f. InternsWithin (g.F.ForestView.interns f) (g.F.ForestView.interns c.begin.new.self.forests) (alterations pasts) (alterations (added app control_at packet pasts))) none.3
+    (any moment control_at pasts tells now
+    (kept_unfollowed g.F.ForestView.content keep (told_at m) self.forests met.forests kept.flows met.flows kept.slots.items _ kept.ledger.counts met.ledger.counts pasts none.1 back none.3 none.4 stands)))
+    c.begin.ensures.costs
+
 pub returns-else-is_opening-clause-stands : goal.returns-else-is_opening-clause-stands
 unfolding kind_of
 returns-else-is_opening-clause-stands g c =
@@ -94,11 +131,33 @@ returns-else-is_opening-clause-stands g c =
     let untaken : place_of own pasts ≡ None =
     subst (λ o. IsOpenAt (told_at m) content o (place_of own pasts) pasts) (ap (λ k. found kept.flows k) (sym c.key-key.ensures) ∙ none.0) (stands.placed own) in
     let met = c.follow.new in
-    let flows_are = subst (λ (f : Flows Connection). AreKept keep (told_at m) content f kept.slots.items kept.ledger.counts pasts) (sym none.1) stands in
-    let store_is = subst (λ f. AreKept keep (told_at m) (g.F.ForestView.content f) met.flows kept.slots.items kept.ledger.counts pasts) (sym none.3) flows_are in
-    let counts_are = subst (λ (n : Counts). AreKept keep (told_at m) (g.F.ForestView.content met.forests) met.flows kept.slots.items n pasts) (sym none.4) store_is in
-    let slots_are = subst (λ ss. AreKept keep (told_at m) (g.F.ForestView.content met.forests) met.flows ss met.ledger.counts pasts) (sym back) counts_are in
+    let kept_still = kept_unfollowed g.F.ForestView.content keep (told_at m) self.forests met.forests kept.flows met.flows kept.slots.items _ kept.ledger.counts met.ledger.counts pasts none.1 back none.3 none.4 stands in
     let packet = arrived m.version c.args.number moment p in
     subst (λ f. Adds app control_at packet pasts keep (told_at m) (g.F.ForestView.content c.stray.new.self.forests) c.stray.new.self.kept (g.F.ForestView.interns c.stray.new.self.forests) (g.F.ForestView.interns f) verdict) none.3
-    (any control_at pasts moment p (record { kind = kind; raises = refl; shut = shut; untaken = untaken }) tells now slots_are))
+    (any control_at pasts moment p (record { kind = kind; raises = refl; shut = shut; untaken = untaken }) tells now kept_still))
     c.stray.ensures.stands
+
+pub returns-in_err-followed-clause-costs : goal.returns-in_err-followed-clause-costs
+returns-in_err-followed-clause-costs g c = on_err_always c.from_residual.result (λ moment control_at pasts tells now stands.
+    let self = c.args.self.now in
+    let kept = self.kept in
+    let m = self.world.master in
+    let content = g.F.ForestView.content self.forests in
+    continued_costs (g.A.App.meaning self.world.app) control_at self.world.keep m content (g.F.ForestView.interns self.forests) (g.F.ForestView.interns c.follow.new.forests) kept.flows c.deref_mut.result.now kept.ledger.counts
+    c.key-key.result m.version c.args.number moment (seen c.args.segment.now) pasts tells
+    (subst (λ ss. AreKept self.world.keep (told_at m) content kept.flows ss kept.ledger.counts pasts) (sym c.deref_mut.ensures.value) stands) c.key-key.ensures c.in_err-followed.ensures.failed)
+
+pub returns-else-is_opening-clause-costs : goal.returns-else-is_opening-clause-costs
+returns-else-is_opening-clause-costs g c = on_err_always c.stray.result (λ moment control_at pasts tells now stands.
+    let self = c.args.self.now in
+    let m = self.world.master in
+    let app = g.A.App.meaning self.world.app in
+    let segment = seen c.args.segment.now in
+    let own = key_of_segment segment in
+    let p = arrived m.version c.args.number moment (Tcp segment) in
+    let none = c.in_ok-followed.ensures.none (ap Ok c.in-None.is) in
+    let untaken : place_of own pasts ≡ None =
+    subst (λ o. IsOpenAt (told_at m) (g.F.ForestView.content self.forests) o (place_of own pasts) pasts) (ap (λ k. found self.kept.flows k) (sym c.key-key.ensures) ∙ none.0) (stands.placed own) in
+    let interns = g.F.ForestView.interns in
+    subst (λ f. InternsWithin (interns self.forests) (interns f) (alterations pasts) (alterations (added app control_at p pasts))) (sym (c.stray.ensures.forests ∙ none.3))
+    (stray_costs app control_at self.world.keep m (interns self.forests) p pasts untaken))

@@ -1,7 +1,5 @@
-use Rattle.std.proofs.Common.{◌≡◌, ◌<◌, ◌≤◌, [], sym, ap, subst, ◌∙◌, arith}
+use Rattle.std.proofs.Common.{[], sym, ap, subst, ◌∙◌, arith}
 use Rattle.std.specs.Option.{option_copied}
-use Rattle.builtin_events.specs.Raises.{orphan_raises}
-use Rattle.builtin_events.specs.Raised.{raises_of}
 use Rattle.connection_core.specs.InForce.{told_at}
 use Rattle.lane_core.specs.Records.{added}
 use Rattle.lane_core.specs.Kept.{AreKept, arrived}

@@ -1,4 +1,4 @@
-use Rattle.std.proofs.Common.{◌≡◌, ◌++◌, ◌∷◌, [], List, None, sym, subst, ◌∙◌}
+use Rattle.std.proofs.Common.{◌++◌, ◌∷◌, [], None, sym, subst, ◌∙◌}
 use Rattle.forest_versions.specs.Master.{StandsFor}
 use Rattle.connection_core.specs.InForce.{told_at}
 use Rattle.lane_core.specs.Lane.{IsRun}

@@ -1,4 +1,4 @@
-use Rattle.std.proofs.Common.{◌≡◌, ◌&&◌, nat_lt, None, Some, Ok, true, false, sym, ap, subst, ◌∙◌}
+use Rattle.std.proofs.Common.{◌≡◌, ◌&&◌, nat_lt, None, true, false, sym, subst, ◌∙◌}
 use Rattle.connection_core.specs.Trees.{InternsWithin}
 use Rattle.lane_core.specs.declared.errors.LaneError.TheVariants.{NoMemory, Heavy}
 use Rattle.lane_core.specs.declared.world.World.{World}
@@ -8,7 +8,7 @@ use Rattle.lane_core.specs.Shown.{alterations}
 use Rattle.lane_core.specs.Sight.{arrival_of}
 use Rattle.lane_core.proofs.Holding.{left_of_and}
 use Rattle.lane_core.proofs.Runs.{packet_is_added}
-use Rattle.lane_core.proofs.Standing.{never_failed, packet_failed, packet_stands, is_too_heavy, is_light, run_added}
+use Rattle.lane_core.proofs.Standing.{err_value, never_failed, packet_costs, packet_failed, packet_stands, is_too_heavy, is_light, run_added}
 use Rattle.lane_core.proofs.lane.calls.LaneRecorder.packet.Goals as goal
 
 pub returns-in_default-take-clause-stands : goal.returns-in_default-take-clause-stands
@@ -17,6 +17,15 @@ returns-in_default-take-clause-stands g c = λ good events r.
     let new = c.take.new.self in
     packet_failed (g.A.App.meaning new.world.app) new.world.keep new.world.master (g.F.ForestView.content self.forests) (g.F.ForestView.content new.forests) self.kept new.kept self.next new.next events
     (arrival_of c.args.number c.args.frame.now) NoMemory c.take.ensures.next (λ is. absurd (cc))
+
+pub returns-in_default-take-clause-interned : goal.returns-in_default-take-clause-interned
+returns-in_default-take-clause-interned g c = λ good events r.
+    let self = c.args.self.now in
+    let app = g.A.App.meaning self.world.app in
+    let run : IsRun app self.world.keep self.world.master (g.F.ForestView.content self.forests) self.kept self.next None events =
+    subst (λ f. IsRun app self.world.keep self.world.master (g.F.ForestView.content self.forests) self.kept self.next f events) good r in
+    packet_costs app self.world.keep self.world.master (g.F.ForestView.content self.forests) self.kept self.next events (arrival_of c.args.number c.args.frame.now)
+    (g.F.ForestView.interns self.forests) (g.F.ForestView.interns c.take.new.self.forests) run (err_value c.take.result c.in_default-take.not-Ok c.take.ensures.costs)
 
 pub returns-then-is_heavy-clause-stands : goal.returns-then-is_heavy-clause-stands
 returns-then-is_heavy-clause-stands g c = λ good events r.
@@ -47,8 +56,8 @@ returns-then-is_heavy-clause-heavy g c = λ good is.
           (g.F.ForestView.interns new.forests) c.in-Ok.verdict run c.in-Ok.ensures.stands over,
     )
 
-pub returns-then-is_heavy-clause-interned_heavy : goal.returns-then-is_heavy-clause-interned_heavy
-returns-then-is_heavy-clause-interned_heavy g c = λ good is events r.
+pub returns-then-is_heavy-clause-interned : goal.returns-then-is_heavy-clause-interned
+returns-then-is_heavy-clause-interned g c = λ good events r.
     let self = c.args.self.now in
     let new = c.take.new.self in
     let app = g.A.App.meaning self.world.app in
@@ -85,12 +94,11 @@ returns-clause-light g c = λ keeps events r heavy.
     (g.F.ForestView.interns new.forests) c.in-Ok.verdict run c.in-Ok.ensures.stands under keeps heavy
 
 pub returns-clause-interned : goal.returns-clause-interned
-returns-clause-interned g c = λ events r.
+returns-clause-interned g c = λ good events r.
     let self = c.args.self.now in
     let new = c.take.new.self in
     let app = g.A.App.meaning self.world.app in
     let a = arrival_of c.args.number c.args.frame.now in
-    let good = never_failed self.failed c.in_default.not-Some in
     let run : IsRun app self.world.keep self.world.master (g.F.ForestView.content self.forests) self.kept self.next None events =
     subst (λ f. IsRun app self.world.keep self.world.master (g.F.ForestView.content self.forests) self.kept self.next f events) good r in
     subst (λ rs. InternsWithin (g.F.ForestView.interns self.forests) (g.F.ForestView.interns new.forests) (alterations (lane_run app events)) (alterations rs)) (sym (packet_is_added app events a))
