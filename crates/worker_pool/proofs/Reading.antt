@@ -3,7 +3,7 @@ use Rattle.std.proofs.Common.{◌≡◌, ℕ, ◌≤◌, Option, Some, None, Lis
 use Rattle.mos_bytes.specs.Causes.{HasCauseOf}
 use Rattle.mos_bytes.proofs.Causes.{Rose-earlier}
 use Rattle.pcap_source.specs.Captured.{Captured}
-use Rattle.pcap_source.specs.Capture.{Frames, Ending, tail, too_long, too_many, ended}
+use Rattle.pcap_source.specs.Capture.{Ending, tail, too_long, too_many, ended}
 use Rattle.pcap_source.specs.Reading.{CaptureState, NextGives, frames_at}
 use Rattle.pcap_source.specs.declared.capture.Step.TheVariants.{Frame, Tail, End}
 use Rattle.pcap_source.specs.declared.errors.NextError.{NextError}
