@@ -17,6 +17,6 @@ told_last (Ok whole) result is told = ⊎_elim (λ e. absurd (cc)) (λ e. absurd
 told_last (Err e) result is told =
     ⊎_elim
     (λ same. ⊎_elim
-        (λ writes. inl (same ∙ ap Err (let value : e ≡ WriteFault = cc in value)))
-        (λ lacks. inr (same ∙ ap Err (let value : e ≡ NoMemory = cc in value))) is)
+    (λ writes. inl (same ∙ ap Err (let value : e ≡ WriteFault = cc in value)))
+    (λ lacks. inr (same ∙ ap Err (let value : e ≡ NoMemory = cc in value))) is)
     (λ writes. inl writes) told

@@ -6,6 +6,7 @@ use crate::lanes::{Packet, follows};
 use crate::plain::script;
 use app_api::LogApp;
 use control_script::Script;
+use flow_table::{Endpoint, Key};
 use lane_core::{Lane, Recorder};
 use shared_forest::Table;
 use std::alloc::Global;
@@ -59,6 +60,39 @@ fn connections_share_their_trees(rt: HostRuntime) {
     let alloc = rt.alloc();
     let script = script(alloc, SWITCHING);
     assert!(rt; script.is_some_and(|script| share(alloc, &script)));
+}
+
+// The registrations of the tree by which the connection of two endpoints is called, after a handshake from port 1000.
+fn called(alloc: Global, script: &Script, port: u16) -> Option<usize> {
+    let mut lane = Lane::new(alloc, LogApp, Table::new(alloc), true).ok()?;
+    if !opens(alloc, &mut lane, script, 0) {
+        return None;
+    }
+    let client = Endpoint::V4 {
+        addr: 0x0a00_0001,
+        port,
+    };
+    let server = Endpoint::V4 {
+        addr: 0x0a00_0002,
+        port: 80,
+    };
+    let tree = lane.tree_of(&Key::between(client, server))?;
+    Some(tree.slots().len())
+}
+
+// The log application has three presets.
+#[test]
+fn an_open_connection_has_its_tree(rt: HostRuntime) {
+    let alloc = rt.alloc();
+    let rows = [
+        ("the open connection", 1000, Some(3)),
+        ("no connection", 1001, None),
+    ];
+    for (name, port, want) in rows {
+        let script = script(alloc, "");
+        let called = script.and_then(|script| called(alloc, &script, port));
+        assert!(rt; called == want, "{name}");
+    }
 }
 
 // How often a store was looked at after each packet of a handshake.

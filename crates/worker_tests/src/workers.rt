@@ -1,6 +1,6 @@
 //! A worker that is fed from another thread, and workers that find all in their rings.
 
-ghost use Rattle.std.specs.Prelude.{◌≡◌, ◌≤◌, ◌×◌, [], None, IsTrue, IfOk};
+ghost use Rattle.std.specs.Prelude.{◌≡◌, ◌≤◌, [], None, IsTrue, IfOk};
 ghost use Rattle.forest_versions.specs.Lawful.{are_lawful};
 ghost use Rattle.forest_versions.specs.State.{start};
 ghost use Rattle.control_script.specs.Order.{commands_of};
@@ -127,9 +127,9 @@ fn take<R: Wait>(rt: &R, answers: &mut AnswerRx) -> (u64, Verdict) {
     unreachable!()
 }
 
-// Sends the four packets of a block.
-fn send_block(ends: &mut Ends, alloc: Global, script: &Script, block: u64) -> bool {
-    for index in 4 * block..4 * block + 4 {
+// Sends four packets, from this number on.
+fn send_four(ends: &mut Ends, alloc: Global, script: &Script, first: u64) -> bool {
+    for index in first..first.saturating_add(4) {
         if !send(ends, alloc, index, script.floor(index), script.ceil(index)) {
             return false;
         }
@@ -146,10 +146,10 @@ fn verdict_on(index: u64) -> Verdict {
     }
 }
 
-// How many packets of a block are answered in order and as they must be.
-fn take_block<R: Wait>(rt: &R, answers: &mut AnswerRx, block: u64) -> u64 {
+// How many of four packets, from this number on, are answered in order and as they must be.
+fn take_four<R: Wait>(rt: &R, answers: &mut AnswerRx, first: u64) -> u64 {
     let mut right = 0u64;
-    for index in 4 * block..4 * block + 4 {
+    for index in first..first.saturating_add(4) {
         if take(rt, answers) == (index, verdict_on(index)) {
             right = right.wrapping_add(1);
         }
@@ -164,12 +164,12 @@ fn feed<R: Wait>(rt: &R, alloc: Global, ends: Ends, script: &Script, stop: &Atom
     let mut right = 0u64;
     for block in 0..50u64 {
         let told_before = block != 38 || ends.commands.send(1).is_ok();
-        let sent = send_block(&mut ends, alloc, script, block);
+        let sent = send_four(&mut ends, alloc, script, 4 * block);
         let told_behind = block != 25 || ends.commands.send(0).is_ok();
         if !told_before || !sent || !told_behind {
             break;
         }
-        right = right.wrapping_add(take_block(rt, &mut ends.answers, block));
+        right = right.wrapping_add(take_four(rt, &mut ends.answers, 4 * block));
     }
     stop.store(true, Ordering::SeqCst);
     right
@@ -203,7 +203,9 @@ fn work_beside<R: Threads + Wait + Sync, L: Recorder + Drop>(
 fn answers_beside<R: Threads + Wait + Sync>(rt: &R, alloc: Global) -> Option<(u32, u64)> {
     let script = script(alloc, SCRIPT)?;
     let store = Arc::new(alloc, ForestStore::new(alloc).ok()?).ok()?;
-    let lane = Lane::new(alloc, LogApp, StoreUser::new(store, rt), true).ok()?;
+    let Ok(lane) = Lane::new(alloc, LogApp, StoreUser::new(store, rt), true) else {
+        return None;
+    };
     work_beside(rt, alloc, lane, &script)
 }
 
@@ -280,7 +282,9 @@ fn answers_twice<R: Wait>(
     fails_at: Option<u64>,
 ) -> Option<(Answered, Answered, bool)> {
     let script = script(alloc, SCRIPT)?;
-    let inner = Lane::new(alloc, LogApp, Table::new(alloc), true).ok()?;
+    let Ok(inner) = Lane::new(alloc, LogApp, Table::new(alloc), true) else {
+        return None;
+    };
     let flags = new_flags(true);
     let (first, second) = match fails_at {
         None => work_twice(rt, alloc, inner, &script, &flags)?,
