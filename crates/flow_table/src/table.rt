@@ -2,7 +2,7 @@
 
 ghost use Rattle.std.specs.Prelude.{◌≡◌, ◌+◌, ◌↔◌, None, Some, if◌then◌else◌, IsNone, IfSome, IfNone, OnOk, OnErr, IfErr};
 ghost use Rattle.std.specs.Borrow.{sem};
-ghost use Rattle.std.specs.Option.{option_copied_mut};
+ghost use Rattle.std.specs.Option.{option_copied, option_copied_mut};
 ghost use Rattle.std.specs.FinMap as map;
 ghost use Rattle.flow_table.specs.Key.{EndpointPair, same_key};
 ghost use Rattle.flow_table.specs.Table.{found};
@@ -75,6 +75,13 @@ impl<T> FlowTable<T> {
                 Err(value)
             }
         }
+    }
+
+    /// The value of a key, where the key is there.
+    pub fn get(&self, key: &Key) -> Option<&T>
+        ensures value { option_copied result ≡ found self.now key.now }
+    {
+        self.flows.get(key)
     }
 
     /// The value of a key, to write, where the key is there.

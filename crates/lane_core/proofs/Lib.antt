@@ -1,4 +1,5 @@
 pub mod Places
+pub mod OpenTrees
 pub mod Holding
 pub mod Restricted
 pub mod Growing

@@ -4,6 +4,9 @@ use Rattle.app_api.specs.App.{Meaning}
 use Rattle.app_api.specs.declared.reaction.Verdict.{Verdict}
 use Rattle.shared_forest.specs.declared.store.Shared.{Shared}
 use Rattle.shared_forest.specs.Lists.{TreeLists}
+use Rattle.shared_forest.specs.Listing.{listing}
+use Rattle.event_trees.specs.declared.defs.EventDef.{EventDef}
+use Rattle.event_trees.specs.Edit.{IsForestOf}
 use Rattle.report_text.specs.declared.record.Record.{Record}
 use Rattle.forest_versions.specs.Master.{Versions, StandsFor}
 use Rattle.connection_core.specs.InForce.{told_at}
@@ -33,6 +36,13 @@ IsHeavy app events = 134217728 < weight (lane_run app events)
 abbrev pub newest_by : ℕ → Option ℕ
 newest_by zero = None
 newest_by (suc n) = Some n
+
+-- what is found for a key: the tree of the private list of its open connection, and nothing where none is open
+abbrev pub IsTreeFound : List EventDef → Option RecordSoFar → Option TreeLists → Type 0
+IsTreeFound defs None None = ⊤
+IsTreeFound defs None (Some tree) = ⊥
+IsTreeFound defs (Some connection) None = ⊥
+IsTreeFound defs (Some connection) (Some tree) = IsForestOf defs connection.history.active (listing tree)
 
 -- a lane that hasn't failed keeps the records of these events; one that failed as heavy had records that weigh too much
 pub record IsRun (app : Meaning) (keep : Bool) (m : Versions) (content : Shared → TreeLists) (kept : Kept) (next : ℕ) (failed : Option LaneError) (events : List LaneEvent) : Type 0 where

@@ -1,6 +1,6 @@
 -- Which packets make a record. A connection is opened by a SYN with neither ACK nor RST (RFC 9293, section 3.5) while none
 -- of its key is open; until it is over, each packet between its two endpoints belongs to it. Every other packet is an orphan.
-use Rattle.std.specs.Prelude.{ℕ, Bool, false, not, ◌&&◌, if◌then◌else◌, Some, None, List, [], ◌∷◌, map}
+use Rattle.std.specs.Prelude.{ℕ, Bool, false, not, ◌&&◌, if◌then◌else◌, Option, Some, None, List, [], ◌∷◌, map}
 use Rattle.packet_views.specs.Flags.{has_syn, has_ack, has_rst}
 use Rattle.packet_views.specs.declared.packet.Class.TheVariants as Class
 use Rattle.tcp_emulation.specs.declared.segment.Side.{Side}
@@ -41,6 +41,11 @@ is_between key (Other class) = false
 -- an open connection of this key
 abbrev pub is_open_at : EndpointPair → RecordSoFar → Bool
 is_open_at key so_far = opens so_far.first.sight && is_between key so_far.first.sight && not (is_over so_far.history)
+
+-- the open connection of a key, where there is one
+unfoldable pub open_at : EndpointPair → List RecordSoFar → Option RecordSoFar
+open_at key [] = None
+open_at key (so_far ∷ others) = if is_open_at key so_far then Some so_far else open_at key others
 
 -- whether a packet belongs to a record that was started before it
 abbrev pub belongs_to : Sight → RecordSoFar → Bool

@@ -21,6 +21,3 @@ pub use end::{LaneEnd, VersionOfList};
 pub use errors::LaneError;
 pub use lane::Lane;
 pub use recorder::Recorder;
-
-#[cfg(test)]
-mod tests;

@@ -36,6 +36,13 @@ pub(crate) struct Opened {
     pub(crate) step: Step,
 }
 
+// The version under which a connection lives, whatever commands came since it began.
+fn version_for<A>(_world: &World<A>, conn: &Connection) -> u32
+    ensures { result ≡ conn.now.version }
+{
+    conn.version
+}
+
 /// Steps an open connection, and notes in its record what became of the packet.
 pub(crate) fn step_one<A: App, F: Forests>(
     alloc: Global,
@@ -72,7 +79,7 @@ pub(crate) fn step_one<A: App, F: Forests>(
         app: &world.app,
         in_force: InForce {
             master: &world.master,
-            version: conn.version,
+            version: version_for(world, conn),
         },
         natives,
         keep: world.keep,

@@ -6,8 +6,6 @@ pub mod forward;
 mod items;
 mod resequencer;
 mod ring;
-#[cfg(test)]
-mod tests;
 
 pub use items::{
     Answer, AnswerRx, AnswerTx, CommandRx, CommandTx, Packet, PacketRx, PacketTx, answer_ring,

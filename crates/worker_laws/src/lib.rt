@@ -11,8 +11,6 @@ pub mod packets;
 pub mod runs;
 pub mod shares;
 pub mod streaming;
-#[cfg(test)]
-mod tests;
 pub mod verdicts;
 pub mod versions;
 mod weight;

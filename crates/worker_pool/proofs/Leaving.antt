@@ -30,7 +30,7 @@ use Rattle.worker_pool.specs.Streamed.{AreRelays, Leaves, HasLeft, Streamed, Dea
 use Rattle.worker_pool.specs.Drained.{OfferAll}
 use Rattle.worker_pool.specs.Relayed.{HaveTaken, LeaveAll, CutAll, counted_on}
 use Rattle.worker_pool.proofs.Posted.{post_of}
-use Rattle.worker_pool.proofs.Reading.{IsReadTo}
+use Rattle.worker_pool.specs.GoesOn.{IsReadTo}
 use Rattle.worker_pool.proofs.Relaying.{still_sent, relays_after, sent_to, lane_before, counted_length, counted_taken}
 
 -- ---- posts to which nothing is sent

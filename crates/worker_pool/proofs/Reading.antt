@@ -3,11 +3,12 @@ use Rattle.std.proofs.Common.{◌≡◌, ℕ, ◌≤◌, Option, Some, None, Lis
 use Rattle.mos_bytes.specs.Causes.{HasCauseOf}
 use Rattle.mos_bytes.proofs.Causes.{Rose-earlier}
 use Rattle.pcap_source.specs.Captured.{Captured}
-use Rattle.pcap_source.specs.Capture.{Frames, Ending, tail, too_long, too_many, ended}
+use Rattle.pcap_source.specs.Capture.{Ending, tail, too_long, too_many, ended}
 use Rattle.pcap_source.specs.Reading.{CaptureState, NextGives, frames_at}
 use Rattle.pcap_source.specs.declared.capture.Step.TheVariants.{Frame, Tail, End}
 use Rattle.pcap_source.specs.declared.errors.NextError.{NextError}
 use Rattle.pcap_source.specs.declared.errors.NextError.TheVariants.{TooLong, TooMany, ReadFault, NoMemory}
+use Rattle.worker_pool.specs.GoesOn.{behind, IsReadTo}
 use Rattle.worker_pool.specs.Posts.{ReadsAs}
 
 -- a fault of a call, told again, has its cause since an earlier moment
@@ -19,16 +20,6 @@ HasCause-since first before now earlier call same = record {
 
 pub same_error : {T : Type 0} (a b : NextError) (r : Result T NextError) → r ≡ Err a → r ≡ Err b → a ≡ b
 same_error a b r one two = cc
-
--- these frames, and then others
-abbrev pub behind : List Captured → Frames → Frames
-behind frames f = record { frames = frames ++ f.frames; ending = f.ending }
-
--- of the bytes that a capture said at first these are left, and the frames so far and what is left are all of it
-pub record IsReadTo (start : CaptureState) (bytes : List ℕ) (frames : List Captured) (capture : CaptureState) (left : Option (List ℕ)) : Type 0 where
-  pub rest : List ℕ
-  pub told : left ≡ Some rest
-  pub holds : frames_at start bytes ≡ behind frames (frames_at capture rest)
 
 pub read_none : (capture : CaptureState) (bytes : List ℕ) (left : Option (List ℕ)) → left ≡ Some bytes → IsReadTo capture bytes [] capture left
 read_none capture bytes left told = record { rest = bytes; told = told; holds = refl }

@@ -14,3 +14,4 @@ pub mod Streamed
 pub mod Drained
 pub mod Explained
 pub mod Relayed
+pub mod GoesOn

@@ -1,6 +1,6 @@
 //! Reads a capture, and sends each packet to its lane.
 
-ghost use Rattle.std.specs.Prelude.{◌≡◌, ◌<◌, ◌≤◌, ◌++◌, [], ◌∷◌, List, length, IsErrOf};
+ghost use Rattle.std.specs.Prelude.{◌≡◌, ◌<◌, ◌≤◌, ◌++◌, [], ◌∷◌, List, length, IsErrOf, false};
 ghost use Rattle.mos_bytes.specs.Causes.{HasCauseOf};
 ghost use Rattle.packet_views.specs.Packet.{packet_of};
 ghost use Rattle.pcap_source.specs.Captured.{Captured};
@@ -116,6 +116,7 @@ pub(crate) fn dispatch<R: Wait, L: Recorder + Drop, S: Source, G: Gate>(
         → Dispatched L.Recorder script.now begins posts.new.items capture.old (S.left source.old) (S.left source.new) result }
     ensures cause { HasCauseOf (S.faults source.old) (S.faults source.new) (IsErrOf result NextError.ReadFault) }
     ensures lasts { S.lasting source.new ≡ S.lasting source.old }
+    ensures stopped { capture.new.is_live ≡ false }
 {
     let mut packets = 0;
     loop {

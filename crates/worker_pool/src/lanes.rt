@@ -1,6 +1,6 @@
 //! A run on several lanes.
 
-ghost use Rattle.std.specs.Prelude.{◌≡◌, ◌≤◌, [], ℕ, List, Some, IsOk, IfOk, IsTrue, IsErrOf};
+ghost use Rattle.std.specs.Prelude.{◌≡◌, ◌≤◌, [], ℕ, List, Some, Err, IsOk, IfOk, IsTrue, IsErrOf};
 ghost use Rattle.mos_bytes.specs.Causes.{HasCauseOf};
 ghost use Rattle.pcap_source.specs.Captured.{Captured};
 ghost use Rattle.pcap_source.specs.Reading.{Opened, frames_at};
@@ -29,7 +29,8 @@ use std::thread::Threads;
 /// Its end is that of one run over all packets under the versions that it answers, whatever the order of the threads'
 /// steps. It asks a script that is lawful with the application's presets, and 1 to 16 lanes. An error is that the
 /// capture is refused, that its source failed, that memory was refused, or that the callbacks weigh too much. A lane for
-/// which no thread can be started is run in this one, which is no error. It waits for its threads.
+/// which no thread can be started is run in this one, which is no error. It waits for its threads. Where memory is refused
+/// before the capture is read, capture and source are as they were; else the capture is no longer live.
 pub fn run_lanes<
     R: Threads + Wait + Sync + Send + Copy + Drop + 'static,
     A: App + Copy + Send + Sync + Drop,
@@ -55,6 +56,9 @@ pub fn run_lanes<
     ensures cause { HasCauseOf (S.faults source.old) (S.faults source.new) (IsErrOf result PoolError.ReadFault) }
     ensures no_write { IsErrOf result PoolError.WriteFault → ⊥ }
     ensures lasts { S.lasting source.new ≡ S.lasting source.old }
+
+    // The capture may be read on only where nothing of it was read.
+    ensures stopped { IsTrue capture.new.is_live → (result ≡ Err PoolError.NoMemory) × (capture.new ≡ capture.old) × (source.new ≡ source.old) }
 {
     let team = make_team(rt, alloc, job)?;
     let ran = read_team(rt, alloc, team, job.script, natives, gate, capture, source)?;

@@ -19,8 +19,6 @@ mod post;
 mod reader;
 mod seat;
 mod team;
-#[cfg(test)]
-mod tests;
 mod turn;
 pub mod versions;
 mod worker;

@@ -1,6 +1,6 @@
 //! Places of a command ring: for each, the lane takes the script's next command.
 
-ghost use Rattle.std.specs.Prelude.{◌≡◌, ◌≢◌, ◌+◌, ◌<◌, ◌≤◌, min, length, None, Some, IsTrue, OnOk, IfErr};
+ghost use Rattle.std.specs.Prelude.{◌≡◌, ◌≢◌, ◌+◌, ◌<◌, ◌≤◌, min, length, None, Some, IsTrue, OnOk, IfErr, true, false};
 ghost use Rattle.forest_versions.specs.Lawful.{are_lawful};
 ghost use Rattle.forest_versions.specs.State.{start};
 ghost use Rattle.control_script.specs.Order.{commands_of};
@@ -32,6 +32,14 @@ fn give_next<L: Recorder>(alloc: Global, lane: &mut L, script: &Script) -> Resul
     }
 }
 
+// Whether a lane has all the commands that a packet of this ceiling may see.
+fn has_all<L: Recorder>(lane: &L, ceil: u32) -> bool
+    ensures yes { result ≡ true → ceil ≤ L.given lane.now }
+    ensures no { result ≡ false → L.given lane.now < ceil }
+{
+    lane.version() >= ceil
+}
+
 /// Takes places until the lane's version is at least `floor`, and goes on while the ring shows one and the version is
 /// below `ceil`. For each place the lane takes the script's next command; an error is the lane's.
 pub(crate) fn take_places<R: Wait, L: Recorder>(
@@ -59,7 +67,7 @@ pub(crate) fn take_places<R: Wait, L: Recorder>(
     ensures fails { IfErr result (λ e. L.failed lane.new ≡ Some e) }
 {
     for _ in rt.forever() {
-        if lane.version() >= ceil {
+        if has_all(lane, ceil) {
             return Ok(());
         }
         match take_from(commands) {

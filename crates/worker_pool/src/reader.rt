@@ -1,6 +1,6 @@
 //! A run that is reported: this thread reads the capture, and sends its packets to the workers.
 
-ghost use Rattle.std.specs.Prelude.{◌≡◌, IsErrOf, IsTrue};
+ghost use Rattle.std.specs.Prelude.{◌≡◌, Err, IsErrOf, IsTrue};
 ghost use Rattle.mos_bytes.specs.Causes.{HasCauseOf};
 ghost use Rattle.pcap_source.specs.Reading.{Opened};
 ghost use Rattle.app_api.specs.App.{Meaning};
@@ -40,7 +40,7 @@ pub(crate) struct Reader<'a, R, S, G> {
 }
 
 impl<'a, R: Wait, L: Recorder + Drop, S: Source, G: Gate> Dealer<L> for Reader<'a, R, S, G> {
-    ghost use Rattle.std.specs.Prelude.{◌≡◌};
+    ghost use Rattle.std.specs.Prelude.{◌≡◌, false};
     ghost use Rattle.pcap_source.specs.Reading.{Opened};
     ghost use Rattle.worker_pool.specs.Team.{HasRead};
 
@@ -50,7 +50,8 @@ impl<'a, R: Wait, L: Recorder + Drop, S: Source, G: Gate> Dealer<L> for Reader<'
 
     ghost did = { λ d e begins frames result. HasRead frames d.capture.now (S.left d.source.now) (S.left e.source.now) (S.faults d.source.now) (S.faults e.source.now) result
         × (S.lasting e.source.now ≡ S.lasting d.source.now)
-        × (e.capture.ghost_name ≡ d.capture.ghost_name) × (e.source.ghost_name ≡ d.source.ghost_name) };
+        × (e.capture.ghost_name ≡ d.capture.ghost_name) × (e.source.ghost_name ≡ d.source.ghost_name)
+        × (e.capture.now.is_live ≡ false) };
 
     fn deal(&mut self, posts: &mut Vec<Post<L>>) -> Result<Whole, PoolError> {
         let whole = dispatch(
@@ -71,7 +72,8 @@ impl<'a, R: Wait, L: Recorder + Drop, S: Source, G: Gate> Dealer<L> for Reader<'
 /// Runs a team over an opened capture, and reads that.
 ///
 /// The capture is read to its end or its tail, also where a lane failed, or to where it is refused. An error is that
-/// refusal, a fault of the source, or want of memory.
+/// refusal, a fault of the source, or want of memory. The capture may be read on only where memory was refused before
+/// anything of it was read.
 pub(crate) fn read_team<
     R: Threads + Wait + Sync + Send + Copy + Drop + 'static,
     L: Recorder + Drop + Send,
@@ -93,6 +95,7 @@ pub(crate) fn read_team<
     ensures ran { TeamRan L.Recorder script.now team.workers.items capture.old (S.left source.old) (S.left source.new) result }
     ensures cause { HasCauseOf (S.faults source.old) (S.faults source.new) (IsErrOf result PoolError.ReadFault) }
     ensures lasts { S.lasting source.new ≡ S.lasting source.old }
+    ensures stopped { IsTrue capture.new.is_live → (result ≡ Err PoolError.NoMemory) × (capture.new ≡ capture.old) × (source.new ≡ source.old) }
 {
     let failed = AtomicBool::new(false);
     let mut reader = Reader {

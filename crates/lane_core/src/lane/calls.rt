@@ -1,8 +1,12 @@
 //! The calls of a lane.
 
-ghost use Rattle.std.specs.Prelude.{◌≡◌, [], IfOk, None};
+ghost use Rattle.std.specs.Prelude.{◌≡◌, List, [], IfOk, None};
+ghost use Rattle.std.specs.Option.{option_copied};
 ghost use Rattle.shared_forest.specs.Store.{CountsAtMost};
 ghost use Rattle.forest_versions.specs.State.{start};
+ghost use Rattle.lane_core.specs.Lane.{IsTreeFound};
+ghost use Rattle.lane_core.specs.Records.{open_at};
+ghost use Rattle.lane_core.specs.Run.{LaneEvent, lane_run};
 
 use crate::end::{LaneEnd, records_of, versions_of};
 use crate::errors::LaneError;
@@ -11,12 +15,11 @@ use crate::lane::Lane;
 use crate::recorder::Recorder;
 use crate::world::World;
 use app_api::{App, Verdict, presets_of};
-use connection_core::Ledger;
-use flow_table::FlowTable;
+use flow_table::Key;
 use forest_versions::{Command, Control, Master};
 use native_filters::NativeBook;
 use pcap_source::Frame;
-use shared_forest::Forests;
+use shared_forest::{Forests, Tree};
 use std::alloc::{AllocError, Global};
 
 impl<A: App + Drop, F: Forests + Drop> Lane<A, F> {
@@ -35,16 +38,10 @@ impl<A: App + Drop, F: Forests + Drop> Lane<A, F> {
         let presets = presets_of(alloc, &app)?;
         let master = Master::new(alloc, &mut forests, &presets)?;
         let world = World { app, master, keep };
-        let kept = Kept {
-            flows: FlowTable::new(alloc),
-            slots: Vec::new(alloc),
-            ledger: Ledger::new(alloc),
-            dropped: 0,
-        };
         Ok(Lane {
             world,
             forests,
-            kept,
+            kept: Kept::new(alloc),
             next: 0,
             failed: None,
         })
@@ -55,6 +52,16 @@ impl<A: App + Drop, F: Forests + Drop> Lane<A, F> {
         ensures { F.interns result.now ≡ ⟦<Lane<A, F> as Recorder>⟧.interns self.now }
     {
         &self.forests
+    }
+
+    /// The tree by which the registrations of an open connection are called: that of its private list, which other
+    /// connections may share. `None` exactly where no connection of the key is open. Of a lane that failed nothing is said.
+    pub fn tree_of(&self, key: &Key) -> Option<&Tree>
+        ensures tree { ⟦<Lane<A, F> as Recorder>⟧.failed self.now ≡ None → (events : List LaneEvent) → ⟦<Lane<A, F> as Recorder>⟧.stands self.now events
+            → IsTreeFound (⟦<Lane<A, F> as Recorder>⟧.control self.now).defs (open_at key.now (lane_run (⟦<Lane<A, F> as Recorder>⟧.app self.now) events)) (option_copied result) }
+    {
+        let conn = self.kept.flows.get(key)?;
+        Some(self.forests.tree_of(&conn.flow.forest))
     }
 }
 
@@ -82,8 +89,7 @@ impl<A: App + Drop, F: Forests + Drop> Recorder for Lane<A, F> {
             return Err(error);
         }
         if self.give(alloc, c).is_err() {
-            self.failed = Some(LaneError::NoMemory);
-            return Err(LaneError::NoMemory);
+            return Err(self.fail(alloc, LaneError::NoMemory));
         }
         Ok(())
     }
@@ -99,12 +105,10 @@ impl<A: App + Drop, F: Forests + Drop> Recorder for Lane<A, F> {
             return Err(error);
         }
         let Ok(verdict) = self.take(alloc, natives, number, frame) else {
-            self.failed = Some(LaneError::NoMemory);
-            return Err(LaneError::NoMemory);
+            return Err(self.fail(alloc, LaneError::NoMemory));
         };
         if self.is_heavy() {
-            self.failed = Some(LaneError::Heavy);
-            return Err(LaneError::Heavy);
+            return Err(self.fail(alloc, LaneError::Heavy));
         }
         Ok(verdict)
     }

@@ -1,6 +1,6 @@
 //! What a packet or a command does to a lane that hasn't failed.
 
-ghost use Rattle.std.specs.Prelude.{◌≡◌, ◌+◌, ◌*◌, ◌<◌, ◌≤◌, ◌&&◌, nat_lt, ℕ, List, [], ◌∷◌, ◌++◌, length, OnOk, OnErr, IfOk, IsTrue, None, true};
+ghost use Rattle.std.specs.Prelude.{◌≡◌, ◌+◌, ◌*◌, ◌<◌, ◌≤◌, ◌&&◌, nat_lt, ℕ, List, [], ◌∷◌, ◌++◌, length, OnOk, OnErr, IfOk, IsTrue, None, Some, true};
 ghost use Rattle.std.specs.Option.{option_copied};
 ghost use Rattle.flow_table.specs.Table.{found};
 ghost use Rattle.app_api.specs.declared.registration.Reg.{Reg as RegOf};
@@ -17,7 +17,9 @@ ghost use Rattle.lane_core.specs.Records.{RecordSoFar, opens};
 ghost use Rattle.lane_core.specs.Kept.{Keeps, AddsTo, AddsStray, CostsAtMost, arrived};
 
 use crate::command::give_to;
+use crate::errors::LaneError;
 use crate::flows::{follow, keep};
+use crate::kept::Kept;
 use crate::lane::Lane;
 use crate::limits::WEIGHT;
 use crate::packet::{Opened, lone_at, start_one};
@@ -292,6 +294,19 @@ impl<A: App + Drop, F: Forests + Drop> Lane<A, F> {
     {
         let weight = self.kept.ledger.counts.weight;
         self.world.keep && weight > WEIGHT
+    }
+
+    /// Fails for good, and answers why. What was kept is asked for no more, so its memory goes back at once.
+    pub(crate) fn fail(&mut self, alloc: Global, error: LaneError) -> LaneError
+        ensures answer { result ≡ error }
+        ensures failed { self.new.failed ≡ Some error }
+        ensures world { self.new.world ≡ self.old.world }
+        ensures forests { self.new.forests ≡ self.old.forests }
+        ensures next { self.new.next ≡ self.old.next }
+    {
+        self.kept = Kept::new(alloc);
+        self.failed = Some(error);
+        error
     }
 
     /// One more command. An error leaves what is in force and the store as they were.

@@ -1,6 +1,6 @@
 //! A forward run on several lanes.
 
-ghost use Rattle.std.specs.Prelude.{◌≡◌, ◌≢◌, ◌≤◌, [], ℕ, List, Option, Some, length, IsOk, IsTrue, IsErrOf, IfOk, IfErr};
+ghost use Rattle.std.specs.Prelude.{◌≡◌, ◌≢◌, ◌≤◌, ◌⊎◌, [], ℕ, List, Option, Some, Err, length, IsOk, IsTrue, IsErrOf, IfOk, IfErr};
 ghost use Rattle.mos_bytes.specs.Causes.{HasCauseOf};
 ghost use Rattle.pcap_source.specs.Captured.{Captured};
 ghost use Rattle.pcap_source.specs.Reading.{Opened, frames_at};
@@ -8,6 +8,7 @@ ghost use Rattle.app_api.specs.App.{Meaning};
 ghost use Rattle.forest_versions.specs.Lawful.{are_lawful};
 ghost use Rattle.forest_versions.specs.State.{start};
 ghost use Rattle.control_script.specs.Order.{commands_of};
+ghost use Rattle.worker_pool.specs.GoesOn.{GoesOn};
 ghost use Rattle.worker_pool.specs.Manned.{CanRun, Served};
 ghost use Rattle.worker_pool.specs.Streamed.{AreRelays, Leaves, Streamed, lane_at, taken_from};
 ghost use Rattle.worker_pool.specs.Forward.{ForwardsFront, ForwardsOver};
@@ -80,7 +81,9 @@ fn stream_team<
     ensures write_fault { IfOk result (λ r. HasCauseOf (O.faults out.old) (O.faults out.new) (IsErrOf r.0 PoolError.WriteFault)) }
     ensures source_lasts { IfOk result (λ _. S.lasting source.new ≡ S.lasting source.old) }
     ensures out_lasts { IfOk result (λ _. O.lasting out.new ≡ O.lasting out.old) }
-    ensures unchanged { IfErr result (λ _. (source.new ≡ source.old) × (out.new ≡ out.old)) }
+    ensures stopped { IfOk result (λ r. IsTrue capture.new.is_live → ((r.0 ≡ Err PoolError.WriteFault) ⊎ (r.0 ≡ Err PoolError.NoMemory))
+        × GoesOn capture.old capture.new (S.left source.old) (S.left source.new)) }
+    ensures unchanged { IfErr result (λ _. (capture.new ≡ capture.old) × (source.new ≡ source.old) × (out.new ≡ out.old)) }
 {
     let failed = AtomicBool::new(false);
     let mut streamer = Streamer {
@@ -114,7 +117,8 @@ fn stream_team<
 /// in order of name.
 ///
 /// At most 4,096 packets are on their way between the capture and the output. At an error a front of what was to be
-/// written was written. It asks a script that is lawful with the application's presets, and 1 to 16 lanes. It waits for
+/// written was written; where that is a fault of writing or want of memory, the capture may still be live, and then goes on
+/// behind the records that were read. It asks a script that is lawful with the application's presets, and 1 to 16 lanes. It waits for
 /// its threads; a lane for which no thread can be started is run in this one, which is no error.
 pub fn forward_lanes<
     R: Threads + Wait + Sync + Send + Copy + Drop + 'static,
@@ -146,6 +150,10 @@ pub fn forward_lanes<
     ensures write_fault { HasCauseOf (O.faults out.old) (O.faults out.new) (IsErrOf result PoolError.WriteFault) }
     ensures source_lasts { S.lasting source.new ≡ S.lasting source.old }
     ensures out_lasts { O.lasting out.new ≡ O.lasting out.old }
+
+    // The capture may be read on only where a write failed or memory was refused: then it goes on behind the records read.
+    ensures stopped { IsTrue capture.new.is_live → ((result ≡ Err PoolError.WriteFault) ⊎ (result ≡ Err PoolError.NoMemory))
+        × GoesOn capture.old capture.new (S.left source.old) (S.left source.new) }
 {
     nothing_is_a_front(job.script);
     beginning_is_right();

@@ -102,6 +102,7 @@ pub(crate) fn leave<L: Recorder + Drop, O: Sink>(
         → Streamed begins frames relays.items waiting start old new before (O.taken out.old) read
         → IfErr result (λ e. e ≢ PoolError.Heavy) }
     ensures ok { IsOk result → IsOk read }
+    ensures error { IfErr read (λ e. (result ≡ Err e) ⊎ (result ≡ Err PoolError.WriteFault)) }
     ensures read_fault { IsErrOf result PoolError.ReadFault → IsErrOf read PoolError.ReadFault }
     ensures write_fault { IsErrOf result PoolError.WriteFault → IsErrOf read PoolError.WriteFault ⊎ Rose (O.faults out.old) (O.faults out.new) }
     ensures counts { O.faults out.old ≤ O.faults out.new }

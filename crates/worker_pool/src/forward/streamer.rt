@@ -36,10 +36,11 @@ pub(crate) struct Streamer<'a, R, S, O, G> {
 
 impl<'a, R: Wait, L: Recorder + Drop, S: Source, O: Sink, G: Gate> Dealer<L>
     for Streamer<'a, R, S, O, G> {
-    ghost use Rattle.std.specs.Prelude.{◌≡◌, [], length, IsErrOf};
+    ghost use Rattle.std.specs.Prelude.{◌≡◌, ◌⊎◌, [], length, Err, IsErrOf, IsTrue};
     ghost use Rattle.mos_bytes.specs.Causes.{HasCauseOf};
     ghost use Rattle.pcap_source.specs.Reading.{Opened};
-    ghost use Rattle.worker_pool.specs.declared.job.PoolError.TheVariants.{ReadFault, WriteFault};
+    ghost use Rattle.worker_pool.specs.declared.job.PoolError.TheVariants.{ReadFault, WriteFault, NoMemory};
+    ghost use Rattle.worker_pool.specs.GoesOn.{GoesOn};
     ghost use Rattle.worker_pool.specs.Streamed.{AreRelays, Leaves, Streamed, lane_at, taken_from};
 
     ghost script = { λ d. d.script.now };
@@ -54,7 +55,10 @@ impl<'a, R: Wait, L: Recorder + Drop, S: Source, O: Sink, G: Gate> Dealer<L>
         × (S.lasting e.source.now ≡ S.lasting d.source.now)
         × (O.lasting e.out.now ≡ O.lasting d.out.now)
         × (e.relays.ghost_name ≡ d.relays.ghost_name) × (e.waiting.ghost_name ≡ d.waiting.ghost_name)
-        × (e.source.ghost_name ≡ d.source.ghost_name) × (e.out.ghost_name ≡ d.out.ghost_name) };
+        × (e.source.ghost_name ≡ d.source.ghost_name) × (e.out.ghost_name ≡ d.out.ghost_name)
+        × (e.capture.ghost_name ≡ d.capture.ghost_name)
+        × (IsTrue e.capture.now.is_live → ((result ≡ Err WriteFault) ⊎ (result ≡ Err NoMemory))
+        × GoesOn d.capture.now e.capture.now (S.left d.source.now) (S.left e.source.now)) };
 
     fn deal(&mut self, posts: &mut Vec<Post<L>>) -> Result<Whole, PoolError> {
         stream(

@@ -10,12 +10,12 @@ use Rattle.lane_core.proofs.Noting.{noted, notes_after}
 use Rattle.lane_core.proofs.packet.step_one.Goals as goal
 
 pub returns-clause-stands : goal.returns-clause-stands
-returns-clause-stands g c = λ control tells.
+returns-clause-stands g c = rw (sym c.version_for.ensures) (λ control tells.
     let e = c.in_ok-step.ensures in
     let conn = c.args.conn.now in
     let slot = c.args.slot.now in
     let segment = seen c.args.segment.now in
-    let at = told_at c.args.world.now.master conn.version in
+    let at = told_at c.args.world.now.master c.version_for.result in
     let app = g.A.App.meaning c.args.world.now.app in
     let number = c.args.number in
     let from = c.side_of.ensures in
@@ -38,20 +38,29 @@ returns-clause-stands g c = λ control tells.
         drops = subst (λ side. (followed app control number side segment.head segment.payload h).drops ≡ h.drops ++ drops_of c.in_ok-step.step.verdict number) from
             (e.drops control others h tells connected);
       };
-    }
+    })
 
 pub returns-in_err-step-clause-costs : goal.returns-in_err-step-clause-costs
-returns-in_err-step-clause-costs g c = on_err_always c.from_residual.result (λ control tells. record {
+returns-in_err-step-clause-costs g c = rw (sym c.version_for.ensures) (on_err_always c.from_residual.result (λ control tells. record {
   interned = λ others h connected.
       let segment = seen c.args.segment.now in
       subst (λ side. InternsWithin (g.F.ForestView.interns c.args.forests.now) (g.F.ForestView.interns c.step.new.forests) h.altered
       (followed (g.A.App.meaning c.args.world.now.app) control c.args.number side segment.head segment.payload h).altered) c.side_of.ensures (c.step.ensures.interned control others h tells connected);
-})
+}))
 
 pub returns-in_err-note-clause-costs : goal.returns-in_err-note-clause-costs
-returns-in_err-note-clause-costs g c = on_err_always c.from_residual-in_err-note.result (λ control tells. record {
+returns-in_err-note-clause-costs g c = rw (sym c.version_for.ensures) (on_err_always c.from_residual-in_err-note.result (λ control tells. record {
   interned = λ others h connected.
       let segment = seen c.args.segment.now in
       subst (λ side. InternsWithin (g.F.ForestView.interns c.args.forests.now) (g.F.ForestView.interns c.step.new.forests) h.altered
       (followed (g.A.App.meaning c.args.world.now.app) control c.args.number side segment.head segment.payload h).altered) c.side_of.ensures (c.step.ensures.interned control others h tells connected);
-})
+}))
+
+pub returns-in_err-step-clause-tree : goal.returns-in_err-step-clause-tree
+returns-in_err-step-clause-tree g c = rw (sym c.version_for.ensures) c.step.ensures.forest
+
+pub returns-in_err-note-clause-tree : goal.returns-in_err-note-clause-tree
+returns-in_err-note-clause-tree g c = rw (sym c.version_for.ensures) c.step.ensures.forest
+
+pub returns-clause-tree : goal.returns-clause-tree
+returns-clause-tree g c = rw (sym c.version_for.ensures) c.step.ensures.forest

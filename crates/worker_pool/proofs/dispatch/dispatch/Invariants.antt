@@ -2,7 +2,7 @@ use Rattle.std.proofs.Common.{◌≡◌, ℕ, ◌-◌, ◌≤◌, List, Some, tr
 use Rattle.pcap_source.specs.Captured.{Captured}
 use Rattle.worker_pool.specs.declared.worker.Worker.{Worker}
 use Rattle.worker_pool.specs.Posts.{ArePosts}
-use Rattle.worker_pool.proofs.Reading.{IsReadTo}
+use Rattle.worker_pool.specs.GoesOn.{IsReadTo}
 use Rattle.worker_pool.proofs.dispatch.dispatch.Given as goal
 
 -- The capture is live and has given so many frames. Their packets were sent, and they and what is left are the capture.

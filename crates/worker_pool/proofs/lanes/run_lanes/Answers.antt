@@ -53,3 +53,6 @@ returns-clause-no_write g c fault =
     let ran = c.in_ok-ran.ensures.ran in
     no_write app c.args.job.now.script.now (length c.in_ok-team.team.workers.items) ran.0 c.in_ok-ran.ran.tail c.conclude.result
     (c.conclude.ensures.ends app ran.0 c.in_ok-team.team.workers.items c.in_ok-team.team.packets.items ran.1 ran.2 c.in_ok-team.ensures.team c.in_ok-team.ensures.keep ran.4) fault
+
+pub returns-clause-stopped : goal.returns-clause-stopped
+returns-clause-stopped g c = λ live. absurd (let read = (c.in_ok-ran.ensures.stopped live).0 in cc)

@@ -21,7 +21,7 @@ loop-preserved-in-Continue-1 g c =
       advanced = advanced_next g.L.Recorder (commands_of c.args.script.now) c.args.lane.now c.loop.lane c.give_next.new.lane c.args.commands.now c.loop.commands c.take_from.new.ring c.in-Some-take_from.field-0 inv.advanced inv.good
           c.in-Some-take_from.ensures.some next;
       under = next.under good;
-      ceil = let below = c.if-version-ceil.false in let at = c.version.ensures in let v = next.version good in omega (arith, below, at, v);
+      ceil = let below = c.has_all.ensures.no c.if-has_all.false in let v = next.version good in omega (arith, below, v);
     }
 
 pub returns-in_err-give_next-in-Some-take_from-clause-advanced :

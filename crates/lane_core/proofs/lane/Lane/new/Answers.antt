@@ -17,8 +17,8 @@ returns-clause-stands g c =
     record {
       newest = refl;
       commands = λ none. stands;
-      records = λ none. rw (c.new-3.ensures.items, c.new-4.ensures.counts) (kept-empty c.args.keep (told_at m) (g.F.ForestView.content c.new.new.f) c.new-2.result c.new-2.ensures.none);
-      dropped = λ none. refl;
+      records = λ none. rw (c.new-2.ensures.slots, c.new-2.ensures.counts) (kept-empty c.args.keep (told_at m) (g.F.ForestView.content c.new.new.f) c.new-2.result.flows c.new-2.ensures.flows);
+      dropped = λ none. c.new-2.ensures.dropped;
       heavy = λ is. absurd (cc);
     }
 

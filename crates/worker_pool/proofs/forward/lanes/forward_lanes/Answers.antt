@@ -1,7 +1,7 @@
 use denote.Exit.{yes}
 use denote.Param.{copied}
 use denote.Param.Send.{param_send, arg_send}
-use Rattle.std.proofs.Common.{◌∙◌, [], sym, ap, subst, Err, length, ⊎_elim, arith}
+use Rattle.std.proofs.Common.{◌∙◌, [], sym, ap, subst, inr, Err, length, ⊎_elim, arith}
 use Rattle.std.proofs.lemmas.Result.{err_from_is_err_and}
 use Rattle.pcap_source.specs.Reading.{frames_at}
 use Rattle.shared_forest.proofs.store_user.StoreUser.TheSendSync as user
@@ -10,6 +10,7 @@ use Rattle.lane_core.proofs.Handed.{lane_send}
 use Rattle.worker_pool.specs.declared.job.PoolError.TheVariants.{ReadFault, WriteFault}
 use Rattle.worker_pool.specs.Forward.{ForwardsOver}
 use Rattle.worker_pool.specs.Streamed.{lane_at}
+use Rattle.worker_pool.proofs.Stopping.{unread, told_last}
 use Rattle.worker_pool.proofs.Forwarding.{run_begins, ended_early, no_fault_early, read_all, rose_before, rose_after}
 use Rattle.worker_pool.proofs.forward.lanes.forward_lanes.Goals as goal
 
@@ -48,7 +49,7 @@ returns-in_err-read-clause-forwards g c = λ rest is.
     let app = g.A.App.meaning c.args.job.now.app in
     let f = frames_at c.args.capture.now rest in
     subst (λ (o : g.row.O.Denot). ForwardsOver app c.args.job.now.script.now c.args.job.now.workers f (g.O.Sink.taken c.args.out.now) (g.O.Sink.taken o) c.from_residual-in_err-read.result)
-    (sym c.in_err-read.ensures.unchanged.1)
+    (sym c.in_err-read.ensures.unchanged.2)
     (ended_early app c.args.job.now.script.now c.args.job.now.workers f (g.O.Sink.taken c.args.out.now) c.from_residual-in_err-read.result (p.1 ∙ ap Err p.2)
     (c.nothing_is_a_front.ensures.front app c.args.job.now.workers f.frames (g.O.Sink.taken c.args.out.now)))
 
@@ -101,3 +102,24 @@ returns-clause-never_heavy g c =
     c.leave.ensures.never_heavy (g.A.App.meaning c.args.job.now.app) s.frames c.in_ok-team.team.workers.items c.in_ok-team.team.packets.items c.args.capture.now
     (g.S.Source.left c.args.source.now) (g.S.Source.left c.stream_team.new.source) (g.O.Sink.taken c.args.out.now)
     s.few c.in_ok-team.ensures.team c.in_ok-team.ensures.keep s.served s.done
+
+pub returns-in_err-team-clause-stopped : goal.returns-in_err-team-clause-stopped
+returns-in_err-team-clause-stopped g c = λ live.
+    let p = err_from_is_err_and c.from_residual.result c.from_residual.ensures.1 in
+    (inr (p.1 ∙ ap Err p.2), unread c.args.capture.now (g.S.Source.left c.args.source.now) c.requires.opened.count)
+
+pub returns-in_err-waiting-clause-stopped : goal.returns-in_err-waiting-clause-stopped
+returns-in_err-waiting-clause-stopped g c = λ live.
+    let p = err_from_is_err_and c.from_residual-in_err-waiting.result c.from_residual-in_err-waiting.ensures.1 in
+    (inr (p.1 ∙ ap Err p.2), unread c.args.capture.now (g.S.Source.left c.args.source.now) c.requires.opened.count)
+
+pub returns-in_err-read-clause-stopped : goal.returns-in_err-read-clause-stopped
+returns-in_err-read-clause-stopped g c = λ live.
+    let p = err_from_is_err_and c.from_residual-in_err-read.result c.from_residual-in_err-read.ensures.1 in
+    let same = c.in_err-read.ensures.unchanged in
+    (inr (p.1 ∙ ap Err p.2), rw (same.0, same.1) (unread c.args.capture.now (g.S.Source.left c.args.source.now) c.requires.opened.count))
+
+pub returns-clause-stopped : goal.returns-clause-stopped
+returns-clause-stopped g c = λ live.
+    let stopped = c.in_ok-read.ensures.stopped live in
+    (told_last c.in_ok-read.read c.leave.result stopped.0 c.leave.ensures.error, stopped.1)

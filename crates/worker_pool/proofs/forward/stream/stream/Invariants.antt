@@ -1,6 +1,6 @@
 use Rattle.std.proofs.Common.{◌≡◌, ℕ, ◌-◌, ◌≤◌, List, Some, true, length}
 use Rattle.pcap_source.specs.Captured.{Captured}
-use Rattle.worker_pool.proofs.Reading.{IsReadTo}
+use Rattle.worker_pool.specs.GoesOn.{IsReadTo}
 use Rattle.worker_pool.proofs.Leaving.{HasCome}
 use Rattle.worker_pool.proofs.forward.stream.stream.Given as goal
 

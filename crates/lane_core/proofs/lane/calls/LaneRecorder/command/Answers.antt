@@ -10,8 +10,9 @@ pub returns-then-is_err-clause-stands : goal.returns-then-is_err-clause-stands
 returns-then-is_err-clause-stands g c = λ good events r.
     let self = c.args.self.now in
     let new = c.give.new.self in
-    rw (c.give.ensures.app, c.give.ensures.keep, c.give.ensures.next)
-    (command_failed (g.A.App.meaning self.world.app) self.world.keep self.world.master new.world.master (g.F.ForestView.content self.forests) (g.F.ForestView.content new.forests) self.kept new.kept self.next self.failed events c.args.c.now r)
+    let end = c.fail.new.self in
+    rw (c.fail.ensures.world, c.fail.ensures.failed, c.fail.ensures.next, c.give.ensures.app, c.give.ensures.keep, c.give.ensures.next)
+    (command_failed (g.A.App.meaning self.world.app) self.world.keep self.world.master new.world.master (g.F.ForestView.content self.forests) (g.F.ForestView.content end.forests) self.kept end.kept self.next self.failed events c.args.c.now r)
 
 pub returns-clause-stands : goal.returns-clause-stands
 returns-clause-stands g c = λ good events r.

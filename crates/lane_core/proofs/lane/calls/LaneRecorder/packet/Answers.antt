@@ -15,8 +15,10 @@ pub returns-in_default-take-clause-stands : goal.returns-in_default-take-clause-
 returns-in_default-take-clause-stands g c = λ good events r.
     let self = c.args.self.now in
     let new = c.take.new.self in
-    packet_failed (g.A.App.meaning new.world.app) new.world.keep new.world.master (g.F.ForestView.content self.forests) (g.F.ForestView.content new.forests) self.kept new.kept self.next new.next events
-    (arrival_of c.args.number c.args.frame.now) NoMemory c.take.ensures.next (λ is. absurd (cc))
+    let end = c.fail.new.self in
+    rw (c.fail.ensures.world, c.fail.ensures.failed, c.fail.ensures.next)
+    (packet_failed (g.A.App.meaning new.world.app) new.world.keep new.world.master (g.F.ForestView.content self.forests) (g.F.ForestView.content end.forests) self.kept end.kept self.next new.next events
+    (arrival_of c.args.number c.args.frame.now) NoMemory c.take.ensures.next (λ is. absurd (cc)))
 
 pub returns-in_default-take-clause-interned : goal.returns-in_default-take-clause-interned
 returns-in_default-take-clause-interned g c = λ good events r.
@@ -24,8 +26,9 @@ returns-in_default-take-clause-interned g c = λ good events r.
     let app = g.A.App.meaning self.world.app in
     let run : IsRun app self.world.keep self.world.master (g.F.ForestView.content self.forests) self.kept self.next None events =
     subst (λ f. IsRun app self.world.keep self.world.master (g.F.ForestView.content self.forests) self.kept self.next f events) good r in
-    packet_costs app self.world.keep self.world.master (g.F.ForestView.content self.forests) self.kept self.next events (arrival_of c.args.number c.args.frame.now)
-    (g.F.ForestView.interns self.forests) (g.F.ForestView.interns c.take.new.self.forests) run (err_value c.take.result c.in_default-take.not-Ok c.take.ensures.costs)
+    rw c.fail.ensures.forests
+    (packet_costs app self.world.keep self.world.master (g.F.ForestView.content self.forests) self.kept self.next events (arrival_of c.args.number c.args.frame.now)
+    (g.F.ForestView.interns self.forests) (g.F.ForestView.interns c.take.new.self.forests) run (err_value c.take.result c.in_default-take.not-Ok c.take.ensures.costs))
 
 pub returns-then-is_heavy-clause-stands : goal.returns-then-is_heavy-clause-stands
 returns-then-is_heavy-clause-stands g c = λ good events r.
@@ -36,8 +39,9 @@ returns-then-is_heavy-clause-stands g c = λ good events r.
     let run : IsRun app self.world.keep self.world.master (g.F.ForestView.content self.forests) self.kept self.next None events =
     subst (λ f. IsRun app self.world.keep self.world.master (g.F.ForestView.content self.forests) self.kept self.next f events) good r in
     let over = subst (λ (w : World _). (w.keep && nat_lt 134217728 new.kept.ledger.counts.weight) ≡ true) c.take.ensures.world (sym c.is_heavy.ensures ∙ c.if-is_heavy.true) in
-    rw c.take.ensures.world
-    (packet_failed app self.world.keep self.world.master (g.F.ForestView.content self.forests) (g.F.ForestView.content new.forests) self.kept new.kept self.next new.next events a Heavy c.take.ensures.next
+    let fail = c.fail-then-is_heavy in
+    rw (fail.ensures.world, fail.ensures.failed, fail.ensures.next, c.take.ensures.world)
+    (packet_failed app self.world.keep self.world.master (g.F.ForestView.content self.forests) (g.F.ForestView.content fail.new.self.forests) self.kept fail.new.self.kept self.next new.next events a Heavy c.take.ensures.next
     (λ is. is_too_heavy app self.world.keep self.world.master (g.F.ForestView.content self.forests) (g.F.ForestView.content new.forests) self.kept new.kept self.next events a (g.F.ForestView.interns self.forests)
     (g.F.ForestView.interns new.forests) c.in-Ok.verdict run c.in-Ok.ensures.stands over))
 
@@ -64,9 +68,10 @@ returns-then-is_heavy-clause-interned g c = λ good events r.
     let a = arrival_of c.args.number c.args.frame.now in
     let run : IsRun app self.world.keep self.world.master (g.F.ForestView.content self.forests) self.kept self.next None events =
     subst (λ f. IsRun app self.world.keep self.world.master (g.F.ForestView.content self.forests) self.kept self.next f events) good r in
-    subst (λ rs. InternsWithin (g.F.ForestView.interns self.forests) (g.F.ForestView.interns new.forests) (alterations (lane_run app events)) (alterations rs)) (sym (packet_is_added app events a))
+    rw c.fail-then-is_heavy.ensures.forests
+    (subst (λ rs. InternsWithin (g.F.ForestView.interns self.forests) (g.F.ForestView.interns new.forests) (alterations (lane_run app events)) (alterations rs)) (sym (packet_is_added app events a))
     (run_added app self.world.keep self.world.master (g.F.ForestView.content self.forests) (g.F.ForestView.content new.forests) self.kept new.kept self.next events a (g.F.ForestView.interns self.forests)
-    (g.F.ForestView.interns new.forests) c.in-Ok.verdict run c.in-Ok.ensures.stands).interned
+    (g.F.ForestView.interns new.forests) c.in-Ok.verdict run c.in-Ok.ensures.stands).interned)
 
 pub returns-clause-stands : goal.returns-clause-stands
 returns-clause-stands g c = λ good events r.

@@ -1,5 +1,0 @@
-use Rattle.lane_rings.specs.Ring.{SameTx}
-use Rattle.lane_rings.proofs.tests.send_all.Given as goal
-
-abbrev pub invariant-loop-index : goal.invariant-loop-index
-invariant-loop-index g l = SameTx l.initial.tx l.tx
