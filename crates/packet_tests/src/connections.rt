@@ -49,8 +49,10 @@ fn endpoints_are_mixed(rt: HostRuntime) {
     }
 }
 
-const DIRECTIONS: [(&str, Endpoint, Endpoint); 2] =
-    [("one to two", ONE, TWO), ("two to one", TWO, ONE)];
+const DIRECTIONS: [(&str, Endpoint, Endpoint); 2] = [
+    ("one to two", ONE, TWO),
+    ("two to one", TWO, ONE),
+];
 
 #[test]
 fn both_directions_have_a_lane(rt: HostRuntime) {
@@ -112,9 +114,7 @@ fn opens_and_takes(table: &mut FlowTable<u32>) -> bool
     requires { (key : EndpointPair) → found table.old key ≡ None }
 {
     let key = Key::between(TWO, ONE);
-    table.open(key, 9) == Ok(())
-        && table.take_any() == Some((key, 9))
-        && table.take_any() == None
+    table.open(key, 9) == Ok(()) && table.take_any() == Some((key, 9)) && table.take_any() == None
 }
 
 #[test]

@@ -1,10 +1,9 @@
 //! Segments that open, close and reset a connection, by the states that they leave its two ends in.
 
-use tcp_emulation::{Change, End, Ends, SegFacts, Side, State, is_over, recv_step, send_step};
-
 use Side::{Client, Server};
 use State::*;
 use Step::{Receive, Send};
+use tcp_emulation::{Change, End, Ends, SegFacts, Side, State, is_over, recv_step, send_step};
 
 const PLAIN: SegFacts = SegFacts {
     syn: false,
@@ -113,19 +112,59 @@ const BOTH_CLOSE: [Step; 8] = [
 type After = (State, State, bool);
 
 const OPENED: [(&str, &[Step], usize, After); 4] = [
-    ("handshake", &HANDSHAKE, 6, (Established, Established, false)),
-    ("first SYN of a handshake", &HANDSHAKE, 2, (SynSent, SynRcvd, false)),
-    ("both open at once", &BOTH_OPEN, 8, (Established, Established, false)),
-    ("SYN after a SYN with RST", &SYN_AFTER_RESET, 2, (Closed, Listen, false)),
+    (
+        "handshake",
+        &HANDSHAKE,
+        6,
+        (Established, Established, false),
+    ),
+    (
+        "first SYN of a handshake",
+        &HANDSHAKE,
+        2,
+        (SynSent, SynRcvd, false),
+    ),
+    (
+        "both open at once",
+        &BOTH_OPEN,
+        8,
+        (Established, Established, false),
+    ),
+    (
+        "SYN after a SYN with RST",
+        &SYN_AFTER_RESET,
+        2,
+        (Closed, Listen, false),
+    ),
 ];
 
 const CLOSED: [(&str, &[Step], usize, After); 6] = [
-    ("FIN of the client", &CLIENT_CLOSES, 2, (FinWait1, CloseWait, false)),
-    ("its acknowledgement", &CLIENT_CLOSES, 4, (FinWait2, CloseWait, false)),
-    ("FIN of the server", &CLIENT_CLOSES, 6, (TimeWait, LastAck, false)),
+    (
+        "FIN of the client",
+        &CLIENT_CLOSES,
+        2,
+        (FinWait1, CloseWait, false),
+    ),
+    (
+        "its acknowledgement",
+        &CLIENT_CLOSES,
+        4,
+        (FinWait2, CloseWait, false),
+    ),
+    (
+        "FIN of the server",
+        &CLIENT_CLOSES,
+        6,
+        (TimeWait, LastAck, false),
+    ),
     ("client closes", &CLIENT_CLOSES, 8, (TimeWait, Closed, true)),
     ("FINs that cross", &BOTH_CLOSE, 4, (Closing, Closing, false)),
-    ("both close at once", &BOTH_CLOSE, 8, (TimeWait, TimeWait, true)),
+    (
+        "both close at once",
+        &BOTH_CLOSE,
+        8,
+        (TimeWait, TimeWait, true),
+    ),
 ];
 
 const STATES: [(&str, u64, State); 11] = [
@@ -179,7 +218,10 @@ fn opens(rt: HostRuntime) {
 #[test]
 fn closes(rt: HostRuntime) {
     for (name, steps, count, wanted) in CLOSED {
-        assert!(rt; after(ends_at(Established, Established), steps, count) == wanted, "{name}");
+        assert!(rt;
+            after(ends_at(Established, Established), steps, count) == wanted,
+            "{name}"
+        );
     }
 }
 

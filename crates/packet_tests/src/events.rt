@@ -1,5 +1,7 @@
 //! Which events a packet raises at its sender and at its receiver, and their facts.
 
+use Side::{Client, Server};
+use State::{Closed, Established, Listen, SynRcvd, SynSent};
 use app_api::{END, ERROR, NEW_DATA, ORPHAN, PKT_IN, REXMIT, START, STATE};
 use builtin_events::{
     Raise, RaiseList, Raised, orphan_raise, phase_r, phase_s, raised_at_receiver, raised_at_sender,
@@ -10,9 +12,6 @@ use native_filters::{Facts, Hook};
 use packet_views::{Class, Head};
 use reassembly::Placed;
 use tcp_emulation::{Change, Side, State};
-
-use Side::{Client, Server};
-use State::{Closed, Established, Listen, SynRcvd, SynSent};
 
 const NOTHING: Placed = Placed {
     new: 0,
@@ -266,7 +265,10 @@ fn facts_are_kept_once(rt: HostRuntime) {
     };
     let raised = raised_at_sender(&SYN, Client, 0, true, &first);
     let Facts {
-        flags, old, new, ..
+        flags,
+        old,
+        new,
+        ..
     } = raised.facts;
     assert!(rt;
         has_events(&raised, Hook::Snd, &[256, 257, 261]) && (flags, old, new) == (0x02, 0, 2),

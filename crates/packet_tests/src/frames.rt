@@ -56,7 +56,12 @@ const CLASSES: [(&str, usize, Edits, Class); 28] = [
     ("IPv4 header alone", 34, &[], Class::Cut),
     ("19 bytes of TCP", 53, &[], Class::Cut),
     ("tag alone", 18, &[(12, 0x81), (16, 8), (17, 0)], Class::Cut),
-    ("tag and 19 bytes of IPv4", 37, &[(12, 0x81), (16, 8), (17, 0)], Class::Cut),
+    (
+        "tag and 19 bytes of IPv4",
+        37,
+        &[(12, 0x81), (16, 8), (17, 0)],
+        Class::Cut,
+    ),
     ("no byte of the payload", 54, &[(17, 41)], Class::Cut),
     ("version 6", 34, &[(14, 0x65)], Class::Bad),
     ("4 words of IPv4", 54, &[(14, 0x44)], Class::Bad),
@@ -88,7 +93,11 @@ const SCALES: [(&str, [u8; 4], Option<u8>); 7] = [
     ("7", [0x03, 0x03, 0x07, 0x00], Some(7)),
     ("behind the end", [0x00, 0x03, 0x03, 0x07], None),
     ("doesn't fit", [0x01, 0x01, 0x03, 0x03], None),
-    ("behind one that doesn't fit", [0x08, 0x05, 0x03, 0x03], None),
+    (
+        "behind one that doesn't fit",
+        [0x08, 0x05, 0x03, 0x03],
+        None,
+    ),
 ];
 
 // The SYN with some bytes changed.

@@ -1,16 +1,13 @@
 //! Packets of whole connections at a socket: states, faults and peeks.
 
+use Side::{Client, Server};
+use State::{CloseWait, Closed, Established, FinWait1, LastAck, SynRcvd, SynSent, TimeWait};
+use Step::{Leaves, Peek, Runs, Take};
 use flow_socket::{FlowSocket, Peeked};
 use packet_views::Head;
 use reassembly::Policy;
 use std::alloc::Global;
 use tcp_emulation::{Side, State};
-
-use Side::{Client, Server};
-use State::{
-    CloseWait, Closed, Established, FinWait1, LastAck, SynRcvd, SynSent, TimeWait,
-};
-use Step::{Leaves, Peek, Runs, Take};
 
 const FIN: u8 = 1;
 
@@ -67,10 +64,7 @@ const CASES: [(&str, u32, &[Packet], &[Step]); 20] = [
         "FIN of the client",
         65536,
         &OPEN,
-        &[Leaves(
-            CLIENT_FIN,
-            (FinWait1, CloseWait, 0, 0, false),
-        )],
+        &[Leaves(CLIENT_FIN, (FinWait1, CloseWait, 0, 0, false))],
     ),
     (
         "FIN of the server",

@@ -2,10 +2,9 @@
 
 ghost use Rattle.std.specs.Prelude.{◌<◌};
 
+use Step::{Fin, Segment};
 use reassembly::{FinNote, Placed, PlainReceiver, Policy, Stream};
 use std::alloc::Global;
-
-use Step::{Fin, Segment};
 
 #[derive(Clone, Copy)]
 enum Step {
@@ -18,9 +17,15 @@ enum Step {
 // A receive buffer of 8 bytes: the byte that came first stays, and each line goes on from the one above.
 const WORKED: [(&str, Step); 12] = [
     ("behind a hole", Segment(4, b"EFGH", (4, 0, 0, 0), 0)),
-    ("over the first two of them", Segment(2, b"CDxF", (2, 2, 1, 0), 0)),
+    (
+        "over the first two of them",
+        Segment(2, b"CDxF", (2, 2, 1, 0), 0),
+    ),
     ("past the window", Segment(6, b"GHIJ", (0, 2, 0, 2), 0)),
-    ("before the stream's start", Segment(-1, b"?AB", (2, 1, 0, 0), 8)),
+    (
+        "before the stream's start",
+        Segment(-1, b"?AB", (2, 1, 0, 0), 8),
+    ),
     ("all of it again", Segment(-8, b"ABCDEFGZ", (0, 8, 1, 0), 8)),
     ("next in order", Segment(0, b"IJ", (2, 0, 0, 0), 10)),
     ("no longer kept", Segment(-10, b"ZZZ", (0, 3, 1, 0), 10)),
