@@ -51,27 +51,32 @@ fn changes_stand_in_order(rt: HostRuntime) {
     assert!(rt; changes.as_slice() == rows.as_slice());
 }
 
-// The number, the event, the side and whether it is on.
-const PRESETS: [(&str, u8, u16, Hook, bool); 3] = [
-    ("at the sender", 1, 257, Hook::Snd, true),
-    ("at the receiver", 2, 257, Hook::Rcv, true),
-    ("orphans", 3, 263, Hook::Snd, true),
+// A preset's place and number, its event and side, and whether it is on.
+const PRESETS: [(&str, usize, (u8, u16, Hook, bool)); 3] = [
+    ("at the sender", 0, (1, 257, Hook::Snd, true)),
+    ("at the receiver", 1, (2, 257, Hook::Rcv, true)),
+    ("orphans", 2, (3, 263, Hook::Snd, true)),
 ];
 
-// Whether a registration has these fields, no peek and no action.
-fn is_plain(reg: &Reg, number: u8, event: u16, hook: Hook, on: bool) -> bool {
-    (reg.number, reg.event, reg.hook, reg.on) == (number, event, hook, on)
-        && reg.peek == PeekSpec::Nothing
-        && !reg.action.drop
-        && reg.action.changes.as_slice().is_empty()
+// Whether the registration at a place is this one, without a peek and an action.
+fn has_plain(presets: &[Reg], place: usize, wanted: (u8, u16, Hook, bool)) -> bool {
+    match presets.get(place) {
+        Some(reg) => {
+            (reg.number, reg.event, reg.hook, reg.on) == wanted
+                && reg.peek == PeekSpec::Nothing
+                && !reg.action.drop
+                && reg.action.changes.as_slice().is_empty()
+        }
+        None => false,
+    }
 }
 
 #[test]
 fn log_has_three_presets(rt: HostRuntime) {
     let presets = presets_of(rt.alloc(), &LogApp).expect(&rt, "memory");
     assert!(rt; presets.len() == 3);
-    for (preset, (name, number, event, hook, on)) in presets.as_slice().iter().zip(PRESETS) {
-        assert!(rt; is_plain(preset, number, event, hook, on), "{name}");
+    for (name, place, wanted) in PRESETS {
+        assert!(rt; has_plain(&presets, place, wanted), "{name}");
     }
     assert!(rt; LogApp.preset(0).is_none() && LogApp.preset(4).is_none());
 }

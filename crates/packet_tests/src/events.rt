@@ -61,9 +61,15 @@ const ORPHANED: Head = Head {
 
 fn has_raised(raises: &RaiseList, hook: Hook, events: &[u16]) -> bool {
     let raises = raises.as_slice();
-    raises.len() == events.len()
-        && raises.iter().zip(events).all(|(raise, event)| raise.hook == hook
-            && raise.event == *event)
+    if raises.len() != events.len() {
+        return false;
+    }
+    for i in 0..events.len() {
+        if raises[i].hook != hook || raises[i].event != events[i] {
+            return false;
+        }
+    }
+    true
 }
 
 // The sender, the packet's place in its connection, and the sender's state before and after.

@@ -38,125 +38,56 @@ const NONE: Facts = Facts {
     class: 0,
 };
 
+// The facts of a packet that are not 0.
+#[derive(Clone, Copy)]
+enum Told {
+    Flags(u64),
+    // Of the source and of the destination.
+    Ports(u64, u64),
+    Addresses(u64, u64),
+    // How many bytes it has, how many came before, and how many of these differ.
+    Again(u64, u64, u64),
+}
+
+use Told::{Addresses, Again, Flags, Ports};
+
+fn facts_of(told: Told) -> Facts {
+    match told {
+        Flags(flags) => Facts { flags, ..NONE },
+        Ports(sport, dport) => Facts {
+            sport,
+            dport,
+            ..NONE
+        },
+        Addresses(src, dst) => Facts { src, dst, ..NONE },
+        Again(len, rexlen, rexdiff) => Facts {
+            len,
+            rexlen,
+            rexdiff,
+            ..NONE
+        },
+    }
+}
+
 // The number of a native filter, and facts of which it is true or false.
-const CASES: [(&str, u8, Facts, bool); 12] = [
-    (
-        "a SYN opens",
-        0,
-        Facts {
-            flags: 0x02,
-            ..NONE
-        },
-        true,
-    ),
-    (
-        "a SYN with ACK doesn't open",
-        0,
-        Facts {
-            flags: 0x12,
-            ..NONE
-        },
-        false,
-    ),
-    (
-        "port 80",
-        1,
-        Facts {
-            sport: 1024,
-            dport: 80,
-            ..NONE
-        },
-        true,
-    ),
-    (
-        "port 1024 is no system port",
-        1,
-        Facts {
-            sport: 1024,
-            dport: 8080,
-            ..NONE
-        },
-        false,
-    ),
+const CASES: [(&str, u8, Told, bool); 12] = [
+    ("a SYN opens", 0, Flags(0x02), true),
+    ("a SYN with ACK doesn't open", 0, Flags(0x12), false),
+    ("port 80", 1, Ports(1024, 80), true),
+    ("port 1024 is no system port", 1, Ports(1024, 8080), false),
     (
         "both ends private",
         2,
-        Facts {
-            src: PRIVATE,
-            dst: LAST_OF_172_16,
-            ..NONE
-        },
+        Addresses(PRIVATE, LAST_OF_172_16),
         true,
     ),
-    (
-        "one end private",
-        2,
-        Facts {
-            src: PRIVATE,
-            dst: PUBLIC,
-            ..NONE
-        },
-        false,
-    ),
-    (
-        "one byte again",
-        3,
-        Facts {
-            len: 1,
-            rexlen: 1,
-            ..NONE
-        },
-        true,
-    ),
-    (
-        "one byte of two again",
-        3,
-        Facts {
-            len: 2,
-            rexlen: 1,
-            ..NONE
-        },
-        false,
-    ),
-    (
-        "a FIN ends",
-        4,
-        Facts {
-            flags: 0x11,
-            ..NONE
-        },
-        true,
-    ),
-    (
-        "a PSH doesn't end",
-        4,
-        Facts {
-            flags: 0x18,
-            ..NONE
-        },
-        false,
-    ),
-    (
-        "two bytes differ",
-        5,
-        Facts {
-            len: 4,
-            rexlen: 4,
-            rexdiff: 2,
-            ..NONE
-        },
-        true,
-    ),
-    (
-        "the same bytes again",
-        5,
-        Facts {
-            len: 4,
-            rexlen: 4,
-            ..NONE
-        },
-        false,
-    ),
+    ("one end private", 2, Addresses(PRIVATE, PUBLIC), false),
+    ("one byte again", 3, Again(1, 1, 0), true),
+    ("one byte of two again", 3, Again(2, 1, 0), false),
+    ("a FIN ends", 4, Flags(0x11), true),
+    ("a PSH doesn't end", 4, Flags(0x18), false),
+    ("two bytes differ", 5, Again(4, 4, 2), true),
+    ("the same bytes again", 5, Again(4, 4, 0), false),
 ];
 
 // The crate's own functions, each under its number.
@@ -192,7 +123,8 @@ fn answers<R: Threads + Sync>(
 #[test]
 fn each_native_filter_is_true_and_false(rt: HostRuntime) {
     let natives = own_book();
-    for (name, which, facts, wanted) in CASES {
+    for (name, which, told, wanted) in CASES {
+        let facts = facts_of(told);
         assert!(rt;
             which <= 5 && answers(&rt, &natives, which, &facts) == (wanted, wanted),
             "{name}"
@@ -202,11 +134,7 @@ fn each_native_filter_is_true_and_false(rt: HostRuntime) {
 
 #[test]
 fn facts_stand_in_order(rt: HostRuntime) {
-    let facts = Facts {
-        src: PRIVATE,
-        dst: PUBLIC,
-        ..NONE
-    };
+    let facts = facts_of(Addresses(PRIVATE, PUBLIC));
     assert!(rt; (facts.get(0), facts.get(2), facts.get(3)) == (0, PRIVATE, PUBLIC));
 }
 

@@ -1,9 +1,11 @@
 //! Packets of whole connections at a socket: states, faults and peeks.
 
+ghost use Rattle.std.specs.Prelude.{◌≡◌, ◌≤◌, length};
+
 use Side::{Client, Server};
 use State::{CloseWait, Closed, Established, FinWait1, LastAck, SynRcvd, SynSent, TimeWait};
 use Step::{Leaves, Peek, Runs, Take};
-use flow_socket::{FlowSocket, Peeked};
+use flow_socket::{FlowSocket, Got, Peeked};
 use packet_views::Head;
 use reassembly::Policy;
 use std::alloc::Global;
@@ -269,44 +271,65 @@ const CASES: [(&str, u32, &[Packet], &[Step]); 20] = [
     ),
 ];
 
-// Both phases of a packet, and what they did; none where it is too long or memory is refused.
+const HEAD: Head = Head {
+    src: 1,
+    dst: 2,
+    sport: 1000,
+    dport: 80,
+    seq: 0,
+    ack: 0,
+    flags: 0,
+    win: 65535,
+    len: 0,
+    ttl: 64,
+};
+
+// What a packet did at its receiver; none where a stream is too long or memory is refused.
+fn receive(socket: &mut FlowSocket, from: Side, head: &Head, payload: &[u8]) -> Option<Got>
+    requires len { head.now.len ≡ length payload.now }
+    requires bytes { length payload.now ≤ 65535 }
+{
+    if socket.stream(Client).next() > 1 << 62 || socket.stream(Server).next() > 1 << 62 {
+        return None;
+    }
+    socket.receive(from, head, payload).ok()
+}
+
+// Both phases of a packet, and what they did.
 fn take(socket: &mut FlowSocket, packet: &Packet) -> Option<Seen> {
     let Packet(from, flags, seq, ack, payload) = *packet;
     if payload.len() > 65535 {
         return None;
     }
     let head = Head {
-        src: 1,
-        dst: 2,
-        sport: 1000,
-        dport: 80,
         seq,
         ack,
         flags,
-        win: 65535,
         len: payload.len() as u32,
-        ttl: 64,
+        ..HEAD
     };
     let sent = socket.send(from, &head);
-    if socket.stream(Client).next() > 1 << 62 || socket.stream(Server).next() > 1 << 62 {
-        return None;
-    }
-    match socket.receive(from, &head, payload) {
-        Ok(got) => Some((
-            sent.change.new,
-            got.change.new,
-            got.fault,
-            got.next,
-            got.over,
-        )),
-        Err(_) => None,
-    }
+    let got = receive(socket, from, &head, payload)?;
+    Some((
+        sent.change.new,
+        got.change.new,
+        got.fault,
+        got.next,
+        got.over,
+    ))
 }
 
 fn leaves(socket: &mut FlowSocket, packet: &Packet, seen: Seen) -> bool {
     take(socket, packet) == Some(seen)
         && socket.is_over() == seen.4
-        && socket.last().is_some_and(|head| head.seq == packet.2)
+        && last_number(socket) == Some(packet.2)
+}
+
+fn last_number(socket: &FlowSocket) -> Option<u32> {
+    match socket.last() {
+        Some(head) => Some(head.seq),
+        None => None,
+    }
 }
 
 fn peeks(

@@ -134,8 +134,8 @@ impl Random {
 
 fn random_bytes(random: &mut Random) -> [u8; 12] {
     let mut bytes = [0; 12];
-    for byte in &mut bytes {
-        *byte = random.below(3) as u8;
+    for i in 0..12 {
+        bytes[i] = random.below(3) as u8;
     }
     bytes
 }
