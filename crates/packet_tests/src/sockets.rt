@@ -238,6 +238,7 @@ const CASES: [(&str, u32, &[Packet], &[Step]); 20] = [
             Take(Packet(Client, ACK, 101, 301, b"ABCD")),
             Take(Packet(Client, ACK, 105, 301, b"EFGH")),
             Peek(Client, (4, 4, 4), b"EFGH\0\0\0\0"),
+            Peek(Client, (8, 0, 0), b"\0\0\0\0\0\0\0\0"),
             Take(Packet(Server, ACK, 301, 101, b"xy")),
             Peek(Server, (0, 2, 0), b"xy\0\0\0\0\0\0"),
         ],
