@@ -23,6 +23,3 @@ pub use log::LogApp;
 pub use reaction::{Reaction, Reason, Verdict};
 pub use registration::{Action, PeekSpec, Reg};
 pub use rule::Rule;
-
-#[cfg(test)]
-mod tests;

@@ -13,6 +13,3 @@ pub use phases::{
 };
 pub use raise::{Raise, RaiseList};
 pub use raised::{EventList, Raised};
-
-#[cfg(test)]
-mod tests;

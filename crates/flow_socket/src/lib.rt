@@ -14,6 +14,3 @@ mod socket;
 
 pub use answers::{Got, Origin, Peeked, Sent};
 pub use socket::FlowSocket;
-
-#[cfg(test)]
-mod tests;

@@ -15,6 +15,3 @@ pub use key::{Key, key_of, key_of_head};
 pub use lane::{lane_of, mix};
 pub use laws::{both_directions_have_one_lane, without_a_key_to_lane_0};
 pub use table::FlowTable;
-
-#[cfg(test)]
-mod tests;

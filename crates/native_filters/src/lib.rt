@@ -12,6 +12,3 @@ pub use plain::{
     has_differing_bytes, has_system_port, is_ending, is_keep_alive, is_opening, is_private_traffic,
 };
 pub use stored::Native;
-
-#[cfg(test)]
-mod tests;

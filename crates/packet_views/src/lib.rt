@@ -13,6 +13,3 @@ pub use classify::view_of;
 pub use options::window_scale;
 pub use packet::{ACK, Class, FIN, Head, RST, SYN};
 pub use view::{TcpView, View};
-
-#[cfg(test)]
-mod tests;

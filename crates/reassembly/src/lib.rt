@@ -21,6 +21,3 @@ pub use answers::{FinNote, Placed, Policy};
 pub use pieces::Pieces;
 pub use plain::PlainReceiver;
 pub use stream::Stream;
-
-#[cfg(test)]
-mod tests;

@@ -13,6 +13,3 @@ mod state;
 pub use ends::{End, Ends, is_over, recv_step, send_step};
 pub use segment::{Change, SegFacts, Side};
 pub use state::State;
-
-#[cfg(test)]
-mod tests;
