@@ -1,5 +1,7 @@
 //! Captures: their forms, the refusals, the limits, and a capture that is written as it was read.
 
+ghost use Rattle.std.specs.Prelude.{◌≤◌};
+
 use crate::memory::{sink, source};
 use mos_bytes::{MemSource, ReadSource, Sink, Source};
 use pcap_source::{Capture, Frame, NextError, OpenError, RECORD_LIMIT, Step};

@@ -1,5 +1,7 @@
 //! The generated capture, against bytes that were worked out from its table and sums that another program made.
 
+ghost use Rattle.std.specs.Prelude.{◌≤◌};
+
 use crate::captures::read;
 use capture_maker::Maker;
 use mos_bytes::{Source, fill};

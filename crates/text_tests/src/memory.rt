@@ -1,5 +1,7 @@
 //! Sources, sinks and shelves in memory.
 
+ghost use Rattle.std.specs.Prelude.{◌≤◌};
+
 use mos_bytes::{Failed, FetchError, MemShelf, MemSink, MemSource, Shelf, Sink, Source, fill};
 use std::alloc::{AllocError, Global};
 use std::test::Fail;
