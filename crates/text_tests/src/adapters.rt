@@ -44,7 +44,7 @@ fn a_reader_as_a_source(rt: HostRuntime) {
 }
 
 // What each write into a room of four bytes answers.
-const WRITES: [(&str, &[u8], std::result::Result<(), Failed>); 3] = [
+const WRITES: &[(&str, &[u8], std::result::Result<(), Failed>)] = &[
     ("a piece that has room", b"abc", Ok(())),
     ("an empty piece", b"", Ok(())),
     ("a piece of which a byte has room", b"de", Err(Failed)),
@@ -55,7 +55,7 @@ const WRITES: [(&str, &[u8], std::result::Result<(), Failed>); 3] = [
 fn a_writer_as_a_sink(rt: HostRuntime) {
     let mut room = [0; 4];
     let mut sink = WriteSink::new(room.as_mut_slice());
-    for (name, piece, want) in WRITES {
+    for &(name, piece, want) in WRITES {
         assert!(rt; sink.write_all(piece) == want, "{name}");
     }
     assert!(rt; room == *b"abcd", "what the room holds");

@@ -187,7 +187,7 @@ fn frames_hold_the_packets(rt: HostRuntime) -> Result<(), Fail> {
 }
 
 // How many bytes of a header are there, the byte that is changed, its value, and what the capture comes to.
-const HEADERS: [(&str, usize, usize, u8, Read); 9] = [
+const HEADERS: &[(&str, usize, usize, u8, Read)] = &[
     ("no magic number", 24, 3, 0xd5, Err(OpenError::BadMagic)),
     ("version 3", 24, 5, 3, Err(OpenError::BadVersion)),
     ("link type 2", 24, 23, 2, Err(OpenError::BadLink)),
@@ -223,7 +223,7 @@ fn changed(alloc: Global, len: usize, place: usize, value: u8) -> Result<Vec<u8>
 
 #[test]
 fn the_header_is_judged_in_order(rt: HostRuntime) -> Result<(), Fail> {
-    for (name, len, place, value, want) in HEADERS {
+    for &(name, len, place, value, want) in HEADERS {
         let header = changed(rt.alloc(), len, place, value)?;
         assert!(rt; comes_to(rt.alloc(), header, want), "{name}");
     }
@@ -240,7 +240,7 @@ fn one_record(alloc: Global, captured: u32, there: usize) -> Result<Vec<u8>, All
 }
 
 // The captured length, how many bytes are there, and what the capture comes to.
-const LENGTHS: [(&str, u32, usize, Read); 4] = [
+const LENGTHS: &[(&str, u32, usize, Read)] = &[
     (
         "the longest record",
         262_144,
@@ -269,7 +269,7 @@ const LENGTHS: [(&str, u32, usize, Read); 4] = [
 
 #[test]
 fn a_record_has_at_most_262144_bytes(rt: HostRuntime) -> Result<(), Fail> {
-    for (name, captured, there, want) in LENGTHS {
+    for &(name, captured, there, want) in LENGTHS {
         let bytes = one_record(rt.alloc(), captured, there)?;
         assert!(rt; comes_to(rt.alloc(), bytes, want), "{name}");
     }
@@ -277,7 +277,7 @@ fn a_record_has_at_most_262144_bytes(rt: HostRuntime) -> Result<(), Fail> {
 }
 
 // The captured length, how many bytes are there, and whether the record is at hand.
-const AT_HAND: [(&str, u32, usize, bool); 6] = [
+const AT_HAND: &[(&str, u32, usize, bool)] = &[
     ("an empty record", 0, 0, true),
     ("a record", 9, 9, true),
     ("a record that is cut", 9, 8, false),
@@ -287,7 +287,7 @@ const AT_HAND: [(&str, u32, usize, bool); 6] = [
 ];
 
 // The captured length of a record that a reader gives, and whether it is read ahead with the header.
-const READ_AHEAD: [(&str, u32, usize, bool); 2] = [
+const READ_AHEAD: &[(&str, u32, usize, bool)] = &[
     ("a short record", 9, 9, true),
     ("a long record", 16_384, 16_384, false),
 ];
@@ -303,14 +303,14 @@ fn is_at_hand<S: Source>(source: &mut S, want: bool) -> bool {
 // A record that is cut or too long isn't at hand, nor is one that a reader wasn't asked for yet.
 #[test]
 fn whole_records_are_at_hand(rt: HostRuntime) -> Result<(), Fail> {
-    for (name, captured, there, want) in AT_HAND {
+    for &(name, captured, there, want) in AT_HAND {
         let bytes = one_record(rt.alloc(), captured, there)?;
         assert!(rt;
             is_at_hand(&mut MemSource::new(bytes, Vec::new(rt.alloc())), want),
             "{name}"
         );
     }
-    for (name, captured, there, want) in READ_AHEAD {
+    for &(name, captured, there, want) in READ_AHEAD {
         let bytes = one_record(rt.alloc(), captured, there)?;
         assert!(rt;
             is_at_hand(&mut ReadSource::new(bytes.as_slice()), want),
@@ -325,7 +325,7 @@ fn whole_records_are_at_hand(rt: HostRuntime) -> Result<(), Fail> {
 }
 
 // How many bytes stand behind 1,048,576 empty records, and what the capture comes to.
-const MANY: [(&str, usize, Read); 3] = [
+const MANY: &[(&str, usize, Read)] = &[
     ("nothing", 0, Ok((1_048_576, Ok(Step::End)))),
     ("less than a head", 15, Ok((1_048_576, Ok(Step::Tail(15))))),
     (
@@ -344,7 +344,7 @@ fn empty_records(alloc: Global, behind: usize) -> Result<Vec<u8>, AllocError> {
 
 #[test]
 fn a_capture_has_at_most_1048576_records(rt: HostRuntime) -> Result<(), Fail> {
-    for (name, behind, want) in MANY {
+    for &(name, behind, want) in MANY {
         let bytes = empty_records(rt.alloc(), behind)?;
         assert!(rt; comes_to(rt.alloc(), bytes, want), "{name}");
     }
@@ -352,7 +352,7 @@ fn a_capture_has_at_most_1048576_records(rt: HostRuntime) -> Result<(), Fail> {
 }
 
 // The call of the source that fails, and what the capture comes to.
-const FAULTS: [(&str, u64, Read); 9] = [
+const FAULTS: &[(&str, u64, Read)] = &[
     ("the header", 0, Err(OpenError::ReadFault)),
     ("the first head", 1, Ok((0, Err(NextError::ReadFault)))),
     ("the first packet", 2, Ok((0, Err(NextError::ReadFault)))),
@@ -366,7 +366,7 @@ const FAULTS: [(&str, u64, Read); 9] = [
 
 #[test]
 fn a_read_that_fails(rt: HostRuntime) -> Result<(), Fail> {
-    for (name, call, want) in FAULTS {
+    for &(name, call, want) in FAULTS {
         let bytes = handshake(rt.alloc(), &BIG, &BIG_HEAD, &[])?;
         assert!(rt;
             read(rt.alloc(), &mut source(rt.alloc(), &bytes, call)?) == want,
@@ -406,7 +406,7 @@ fn is_copied(alloc: Global, call: u64, taken: usize) -> Result<bool, Fail> {
 }
 
 // The call of the sink that fails, and how many bytes it has taken. The tail isn't written.
-const COPIES: [(&str, u64, usize); 5] = [
+const COPIES: &[(&str, u64, usize)] = &[
     ("the header", 0, 12),
     ("the first head", 1, 32),
     ("the first packet", 2, 67),
@@ -417,7 +417,7 @@ const COPIES: [(&str, u64, usize); 5] = [
 // The sink's calls are the header, and a head and bytes for each record.
 #[test]
 fn a_capture_is_written_as_it_was_read(rt: HostRuntime) -> Result<(), Fail> {
-    for (name, call, taken) in COPIES {
+    for &(name, call, taken) in COPIES {
         assert!(rt; is_copied(rt.alloc(), call, taken)?, "{name}");
     }
     Ok(())

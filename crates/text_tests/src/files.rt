@@ -15,15 +15,15 @@ const OTHER: &[u8] = b"rule 1 pass\n";
 const LONG: [u8; 4_097] = [b'x'; 4_097];
 
 // What lies in the folder.
-const FOLDER: [(&str, &[u8]); 4] = [
+const FOLDER: &[(&str, &[u8])] = &[
     ("script.mos", SCRIPT),
     ("other.mos", OTHER),
     ("empty.mos", b""),
     ("long.mos", &LONG),
 ];
 
-// The name that is fetched, the limit, and the answer.
-const FETCHES: [(&str, &str, usize, Result<&[u8], FetchError>); 11] = [
+// The name that is fetched, the limit, and the answer. One shelf fetches all, and goes on after its faults.
+const FETCHES: &[(&str, &str, usize, Result<&[u8], FetchError>)] = &[
     ("two lines", "script.mos", 1_000, Ok(SCRIPT)),
     ("as long as the limit", "script.mos", 44, Ok(SCRIPT)),
     (
@@ -57,41 +57,29 @@ const FETCHES: [(&str, &str, usize, Result<&[u8], FetchError>); 11] = [
     ),
 ];
 
-fn is_fetched(
-    rt: &(impl Files + AllocGlobal),
-    wanted: &str,
-    limit: usize,
-    want: Result<&[u8], FetchError>,
-) -> bool {
-    let fetched = FolderShelf::new(rt).fetch(rt.alloc(), wanted, limit);
-    shown(&fetched) == want
-}
-
-#[test]
-fn a_folder_as_a_shelf(rt: HostRuntime) -> Result<(), Fail> {
-    for (name, content) in FOLDER {
-        fs::write(&rt, name, content)?;
-    }
-    for (name, wanted, limit, want) in FETCHES {
-        assert!(rt; is_fetched(&rt, wanted, limit, want), "{name}");
-    }
-    for (name, _) in FOLDER {
-        fs::remove_file(&rt, name)?;
+fn lay_files(rt: &impl Files) -> io::Result<()> {
+    for &(name, content) in FOLDER {
+        fs::write(rt, name, content)?;
     }
     Ok(())
 }
 
-// One shelf goes on after a fault.
+fn clear_files(rt: &impl Files) -> io::Result<()> {
+    for &(name, _) in FOLDER {
+        fs::remove_file(rt, name)?;
+    }
+    Ok(())
+}
+
 #[test]
-fn a_shelf_after_a_fault(rt: HostRuntime) {
+fn a_folder_as_a_shelf(rt: HostRuntime) {
+    assert!(rt; lay_files(&rt).is_ok(), "the files are written");
     let mut shelf = FolderShelf::new(&rt);
-    let missing = shelf.fetch(rt.alloc(), "nothing.mos", 9);
-    assert!(rt;
-        shown(&missing) == Err(FetchError::Failed),
-        "a name that isn't there"
-    );
-    let empty = shelf.fetch(rt.alloc(), "/dev/null", 9);
-    assert!(rt; shown(&empty) == Ok(b"".as_slice()), "no bytes");
+    for &(name, wanted, limit, want) in FETCHES {
+        let fetched = shelf.fetch(rt.alloc(), wanted, limit);
+        assert!(rt; shown(&fetched) == want, "{name}");
+    }
+    assert!(rt; clear_files(&rt).is_ok(), "the files are removed");
 }
 
 const FILE: &str = "written.pcap";

@@ -8,7 +8,7 @@ use native_filters::{
 use std::alloc::Global;
 use std::test::Fail;
 
-const REFUSALS: [(&str, &str, FilterError); 14] = [
+const REFUSALS: &[(&str, &str, FilterError)] = &[
     ("no text", "", FilterError::Syntax(0)),
     ("no right side", "sport = ", FilterError::Syntax(8)),
     ("no fact", "foo = 1", FilterError::UnknownName(0)),
@@ -47,12 +47,12 @@ const REFUSALS: [(&str, &str, FilterError); 14] = [
 
 #[test]
 fn refusals_at_their_offsets(rt: HostRuntime) {
-    for (name, text, refusal) in REFUSALS {
+    for &(name, text, refusal) in REFUSALS {
         assert!(rt; parse(rt.alloc(), text).err() == Some(refusal), "{name}");
     }
 }
 
-const PRINTED: [(&str, &str, &str); 17] = [
+const PRINTED: &[(&str, &str, &str)] = &[
     (
         "both joins",
         "len>0||dir=1&&flags has 2",
@@ -128,7 +128,7 @@ fn is_printed(alloc: Global, text: &str, printed: &str) -> Result<bool, Fail> {
 
 #[test]
 fn printed_once_more(rt: HostRuntime) -> Result<(), Fail> {
-    for (name, text, printed) in PRINTED {
+    for &(name, text, printed) in PRINTED {
         assert!(rt; is_printed(rt.alloc(), text, printed)?, "{name}");
     }
     Ok(())
@@ -148,7 +148,7 @@ fn is_true(filter: &Expr, facts: &Facts) -> bool {
 }
 
 // The filter, the flags of a packet from 10.0.0.1 to 10.0.0.2, where the facts are those of one, and the truth.
-const TRUTHS: [(&str, &str, Option<u64>, bool); 9] = [
+const TRUTHS: &[(&str, &str, Option<u64>, bool)] = &[
     ("below zero", "len - 1 > 100", None, true),
     ("an address", "src = 10.0.0.1", Some(0x02), true),
     ("a SYN", "flags has 2 && !(flags has 16)", Some(0x02), true),
@@ -194,7 +194,7 @@ fn facts(packet: Option<u64>) -> Facts {
 
 #[test]
 fn true_of_the_facts(rt: HostRuntime) -> Result<(), Fail> {
-    for (name, text, packet, truth) in TRUTHS {
+    for &(name, text, packet, truth) in TRUTHS {
         let filter = parse(rt.alloc(), text)?;
         assert!(rt; is_true(&filter, &facts(packet)) == truth, "{name}");
     }

@@ -6,7 +6,7 @@ use std::alloc::{AllocError, Global};
 use std::test::Fail;
 
 // The lengths of the pieces, the call of the sink below that fails, how many calls go well, and how many bytes are taken.
-const GATHERED: [(&str, &[usize], u64, usize, usize); 7] = [
+const GATHERED: &[(&str, &[usize], u64, usize, usize)] = &[
     ("room that is filled", &[0, 5, 65_531, 1], 9, 5, 65_537),
     (
         "pieces that are too long",
@@ -83,14 +83,14 @@ fn gathers(
 // held, or a long piece.
 #[test]
 fn pieces_are_gathered(rt: HostRuntime) -> Result<(), Fail> {
-    for (name, lens, fails, well, taken) in GATHERED {
+    for &(name, lens, fails, well, taken) in GATHERED {
         assert!(rt; gathers(rt.alloc(), lens, fails, well, taken)?, "{name}");
     }
     Ok(())
 }
 
 // The call of the sink below that fails, what the first flush answers, and what is taken after the second.
-const FLUSHES: [(&str, u64, Result<(), Failed>, &[u8]); 3] = [
+const FLUSHES: &[(&str, u64, Result<(), Failed>, &[u8])] = &[
     ("no call fails", 9, Ok(()), b"abcd"),
     ("the first flush fails", 0, Err(Failed), b"a"),
     ("the second flush fails", 1, Ok(()), b"abc"),
@@ -112,7 +112,7 @@ fn flushes(
 // What is held is handed on, and a fault of the sink below is told.
 #[test]
 fn a_flush_hands_on_what_is_held(rt: HostRuntime) -> Result<(), Fail> {
-    for (name, fails, want, taken) in FLUSHES {
+    for &(name, fails, want, taken) in FLUSHES {
         assert!(rt; flushes(rt.alloc(), fails, want, taken)?, "{name}");
     }
     Ok(())

@@ -36,7 +36,7 @@ fn a_source_fails_at_its_listed_calls(rt: HostRuntime) -> Result<(), Fail> {
 }
 
 // What each fill of five bytes answers. There are three bytes, and a fill reads on until one is refused or none is left.
-const FILLS: [(&str, Result<usize, Failed>); 2] = [
+const FILLS: &[(&str, Result<usize, Failed>)] = &[
     ("the second read fails", Err(Failed)),
     ("nothing is left", Ok(0)),
 ];
@@ -45,7 +45,7 @@ const FILLS: [(&str, Result<usize, Failed>); 2] = [
 fn fill_reads_to_the_end(rt: HostRuntime) -> Result<(), Fail> {
     let mut source = source(rt.alloc(), &[1, 2, 3], 1)?;
     let mut buf = [0; 5];
-    for (name, count) in FILLS {
+    for &(name, count) in FILLS {
         assert!(rt;
             fill(&mut source, &mut buf) == count && buf == [1, 2, 3, 0, 0],
             "{name}"
@@ -91,7 +91,7 @@ fn a_source_in_pieces(rt: HostRuntime) -> Result<(), Fail> {
 }
 
 // The room, the call that fails, and what three pieces of three bytes leave in the room.
-const WRITES: [(&str, usize, u64, &[u8]); 6] = [
+const WRITES: &[(&str, usize, u64, &[u8])] = &[
     ("the first call fails", 9, 0, b"adefghi"),
     ("the second call fails", 9, 1, b"abcdghi"),
     ("the third call fails", 9, 2, b"abcdefg"),
@@ -111,17 +111,17 @@ fn holds(alloc: Global, room: usize, fails: u64, want: &[u8]) -> Result<bool, Al
 // A listed call takes the first half of its piece, and one without room takes nothing.
 #[test]
 fn a_sink_takes_half_or_nothing(rt: HostRuntime) -> Result<(), Fail> {
-    for (name, room, fails, want) in WRITES {
+    for &(name, room, fails, want) in WRITES {
         assert!(rt; holds(rt.alloc(), room, fails, want)?, "{name}");
     }
     Ok(())
 }
 
 // Of two contents under one name the first counts.
-const CONTENTS: [(&str, &[u8]); 3] = [("rules", b"abc"), ("empty", b""), ("rules", b"de")];
+const CONTENTS: &[(&str, &[u8])] = &[("rules", b"abc"), ("empty", b""), ("rules", b"de")];
 
 // The name that is fetched, the limit, and the answer. The second call is listed.
-const FETCHES: [(&str, &str, usize, Result<&[u8], FetchError>); 6] = [
+const FETCHES: &[(&str, &str, usize, Result<&[u8], FetchError>)] = &[
     ("as long as the limit", "rules", 3, Ok(b"abc")),
     ("the listed call", "rules", 3, Err(FetchError::Failed)),
     (
@@ -151,7 +151,7 @@ pub(crate) fn shown(fetched: &Result<Vec<u8>, FetchError>) -> Result<&[u8], Fetc
 fn shelf(alloc: Global) -> Result<MemShelf, AllocError> {
     let mut names = Vec::new(alloc);
     let mut contents = Vec::new(alloc);
-    for (name, content) in CONTENTS {
+    for &(name, content) in CONTENTS {
         names.push(String::from_str(alloc, name)?)?;
         contents.push(content.to_vec(alloc)?)?;
     }
@@ -161,7 +161,7 @@ fn shelf(alloc: Global) -> Result<MemShelf, AllocError> {
 #[test]
 fn a_shelf_fails_at_its_listed_calls(rt: HostRuntime) -> Result<(), Fail> {
     let mut shelf = shelf(rt.alloc())?;
-    for (name, wanted, limit, want) in FETCHES {
+    for &(name, wanted, limit, want) in FETCHES {
         let fetched = shelf.fetch(rt.alloc(), wanted, limit);
         assert!(rt; shown(&fetched) == want, "{name}");
     }

@@ -20,7 +20,7 @@ fn is_refused(alloc: Global, front: &str, line: &str, offset: u64) -> Result<boo
     Ok(stops_at(alloc, text.as_bytes(), offset))
 }
 
-const FIRST_LINES: [(&str, &str); 26] = [
+const FIRST_LINES: &[(&str, &str)] = &[
     ("no line", ""),
     (
         "a blank before it",
@@ -90,7 +90,7 @@ const FIRST_LINES: [(&str, &str); 26] = [
 
 #[test]
 fn first_lines_that_are_none(rt: HostRuntime) -> Result<(), Fail> {
-    for (name, line) in FIRST_LINES {
+    for &(name, line) in FIRST_LINES {
         assert!(rt; is_refused(rt.alloc(), "", line, 0)?, "{name}");
     }
     Ok(())
@@ -98,7 +98,7 @@ fn first_lines_that_are_none(rt: HostRuntime) -> Result<(), Fail> {
 
 const CONNECTION: &str = "conn 3 10.0.0.1:1000 > 10.0.0.2:80 v 2\n";
 
-const LINES: [(&str, &str); 28] = [
+const LINES: &[(&str, &str)] = &[
     ("no line", ""),
     ("a leading zero", "cb 03 snd 7 16"),
     ("no side", "cb 3 snx 7 16"),
@@ -135,7 +135,7 @@ const LINES: [(&str, &str); 28] = [
 // Behind the 39 bytes of a connection's first line.
 #[test]
 fn lines_of_a_record_that_are_none(rt: HostRuntime) -> Result<(), Fail> {
-    for (name, line) in LINES {
+    for &(name, line) in LINES {
         assert!(rt; is_refused(rt.alloc(), CONNECTION, line, 39)?, "{name}");
     }
     Ok(())
@@ -149,7 +149,7 @@ const ORPHAN: &str = "orphan 9 tcp v 5\n";
 
 // What stands before the line, the line, and where it begins: behind a drop (39 + 14 bytes), behind a field (39 + 16),
 // behind an orphan (17), and behind the totals (51).
-const ORDER: [(&str, &str, &str, u64); 10] = [
+const ORDER: &[(&str, &str, &str, u64)] = &[
     ("a packet dropped twice", DROPPED, "drop 3 rule 0", 53),
     ("drops out of order", DROPPED, "drop 2 rule 0", 53),
     ("a callback behind a drop", DROPPED, "cb 3 snd 7 16", 53),
@@ -164,7 +164,7 @@ const ORDER: [(&str, &str, &str, u64); 10] = [
 
 #[test]
 fn lines_out_of_their_order(rt: HostRuntime) -> Result<(), Fail> {
-    for (name, front, line, offset) in ORDER {
+    for &(name, front, line, offset) in ORDER {
         assert!(rt; is_refused(rt.alloc(), front, line, offset)?, "{name}");
     }
     Ok(())
@@ -181,7 +181,7 @@ const ANOTHER_SIDE: &[u8] = b"conn 0 10.0.0.1:1000 > 10.0.0.2:80 v 0\n\
     end packets 3 records 1 callbacks 6 drops 0 tail 0\n";
 
 // Whole texts, and where they stop being reports.
-const TEXTS: [(&str, &[u8], u64); 5] = [
+const TEXTS: &[(&str, &[u8], u64)] = &[
     ("another word for a side", ANOTHER_SIDE, 57),
     ("no text", b"", 0),
     ("no totals", b"conn 3 10.0.0.1:1000 > 10.0.0.2:80 v 2\n", 39),
@@ -199,7 +199,7 @@ const TEXTS: [(&str, &[u8], u64); 5] = [
 
 #[test]
 fn texts_that_are_none(rt: HostRuntime) {
-    for (name, text, offset) in TEXTS {
+    for &(name, text, offset) in TEXTS {
         assert!(rt; stops_at(rt.alloc(), text, offset), "{name}");
     }
 }

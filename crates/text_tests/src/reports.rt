@@ -50,7 +50,7 @@ const ORPHAN: Row = Row {
 };
 
 // Records, and their report with the counts above.
-const REPORTS: [(&str, &[Row], &[u8]); 5] = [
+const REPORTS: &[(&str, &[Row], &[u8])] = &[
     ("a handshake", &[HANDSHAKE], HANDSHAKE_TEXT),
     (
         "orphans and IPv6",
@@ -201,7 +201,7 @@ fn is_report(alloc: Global, rows: &[Row], text: &[u8]) -> Result<bool, AllocErro
 
 #[test]
 fn records_are_written(rt: HostRuntime) -> Result<(), Fail> {
-    for (name, rows, text) in REPORTS {
+    for &(name, rows, text) in REPORTS {
         assert!(rt; is_report(rt.alloc(), rows, text)?, "{name}");
     }
     Ok(())
@@ -216,7 +216,7 @@ fn is_read_back(alloc: Global, rows: &[Row], text: &[u8]) -> bool {
 
 #[test]
 fn records_are_read_back(rt: HostRuntime) {
-    for (name, rows, text) in REPORTS {
+    for &(name, rows, text) in REPORTS {
         assert!(rt; is_read_back(rt.alloc(), rows, text), "{name}");
     }
 }
@@ -245,7 +245,7 @@ const EACH_FORM: &[u8] = b"conn 3 10.0.0.1:1000 > 10.0.0.2:80 v 2\n\
     conn 41 [2001:db8:0:0:0:0:0:1]:1000 > [2001:db8:0:0:0:0:0:2]:80 v 0\n\
     end packets 3 records 1 callbacks 6 drops 0 tail 4294967295\n";
 
-const TEXTS: [(&str, &[u8]); 3] = [
+const TEXTS: &[(&str, &[u8])] = &[
     ("each form of a line", EACH_FORM),
     ("a handshake", HANDSHAKE_TEXT),
     (
@@ -264,7 +264,7 @@ fn is_written_again(alloc: Global, text: &[u8]) -> Result<bool, AllocError> {
 
 #[test]
 fn texts_are_read_and_written_again(rt: HostRuntime) -> Result<(), Fail> {
-    for (name, text) in TEXTS {
+    for &(name, text) in TEXTS {
         assert!(rt; is_written_again(rt.alloc(), text)?, "{name}");
     }
     Ok(())
@@ -290,7 +290,7 @@ fn the_totals(rt: HostRuntime) -> Result<(), Fail> {
 }
 
 // The call of the sink that fails, and how many bytes of the handshake's report it has taken.
-const FAULTS: [(&str, u64, usize); 4] = [
+const FAULTS: &[(&str, u64, usize)] = &[
     ("the first line", 0, 19),
     ("the first callback", 1, 48),
     ("the fourth callback", 4, 102),
@@ -310,14 +310,14 @@ fn is_cut(alloc: Global, fails: u64, taken: usize) -> Result<bool, AllocError> {
 // Each line is written by one call. A call that fails takes half of its line, and none follows.
 #[test]
 fn a_write_that_fails(rt: HostRuntime) -> Result<(), Fail> {
-    for (name, fails, taken) in FAULTS {
+    for &(name, fails, taken) in FAULTS {
         assert!(rt; is_cut(rt.alloc(), fails, taken)?, "{name}");
     }
     Ok(())
 }
 
 // Records of which each breaks one rule alone.
-const UNTIDY: [(&str, &[Row]); 16] = [
+const UNTIDY: &[(&str, &[Row])] = &[
     (
         "event 0",
         &[Row {
@@ -434,7 +434,7 @@ const UNTIDY: [(&str, &[Row]); 16] = [
 
 #[test]
 fn records_that_are_not_tidy(rt: HostRuntime) -> Result<(), Fail> {
-    for (name, rows) in UNTIDY {
+    for &(name, rows) in UNTIDY {
         assert!(rt; !is_tidy(&records(rt.alloc(), rows)?), "{name}");
     }
     Ok(())

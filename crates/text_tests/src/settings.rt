@@ -22,7 +22,7 @@ type Choice = (AppKind, usize, Option<&'static str>, Emit, Option<u32>);
 // What no words choose.
 const PLAIN: Choice = (AppKind::Log, 1, None, Emit::Report, None);
 
-const ACCEPTED: [(&str, &str, Choice); 15] = [
+const ACCEPTED: &[(&str, &str, Choice)] = &[
     ("no words", "", PLAIN),
     ("the log", "--app log", PLAIN),
     ("equals signs", "--app=log --workers=1 --emit=report", PLAIN),
@@ -104,13 +104,13 @@ fn chooses(alloc: Global, line: &str, choice: Choice) -> Result<bool, Fail> {
 
 #[test]
 fn accepted(rt: HostRuntime) -> Result<(), Fail> {
-    for (name, line, choice) in ACCEPTED {
+    for &(name, line, choice) in ACCEPTED {
         assert!(rt; chooses(rt.alloc(), line, choice)?, "{name}");
     }
     Ok(())
 }
 
-const REFUSED: [(&str, &str); 38] = [
+const REFUSED: &[(&str, &str)] = &[
     ("a word", "extra"),
     ("two dashes", "--"),
     ("a short option", "-a"),
@@ -161,7 +161,7 @@ fn is_refused(alloc: Global, line: &str) -> Result<bool, Fail> {
 
 #[test]
 fn refused(rt: HostRuntime) -> Result<(), Fail> {
-    for (name, line) in REFUSED {
+    for &(name, line) in REFUSED {
         assert!(rt; is_refused(rt.alloc(), line)?, "{name}");
     }
     Ok(())
