@@ -9,8 +9,6 @@ mod maker;
 mod piece;
 mod record;
 mod step;
-#[cfg(test)]
-mod tests;
 mod turns;
 
 pub use laws::{capture_has_its_size, reader_takes_all_packets};

@@ -20,6 +20,3 @@ pub use law::first_refusal;
 pub use parser::parse;
 pub use printer::print;
 pub use term::{Atom, Join, Op, Step, StepList, Sum, Term, TermList};
-
-#[cfg(test)]
-mod tests;

@@ -16,8 +16,6 @@ mod read_source;
 mod shelf;
 mod sink;
 mod source;
-#[cfg(test)]
-mod tests;
 mod write_sink;
 
 pub use failed::Failed;

@@ -1,5 +1,4 @@
 pub mod Cuts
 pub mod Longest
 pub mod Opened
-pub mod Plain
 pub mod Steps

@@ -8,7 +8,20 @@ use Rattle.pcap_source.specs.Capture.{Frames, captured_length, ended, ending_of,
 use Rattle.pcap_source.specs.Laws.{IsLongestFront, written}
 use Rattle.pcap_source.specs.Reading.{IsRecord}
 use Rattle.pcap_source.specs.declared.order.Order.{Order}
-use Rattle.pcap_source.proofs.Plain.{frames_from-last, frames_from-step, whole_fits}
+
+frames_from-step : (order : Order) (n offset : ℕ) (bytes : List ℕ) → is_whole order bytes ≡ true
+    → frames_from order (suc n) offset bytes ≡ with_frame (record_at order bytes) (frames_from order n (offset + record_length order bytes) (drop (record_length order bytes) bytes))
+unfolding frames_from
+frames_from-step order n offset bytes whole = rw whole refl
+
+frames_from-last : (order : Order) (n offset : ℕ) (bytes : List ℕ) → (0 < n → is_whole order bytes ≡ false)
+    → frames_from order n offset bytes ≡ ended (ending_of order n offset bytes)
+unfolding frames_from
+frames_from-last order zero offset bytes none = refl
+frames_from-last order (suc n) offset bytes none = rw (none (omega arith)) refl
+
+whole_fits : (order : Order) (bytes : List ℕ) → is_whole order bytes ≡ true → record_length order bytes ≤ length bytes
+whole_fits order bytes whole = grind (arith, nat_tests)
 
 within_limit : (order : Order) (bytes : List ℕ) → is_whole order bytes ≡ true → captured_length order bytes ≤ 262144
 within_limit order bytes whole = grind (arith, nat_tests)

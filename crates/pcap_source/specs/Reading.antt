@@ -1,7 +1,7 @@
 -- What a capture that is read front to back gives, where its source tells the bytes that are left.
-use Rattle.std.specs.Prelude.{◌≡◌, ℕ, zero, suc, ◌+◌, ◌-◌, ◌<◌, ◌≤◌, Bool, true, List, [], length, take, drop, ⊤, IsTrue, Option, Some, None, Result, Ok, Err}
+use Rattle.std.specs.Prelude.{◌≡◌, ℕ, ◌+◌, ◌-◌, ◌<◌, ◌≤◌, Bool, true, List, [], length, take, drop, ⊤, IsTrue, Option, Some, None, Result, Ok, Err}
 use Rattle.pcap_source.specs.Captured.{Captured}
-use Rattle.pcap_source.specs.Capture.{Ending, Frames, ended, with_frame, frames_from, header_of, record_of, tail, too_long, too_many}
+use Rattle.pcap_source.specs.Capture.{Frames, ended, with_frame, frames_from, header_of, record_of, tail, too_long, too_many}
 use Rattle.pcap_source.specs.Order.{number_in}
 use Rattle.pcap_source.specs.declared.order.Order.{Order}
 use Rattle.pcap_source.specs.declared.capture.Step.{Step}
@@ -98,10 +98,3 @@ pub record Opened (capture : CaptureState) : Type 0 where
 abbrev pub IsTold : Option (List ℕ) → Type 0
 IsTold None = ⊥
 IsTold (Some bytes) = ⊤
-
--- what `next` answers where no whole record is left
-abbrev pub answer_of : Ending → Result Step NextError
-answer_of (tail zero) = Ok End
-answer_of (tail (suc n)) = Ok (Tail (suc n))
-answer_of (too_long offset) = Err (TooLong offset)
-answer_of (too_many offset) = Err (TooMany offset)

@@ -10,8 +10,6 @@ mod frame;
 mod header;
 mod laws;
 mod order;
-#[cfg(test)]
-mod tests;
 mod write;
 
 pub use capture::{CAPTURED_LIMIT, Capture, RECORD_LIMIT, Step};

@@ -13,6 +13,3 @@ pub use read::{ReadBack, read_report};
 pub use record::{Record, RecordKind, RecordList, Totals};
 pub use tidy::is_tidy;
 pub use write::{TextError, write_report, write_totals};
-
-#[cfg(test)]
-mod tests;

@@ -11,6 +11,3 @@ mod values;
 pub use read::read_words;
 pub use settings::{AppKind, Emit, Name, Settings, WordsError};
 pub use usage::usage_text;
-
-#[cfg(test)]
-mod tests;
