@@ -1,0 +1,31 @@
+//! As many packets as a capture may have.
+
+use crate::runs::{NEVER, asked, ended_so, run, sink, source};
+use crate::traffic::BIG;
+use mos_run::OpenGate;
+use std::process::Abort;
+use std::sync::Wait;
+use std::thread::Threads;
+
+const PACKETS: usize = 1_048_576;
+
+const FIRST: &[u8] = b"orphan 0 other v 0\n";
+
+const LAST: &[u8] = b"\nend packets 1048576 records 1048576 callbacks 1048576 drops 0 tail 0\n";
+
+// The head of a record without data is 16 zero bytes.
+fn reports_each<R: AllocGlobal + Abort + Threads + Wait + Sync + Send + Copy + Drop + 'static>(
+    rt: &R,
+) -> bool {
+    let mut capture = vec![in rt.alloc(); 0; 24 + 16 * PACKETS].expect(rt, "memory");
+    capture[..24].copy_from_slice(&BIG);
+    let mut source = source(rt, &capture, NEVER);
+    let mut out = sink(rt, 67_108_864, NEVER);
+    let run = run(rt, asked(""), &mut source, &mut out, &OpenGate);
+    ended_so(&run, 0, "") && out.bytes().starts_with(FIRST) && out.bytes().ends_with(LAST)
+}
+
+#[test]
+fn as_many_packets_as_a_capture_may_have(rt: HostRuntime) {
+    assert!(rt; reports_each(&rt), "1,048,576 packets");
+}
