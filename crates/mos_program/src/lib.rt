@@ -44,13 +44,7 @@ pub fn run_program<
     I: Read + Drop,
     O: Write + Drop,
     E: Write + Drop,
->(
-    rt: R,
-    words: io::Result<Vec<String>>,
-    input: I,
-    out: O,
-    err: E,
-) -> Ended {
+>(rt: R, words: io::Result<Vec<String>>, input: I, out: O, err: E) -> Ended {
     let alloc = rt.alloc();
     let mut err = WriteSink::new(err);
     match words {
@@ -92,11 +86,6 @@ pub fn run_process<
     I: Read + Drop,
     O: Write + Drop,
     E: Write + Drop,
->(
-    rt: R,
-    input: I,
-    out: O,
-    err: E,
-) -> ExitCode {
+>(rt: R, input: I, out: O, err: E) -> ExitCode {
     exit_code(&run_program(rt, words(&rt), input, out, err))
 }

@@ -94,120 +94,134 @@ struct Failing {
     whole: Whole,
 }
 
-const fn failing(
-    words: &'static str,
-    traffic: Traffic,
-    call: Call,
-    left: &'static [usize],
-    whole: Whole,
-) -> Failing {
-    Failing {
-        words,
-        traffic,
-        call,
-        left,
-        whole,
-    }
-}
-
 // A report is written by a call for each line, of which half is taken where it fails; a forwarded capture by one for the header
 // and two for each packet. A packet is read by two calls, the header by one, and one more finds the end.
 const FAILING: [(&str, Failing); 12] = [
     (
         "reads of a handshake",
-        failing("", HANDSHAKE, Call::Read, &[0; 8], Whole::Text(HANDSHAKE_REPORT)),
+        Failing {
+            words: "",
+            traffic: HANDSHAKE,
+            call: Call::Read,
+            left: &[0; 8],
+            whole: Whole::Text(HANDSHAKE_REPORT),
+        },
     ),
     (
         "writes of a handshake's report",
-        failing(
-            "",
-            HANDSHAKE,
-            Call::Write,
-            &[19, 48, 66, 84, 102, 120, 138, 172],
-            Whole::Text(HANDSHAKE_REPORT),
-        ),
+        Failing {
+            words: "",
+            traffic: HANDSHAKE,
+            call: Call::Write,
+            left: &[19, 48, 66, 84, 102, 120, 138, 172],
+            whole: Whole::Text(HANDSHAKE_REPORT),
+        },
     ),
     (
         "a fetch",
-        failing("--script script", EXCHANGE, Call::Fetch, &[0], Whole::Text(DROPPED)),
+        Failing {
+            words: "--script script",
+            traffic: EXCHANGE,
+            call: Call::Fetch,
+            left: &[0],
+            whole: Whole::Text(DROPPED),
+        },
     ),
     (
         "reads of a web request",
-        failing("--app acct", WEB_REQUEST, Call::Read, &[0; 22], Whole::Text(ACCOUNTS)),
+        Failing {
+            words: "--app acct",
+            traffic: WEB_REQUEST,
+            call: Call::Read,
+            left: &[0; 22],
+            whole: Whole::Text(ACCOUNTS),
+        },
     ),
     (
         "reads of a web request by three workers",
-        failing(
-            "--app acct --workers 3",
-            WEB_REQUEST,
-            Call::Read,
-            &[0; 22],
-            Whole::Text(ACCOUNTS),
-        ),
+        Failing {
+            words: "--app acct --workers 3",
+            traffic: WEB_REQUEST,
+            call: Call::Read,
+            left: &[0; 22],
+            whole: Whole::Text(ACCOUNTS),
+        },
     ),
     (
         "reads of a web request that is forwarded",
-        failing(
-            "--app acct --emit forward",
-            WEB_REQUEST,
-            Call::Read,
-            &[
+        Failing {
+            words: "--app acct --emit forward",
+            traffic: WEB_REQUEST,
+            call: Call::Read,
+            left: &[
                 0, 24, 24, 100, 100, 176, 176, 252, 252, 340, 340, 416, 416, 3406, 3406, 3482,
                 3482, 3558, 3558, 3634, 3634, 3710,
             ],
-            Whole::Front(3710),
-        ),
+            whole: Whole::Front(3710),
+        },
     ),
     (
         "writes of accounts",
-        failing(
-            "--app acct",
-            WEB_REQUEST,
-            Call::Write,
-            &[
+        Failing {
+            words: "--app acct",
+            traffic: WEB_REQUEST,
+            call: Call::Write,
+            left: &[
                 19, 48, 65, 82, 100, 117, 135, 152, 170, 189, 208, 226, 245, 264, 282, 299, 316,
                 334, 351, 368, 386, 403, 419, 435, 452, 469, 486, 506, 527, 547, 569, 606,
             ],
-            Whole::Text(ACCOUNTS),
-        ),
+            whole: Whole::Text(ACCOUNTS),
+        },
     ),
     (
         "writes of a forwarded capture with a tail",
-        failing(
-            "--emit forward",
-            LITTLE_WITH_TAIL,
-            Call::Write,
-            &[12, 32, 67, 102, 137, 172, 207, 242, 279],
-            Whole::Front(308),
-        ),
+        Failing {
+            words: "--emit forward",
+            traffic: LITTLE_WITH_TAIL,
+            call: Call::Write,
+            left: &[12, 32, 67, 102, 137, 172, 207, 242, 279],
+            whole: Whole::Front(308),
+        },
     ),
     (
         "reads of two clients",
-        failing("--emit forward", TWO_CLIENTS, Call::Read, TWO_CLIENTS_READ, Whole::Front(448)),
+        Failing {
+            words: "--emit forward",
+            traffic: TWO_CLIENTS,
+            call: Call::Read,
+            left: TWO_CLIENTS_READ,
+            whole: Whole::Front(448),
+        },
     ),
     (
         "reads of two clients by two workers",
-        failing(
-            "--emit forward --workers 2",
-            TWO_CLIENTS,
-            Call::Read,
-            TWO_CLIENTS_READ,
-            Whole::Front(448),
-        ),
+        Failing {
+            words: "--emit forward --workers 2",
+            traffic: TWO_CLIENTS,
+            call: Call::Read,
+            left: TWO_CLIENTS_READ,
+            whole: Whole::Front(448),
+        },
     ),
     (
         "writes of two clients",
-        failing("--emit forward", TWO_CLIENTS, Call::Write, TWO_CLIENTS_WRITTEN, Whole::Front(448)),
+        Failing {
+            words: "--emit forward",
+            traffic: TWO_CLIENTS,
+            call: Call::Write,
+            left: TWO_CLIENTS_WRITTEN,
+            whole: Whole::Front(448),
+        },
     ),
     (
         "writes of two clients by two workers",
-        failing(
-            "--emit forward --workers 2",
-            TWO_CLIENTS,
-            Call::Write,
-            TWO_CLIENTS_WRITTEN,
-            Whole::Front(448),
-        ),
+        Failing {
+            words: "--emit forward --workers 2",
+            traffic: TWO_CLIENTS,
+            call: Call::Write,
+            left: TWO_CLIENTS_WRITTEN,
+            whole: Whole::Front(448),
+        },
     ),
 ];
 
@@ -223,15 +237,33 @@ const TWO_CLIENTS_WRITTEN: &[usize] = &[
 const GATHERED: [(&str, Failing); 3] = [
     (
         "a report",
-        failing("", HANDSHAKE, Call::Write, &[99], Whole::Text(HANDSHAKE_REPORT)),
+        Failing {
+            words: "",
+            traffic: HANDSHAKE,
+            call: Call::Write,
+            left: &[99],
+            whole: Whole::Text(HANDSHAKE_REPORT),
+        },
     ),
     (
         "a forwarded capture",
-        failing("--emit forward", HANDSHAKE, Call::Write, &[117], Whole::Front(234)),
+        Failing {
+            words: "--emit forward",
+            traffic: HANDSHAKE,
+            call: Call::Write,
+            left: &[117],
+            whole: Whole::Front(234),
+        },
     ),
     (
         "a summary",
-        failing("--make 1", HANDSHAKE, Call::Write, &[41], Whole::Text(MADE)),
+        Failing {
+            words: "--make 1",
+            traffic: HANDSHAKE,
+            call: Call::Write,
+            left: &[41],
+            whole: Whole::Text(MADE),
+        },
     ),
 ];
 
@@ -274,7 +306,13 @@ fn leaves<R: AllocGlobal + Abort + Threads + Wait + Sync + Send + Copy + Drop + 
     let fault = number as u64;
     let mut source = source(rt, &capture, fails(failing, Call::Read, fault));
     let mut out = sink(rt, 4096, fails(failing, Call::Write, fault));
-    let run = run(rt, asked_with(failing, fault), &mut source, &mut out, &OpenGate);
+    let run = run(
+        rt,
+        asked_with(failing, fault),
+        &mut source,
+        &mut out,
+        &OpenGate,
+    );
     is_left(failing, number, &run, out.bytes(), &capture)
 }
 

@@ -1,7 +1,7 @@
 //! What no clause says: that the threads of a run go on side by side. A gate holds each until the others have come as far; where
 //! one ran after another, it would wait in vain.
 
-use crate::runs::{Asked, NEVER, asked, run, sink, source};
+use crate::runs::{Asked, NEVER, in_words, run, sink, source};
 use crate::traffic::{OPENINGS_OF_FOUR_LANES, OPENINGS_OF_TWO_LANES, Traffic, capture_of};
 use mos_run::Gate;
 use std::process::Abort;
@@ -26,13 +26,7 @@ fn has_come(flag: &AtomicBool) -> bool {
 fn begins<
     R: AllocGlobal + Abort + Threads + Wait + Sync + Send + Copy + Drop + 'static,
     G: Gate + Sync,
->(
-    rt: &R,
-    asked: Asked<'_>,
-    traffic: &Traffic,
-    gate: &G,
-    text: &str,
-) -> bool {
+>(rt: &R, asked: Asked<'_>, traffic: &Traffic, gate: &G, text: &str) -> bool {
     let mut source = source(rt, &capture_of(rt, traffic), NEVER);
     let mut out = sink(rt, 4096, NEVER);
     let run = run(rt, asked, &mut source, &mut out, gate);
@@ -86,7 +80,10 @@ fn two_workers_and_a_command_meet(rt: HostRuntime) {
     let text = "conn 0 10.0.0.1:1001 > 10.0.0.2:80 v 1\ncb 0 snd start 16\n";
     let is_written = begins(&rt, asked, &OPENINGS_OF_TWO_LANES, &gate, text);
     let has_missed = gate.missed.load(Ordering::SeqCst);
-    assert!(rt; is_written && !has_missed, "two workers and a command: {is_written}, {has_missed}");
+    assert!(rt;
+        is_written && !has_missed,
+        "two workers and a command: {is_written}, {has_missed}"
+    );
 }
 
 // Holds each packet until four have come.
@@ -132,7 +129,16 @@ fn four_workers_meet(rt: HostRuntime) {
         come: AtomicU64::new(0),
         missed: AtomicBool::new(false),
     };
-    let is_written = begins(&rt, asked("--workers 4"), &OPENINGS_OF_FOUR_LANES, &gate, FOUR);
+    let is_written = begins(
+        &rt,
+        in_words("--workers 4"),
+        &OPENINGS_OF_FOUR_LANES,
+        &gate,
+        FOUR,
+    );
     let has_missed = gate.missed.load(Ordering::SeqCst);
-    assert!(rt; is_written && !has_missed, "four workers: {is_written}, {has_missed}");
+    assert!(rt;
+        is_written && !has_missed,
+        "four workers: {is_written}, {has_missed}"
+    );
 }

@@ -37,9 +37,7 @@ const ONCE_IT_CAME: &str = "conn 0 10.0.0.1:1000 > 10.0.0.2:80 v 1\n\
 
 fn is_under_its_versions<
     R: AllocGlobal + Abort + Threads + Wait + Sync + Send + Copy + Drop + 'static,
->(
-    rt: &R,
-) -> bool {
+>(rt: &R) -> bool {
     let mut source = source(rt, &capture_of(rt, &TWO_OPENINGS), NEVER);
     let mut out = sink(rt, 1024, NEVER);
     let run = run(rt, LIVE, &mut source, &mut out, &OpenGate);

@@ -1,6 +1,6 @@
 //! As many packets as a capture may have.
 
-use crate::runs::{NEVER, asked, ended_so, run, sink, source};
+use crate::runs::{NEVER, ended_so, in_words, run, sink, source};
 use crate::traffic::BIG;
 use mos_run::OpenGate;
 use std::process::Abort;
@@ -21,7 +21,7 @@ fn reports_each<R: AllocGlobal + Abort + Threads + Wait + Sync + Send + Copy + D
     capture[..24].copy_from_slice(&BIG);
     let mut source = source(rt, &capture, NEVER);
     let mut out = sink(rt, 67_108_864, NEVER);
-    let run = run(rt, asked(""), &mut source, &mut out, &OpenGate);
+    let run = run(rt, in_words(""), &mut source, &mut out, &OpenGate);
     ended_so(&run, 0, "") && out.bytes().starts_with(FIRST) && out.bytes().ends_with(LAST)
 }
 

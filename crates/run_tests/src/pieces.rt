@@ -1,7 +1,7 @@
 //! A source that gives a few bytes a read.
 
 use crate::failing::ACCOUNTS;
-use crate::runs::{NEVER, asked, ended_so, run, sink, source};
+use crate::runs::{NEVER, ended_so, in_words, run, sink, source};
 use crate::traffic::{WEB_REQUEST, capture_of};
 use mos_run::OpenGate;
 use std::process::Abort;
@@ -20,7 +20,7 @@ fn accounts<R: AllocGlobal + Abort + Threads + Wait + Sync + Send + Copy + Drop 
 ) -> bool {
     let mut source = source(rt, &capture_of(rt, &WEB_REQUEST), NEVER).cut(piece.max(1));
     let mut out = sink(rt, 1024, NEVER);
-    let run = run(rt, asked("--app acct"), &mut source, &mut out, &OpenGate);
+    let run = run(rt, in_words("--app acct"), &mut source, &mut out, &OpenGate);
     ended_so(&run, 0, "") && out.bytes() == ACCOUNTS.as_bytes()
 }
 

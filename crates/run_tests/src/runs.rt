@@ -22,7 +22,7 @@ pub struct Asked<'a> {
     pub fetch: u64,
 }
 
-pub fn asked<'a>(words: &'a str) -> Asked<'a> {
+pub fn in_words<'a>(words: &'a str) -> Asked<'a> {
     Asked {
         words,
         script: "",
@@ -84,13 +84,7 @@ pub fn run<
     S: Source,
     O: Sink,
     G: Gate + Sync,
->(
-    rt: &R,
-    asked: Asked<'_>,
-    source: &mut S,
-    out: &mut O,
-    gate: &G,
-) -> Finished {
+>(rt: &R, asked: Asked<'_>, source: &mut S, out: &mut O, gate: &G) -> Finished {
     let alloc = rt.alloc();
     let words = words_of(alloc, asked.words).expect(rt, "memory");
     let mut shelf = shelf_of(alloc, asked.script, asked.fetch).expect(rt, "memory");
@@ -114,12 +108,7 @@ pub fn run_gathering<
     R: AllocGlobal + Abort + Threads + Wait + Sync + Send + Copy + Drop + 'static,
     S: Source,
     O: Sink + Drop,
->(
-    rt: &R,
-    asked: Asked<'_>,
-    source: &mut S,
-    out: O,
-) -> (Finished, O) {
+>(rt: &R, asked: Asked<'_>, source: &mut S, out: O) -> (Finished, O) {
     let alloc = rt.alloc();
     let words = words_of(alloc, asked.words).expect(rt, "memory");
     let mut shelf = shelf_of(alloc, asked.script, asked.fetch).expect(rt, "memory");

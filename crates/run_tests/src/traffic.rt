@@ -1,138 +1,138 @@
 //! Captures for tests, from the packets of a table.
 
+use End::{Client, Server};
 use std::alloc::{AllocError, Global};
 use std::process::Abort;
 
-// A packet between 10.0.0.1 and 10.0.0.2 port 80.
-#[derive(Clone, Copy)]
-pub struct Packet {
-    is_from_client: bool,
-    // The client's port.
-    port: u16,
-    flags: u8,
-    seq: u16,
-    ack: u16,
-    payload: usize,
+// Which end sends a packet: 10.0.0.1, or 10.0.0.2 from port 80.
+#[derive(Clone, Copy, PartialEq)]
+pub enum End {
+    Client,
+    Server,
 }
 
-const fn up(port: u16, flags: u8, seq: u16, ack: u16, payload: usize) -> Packet {
-    Packet {
-        is_from_client: true,
-        port,
-        flags,
-        seq,
-        ack,
-        payload,
-    }
+// A packet: its end, the client's port, flags, sequence number, acknowledgement number, and bytes of payload.
+type Packet = (End, u16, u8, u16, u16, usize);
+
+// How frames and numbers of a capture are written.
+#[derive(Clone, Copy, PartialEq)]
+pub enum Form {
+    // The most significant byte first.
+    Big,
+    // The least significant byte first.
+    Little,
+    // As `Big`, with at least six bytes behind the heads, which fill up an Ethernet frame.
+    Padded,
 }
 
-const fn down(port: u16, flags: u8, seq: u16, ack: u16, payload: usize) -> Packet {
-    Packet {
-        is_from_client: false,
-        port,
-        flags,
-        seq,
-        ack,
-        payload,
-    }
-}
-
-// The packets of a capture, and how they are written.
+// A capture's packets, and the bytes behind them.
 #[derive(Clone, Copy)]
 pub struct Traffic {
+    form: Form,
     packets: &'static [Packet],
-    // The least bytes that a frame has behind its heads: six fill up an Ethernet frame.
-    least: usize,
-    is_little: bool,
     tail: &'static [u8],
 }
 
-const fn traffic(packets: &'static [Packet]) -> Traffic {
-    Traffic {
-        packets,
-        least: 0,
-        is_little: false,
-        tail: &[],
-    }
-}
-
-pub const HANDSHAKE: Traffic = traffic(&[
-    up(1000, 0x02, 100, 0, 0),
-    down(1000, 0x12, 300, 101, 0),
-    up(1000, 0x10, 101, 301, 0),
-]);
+pub const HANDSHAKE: Traffic = Traffic {
+    form: Form::Big,
+    packets: &[
+        (Client, 1000, 0x02, 100, 0, 0),
+        (Server, 1000, 0x12, 300, 101, 0),
+        (Client, 1000, 0x10, 101, 301, 0),
+    ],
+    tail: &[],
+};
 
 // A handshake, and four bytes from the client.
 const EXCHANGED: &[Packet] = &[
-    up(1000, 0x02, 100, 0, 0),
-    down(1000, 0x12, 300, 101, 0),
-    up(1000, 0x10, 101, 301, 0),
-    up(1000, 0x18, 101, 301, 4),
+    (Client, 1000, 0x02, 100, 0, 0),
+    (Server, 1000, 0x12, 300, 101, 0),
+    (Client, 1000, 0x10, 101, 301, 0),
+    (Client, 1000, 0x18, 101, 301, 4),
 ];
 
-pub const EXCHANGE: Traffic = traffic(EXCHANGED);
+pub const EXCHANGE: Traffic = Traffic {
+    form: Form::Big,
+    packets: EXCHANGED,
+    tail: &[],
+};
 
 pub const LITTLE_WITH_TAIL: Traffic = Traffic {
+    form: Form::Little,
     packets: EXCHANGED,
-    least: 0,
-    is_little: true,
     tail: &[1, 2, 3],
 };
 
 // Behind an exchange the head of a record that is too long.
 pub const REFUSED_AT_ITS_END: Traffic = Traffic {
+    form: Form::Big,
     packets: EXCHANGED,
-    least: 0,
-    is_little: false,
     tail: &[0, 0, 0, 0, 0, 0, 0, 0, 0, 4, 0, 1, 0, 4, 0, 1],
 };
 
 // A client's packets with those of another one between them, which go to other lanes where there are enough.
-pub const TWO_CLIENTS: Traffic = traffic(&[
-    up(1000, 0x02, 100, 0, 0),
-    up(1001, 0x02, 100, 0, 0),
-    down(1000, 0x12, 300, 101, 0),
-    down(1001, 0x12, 300, 101, 0),
-    up(1000, 0x10, 101, 301, 0),
-    up(1000, 0x18, 101, 301, 4),
-]);
-
-// A request of 18 bytes, and its answer of 2,920. The server closes first.
-pub const WEB_REQUEST: Traffic = Traffic {
+pub const TWO_CLIENTS: Traffic = Traffic {
+    form: Form::Big,
     packets: &[
-        up(1000, 0x02, 100, 0, 0),
-        down(1000, 0x12, 300, 101, 0),
-        up(1000, 0x10, 101, 301, 0),
-        up(1000, 0x18, 101, 301, 18),
-        down(1000, 0x10, 301, 119, 0),
-        down(1000, 0x18, 301, 119, 2920),
-        up(1000, 0x10, 119, 3221, 0),
-        down(1000, 0x11, 3221, 119, 0),
-        up(1000, 0x11, 119, 3222, 0),
-        down(1000, 0x10, 3222, 120, 0),
+        (Client, 1000, 0x02, 100, 0, 0),
+        (Client, 1001, 0x02, 100, 0, 0),
+        (Server, 1000, 0x12, 300, 101, 0),
+        (Server, 1001, 0x12, 300, 101, 0),
+        (Client, 1000, 0x10, 101, 301, 0),
+        (Client, 1000, 0x18, 101, 301, 4),
     ],
-    least: 6,
-    is_little: false,
     tail: &[],
 };
 
-pub const TWO_OPENINGS: Traffic =
-    traffic(&[up(1000, 0x02, 100, 0, 0), up(1001, 0x02, 100, 0, 0)]);
+// A request of 18 bytes, and its answer of 2,920. The server closes first.
+pub const WEB_REQUEST: Traffic = Traffic {
+    form: Form::Padded,
+    packets: &[
+        (Client, 1000, 0x02, 100, 0, 0),
+        (Server, 1000, 0x12, 300, 101, 0),
+        (Client, 1000, 0x10, 101, 301, 0),
+        (Client, 1000, 0x18, 101, 301, 18),
+        (Server, 1000, 0x10, 301, 119, 0),
+        (Server, 1000, 0x18, 301, 119, 2920),
+        (Client, 1000, 0x10, 119, 3221, 0),
+        (Server, 1000, 0x11, 3221, 119, 0),
+        (Client, 1000, 0x11, 119, 3222, 0),
+        (Server, 1000, 0x10, 3222, 120, 0),
+    ],
+    tail: &[],
+};
+
+pub const TWO_OPENINGS: Traffic = Traffic {
+    form: Form::Big,
+    packets: &[
+        (Client, 1000, 0x02, 100, 0, 0),
+        (Client, 1001, 0x02, 100, 0, 0),
+    ],
+    tail: &[],
+};
 
 // Of two lanes the key with port 1001 has the first, and that with port 1000 the second.
-pub const OPENINGS_OF_TWO_LANES: Traffic = traffic(&[
-    up(1001, 0x02, 100, 0, 0),
-    up(1000, 0x02, 100, 0, 0),
-    up(1000, 0x02, 100, 0, 0),
-]);
+pub const OPENINGS_OF_TWO_LANES: Traffic = Traffic {
+    form: Form::Big,
+    packets: &[
+        (Client, 1001, 0x02, 100, 0, 0),
+        (Client, 1000, 0x02, 100, 0, 0),
+        (Client, 1000, 0x02, 100, 0, 0),
+    ],
+    tail: &[],
+};
 
 // A key of each of four lanes, in order.
-pub const OPENINGS_OF_FOUR_LANES: Traffic = traffic(&[
-    up(1001, 0x02, 100, 0, 0),
-    up(1004, 0x02, 100, 0, 0),
-    up(1005, 0x02, 100, 0, 0),
-    up(1000, 0x02, 100, 0, 0),
-]);
+pub const OPENINGS_OF_FOUR_LANES: Traffic = Traffic {
+    form: Form::Big,
+    packets: &[
+        (Client, 1001, 0x02, 100, 0, 0),
+        (Client, 1004, 0x02, 100, 0, 0),
+        (Client, 1005, 0x02, 100, 0, 0),
+        (Client, 1000, 0x02, 100, 0, 0),
+    ],
+    tail: &[],
+};
 
 pub const BIG: [u8; 24] = [
     0xa1, 0xb2, 0xc3, 0xd4, 0, 2, 0, 4, 0, 0, 0, 0, 0, 0, 0, 0, 0, 0, 0xff, 0xff, 0, 0, 0, 1,
@@ -154,47 +154,60 @@ const DOWN: [u8; 54] = [
 ];
 
 fn heads_of(packet: &Packet) -> [u8; 54] {
-    let mut heads = if packet.is_from_client { UP } else { DOWN };
-    let port_at = if packet.is_from_client { 34 } else { 36 };
-    let [_, _, _, _, _, _, high, low] = packet.payload.saturating_add(40).to_be_bytes();
+    let (end, port, flags, seq, ack, payload) = *packet;
+    let mut heads = if end == Client { UP } else { DOWN };
+    let port_at = if end == Client { 34 } else { 36 };
+    let [_, _, _, _, _, _, high, low] = payload.saturating_add(40).to_be_bytes();
     heads[16] = high;
     heads[17] = low;
-    let [high, low] = packet.port.to_be_bytes();
+    let [high, low] = port.to_be_bytes();
     heads[port_at] = high;
     heads[port_at + 1] = low;
-    let [high, low] = packet.seq.to_be_bytes();
+    let [high, low] = seq.to_be_bytes();
     heads[40] = high;
     heads[41] = low;
-    let [high, low] = packet.ack.to_be_bytes();
+    let [high, low] = ack.to_be_bytes();
     heads[44] = high;
     heads[45] = low;
-    heads[47] = packet.flags;
+    heads[47] = flags;
     heads
 }
 
-// Adds a record: no time, the length twice, heads, payload, padding.
-fn add(bytes: &mut Vec<u8>, packet: &Packet, traffic: &Traffic) -> Result<(), AllocError> {
-    let behind = packet.payload.max(traffic.least);
-    let len = behind.saturating_add(54) as u32;
-    let len = if traffic.is_little {
-        len.to_le_bytes()
+// A length as a record's head has it.
+fn length(form: Form, len: usize) -> [u8; 4] {
+    let [_, _, _, _, a, b, c, d] = len.to_be_bytes();
+    if form == Form::Little {
+        [d, c, b, a]
     } else {
-        len.to_be_bytes()
-    };
+        [a, b, c, d]
+    }
+}
+
+// Adds a record: no time, the length twice, heads, payload, padding.
+fn add(bytes: &mut Vec<u8>, form: Form, packet: &Packet) -> Result<(), AllocError> {
+    let payload = packet.5;
+    let least = if form == Form::Padded { 6 } else { 0 };
+    let behind = payload.max(least);
+    let len = length(form, behind.saturating_add(54));
     bytes.extend_from_slice(&[0; 8])?;
     bytes.extend_from_slice(&len)?;
     bytes.extend_from_slice(&len)?;
     bytes.extend_from_slice(&heads_of(packet))?;
     for at in 0..behind {
-        bytes.push(if at < packet.payload { b'x' } else { 0 })?;
+        bytes.push(if at < payload { b'x' } else { 0 })?;
     }
     Ok(())
 }
 
 fn add_all(bytes: &mut Vec<u8>, traffic: &Traffic) -> Result<(), AllocError> {
-    bytes.extend_from_slice(if traffic.is_little { &LITTLE } else { &BIG })?;
+    let header = if traffic.form == Form::Little {
+        LITTLE
+    } else {
+        BIG
+    };
+    bytes.extend_from_slice(&header)?;
     for packet in traffic.packets {
-        add(bytes, packet, traffic)?;
+        add(bytes, traffic.form, packet)?;
     }
     bytes.extend_from_slice(traffic.tail)
 }

@@ -96,10 +96,7 @@ fn run_case<R: AllocGlobal + Files + Print + Threads + Wait + Sync + Send + Copy
 /// Runs each case of the list. Empty lines and those that begin with `#` are none.
 pub fn run_cases<
     R: AllocGlobal + Files + Print + Threads + Wait + Sync + Send + Copy + Drop + 'static,
->(
-    rt: &R,
-    tally: &mut Tally,
-) -> io::Result<()> {
+>(rt: &R, tally: &mut Tally) -> io::Result<()> {
     let list = fs::read_to_string(rt, "cases")?;
     for line in list.lines() {
         if !line.is_empty() && !line.starts_with('#') {

@@ -120,9 +120,11 @@ fn is_as_wanted(
         return Ok(run.ended.status == 3 && run.out.is_empty() && is_told(&run.err, &line));
     };
     let totals = totals(alloc, front)?;
-    Ok(run.ended.status == 0
-        && run.err.is_empty()
-        && is_report(&run.out, report, fields, front, &totals))
+    Ok(
+        run.ended.status == 0
+            && run.err.is_empty()
+            && is_report(&run.out, report, fields, front, &totals),
+    )
 }
 
 fn run_cut<R: AllocGlobal + Files + Print + Threads + Wait + Sync + Send + Copy + Drop + 'static>(
@@ -147,10 +149,7 @@ fn run_cut<R: AllocGlobal + Files + Print + Threads + Wait + Sync + Send + Copy 
 /// Runs each capture of the list at each of its lengths. Empty lines and those that begin with `#` are none.
 pub fn run_cuts<
     R: AllocGlobal + Files + Print + Threads + Wait + Sync + Send + Copy + Drop + 'static,
->(
-    rt: &R,
-    tally: &mut Tally,
-) -> io::Result<()> {
+>(rt: &R, tally: &mut Tally) -> io::Result<()> {
     let list = fs::read_to_string(rt, "cuts")?;
     for line in list.lines() {
         if !line.is_empty() && !line.starts_with('#') {

@@ -25,14 +25,12 @@ const UNREAD: [(&str, io::ErrorKind, u8, &str); 2] = [
 /// Runs the program over each.
 pub fn run_unread_words<
     R: AllocGlobal + Files + Print + Threads + Wait + Sync + Send + Copy + Drop + 'static,
->(
-    rt: &R,
-    tally: &mut Tally,
-) -> io::Result<()> {
+>(rt: &R, tally: &mut Tally) -> io::Result<()> {
     for (name, kind, status, line) in UNREAD {
         let run = run(rt, Err(io::Error::from(kind)), b"");
-        let is_as_wanted =
-            run.ended.status == status && run.out.is_empty() && is_told(&run.err, line);
+        let is_as_wanted = run.ended.status == status
+            && run.out.is_empty()
+            && is_told(&run.err, line);
         tally.count(rt, name, 0, is_as_wanted)?;
     }
     Ok(())
