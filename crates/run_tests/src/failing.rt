@@ -153,10 +153,7 @@ const FAILING: [(&str, Failing); 12] = [
             words: "--app acct --emit forward",
             traffic: WEB_REQUEST,
             call: Call::Read,
-            left: &[
-                0, 24, 24, 100, 100, 176, 176, 252, 252, 340, 340, 416, 416, 3406, 3406, 3482,
-                3482, 3558, 3558, 3634, 3634, 3710,
-            ],
+            left: WEB_REQUEST_READ,
             whole: Whole::Front(3710),
         },
     ),
@@ -225,6 +222,11 @@ const FAILING: [(&str, Failing); 12] = [
     ),
 ];
 
+const WEB_REQUEST_READ: &[usize] = &[
+    0, 24, 24, 100, 100, 176, 176, 252, 252, 340, 340, 416, 416, 3406, 3406, 3482, 3482, 3558,
+    3558, 3634, 3634, 3710,
+];
+
 const TWO_CLIENTS_READ: &[usize] = &[
     0, 24, 24, 94, 94, 164, 164, 234, 234, 304, 304, 374, 374, 448,
 ];
@@ -233,8 +235,9 @@ const TWO_CLIENTS_WRITTEN: &[usize] = &[
     12, 32, 67, 102, 137, 172, 207, 242, 277, 312, 347, 382, 419,
 ];
 
-// What is written is handed on by one call; so is a forwarded capture, since all of it is at hand.
-const GATHERED: [(&str, Failing); 3] = [
+// What is written is handed on by one call; so is a forwarded capture, since all of it is at hand. What was gathered leaves too where
+// a read fails.
+const GATHERED: [(&str, Failing); 4] = [
     (
         "a report",
         Failing {
@@ -263,6 +266,16 @@ const GATHERED: [(&str, Failing); 3] = [
             call: Call::Write,
             left: &[41],
             whole: Whole::Text(MADE),
+        },
+    ),
+    (
+        "reads of a web request that is forwarded",
+        Failing {
+            words: "--app acct --emit forward",
+            traffic: WEB_REQUEST,
+            call: Call::Read,
+            left: WEB_REQUEST_READ,
+            whole: Whole::Front(3710),
         },
     ),
 ];
@@ -332,14 +345,14 @@ fn hands_on<R: AllocGlobal + Abort + Threads + Wait + Sync + Send + Copy + Drop 
 ) -> bool {
     let capture = capture_of(rt, &failing.traffic);
     let fault = number as u64;
-    let mut source = source(rt, &capture, NEVER);
-    let out = sink(rt, 1024, fails(failing, Call::Write, fault));
+    let mut source = source(rt, &capture, fails(failing, Call::Read, fault));
+    let out = sink(rt, 4096, fails(failing, Call::Write, fault));
     let (run, out) = run_gathering(rt, asked_with(failing, fault), &mut source, out);
     is_left(failing, number, &run, out.bytes(), &capture)
 }
 
 #[test]
-fn the_only_call_that_fails(rt: HostRuntime) {
+fn each_call_of_a_gathered_run_that_fails(rt: HostRuntime) {
     for (name, failing) in &GATHERED {
         for number in 0..=failing.left.len() {
             assert!(rt; hands_on(&rt, failing, number), "{name}, {number}");
