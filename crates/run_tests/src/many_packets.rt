@@ -3,6 +3,7 @@
 use crate::runs::{NEVER, ended_so, in_words, run, sink, source};
 use crate::traffic::BIG;
 use mos_run::OpenGate;
+use std::alloc::{AllocError, Global};
 use std::process::Abort;
 use std::sync::Wait;
 use std::thread::Threads;
@@ -13,12 +14,19 @@ const FIRST: &[u8] = b"orphan 0 other v 0\n";
 
 const LAST: &[u8] = b"\nend packets 1048576 records 1048576 callbacks 1048576 drops 0 tail 0\n";
 
-// The head of a record without data is 16 zero bytes.
+// A header, and so many records without data, whose heads are zero.
+fn empty_records(alloc: Global, count: usize) -> Result<Vec<u8>, AllocError> {
+    let mut bytes = BIG.to_vec(alloc)?;
+    for _ in 0..count {
+        bytes.extend_from_slice(&[0; 16])?;
+    }
+    Ok(bytes)
+}
+
 fn reports_each<R: AllocGlobal + Abort + Threads + Wait + Sync + Send + Copy + Drop + 'static>(
     rt: &R,
 ) -> bool {
-    let mut capture = vec![in rt.alloc(); 0; 24 + 16 * PACKETS].expect(rt, "memory");
-    capture[..24].copy_from_slice(&BIG);
+    let capture = empty_records(rt.alloc(), PACKETS).expect(rt, "memory");
     let mut source = source(rt, &capture, NEVER);
     let mut out = sink(rt, 67_108_864, NEVER);
     let run = run(rt, in_words(""), &mut source, &mut out, &OpenGate);
