@@ -61,18 +61,16 @@ fn front_of(ends: &str, len: usize) -> Option<Front> {
     front
 }
 
-// So many lines of a text, and what stands behind them.
-fn split_lines(text: &[u8], count: usize) -> (&[u8], &[u8]) {
-    let mut lines = 0;
+// So many lines of a text, from its first one.
+fn first_lines(text: &[u8], count: usize) -> &[u8] {
+    let mut lines: usize = 0;
     for (at, byte) in text.iter().enumerate() {
         if lines == count {
-            return text.split_at(at);
+            return text.get(..at).unwrap_or(text);
         }
-        if *byte == b'\n' {
-            lines += 1;
-        }
+        lines = lines.saturating_add(usize::from(*byte == b'\n'));
     }
-    (text, &[])
+    text
 }
 
 fn lines_in(text: &[u8]) -> usize {
@@ -93,7 +91,7 @@ fn totals(alloc: Global, front: Front) -> Result<String, AllocError> {
 // A report of what is whole: lines of the whole report for its record and its callbacks, so many fields, and its totals.
 fn is_report(out: &[u8], report: &[u8], fields: usize, front: Front, totals: &str) -> bool {
     let records = front.packets.min(1);
-    let (lines, _) = split_lines(report, records.saturating_add(front.callbacks));
+    let lines = first_lines(report, records.saturating_add(front.callbacks));
     let Some(behind) = out.strip_prefix(lines) else {
         return false;
     };
