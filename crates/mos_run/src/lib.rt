@@ -22,6 +22,3 @@ pub use run::{Ended, refuse, run_mos};
 pub use single::run_one;
 pub use words::{AppKind, Emit, Name, Settings, WordsError, read_words};
 pub use worker_pool::{Gate, OpenGate, VersionList};
-
-#[cfg(test)]
-mod tests;
