@@ -115,7 +115,7 @@ fn told(alloc: Global, master: &Master, version: u32) -> Result<String, AllocErr
 }
 
 // Whether these are in force at the versions from 0 on.
-fn tells(alloc: Global, master: &Master, lines: &[&str]) -> bool {
+fn tells(alloc: Global, master: &Master, lines: &[&str; 13]) -> bool {
     for (version, line) in lines.iter().enumerate() {
         match told(alloc, master, version as u32) {
             Ok(text) => {
@@ -142,7 +142,7 @@ fn are_numbered(slots: &[Slot], numbers: &[u8]) -> bool {
 fn leaves(
     alloc: Global,
     script: &str,
-    lines: &[&str],
+    lines: &[&str; 13],
     numbers: &[u8],
     rows: usize,
     interns: u64,
