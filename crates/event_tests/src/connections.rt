@@ -419,9 +419,7 @@ fn plays(
                 && follow_all(alloc, terms, table, &mut played, packets);
             let count = played.flow.count;
             let has_room = played.ledger.changes.capacity() >= MOST_CHANGES;
-            has_followed
-                && has_room
-                && is_told(alloc, played, CONNECTION, version, count, report)
+            has_followed && has_room && is_told(alloc, played, CONNECTION, version, count, report)
         }
         Traffic::Orphan => {
             let kind = RecordKind::Orphan {

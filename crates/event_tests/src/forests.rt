@@ -115,16 +115,26 @@ pub fn edited(
     }
 }
 
-/// Whether a tree is the one that is built of its list.
-pub fn is_built(alloc: Global, table: &mut Table, defs: &Defs, forest: &Forest) -> bool {
+// Whether a tree is the one that is built of its list.
+fn is_built(alloc: Global, table: &mut Table, defs: &Defs, forest: &Forest) -> bool {
     match built(alloc, table, defs, forest.list.as_slice()) {
         Some(anew) => anew.shared.row() == forest.shared.row(),
         None => false,
     }
 }
 
-/// The tree with these registrations switched one after the other. Each tree on the way is compared with the one that is
-/// built of its list, after all later ones were made.
+/// Whether each tree is the one that is built of its list.
+pub fn are_built(alloc: Global, table: &mut Table, defs: &Defs, forests: &[Forest]) -> bool {
+    for forest in forests {
+        if !is_built(alloc, table, defs, forest) {
+            return false;
+        }
+    }
+    true
+}
+
+/// The tree with these registrations switched one after the other. Those before it are added to `made`, so that they can
+/// be looked at again after all later ones were made.
 pub fn switched(
     alloc: Global,
     table: &mut Table,
@@ -132,6 +142,7 @@ pub fn switched(
     forest: Forest,
     regs: &[Reg],
     on: bool,
+    made: &mut Vec<Forest>,
 ) -> Option<Forest>
     requires answered { HasRow table.old forest.shared }
     requires forest { IsForestOf defs.now forest.list (listing (tree_at table.old forest.shared)) }
@@ -142,10 +153,8 @@ pub fn switched(
         return Some(forest);
     };
     let changed = edited(alloc, table, defs, &forest, reg, on)?;
-    let last = switched(alloc, table, defs, changed, rest, on)?;
-    if is_built(alloc, table, defs, &forest) {
-        Some(last)
-    } else {
-        None
+    if made.push(forest).is_err() {
+        return None;
     }
+    switched(alloc, table, defs, changed, rest, on, made)
 }

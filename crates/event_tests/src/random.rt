@@ -3,7 +3,7 @@
 ghost use Rattle.std.specs.Prelude.{◌≤◌, length, IfSome};
 
 use crate::definitions::define;
-use crate::forests::{built, switched};
+use crate::forests::{are_built, built, switched};
 use crate::natives::is_true;
 use crate::walks::{facts_of, gives};
 use app_api::{END, PKT_IN, Reg, START};
@@ -219,15 +219,17 @@ fn edits_agree(alloc: Global, defs: &Defs, regs: &[Reg], len: u64, cut: u8) -> b
     let Some(empty) = built(alloc, &mut table, defs, &[]) else {
         return false;
     };
-    let Some(full) = switched(alloc, &mut table, defs, empty, regs, true) else {
+    let mut made = Vec::new(alloc);
+    let Some(full) = switched(alloc, &mut table, defs, empty, regs, true, &mut made) else {
         return false;
     };
     let reached = full.shared.row();
     let (first, rest) = regs.split_at(usize::from(cut) % (regs.len() + 1));
-    match switched(alloc, &mut table, defs, full, first, false) {
+    match switched(alloc, &mut table, defs, full, first, false, &mut made) {
         Some(fewer) => {
             row_of(alloc, &mut table, defs, regs, len) == Some(reached)
                 && row_of(alloc, &mut table, defs, rest, len) == Some(fewer.shared.row())
+                && are_built(alloc, &mut table, defs, &made)
         }
         None => false,
     }

@@ -24,6 +24,11 @@ fn user_is_handed_over<R: Wait + Send + Sync + Drop>(_: R) -> bool {
     is_handed_over::<StoreUser<R>>()
 }
 
+// What is in force may be handed to a thread.
+fn master_is_handed_over() -> bool {
+    is_handed_over::<Master>()
+}
+
 #[test]
 fn threads_share_and_hand_over(rt: HostRuntime) {
     let rows = [
@@ -36,7 +41,7 @@ fn threads_share_and_hand_over(rt: HostRuntime) {
         ("Defs", is_shared::<Defs>()),
         ("Command", is_shared::<Command>()),
         ("Stamp", is_shared::<Stamp>()),
-        ("Master", is_handed_over::<Master>()),
+        ("Master", master_is_handed_over()),
         ("Script", is_shared::<Script>()),
         ("AcctApp", is_shared::<AcctApp>()),
         ("RexmitApp", is_shared::<RexmitApp>()),

@@ -1,7 +1,7 @@
 //! Trees by hand, by `build` and by `edit`s.
 
 use crate::definitions::{CHAIN, EventRow, FAMILY, define_all};
-use crate::forests::{built, edited, switched};
+use crate::forests::{are_built, built, edited, switched};
 use app_api::{END, PKT_IN, Reg};
 use event_trees::Defs;
 use native_filters::Hook::{self, Rcv, Snd};
@@ -134,12 +134,15 @@ fn edits_lead_to(alloc: Global, table: &mut Table, defs: &Defs, regs: &[Reg], ro
         return false;
     };
     let none = empty.shared.row();
-    let Some(full) = switched(alloc, table, defs, empty, regs, true) else {
+    let mut made = Vec::new(alloc);
+    let Some(full) = switched(alloc, table, defs, empty, regs, true, &mut made) else {
         return false;
     };
     let reached = full.shared.row();
-    match switched(alloc, table, defs, full, regs, false) {
-        Some(off) => reached == row && off.shared.row() == none,
+    match switched(alloc, table, defs, full, regs, false, &mut made) {
+        Some(off) => {
+            reached == row && off.shared.row() == none && are_built(alloc, table, defs, &made)
+        }
         None => false,
     }
 }
