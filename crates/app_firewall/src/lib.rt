@@ -8,6 +8,3 @@ mod laws;
 pub use decision::decide;
 pub use firewall::FirewallApp;
 pub use laws::{allow_any_refuses_no_connection, covered_rule_never_decides};
-
-#[cfg(test)]
-mod tests;

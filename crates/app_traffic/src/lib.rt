@@ -9,6 +9,3 @@ mod rexmit;
 pub use acct::AcctApp;
 pub use laws::{accounts_of_the_calls, retransmissions_of_the_calls};
 pub use rexmit::RexmitApp;
-
-#[cfg(test)]
-mod tests;

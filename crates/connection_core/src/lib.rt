@@ -20,6 +20,3 @@ pub use ledger::{Counts, Ledger, Notes};
 pub use moment::Arrived;
 pub use orphan::lone;
 pub use terms::Terms;
-
-#[cfg(test)]
-mod tests;

@@ -14,8 +14,6 @@ mod registrations;
 mod script;
 mod settings;
 mod stamped;
-#[cfg(test)]
-mod tests;
 mod words;
 
 pub use error::ScriptError;

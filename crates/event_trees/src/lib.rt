@@ -12,8 +12,6 @@ mod place;
 mod placed;
 mod private;
 mod remove;
-#[cfg(test)]
-mod tests;
 mod walk;
 
 pub use defs::{Defs, EventDef};

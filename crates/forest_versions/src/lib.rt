@@ -9,8 +9,6 @@ mod past;
 mod ranges;
 mod refusal;
 mod rules;
-#[cfg(test)]
-mod tests;
 mod timeline;
 mod trees;
 

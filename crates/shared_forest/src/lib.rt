@@ -17,6 +17,3 @@ pub use store::{ForestView, Forests, Shared};
 pub use store_user::StoreUser;
 pub use table::Table;
 pub use tree::Tree;
-
-#[cfg(test)]
-mod tests;

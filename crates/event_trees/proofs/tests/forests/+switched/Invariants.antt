@@ -1,5 +1,0 @@
-use Rattle.std.proofs.Common.{length}
-use Rattle.event_trees.proofs.tests.forests.+switched.Given as goal
-
-abbrev pub decreases-switched : goal.decreases-switched
-decreases-switched l = length l.regs.now
