@@ -17,18 +17,6 @@ use std::rt::Files;
 use std::sync::Wait;
 use std::thread::Threads;
 
-// The functions of the six native filters.
-fn natives() -> NativeBook {
-    NativeBook::new(
-        Native::new(0, is_opening),
-        Native::new(1, has_system_port),
-        Native::new(2, is_private_traffic),
-        Native::new(3, is_keep_alive),
-        Native::new(4, is_ending),
-        Native::new(5, has_differing_bytes),
-    )
-}
-
 // Words that can't be read: one that is no text is a refused word, and else memory was refused.
 fn words_refusal(error: &io::Error) -> RunError {
     match error.kind() {
@@ -47,6 +35,14 @@ pub fn run_program<
 >(rt: R, words: io::Result<Vec<String>>, input: I, out: O, err: E) -> Ended {
     let alloc = rt.alloc();
     let mut err = WriteSink::new(err);
+    let natives = NativeBook::new(
+        Native::new(0, is_opening),
+        Native::new(1, has_system_port),
+        Native::new(2, is_private_traffic),
+        Native::new(3, is_keep_alive),
+        Native::new(4, is_ending),
+        Native::new(5, has_differing_bytes),
+    );
     match words {
         Ok(words) => {
             run_gathered(
@@ -57,7 +53,7 @@ pub fn run_program<
                 &mut FolderShelf::new(rt),
                 WriteSink::new(out),
                 &mut err,
-                &natives(),
+                &natives,
                 &OpenGate,
             )
             .ended
