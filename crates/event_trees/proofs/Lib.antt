@@ -1,7 +1,6 @@
 pub mod Built
 pub mod CanonFrom
 pub mod EditLaw
-pub mod EditSteps
 pub mod Firing
 pub mod Growth
 pub mod InOrder
@@ -12,14 +11,12 @@ pub mod InsertPaths
 pub mod InsertTree
 pub mod InsertPacked
 pub mod Later
-pub mod Lists
 pub mod Needed
 pub mod NodeSteps
 pub mod Order
 pub mod Paths
 pub mod Places
 pub mod Privates
-pub mod ReadOffs
 pub mod Reach
 pub mod Reaching
 pub mod RemoveLaid

@@ -1,6 +1,6 @@
 //! The events from a root down to an event, in a form that is copied.
 
-ghost use Rattle.std.specs.Prelude.{◌≡◌, ◌≤◌, ◌++◌, [], ◌∷◌, length, take};
+ghost use Rattle.std.specs.Prelude.{◌≡◌, ◌≤◌, ◌++◌, [], ◌∷◌, length};
 
 /// The most events on a path, the root and the event itself included.
 const LONGEST: usize = 8;
@@ -35,17 +35,6 @@ impl EventPath {
         longer.events[self.count as usize] = event;
         longer.count += 1;
         longer
-    }
-
-    /// The path of the event so many events down.
-    pub fn cut(&self, count: u8) -> EventPath
-        requires { count ≤ length (path_of self.now) }
-        ensures { path_of result ≡ take count (path_of self.now) }
-    {
-        EventPath {
-            events: self.events,
-            count,
-        }
     }
 
     /// The events, the root first.

@@ -73,8 +73,8 @@ fn have_events(defs: &Defs, list: &[Reg]) -> bool
     true
 }
 
-/// Whether a registration has this number.
-pub(crate) fn has_number(list: &[Reg], number: u8) -> bool
+// Whether a registration has this number.
+fn has_number(list: &[Reg], number: u8) -> bool
     ensures { result ≡ list_any (eqb number) (numbers_of list.now) }
 {
     for reg in list {
