@@ -17,10 +17,9 @@ allow_any number = record {
   high = 65535;
 }
 
--- whether addresses and ports are as wide as those of IPv4 and TCP
-abbrev pub is_of_headers : Facts → Bool
-is_of_headers facts =
-    nat_lt facts.src (2 ^ 32) && nat_lt facts.dst (2 ^ 32) && nat_lt facts.sport (2 ^ 16) && nat_lt facts.dport (2 ^ 16)
+-- whether ports are as wide as those of TCP
+abbrev pub has_tcp_ports : Facts → Bool
+has_tcp_ports facts = nat_lt facts.sport (2 ^ 16) && nat_lt facts.dport (2 ^ 16)
 
 -- that a rule matches whatever another matches
 abbrev pub Covers : Rule → Rule → Type 0

@@ -4,7 +4,7 @@ ghost use Rattle.std.specs.Prelude.{◌≡◌, ℕ, ◌<◌, ◌≤◌, All, Any
 ghost use Rattle.std.specs.Option.{option_copied};
 ghost use Rattle.native_filters.specs.Native.{in_net};
 ghost use Rattle.app_api.specs.App.{are_rules};
-ghost use Rattle.app_firewall.specs.Decision.{decided_by, decision, matches};
+ghost use Rattle.app_firewall.specs.Decision.{is_in, decided_by, decision, matches};
 
 use app_api::Rule;
 use native_filters::Facts;
@@ -50,8 +50,15 @@ fn matches(rule: &Rule, facts: &Facts) -> bool
         && port <= u64::from(rule.high)
 }
 
-// Whether an IPv4 address agrees with a net in its first `length` bits. A length over 32 counts as 32.
+// Whether an address lies in a net: each in one of length 0.
 fn is_in_net(addr: u64, net: u32, length: u8) -> bool
+    ensures { result ≡ is_in addr net length }
+{
+    length == 0 || agrees(addr, net, length)
+}
+
+// Whether an IPv4 address agrees with a net in its first `length` bits. A length over 32 counts as 32.
+fn agrees(addr: u64, net: u32, length: u8) -> bool
     ensures { result ≡ in_net addr net length }
 {
     let rest = u32::from(32u8.saturating_sub(length));

@@ -8,14 +8,14 @@ ghost use Rattle.app_api.specs.declared.rule.Rule.{Rule as RuleOf};
 ghost use Rattle.app_api.specs.App.{are_rules};
 ghost use Rattle.app_firewall.specs.Decision.{decision};
 ghost use Rattle.app_firewall.specs.Firewall.{firewall, is_refused_orphan};
-ghost use Rattle.app_firewall.specs.Laws.{allow_any, is_of_headers, Covers};
+ghost use Rattle.app_firewall.specs.Laws.{allow_any, has_tcp_ports, Covers};
 
 /// With the single rule `allow any any any` no reaction of the firewall asks a drop, whatever it has counted before,
-/// but for that to an orphan whose class isn't other: rules don't speak of orphans. Addresses are below 2^32 and
-/// ports below 2^16, as those of headers are.
+/// but for that to an orphan whose class isn't other: rules don't speak of orphans. Ports are below 2^16, as those of
+/// headers are.
 pub fn allow_any_refuses_no_connection()
     ensures { (number : ℕ) (t : TallyOf) (call : CallOf)
-        → IsTrue (is_of_headers call.facts) → is_refused_orphan call ≡ false
+        → IsTrue (has_tcp_ports call.facts) → is_refused_orphan call ≡ false
         → (firewall.react t call (allow_any number ∷ [])).1.drop ≡ None }
 {}
 
