@@ -43,9 +43,9 @@ noted_at (Some noted) d h =
 same_number : (n : ℕ) → (n == n) ≡ true
 same_number n = grind (arith, nat_tests)
 
-none_of_none : (test : Deadline → Bool) (ds : List Deadline) → (0 < length ds → ⊥) → list_any test ds ≡ false
+none_of_none : (test : Deadline → Bool) (ds : List Deadline) → length ds ≡ 0 → list_any test ds ≡ false
 none_of_none test [] none = refl
-none_of_none test (d ∷ ds) none = absurd (none (omega arith))
+none_of_none test (d ∷ ds) none = absurd (omega (arith, none))
 
 -- a book of notes, with the names and the deadlines that it keeps
 module _ (noted : BTreeMap ℕ Noted) (kept : BTreeSet Deadline) (inside : AreDeadlines noted kept) (notes : Notes) (seen : map.from_entries noted.entries ≡ notes) where
@@ -67,7 +67,7 @@ module _ (noted : BTreeMap ℕ Noted) (kept : BTreeSet Deadline) (inside : AreDe
       by (Some b) e = past (deadline_of name b) (kept_for name b e)
 
   -- no deadline, and no name that is idle
-  pub none_kept : (now : Moment) → (0 < btree_set_len kept → ⊥) → (name : ℕ) → is_idle_in notes now name ≡ false
+  pub none_kept : (now : Moment) → btree_set_len kept ≡ 0 → (name : ℕ) → is_idle_in notes now name ≡ false
   none_kept now none = none_idle_if now (λ d there. absurd (true≢false (sym there ∙ none_of_none (is_at (order d)) kept.keys none)))
 
   module _ (now : Moment) (first : Deadline) where

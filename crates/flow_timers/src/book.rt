@@ -4,7 +4,7 @@ ghost use Rattle.std.specs.Prelude.{◌≡◌, ℕ, ◌+◌, ◌↔◌, None, So
 ghost use Rattle.std.specs.FinMap as map;
 ghost use Rattle.flow_timers.specs.Notes.{Notes, is_idle_in, IsLeast};
 
-use crate::deadline::{Deadline, take_old};
+use crate::deadline::{Deadline, first_of, take_old};
 use crate::moment::Moment;
 use std::alloc::{AllocError, Global};
 use std::collections::{BTreeMap, BTreeSet};
@@ -92,7 +92,7 @@ impl IdleBook {
         ensures none { IsNone result ↔ ((name : ℕ) → is_idle_in self.old now name ≡ false) }
         ensures unchanged { IfNone result (self.new ≡ self.old) }
     {
-        let first = *self.deadlines.first()?;
+        let first = first_of(&self.deadlines)?;
         if !first.has_passed(now) {
             return None;
         }

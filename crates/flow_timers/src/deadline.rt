@@ -1,7 +1,7 @@
 //! Deadlines, in the order in which they pass.
 
-ghost use Rattle.std.specs.Prelude.{◌≡◌, ◌&&◌, not, false, if◌then◌else◌};
-ghost use Rattle.std.specs.BTreeSet.{contains};
+ghost use Rattle.std.specs.Prelude.{◌≡◌, ◌&&◌, not, true, false, if◌then◌else◌, IfSome, IfNone};
+ghost use Rattle.std.specs.BTreeSet.{contains, btree_set_len, IsLowerBound};
 ghost use Rattle.std.specs.Ordering.{eq_by_cmp};
 ghost use Rattle.flow_timers.specs.Moments.{comes_after};
 
@@ -38,6 +38,15 @@ impl Deadline {
 }
 
 ghost use Rattle.flow_timers.specs.Deadlines.{order};
+
+/// The deadline that passes first.
+pub(crate) fn first_of(deadlines: &BTreeSet<Deadline>) -> Option<Deadline>
+    ensures member { IfSome result (λ d. contains order deadlines.now d ≡ true) }
+    ensures least { IfSome result (IsLowerBound order deadlines.now) }
+    ensures none { IfNone result (btree_set_len deadlines.now ≡ 0) }
+{
+    Some(*deadlines.first()?)
+}
 
 /// Takes the deadline that a name had away, unless it is also the one that the name has now.
 pub(crate) fn take_old(deadlines: &mut BTreeSet<Deadline>, old: Deadline, new: Deadline)
