@@ -1,5 +1,5 @@
 -- The first deadline of a book, and what it says of each name.
-use Rattle.std.proofs.Common.{◌≡◌, ◌==◌, ◌&&◌, ◌||◌, ◌<◌, ℕ, Bool, true, false, refl, sym, ap, subst, ◌∙◌, true≢false, nat_lt, Option, None, Some, List, [], ◌∷◌, length, arith}
+use Rattle.std.proofs.Common.{◌≡◌, ◌==◌, ◌&&◌, ◌<◌, ℕ, Bool, true, false, refl, sym, ap, ◌∙◌, true≢false, Option, None, Some, List, [], ◌∷◌, length, arith}
 use Rattle.std.specs.declared.cmp.Ordering.{Ordering}
 use Rattle.std.specs.declared.cmp.Ordering.TheVariants.{Less, Equal, Greater}
 use Rattle.std.specs.Ordering.{nat_cmp, ordering_then, is_gt}
@@ -89,7 +89,10 @@ module _ (noted : BTreeMap ℕ Noted) (kept : BTreeSet Deadline) (inside : AreDe
 
     pub first_least : contains order kept first ≡ true → IsLowerBound order kept first → IsLeast notes first.name
     first_least there least =
-        let n = noted_first there in
-        (n.0, found first.name ∙ n.1, λ other b e.
-        ap (λ (d : Deadline). is_gt (order d (deadline_of other b))) (sym n.2)
-        ∙ least (deadline_of other b) (kept_for other b (sym (found other) ∙ e)))
+        let n = noted_first there in (
+          n.0,
+          found first.name ∙ n.1,
+          λ other b e.
+              ap (λ (d : Deadline). is_gt (order d (deadline_of other b))) (sym n.2)
+              ∙ least (deadline_of other b) (kept_for other b (sym (found other) ∙ e)),
+        )

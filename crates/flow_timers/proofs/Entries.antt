@@ -8,7 +8,6 @@ use Rattle.std.proofs.lemmas.Cmp.{eq_by_cmp_equiv}
 use Rattle.std.specs.BTreeMap.{BTreeMap, get, is_at}
 use Rattle.std.specs.Map.{lookup}
 use Rattle.flow_timers.specs.declared.book.Noted.{Noted}
-use Rattle.flow_timers.specs.Notes.{Notes}
 
 tied : (a b : ℕ) → eq_by_cmp nat_cmp a b ≡ eq_by_cmp nat_cmp b a
 tied a b = (eq_by_cmp_equiv nat_cmp_total).symm a b

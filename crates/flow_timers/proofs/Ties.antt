@@ -1,5 +1,5 @@
 -- Which deadline a name has after a change.
-use Rattle.std.proofs.Common.{◌≡◌, ◌==◌, ◌&&◌, not, ℕ, Bool, true, false, cond, refl, sym, ap, subst, ◌∙◌, true≢false, Option, None, Some, arith}
+use Rattle.std.proofs.Common.{◌≡◌, ◌==◌, ◌&&◌, not, ℕ, Bool, true, false, cond, refl, sym, ap, subst, ◌∙◌, Option, None, Some, arith}
 use Rattle.std.specs.declared.cmp.Ordering.{Ordering}
 use Rattle.std.specs.declared.cmp.Ordering.TheVariants.{Less, Equal, Greater}
 use Rattle.std.specs.Ordering.{nat_cmp, ordering_then, eq_by_cmp, is_eq}
@@ -82,8 +82,8 @@ pub replaced : (f g : ℕ → Option Noted) (name : ℕ) (before after : Noted) 
     → g d.name ≡ cond (eq_by_cmp nat_cmp name d.name) (Some after) (f d.name)
     → kept ≡ is_deadline d (f d.name)
     → cond (eq_by_cmp order (deadline_of name before) d && not (eq_by_cmp order (deadline_of name after) d)) false
-        (cond (eq_by_cmp order (deadline_of name after) d) true kept)
-      ≡ is_deadline d (g d.name)
+    (cond (eq_by_cmp order (deadline_of name after) d) true kept)
+    ≡ is_deadline d (g d.name)
 replaced f g name before after d kept was now is = either name d.name
     (λ differ.
     (λ i. cond (apart name before d differ i && not (apart name after d differ i)) false (cond (apart name after d differ i) true kept))
@@ -93,9 +93,11 @@ replaced f g name before after d kept was now is = either name d.name
     G : ℕ → Type 0
     G n = cond (eq_by_cmp order (deadline_of n before) d && not (eq_by_cmp order (deadline_of n after) d)) false
         (cond (eq_by_cmp order (deadline_of n after) d) true kept)
-      ≡ is_deadline d (g d.name)
+        ≡ is_deadline d (g d.name)
+
     P : ℕ → Type 0
     P n = n ≡ d.name → f n ≡ Some before → g d.name ≡ cond (eq_by_cmp nat_cmp n d.name) (Some after) (f d.name) → G n
+
     at_name : P d.name
     at_name e was_here now_here =
         (λ i. cond (together before d i && not (together after d i)) false (cond (together after d i) true ((is ∙ ap (is_deadline d) was_here) i)))
