@@ -1,4 +1,5 @@
-//! Tests of packets, ends, streams and sockets, and of the events, registrations and native filters above them.
+//! Tests of packets, ends, streams and sockets, of the events, registrations and native filters above them, and of
+//! idle connections.
 #![tactic(auto)]
 
 #[cfg(test)]
@@ -13,6 +14,8 @@ mod events;
 mod filters;
 #[cfg(test)]
 mod frames;
+#[cfg(test)]
+mod idle;
 #[cfg(test)]
 mod sockets;
 #[cfg(test)]
