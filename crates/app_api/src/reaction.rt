@@ -18,7 +18,7 @@ pub enum Reason {
 pub struct Reaction {
     /// Whether the packet is dropped, and why.
     pub drop: Option<Reason>,
-    /// The changes that are made at the end of the phase.
+    /// The changes that are made at the end of the raise in which they are asked.
     pub changes: Changes,
 }
 

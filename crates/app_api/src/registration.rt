@@ -21,7 +21,7 @@ pub enum PeekSpec {
 pub struct Action {
     /// Whether the packet is dropped. Only a registration at the sender's side may ask it.
     pub drop: bool,
-    /// The changes that are made at the end of the phase.
+    /// The changes that are made at the end of the raise in which they are asked.
     pub changes: Changes,
 }
 

@@ -10,6 +10,6 @@ pub mod packet;
 pub mod view;
 
 pub use classify::view_of;
-pub use options::window_scale;
+pub use options::{scale_in, window_scale};
 pub use packet::{ACK, Class, FIN, Head, RST, SYN};
 pub use view::{TcpView, View};

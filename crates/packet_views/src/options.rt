@@ -27,7 +27,8 @@ pub fn window_scale(segment: &TcpView<'_>) -> Option<u8>
     scale_in(segment.options())
 }
 
-fn scale_in(options: &[u8]) -> Option<u8>
+/// The same by the options alone: the bytes between the fixed part of a TCP header and the payload.
+pub fn scale_in(options: &[u8]) -> Option<u8>
     ensures shift { result ≡ scale_after 0 options.now }
     ensures bound { IfSome result (λ shift. shift ≤ 14) }
 {
