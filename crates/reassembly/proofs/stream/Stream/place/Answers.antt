@@ -1,4 +1,4 @@
-use Rattle.std.proofs.Common.{◌≡◌, ◌∙◌, ◌+◌, ◌+ℤ◌, ℤ, pos, ap, subst, to_z-of_z}
+use Rattle.std.proofs.Common.{◌≡◌, ◌∙◌, ◌+◌, ◌≤◌, ◌+ℤ◌, ℤ, pos, ap, sym, subst, to_z-of_z}
 use Rattle.reassembly.specs.declared.answers.Placed.{Placed}
 use Rattle.reassembly.specs.Receiver.{next_of, wide_of}
 use Rattle.reassembly.specs.Segment.{accept, counts, from_zero, below_zero}
@@ -11,10 +11,21 @@ pub place-requires-clause-order : goal.place-requires-clause-order
 place-requires-clause-order c = rw c.limit-limit.ensures (next_limit _ _ _ _ c.self.invariant)
 
 pub place-requires-clause-window : goal.place-requires-clause-window
-place-requires-clause-window c = rw c.limit-limit.ensures (limit_within _ _ _ _ c.requires.wide)
+place-requires-clause-window c = rw c.limit-limit.ensures (limit_within _ _ _ _ (subst (λ (k : StreamView). c.args.wide ≤ k.rbuf) (sym c.self.view_is) c.requires.wide))
 
 pub invariant_of-self : goal.invariant_of-self
 invariant_of-self c = whole_same _ _ _ _ c.in_err-placed.ensures.err c.self.invariant
+
+pub invariant_of-self-2 : goal.invariant_of-self-2
+invariant_of-self-2 c =
+    let old = c.self.invariant in
+    record {
+      laid = c.in_ok-placed.ensures.laid;
+      sized = c.in_ok-placed.ensures.sized;
+      least = old.least;
+      most = old.most;
+      fin = λ f e. c.in_ok-placed.ensures.bounded f (rw c.limit-limit.ensures (limit_fin _ _ _ f e)) (old.fin f e);
+    }
 
 -- a signed argument stands in a call's clause as its bits
 begins : (c : goal.After-struct_known-1) → c.start_of-start.result.position ≡ from_zero (pos c.self.inside.window.next +ℤ c.args.d)
