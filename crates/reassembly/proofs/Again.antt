@@ -1,6 +1,6 @@
 -- Bytes that come again past the limit, over the buffer in which others of their segment were taken.
-use Rattle.std.proofs.Common.{◌≡◌, ◌⊎◌, ℕ, ◌+◌, ◌-◌, ◌<◌, ◌≤◌, min, max, Bool, true, false, cond, not, ◌&&◌, ◌||◌, refl, ap, ap₂, sym, ◌∙◌, arith, List, Some, None, is_some, length, take, drop, slice_index, eqb, leb, ltb, le-ltb, Option, ⊎_elim}
-use Rattle.std.proofs.lemmas.Bool.{cond-true, cases_Bool}
+use Rattle.std.proofs.Common.{◌≡◌, ◌⊎◌, ℕ, ◌+◌, ◌-◌, ◌<◌, ◌≤◌, min, max, Bool, true, false, cond, not, ◌&&◌, refl, ap, ap₂, sym, ◌∙◌, arith, List, Some, None, is_some, length, take, drop, slice_index, eqb, leb, ltb, le-ltb, Option, ⊎_elim}
+use Rattle.std.proofs.lemmas.Bool.{cond-true}
 use Rattle.reassembly.specs.declared.answers.Policy.{Policy}
 use Rattle.reassembly.specs.declared.laying.Tally.{Tally}
 use Rattle.reassembly.specs.declared.runs.Run.{Run}

@@ -3,7 +3,6 @@
 use Rattle.std.proofs.Common.{◌≡◌, ℕ, ◌+◌, ◌-◌, ◌<◌, ◌≤◌, min, max, Bool, true, false, cond, not, ◌&&◌, ◌||◌, refl, ap, ap₂, ◌∙◌, sym, arith, List, Option, Some, None, is_some, length, slice_index, take, drop, leb, ltb, eqb, le-leb, lt-ltb, le-ltb, ltb-true, leb-true, ◌⊎◌, ⊎_elim, inl, inr, get_or-take, get_or-drop, length-take-le}
 use Rattle.std.proofs.lemmas.Bool.{cases_lt, lt-leb, and_right, and_from, and_parts, cases_Bool, cond-true, cond-false, false_from_ne_true, both_ways}
 use Rattle.reassembly.specs.declared.answers.Policy.{Policy}
-use Rattle.reassembly.specs.declared.answers.Placed.{Placed}
 use Rattle.reassembly.specs.declared.laying.Tally.{Tally}
 use Rattle.reassembly.specs.declared.runs.Run.{Run}
 use Rattle.reassembly.specs.declared.window.Window.{Window}

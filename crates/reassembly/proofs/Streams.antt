@@ -12,9 +12,7 @@ use Rattle.reassembly.specs.Receiver.{Receiver, held, next_of, kept, low_of, wid
 use Rattle.reassembly.specs.Segment.{accept, accept_at, counts, counts_at, from_zero, below_zero}
 use Rattle.reassembly.specs.View.{StandsFor}
 use Rattle.reassembly.specs.Steps.{StepsTo, counts_viewed}
-use Rattle.reassembly.specs.Runs.{run_at}
-use Rattle.reassembly.specs.Window.{view_of, IsBounded, IsWhole, IsSameWindow}
-use Rattle.reassembly.specs.Waiting.{runs_of}
+use Rattle.reassembly.specs.Window.{view_of, IsWhole, IsSameWindow}
 use Rattle.reassembly.proofs.Cells.{below_next}
 use Rattle.reassembly.proofs.Laws.{IsLimitOf, stands_after, counts_stand}
 

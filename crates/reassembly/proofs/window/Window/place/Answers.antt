@@ -1,4 +1,4 @@
-use Rattle.std.proofs.Common.{◌≡◌, ℕ, ◌+◌, ◌-◌, ◌<◌, ◌≤◌, arith, ap, ◌∙◌, length, take, drop}
+use Rattle.std.proofs.Common.{◌≡◌, ℕ, ◌+◌, ◌-◌, ◌≤◌, arith, ap, ◌∙◌, length, take, drop}
 use Rattle.reassembly.specs.Runs.{run_at, is_covered}
 use Rattle.reassembly.specs.Waiting.{runs_of}
 use Rattle.reassembly.specs.Window.{IsBounded, cell_at, taken_cell, again_cell, taken_tally}
