@@ -9,7 +9,7 @@ use Rattle.reassembly.specs.Runs.{is_accepted, is_covered}
 use Rattle.reassembly.specs.Segment.{is_last}
 use Rattle.reassembly.specs.Pages.{IsGrown, tally_in}
 use Rattle.reassembly.specs.Waiting.{runs_of, IsMet}
-use Rattle.reassembly.specs.Window.{byte_at, cell_at, IsBounded, taken_cell, taken_tally}
+use Rattle.reassembly.specs.Window.{byte_at, cell_at, IsBounded, HaveAccepted, taken_cell, taken_tally}
 use Rattle.reassembly.proofs.Counts.{count_below-same, count_below-le}
 use Rattle.reassembly.proofs.Laid.{IsFew, tally_is, length-part}
 use Rattle.reassembly.proofs.Taken.{accepted_from_next, met_covered}
@@ -87,7 +87,7 @@ covered_again old mid met low high h p from below = ⊎_elim
     h.meets
 
 -- the runs that were met still cover what is accepted
-pub accepted_again : (old mid : Window) (met : List Run) (low high : ℕ) → IsAgain old mid met low high → (p : ℕ) → low ≤ p → p < high → is_covered met p ≡ is_accepted mid.next (runs_of mid.runs) p
+pub accepted_again : (old mid : Window) (met : List Run) (low high : ℕ) → IsAgain old mid met low high → HaveAccepted mid met low high
 accepted_again old mid met low high h p from below =
     let next : old.next ≤ low = h.next (omega arith) in
     covered_again old mid met low high h p from below ∙ sym (accepted_from_next old.next (runs_of old.runs) p (omega arith)) ∙ sym (accepted_alike mid old p (h.same p from below))
@@ -113,4 +113,5 @@ tally_again old mid met low high bytes len h =
     (λ i. is_covered met (low + i) && not (eqb (byte_at mid (low + i)) (slice_index bytes i)))
     (λ i. is_covered runs (low + i) && not (eqb (byte_at old (low + i)) (slice_index bytes i)))
     (length bytes)
-    (λ i l. ap (λ b. b && not (eqb (byte_at mid (low + i)) (slice_index bytes i))) (same i l) ∙ only_covered (is_covered runs (low + i)) (byte_at mid (low + i)) (byte_at old (low + i)) (slice_index bytes i) (byte i l)))
+    (λ i l. ap (λ b. b && not (eqb (byte_at mid (low + i)) (slice_index bytes i))) (same i l)
+    ∙ only_covered (is_covered runs (low + i)) (byte_at mid (low + i)) (byte_at old (low + i)) (slice_index bytes i) (byte i l)))

@@ -102,7 +102,8 @@ pub record IsCut (next limit end start n m k j : ℕ) : Type 0 where
   pub reach : j ≡ max k (min (end - start) n)
   pub order : next ≤ limit
 
-pub cut_at : (next limit end start n m k j r : ℕ) → m ≡ min (next - start) n → k ≡ min (limit - start) n → r ≡ min (end - start) n → j ≡ max k r → next ≤ limit → IsCut next limit end start n m k j
+pub cut_at : (next limit end start n m k j r : ℕ) → m ≡ min (next - start) n → k ≡ min (limit - start) n
+    → r ≡ min (end - start) n → j ≡ max k r → next ≤ limit → IsCut next limit end start n m k j
 cut_at next limit end start n m k j r below within under reach order = record { below = below; within = within; reach = reach ∙ ap (max k) under; order = order }
 
 -- the bytes that are taken end at the limit or below it
@@ -266,7 +267,8 @@ differs_above next rbuf p byte b false l = refl
 pub counts_placed : (w : Window) (fin : Option ℕ) (rbuf limit end start m k j : ℕ) (segment : List ℕ) → IsLaid w → IsBounded w end → IsCut w.next limit end start (length segment) m k j
     → (tally again : Tally) (below : ℕ) → tally ≡ taken_tally w (start + m) (take (k - m) (drop m segment)) → again ≡ taken_tally w (start + k) (take (j - k) (drop k segment))
     → below ≡ differing_below w rbuf start (take m segment)
-    → record { new = tally.new; old = m + tally.old + again.old; differ = below + tally.differ + again.differ; over = length segment - j + again.new } ≡ counts_viewed (view_of w fin rbuf) limit start segment
+    → record { new = tally.new; old = m + tally.old + again.old; differ = below + tally.differ + again.differ; over = length segment - j + again.new }
+    ≡ counts_viewed (view_of w fin rbuf) limit start segment
 counts_placed w fin rbuf limit end start m k j segment laid bounded cut tally again below told_tally told_again told_below =
     let n = length segment in
     let next = w.next in
@@ -295,7 +297,8 @@ counts_placed w fin rbuf limit end start m k j segment laid bounded cut tally ag
     let some2 : (i : ℕ) → i < k - m → is_some (cell (start + (m + i))) ≡ covered i = λ i l. ap is_some (cell2 i l) ∙ some_of_cond (covered i) (byte_at w (low + i)) in
     let some3 : (i : ℕ) → i < j - k → is_some (cell (start + (k + i))) ≡ covered2 i = λ i l. ap is_some (cell3 i l) ∙ some_of_cond (covered2 i) (byte_at w (low2 + i)) in
     let cell4 : (i : ℕ) → i < n - j → cell (start + (j + i)) ≡ None = λ i l.
-    seen (start + (j + i)) ∙ kept_cell w rbuf (start + (j + i)) (omega arith) ∙ ap (λ b. cond b (Some (byte_at w (start + (j + i)))) None) (bounded_cell w end (start + (j + i)) bounded (omega arith)) in
+    seen (start + (j + i)) ∙ kept_cell w rbuf (start + (j + i)) (omega arith)
+    ∙ ap (λ b. cond b (Some (byte_at w (start + (j + i)))) None) (bounded_cell w end (start + (j + i)) bounded (omega arith)) in
     let new_ : ℕ → Bool = λ i. is_new next limit (start + i) (cell (start + i)) in
     let old_ : ℕ → Bool = λ i. is_old next (start + i) (cell (start + i)) in
     let over_ : ℕ → Bool = λ i. is_over next limit (start + i) (cell (start + i)) in

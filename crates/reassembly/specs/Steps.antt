@@ -6,8 +6,8 @@ use Rattle.reassembly.specs.Receiver.{held}
 use Rattle.reassembly.specs.Segment.{is_old, is_new, is_over, is_differing, held_after, count_below}
 use Rattle.reassembly.specs.View.{StreamView}
 
--- what a stream knows after a segment of bytes from q on, of which none is accepted anew from the limit on, told from what
--- it knew
+-- what a stream knows after a segment of bytes from q on, of which none is accepted anew from the limit on, told from
+-- what it knew
 pub record StepsTo (limit q : ℕ) (bytes : List ℕ) (policy : Policy) (s n : StreamView) : Type 0 where
   pub fin : n.fin ≡ s.fin
   pub rbuf : n.rbuf ≡ s.rbuf

@@ -7,10 +7,12 @@ use Rattle.reassembly.proofs.Again.{IsAgain, again_from, met_cell, tally_met, sa
 use Rattle.reassembly.proofs.window.Window.place.Goals as goal
 
 -- how the segment is cut, before the bytes past the limit are laid and at the end
-cut : (c : goal.After-repeat-arg-2-1) → IsCut c.args.self.now.next c.args.limit c.end.result c.args.start (length c.args.segment.now) c.count_under-below.result c.count_under-within.result c.max-reach.result
+cut : (c : goal.After-repeat-arg-2-1) → IsCut c.args.self.now.next c.args.limit c.end.result c.args.start (length c.args.segment.now)
+    c.count_under-below.result c.count_under-within.result c.max-reach.result
 cut c = cut_at _ _ _ _ _ _ _ _ _ c.count_under-below.ensures c.count_under-within.ensures c.count_under.ensures c.max-reach.ensures c.requires.order
 
-cut_after : (c : goal.After-drop-met-2) → IsCut c.args.self.now.next c.args.limit c.end.result c.args.start (length c.args.segment.now) c.count_under-below.result c.count_under-within.result c.max-reach.result
+cut_after : (c : goal.After-drop-met-2) → IsCut c.args.self.now.next c.args.limit c.end.result c.args.start (length c.args.segment.now)
+    c.count_under-below.result c.count_under-within.result c.max-reach.result
 cut_after c = cut_at _ _ _ _ _ _ _ _ _ c.count_under-below.ensures c.count_under-within.ensures c.count_under.ensures c.max-reach.ensures c.requires.order
 
 kept_below_next : (base next rbuf : ℕ) → base ≤ next - rbuf → base ≤ next
@@ -61,7 +63,8 @@ returns-clause-sized c =
     }
 
 placed : (c : goal.After-drop-met-2) (p : ℕ) → c.args.self.now.bytes.base ≤ p
-    → cell_at c.repeat-again.new.self p ≡ placed_cell c.args.policy c.args.start c.args.segment.now c.count_under-below.result c.count_under-within.result c.max-reach.result p (cell_at c.args.self.now p)
+    → cell_at c.repeat-again.new.self p ≡ placed_cell c.args.policy c.args.start c.args.segment.now
+    c.count_under-below.result c.count_under-within.result c.max-reach.result p (cell_at c.args.self.now p)
 placed c p l =
     let below = c.count_under-below.result in
     let within = c.count_under-within.result in
@@ -75,7 +78,8 @@ placed c p l =
 
 pub returns-clause-steps : goal.returns-clause-steps
 returns-clause-steps c fin =
-    steps_placed c.args.self.now c.repeat-again.new.self c.forget.new.self fin c.args.rbuf c.args.limit c.end.result c.args.start c.count_under-below.result c.count_under-within.result c.max-reach.result c.args.policy c.args.segment.now
+    steps_placed c.args.self.now c.repeat-again.new.self c.forget.new.self fin c.args.rbuf c.args.limit c.end.result c.args.start
+    c.count_under-below.result c.count_under-within.result c.max-reach.result c.args.policy c.args.segment.now
     (record {
       old_laid = c.requires.laid;
       old_kept = c.requires.sized.kept;
@@ -99,7 +103,8 @@ returns-clause-counts c fin =
     let rest = take (reach - within) (drop within segment) in
     let told : c.repeat-again.result ≡ taken_tally c.args.self.now (c.args.start + within) rest
     = (rw c.deref.ensures.value at c.repeat-again.ensures.tally)
-    ∙ tally_again c.args.self.now c.take.new.self c.in_ok-met.met.items (c.args.start + within) (c.args.start + reach) rest (rest_end _ _ _ c.args.start _ _ _ segment (cut_after c)) (again_after c) in
+    ∙ tally_again c.args.self.now c.take.new.self c.in_ok-met.met.items (c.args.start + within) (c.args.start + reach) rest
+    (rest_end _ _ _ c.args.start _ _ _ segment (cut_after c)) (again_after c) in
     counts_placed c.args.self.now fin c.args.rbuf c.args.limit c.end.result c.args.start below within reach segment c.requires.laid c.end.ensures.bounded (cut_after c)
     c.in_ok-tally.tally c.repeat-again.result c.compare-differ.result
     (c.in_ok-tally.ensures.tally ∙ tally_met c.args.self.now c.meet.new.self (c.args.start + below) (take (within - below) (drop below segment)) c.meet.ensures.place.1 c.meet.ensures.grown)
