@@ -12,7 +12,8 @@ pub record StepsTo (limit q : ℕ) (bytes : List ℕ) (policy : Policy) (s n : S
   pub fin : n.fin ≡ s.fin
   pub rbuf : n.rbuf ≡ s.rbuf
   pub rises : s.next ≤ n.next
-  pub filled : (p : ℕ) → s.next ≤ p → p < n.next → is_some (held_after s.next limit policy q bytes p (held s.kept p)) ≡ true
+  pub filled : (p : ℕ) → s.next ≤ p → p < n.next
+      → is_some (held_after s.next limit policy q bytes p (held s.kept p)) ≡ true
   pub empty : is_some (held_after s.next limit policy q bytes n.next (held s.kept n.next)) ≡ false
   pub cells : (p : ℕ) → n.next - n.rbuf ≤ p → held n.kept p ≡ held_after s.next limit policy q bytes p (held s.kept p)
   pub forgotten : (p : ℕ) → p < n.next - n.rbuf → held n.kept p ≡ None

@@ -82,7 +82,8 @@ again_cell policy low bytes p c =
 
 -- each cell is so after them
 abbrev pub AreAgain : Policy → ℕ → List ℕ → Window → Window → Type 0
-AreAgain policy low bytes old new = (p : ℕ) → old.bytes.base ≤ p → cell_at new p ≡ again_cell policy low bytes p (cell_at old p)
+AreAgain policy low bytes old new =
+    (p : ℕ) → old.bytes.base ≤ p → cell_at new p ≡ again_cell policy low bytes p (cell_at old p)
 
 -- from low to below high the runs have what is accepted, and nothing else
 abbrev pub HaveAccepted : Window → List Run → ℕ → ℕ → Type 0
