@@ -107,9 +107,9 @@ pub cut_at : (next limit end start n m k j r : ℕ) → m ≡ min (next - start)
 cut_at next limit end start n m k j r below within under reach order = record { below = below; within = within; reach = reach ∙ ap (max k) under; order = order }
 
 -- the bytes that are taken end at the limit or below it
-pub middle_end : (next limit end start m k j : ℕ) (segment : List ℕ) → IsCut next limit end start (length segment) m k j → (b : ℕ) → limit ≤ b
-    → (length (take (k - m) (drop m segment)) ≡ 0) ⊎ (start + m + length (take (k - m) (drop m segment)) ≤ b)
-middle_end next limit end start m k j segment cut b l =
+pub middle_end : (next limit end start m k j low : ℕ) (segment : List ℕ) → IsCut next limit end start (length segment) m k j → low ≡ start + m
+    → (b : ℕ) → limit ≤ b → (length (take (k - m) (drop m segment)) ≡ 0) ⊎ (low + length (take (k - m) (drop m segment)) ≤ b)
+middle_end next limit end start m k j low segment cut at b l =
     let cm : m ≡ min (next - start) (length segment) = cut.below in
     let ck : k ≡ min (limit - start) (length segment) = cut.within in
     let order : next ≤ limit = cut.order in
@@ -265,11 +265,11 @@ differs_above next rbuf p byte b false l = refl
 
 -- the counts of the whole segment
 pub counts_placed : (w : Window) (fin : Option ℕ) (rbuf limit end start m k j : ℕ) (segment : List ℕ) → IsLaid w → IsBounded w end → IsCut w.next limit end start (length segment) m k j
-    → (tally again : Tally) (below : ℕ) → tally ≡ taken_tally w (start + m) (take (k - m) (drop m segment)) → again ≡ taken_tally w (start + k) (take (j - k) (drop k segment))
+    → (tally again : Tally) (below from : ℕ) → from ≡ start + m → tally ≡ taken_tally w from (take (k - m) (drop m segment)) → again ≡ taken_tally w (start + k) (take (j - k) (drop k segment))
     → below ≡ differing_below w rbuf start (take m segment)
     → record { new = tally.new; old = m + tally.old + again.old; differ = below + tally.differ + again.differ; over = length segment - j + again.new }
     ≡ counts_viewed (view_of w fin rbuf) limit start segment
-counts_placed w fin rbuf limit end start m k j segment laid bounded cut tally again below told_tally told_again told_below =
+counts_placed w fin rbuf limit end start m k j segment laid bounded cut tally again below from at told_from told_again told_below =
     let n = length segment in
     let next = w.next in
     let low = start + m in
@@ -338,6 +338,7 @@ counts_placed w fin rbuf limit end start m k j segment laid bounded cut tally ag
     ∙ ap (count_below (λ i. leb (next - rbuf) (start + i) && not (eqb (byte_at w (start + i)) (slice_index (take m segment) i)))) front
     ∙ count_below-same (λ i. leb (next - rbuf) (start + i) && not (eqb (byte_at w (start + i)) (slice_index (take m segment) i))) here m
     (λ i l. ap (λ b. leb (next - rbuf) (start + i) && not (eqb (byte_at w (start + i)) b)) (get_or-take m segment i 0 l)) in
+    let told_tally : tally ≡ taken_tally w low middle = told_from ∙ ap (λ x. taken_tally w x middle) at in
     let t_new : tally.new ≡ count_below (λ i. not (covered i)) (k - m) = ap (λ t. t.new) told_tally ∙ ap (count_below (λ i. not (covered i))) len in
     let t_old : tally.old ≡ count_below covered (k - m) = ap (λ t. t.old) told_tally ∙ ap (count_below covered) len in
     let t_differ : tally.differ ≡ count_below there (k - m) = ap (λ t. t.differ) told_tally ∙ ap (count_below there) len in
