@@ -1,7 +1,7 @@
 use Rattle.std.proofs.Common.{◌≡◌, ℕ, ◌+◌, ◌-◌, ◌≤◌, arith, ap, ◌∙◌, length, take, drop}
 use Rattle.reassembly.specs.Runs.{run_at, is_covered}
 use Rattle.reassembly.specs.Waiting.{runs_of}
-use Rattle.reassembly.specs.Window.{IsBounded, cell_at, taken_cell, again_cell, taken_tally}
+use Rattle.reassembly.specs.Window.{IsBounded, cell_at, taken_tally}
 use Rattle.reassembly.proofs.Placing.{IsCut, cut_at, middle_end, rest_end, placed_cell, counts_placed, steps_placed}
 use Rattle.reassembly.proofs.Again.{IsAgain, again_from, cells_placed, tally_met, same_bound, accepted_again, tally_again}
 use Rattle.reassembly.proofs.window.Window.place.Goals as goal
