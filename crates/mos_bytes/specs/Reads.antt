@@ -11,6 +11,11 @@ abbrev pub BeginsWith : Option (List ℕ) → List ℕ → Type 0
 BeginsWith None bytes = ⊤
 BeginsWith (Some left) bytes = StartsWith left bytes
 
+-- so many bytes are left at least, where they are told
+abbrev pub HasAtLeast : Option (List ℕ) → ℕ → Type 0
+HasAtLeast None count = ⊤
+HasAtLeast (Some left) count = count ≤ length left
+
 -- n bytes were consumed, those at the front of buf, and fewer than buf has room for only where none is left
 pub record Fills (old new : Option (List ℕ)) (n : ℕ) (buf : List ℕ) : Type 0 where
   pub within : n ≤ length buf
