@@ -22,10 +22,10 @@ pub record Fills (old new : Option (List ℕ)) (n : ℕ) (buf : List ℕ) : Type
   pub consumed : Consumes old new (take n buf)
   pub short : n < length buf → IsAtEnd new
 
--- some bytes were consumed, those at the front of buf
+-- some bytes were consumed, fewer than buf has room for: those at the front of buf
 pub record FillsPart (old new : Option (List ℕ)) (buf : List ℕ) : Type 0 where
   pub count : ℕ
-  pub within : count ≤ length buf
+  pub within : count < length buf
   pub consumed : Consumes old new (take count buf)
 
 -- `fill(buf)` consumed what it answers at `Ok`, and part of it at `Failed`

@@ -46,7 +46,7 @@ pub trait Source {
 }
 
 /// Reads until `buf` is full or the source ends, and answers how many bytes stand in the front of `buf`:
-/// all of them, or fewer where none is left. At `Failed` some bytes may have been consumed.
+/// all of them, or fewer where none is left. At `Failed` some bytes may have been consumed, but not all that `buf` has room for.
 pub fn fill<S: Source>(source: &mut S, buf: &mut [u8]) -> Result<usize, Failed>
     ensures bound { ReadsAtMost result buf.new }
     ensures bytes { FillConsumes (S.left source.old) (S.left source.new) result buf.new }
