@@ -1,5 +1,5 @@
-//! Tests of packets, ends, streams and sockets, of the events, registrations and native filters above them, and of
-//! idle connections.
+//! Tests of packets, ends, streams and sockets, of the events, registrations and native filters above them, of idle
+//! connections, and of frames over IPv6.
 #![tactic(auto)]
 
 #[cfg(test)]
@@ -16,6 +16,8 @@ mod filters;
 mod frames;
 #[cfg(test)]
 mod idle;
+#[cfg(test)]
+mod ip6;
 #[cfg(test)]
 mod sockets;
 #[cfg(test)]

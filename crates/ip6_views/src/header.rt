@@ -1,0 +1,116 @@
+//! The headers of a frame that carries IPv6: the tests of its class, in their order.
+
+ghost use Rattle.std.specs.Prelude.{◌≡◌, ◌≢◌, ◌+◌, ◌≤◌, ◌<◌, ◌^◌, IfOk, IfErr, IfSome, IsNone, length, true, false};
+ghost use Rattle.packet_views.specs.declared.packet.Class.{Class};
+ghost use Rattle.packet_views.specs.Frame.{ip_start};
+ghost use Rattle.ip6_views.specs.Frame.{carries_ipv6, ip6_end, header_end, first_kind};
+ghost use Rattle.ip6_views.specs.Chain.{Only, chain};
+ghost use Rattle.ip6_views.specs.Packet.{is_tcp_bad_at, payload_start_at, checked, found6_in};
+ghost use Rattle.ip6_views.specs.Layout.{IsLayoutOf};
+
+use crate::chain::tcp_start;
+use crate::fields::u16_at;
+use crate::layout::Layout;
+use packet_views::Class;
+
+/// The type of a frame that carries an IPv6 packet (RFC 2464, section 3).
+const TYPE_IPV6: u16 = 0x86dd;
+
+/// The type of a frame with an 802.1Q tag.
+const TYPE_TAGGED: u16 = 0x8100;
+
+/// Where the IPv6 header begins, in a frame whose link header says that it carries one.
+#[tactic(auto, unfolding(crate::specs::Frame::carries_ipv6))]
+pub(crate) fn ip6_start(frame: &[u8]) -> Option<usize>
+    ensures start { IfSome result (λ start. start ≡ ip_start frame.now) }
+    ensures within { IfSome result (λ start. start ≤ 18) }
+    ensures carried { IfSome result (λ _. carries_ipv6 frame.now ≡ true) }
+    ensures lacking { IsNone result → carries_ipv6 frame.now ≡ false }
+{
+    if frame.len() < 14 {
+        return None;
+    }
+    let start = if u16_at(frame, 12) != TYPE_TAGGED {
+        14
+    } else if frame.len() < 18 {
+        return None;
+    } else {
+        18
+    };
+    if u16_at(frame, start - 2) == TYPE_IPV6 {
+        Some(start)
+    } else {
+        None
+    }
+}
+
+/// The layout of a TCP segment in a frame whose IPv6 header begins at `ip`, or the class of what is none.
+pub(crate) fn layout_of(frame: &[u8], ip: usize) -> Result<Layout, Class>
+    requires start { ip ≡ ip_start frame.now }
+    requires within { ip ≤ 18 }
+    ensures layout { IfOk result (λ layout. IsLayoutOf frame.now layout) }
+    ensures only { IfErr result (λ class. found6_in frame.now ≡ Only class) }
+    ensures not_tcp { IfErr result (λ class. class ≢ Class.Tcp) }
+{
+    let end = packet_end(frame, ip)?;
+    let tcp = tcp_start(frame, end, frame[ip + 6], ip + 40)?;
+    let payload = payload_start(frame, tcp, end).ok_or(Class::Bad)?;
+    Ok(Layout {
+        ip,
+        tcp,
+        payload,
+        end,
+    })
+}
+
+// Where the IPv6 packet ends, if it was captured whole.
+#[tactic(auto, unfolding(crate::specs::Packet::found6_in))]
+fn packet_end(frame: &[u8], ip: usize) -> Result<usize, Class>
+    requires start { ip ≡ ip_start frame.now }
+    requires within { ip ≤ 18 }
+    ensures end { IfOk result (λ end. end ≡ ip6_end frame.now) }
+    ensures found { IfOk result (λ end. found6_in frame.now ≡ checked frame.now (chain 8 frame.now end (first_kind frame.now) (header_end frame.now))) }
+    ensures header { IfOk result (λ end. ip + 40 ≤ end) }
+    ensures captured { IfOk result (λ end. end ≤ length frame.now) }
+    ensures packet { IfOk result (λ end. end < ip + 40 + 2 ^ 16) }
+    ensures only { IfErr result (λ class. found6_in frame.now ≡ Only class) }
+    ensures not_tcp { IfErr result (λ class. class ≢ Class.Tcp) }
+{
+    let header_end = ip + 40;
+    if frame.len() < header_end {
+        return Err(Class::Cut);
+    }
+    if frame[ip] >> 4 != 6 {
+        return Err(Class::Bad);
+    }
+    let end = header_end + usize::from(u16_at(frame, ip + 4));
+    if frame.len() < end {
+        return Err(Class::Cut);
+    }
+    Ok(end)
+}
+
+// Where the payload of a TCP segment begins, unless the fields of its header contradict each other.
+#[tactic(auto, unfolding(crate::specs::Packet::is_tcp_bad_at))]
+fn payload_start(frame: &[u8], tcp: usize, end: usize) -> Option<usize>
+    requires end { end ≡ ip6_end frame.now }
+    requires room { tcp ≤ end }
+    requires captured { end ≤ length frame.now }
+    ensures start { IfSome result (λ start. start ≡ payload_start_at tcp frame.now) }
+    ensures header { IfSome result (λ start. tcp + 20 ≤ start) }
+    ensures room { IfSome result (λ start. start ≤ end) }
+    ensures good { IfSome result (λ _. is_tcp_bad_at tcp frame.now ≡ false) }
+    ensures bad { IsNone result → is_tcp_bad_at tcp frame.now ≡ true }
+{
+    let segment = end - tcp;
+    if segment < 20 {
+        return None;
+    }
+    let words = frame[tcp + 12] >> 4;
+    let header = 4 * usize::from(words);
+    if words < 5 || segment < header {
+        None
+    } else {
+        Some(tcp + header)
+    }
+}

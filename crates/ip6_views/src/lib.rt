@@ -1,0 +1,18 @@
+//! What is seen of a captured frame, over IPv4 or IPv6: a TCP segment with its endpoints, or the class of what it is
+//! instead. No call copies the payload or takes memory.
+#![tactic(auto)]
+
+mod chain;
+mod fields;
+mod header;
+mod key;
+mod laws;
+mod layout;
+mod seeing;
+mod segment;
+pub mod sight;
+
+pub use key::key_between;
+pub use laws::both_directions_have_one_lane;
+pub use seeing::sight_of;
+pub use sight::{Sight, SightTcp};

@@ -1,0 +1,52 @@
+//! What is seen of a frame, by its first bytes alone.
+
+ghost use Rattle.std.specs.Prelude.{◌≡◌, ◌≢◌, ◌≤◌};
+ghost use Rattle.packet_views.specs.declared.packet.Class.{Class};
+ghost use Rattle.packet_views.specs.Packet.{class_of};
+ghost use Rattle.packet_views.specs.Frame.{ip_start};
+ghost use Rattle.ip6_views.specs.Packet.{found6_in};
+ghost use Rattle.ip6_views.specs.Sight.{sight4_with, sight6_with, sight_of};
+ghost use Rattle.ip6_views.specs.Seen.{shown, IfOther};
+
+use crate::header::{ip6_start, layout_of};
+use crate::segment::{segment4, segment6};
+use crate::sight::Sight;
+use packet_views::{View, view_of};
+
+/// What a captured frame is: its TCP segment, over IPv4 or IPv6 and with its payload borrowed in place, or the class of
+/// what it is instead. Over IPv6 the walk passes over at most 8 extension headers (RFC 8200, section 4): Hop-by-Hop
+/// Options, Routing, Fragment where it splits nothing, Authentication and Destination Options.
+#[tactic(auto, unfolding(crate::specs::Sight::sight_of))]
+pub fn sight_of(bytes: &[u8]) -> Sight<'_>
+    ensures sight { shown result ≡ sight_of bytes.now }
+    ensures not_tcp { IfOther result (λ class. class ≢ Class.Tcp) }
+{
+    match ip6_start(bytes) {
+        Some(ip) => sight6(bytes, ip),
+        None => sight4(bytes),
+    }
+}
+
+// What is seen of a frame that goes by the rules of IPv4.
+fn sight4(frame: &[u8]) -> Sight<'_>
+    ensures sight { shown result ≡ sight4_with (class_of frame.now) frame.now }
+    ensures not_tcp { IfOther result (λ class. class ≢ Class.Tcp) }
+{
+    match view_of(frame) {
+        View::Tcp(view) => Sight::Tcp(segment4(&view)),
+        View::Other(class) => Sight::Other(class),
+    }
+}
+
+// What is seen of a frame whose IPv6 header begins at `ip`.
+fn sight6(frame: &[u8], ip: usize) -> Sight<'_>
+    requires start { ip ≡ ip_start frame.now }
+    requires within { ip ≤ 18 }
+    ensures sight { shown result ≡ sight6_with (found6_in frame.now) frame.now }
+    ensures not_tcp { IfOther result (λ class. class ≢ Class.Tcp) }
+{
+    match layout_of(frame, ip) {
+        Ok(layout) => Sight::Tcp(segment6(frame, &layout)),
+        Err(class) => Sight::Other(class),
+    }
+}
