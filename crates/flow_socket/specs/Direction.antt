@@ -117,5 +117,5 @@ offered_from ack size None r = r
 offered_from ack size (Some origin) r = offered r (position_of (next_of r.cells) origin.irs ack) size
 
 -- the direction after its receiver made that offer
-abbrev pub offered_in : ℕ → ℕ → Direction → Direction
+unfoldable pub offered_in : ℕ → ℕ → Direction → Direction
 offered_in ack size d = record d { receiver = offered_from ack size d.origin d.receiver }

@@ -4,7 +4,7 @@
 ghost use Rattle.std.specs.Prelude.{ℕ, ◌≡◌, ◌+◌, ◌^◌, ◌≤◌, ◌<◌, length, Option, Some, None, OnOk, OnErr, IfOk};
 
 use crate::answers::{Origin, Peeked};
-use crate::segment::{Judged, take_segment};
+use crate::segment::take_unless_reset;
 use crate::sequence::{Acks, acks_of, distance, first_number, origin_from, position};
 use packet_views::Head;
 use reassembly::{Placed, Policy, Stream, greatest_offer, wide};
@@ -76,6 +76,7 @@ impl KeptDirection {
 
     /// Notes an offer of this direction's receiver: the window's size beside an acknowledgement. It
     /// stands for nothing before the positions have begun.
+    #[tactic(auto, unfolding(crate::specs::Direction::offered_in))]
     pub(crate) fn offer(&mut self, ack: u32, size: u32)
         requires next { self.old.stream.next ≤ 2 ^ 62 + 2 ^ 20 }
         ensures stream { self.new.stream ≡ self.old.stream }
@@ -113,18 +114,7 @@ impl KeptDirection {
         let next = self.stream.next();
         let distance = distance(next, origin.irs, first_number(h));
         let wide = wide(next, self.offer, rbuf);
-        let judged = if h.has_rst() {
-            NOTHING
-        } else {
-            take_segment(
-                &mut self.stream,
-                distance,
-                payload,
-                h.has_fin(),
-                wide,
-                policy,
-            )?
-        };
+        let judged = take_unless_reset(&mut self.stream, h, distance, payload, wide, policy)?;
         self.origin = Some(origin);
         Ok(Taken {
             placed: judged.placed,
@@ -164,14 +154,3 @@ impl KeptDirection {
         }
     }
 }
-
-/// What isn't read isn't judged.
-const NOTHING: Judged = Judged {
-    placed: Placed {
-        new: 0,
-        old: 0,
-        differ: 0,
-        over: 0,
-    },
-    fin_refused: false,
-};

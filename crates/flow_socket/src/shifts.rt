@@ -79,11 +79,7 @@ impl Shifts {
         requires { AreBounded self }
         ensures { result ≡ window_of from h.now self }
     {
-        let shift = if h.has_syn() {
-            0
-        } else {
-            self.in_use(from)
-        };
+        let shift = if h.has_syn() { 0 } else { self.in_use(from) };
         scaled(h.win, shift)
     }
 }

@@ -48,7 +48,7 @@ impl FlowSocket {
     ghost use Rattle.tcp_emulation.specs.declared.segment.Side.{Side};
     ghost use Rattle.tcp_emulation.specs.States.{other};
     ghost use Rattle.tcp_emulation.specs.Ends.{end_at, ends_after_receive, change_of, is_over};
-    ghost use Rattle.flow_socket.specs.Direction.{acks_syn, acks_fin, is_finished, placed_in, is_fin_refused, is_in_window};
+    ghost use Rattle.flow_socket.specs.Direction.{acks_syn, acks_fin, is_finished, placed_in, is_fin_refused, is_in_window, offered_in};
     ghost use Rattle.flow_socket.specs.Emulation.{Emulation, fresh, stepped, with_offer, sent, sent_answer, received, got_of, direction_of, with_direction, taken_by};
     ghost use Rattle.std.specs.Prelude.{map};
     ghost use Rattle.flow_socket.specs.Peek.{peeked, bytes_peeked, after_peek, runs_at, pieces_at};
@@ -99,7 +99,7 @@ impl FlowSocket {
     fn step_sender(&mut self, from: Side, h: &Head, scale: Option<u8>) -> Change
         requires scale { ForSome scale (λ shift. shift ≤ 14) }
         ensures stands { (e : Emulation) → SocketStandsFor self.old e → SocketStandsFor self.new (stepped from h.now scale e) }
-        ensures change { (e : Emulation) → SocketStandsFor self.old e → result ≡ (sent_answer from h.now e).change }
+        ensures change { (e : Emulation) → SocketStandsFor self.old e → result ≡ change_of (end_at from e.ends) (end_at from (stepped from h.now scale e).ends) }
         ensures client { self.new.client ≡ self.old.client }
         ensures server { self.new.server ≡ self.old.server }
         ensures rbuf { self.new.rbuf ≡ self.old.rbuf }
@@ -116,13 +116,22 @@ impl FlowSocket {
         ensures server { self.new.server.stream ≡ self.old.server.stream }
         ensures rbuf { self.new.rbuf ≡ self.old.rbuf }
     {
-        if !makes_offer(h, &self.ends) {
-            return;
+        if makes_offer(h, &self.ends) {
+            let size = self.shifts.window(from, h);
+            self.note_offer(from.other(), h.ack, size);
         }
-        let size = self.shifts.window(from, h);
-        match from.other() {
-            Side::Client => self.client.offer(h.ack, size),
-            Side::Server => self.server.offer(h.ack, size),
+    }
+
+    // Notes an offer on the stream that `of` sends.
+    fn note_offer(&mut self, of: Side, ack: u32, size: u32)
+        ensures stands { (e : Emulation) → SocketStandsFor self.old e → SocketStandsFor self.new (with_direction of (offered_in ack size (direction_of of e)) e) }
+        ensures client { self.new.client.stream ≡ self.old.client.stream }
+        ensures server { self.new.server.stream ≡ self.old.server.stream }
+        ensures rbuf { self.new.rbuf ≡ self.old.rbuf }
+    {
+        match of {
+            Side::Client => self.client.offer(ack, size),
+            Side::Server => self.server.offer(ack, size),
         }
     }
 
