@@ -1,7 +1,7 @@
 -- The direction after the packet, part by part.
-use Rattle.std.proofs.Common.{◌≡◌, ◌∙◌, ap, ap₂, sym, subst, ℕ, Some, unwrap_or, w64, to_z, of_z, to_z-of_z}
+use Rattle.std.proofs.Common.{◌≡◌, ◌∙◌, ap, ap₂, sym, subst, Some, unwrap_or, w64, to_z, of_z, to_z-of_z}
 use Rattle.reassembly.specs.Position.{distance_of}
-use Rattle.reassembly.specs.Receiver.{next_of, wide_with, wide_of}
+use Rattle.reassembly.specs.Receiver.{wide_with, wide_of}
 use Rattle.reassembly.specs.View.{StandsFor}
 use Rattle.flow_socket.specs.View.{DirectionStandsFor}
 use Rattle.flow_socket.specs.Direction.{Direction, next_in, origin_for, distance_in}
