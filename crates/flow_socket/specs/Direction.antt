@@ -11,8 +11,8 @@ use Rattle.flow_socket.specs.declared.answers.Origin.{Origin}
 use Rattle.flow_socket.specs.Segment.{with_segment, placed_at, nothing_placed, is_refused}
 use Rattle.packet_views.specs.Flags.{has_syn, has_fin, has_rst}
 
--- what the receiver accepted and offered, where its positions begin (none before the first packet), and how far user code has
--- read it
+-- what the receiver accepted and offered, where its positions begin (none before the first packet), and how far user code
+-- has read it
 pub record Direction : Type 0 where
   pub origin : Option Origin
   pub receiver : Receiver
@@ -111,7 +111,7 @@ acks_fin_at ack next (Some origin) fin = is_past_fin (position_of next origin.ir
 abbrev pub acks_fin : ℕ → Direction → Bool
 acks_fin ack d = acks_fin_at ack (next_in d) d.origin d.receiver.fin
 
--- the receiver with its own offer of size positions from the acknowledged one on; none is made before its positions have begun
+-- the receiver with its offer of size positions from the acknowledged one on; it makes none before the positions have begun
 abbrev pub offered_from : ℕ → ℕ → Option Origin → Receiver → Receiver
 offered_from ack size None r = r
 offered_from ack size (Some origin) r = offered r (position_of (next_of r.cells) origin.irs ack) size

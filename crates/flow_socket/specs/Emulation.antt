@@ -1,5 +1,5 @@
--- The emulated connection: both ends with their shifts, both directions and the last packet that was sent, and what the two phases
--- of a packet do to them.
+-- The emulated connection: both ends with their shifts, both directions and the last packet that was sent, and what the two
+-- phases of a packet do to them.
 use Rattle.std.specs.Prelude.{ℕ, ◌+◌, Bool, false, not, ◌&&◌, nat_lt, List, Option, Some, None, if◌then◌else◌}
 use Rattle.packet_views.specs.declared.packet.Head.{Head}
 use Rattle.tcp_emulation.specs.declared.segment.Side.{Side}
@@ -71,11 +71,12 @@ stepped from h scale e = record e {
   last = Some h;
 }
 
--- The packet's window is what its sender, as a receiver, offers to the other end. The ends and the shifts are those after the step.
+-- The packet's window is what its sender offers as a receiver, so on the direction of the other end. The ends and the shifts
+-- are those after the step.
 abbrev pub with_offer : Side → Head → Emulation → Emulation
 with_offer from h e =
-    if makes_offer h e.ends then with_direction (other from) (offered_in h.ack (window_of from h e.shifts) (direction_of (other from) e)) e
-    else e
+    let size = window_of from h e.shifts in
+    if makes_offer h e.ends then with_direction (other from) (offered_in h.ack size (direction_of (other from) e)) e else e
 
 unfoldable pub sent : Side → Head → Option ℕ → Emulation → Emulation
 sent from h scale e = with_offer from h (stepped from h scale e)

@@ -42,8 +42,8 @@ pub record DirectionStandsFor (rbuf : ℕ) (k : DirectionView) (d : Direction) :
   pub window : k.stream.rbuf ≡ rbuf
   pub mark : k.mark ≡ d.mark
 
--- a socket stands for each connection with its ends and shifts, its origins, offers, marks and kept bytes, its last packet and its
--- settings
+-- a socket stands for each connection with its ends and shifts, its origins, offers, marks and kept bytes, its last packet
+-- and its settings
 pub record SocketStandsFor (s : SocketView) (e : Emulation) : Type 0 where
   pub ends : s.ends ≡ e.ends
   pub shifts : s.shifts ≡ e.shifts

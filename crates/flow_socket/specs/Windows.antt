@@ -1,5 +1,5 @@
--- The windows that packets advertise (RFC 9293, section 3.8.6), and the shifts of both ends that scale them (RFC 7323, sections
--- 2.2 and 2.3).
+-- The windows that packets advertise (RFC 9293, section 3.8.6), and the shifts of both ends that scale them (RFC 7323,
+-- sections 2.2 and 2.3).
 use Rattle.std.specs.Prelude.{ℕ, ◌*◌, ◌^◌, ◌≤◌, Bool, not, ◌&&◌, Option, None, is_some, unwrap_or, if◌then◌else◌}
 use Rattle.std.specs.Option.{ForSome}
 use Rattle.packet_views.specs.declared.packet.Head.{Head}
@@ -22,10 +22,11 @@ abbrev pub with_shift : Side → Option ℕ → Shifts → Shifts
 with_shift Client scale s = record { client = scale; server = s.server }
 with_shift Server scale s = record { client = s.client; server = scale }
 
--- The shift of an end is the window scale of the first packet with SYN that it sends, if that packet has one. A later SYN doesn't
--- change it. The ends are those from before the packet.
+-- The shift of an end is the window scale of the first packet with SYN that it sends, if that packet has one. A later SYN
+-- doesn't change it. The ends are those from before the packet.
 abbrev pub shifts_after : Side → Head → Option ℕ → Ends → Shifts → Shifts
-shifts_after from h scale ends s = if has_syn h && not (end_at from ends).has_sent_syn then with_shift from scale s else s
+shifts_after from h scale ends s =
+    if has_syn h && not (end_at from ends).has_sent_syn then with_shift from scale s else s
 
 -- the shift by which an end's windows are read: its own, where both ends have one
 abbrev pub shift_in_use : Side → Shifts → ℕ

@@ -74,13 +74,14 @@ impl KeptDirection {
         self.stream.fin() == Some(self.stream.next())
     }
 
-    /// Notes an offer of this direction's receiver: the window's size beside an acknowledgement. It
-    /// stands for nothing before the positions have begun.
+    /// Notes an offer of this direction's receiver: a window of `size` bytes beside an acknowledgement.
+    /// Before the first packet has set the origin it is lost.
     #[tactic(auto, unfolding(crate::specs::Direction::offered_in))]
     pub(crate) fn offer(&mut self, ack: u32, size: u32)
         requires next { self.old.stream.next ≤ 2 ^ 62 + 2 ^ 20 }
         ensures stream { self.new.stream ≡ self.old.stream }
-        ensures stands { (rbuf : ℕ) (d : Direction) → DirectionStandsFor rbuf self.old d → DirectionStandsFor rbuf self.new (offered_in ack size d) }
+        ensures stands { (rbuf : ℕ) (d : Direction) → DirectionStandsFor rbuf self.old d
+            → DirectionStandsFor rbuf self.new (offered_in ack size d) }
     {
         let Some(origin) = self.origin else {
             return;

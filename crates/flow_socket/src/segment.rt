@@ -77,11 +77,14 @@ pub(crate) fn take_unless_reset(
     ensures rbuf { stream.new.rbuf ≡ stream.old.rbuf }
     ensures rise { OnOk result (stream.new.next ≤ stream.old.next + stream.old.rbuf) }
     ensures stands { OnOk result ((r : Receiver) → wide ≡ wide_of r stream.old.rbuf → StandsFor stream.old r
-        → StandsFor stream.new (if has_rst h.now then r else with_segment stream.old.rbuf policy (has_fin h.now) distance payload.now r)) }
+        → StandsFor stream.new
+        (if has_rst h.now then r else with_segment stream.old.rbuf policy (has_fin h.now) distance payload.now r)) }
     ensures placed { IfOk result (λ judged. (r : Receiver) → wide ≡ wide_of r stream.old.rbuf → StandsFor stream.old r
-        → judged.placed ≡ (if has_rst h.now then nothing_placed else placed_at stream.old.rbuf distance payload.now r)) }
+        → judged.placed
+        ≡ (if has_rst h.now then nothing_placed else placed_at stream.old.rbuf distance payload.now r)) }
     ensures refused { IfOk result (λ judged. (r : Receiver) → wide ≡ wide_of r stream.old.rbuf → StandsFor stream.old r
-        → judged.fin_refused ≡ (if has_rst h.now then false else is_refused stream.old.rbuf policy (has_fin h.now) distance payload.now r)) }
+        → judged.fin_refused
+        ≡ (if has_rst h.now then false else is_refused stream.old.rbuf policy (has_fin h.now) distance payload.now r)) }
 {
     if h.has_rst() {
         return Ok(NOTHING);

@@ -40,7 +40,15 @@ impl Model for FlowSocket {
         × (s.rbuf ≤ 1048576) × (s.client.stream.next ≤ 2 ^ 62 + 2 ^ 20) × (s.server.stream.next ≤ 2 ^ 62 + 2 ^ 20)
         × AreBounded s.shifts };
 
-    ghost view = { λ s. record { ends = s.ends; shifts = s.shifts; client = s.client; server = s.server; last = s.last; rbuf = s.rbuf; policy = s.policy } };
+    ghost view = { λ s. record {
+      ends = s.ends;
+      shifts = s.shifts;
+      client = s.client;
+      server = s.server;
+      last = s.last;
+      rbuf = s.rbuf;
+      policy = s.policy;
+    } };
 }
 
 impl FlowSocket {
@@ -81,7 +89,8 @@ impl FlowSocket {
     #[tactic(auto, unfolding(crate::specs::Emulation::sent, crate::specs::Emulation::sent_answer))]
     pub fn send(&mut self, from: Side, h: &Head, scale: Option<u8>) -> Sent
         requires scale { ForSome scale (λ shift. shift ≤ 14) }
-        ensures stands { (e : Emulation) → SocketStandsFor self.old e → SocketStandsFor self.new (sent from h.now scale e) }
+        ensures stands { (e : Emulation) → SocketStandsFor self.old e
+            → SocketStandsFor self.new (sent from h.now scale e) }
         ensures answer { (e : Emulation) → SocketStandsFor self.old e → result ≡ sent_answer from h.now e }
         ensures client { self.new.client.stream ≡ self.old.client.stream }
         ensures server { self.new.server.stream ≡ self.old.server.stream }
@@ -98,8 +107,10 @@ impl FlowSocket {
     // Steps the end that sends a packet. The shifts are read by the ends from before the step.
     fn step_sender(&mut self, from: Side, h: &Head, scale: Option<u8>) -> Change
         requires scale { ForSome scale (λ shift. shift ≤ 14) }
-        ensures stands { (e : Emulation) → SocketStandsFor self.old e → SocketStandsFor self.new (stepped from h.now scale e) }
-        ensures change { (e : Emulation) → SocketStandsFor self.old e → result ≡ change_of (end_at from e.ends) (end_at from (stepped from h.now scale e).ends) }
+        ensures stands { (e : Emulation) → SocketStandsFor self.old e
+            → SocketStandsFor self.new (stepped from h.now scale e) }
+        ensures change { (e : Emulation) → SocketStandsFor self.old e
+            → result ≡ change_of (end_at from e.ends) (end_at from (stepped from h.now scale e).ends) }
         ensures client { self.new.client ≡ self.old.client }
         ensures server { self.new.server ≡ self.old.server }
         ensures rbuf { self.new.rbuf ≡ self.old.rbuf }
@@ -111,7 +122,8 @@ impl FlowSocket {
 
     // Offers a packet's window on the stream that its sender receives, after the step.
     fn offer(&mut self, from: Side, h: &Head)
-        ensures stands { (e : Emulation) → SocketStandsFor self.old e → SocketStandsFor self.new (with_offer from h.now e) }
+        ensures stands { (e : Emulation) → SocketStandsFor self.old e
+            → SocketStandsFor self.new (with_offer from h.now e) }
         ensures client { self.new.client.stream ≡ self.old.client.stream }
         ensures server { self.new.server.stream ≡ self.old.server.stream }
         ensures rbuf { self.new.rbuf ≡ self.old.rbuf }
@@ -124,7 +136,8 @@ impl FlowSocket {
 
     // Notes an offer on the stream that `of` sends.
     fn note_offer(&mut self, of: Side, ack: u32, size: u32)
-        ensures stands { (e : Emulation) → SocketStandsFor self.old e → SocketStandsFor self.new (with_direction of (offered_in ack size (direction_of of e)) e) }
+        ensures stands { (e : Emulation) → SocketStandsFor self.old e
+            → SocketStandsFor self.new (with_direction of (offered_in ack size (direction_of of e)) e) }
         ensures client { self.new.client.stream ≡ self.old.client.stream }
         ensures server { self.new.server.stream ≡ self.old.server.stream }
         ensures rbuf { self.new.rbuf ≡ self.old.rbuf }
