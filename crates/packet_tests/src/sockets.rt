@@ -450,6 +450,10 @@ const WINDOWS: &[(&str, &[Step])] = &[
             Take(CLIENT_SYN),
             Take(Packet(Client, ACK, 105, 0, b"EFGH")),
             Offer(SYN_ACK, 2, None),
+            Leaves(
+                Packet(Client, ACK, 105, 301, b"EFGH"),
+                (Established, Established, 0, 0, false),
+            ),
             Leaves(NINE, (Established, Established, 1, 2, false)),
             Offer(Packet(Server, ACK, 301, 103, b""), 2, None),
             Leaves(
@@ -485,17 +489,14 @@ fn receive(socket: &mut FlowSocket, from: Side, head: &Head, payload: &[u8]) -> 
     socket.receive(from, head, payload).ok()
 }
 
-// The header of a packet with this window.
-fn head_of(packet: &Packet, win: u16) -> Head
-    ensures { result.len ≡ length packet.now.4.now }
-{
-    let Packet(_, flags, seq, ack, payload) = *packet;
+// The header of a packet without payload, with this window.
+fn head_of(packet: &Packet, win: u16) -> Head {
+    let Packet(_, flags, seq, ack, _) = *packet;
     Head {
         seq,
         ack,
         flags,
         win,
-        len: payload.len() as u32,
         ..HEAD
     }
 }
@@ -516,7 +517,10 @@ fn take(socket: &mut FlowSocket, packet: &Packet, win: u16, scale: Option<u8>) -
     if payload.len() > 65535 {
         return None;
     }
-    let head = head_of(packet, win);
+    let head = Head {
+        len: payload.len() as u32,
+        ..head_of(packet, win)
+    };
     let sent = socket.send(from, &head, shift_of(scale));
     let got = receive(socket, from, &head, payload)?;
     Some((
