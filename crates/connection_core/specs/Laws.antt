@@ -37,10 +37,10 @@ callbacks_at number defs list raise =
 pub record CallsWhatFires : Type 0 where
   pub raise_calls : (app : Meaning) (s : ControlState) (number : ℕ) (from : Side) (raise : Raise) (c : Course)
       → callbacks_in (raise_done app s number from raise c).entries
-          ≡ callbacks_in c.entries ++ callbacks_at number s.defs c.active raise
+      ≡ callbacks_in c.entries ++ callbacks_at number s.defs c.active raise
   pub raise_by_raise : (app : Meaning) (s : ControlState) (number : ℕ) (from : Side)
       (raises : List Raise) (raise : Raise) (c : Course)
       → phase app s number from (raises ++ raise ∷ []) c
-          ≡ raise_done app s number from raise (phase app s number from raises c)
+      ≡ raise_done app s number from raise (phase app s number from raises c)
   pub in_order : (defs : List EventDef) (list : List Reg) (facts : Facts) (hook : Hook) (event : ℕ) → IsPrivate defs list
       → IsStrictlySortedBy (reg_cmp defs) (fires defs facts hook event list)

@@ -114,13 +114,11 @@ impl Flow {
         ledger: &mut Ledger,
     ) -> Result<(), AllocError>
         requires answered { F.answered forests.old self.old.forest }
-        requires forest {
-            IsForestIn (defs_at terms.now.in_force) (told terms.now.in_force) (F.content forests.old self.old.forest) }
+        requires forest { IsForestIn (defs_at terms.now.in_force) (told terms.now.in_force) (F.content forests.old self.old.forest) }
         requires callbacks { ledger.old.counts.callbacks < 2 ^ 62 }
         requires weight { ledger.old.counts.weight < 2 ^ 62 }
         ensures answered { F.answered forests.new self.new.forest }
-        ensures forest {
-            IsForestIn (defs_at terms.now.in_force) (told terms.now.in_force) (F.content forests.new self.new.forest) }
+        ensures forest { IsForestIn (defs_at terms.now.in_force) (told terms.now.in_force) (F.content forests.new self.new.forest) }
         ensures kept { Keeps F.answered F.content forests.old forests.new }
         ensures made { OnOk result ((s : ControlState) → IsInForce terms.now.in_force s → Makes terms.now.keep
             (active_in (told terms.now.in_force) (F.content forests.old self.old.forest))
