@@ -1,5 +1,5 @@
 -- The phases of a packet, and what its connection has come to.
-use Rattle.std.proofs.Common.{◌≡◌, ℕ, ◌+◌, ◌≤◌, eqb, Bool, true, false, cond, Some, None, Option, List, [], ◌∷◌, ◌++◌, refl, sym, ap, subst, ◌∙◌, append-nil, arith}
+use Rattle.std.proofs.Common.{◌≡◌, ℕ, ◌+◌, ◌≤◌, eqb, Bool, Some, None, Option, List, [], ◌∷◌, ◌++◌, refl, sym, ap, subst, ◌∙◌, append-nil, arith}
 use Rattle.packet_views.specs.declared.packet.Head.{Head}
 use Rattle.tcp_emulation.specs.declared.segment.Side.{Side}
 use Rattle.flow_socket.specs.View.{SocketView, SocketStandsFor}

@@ -1,9 +1,9 @@
-use Rattle.std.proofs.Common.{ℕ, ◌<◌, ◌≤◌, List, length, map, take, get_or, refl, subst, ap, ◌∙◌, arith}
+use Rattle.std.proofs.Common.{ℕ, ◌<◌, ◌≤◌, List, length, map, get_or, refl, subst, ap, ◌∙◌, arith}
 use Rattle.std.proofs.lemmas.List.{take_all}
 use Rattle.builtin_events.specs.declared.raise.Raise.{Raise}
 use Rattle.connection_core.specs.InForce.{told}
 use Rattle.connection_core.specs.Trees.{active_in}
-use Rattle.connection_core.specs.Course.{Course, phase as phase_of}
+use Rattle.connection_core.specs.Course.{phase as phase_of}
 use Rattle.connection_core.specs.Standing.{Makes, CostsUnder, raise_of}
 use Rattle.connection_core.proofs.Errors.{on_err_always}
 use Rattle.connection_core.proofs.Settling.{phase_begun, phase_on, phase_failed, raise_as}
