@@ -130,7 +130,8 @@ raise_rises app s number from raise c =
     subst (λ n. n ≤ (changed_all s made.asked made).altered) (altered-called_at app s number from raise c) (changed_all_rises s made.asked made)
 
 -- a raise that failed before its changes
-pub raise_costs_none : (app : Meaning) (s : ControlState) (keep : Bool) (list : List Reg) (i : Option ℕ) (number : ℕ) (from : Side) (raise : Raise) (socket : SocketView) (notes : Notes) (ledger : Ledger)
+pub raise_costs_none : (app : Meaning) (s : ControlState) (keep : Bool) (list : List Reg) (i : Option ℕ) (number : ℕ) (from : Side) (raise : Raise)
+    (socket : SocketView) (notes : Notes) (ledger : Ledger)
     → CostsUnder keep list socket notes ledger i i (raise_done app s number from raise)
 raise_costs_none app s keep list i number from raise socket notes ledger = record {
   interned = λ others c u. within-up i i c.altered c.altered (raise_done app s number from raise c).altered (raise_rises app s number from raise c) (within-same i c.altered);

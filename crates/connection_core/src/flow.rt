@@ -50,7 +50,8 @@ impl Flow {
     ghost use Rattle.connection_core.specs.declared.ledger.Counts.{Counts};
     ghost use Rattle.connection_core.specs.Course.{Course, changed_all, raise_done, phase as made};
     ghost use Rattle.connection_core.specs.History.{History, fresh, sender_phase, receiver_phase, received_unless, followed, verdict, drops_of, is_over};
-    ghost use Rattle.connection_core.specs.Standing.{IsFlow, IsConnection, IsUnder, RiseBy, Alters, Costs, CostsUnder, Makes, Reached, Stepped, raise_of};
+    ghost use Rattle.connection_core.specs.Standing.{IsFlow, IsConnection, IsUnder, RiseBy, Alters, Costs, CostsUnder};
+    ghost use Rattle.connection_core.specs.Standing.{Makes, Reached, Stepped, raise_of};
 
     /// A connection before its first packet, with the tree of the registrations that are on at its start. It takes no memory.
     pub fn new(alloc: Global, in_force: &InForce, forest: Shared) -> Flow
@@ -114,11 +115,13 @@ impl Flow {
         ledger: &mut Ledger,
     ) -> Result<(), AllocError>
         requires answered { F.answered forests.old self.old.forest }
-        requires forest { IsForestIn (defs_at terms.now.in_force) (told terms.now.in_force) (F.content forests.old self.old.forest) }
+        requires forest { IsForestIn (defs_at terms.now.in_force) (told terms.now.in_force)
+            (F.content forests.old self.old.forest) }
         requires callbacks { ledger.old.counts.callbacks < 2 ^ 62 }
         requires weight { ledger.old.counts.weight < 2 ^ 62 }
         ensures answered { F.answered forests.new self.new.forest }
-        ensures forest { IsForestIn (defs_at terms.now.in_force) (told terms.now.in_force) (F.content forests.new self.new.forest) }
+        ensures forest { IsForestIn (defs_at terms.now.in_force) (told terms.now.in_force)
+            (F.content forests.new self.new.forest) }
         ensures kept { Keeps F.answered F.content forests.old forests.new }
         ensures made { OnOk result ((s : ControlState) → IsInForce terms.now.in_force s → Makes terms.now.keep
             (active_in (told terms.now.in_force) (F.content forests.old self.old.forest))

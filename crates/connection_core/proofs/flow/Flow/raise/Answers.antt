@@ -18,7 +18,8 @@ returns-clause-made g c = λ s force.
     let steps = subst (λ (t : TreeLists). Steps keep (active_in at t) c.args.self.now.socket c.args.notes.now c.make_room.new.self c.call_at.new.socket c.call_at.new.notes c.call_at.new.ledger step)
     c.tree_of-tree.ensures (c.in_ok-call_at.ensures.stands s force) in
     let list = active_in at (g.F.ForestView.content c.args.forests.now c.args.self.now.forest) in
-    raise_made app s keep list (active_in at (g.F.ForestView.content c.settle.new.forests c.settle.new.self.forest)) (g.F.ForestView.interns c.args.forests.now) (g.F.ForestView.interns c.settle.new.forests)
+    raise_made app s keep list (active_in at (g.F.ForestView.content c.settle.new.forests c.settle.new.self.forest))
+    (g.F.ForestView.interns c.args.forests.now) (g.F.ForestView.interns c.settle.new.forests)
     c.args.moment.now.number c.args.moment.now.from (raise_of c.args.moment.now)
     c.args.self.now.socket c.settle.new.self.socket c.args.notes.now c.call_at.new.notes c.args.ledger.now c.make_room.new.self c.call_at.new.ledger c.settle.new.ledger
     c.make_room.ensures.changes c.make_room.ensures.drop c.make_room.ensures.counts
