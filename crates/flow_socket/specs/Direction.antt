@@ -1,16 +1,18 @@
 -- One direction of a connection, as its emulated receiver accepts it (RFC 9293, sections 3.4 and 3.10.7.4).
-use Rattle.std.specs.Prelude.{ℕ, ◌+◌, ◌-◌, ◌%◌, ◌^◌, ℤ, pos, negsuc, Bool, true, false, ◌&&◌, nat_lt, List, Option, Some, None, unwrap_or, if◌then◌else◌}
+use Rattle.std.specs.Prelude.{ℕ, ◌+◌, ◌-◌, ◌%◌, ◌^◌, ℤ, pos, negsuc, Bool, true, false, ◌&&◌, nat_lt, max, List, Option, Some, None, unwrap_or, if◌then◌else◌}
 use Rattle.packet_views.specs.declared.packet.Head.{Head}
 use Rattle.reassembly.specs.declared.answers.Policy.{Policy}
 use Rattle.reassembly.specs.declared.answers.Placed.{Placed}
 use Rattle.reassembly.specs.Position.{distance_of, position_of}
-use Rattle.reassembly.specs.Receiver.{Receiver, no_bytes, next_of}
+use Rattle.reassembly.specs.Receiver.{Receiver, no_bytes, next_of, wide_of}
+use Rattle.reassembly.specs.Offer.{offered}
 use Rattle.reassembly.specs.Fin.{is_fin_reached}
 use Rattle.flow_socket.specs.declared.answers.Origin.{Origin}
 use Rattle.flow_socket.specs.Segment.{with_segment, placed_at, nothing_placed, is_refused}
 use Rattle.packet_views.specs.Flags.{has_syn, has_fin, has_rst}
 
--- what the receiver accepted, where its positions begin (none before the first packet), and how far user code has read it
+-- what the receiver accepted and offered, where its positions begin (none before the first packet), and how far user code
+-- has read it
 pub record Direction : Type 0 where
   pub origin : Option Origin
   pub receiver : Receiver
@@ -48,8 +50,9 @@ abbrev pub is_below : ℕ → ℤ → Bool
 is_below n (pos z) = nat_lt z n
 is_below n (negsuc z) = false
 
+-- the packet begins in the receive window, from before it; at next it does so also where that window is closed
 abbrev pub is_in_window : ℕ → Head → Direction → Bool
-is_in_window rbuf h d = is_below rbuf (distance_in h d)
+is_in_window rbuf h d = is_below (max (wide_of d.receiver rbuf) 1) (distance_in h d)
 
 -- the receiver after the packet: neither payload nor FIN of a packet with RST is read
 abbrev pub receiver_after : ℕ → Policy → Head → List ℕ → Direction → Receiver
@@ -107,3 +110,12 @@ acks_fin_at ack next (Some origin) fin = is_past_fin (position_of next origin.ir
 
 abbrev pub acks_fin : ℕ → Direction → Bool
 acks_fin ack d = acks_fin_at ack (next_in d) d.origin d.receiver.fin
+
+-- the receiver with its offer of size positions from the acknowledged one on; it makes none before the positions have begun
+abbrev pub offered_from : ℕ → ℕ → Option Origin → Receiver → Receiver
+offered_from ack size None r = r
+offered_from ack size (Some origin) r = offered r (position_of (next_of r.cells) origin.irs ack) size
+
+-- the direction after its receiver made that offer
+unfoldable pub offered_in : ℕ → ℕ → Direction → Direction
+offered_in ack size d = record d { receiver = offered_from ack size d.origin d.receiver }

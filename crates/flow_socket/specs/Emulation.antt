@@ -1,4 +1,5 @@
--- The emulated connection: both ends, both directions and the last packet that was sent, and what the two phases of a packet do to them.
+-- The emulated connection: both ends with their shifts, both directions and the last packet that was sent, and what the two
+-- phases of a packet do to them.
 use Rattle.std.specs.Prelude.{ℕ, ◌+◌, Bool, false, not, ◌&&◌, nat_lt, List, Option, Some, None, if◌then◌else◌}
 use Rattle.packet_views.specs.declared.packet.Head.{Head}
 use Rattle.tcp_emulation.specs.declared.segment.Side.{Side}
@@ -10,12 +11,15 @@ use Rattle.tcp_emulation.specs.Ends.{fresh_ends, end_at, ends_after_send, ends_a
 use Rattle.reassembly.specs.declared.answers.Policy.{Policy}
 use Rattle.flow_socket.specs.declared.answers.Sent.{Sent}
 use Rattle.flow_socket.specs.declared.answers.Got.{Got}
+use Rattle.flow_socket.specs.declared.shifts.Shifts.{Shifts}
 use Rattle.packet_views.specs.Flags.{has_syn, has_ack, has_fin, has_rst}
-use Rattle.flow_socket.specs.Direction.{Direction, untouched, next_in, direction_after, is_in_window, is_finished, acks_syn, acks_fin, placed_in, is_fin_refused}
+use Rattle.flow_socket.specs.Direction.{Direction, untouched, next_in, direction_after, is_in_window, is_finished, acks_syn, acks_fin, placed_in, is_fin_refused, offered_in}
+use Rattle.flow_socket.specs.Windows.{no_shifts, shifts_after, window_of, makes_offer}
 
 -- a direction is named by its sender
 pub record Emulation : Type 0 where
   pub ends : Ends
+  pub shifts : Shifts
   pub client : Direction
   pub server : Direction
   pub last : Option Head
@@ -26,6 +30,7 @@ pub record Emulation : Type 0 where
 abbrev pub fresh : ℕ → Policy → Emulation
 fresh rbuf policy = record {
   ends = fresh_ends;
+  shifts = no_shifts;
   client = untouched;
   server = untouched;
   last = None;
@@ -54,17 +59,32 @@ facts_of h acks_syn acks_fin in_window fin_reached = record {
   fin_reached = fin_reached;
 }
 
--- Phase S: the sender's step. It reads the flags alone.
+-- Phase S: the sender's step, which reads the flags alone, and the offer of the packet's window.
 abbrev pub sent_facts : Head → SegFacts
 sent_facts h = facts_of h false false false false
 
-unfoldable pub sent : Side → Head → Emulation → Emulation
-sent from h e = record e { ends = ends_after_send from (sent_facts h) e.ends; last = Some h }
+-- the connection after that step: the shifts are read by the ends from before it
+abbrev pub stepped : Side → Head → Option ℕ → Emulation → Emulation
+stepped from h scale e = record e {
+  ends = ends_after_send from (sent_facts h) e.ends;
+  shifts = shifts_after from h scale e.ends e.shifts;
+  last = Some h;
+}
+
+-- The packet's window is what its sender offers as a receiver, so on the direction of the other end. The ends and the shifts
+-- are those after the step.
+abbrev pub with_offer : Side → Head → Emulation → Emulation
+with_offer from h e =
+    let size = window_of from h e.shifts in
+    if makes_offer h e.ends then with_direction (other from) (offered_in h.ack size (direction_of (other from) e)) e else e
+
+unfoldable pub sent : Side → Head → Option ℕ → Emulation → Emulation
+sent from h scale e = with_offer from h (stepped from h scale e)
 
 -- what phase S answers: the sender's change, and next of the packet's direction
 unfoldable pub sent_answer : Side → Head → Emulation → Sent
 sent_answer from h e = record {
-  change = change_of (end_at from e.ends) (end_at from (sent from h e).ends);
+  change = change_of (end_at from e.ends) (end_at from (ends_after_send from (sent_facts h) e.ends));
   next = next_in (direction_of from e);
 }
 

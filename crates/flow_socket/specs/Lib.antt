@@ -1,5 +1,6 @@
 pub mod Segment
 pub mod Direction
+pub mod Windows
 pub mod Emulation
 pub mod Peek
 pub mod View

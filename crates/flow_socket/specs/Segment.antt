@@ -4,7 +4,7 @@ use Rattle.reassembly.specs.declared.answers.Policy.{Policy}
 use Rattle.reassembly.specs.declared.answers.Placed.{Placed}
 use Rattle.reassembly.specs.declared.answers.FinNote.{FinNote}
 use Rattle.reassembly.specs.declared.answers.FinNote.TheVariants.{Noted, Same, Refused}
-use Rattle.reassembly.specs.Receiver.{Receiver, next_of}
+use Rattle.reassembly.specs.Receiver.{Receiver, next_of, wide_of}
 use Rattle.reassembly.specs.Segment.{accept, counts}
 use Rattle.reassembly.specs.Fin.{note_of, noted}
 
@@ -23,12 +23,12 @@ placed_at rbuf distance payload r = counts r (start_at distance r) payload rbuf
 abbrev pub nothing_placed : Placed
 nothing_placed = record { new = 0; old = 0; differ = 0; over = 0 }
 
--- a FIN stands after the payload, at most rbuf above the next from before the segment
+-- a FIN stands after the payload, at most at the end of the receive window from before the segment
 abbrev pub fin_position : ℤ → List ℕ → Receiver → ℤ
 fin_position distance payload r = start_at distance r +ℤ pos (length payload)
 
 abbrev pub fin_edge : ℕ → Receiver → ℕ
-fin_edge rbuf r = next_of r.cells + rbuf
+fin_edge rbuf r = next_of r.cells + wide_of r rbuf
 
 -- what becomes of the FIN, judged after the payload
 unfoldable pub note_at : ℕ → Policy → ℤ → List ℕ → Receiver → FinNote

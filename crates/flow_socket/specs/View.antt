@@ -7,17 +7,20 @@ use Rattle.tcp_emulation.specs.declared.ends.Ends.{Ends}
 use Rattle.reassembly.specs.declared.answers.Policy.{Policy}
 use Rattle.reassembly.specs.View.{StreamView, StandsFor}
 use Rattle.flow_socket.specs.declared.answers.Origin.{Origin}
+use Rattle.flow_socket.specs.declared.shifts.Shifts.{Shifts}
 use Rattle.flow_socket.specs.Direction.{Direction}
 use Rattle.flow_socket.specs.Emulation.{Emulation}
 
--- one direction: a stream keeps the bytes near next and forgets the others
+-- one direction: a stream keeps the bytes near next and forgets the others, and the greatest offer stands beside it
 pub record DirectionView : Type 0 where
   pub origin : Option Origin
   pub stream : StreamView
+  pub offer : Option ℕ
   pub mark : ℕ
 
 pub record SocketView : Type 0 where
   pub ends : Ends
+  pub shifts : Shifts
   pub client : DirectionView
   pub server : DirectionView
   pub last : Option Head
@@ -35,12 +38,15 @@ next_at from s = (view_at from s).stream.next
 pub record DirectionStandsFor (rbuf : ℕ) (k : DirectionView) (d : Direction) : Type 0 where
   pub origin : k.origin ≡ d.origin
   pub stream : StandsFor k.stream d.receiver
+  pub offer : k.offer ≡ d.receiver.offer
   pub window : k.stream.rbuf ≡ rbuf
   pub mark : k.mark ≡ d.mark
 
--- a socket stands for each connection with its ends, its origins, marks and kept bytes, its last packet and its settings
+-- a socket stands for each connection with its ends and shifts, its origins, offers, marks and kept bytes, its last packet
+-- and its settings
 pub record SocketStandsFor (s : SocketView) (e : Emulation) : Type 0 where
   pub ends : s.ends ≡ e.ends
+  pub shifts : s.shifts ≡ e.shifts
   pub client : DirectionStandsFor e.rbuf s.client e.client
   pub server : DirectionStandsFor e.rbuf s.server e.server
   pub last : s.last ≡ e.last

@@ -1,20 +1,23 @@
-//! One direction of a connection as it is kept: where its positions begin, its stream, its mark.
+//! One direction of a connection as it is kept: where its positions begin, its stream, its
+//! receiver's offer, its mark.
 
 ghost use Rattle.std.specs.Prelude.{ℕ, ◌≡◌, ◌+◌, ◌^◌, ◌≤◌, ◌<◌, length, Option, Some, None, OnOk, OnErr, IfOk};
 
 use crate::answers::{Origin, Peeked};
-use crate::segment::{Judged, take_segment};
-use crate::sequence::{Acks, acks_of, distance, first_number, origin_from};
+use crate::segment::take_unless_reset;
+use crate::sequence::{Acks, acks_of, distance, first_number, origin_from, position};
 use packet_views::Head;
-use reassembly::{Placed, Policy, Stream};
+use reassembly::{Placed, Policy, Stream, greatest_offer, wide};
 use std::alloc::{AllocError, Global};
 use std::marker::Model;
 
-/// What is kept of one direction. Contracts see its origin, its stream and its mark.
+/// What is kept of one direction. Contracts see its origin, its stream, its receiver's greatest offer
+/// and its mark.
 #[derive(Drop)]
 pub(crate) struct KeptDirection {
     origin: Option<Origin>,
     pub(crate) stream: Stream,
+    offer: Option<u64>,
     mark: u64,
 }
 
@@ -23,7 +26,7 @@ impl Model for KeptDirection {
 
     ghost Value = { DirectionView };
 
-    ghost view = { λ k. record { origin = k.origin; stream = k.stream; mark = k.mark } };
+    ghost view = { λ k. record { origin = k.origin; stream = k.stream; offer = k.offer; mark = k.mark } };
 }
 
 /// How a packet was judged in its direction.
@@ -38,17 +41,19 @@ impl KeptDirection {
     ghost use Rattle.reassembly.specs.View.{StandsFor};
     ghost use Rattle.reassembly.specs.Receiver.{Receiver};
     ghost use Rattle.flow_socket.specs.View.{DirectionStandsFor};
-    ghost use Rattle.flow_socket.specs.Direction.{Direction, untouched, direction_after, placed_in, is_fin_refused, is_in_window, is_finished, acks_syn, acks_fin, next_in};
+    ghost use Rattle.flow_socket.specs.Direction.{Direction, untouched, direction_after, placed_in, is_fin_refused, is_in_window, is_finished, acks_syn, acks_fin, next_in, offered_in};
 
     /// A direction from which nothing was received.
     pub(crate) fn new(alloc: Global, rbuf: u32) -> KeptDirection
         requires low { 1 ≤ rbuf }
         requires high { rbuf ≤ 1048576 }
         ensures stands { DirectionStandsFor rbuf result untouched }
+        ensures next { result.stream.next ≡ 0 }
     {
         KeptDirection {
             origin: None,
             stream: Stream::new(alloc, rbuf),
+            offer: None,
             mark: 0,
         }
     }
@@ -69,8 +74,25 @@ impl KeptDirection {
         self.stream.fin() == Some(self.stream.next())
     }
 
+    /// Notes an offer of this direction's receiver: a window of `size` bytes beside an acknowledgement.
+    /// Before the first packet has set the origin it is lost.
+    #[tactic(auto, unfolding(crate::specs::Direction::offered_in))]
+    pub(crate) fn offer(&mut self, ack: u32, size: u32)
+        requires next { self.old.stream.next ≤ 2 ^ 62 + 2 ^ 20 }
+        ensures stream { self.new.stream ≡ self.old.stream }
+        ensures stands { (rbuf : ℕ) (d : Direction) → DirectionStandsFor rbuf self.old d
+            → DirectionStandsFor rbuf self.new (offered_in ack size d) }
+    {
+        let Some(origin) = self.origin else {
+            return;
+        };
+        let position = position(self.stream.next(), origin.irs, ack);
+        self.offer = Some(greatest_offer(self.offer, position, size));
+    }
+
     /// Takes a packet: its payload and its FIN, unless it has RST. The first packet sets the
-    /// origin. Nothing changes where memory is refused.
+    /// origin. The receive window is that from before the packet. Nothing changes where memory is
+    /// refused.
     pub(crate) fn take(
         &mut self,
         h: &Head,
@@ -80,6 +102,7 @@ impl KeptDirection {
     ) -> Result<Taken, AllocError>
         requires bytes { length payload.now ≤ 65535 }
         requires next { self.old.stream.next ≤ 2 ^ 62 }
+        requires rbuf { rbuf ≡ self.old.stream.rbuf }
         ensures err { OnErr result (self.new ≡ self.old) }
         ensures rbuf { self.new.stream.rbuf ≡ self.old.stream.rbuf }
         ensures rise { OnOk result (self.new.stream.next ≤ self.old.stream.next + self.old.stream.rbuf) }
@@ -89,24 +112,16 @@ impl KeptDirection {
         ensures window { IfOk result (λ taken. (d : Direction) → DirectionStandsFor rbuf self.old d → taken.in_window ≡ is_in_window rbuf h.now d) }
     {
         let origin = self.origin.unwrap_or(origin_from(h));
-        let distance = distance(self.stream.next(), origin.irs, first_number(h));
-        let judged = if h.has_rst() {
-            NOTHING
-        } else {
-            take_segment(
-                &mut self.stream,
-                distance,
-                payload,
-                h.has_fin(),
-                rbuf,
-                policy,
-            )?
-        };
+        let next = self.stream.next();
+        let distance = distance(next, origin.irs, first_number(h));
+        let wide = wide(next, self.offer, rbuf);
+        let judged = take_unless_reset(&mut self.stream, h, distance, payload, wide, policy)?;
         self.origin = Some(origin);
         Ok(Taken {
             placed: judged.placed,
             fin_refused: judged.fin_refused,
-            in_window: 0 <= distance && distance < i64::from(rbuf),
+            // At `next` it is in the window even where that is closed.
+            in_window: 0 <= distance && distance < i64::from(wide.max(1)),
         })
     }
 }
@@ -140,14 +155,3 @@ impl KeptDirection {
         }
     }
 }
-
-/// What isn't read isn't judged.
-const NOTHING: Judged = Judged {
-    placed: Placed {
-        new: 0,
-        old: 0,
-        differ: 0,
-        over: 0,
-    },
-    fin_refused: false,
-};

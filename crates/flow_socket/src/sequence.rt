@@ -1,8 +1,8 @@
 //! Sequence and acknowledgement numbers, which count modulo 2^32 (RFC 9293, section 3.4), and the
 //! positions that they stand for.
 
-ghost use Rattle.std.specs.Prelude.{◌≡◌, ◌^◌, ◌≤◌, ◌≤ℤ◌, ◌<ℤ◌, ◌-ℤ◌, pos};
-ghost use Rattle.reassembly.specs.Position.{distance_of};
+ghost use Rattle.std.specs.Prelude.{◌≡◌, ◌+◌, ◌^◌, ◌≤◌, ◌≤ℤ◌, ◌<ℤ◌, ◌-ℤ◌, pos};
+ghost use Rattle.reassembly.specs.Position.{distance_of, position_of};
 ghost use Rattle.flow_socket.specs.Direction.{first_number, origin_from, acks_syn_at, acks_fin_at, is_past_fin};
 
 use crate::answers::Origin;
@@ -23,6 +23,14 @@ pub(crate) fn distance(next: u64, irs: u32, number: u32) -> i64
     } else {
         above as i64 - NUMBERS as i64
     }
+}
+
+/// The position of a sequence number, as near to `next` as it can be; it may lie below 0.
+pub(crate) fn position(next: u64, irs: u32, number: u32) -> i64
+    requires { next ≤ 2 ^ 62 + 2 ^ 20 }
+    ensures { result ≡ position_of next irs number }
+{
+    next as i64 + distance(next, irs, number)
 }
 
 /// The sequence number of the first payload byte: a SYN takes one before it.
@@ -70,7 +78,7 @@ pub(crate) fn acks_of(ack: u32, next: u64, origin: Option<Origin>, fin: Option<u
             fin: false,
         };
     };
-    let position = next as i64 + distance(next, origin.irs, ack);
+    let position = position(next, origin.irs, ack);
     Acks {
         syn: origin.knows_syn && position >= 0,
         fin: is_past(position, fin),

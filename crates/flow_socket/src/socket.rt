@@ -1,12 +1,14 @@
-//! The socket of one connection: both ends, both directions, the last packet.
+//! The socket of one connection: both ends with their shifts, both directions, the last packet.
 
 ghost use Rattle.std.specs.Prelude.{ℕ, ◌≡◌, ◌+◌, ◌^◌, ◌≤◌, ◌&&◌, not, nat_lt, length, OnOk, OnErr, IfOk};
 ghost use Rattle.packet_views.specs.Flags.{has_rst};
+ghost use Rattle.std.specs.Option.{ForSome};
 ghost use Rattle.flow_socket.specs.Emulation.{facts_of, sent_facts, fault_of};
 
 use crate::answers::{Got, Peeked, Sent};
 use crate::direction::{KeptDirection, Taken};
 use crate::sequence::Acks;
+use crate::shifts::{Shifts, makes_offer};
 use packet_views::Head;
 use reassembly::{Pieces, Policy, Stream};
 use std::alloc::{AllocError, Global};
@@ -14,10 +16,12 @@ use std::marker::Model;
 use tcp_emulation::{Change, Ends, SegFacts, Side};
 
 /// The monitoring socket of one connection. It stands for the emulated connection of the
-/// definitions: its ends, its origins, marks and kept bytes, and the last packet that was sent.
+/// definitions: its ends and their shifts, its origins, offers, marks and kept bytes, and the last
+/// packet that was sent.
 #[derive(Drop)]
 pub struct FlowSocket {
     ends: Ends,
+    shifts: Shifts,
     client: KeptDirection,
     server: KeptDirection,
     last: Option<Head>,
@@ -26,14 +30,25 @@ pub struct FlowSocket {
 }
 
 impl Model for FlowSocket {
-    ghost use Rattle.std.specs.Prelude.{◌≡◌};
+    ghost use Rattle.std.specs.Prelude.{◌≡◌, ◌≤◌, ◌+◌, ◌^◌};
     ghost use Rattle.flow_socket.specs.View.{SocketView};
+    ghost use Rattle.flow_socket.specs.Windows.{AreBounded};
 
     ghost Value = { SocketView };
 
-    ghost invariant = { λ s. (s.client.stream.rbuf ≡ s.rbuf) × (s.server.stream.rbuf ≡ s.rbuf) };
+    ghost invariant = { λ s. (s.client.stream.rbuf ≡ s.rbuf) × (s.server.stream.rbuf ≡ s.rbuf)
+        × (s.rbuf ≤ 1048576) × (s.client.stream.next ≤ 2 ^ 62 + 2 ^ 20) × (s.server.stream.next ≤ 2 ^ 62 + 2 ^ 20)
+        × AreBounded s.shifts };
 
-    ghost view = { λ s. record { ends = s.ends; client = s.client; server = s.server; last = s.last; rbuf = s.rbuf; policy = s.policy } };
+    ghost view = { λ s. record {
+      ends = s.ends;
+      shifts = s.shifts;
+      client = s.client;
+      server = s.server;
+      last = s.last;
+      rbuf = s.rbuf;
+      policy = s.policy;
+    } };
 }
 
 impl FlowSocket {
@@ -41,8 +56,8 @@ impl FlowSocket {
     ghost use Rattle.tcp_emulation.specs.declared.segment.Side.{Side};
     ghost use Rattle.tcp_emulation.specs.States.{other};
     ghost use Rattle.tcp_emulation.specs.Ends.{end_at, ends_after_receive, change_of, is_over};
-    ghost use Rattle.flow_socket.specs.Direction.{acks_syn, acks_fin, is_finished, placed_in, is_fin_refused, is_in_window};
-    ghost use Rattle.flow_socket.specs.Emulation.{Emulation, fresh, sent, sent_answer, received, got_of, direction_of, with_direction, taken_by};
+    ghost use Rattle.flow_socket.specs.Direction.{acks_syn, acks_fin, is_finished, placed_in, is_fin_refused, is_in_window, offered_in};
+    ghost use Rattle.flow_socket.specs.Emulation.{Emulation, fresh, stepped, with_offer, sent, sent_answer, received, got_of, direction_of, with_direction, taken_by};
     ghost use Rattle.std.specs.Prelude.{map};
     ghost use Rattle.flow_socket.specs.Peek.{peeked, bytes_peeked, after_peek, runs_at, pieces_at};
     ghost use Rattle.reassembly.specs.Receiver.{kept};
@@ -59,6 +74,7 @@ impl FlowSocket {
     {
         FlowSocket {
             ends: Ends::new(),
+            shifts: Shifts::new(),
             client: KeptDirection::new(alloc, rbuf),
             server: KeptDirection::new(alloc, rbuf),
             last: None,
@@ -67,20 +83,68 @@ impl FlowSocket {
         }
     }
 
-    /// Makes phase S of a packet: the step of its sender, `from`.
+    /// Makes phase S of a packet with the window scale `scale`, at most 14: the step of its sender,
+    /// `from`, and the offer of its window (RFC 9293, section 3.8.6). The scale counts in the first
+    /// packet with SYN that `from` sends.
     #[tactic(auto, unfolding(crate::specs::Emulation::sent, crate::specs::Emulation::sent_answer))]
-    pub fn send(&mut self, from: Side, h: &Head) -> Sent
-        ensures stands { (e : Emulation) → SocketStandsFor self.old e → SocketStandsFor self.new (sent from h.now e) }
+    pub fn send(&mut self, from: Side, h: &Head, scale: Option<u8>) -> Sent
+        requires scale { ForSome scale (λ shift. shift ≤ 14) }
+        ensures stands { (e : Emulation) → SocketStandsFor self.old e
+            → SocketStandsFor self.new (sent from h.now scale e) }
         ensures answer { (e : Emulation) → SocketStandsFor self.old e → result ≡ sent_answer from h.now e }
+        ensures client { self.new.client.stream ≡ self.old.client.stream }
+        ensures server { self.new.server.stream ≡ self.old.server.stream }
+        ensures rbuf { self.new.rbuf ≡ self.old.rbuf }
+    {
+        let change = self.step_sender(from, h, scale);
+        self.offer(from, h);
+        Sent {
+            change,
+            next: self.stream(from).next(),
+        }
+    }
+
+    // Steps the end that sends a packet. The shifts are read by the ends from before the step.
+    fn step_sender(&mut self, from: Side, h: &Head, scale: Option<u8>) -> Change
+        requires scale { ForSome scale (λ shift. shift ≤ 14) }
+        ensures stands { (e : Emulation) → SocketStandsFor self.old e
+            → SocketStandsFor self.new (stepped from h.now scale e) }
+        ensures change { (e : Emulation) → SocketStandsFor self.old e
+            → result ≡ change_of (end_at from e.ends) (end_at from (stepped from h.now scale e).ends) }
         ensures client { self.new.client ≡ self.old.client }
         ensures server { self.new.server ≡ self.old.server }
         ensures rbuf { self.new.rbuf ≡ self.old.rbuf }
     {
         self.last = Some(*h);
-        let change = tcp_emulation::send_step(&mut self.ends, from, &sent_facts(h));
-        Sent {
-            change,
-            next: self.stream(from).next(),
+        self.shifts = self.shifts.after(from, h, scale, &self.ends);
+        tcp_emulation::send_step(&mut self.ends, from, &sent_facts(h))
+    }
+
+    // Offers a packet's window on the stream that its sender receives, after the step.
+    fn offer(&mut self, from: Side, h: &Head)
+        ensures stands { (e : Emulation) → SocketStandsFor self.old e
+            → SocketStandsFor self.new (with_offer from h.now e) }
+        ensures client { self.new.client.stream ≡ self.old.client.stream }
+        ensures server { self.new.server.stream ≡ self.old.server.stream }
+        ensures rbuf { self.new.rbuf ≡ self.old.rbuf }
+    {
+        if makes_offer(h, &self.ends) {
+            let size = self.shifts.window(from, h);
+            self.note_offer(from.other(), h.ack, size);
+        }
+    }
+
+    // Notes an offer on the stream that `of` sends.
+    fn note_offer(&mut self, of: Side, ack: u32, size: u32)
+        ensures stands { (e : Emulation) → SocketStandsFor self.old e
+            → SocketStandsFor self.new (with_direction of (offered_in ack size (direction_of of e)) e) }
+        ensures client { self.new.client.stream ≡ self.old.client.stream }
+        ensures server { self.new.server.stream ≡ self.old.server.stream }
+        ensures rbuf { self.new.rbuf ≡ self.old.rbuf }
+    {
+        match of {
+            Side::Client => self.client.offer(ack, size),
+            Side::Server => self.server.offer(ack, size),
         }
     }
 

@@ -1,10 +1,11 @@
-//! Packets of whole connections at a socket: states, faults and peeks.
+//! Packets of whole connections at a socket: states, faults, windows and peeks.
 
 ghost use Rattle.std.specs.Prelude.{◌≡◌, ◌≤◌, length};
+ghost use Rattle.std.specs.Option.{ForSome};
 
 use Side::{Client, Server};
 use State::{CloseWait, Closed, Established, FinWait1, LastAck, SynRcvd, SynSent, TimeWait};
-use Step::{Leaves, Peek, Runs, Take};
+use Step::{Drop, Leaves, Offer, Peek, Runs, Take};
 use flow_socket::{FlowSocket, Got, Peeked};
 use packet_views::Head;
 use reassembly::Policy;
@@ -33,6 +34,10 @@ enum Step<'a> {
     Take(Packet<'a>),
     /// A packet, and what it does.
     Leaves(Packet<'a>, Seen),
+    /// A packet with another window and a window scale, whatever it does.
+    Offer(Packet<'a>, u16, Option<u8>),
+    /// A packet that is sent, and dropped before it is received.
+    Drop(Packet<'a>),
     /// A peek into a buffer of eight bytes, by its sender's side: `at`, `len` and `missed`, and then the buffer.
     Peek(Side, (u64, u32, u64), &'static [u8; 8]),
     /// The one run that is kept of the client's first eight bytes.
@@ -61,7 +66,7 @@ const LAST_NUMBER_SYN: Packet = Packet(Client, SYN, u32::MAX, 0, b"");
 const FIN_BEHIND_AB: Packet = Packet(Client, FIN | ACK, 101, 301, b"AB");
 
 // The size of the receive buffers, the packets before, and what follows them.
-const CASES: [(&str, u32, &[Packet], &[Step]); 20] = [
+const CASES: &[(&str, u32, &[Packet], &[Step])] = &[
     (
         "FIN of the client",
         65536,
@@ -99,13 +104,13 @@ const CASES: [(&str, u32, &[Packet], &[Step]); 20] = [
             ),
         ],
     ),
-    // The window has 65,536 numbers from 101 on; an RST has neither payload nor FIN.
+    // The window has 65,535 numbers from 101 on; an RST has neither payload nor FIN.
     (
         "RST at the window's end",
         65536,
         &OPEN,
         &[Leaves(
-            Packet(Client, RST | FIN, 101 + 65535, 301, b"AB"),
+            Packet(Client, RST | FIN, 101 + 65534, 301, b"AB"),
             (Closed, Closed, 0, 0, true),
         )],
     ),
@@ -123,7 +128,7 @@ const CASES: [(&str, u32, &[Packet], &[Step]); 20] = [
         65536,
         &OPEN,
         &[Leaves(
-            Packet(Client, RST, 101 + 65536, 301, b""),
+            Packet(Client, RST, 101 + 65535, 301, b""),
             (Closed, Established, 2, 0, false),
         )],
     ),
@@ -272,6 +277,194 @@ const CASES: [(&str, u32, &[Packet], &[Step]); 20] = [
     ),
 ];
 
+const SYN_ACK: Packet = Packet(Server, SYN | ACK, 300, 101, b"");
+
+const SERVER_ACK: Packet = Packet(Server, ACK, 301, 101, b"");
+
+const EIGHT: Packet = Packet(Client, ACK, 101, 301, b"ABCDEFGH");
+
+const NINE: Packet = Packet(Client, ACK, 101, 301, b"ABCDEFGHI");
+
+// What the server advertises for the bytes of the client, with a receive buffer of 65,536 bytes.
+const WINDOWS: &[(&str, &[Step])] = &[
+    (
+        "window of four",
+        &[
+            Take(CLIENT_SYN),
+            Offer(SYN_ACK, 4, None),
+            Leaves(EIGHT, (Established, Established, 1, 4, false)),
+        ],
+    ),
+    (
+        "scaled by both",
+        &[
+            Offer(CLIENT_SYN, 4, Some(2)),
+            Offer(SYN_ACK, 4, Some(2)),
+            Offer(SERVER_ACK, 2, None),
+            Leaves(NINE, (Established, Established, 1, 8, false)),
+        ],
+    ),
+    (
+        "scaled by the client alone",
+        &[
+            Offer(CLIENT_SYN, 4, Some(2)),
+            Offer(SYN_ACK, 4, None),
+            Offer(SERVER_ACK, 2, None),
+            Leaves(EIGHT, (Established, Established, 1, 4, false)),
+        ],
+    ),
+    (
+        "window of a SYN",
+        &[
+            Offer(CLIENT_SYN, 4, Some(2)),
+            Offer(SYN_ACK, 4, Some(2)),
+            Leaves(EIGHT, (Established, Established, 1, 4, false)),
+        ],
+    ),
+    (
+        "scale of a later SYN",
+        &[
+            Offer(CLIENT_SYN, 4, Some(2)),
+            Offer(SYN_ACK, 4, Some(2)),
+            Offer(SYN_ACK, 4, Some(14)),
+            Offer(SERVER_ACK, 2, None),
+            Leaves(NINE, (Established, Established, 1, 8, false)),
+        ],
+    ),
+    // The first SYN of the server has RST.
+    (
+        "scale of a SYN with RST",
+        &[
+            Offer(CLIENT_SYN, 4, Some(2)),
+            Offer(Packet(Server, SYN | RST, 300, 101, b""), 4, Some(2)),
+            Offer(SYN_ACK, 4, None),
+            Offer(SERVER_ACK, 2, None),
+            Leaves(NINE, (Closed, Closed, 1, 8, true)),
+        ],
+    ),
+    (
+        "window of an RST",
+        &[
+            Take(CLIENT_SYN),
+            Offer(SYN_ACK, 4, None),
+            Take(Packet(Server, RST | ACK, 299, 101, b"")),
+            Leaves(EIGHT, (Established, Closed, 1, 4, false)),
+        ],
+    ),
+    (
+        "window that shrinks",
+        &[
+            Take(CLIENT_SYN),
+            Offer(SYN_ACK, 8, None),
+            Offer(SERVER_ACK, 2, None),
+            Leaves(NINE, (Established, Established, 1, 8, false)),
+        ],
+    ),
+    (
+        "no SYN of the server",
+        &[
+            Take(CLIENT_SYN),
+            Offer(SERVER_ACK, 4, None),
+            Leaves(EIGHT, (SynSent, SynRcvd, 0, 8, false)),
+        ],
+    ),
+    // Where the positions of the client begin isn't known when the server offers its window.
+    (
+        "dropped SYN of the client",
+        &[
+            Drop(CLIENT_SYN),
+            Offer(SYN_ACK, 4, None),
+            Leaves(EIGHT, (SynSent, Established, 0, 8, false)),
+        ],
+    ),
+    (
+        "RST at the last number of a window",
+        &[
+            Take(CLIENT_SYN),
+            Offer(SYN_ACK, 4, None),
+            Leaves(
+                Packet(Client, RST, 104, 301, b""),
+                (Closed, Closed, 0, 0, true),
+            ),
+        ],
+    ),
+    (
+        "RST past a window",
+        &[
+            Take(CLIENT_SYN),
+            Offer(SYN_ACK, 4, None),
+            Leaves(
+                Packet(Client, RST, 105, 301, b""),
+                (Closed, SynRcvd, 2, 0, false),
+            ),
+        ],
+    ),
+    (
+        "RST at a closed window",
+        &[
+            Take(CLIENT_SYN),
+            Offer(SYN_ACK, 0, None),
+            Leaves(
+                Packet(Client, RST, 101, 301, b""),
+                (Closed, Closed, 0, 0, true),
+            ),
+        ],
+    ),
+    (
+        "RST past a closed window",
+        &[
+            Take(CLIENT_SYN),
+            Offer(SYN_ACK, 0, None),
+            Leaves(
+                Packet(Client, RST, 102, 301, b""),
+                (Closed, SynRcvd, 2, 0, false),
+            ),
+        ],
+    ),
+    (
+        "FIN at the end of a window",
+        &[
+            Take(CLIENT_SYN),
+            Offer(SYN_ACK, 4, None),
+            Leaves(
+                Packet(Client, FIN | ACK, 101, 301, b"ABCD"),
+                (FinWait1, CloseWait, 0, 4, false),
+            ),
+        ],
+    ),
+    (
+        "FIN past a window",
+        &[
+            Take(CLIENT_SYN),
+            Offer(SYN_ACK, 4, None),
+            Leaves(
+                Packet(Client, FIN | ACK, 101, 301, b"ABCDE"),
+                (FinWait1, Established, 5, 4, false),
+            ),
+        ],
+    ),
+    // Four bytes wait before any offer is made. They stay, and once the bytes before them have come, `next` is past it.
+    (
+        "late window",
+        &[
+            Take(CLIENT_SYN),
+            Take(Packet(Client, ACK, 105, 0, b"EFGH")),
+            Offer(SYN_ACK, 2, None),
+            Leaves(
+                Packet(Client, ACK, 105, 301, b"EFGH"),
+                (Established, Established, 0, 0, false),
+            ),
+            Leaves(NINE, (Established, Established, 1, 2, false)),
+            Offer(Packet(Server, ACK, 301, 103, b""), 2, None),
+            Leaves(
+                Packet(Client, ACK, 103, 301, b"CD"),
+                (Established, Established, 0, 8, false),
+            ),
+            Leaves(NINE, (Established, Established, 1, 8, false)),
+        ],
+    ),
+];
+
 const HEAD: Head = Head {
     src: 1,
     dst: 2,
@@ -296,20 +489,39 @@ fn receive(socket: &mut FlowSocket, from: Side, head: &Head, payload: &[u8]) -> 
     socket.receive(from, head, payload).ok()
 }
 
+// The header of a packet without payload, with this window.
+fn head_of(packet: &Packet, win: u16) -> Head {
+    let Packet(_, flags, seq, ack, _) = *packet;
+    Head {
+        seq,
+        ack,
+        flags,
+        win,
+        ..HEAD
+    }
+}
+
+// A shift of at most 14, none in place of a greater one.
+fn shift_of(scale: Option<u8>) -> Option<u8>
+    ensures { ForSome result (λ shift. shift ≤ 14) }
+{
+    match scale {
+        Some(shift) if shift <= 14 => Some(shift),
+        _ => None,
+    }
+}
+
 // Both phases of a packet, and what they did.
-fn take(socket: &mut FlowSocket, packet: &Packet) -> Option<Seen> {
-    let Packet(from, flags, seq, ack, payload) = *packet;
+fn take(socket: &mut FlowSocket, packet: &Packet, win: u16, scale: Option<u8>) -> Option<Seen> {
+    let Packet(from, _, _, _, payload) = *packet;
     if payload.len() > 65535 {
         return None;
     }
     let head = Head {
-        seq,
-        ack,
-        flags,
         len: payload.len() as u32,
-        ..HEAD
+        ..head_of(packet, win)
     };
-    let sent = socket.send(from, &head);
+    let sent = socket.send(from, &head, shift_of(scale));
     let got = receive(socket, from, &head, payload)?;
     Some((
         sent.change.new,
@@ -321,7 +533,7 @@ fn take(socket: &mut FlowSocket, packet: &Packet) -> Option<Seen> {
 }
 
 fn leaves(socket: &mut FlowSocket, packet: &Packet, seen: Seen) -> bool {
-    take(socket, packet) == Some(seen)
+    take(socket, packet, 65535, None) == Some(seen)
         && socket.is_over() == seen.4
         && last_number(socket) == Some(packet.2)
 }
@@ -351,8 +563,10 @@ fn has_run(socket: &FlowSocket, at: u64, len: u32) -> bool {
 
 fn follows(socket: &mut FlowSocket, step: &Step) -> bool {
     match step {
-        Take(packet) => take(socket, packet).is_some(),
+        Take(packet) => take(socket, packet, 65535, None).is_some(),
         Leaves(packet, seen) => leaves(socket, packet, *seen),
+        Offer(packet, win, scale) => take(socket, packet, *win, *scale).is_some(),
+        Drop(packet) => socket.send(packet.0, &head_of(packet, 65535), None).next == 0,
         Peek(from, wanted, bytes) => peeks(socket, *from, *wanted, *bytes),
         Runs(at, len) => has_run(socket, *at, *len),
     }
@@ -360,7 +574,7 @@ fn follows(socket: &mut FlowSocket, step: &Step) -> bool {
 
 fn follows_all(socket: &mut FlowSocket, before: &[Packet], steps: &[Step]) -> bool {
     for packet in before {
-        if take(socket, packet).is_none() {
+        if take(socket, packet, 65535, None).is_none() {
             return false;
         }
     }
@@ -383,8 +597,15 @@ fn plays(alloc: Global, rbuf: u32, before: &[Packet], steps: &[Step]) -> bool {
 
 #[test]
 fn each_packet_leaves_its_states(rt: HostRuntime) {
-    for (name, rbuf, before, steps) in CASES {
+    for &(name, rbuf, before, steps) in CASES {
         assert!(rt; plays(rt.alloc(), rbuf, before, steps), "{name}");
+    }
+}
+
+#[test]
+fn accepts_what_was_advertised(rt: HostRuntime) {
+    for &(name, steps) in WINDOWS {
+        assert!(rt; plays(rt.alloc(), 65536, &[], steps), "{name}");
     }
 }
 

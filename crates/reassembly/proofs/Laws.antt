@@ -4,7 +4,7 @@ use Rattle.std.proofs.lemmas.Bool.{cases_lt, lt-leb, cond-true, cond-false}
 use Rattle.std.specs.Prelude.{slice_index}
 use Rattle.reassembly.specs.declared.answers.Policy.{Policy}
 use Rattle.reassembly.specs.declared.answers.Placed.{Placed}
-use Rattle.reassembly.specs.Receiver.{Receiver, held, next_of, limit_of}
+use Rattle.reassembly.specs.Receiver.{Receiver, held, next_of, wide_of, limit_of}
 use Rattle.reassembly.specs.Segment.{is_old, is_new, is_over, is_differing, is_last, cell_after, has_byte, held_after, accept_at, count_below, counts_at}
 use Rattle.reassembly.specs.View.{StreamView, StandsFor}
 use Rattle.reassembly.specs.Steps.{StepsTo, counts_viewed}
@@ -27,10 +27,10 @@ after_past next limit policy q bytes p c l =
 
 -- the model's cells, position by position
 pub held_accepted : (r : Receiver) (q : ℕ) (bytes : List ℕ) (policy : Policy) (rbuf p : ℕ)
-    → held (accept_at r q bytes policy rbuf).cells p ≡ held_after (next_of r.cells) (limit_of (next_of r.cells) r.fin rbuf) policy q bytes p (held r.cells p)
+    → held (accept_at r q bytes policy rbuf).cells p ≡ held_after (next_of r.cells) (limit_of (next_of r.cells) r.fin (wide_of r rbuf)) policy q bytes p (held r.cells p)
 held_accepted r q bytes policy rbuf p =
     let next = next_of r.cells in
-    let limit = limit_of (next_of r.cells) r.fin rbuf in
+    let limit = limit_of (next_of r.cells) r.fin (wide_of r rbuf) in
     let end = max (length r.cells) (q + length bytes) in
     let step : ℕ → Option ℕ = λ x. held_after next limit policy q bytes x (held r.cells x) in
     ⊎_elim
@@ -47,17 +47,22 @@ viewed_cell s r h p l =
     let low : next_of r.cells - s.rbuf ≤ p = rw (← e) l in
     h.cells p ∙ cond-true (leb (next_of r.cells - s.rbuf) p) (held r.cells p) None (le-leb (next_of r.cells - s.rbuf) p low)
 
-pub stands_after : (q : ℕ) (bytes : List ℕ) (policy : Policy) (s n : StreamView) → StepsTo q bytes policy s n → (r : Receiver) → StandsFor s r → StandsFor n (accept_at r q bytes policy s.rbuf)
-stands_after q bytes policy s n step r h =
-    let after : ℕ → Option ℕ = λ p. held_after s.next (limit_of s.next s.fin s.rbuf) policy q bytes p (held r.cells p) in
+-- the limit that a segment was placed by is the receiver's
+abbrev pub IsLimitOf : ℕ → Receiver → ℕ → Type 0
+IsLimitOf limit r rbuf = limit ≡ limit_of (next_of r.cells) r.fin (wide_of r rbuf)
+
+pub stands_after : (limit q : ℕ) (bytes : List ℕ) (policy : Policy) (s n : StreamView) → StepsTo limit q bytes policy s n
+    → (r : Receiver) → StandsFor s r → IsLimitOf limit r s.rbuf → StandsFor n (accept_at r q bytes policy s.rbuf)
+stands_after limit q bytes policy s n step r h is_limit =
+    let after : ℕ → Option ℕ = λ p. held_after s.next limit policy q bytes p (held r.cells p) in
     let acc = accept_at r q bytes policy s.rbuf in
     let same_next : s.next ≡ next_of r.cells = h.next in
     let same_fin : s.fin ≡ r.fin = h.fin in
-    let cell : (p : ℕ) → held acc.cells p ≡ after p = λ p. rw (same_next, same_fin) (held_accepted r q bytes policy s.rbuf p) in
-    let known : (p : ℕ) → s.next - s.rbuf ≤ p → held_after s.next (limit_of s.next s.fin s.rbuf) policy q bytes p (held s.kept p) ≡ after p
-    = λ p l. ap (λ c. held_after s.next (limit_of s.next s.fin s.rbuf) policy q bytes p c) (viewed_cell s r h p l) in
+    let cell : (p : ℕ) → held acc.cells p ≡ after p = λ p. rw (same_next, is_limit) (held_accepted r q bytes policy s.rbuf p) in
+    let known : (p : ℕ) → s.next - s.rbuf ≤ p → held_after s.next limit policy q bytes p (held s.kept p) ≡ after p
+    = λ p l. ap (λ c. held_after s.next limit policy q bytes p c) (viewed_cell s r h p l) in
     let filled : (p : ℕ) → p < n.next → is_some (held acc.cells p) ≡ true = λ p l. rw cell (⊎_elim
-    (λ (b : p < s.next). is_some_after s.next (limit_of s.next s.fin s.rbuf) policy q bytes p (held r.cells p) (below_next r.cells p (rw (← same_next) b)))
+    (λ (b : p < s.next). is_some_after s.next limit policy q bytes p (held r.cells p) (below_next r.cells p (rw (← same_next) b)))
     (λ (b : s.next ≤ p). ap is_some (sym (known p (omega arith))) ∙ step.filled p b l)
     (cases_lt p s.next)) in
     let rises : s.next ≤ n.next = step.rises in
@@ -96,20 +101,19 @@ placed_is a b n o d v =
     let made : ℕ → ℕ → ℕ → ℕ → Placed = λ w x y z. record { new = w; old = x; differ = y; over = z } in
     ap (λ w. made w a.old a.differ a.over) n ∙ ap (λ x. made b.new x a.differ a.over) o ∙ ap (λ y. made b.new b.old y a.over) d ∙ ap (λ z. made b.new b.old b.differ z) v
 
-pub counts_stand : (q : ℕ) (bytes : List ℕ) (s : StreamView) (r : Receiver) → StandsFor s r → counts_viewed s q bytes ≡ counts_at r q bytes s.rbuf
-counts_stand q bytes s r h =
+pub counts_stand : (limit q : ℕ) (bytes : List ℕ) (s : StreamView) (r : Receiver) → StandsFor s r → IsLimitOf limit r s.rbuf → counts_viewed s limit q bytes ≡ counts_at r q bytes s.rbuf
+counts_stand limit q bytes s r h is_limit =
     let same_next : s.next ≡ next_of r.cells = h.next in
-    let same_fin : s.fin ≡ r.fin = h.fin in
-    let limit = limit_of s.next s.fin s.rbuf in
+    let limit_is : limit_of (next_of r.cells) r.fin (wide_of r s.rbuf) ≡ limit = sym is_limit in
     let told : Placed = record {
       new = count_below (λ i. is_new s.next limit (q + i) (held r.cells (q + i))) (length bytes);
       old = count_below (λ i. is_old s.next (q + i) (held r.cells (q + i))) (length bytes);
       differ = count_below (λ i. is_differing s.next s.rbuf (q + i) (held r.cells (q + i)) (slice_index bytes i)) (length bytes);
       over = count_below (λ i. is_over s.next limit (q + i) (held r.cells (q + i))) (length bytes);
     } in
-    let same : counts_viewed s q bytes ≡ told = placed_is (counts_viewed s q bytes) told
+    let same : counts_viewed s limit q bytes ≡ told = placed_is (counts_viewed s limit q bytes) told
     (count_below-same (λ i. is_new s.next limit (q + i) (held s.kept (q + i))) (λ i. is_new s.next limit (q + i) (held r.cells (q + i))) (length bytes) (λ i l. ap (λ b. not b && ltb (q + i) limit) (old_same s r h (q + i))))
     (count_below-same (λ i. is_old s.next (q + i) (held s.kept (q + i))) (λ i. is_old s.next (q + i) (held r.cells (q + i))) (length bytes) (λ i l. old_same s r h (q + i)))
     (count_below-same (λ i. is_differing s.next s.rbuf (q + i) (held s.kept (q + i)) (slice_index bytes i)) (λ i. is_differing s.next s.rbuf (q + i) (held r.cells (q + i)) (slice_index bytes i)) (length bytes) (λ i l. differing_same s r h (q + i) (slice_index bytes i)))
     (count_below-same (λ i. is_over s.next limit (q + i) (held s.kept (q + i))) (λ i. is_over s.next limit (q + i) (held r.cells (q + i))) (length bytes) (λ i l. ap (λ b. not b && leb limit (q + i)) (old_same s r h (q + i)))) in
-    rw (← same_next, ← same_fin) same
+    rw (limit_is, ← same_next) same

@@ -11,6 +11,7 @@ pub mod Laid
 pub mod Paged
 pub mod Taken
 pub mod Placing
+pub mod Again
 pub mod Streams
 pub mod Fins
 pub mod KeptRuns

@@ -1,15 +1,15 @@
--- A whole segment over the buffer: its bytes below next, those that are taken, and those past the limit.
-use Rattle.std.proofs.Common.{◌≡◌, ℕ, ◌+◌, ◌-◌, ◌<◌, ◌≤◌, min, Bool, true, false, cond, not, ◌&&◌, ◌||◌, refl, ap, ap₂, ◌∙◌, sym, arith, List, Option, Some, None, is_some, length, slice_index, take, drop, leb, ltb, eqb, le-leb, lt-ltb, le-ltb, ltb-true, leb-true, ⊎_elim, get_or-take, get_or-drop, length-take-le}
+-- A whole segment over the buffer: its bytes below next, those that are taken, those that come again past the limit, and those
+-- past all that was accepted.
+use Rattle.std.proofs.Common.{◌≡◌, ℕ, ◌+◌, ◌-◌, ◌<◌, ◌≤◌, min, max, Bool, true, false, cond, not, ◌&&◌, ◌||◌, refl, ap, ap₂, ◌∙◌, sym, arith, List, Option, Some, None, is_some, length, slice_index, take, drop, leb, ltb, eqb, le-leb, lt-ltb, le-ltb, ltb-true, leb-true, ◌⊎◌, ⊎_elim, inl, inr, get_or-take, get_or-drop, length-take-le}
 use Rattle.std.proofs.lemmas.Bool.{cases_lt, lt-leb, and_right, and_from, and_parts, cases_Bool, cond-true, cond-false, false_from_ne_true, both_ways}
 use Rattle.reassembly.specs.declared.answers.Policy.{Policy}
-use Rattle.reassembly.specs.declared.answers.Placed.{Placed}
 use Rattle.reassembly.specs.declared.laying.Tally.{Tally}
 use Rattle.reassembly.specs.declared.runs.Run.{Run}
 use Rattle.reassembly.specs.declared.window.Window.{Window}
-use Rattle.reassembly.specs.Receiver.{held, limit_of}
+use Rattle.reassembly.specs.Receiver.{held}
 use Rattle.reassembly.specs.Segment.{is_old, is_new, is_over, is_differing, is_last, has_byte, held_after, count_below}
 use Rattle.reassembly.specs.Runs.{run_at, is_accepted, is_covered, AreAbove}
-use Rattle.reassembly.specs.Window.{end_of, byte_at, cell_at, kept_at, view_of, IsLaid, IsBounded, taken_cell, taken_tally, differing_below}
+use Rattle.reassembly.specs.Window.{end_of, byte_at, cell_at, kept_at, view_of, IsLaid, IsBounded, taken_cell, again_cell, taken_tally, differing_below}
 use Rattle.reassembly.proofs.Cells.{held_made, held_made_past}
 use Rattle.reassembly.proofs.Counts.{count_below-same, count_below-stretch, count_below-all, count_below-none}
 use Rattle.reassembly.proofs.Covered.{uncovered}
@@ -69,6 +69,18 @@ next_open w above = accepted_from_next w.next (runs_of w.runs) w.next (omega ari
     let up : w.next < (run_at (runs_of w.runs) h.at).start = above.each h.at h.within in
     omega arith)
 
+-- no byte of the segment stands there, so none of a part does
+outside : (start : ℕ) (segment : List ℕ) (p : ℕ) → has_byte start segment p ≡ false → start ≤ p → p < start + length segment → ⊥
+outside start segment p gone a b = false_true (has_byte start segment p) gone
+    (and_from (leb start p) (ltb p (start + length segment)) (le-leb start p a) (lt-ltb p (start + length segment) b))
+
+-- past all that was accepted no cell is filled
+both_none : (last here : Bool) (x y : ℕ) → cond ((true && false) || (last && false)) (Some x) None ≡ cond (here && false) (Some y) None
+both_none true true x y = refl
+both_none true false x y = refl
+both_none false true x y = refl
+both_none false false x y = refl
+
 -- between next and the limit both ways of saying what becomes of a cell agree
 after_between : (c : Option ℕ) (last : Bool) (byte : ℕ) → cond ((not (is_some c) && true) || (last && (is_some c && true))) (Some byte) c ≡ cond (not (is_some c && not last)) (Some byte) c
 after_between None true byte = refl
@@ -76,38 +88,80 @@ after_between None false byte = refl
 after_between (Some x) true byte = refl
 after_between (Some x) false byte = refl
 
--- one byte of the segment: m of its n bytes lie below next, k below the limit
-pub record IsCut (next limit start n m k : ℕ) : Type 0 where
+-- past the limit too
+after_again : (c : Option ℕ) (last : Bool) (byte : ℕ) → cond ((not (is_some c) && false) || (last && (is_some c && true))) (Some byte) c ≡ cond (is_some c && last) (Some byte) c
+after_again None true byte = refl
+after_again None false byte = refl
+after_again (Some x) true byte = refl
+after_again (Some x) false byte = refl
+
+-- one byte of the segment: m of its n bytes lie below next, k below the limit, and past j nothing was accepted
+pub record IsCut (next limit end start n m k j : ℕ) : Type 0 where
   pub below : m ≡ min (next - start) n
   pub within : k ≡ min (limit - start) n
+  pub reach : j ≡ max k (min (end - start) n)
   pub order : next ≤ limit
+
+pub cut_at : (next limit end start n m k j r : ℕ) → m ≡ min (next - start) n → k ≡ min (limit - start) n → r ≡ min (end - start) n → j ≡ max k r → next ≤ limit → IsCut next limit end start n m k j
+cut_at next limit end start n m k j r below within under reach order = record { below = below; within = within; reach = reach ∙ ap (max k) under; order = order }
+
+-- the bytes that are taken end at the limit or below it
+pub middle_end : (next limit end start m k j : ℕ) (segment : List ℕ) → IsCut next limit end start (length segment) m k j → (b : ℕ) → limit ≤ b
+    → (length (take (k - m) (drop m segment)) ≡ 0) ⊎ (start + m + length (take (k - m) (drop m segment)) ≤ b)
+middle_end next limit end start m k j segment cut b l =
+    let cm : m ≡ min (next - start) (length segment) = cut.below in
+    let ck : k ≡ min (limit - start) (length segment) = cut.within in
+    let order : next ≤ limit = cut.order in
+    let len : length (take (k - m) (drop m segment)) ≡ k - m = length-part m k segment (omega arith) (omega arith) in
+    ⊎_elim (λ (some : m < k). inr (omega arith)) (λ (none : k ≤ m). inl (omega arith)) (cases_lt m k)
+
+-- and those that come again at j
+pub rest_end : (next limit end start m k j : ℕ) (segment : List ℕ) → IsCut next limit end start (length segment) m k j
+    → start + k + length (take (j - k) (drop k segment)) ≡ start + j
+rest_end next limit end start m k j segment cut =
+    let ck : k ≡ min (limit - start) (length segment) = cut.within in
+    let cj : j ≡ max k (min (end - start) (length segment)) = cut.reach in
+    let len : length (take (j - k) (drop k segment)) ≡ j - k = length-part k j segment (omega arith) (omega arith) in
+    omega arith
 
 pub part_byte : (m k n : ℕ) (segment : List ℕ) (i : ℕ) → length segment ≡ n → m ≤ k → k ≤ n → i < k - m → slice_index (take (k - m) (drop m segment)) i ≡ slice_index segment (m + i)
 part_byte m k n segment i len a b l = get_or-take (k - m) (drop m segment) i 0 l ∙ get_or-drop m segment i 0
 
-pub after_is_taken : (next limit start m k p : ℕ) (policy : Policy) (segment : List ℕ) (c : Option ℕ) → IsCut next limit start (length segment) m k
-    → (p < next → is_some c ≡ true) → (limit ≤ p → c ≡ None)
-    → held_after next limit policy start segment p c ≡ taken_cell policy (start + m) (take (k - m) (drop m segment)) p c
-after_is_taken next limit start m k p policy segment c cut below past =
+-- the parts that are taken and that come again, as cells
+abbrev pub placed_cell : Policy → ℕ → List ℕ → (m k j : ℕ) → ℕ → Option ℕ → Option ℕ
+placed_cell policy start segment m k j p c =
+    again_cell policy (start + k) (take (j - k) (drop k segment)) p (taken_cell policy (start + m) (take (k - m) (drop m segment)) p c)
+
+pub after_is_taken : (next limit end start m k j p : ℕ) (policy : Policy) (segment : List ℕ) (c : Option ℕ) → IsCut next limit end start (length segment) m k j
+    → (p < next → is_some c ≡ true) → (end ≤ p → c ≡ None)
+    → held_after next limit policy start segment p c ≡ placed_cell policy start segment m k j p c
+after_is_taken next limit end start m k j p policy segment c cut below past =
     let n = length segment in
     let cm : m ≡ min (next - start) n = cut.below in
     let ck : k ≡ min (limit - start) n = cut.within in
+    let cj : j ≡ max k (min (end - start) n) = cut.reach in
     let order : next ≤ limit = cut.order in
     let middle = take (k - m) (drop m segment) in
+    let rest = take (j - k) (drop k segment) in
     let low = start + m in
+    let low2 = start + k in
     let len : length middle ≡ k - m = length-part m k segment (omega arith) (omega arith) in
+    let len2 : length rest ≡ j - k = length-part k j segment (omega arith) (omega arith) in
     let last = is_last policy in
     ⊎_elim
     (λ (under : p < next).
     let e1 : ltb p next ≡ true = lt-ltb p next under in
     let e2 : leb next p ≡ false = lt-leb next p under in
     let out : has_byte low middle p ≡ false = no_byte low middle p (λ f g. omega arith) in
-    rw (out, e1, e2) (stays (has_byte start segment p) (last && false) (slice_index segment (p - start)) c (and_right last false refl)))
-    (λ (over : next ≤ p). ⊎_elim
-    (λ (inside : p < limit).
+    let out2 : has_byte low2 rest p ≡ false = no_byte low2 rest p (λ f g. omega arith) in
+    rw (out, out2, e1, e2) (stays (has_byte start segment p) (last && false) (slice_index segment (p - start)) c (and_right last false refl)))
+    (λ (over : next ≤ p).
     let e1 : ltb p next ≡ false = le-ltb p next over in
     let e2 : leb next p ≡ true = le-leb next p over in
+    ⊎_elim
+    (λ (inside : p < limit).
     let e3 : ltb p limit ≡ true = lt-ltb p limit inside in
+    let out2 : has_byte low2 rest p ≡ false = no_byte low2 rest p (λ f g. omega arith) in
     ⊎_elim
     (λ (here : has_byte start segment p ≡ true).
     let parts = and_parts (leb start p) (ltb p (start + n)) here in
@@ -116,30 +170,47 @@ after_is_taken next limit start m k p policy segment c cut below past =
     let in_middle : has_byte low middle p ≡ true = and_from (leb low p) (ltb p (low + length middle)) (le-leb low p (omega arith)) (lt-ltb p (low + length middle) (omega arith)) in
     let again : m + (p - low) ≡ p - start = omega arith in
     let byte : slice_index middle (p - low) ≡ slice_index segment (p - start) = part_byte m k n segment (p - low) refl (omega arith) (omega arith) (omega arith) ∙ ap (slice_index segment) again in
-    rw (here, in_middle, e1, e2, e3, byte) (after_between c last (slice_index segment (p - start))))
+    rw (here, in_middle, out2, e1, e2, e3, byte) (after_between c last (slice_index segment (p - start))))
     (λ (gone : has_byte start segment p ≡ false).
-    let out : has_byte low middle p ≡ false = no_byte low middle p (λ f g. false_true (has_byte start segment p) gone
-    (and_from (leb start p) (ltb p (start + n)) (le-leb start p (omega arith)) (lt-ltb p (start + n) (omega arith)))) in
-    rw (gone, out) refl)
+    let out : has_byte low middle p ≡ false = no_byte low middle p (λ f g. outside start segment p gone (omega arith) (omega arith)) in
+    rw (gone, out, out2) refl)
     (cases_Bool (has_byte start segment p)))
-    (λ (outside : limit ≤ p).
-    let none : c ≡ None = past outside in
-    let e1 : ltb p next ≡ false = le-ltb p next over in
-    let e3 : ltb p limit ≡ false = le-ltb p limit outside in
+    (λ (from_limit : limit ≤ p).
+    let e3 : ltb p limit ≡ false = le-ltb p limit from_limit in
     let out : has_byte low middle p ≡ false = no_byte low middle p (λ f g. omega arith) in
-    rw (none, out, e1, e3) (stays (has_byte start segment p) (last && false) (slice_index segment (p - start)) None (and_right last false refl)))
+    ⊎_elim
+    (λ (here : has_byte start segment p ≡ true).
+    let parts = and_parts (leb start p) (ltb p (start + n)) here in
+    let from : start ≤ p = leb-true start p parts.0 in
+    let to : p < start + n = ltb-true p (start + n) parts.1 in
+    ⊎_elim
+    (λ (waits : p < end).
+    let in_rest : has_byte low2 rest p ≡ true = and_from (leb low2 p) (ltb p (low2 + length rest)) (le-leb low2 p (omega arith)) (lt-ltb p (low2 + length rest) (omega arith)) in
+    let again : k + (p - low2) ≡ p - start = omega arith in
+    let byte : slice_index rest (p - low2) ≡ slice_index segment (p - start) = part_byte k j n segment (p - low2) refl (omega arith) (omega arith) (omega arith) ∙ ap (slice_index segment) again in
+    rw (here, out, in_rest, e1, e2, e3, byte) (after_again c last (slice_index segment (p - start))))
+    (λ (free : end ≤ p).
+    let none : c ≡ None = past free in
+    rw (none, here, out, e1, e3) (both_none last (has_byte low2 rest p) (slice_index segment (p - start)) (slice_index rest (p - low2))))
+    (cases_lt p end))
+    (λ (gone : has_byte start segment p ≡ false).
+    let out2 : has_byte low2 rest p ≡ false = no_byte low2 rest p (λ f g. outside start segment p gone (omega arith) (omega arith)) in
+    rw (gone, out, out2) refl)
+    (cases_Bool (has_byte start segment p)))
     (cases_lt p limit))
     (cases_lt p next)
 
--- the counts of three stretches: below next, between, and past the limit
-count_three : (f g h : ℕ → Bool) (last : ℕ → Bool) (m k n : ℕ) → m ≤ k → k ≤ n
-    → ((i : ℕ) → i < m → f i ≡ g i) → ((i : ℕ) → i < k - m → f (m + i) ≡ h i) → ((i : ℕ) → i < n - k → f (k + i) ≡ last i)
-    → count_below f n ≡ count_below g m + count_below h (k - m) + count_below last (n - k)
-count_three f g h last m k n a b x y z =
-    let one : count_below f m ≡ count_below g m = count_below-same f g m x in
-    let two : count_below f k ≡ count_below f m + count_below h (k - m) = count_below-stretch f h m (k - m) k (omega arith) y in
-    let three : count_below f n ≡ count_below f k + count_below last (n - k) = count_below-stretch f last k (n - k) n (omega arith) z in
-    omega (arith, one, two, three)
+-- the counts of four stretches: below next, up to the limit, up to where the accepted ones end, and past that
+count_four : (f g h again last : ℕ → Bool) (m k j n : ℕ) → m ≤ k → k ≤ j → j ≤ n
+    → ((i : ℕ) → i < m → f i ≡ g i) → ((i : ℕ) → i < k - m → f (m + i) ≡ h i) → ((i : ℕ) → i < j - k → f (k + i) ≡ again i)
+    → ((i : ℕ) → i < n - j → f (j + i) ≡ last i)
+    → count_below f n ≡ count_below g m + count_below h (k - m) + count_below again (j - k) + count_below last (n - j)
+count_four f g h again last m k j n a b c w x y z =
+    let one : count_below f m ≡ count_below g m = count_below-same f g m w in
+    let two : count_below f k ≡ count_below f m + count_below h (k - m) = count_below-stretch f h m (k - m) k (omega arith) x in
+    let three : count_below f j ≡ count_below f k + count_below again (j - k) = count_below-stretch f again k (j - k) j (omega arith) y in
+    let four : count_below f n ≡ count_below f j + count_below last (n - j) = count_below-stretch f last j (n - j) n (omega arith) z in
+    omega (arith, one, two, three, four)
 
 yes_all : (n : ℕ) → count_below (λ i. true) n ≡ n
 yes_all n = count_below-all (λ i. true) n (λ i l. refl)
@@ -192,58 +263,74 @@ differs_above next rbuf p byte b true l = rw (le-leb (next - rbuf) p (omega arit
 differs_above next rbuf p byte b false l = refl
 
 -- the counts of the whole segment
-pub counts_placed : (w : Window) (fin : Option ℕ) (rbuf limit start m k : ℕ) (segment : List ℕ) → IsLaid w → IsBounded w limit → limit ≡ limit_of w.next fin rbuf → IsCut w.next limit start (length segment) m k
-    → (tally : Tally) (below : ℕ) → tally ≡ taken_tally w (start + m) (take (k - m) (drop m segment)) → below ≡ differing_below w rbuf start (take m segment)
-    → (placed : Placed) → placed ≡ record { new = tally.new; old = m + tally.old; differ = below + tally.differ; over = length segment - k }
-    → placed ≡ counts_viewed (view_of w fin rbuf) start segment
-counts_placed w fin rbuf limit start m k segment laid bounded is_limit cut tally below told_tally told_below placed told =
+pub counts_placed : (w : Window) (fin : Option ℕ) (rbuf limit end start m k j : ℕ) (segment : List ℕ) → IsLaid w → IsBounded w end → IsCut w.next limit end start (length segment) m k j
+    → (tally again : Tally) (below : ℕ) → tally ≡ taken_tally w (start + m) (take (k - m) (drop m segment)) → again ≡ taken_tally w (start + k) (take (j - k) (drop k segment))
+    → below ≡ differing_below w rbuf start (take m segment)
+    → record { new = tally.new; old = m + tally.old + again.old; differ = below + tally.differ + again.differ; over = length segment - j + again.new } ≡ counts_viewed (view_of w fin rbuf) limit start segment
+counts_placed w fin rbuf limit end start m k j segment laid bounded cut tally again below told_tally told_again told_below =
     let n = length segment in
     let next = w.next in
     let low = start + m in
+    let low2 = start + k in
     let middle = take (k - m) (drop m segment) in
+    let rest = take (j - k) (drop k segment) in
     let cm : m ≡ min (next - start) n = cut.below in
     let ck : k ≡ min (limit - start) n = cut.within in
+    let cj : j ≡ max k (min (end - start) n) = cut.reach in
     let order : next ≤ limit = cut.order in
     let len : length middle ≡ k - m = length-part m k segment (omega arith) (omega arith) in
+    let len2 : length rest ≡ j - k = length-part k j segment (omega arith) (omega arith) in
     let front : length (take m segment) ≡ m = length-take-le m segment (omega arith) in
     let cell : ℕ → Option ℕ = λ p. held (view_of w fin rbuf).kept p in
     let seen : (p : ℕ) → cell p ≡ kept_at w rbuf p = held_viewed w fin rbuf laid in
     let covered : ℕ → Bool = λ i. is_covered (runs_of w.runs) (low + i) in
+    let covered2 : ℕ → Bool = λ i. is_covered (runs_of w.runs) (low2 + i) in
     let place : (i : ℕ) → start + (m + i) ≡ low + i = λ i. omega arith in
+    let place2 : (i : ℕ) → start + (k + i) ≡ low2 + i = λ i. omega arith in
+    let filled : (p : ℕ) → next ≤ p → cell p ≡ cond (is_covered (runs_of w.runs) p) (Some (byte_at w p)) None = λ p l.
+    seen p ∙ kept_cell w rbuf p (omega arith) ∙ ap (λ b. cond b (Some (byte_at w p)) None) (accepted_from_next next (runs_of w.runs) p l) in
     let cell1 : (i : ℕ) → i < m → cell (start + i) ≡ cond (leb (next - rbuf) (start + i)) (Some (byte_at w (start + i))) None = λ i l. seen (start + i) ∙ kept_below w rbuf (start + i) (omega arith) in
-    let cell2 : (i : ℕ) → i < k - m → cell (start + (m + i)) ≡ cond (covered i) (Some (byte_at w (low + i))) None = λ i l.
-    ap cell (place i) ∙ seen (low + i) ∙ kept_cell w rbuf (low + i) (omega arith) ∙ ap (λ b. cond b (Some (byte_at w (low + i))) None) (accepted_from_next next (runs_of w.runs) (low + i) (omega arith)) in
+    let cell2 : (i : ℕ) → i < k - m → cell (start + (m + i)) ≡ cond (covered i) (Some (byte_at w (low + i))) None = λ i l. ap cell (place i) ∙ filled (low + i) (omega arith) in
+    let cell3 : (i : ℕ) → i < j - k → cell (start + (k + i)) ≡ cond (covered2 i) (Some (byte_at w (low2 + i))) None = λ i l. ap cell (place2 i) ∙ filled (low2 + i) (omega arith) in
     let some2 : (i : ℕ) → i < k - m → is_some (cell (start + (m + i))) ≡ covered i = λ i l. ap is_some (cell2 i l) ∙ some_of_cond (covered i) (byte_at w (low + i)) in
-    let cell3 : (i : ℕ) → i < n - k → cell (start + (k + i)) ≡ None = λ i l.
-    seen (start + (k + i)) ∙ kept_cell w rbuf (start + (k + i)) (omega arith) ∙ ap (λ b. cond b (Some (byte_at w (start + (k + i)))) None) (bounded_cell w limit (start + (k + i)) bounded (omega arith)) in
+    let some3 : (i : ℕ) → i < j - k → is_some (cell (start + (k + i))) ≡ covered2 i = λ i l. ap is_some (cell3 i l) ∙ some_of_cond (covered2 i) (byte_at w (low2 + i)) in
+    let cell4 : (i : ℕ) → i < n - j → cell (start + (j + i)) ≡ None = λ i l.
+    seen (start + (j + i)) ∙ kept_cell w rbuf (start + (j + i)) (omega arith) ∙ ap (λ b. cond b (Some (byte_at w (start + (j + i)))) None) (bounded_cell w end (start + (j + i)) bounded (omega arith)) in
     let new_ : ℕ → Bool = λ i. is_new next limit (start + i) (cell (start + i)) in
     let old_ : ℕ → Bool = λ i. is_old next (start + i) (cell (start + i)) in
     let over_ : ℕ → Bool = λ i. is_over next limit (start + i) (cell (start + i)) in
     let differ_ : ℕ → Bool = λ i. is_differing next rbuf (start + i) (cell (start + i)) (slice_index segment i) in
     let here : ℕ → Bool = λ i. leb (next - rbuf) (start + i) && not (eqb (byte_at w (start + i)) (slice_index segment i)) in
     let there : ℕ → Bool = λ i. covered i && not (eqb (byte_at w (low + i)) (slice_index middle i)) in
-    let new : count_below new_ n ≡ count_below (λ i. false) m + count_below (λ i. not (covered i)) (k - m) + count_below (λ i. false) (n - k)
-    = count_three new_ (λ i. false) (λ i. not (covered i)) (λ i. false) m k n (omega arith) (omega arith)
+    let there2 : ℕ → Bool = λ i. covered2 i && not (eqb (byte_at w (low2 + i)) (slice_index rest i)) in
+    let new : count_below new_ n ≡ count_below (λ i. false) m + count_below (λ i. not (covered i)) (k - m) + count_below (λ i. false) (j - k) + count_below (λ i. false) (n - j)
+    = count_four new_ (λ i. false) (λ i. not (covered i)) (λ i. false) (λ i. false) m k j n (omega arith) (omega arith) (omega arith)
     (λ i l. new_below next limit (start + i) (cell (start + i)) (omega arith))
     (λ i l. new_between next limit (start + (m + i)) (cell (start + (m + i))) (omega arith) (omega arith) ∙ ap not (some2 i l))
-    (λ i l. new_past next limit (start + (k + i)) (cell (start + (k + i))) (omega arith)) in
-    let old : count_below old_ n ≡ count_below (λ i. true) m + count_below covered (k - m) + count_below (λ i. false) (n - k)
-    = count_three old_ (λ i. true) covered (λ i. false) m k n (omega arith) (omega arith)
+    (λ i l. new_past next limit (start + (k + i)) (cell (start + (k + i))) (omega arith))
+    (λ i l. new_past next limit (start + (j + i)) (cell (start + (j + i))) (omega arith)) in
+    let old : count_below old_ n ≡ count_below (λ i. true) m + count_below covered (k - m) + count_below covered2 (j - k) + count_below (λ i. false) (n - j)
+    = count_four old_ (λ i. true) covered covered2 (λ i. false) m k j n (omega arith) (omega arith) (omega arith)
     (λ i l. old_below next (start + i) (cell (start + i)) (omega arith))
     (λ i l. old_above next (start + (m + i)) (cell (start + (m + i))) (omega arith) ∙ some2 i l)
-    (λ i l. old_above next (start + (k + i)) (cell (start + (k + i))) (omega arith) ∙ ap is_some (cell3 i l)) in
-    let over : count_below over_ n ≡ count_below (λ i. false) m + count_below (λ i. false) (k - m) + count_below (λ i. true) (n - k)
-    = count_three over_ (λ i. false) (λ i. false) (λ i. true) m k n (omega arith) (omega arith)
+    (λ i l. old_above next (start + (k + i)) (cell (start + (k + i))) (omega arith) ∙ some3 i l)
+    (λ i l. old_above next (start + (j + i)) (cell (start + (j + i))) (omega arith) ∙ ap is_some (cell4 i l)) in
+    let over : count_below over_ n ≡ count_below (λ i. false) m + count_below (λ i. false) (k - m) + count_below (λ i. not (covered2 i)) (j - k) + count_below (λ i. true) (n - j)
+    = count_four over_ (λ i. false) (λ i. false) (λ i. not (covered2 i)) (λ i. true) m k j n (omega arith) (omega arith) (omega arith)
     (λ i l. over_below next limit (start + i) (cell (start + i)) (omega arith))
     (λ i l. over_between next limit (start + (m + i)) (cell (start + (m + i))) (omega arith))
-    (λ i l. over_past next limit (start + (k + i)) (cell (start + (k + i))) (omega arith) (omega arith) ∙ ap (λ c. not (is_some c)) (cell3 i l)) in
-    let differ : count_below differ_ n ≡ count_below here m + count_below there (k - m) + count_below (λ i. false) (n - k)
-    = count_three differ_ here there (λ i. false) m k n (omega arith) (omega arith)
+    (λ i l. over_past next limit (start + (k + i)) (cell (start + (k + i))) (omega arith) (omega arith) ∙ ap not (some3 i l))
+    (λ i l. over_past next limit (start + (j + i)) (cell (start + (j + i))) (omega arith) (omega arith) ∙ ap (λ c. not (is_some c)) (cell4 i l)) in
+    let differ : count_below differ_ n ≡ count_below here m + count_below there (k - m) + count_below there2 (j - k) + count_below (λ i. false) (n - j)
+    = count_four differ_ here there there2 (λ i. false) m k j n (omega arith) (omega arith) (omega arith)
     (λ i l. ap (λ c. is_differing next rbuf (start + i) c (slice_index segment i)) (cell1 i l) ∙ differs_below next rbuf (start + i) (byte_at w (start + i)) (slice_index segment i) (leb (next - rbuf) (start + i)) refl)
     (λ i l. ap (λ c. is_differing next rbuf (start + (m + i)) c (slice_index segment (m + i))) (cell2 i l)
     ∙ differs_above next rbuf (start + (m + i)) (byte_at w (low + i)) (slice_index segment (m + i)) (covered i) (omega arith)
     ∙ ap (λ b. covered i && not (eqb (byte_at w (low + i)) b)) (sym (part_byte m k n segment i refl (omega arith) (omega arith) l)))
-    (λ i l. ap (λ c. is_differing next rbuf (start + (k + i)) c (slice_index segment (k + i))) (cell3 i l)) in
+    (λ i l. ap (λ c. is_differing next rbuf (start + (k + i)) c (slice_index segment (k + i))) (cell3 i l)
+    ∙ differs_above next rbuf (start + (k + i)) (byte_at w (low2 + i)) (slice_index segment (k + i)) (covered2 i) (omega arith)
+    ∙ ap (λ b. covered2 i && not (eqb (byte_at w (low2 + i)) b)) (sym (part_byte k j n segment i refl (omega arith) (omega arith) l)))
+    (λ i l. ap (λ c. is_differing next rbuf (start + (j + i)) c (slice_index segment (j + i))) (cell4 i l)) in
     let below_is : below ≡ count_below here m = told_below
     ∙ ap (count_below (λ i. leb (next - rbuf) (start + i) && not (eqb (byte_at w (start + i)) (slice_index (take m segment) i)))) front
     ∙ count_below-same (λ i. leb (next - rbuf) (start + i) && not (eqb (byte_at w (start + i)) (slice_index (take m segment) i))) here m
@@ -251,49 +338,47 @@ counts_placed w fin rbuf limit start m k segment laid bounded is_limit cut tally
     let t_new : tally.new ≡ count_below (λ i. not (covered i)) (k - m) = ap (λ t. t.new) told_tally ∙ ap (count_below (λ i. not (covered i))) len in
     let t_old : tally.old ≡ count_below covered (k - m) = ap (λ t. t.old) told_tally ∙ ap (count_below covered) len in
     let t_differ : tally.differ ≡ count_below there (k - m) = ap (λ t. t.differ) told_tally ∙ ap (count_below there) len in
+    let a_new : again.new ≡ count_below (λ i. not (covered2 i)) (j - k) = ap (λ t. t.new) told_again ∙ ap (count_below (λ i. not (covered2 i))) len2 in
+    let a_old : again.old ≡ count_below covered2 (j - k) = ap (λ t. t.old) told_again ∙ ap (count_below covered2) len2 in
+    let a_differ : again.differ ≡ count_below there2 (j - k) = ap (λ t. t.differ) told_again ∙ ap (count_below there2) len2 in
     let none = no_all m in
     let none2 = no_all (k - m) in
-    let none3 = no_all (n - k) in
+    let none3 = no_all (j - k) in
+    let none4 = no_all (n - j) in
     let all = yes_all m in
-    let all3 = yes_all (n - k) in
-    let made : Placed = record { new = count_below new_ n; old = count_below old_ n; differ = count_below differ_ n; over = count_below over_ n } in
-    let same : record { new = tally.new; old = m + tally.old; differ = below + tally.differ; over = n - k } ≡ made = placed_is _ made
-    (omega (arith, new, t_new, none, none3)) (omega (arith, old, t_old, all, none3)) (omega (arith, differ, below_is, t_differ, none3)) (omega (arith, over, none, none2, all3)) in
-    let limit_same : made ≡ counts_viewed (view_of w fin rbuf) start segment = ap
-    (λ x. record { new = count_below (λ i. is_new next x (start + i) (cell (start + i))) n; old = count_below old_ n; differ = count_below differ_ n; over = count_below (λ i. is_over next x (start + i) (cell (start + i))) n })
-    is_limit in
-    told ∙ same ∙ limit_same
+    let all4 = yes_all (n - j) in
+    placed_is _ (counts_viewed (view_of w fin rbuf) limit start segment)
+    (omega (arith, new, t_new, none, none3, none4)) (omega (arith, old, t_old, a_old, all, none4))
+    (omega (arith, differ, below_is, t_differ, a_differ, none4)) (omega (arith, over, a_new, none, none2, all4))
 
--- the buffer before, after bytes were taken, and after old ones were dropped
-pub record IsPlaced (old mid new : Window) (rbuf low : ℕ) (middle : List ℕ) (policy : Policy) : Type 0 where
+-- the buffer before, after bytes were taken and laid again, and after old ones were dropped
+pub record IsPlaced (old mid new : Window) (rbuf start m k j : ℕ) (segment : List ℕ) (policy : Policy) : Type 0 where
   pub old_laid : IsLaid old
   pub old_kept : old.bytes.base ≤ old.next - rbuf
   pub mid_laid : IsLaid mid
-  pub mid_base : mid.bytes.base ≡ old.bytes.base
   pub rises : old.next ≤ mid.next
-  pub taken : (p : ℕ) → old.bytes.base ≤ p → cell_at mid p ≡ taken_cell policy low middle p (cell_at old p)
+  pub placed : (p : ℕ) → old.bytes.base ≤ p → cell_at mid p ≡ placed_cell policy start segment m k j p (cell_at old p)
   pub new_laid : IsLaid new
   pub new_next : new.next ≡ mid.next
   pub new_runs : runs_of new.runs ≡ runs_of mid.runs
   pub new_kept : new.bytes.base ≤ new.next - rbuf
   pub new_bytes : (p : ℕ) → new.bytes.base ≤ p → byte_at new p ≡ byte_at mid p
 
-pub steps_placed : (old mid new : Window) (fin : Option ℕ) (rbuf limit start m k : ℕ) (policy : Policy) (segment : List ℕ)
-    → IsPlaced old mid new rbuf (start + m) (take (k - m) (drop m segment)) policy → IsBounded old limit → limit ≡ limit_of old.next fin rbuf → IsCut old.next limit start (length segment) m k
-    → StepsTo start segment policy (view_of old fin rbuf) (view_of new fin rbuf)
-steps_placed old mid new fin rbuf limit start m k policy segment h bounded is_limit cut =
-    let after : ℕ → Option ℕ → Option ℕ = λ p c. held_after old.next (limit_of old.next fin rbuf) policy start segment p c in
+pub steps_placed : (old mid new : Window) (fin : Option ℕ) (rbuf limit end start m k j : ℕ) (policy : Policy) (segment : List ℕ)
+    → IsPlaced old mid new rbuf start m k j segment policy → IsBounded old end → IsCut old.next limit end start (length segment) m k j
+    → StepsTo limit start segment policy (view_of old fin rbuf) (view_of new fin rbuf)
+steps_placed old mid new fin rbuf limit end start m k j policy segment h bounded cut =
+    let after : ℕ → Option ℕ → Option ℕ = λ p c. held_after old.next limit policy start segment p c in
     let rises : old.next ≤ mid.next = h.rises in
     let same_next : new.next ≡ mid.next = h.new_next in
     let old_kept : old.bytes.base ≤ old.next - rbuf = h.old_kept in
     let new_kept : new.bytes.base ≤ new.next - rbuf = h.new_kept in
     let told : (p : ℕ) → old.next - rbuf ≤ p → after p (held (view_of old fin rbuf).kept p) ≡ cell_at mid p = λ p l.
     ap (after p) (held_viewed old fin rbuf h.old_laid p ∙ kept_cell old rbuf p l)
-    ∙ ap (λ x. held_after old.next x policy start segment p (cell_at old p)) (sym is_limit)
-    ∙ after_is_taken old.next limit start m k p policy segment (cell_at old p) cut
+    ∙ after_is_taken old.next limit end start m k j p policy segment (cell_at old p) cut
     (λ b. some_of_cond (is_accepted old.next (runs_of old.runs) p) (byte_at old p) ∙ accepted_below old.next (runs_of old.runs) p b)
-    (λ b. ap (λ x. cond x (Some (byte_at old p)) None) (bounded_cell old limit p bounded b))
-    ∙ sym (h.taken p (omega arith)) in
+    (λ b. ap (λ x. cond x (Some (byte_at old p)) None) (bounded_cell old end p bounded b))
+    ∙ sym (h.placed p (omega arith)) in
     let some_mid : (p : ℕ) → is_some (cell_at mid p) ≡ is_accepted mid.next (runs_of mid.runs) p = λ p. some_of_cond (is_accepted mid.next (runs_of mid.runs) p) (byte_at mid p) in
     let same_cell : (p : ℕ) → new.bytes.base ≤ p → cell_at new p ≡ cell_at mid p = λ p l.
     ap₂ (λ b x. cond b (Some x) None) (ap₂ (λ n (rs : List Run). is_accepted n rs p) same_next h.new_runs) (h.new_bytes p l) in

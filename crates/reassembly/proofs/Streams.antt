@@ -8,31 +8,30 @@ use Rattle.std.proofs.lemmas.List.Sums.{prefix_len_is}
 use Rattle.reassembly.specs.declared.answers.Policy.{Policy}
 use Rattle.reassembly.specs.declared.answers.Placed.{Placed}
 use Rattle.reassembly.specs.declared.window.Window.{Window}
-use Rattle.reassembly.specs.Receiver.{Receiver, held, next_of, kept, low_of, limit_of}
+use Rattle.reassembly.specs.Receiver.{Receiver, held, next_of, kept, low_of, wide_of, limit_of}
 use Rattle.reassembly.specs.Segment.{accept, accept_at, counts, counts_at, from_zero, below_zero}
 use Rattle.reassembly.specs.View.{StandsFor}
 use Rattle.reassembly.specs.Steps.{StepsTo, counts_viewed}
-use Rattle.reassembly.specs.Runs.{run_at}
-use Rattle.reassembly.specs.Window.{view_of, IsBounded, IsWhole, IsSameWindow}
-use Rattle.reassembly.specs.Waiting.{runs_of}
+use Rattle.reassembly.specs.Window.{view_of, IsWhole, IsSameWindow}
 use Rattle.reassembly.proofs.Cells.{below_next}
-use Rattle.reassembly.proofs.Laws.{stands_after, counts_stand}
+use Rattle.reassembly.proofs.Laws.{IsLimitOf, stands_after, counts_stand}
 
--- nothing is accepted at the limit or past it
-pub bounded_limit : (w : Window) (fin : Option ℕ) (rbuf : ℕ) → IsWhole w fin rbuf → IsBounded w (limit_of w.next fin rbuf)
-bounded_limit w None rbuf h = record { next = omega arith; runs = h.sized.span }
-bounded_limit w (Some f) rbuf h =
-    let fin : IsBounded w f = h.fin f refl in
-    let next : w.next ≤ f = fin.next in
-    record {
-      next = omega arith;
-      runs = record {
-        each = λ k l.
-            let e : (run_at (runs_of w.runs) k).end ≤ w.next + rbuf = h.sized.span.each k l in
-            let g : (run_at (runs_of w.runs) k).end ≤ f = fin.runs.each k l in
-            omega arith;
-      };
-    }
+-- the limit lies at next or above it, in the window and at a noted FIN or below it
+pub next_limit : (w : Window) (fin : Option ℕ) (rbuf wide : ℕ) → IsWhole w fin rbuf → w.next ≤ limit_of w.next fin wide
+next_limit w None rbuf wide h = omega arith
+next_limit w (Some f) rbuf wide h = let next : w.next ≤ f = (h.fin f refl).next in omega arith
+
+pub limit_within : (next : ℕ) (fin : Option ℕ) (wide rbuf : ℕ) → wide ≤ rbuf → limit_of next fin wide ≤ next + rbuf
+limit_within next None wide rbuf l = omega arith
+limit_within next (Some f) wide rbuf l = omega arith
+
+pub limit_fin : (next : ℕ) (fin : Option ℕ) (wide f : ℕ) → fin ≡ Some f → limit_of next fin wide ≤ f
+limit_fin next fin wide f e = rw e (omega arith)
+
+-- the limit of the stream is that of whichever receiver it stands for
+limit_same : (w : Window) (fin : Option ℕ) (rbuf wide limit : ℕ) → limit ≡ limit_of w.next fin wide
+    → (r : Receiver) → StandsFor (view_of w fin rbuf) r → wide ≡ wide_of r rbuf → IsLimitOf limit r rbuf
+limit_same w fin rbuf wide limit is_limit r h is_wide = is_limit ∙ ap₂ (λ n f. limit_of n f wide) h.next h.fin ∙ ap (limit_of (next_of r.cells) r.fin) is_wide
 
 -- the same content has the same invariant
 pub whole_same : (old new : Window) (fin : Option ℕ) (rbuf : ℕ) → IsSameWindow old new → IsWhole old fin rbuf → IsWhole new fin rbuf
@@ -57,13 +56,14 @@ whole_same old new fin rbuf same h = record {
 pub cut_bytes : (below cut : ℕ) (bytes : List ℕ) → cut ≡ min below (length bytes) → take (length bytes - cut) (drop cut bytes) ≡ drop below bytes
 cut_bytes below cut bytes e = take_rest bytes cut ∙ ap (λ n. drop n bytes) e ∙ drop_min below bytes
 
-pub stream_stands : (w n : Window) (fin : Option ℕ) (rbuf : ℕ) (d : ℤ) (bytes : List ℕ) (policy : Policy) (position below cut : ℕ)
+pub stream_stands : (w n : Window) (fin : Option ℕ) (rbuf wide limit : ℕ) (d : ℤ) (bytes : List ℕ) (policy : Policy) (position below cut : ℕ)
     → position ≡ from_zero (pos w.next +ℤ d) → below ≡ below_zero (pos w.next +ℤ d) → cut ≡ min below (length bytes)
-    → StepsTo position (take (length bytes - cut) (drop cut bytes)) policy (view_of w fin rbuf) (view_of n fin rbuf)
-    → (r : Receiver) → StandsFor (view_of w fin rbuf) r → StandsFor (view_of n fin rbuf) (accept r (pos (next_of r.cells) +ℤ d) bytes policy rbuf)
+    → limit ≡ limit_of w.next fin wide → StepsTo limit position (take (length bytes - cut) (drop cut bytes)) policy (view_of w fin rbuf) (view_of n fin rbuf)
+    → (r : Receiver) → StandsFor (view_of w fin rbuf) r → wide ≡ wide_of r rbuf → StandsFor (view_of n fin rbuf) (accept r (pos (next_of r.cells) +ℤ d) bytes policy rbuf)
 unfolding accept
-stream_stands w n fin rbuf d bytes policy position below cut at under e step r h =
-    let stood = stands_after position (take (length bytes - cut) (drop cut bytes)) policy (view_of w fin rbuf) (view_of n fin rbuf) step r h in
+stream_stands w n fin rbuf wide limit d bytes policy position below cut at under e is_limit step r h is_wide =
+    let stood = stands_after limit position (take (length bytes - cut) (drop cut bytes)) policy (view_of w fin rbuf) (view_of n fin rbuf) step r h
+    (limit_same w fin rbuf wide limit is_limit r h is_wide) in
     let next : w.next ≡ next_of r.cells = h.next in
     let q : from_zero (pos w.next +ℤ d) ≡ from_zero (pos (next_of r.cells) +ℤ d) = ap (λ x. from_zero (pos x +ℤ d)) next in
     let b : below_zero (pos w.next +ℤ d) ≡ below_zero (pos (next_of r.cells) +ℤ d) = ap (λ x. below_zero (pos x +ℤ d)) next in
@@ -71,19 +71,19 @@ stream_stands w n fin rbuf d bytes policy position below cut at under e step r h
     subst (λ (x : ℕ × List ℕ). StandsFor (view_of n fin rbuf) (accept_at r x.0 x.1 policy rbuf))
     (ap₂ (λ x y. (x, y)) (at ∙ q) (cut_bytes below cut bytes e ∙ same)) stood
 
-pub stream_counts : (w : Window) (fin : Option ℕ) (rbuf : ℕ) (d : ℤ) (bytes : List ℕ) (position below cut : ℕ) (placed : Placed)
+pub stream_counts : (w : Window) (fin : Option ℕ) (rbuf wide limit : ℕ) (d : ℤ) (bytes : List ℕ) (position below cut : ℕ) (placed : Placed)
     → position ≡ from_zero (pos w.next +ℤ d) → below ≡ below_zero (pos w.next +ℤ d) → cut ≡ min below (length bytes)
-    → placed ≡ counts_viewed (view_of w fin rbuf) position (take (length bytes - cut) (drop cut bytes))
-    → (r : Receiver) → StandsFor (view_of w fin rbuf) r
+    → limit ≡ limit_of w.next fin wide → placed ≡ counts_viewed (view_of w fin rbuf) limit position (take (length bytes - cut) (drop cut bytes))
+    → (r : Receiver) → StandsFor (view_of w fin rbuf) r → wide ≡ wide_of r rbuf
     → record { new = placed.new; old = cut + placed.old; differ = placed.differ; over = placed.over } ≡ counts r (pos (next_of r.cells) +ℤ d) bytes rbuf
 unfolding counts
-stream_counts w fin rbuf d bytes position below cut placed at under e told r h =
+stream_counts w fin rbuf wide limit d bytes position below cut placed at under e is_limit told r h is_wide =
     let next : w.next ≡ next_of r.cells = h.next in
     let q : from_zero (pos w.next +ℤ d) ≡ from_zero (pos (next_of r.cells) +ℤ d) = ap (λ x. from_zero (pos x +ℤ d)) next in
     let b : below_zero (pos w.next +ℤ d) ≡ below_zero (pos (next_of r.cells) +ℤ d) = ap (λ x. below_zero (pos x +ℤ d)) next in
     let same : drop below bytes ≡ drop (below_zero (pos (next_of r.cells) +ℤ d)) bytes = ap (λ k. drop k bytes) (under ∙ b) in
     let all : placed ≡ counts_at r (from_zero (pos (next_of r.cells) +ℤ d)) (drop (below_zero (pos (next_of r.cells) +ℤ d)) bytes) rbuf
-    = told ∙ counts_stand position (take (length bytes - cut) (drop cut bytes)) (view_of w fin rbuf) r h
+    = told ∙ counts_stand limit position (take (length bytes - cut) (drop cut bytes)) (view_of w fin rbuf) r h (limit_same w fin rbuf wide limit is_limit r h is_wide)
     ∙ ap₂ (λ x y. counts_at r x y rbuf) (at ∙ q) (cut_bytes below cut bytes e ∙ same) in
     let made : ℕ → Placed → Placed = λ k c. record { new = c.new; old = k + c.old; differ = c.differ; over = c.over } in
     ap₂ made (e ∙ ap (λ k. min k (length bytes)) (under ∙ b)) all

@@ -37,7 +37,7 @@ fin_after r (negsuc n) answer = r.fin
 
 -- the receiver after a FIN at q
 unfoldable pub noted : Receiver → ℤ → ℕ → Receiver
-noted r q edge = record { cells = r.cells; fin = fin_after r q (note_of r q edge) }
+noted r q edge = record { cells = r.cells; fin = fin_after r q (note_of r q edge); offer = r.offer }
 
 -- all bytes up to the noted FIN were accepted
 abbrev pub is_fin_reached : ℕ → Option ℕ → Bool

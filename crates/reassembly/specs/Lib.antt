@@ -1,6 +1,7 @@
 pub mod Position
 pub mod Receiver
 pub mod Segment
+pub mod Offer
 pub mod Fin
 pub mod Kept
 pub mod View

@@ -74,6 +74,10 @@ pub record IsSameWindow (old new : Window) : Type 0 where
 abbrev pub taken_cell : Policy → ℕ → List ℕ → ℕ → Option ℕ → Option ℕ
 taken_cell policy low bytes p c = if has_byte low bytes p && not (is_some c && not (is_last policy)) then Some (slice_index bytes (p - low)) else c
 
+-- the cell at p after bytes came again that stand from low on: none is accepted anew, and an old one is replaced under last
+abbrev pub again_cell : Policy → ℕ → List ℕ → ℕ → Option ℕ → Option ℕ
+again_cell policy low bytes p c = if has_byte low bytes p && (is_some c && is_last policy) then Some (slice_index bytes (p - low)) else c
+
 -- how those bytes are judged
 abbrev pub taken_tally : Window → ℕ → List ℕ → Tally
 taken_tally w low bytes = tally_in w.bytes (runs_of w.runs) low bytes (length bytes)

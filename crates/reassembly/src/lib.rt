@@ -8,6 +8,7 @@
 mod answers;
 mod fin;
 mod laying;
+mod offer;
 mod pages;
 mod pieces;
 mod plain;
@@ -18,6 +19,7 @@ mod waiting;
 mod window;
 
 pub use answers::{FinNote, Placed, Policy};
+pub use offer::{greatest_offer, wide};
 pub use pieces::Pieces;
 pub use plain::PlainReceiver;
 pub use stream::Stream;

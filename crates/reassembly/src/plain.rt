@@ -2,12 +2,14 @@
 
 ghost use Rattle.std.specs.Prelude.{◌≡◌, ℕ, ◌+◌, ◌<◌, ◌≤◌, ◌^◌, ℤ, pos, ◌+ℤ◌, neg_ℤ, ◌≤ℤ◌, ◌<ℤ◌, max, length, drop, OnOk, OnErr, IfOk, Option, is_some, slice_index, slice_index_or, None};
 ghost use Rattle.std.specs.List.{prefix_len};
-ghost use Rattle.reassembly.specs.Receiver.{no_bytes, held, next_of, kept, limit_of};
+ghost use Rattle.reassembly.specs.Receiver.{no_bytes, held, next_of, kept, wide_of, limit_of};
 ghost use Rattle.reassembly.specs.Segment.{is_old, is_new, is_over, is_differing, cell_after, held_after, accept, counts};
 ghost use Rattle.reassembly.specs.Fin.{is_free_from, note_of, noted};
+ghost use Rattle.reassembly.specs.Offer.{offered};
 ghost use Rattle.reassembly.specs.Plain.{judged_below, counted_more};
 
 use crate::fin::{judge, natural, noted_after};
+use crate::offer::{greatest_offer, wide};
 use crate::start::{limit, start_of};
 use crate::{FinNote, Placed, Policy};
 use std::alloc::{AllocError, Global};
@@ -19,6 +21,7 @@ use std::marker::Model;
 pub struct PlainReceiver {
     cells: Vec<Option<u8>>,
     fin: Option<u64>,
+    offer: Option<u64>,
 }
 
 impl Model for PlainReceiver {
@@ -26,7 +29,7 @@ impl Model for PlainReceiver {
 
     ghost Value = { Receiver };
 
-    ghost view = { λ r. record { cells = r.cells.items; fin = r.fin } };
+    ghost view = { λ r. record { cells = r.cells.items; fin = r.fin; offer = r.offer } };
 }
 
 /// What all bytes of a segment are judged by: the receiver from before it.
@@ -129,6 +132,7 @@ impl PlainReceiver {
         PlainReceiver {
             cells: Vec::new(alloc),
             fin: None,
+            offer: None,
         }
     }
 
@@ -151,6 +155,21 @@ impl PlainReceiver {
         }
     }
 
+    /// How many positions from `next` on lie in its receive window, for a receive buffer of `rbuf` bytes.
+    pub fn wide(&self, rbuf: u32) -> u32
+        ensures value { result ≡ wide_of self.now rbuf }
+        ensures bound { result ≤ rbuf }
+    {
+        wide(self.next(), self.offer, rbuf)
+    }
+
+    /// Makes an offer of `size` positions from `position` on.
+    pub fn offer(&mut self, position: i64, size: u32)
+        ensures { self.new ≡ offered self.old position size }
+    {
+        self.offer = Some(greatest_offer(self.offer, position, size));
+    }
+
     /// Accepts the bytes of a segment whose first one stands `d` above `next`, and answers how they were judged.
     /// Where memory is refused, the receiver is as before.
     pub fn accept(
@@ -171,7 +190,7 @@ impl PlainReceiver {
         let next = self.next();
         let before = Before {
             next,
-            limit: limit(next, self.fin, rbuf),
+            limit: limit(next, self.fin, wide(next, self.offer, rbuf)),
             rbuf,
         };
         let start = start_of(next, d);

@@ -33,12 +33,12 @@ pub fn start_of(next: u64, d: i64) -> Start
     }
 }
 
-/// The first position that isn't accepted: the end of the receive window, or a FIN below it.
-pub fn limit(next: u64, fin: Option<u64>, rbuf: u32) -> u64
-    requires { next + rbuf < 2 ^ 63 }
-    ensures { result ≡ limit_of next fin rbuf }
+/// The first position from which on none is accepted anew: the end of the receive window, or a FIN below it.
+pub fn limit(next: u64, fin: Option<u64>, wide: u32) -> u64
+    requires { next + wide < 2 ^ 63 }
+    ensures { result ≡ limit_of next fin wide }
 {
-    let end = next + u64::from(rbuf);
+    let end = next + u64::from(wide);
     match fin {
         Some(fin) => fin.min(end),
         None => end,

@@ -1,7 +1,7 @@
 //! A stream: its buffer, its FIN, and the size of its receive buffer.
 
 ghost use Rattle.std.specs.Prelude.{◌≡◌, ℕ, ◌+◌, ◌-◌, ◌<◌, ◌≤◌, ◌^◌, ℤ, pos, ◌+ℤ◌, neg_ℤ, ◌≤ℤ◌, ◌<ℤ◌, ◌++◌, min, length, drop, OnOk, OnErr, IfOk, Option, None};
-ghost use Rattle.reassembly.specs.Receiver.{Receiver, no_bytes, next_of, kept, low_of};
+ghost use Rattle.reassembly.specs.Receiver.{Receiver, no_bytes, next_of, kept, low_of, wide_of};
 ghost use Rattle.reassembly.specs.Kept.{bytes_from, runs_from, positions_in, AreWhole};
 ghost use Rattle.reassembly.specs.Segment.{accept, counts};
 ghost use Rattle.reassembly.specs.Fin.{note_of, noted};
@@ -75,20 +75,28 @@ impl Stream {
         self.window.next.saturating_sub(u64::from(self.rbuf))
     }
 
-    /// Places the bytes of a segment whose first one stands `d` above `next`, and answers how they were judged.
-    /// Where memory is refused, the stream is as before.
-    pub fn place(&mut self, d: i64, bytes: &[u8], policy: Policy) -> Result<Placed, AllocError>
+    /// Places the bytes of a segment whose first one stands `d` above `next`, where the receive window is `wide`
+    /// positions wide, from 0 to `rbuf`, and answers how they were judged. Where memory is refused, the stream is as
+    /// before.
+    pub fn place(
+        &mut self,
+        d: i64,
+        bytes: &[u8],
+        policy: Policy,
+        wide: u32,
+    ) -> Result<Placed, AllocError>
         requires from { neg_ℤ (pos (2 ^ 31)) ≤ℤ d }
         requires to { d <ℤ pos (2 ^ 31) }
         requires short { length bytes.now ≤ 65535 }
         requires next { self.old.next ≤ 2 ^ 62 }
+        requires wide { wide ≤ self.old.rbuf }
         ensures err { OnErr result (self.new ≡ self.old) }
         ensures rbuf { self.new.rbuf ≡ self.old.rbuf }
         ensures rise { OnOk result (self.new.next ≤ self.old.next + self.old.rbuf) }
-        ensures stands { OnOk result ((r : Receiver) → StandsFor self.old r → StandsFor self.new (accept r (pos (next_of r.cells) +ℤ d) bytes.now policy self.old.rbuf)) }
-        ensures counts { IfOk result (λ placed. (r : Receiver) → StandsFor self.old r → placed ≡ counts r (pos (next_of r.cells) +ℤ d) bytes.now self.old.rbuf) }
+        ensures stands { OnOk result ((r : Receiver) → StandsFor self.old r → wide ≡ wide_of r self.old.rbuf → StandsFor self.new (accept r (pos (next_of r.cells) +ℤ d) bytes.now policy self.old.rbuf)) }
+        ensures counts { IfOk result (λ placed. (r : Receiver) → StandsFor self.old r → wide ≡ wide_of r self.old.rbuf → placed ≡ counts r (pos (next_of r.cells) +ℤ d) bytes.now self.old.rbuf) }
     {
-        let limit = limit(self.window.next, self.fin, self.rbuf);
+        let limit = limit(self.window.next, self.fin, wide);
         let start = start_of(self.window.next, d);
         let below = start.below.min(bytes.len() as u64) as usize;
         let placed = self

@@ -1,7 +1,8 @@
 //! The buffer of a stream: the bytes of its pages, of which those below `next` and those in a run are accepted.
 
 ghost use Rattle.std.specs.Prelude.{◌≡◌, ℕ, ◌+◌, ◌-◌, ◌<◌, ◌≤◌, ◌^◌, ◌⊎◌, ◌||◌, ◌&&◌, [], length, min, true, nat_le, nat_lt, slice_index, OnOk, OnErr, IfOk, Option, IsTrue, IsFalse};
-ghost use Rattle.reassembly.specs.Runs.{AreOrdered, AreAbove, is_accepted};
+ghost use Rattle.reassembly.specs.Runs.{AreOrdered, AreAbove, is_accepted, is_covered};
+ghost use Rattle.reassembly.specs.Pages.{IsHeld, IsReady, IsGrown, tally_in};
 ghost use Rattle.reassembly.specs.Waiting.{runs_of, IsMet};
 
 use crate::laying::Tally;
@@ -26,10 +27,9 @@ fn count_under(position: u64, start: u64, len: usize) -> usize
 }
 
 impl Window {
-    ghost use Rattle.reassembly.specs.Receiver.{limit_of};
     ghost use Rattle.reassembly.specs.Steps.{StepsTo, counts_viewed};
     ghost use Rattle.reassembly.specs.Kept.{IsRunEnd, IsFirstKept};
-    ghost use Rattle.reassembly.specs.Window.{view_of, kept_at, byte_at, cell_at, IsLaid, IsSized, IsBounded, IsSameWindow, taken_cell, taken_tally, differing_below};
+    ghost use Rattle.reassembly.specs.Window.{view_of, kept_at, byte_at, cell_at, IsLaid, IsSized, IsBounded, IsSameWindow, taken_cell, taken_tally, again_cell, differing_below};
 
     /// A buffer with nothing in it. It takes no memory.
     pub fn new(alloc: Global) -> Self
@@ -41,6 +41,36 @@ impl Window {
             bytes: Pages::new(alloc),
             runs: Runs::new(alloc),
         }
+    }
+
+    // Where the accepted positions end: none is accepted there or above.
+    fn end(&self) -> u64
+        requires { IsLaid self.now }
+        ensures bounded { IsBounded self.now result }
+        ensures last { 0 < result → is_accepted self.now.next (runs_of self.now.runs) (result - 1) ≡ true }
+    {
+        match self.runs.end() {
+            Some(end) => end,
+            None => self.next,
+        }
+    }
+
+    // Takes the memory for the positions from `low` to below `high`, and answers the runs that touch them. Where there is
+    // no such position, it takes none.
+    fn meet(&mut self, low: u64, high: u64) -> Result<Vec<Run>, AllocError>
+        requires laid { IsLaid self.old }
+        requires base { (high ≤ low) ⊎ (self.old.bytes.base ≤ low) }
+        ensures place { (self.new.next ≡ self.old.next) × (self.new.runs ≡ self.old.runs) }
+        ensures grown { IsGrown self.old.bytes self.new.bytes }
+        ensures ready { OnOk result (IsReady self.new.bytes low high) }
+        ensures ordered { IfOk result (λ met. AreOrdered met.items) }
+        ensures met { IfOk result (λ met. (high ≤ low) ⊎ IsMet (runs_of self.old.runs) low high met.items) }
+    {
+        if high <= low {
+            return Ok(Vec::new(self.bytes.alloc));
+        }
+        self.bytes.reserve(low, high)?;
+        self.runs.touching(low, high)
     }
 
     // Accepts the positions from `low` to below `high`, where `met` are the runs that touch them.
@@ -107,6 +137,7 @@ impl Window {
         requires reach { low + length bytes.now < 2 ^ 63 }
         ensures err { OnErr result (IsSameWindow self.old self.new) }
         ensures base { self.new.bytes.base ≡ self.old.bytes.base }
+        ensures held { (p : ℕ) → IsHeld self.old.bytes p → IsHeld self.new.bytes p }
         ensures laid { OnOk result (IsLaid self.new) }
         ensures rises { OnOk result (self.old.next ≤ self.new.next) }
         ensures bounded { OnOk result ((limit : ℕ) → (length bytes.now ≡ 0) ⊎ (low + length bytes.now ≤ limit) → IsBounded self.old limit → IsBounded self.new limit) }
@@ -122,14 +153,39 @@ impl Window {
             });
         }
         let high = low + bytes.len() as u64;
-        self.bytes.reserve(low, high)?;
-        let met = self.runs.touching(low, high)?;
+        let met = self.meet(low, high)?;
         self.accept(low, high, &met)?;
         Ok(self.bytes.lay(&met, low, bytes, policy))
     }
 
-    /// Places a segment that begins at `start`, where bytes from `limit` on are not accepted, and answers how its bytes
-    /// were judged. Where memory is refused, nothing has changed.
+    // Lays bytes from `low` on, whose memory is there and which `met` covers where they are accepted. These came before,
+    // and none of the others is accepted.
+    fn repeat(&mut self, met: &[Run], low: u64, bytes: &[u8], policy: Policy) -> Tally
+        requires laid { IsLaid self.old }
+        requires ordered { AreOrdered met.now }
+        requires base { (length bytes.now ≡ 0) ⊎ (self.old.bytes.base ≤ low) }
+        requires ready { IsReady self.old.bytes low (low + length bytes.now) }
+        requires met { (p : ℕ) → low ≤ p → p < low + length bytes.now → is_covered met.now p ≡ is_accepted self.old.next (runs_of self.old.runs) p }
+        requires short { length bytes.now ≤ 65535 }
+        requires reach { low + length bytes.now < 2 ^ 63 }
+        ensures place { (self.new.next ≡ self.old.next) × (self.new.runs ≡ self.old.runs) × (self.new.bytes.base ≡ self.old.bytes.base) }
+        ensures laid { IsLaid self.new }
+        ensures cells { (p : ℕ) → self.old.bytes.base ≤ p → cell_at self.new p ≡ again_cell policy low bytes.now p (cell_at self.old p) }
+        ensures tally { result ≡ tally_in self.old.bytes met.now low bytes.now (length bytes.now) }
+        ensures few { (result.new ≤ length bytes.now) × (result.old ≤ length bytes.now) × (result.differ ≤ length bytes.now) }
+    {
+        if bytes.is_empty() {
+            return Tally {
+                new: 0,
+                old: 0,
+                differ: 0,
+            };
+        }
+        self.bytes.lay(met, low, bytes, policy)
+    }
+
+    /// Places a segment that begins at `start`, where no position from `limit` on is accepted anew, and answers how its
+    /// bytes were judged. What was accepted there before an offer stays old. Where memory is refused, nothing has changed.
     pub fn place(
         &mut self,
         start: u64,
@@ -140,28 +196,32 @@ impl Window {
     ) -> Result<Placed, AllocError>
         requires laid { IsLaid self.old }
         requires sized { IsSized self.old rbuf }
-        requires bounded { IsBounded self.old limit }
+        requires order { self.old.next ≤ limit }
         requires window { limit ≤ self.old.next + rbuf }
         requires short { length segment.now ≤ 65535 }
         requires reach { (start + 65535 < 2 ^ 63) × (self.old.next + rbuf < 2 ^ 63) }
         ensures err { OnErr result (IsSameWindow self.old self.new) }
         ensures laid { OnOk result (IsLaid self.new) }
         ensures sized { OnOk result (IsSized self.new rbuf) }
-        ensures bounded { OnOk result (IsBounded self.new limit) }
-        ensures steps { OnOk result ((fin : Option ℕ) → limit ≡ limit_of self.old.next fin rbuf → StepsTo start segment.now policy (view_of self.old fin rbuf) (view_of self.new fin rbuf)) }
-        ensures counts { IfOk result (λ placed. (fin : Option ℕ) → limit ≡ limit_of self.old.next fin rbuf → placed ≡ counts_viewed (view_of self.old fin rbuf) start segment.now) }
+        ensures bounded { OnOk result ((m : ℕ) → limit ≤ m → IsBounded self.old m → IsBounded self.new m) }
+        ensures steps { OnOk result ((fin : Option ℕ) → StepsTo limit start segment.now policy (view_of self.old fin rbuf) (view_of self.new fin rbuf)) }
+        ensures counts { IfOk result (λ placed. (fin : Option ℕ) → placed ≡ counts_viewed (view_of self.old fin rbuf) limit start segment.now) }
         ensures bounds { IfOk result (λ placed. placed.old ≤ length segment.now) }
     {
         let below = count_under(self.next, start, segment.len());
         let within = count_under(limit, start, segment.len());
+        let reach = within.max(count_under(self.end(), start, segment.len()));
+        let rest = start + within as u64;
         let differ = self.compare(start, &segment[..below], rbuf);
+        let met = self.meet(rest, start + reach as u64)?;
         let tally = self.take(start + below as u64, &segment[below..within], policy)?;
+        let again = self.repeat(&met, rest, &segment[within..reach], policy);
         self.forget(rbuf);
         Ok(Placed {
             new: tally.new,
-            old: below as u32 + tally.old,
-            differ: differ + tally.differ,
-            over: (segment.len() - within) as u32,
+            old: below as u32 + tally.old + again.old,
+            differ: differ + tally.differ + again.differ,
+            over: (segment.len() - reach) as u32 + again.new,
         })
     }
 
@@ -171,13 +231,7 @@ impl Window {
         ensures free { IsTrue result → IsBounded self.now position }
         ensures taken { IsFalse result → (p : ℕ) × (position ≤ p) × (is_accepted self.now.next (runs_of self.now.runs) p ≡ true) }
     {
-        if position < self.next {
-            return false;
-        }
-        match self.runs.end() {
-            Some(end) => end <= position,
-            None => true,
-        }
+        self.end() <= position
     }
 
     /// Where the run of kept positions ends that has `position`: `position` itself, where it isn't kept.
