@@ -30,21 +30,21 @@ use Rattle.connection_core.proofs.Settling.{phase_rises}
 
 -- What a phase makes of each course that stands, that of the sender makes of the connection's. `R` is what is known of a course
 -- before and after.
-pub sender_makes : (app : Meaning) (s : ControlState) (keep : Bool) (others : Counts) (at : ℕ → Option Reg) (tree : TreeLists) (number : ℕ) (from : Side) (head : Head)
+pub sender_makes : (app : Meaning) (s : ControlState) (keep : Bool) (others : Counts) (at : ℕ → Option Reg) (tree : TreeLists) (number : ℕ) (from : Side) (head : Head) (scale : Option ℕ)
     (answer : Sent) (raises : List Raise) (flow : Flow) (socket : SocketView) (notes : Notes) (ledger begun : Ledger) (h : History) (R : Course → Course → Type 0)
     → IsConnection keep others at tree flow notes ledger.counts h
-    → ((e : Emulation) → SocketStandsFor flow.socket e → SocketStandsFor socket (sent from head e))
+    → ((e : Emulation) → SocketStandsFor flow.socket e → SocketStandsFor socket (sent from head scale e))
     → ((e : Emulation) → SocketStandsFor flow.socket e → answer ≡ sent_answer from head e)
     → raises ≡ sender_raises head from flow.count (eqb flow.count 0) answer
     → begun.changes.items ≡ [] → begun.drop ≡ None → begun.counts ≡ ledger.counts
     → ((c : Course) → IsUnder keep others (active_in at tree) socket notes begun c → R c (phase app s number from raises c))
-    → R (begin (sent from head h.emulation) h) (sender_phase app s number from head h)
+    → R (begin (sent from head scale h.emulation) h) (sender_phase app s number from head scale h)
 unfolding sender_phase
-sender_makes app s keep others at tree number from head answer raises flow socket notes ledger begun h R is heard answers raised_are none no_drop counts makes =
+sender_makes app s keep others at tree number from head scale answer raises flow socket notes ledger begun h R is heard answers raised_are none no_drop counts makes =
     let e = h.emulation in
     let all : raises ≡ sender_raises head from h.count (eqb h.count 0) (sent_answer from head e) =
     raised_are ∙ ap (λ n. sender_raises head from n (eqb n 0) answer) is.kept.count ∙ ap (λ a. sender_raises head from h.count (eqb h.count 0) a) (answers e is.kept.socket) in
-    let c = begin (sent from head e) h in
+    let c = begin (sent from head scale e) h in
     let under : IsUnder keep others (active_in at tree) socket notes begun c = record {
       heard = heard e is.kept.socket;
       active = is.kept.active;
@@ -141,11 +141,11 @@ received_rises None number c r h up = up
 received_rises (Some reason) number c r h up = omega arith
 
 -- it failed at its sender
-pub sender_costs : (app : Meaning) (s : ControlState) (i j : Option ℕ) (number : ℕ) (from : Side) (head : Head) (payload : List ℕ) (h : History)
-    → InternsWithin i j h.altered (sender_phase app s number from head h).altered → InternsWithin i j h.altered (followed app s number from head payload h).altered
+pub sender_costs : (app : Meaning) (s : ControlState) (i j : Option ℕ) (number : ℕ) (from : Side) (head : Head) (scale : Option ℕ) (payload : List ℕ) (h : History)
+    → InternsWithin i j h.altered (sender_phase app s number from head scale h).altered → InternsWithin i j h.altered (followed app s number from head scale payload h).altered
 unfolding followed
-sender_costs app s i j number from head payload h costs =
-    let sent = sender_phase app s number from head h in
+sender_costs app s i j number from head scale payload h costs =
+    let sent = sender_phase app s number from head scale h in
     let received = receiver_phase app s number from head payload h.count sent in
     within-up i j h.altered sent.altered (received_unless sent.drop number sent received h).altered
     (received_rises sent.drop number sent received h (receiver_rises app s number from head payload h.count sent)) costs

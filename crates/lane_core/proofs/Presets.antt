@@ -197,16 +197,16 @@ module _ (number : ℕ) (from : Side) where
 
 module _ (number : ℕ) (from : Side) (segment : Segment) (h : History) (is : h.active ≡ on) where
   abbrev at_s : Course
-  at_s = sender_phase log from_start number from segment.head h
+  at_s = sender_phase log from_start number from segment.head segment.scale h
 
   abbrev at_r : Course
   at_r = receiver_phase log from_start number from segment.head segment.payload h.count at_s
 
-  sent_logs : Logs (begin (sent from segment.head h.emulation) h) at_s (at_sender number ∷ [])
+  sent_logs : Logs (begin (sent from segment.head segment.scale h.emulation) h) at_s (at_sender number ∷ [])
   unfolding sender_phase
   sent_logs =
       sender_calls number from segment.head h.count (eqb h.count 0) (sent_answer from segment.head h.emulation)
-      (begin (sent from segment.head h.emulation) h) is refl
+      (begin (sent from segment.head segment.scale h.emulation) h) is refl
 
   received_logs : Logs (go_on (received from segment.head segment.payload at_s.emulation) at_s) at_r (at_receiver number ∷ [])
   unfolding receiver_phase
@@ -214,16 +214,16 @@ module _ (number : ℕ) (from : Side) (segment : Segment) (h : History) (is : h.
       receiver_calls number from segment.head h.count (got_of from segment.head segment.payload at_s.emulation)
       (go_on (received from segment.head segment.payload at_s.emulation) at_s) (sent_logs.active ∙ is) sent_logs.asked
 
-  followed_is : followed log from_start number from segment.head segment.payload h ≡ received_unless None number at_s at_r h
+  followed_is : followed log from_start number from segment.head segment.scale segment.payload h ≡ received_unless None number at_s at_r h
   unfolding followed
   followed_is = ap (λ d. received_unless d number at_s at_r h) sent_logs.drop
 
-  connection_called : (followed log from_start number from segment.head segment.payload h).entries ≡ h.entries ++ at_sender number ∷ at_receiver number ∷ []
+  connection_called : (followed log from_start number from segment.head segment.scale segment.payload h).entries ≡ h.entries ++ at_sender number ∷ at_receiver number ∷ []
   connection_called =
       ap (λ (g : History). g.entries) followed_is ∙ received_logs.entries ∙ ap (λ l. l ++ at_receiver number ∷ []) sent_logs.entries
       ∙ append_assoc h.entries (at_sender number ∷ []) (at_receiver number ∷ [])
 
-  stays : (followed log from_start number from segment.head segment.payload h).active ≡ h.active
+  stays : (followed log from_start number from segment.head segment.scale segment.payload h).active ≡ h.active
   stays = ap (λ (g : History). g.active) followed_is ∙ received_logs.active ∙ sent_logs.active
 
 orphan_is_called : (number : ℕ) (sight : Sight) → (orphaned log from_start number (orphan_raises_of sight)).entries ≡ at_orphan number ∷ []

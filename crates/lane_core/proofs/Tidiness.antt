@@ -167,12 +167,13 @@ drops_below number Pass = omega arith
 drops_below number (Drop reason) = (omega arith, le_refl (number + 1))
 
 module _ (app : Meaning) (control : ControlState) (are : AreEvents control.regs) where
-  followed_tidy : (n number : ℕ) (from : Side) (head : Head) (payload : List ℕ) (h : History) → n ≤ number → IsTidyHistory n h → IsTidyHistory (number + 1) (followed app control number from head payload h)
+  followed_tidy : (n number : ℕ) (from : Side) (head : Head) (scale : Option ℕ) (payload : List ℕ) (h : History) → n ≤ number → IsTidyHistory n h
+      → IsTidyHistory (number + 1) (followed app control number from head scale payload h)
   unfolding followed sender_phase receiver_phase
-  followed_tidy n number from head payload h less t =
-      let s = sender_phase app control number from head h in
+  followed_tidy n number from head scale payload h less t =
+      let s = sender_phase app control number from head scale h in
       let r = receiver_phase app control number from head payload h.count s in
-      let ts = phase_tidy app control are number from (sender_raises head from h.count (h.count == 0) (sent_answer from head h.emulation)) (begin (sent from head h.emulation) h)
+      let ts = phase_tidy app control are number from (sender_raises head from h.count (h.count == 0) (sent_answer from head h.emulation)) (begin (sent from head scale h.emulation) h)
       (record { events = t.events; entries = t.entries }) in
       unless_tidy n number s.drop s r h less t.drops ts
       (phase_tidy app control are number from (receiver_raises head from h.count (got_of from head payload s.emulation)) (go_on (received from head payload s.emulation) s)
@@ -182,8 +183,8 @@ module _ (app : Meaning) (control : ControlState) (are : AreEvents control.regs)
   unfolding history_after
   after_tidy n opener a h less t = by a.sight
     where
-      by : (s : Sight) → IsTidyHistory (a.number + 1) (elim s [ Tcp segment ↦ followed app control a.number (side_in opener segment) segment.head segment.payload h | Other class ↦ h ])
-      by (Tcp segment) = followed_tidy n a.number (side_in opener segment) segment.head segment.payload h less t
+      by : (s : Sight) → IsTidyHistory (a.number + 1) (elim s [ Tcp segment ↦ followed app control a.number (side_in opener segment) segment.head segment.scale segment.payload h | Other class ↦ h ])
+      by (Tcp segment) = followed_tidy n a.number (side_in opener segment) segment.head segment.scale segment.payload h less t
       by (Other class) = later_history n (a.number + 1) h (omega arith) t
 
   fresh_tidy : IsTidyHistory 0 (fresh app control)

@@ -76,22 +76,22 @@ module _ (app : Meaning) (control : ControlState) (number : ℕ) (from : Side) w
   unless_more None s r h one two = following h.entries s.entries r.entries one two
   unless_more (Some reason) s r h one two = one
 
-  followed_more : (head : Head) (payload : List ℕ) (h : History) → Extends h.entries (followed app control number from head payload h).entries
+  followed_more : (head : Head) (scale : Option ℕ) (payload : List ℕ) (h : History) → Extends h.entries (followed app control number from head scale payload h).entries
   unfolding followed sender_phase receiver_phase
-  followed_more head payload h =
-      let s = sender_phase app control number from head h in
+  followed_more head scale payload h =
+      let s = sender_phase app control number from head scale h in
       unless_more s.drop s (receiver_phase app control number from head payload h.count s) h (phase_more _ _) (phase_more _ _)
 
 -- one more packet, by what is seen of it
 abbrev after_packet : Meaning → ControlState → Sight → Arrival → Sight → History → History
 after_packet app control opener a sight h = elim sight [
-  | Tcp segment ↦ followed app control a.number (side_in opener segment) segment.head segment.payload h
+  | Tcp segment ↦ followed app control a.number (side_in opener segment) segment.head segment.scale segment.payload h
   | Other class ↦ h
 ]
 
 after_heavier : (app : Meaning) (control : ControlState) (opener : Sight) (a : Arrival) (sight : Sight) (h : History)
     → weight_of h.entries ≤ weight_of (after_packet app control opener a sight h).entries
-after_heavier app control opener a (Tcp segment) h = heavier _ _ (followed_more app control a.number (side_in opener segment) segment.head segment.payload h)
+after_heavier app control opener a (Tcp segment) h = heavier _ _ (followed_more app control a.number (side_in opener segment) segment.head segment.scale segment.payload h)
 after_heavier app control opener a (Other class) h = omega arith
 
 added_here : (b : Bool) (past next : RecordSoFar) (pasts after : List RecordSoFar) → weight_of past.history.entries ≤ weight_of next.history.entries → weight pasts ≤ weight after
