@@ -4,6 +4,7 @@ pub mod Earlier
 pub mod Callbacks
 pub mod Raises
 pub mod Changing
+pub mod Settling
 pub mod Phases
 pub mod FirstTrees
 pub mod Firing

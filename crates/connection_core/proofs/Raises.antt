@@ -1,4 +1,4 @@
--- The raises of a phase, one after the other.
+-- Several raises over one list, one after the other: those of a packet of no connection.
 use Rattle.std.proofs.Common.{◌≡◌, ℕ, ◌+◌, ◌<◌, Bool, List, [], ◌∷◌, ◌++◌, length, map, take, get_or, refl, sym, ap, subst, ◌∙◌}
 use Rattle.std.proofs.lemmas.List.{take_more, map-append}
 use Rattle.tcp_emulation.specs.declared.segment.Side.{Side}

@@ -1,5 +1,5 @@
 -- A packet's callbacks, one after the other. What they have come to is a course: each callback is one step of it, a raise calls all
--- registrations that fire, and a phase makes its raises in order.
+-- registrations that fire and then makes the changes that were asked, and a phase makes its raises in order.
 use Rattle.std.specs.Prelude.{ℕ, ◌+◌, Bool, true, false, not, nat_lt, Option, Some, None, is_some, List, [], ◌∷◌, ◌++◌, length, if◌then◌else◌}
 use Rattle.tcp_emulation.specs.declared.segment.Side.{Side}
 use Rattle.flow_socket.specs.Emulation.{Emulation}
@@ -25,7 +25,7 @@ use Rattle.event_trees.specs.Fires.{fires}
 use Rattle.forest_versions.specs.State.{ControlState}
 
 -- The emulated connection; the private list, and how often it was altered; what the application keeps; the callbacks made, in
--- order; the changes asked in this phase, in order; the first reason for which a drop was asked.
+-- order; the changes asked in this raise, in order; the first reason for which a drop was asked.
 pub record Course : Type 0 where
   pub emulation : Emulation
   pub active : List Reg
@@ -101,7 +101,7 @@ called app control number from raise c r =
     (reaction_of app control.rules r (call_of raise r seen) c.tally)
     c
 
--- ---- a raise, and the raises of a phase
+-- ---- the callbacks of a raise
 
 abbrev pub called_all : Meaning → ControlState → ℕ → Side → Raise → Course → List Reg → Course
 called_all app control number from raise c [] = c
@@ -113,6 +113,7 @@ unfoldable pub called_at : Meaning → ControlState → ℕ → Side → Raise �
 called_at app control number from raise c =
     called_all app control number from raise c (fires control.defs raise.facts raise.hook raise.event c.active)
 
+-- the same of several raises, all of one list: those of a packet of no connection, where changes come to nothing
 unfoldable pub raised : Meaning → ControlState → ℕ → Side → List Raise → Course → Course
 raised app control number from [] c = c
 raised app control number from (raise ∷ raises) c =
@@ -148,6 +149,14 @@ changed_all control (change ∷ changes) c = changed_all control changes (change
 unfoldable pub settled : ControlState → Course → Course
 settled control c = record (changed_all control c.asked c) { asked = [] }
 
--- The raises of one phase. This is where changes take effect: at the phase's end, so its private list is that of its beginning.
+-- ---- a raise, and the raises of a phase
+
+-- One raise. This is where changes take effect: at its end. So all its callbacks are of the list as it was at its
+-- beginning, and the next raise, of this phase or of a later one, is of the changed list.
+unfoldable pub raise_done : Meaning → ControlState → ℕ → Side → Raise → Course → Course
+raise_done app control number from raise c = settled control (called_at app control number from raise c)
+
 unfoldable pub phase : Meaning → ControlState → ℕ → Side → List Raise → Course → Course
-phase app control number from raises c = settled control (raised app control number from raises c)
+phase app control number from [] c = c
+phase app control number from (raise ∷ raises) c =
+    phase app control number from raises (raise_done app control number from raise c)

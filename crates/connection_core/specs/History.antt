@@ -68,12 +68,12 @@ done count drops c = record {
   drops = drops;
 }
 
--- the packet's phase at its sender
-unfoldable pub sender_phase : Meaning → ControlState → ℕ → Side → Head → History → Course
-sender_phase app control number from head h =
+-- the packet's phase at its sender; `scale` is the window scale that it offers
+unfoldable pub sender_phase : Meaning → ControlState → ℕ → Side → Head → Option ℕ → History → Course
+sender_phase app control number from head scale h =
     phase app control number from
     (sender_raises head from h.count (h.count == 0) (sent_answer from head h.emulation))
-    (begin (sent from head h.emulation) h)
+    (begin (sent from head scale h.emulation) h)
 
 -- its phase at its receiver; `count` is its place in the connection
 unfoldable pub receiver_phase : Meaning → ControlState → ℕ → Side → Head → List ℕ → ℕ → Course → Course
@@ -88,9 +88,9 @@ received_unless (Some reason) number sent received h = done (h.count + 1) (h.dro
 received_unless None number sent received h = done (h.count + 1) h.drops received
 
 -- one more packet of a connection
-unfoldable pub followed : Meaning → ControlState → ℕ → Side → Head → List ℕ → History → History
-followed app control number from head payload h =
-    let sent = sender_phase app control number from head h in
+unfoldable pub followed : Meaning → ControlState → ℕ → Side → Head → Option ℕ → List ℕ → History → History
+followed app control number from head scale payload h =
+    let sent = sender_phase app control number from head scale h in
     received_unless sent.drop number sent (receiver_phase app control number from head payload h.count sent) h
 
 abbrev pub verdict_of : Option Reason → Verdict
@@ -98,8 +98,8 @@ verdict_of None = Pass
 verdict_of (Some reason) = Drop reason
 
 -- what becomes of this packet
-unfoldable pub verdict : Meaning → ControlState → ℕ → Side → Head → History → Verdict
-verdict app control number from head h = verdict_of (sender_phase app control number from head h).drop
+unfoldable pub verdict : Meaning → ControlState → ℕ → Side → Head → Option ℕ → History → Verdict
+verdict app control number from head scale h = verdict_of (sender_phase app control number from head scale h).drop
 
 -- what a verdict adds to the dropped packets
 abbrev pub drops_of : Verdict → ℕ → List (ℕ × Reason)

@@ -1,4 +1,4 @@
--- What the callbacks of a phase are, in the subject's own words.
+-- What the callbacks of a raise are, and how a phase goes on from raise to raise, in the subject's own words.
 use Rattle.std.specs.Prelude.{◌≡◌, ℕ, List, [], ◌∷◌, ◌++◌, map}
 use Rattle.std.specs.List.Sorted.{IsStrictlySortedBy}
 use Rattle.native_filters.specs.declared.facts.Facts.{Facts}
@@ -12,7 +12,7 @@ use Rattle.event_trees.specs.declared.defs.EventDef.{EventDef}
 use Rattle.event_trees.specs.Private.{IsPrivate, reg_cmp}
 use Rattle.event_trees.specs.Fires.{fires}
 use Rattle.forest_versions.specs.State.{ControlState}
-use Rattle.connection_core.specs.Course.{Course, phase}
+use Rattle.connection_core.specs.Course.{Course, raise_done, phase}
 
 -- a callback: the packet's number, the side, the registration and its event
 pub record Callback : Type 0 where
@@ -32,15 +32,15 @@ abbrev pub callbacks_at : ℕ → List EventDef → List Reg → Raise → List 
 callbacks_at number defs list raise =
     map (λ r. record { index = number; hook = raise.hook; event = r.event; reg = r.number }) (fires defs raise.facts raise.hook raise.event list)
 
--- raise by raise
-abbrev pub callbacks_of : ℕ → List EventDef → List Reg → List Raise → List Callback
-callbacks_of number defs list [] = []
-callbacks_of number defs list (raise ∷ raises) = callbacks_at number defs list raise ++ callbacks_of number defs list raises
-
--- The callbacks of a phase are, raise by raise, those registrations of the private list as it was at the phase's beginning that fire;
--- and these stand by path and then by number.
+-- Each raise of a phase calls those registrations that fire of the private list as it is when the raise begins; the
+-- next raise begins where it ended, with its changes made; and those that fire stand by path and then by number.
 pub record CallsWhatFires : Type 0 where
-  pub phase_calls : (app : Meaning) (s : ControlState) (number : ℕ) (from : Side) (raises : List Raise) (c : Course)
-      → callbacks_in (phase app s number from raises c).entries ≡ callbacks_in c.entries ++ callbacks_of number s.defs c.active raises
+  pub raise_calls : (app : Meaning) (s : ControlState) (number : ℕ) (from : Side) (raise : Raise) (c : Course)
+      → callbacks_in (raise_done app s number from raise c).entries
+      ≡ callbacks_in c.entries ++ callbacks_at number s.defs c.active raise
+  pub raise_by_raise : (app : Meaning) (s : ControlState) (number : ℕ) (from : Side)
+      (raises : List Raise) (raise : Raise) (c : Course)
+      → phase app s number from (raises ++ raise ∷ []) c
+      ≡ raise_done app s number from raise (phase app s number from raises c)
   pub in_order : (defs : List EventDef) (list : List Reg) (facts : Facts) (hook : Hook) (event : ℕ) → IsPrivate defs list
       → IsStrictlySortedBy (reg_cmp defs) (fires defs facts hook event list)

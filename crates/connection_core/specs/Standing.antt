@@ -64,7 +64,7 @@ pub record Reached (keep : Bool) (others : Counts) (list : List Reg) (socket : S
   pub under : IsUnder keep others list socket notes ledger c
   pub interned : InternsWithin interns interns_after altered c.altered
 
--- a phase makes one private list of another, and what stood for a course stands for the one that it makes of it
+-- a raise, or a phase, makes one private list of another, and what stood for a course stands for what it makes of it
 pub record Makes (keep : Bool) (list : List Reg) (socket : SocketView) (notes : Notes) (ledger : Ledger) (interns : Option ℕ)
     (list_after : List Reg) (socket_after : SocketView) (notes_after : Notes) (ledger_after : Ledger) (interns_after : Option ℕ) (step : Course → Course) : Type 0 where
   pub stands : (others : Counts) (c : Course) → IsUnder keep others list socket notes ledger c

@@ -1,4 +1,4 @@
-//! The callbacks of a raise, and of the raises of a phase.
+//! The callbacks of a raise, and of several raises over one tree.
 
 ghost use Rattle.std.specs.Prelude.{◌≡◌, ◌≤◌, ◌<◌, ◌+◌, ◌*◌, ◌^◌, IsTrue, OnOk, List, ℕ, length};
 ghost use Rattle.app_api.specs.Reg.{peek_fits, reg_of};
@@ -71,8 +71,8 @@ impl<A: App> Terms<'_, A> {
         }
     }
 
-    // Calls what fires at one raise: at most as many as a private list has.
-    fn call_at(
+    /// Calls what fires at one raise: at most as many as a private list has.
+    pub(crate) fn call_at(
         &self,
         alloc: Global,
         tree: &Tree,
@@ -99,7 +99,8 @@ impl<A: App> Terms<'_, A> {
         Ok(())
     }
 
-    /// Makes the raises of a phase, of which there are at most six, one after the other.
+    /// Calls what fires at several raises, of which there are at most six, all of one tree: the changes that are asked
+    /// aren't made.
     pub(crate) fn raise_all(
         &self,
         alloc: Global,

@@ -11,7 +11,7 @@ ghost use Rattle.connection_core.specs.Reach.{Reaches};
 use crate::changes::change_all;
 use crate::in_force::InForce;
 use crate::ledger::{Ledger, Notes};
-use crate::moment::{Arrived, Phase};
+use crate::moment::{Arrived, Moment, Phase};
 use crate::terms::Terms;
 use app_api::{App, Reason, Verdict};
 use builtin_events::{raised_at_receiver, raised_at_sender};
@@ -40,17 +40,18 @@ pub struct Step {
     pub verdict: Verdict,
 }
 
-/// The most changes that a phase asks: four at each of 255 registrations, at each of six raises.
-const MOST: usize = 4 * 255 * 6;
+/// The most changes that a raise asks: four at each of 255 registrations.
+const MOST: usize = 4 * 255;
 
 impl Flow {
     ghost use Rattle.app_api.specs.App.{Meaning};
     ghost use Rattle.shared_forest.specs.Lists.{TreeLists};
     ghost use Rattle.builtin_events.specs.Raised.{raises_of};
     ghost use Rattle.connection_core.specs.declared.ledger.Counts.{Counts};
-    ghost use Rattle.connection_core.specs.Course.{Course, changed_all, phase as made};
+    ghost use Rattle.connection_core.specs.Course.{Course, changed_all, raise_done, phase as made};
     ghost use Rattle.connection_core.specs.History.{History, fresh, sender_phase, receiver_phase, received_unless, followed, verdict, drops_of, is_over};
-    ghost use Rattle.connection_core.specs.Standing.{IsFlow, IsConnection, IsUnder, RiseBy, Alters, Costs, CostsUnder, Makes, Reached, Stepped};
+    ghost use Rattle.connection_core.specs.Standing.{IsFlow, IsConnection, IsUnder, RiseBy, Alters, Costs, CostsUnder};
+    ghost use Rattle.connection_core.specs.Standing.{Makes, Reached, Stepped, raise_of};
 
     /// A connection before its first packet, with the tree of the registrations that are on at its start. It takes no memory.
     pub fn new(alloc: Global, in_force: &InForce, forest: Shared) -> Flow
@@ -66,7 +67,7 @@ impl Flow {
         }
     }
 
-    // Makes the changes that were asked in a phase.
+    // Makes the changes that were asked in a raise.
     fn settle<F: Forests>(
         &mut self,
         alloc: Global,
@@ -101,7 +102,48 @@ impl Flow {
         Ok(())
     }
 
-    // Makes the raises of a phase, and then the changes that its callbacks ask. Room for these is taken first.
+    // Makes one raise: calls what fires of the private list as it is, and then makes the changes that the callbacks
+    // ask. The tree is borrowed from the store for the calls alone, so no walk sees it change. Room for the changes is
+    // taken first; it is still there at the next raise.
+    fn raise<A: App, F: Forests>(
+        &mut self,
+        alloc: Global,
+        terms: &Terms<A>,
+        forests: &mut F,
+        moment: &Moment,
+        notes: &mut Notes,
+        ledger: &mut Ledger,
+    ) -> Result<(), AllocError>
+        requires answered { F.answered forests.old self.old.forest }
+        requires forest { IsForestIn (defs_at terms.now.in_force) (told terms.now.in_force)
+            (F.content forests.old self.old.forest) }
+        requires callbacks { ledger.old.counts.callbacks < 2 ^ 62 }
+        requires weight { ledger.old.counts.weight < 2 ^ 62 }
+        ensures answered { F.answered forests.new self.new.forest }
+        ensures forest { IsForestIn (defs_at terms.now.in_force) (told terms.now.in_force)
+            (F.content forests.new self.new.forest) }
+        ensures kept { Keeps F.answered F.content forests.old forests.new }
+        ensures made { OnOk result ((s : ControlState) → IsInForce terms.now.in_force s → Makes terms.now.keep
+            (active_in (told terms.now.in_force) (F.content forests.old self.old.forest))
+            self.old.socket notes.old ledger.old (F.interns forests.old)
+            (active_in (told terms.now.in_force) (F.content forests.new self.new.forest))
+            self.new.socket notes.new ledger.new (F.interns forests.new)
+            (raise_done (A.meaning terms.now.app.now) s moment.now.number moment.now.from (raise_of moment.now))) }
+        ensures failed { OnErr result ((s : ControlState) → IsInForce terms.now.in_force s → CostsUnder terms.now.keep
+            (active_in (told terms.now.in_force) (F.content forests.old self.old.forest))
+            self.old.socket notes.old ledger.old (F.interns forests.old) (F.interns forests.new)
+            (raise_done (A.meaning terms.now.app.now) s moment.now.number moment.now.from (raise_of moment.now))) }
+        ensures rise { RiseBy 255 ledger.old.counts ledger.new.counts }
+        ensures count { self.new.count ≡ self.old.count }
+    {
+        let tree = forests.tree_of(&self.forest);
+        ledger.make_room(MOST)?;
+        terms.call_at(alloc, tree, moment, &mut self.socket, notes, ledger)?;
+        self.settle(alloc, &terms.in_force, forests, ledger)?;
+        Ok(())
+    }
+
+    // Makes the raises of a phase, one after the other, each over the list that the one before it left.
     fn make<A: App, F: Forests>(
         &mut self,
         alloc: Global,
@@ -128,10 +170,10 @@ impl Flow {
         ensures rise { RiseBy 1530 ledger.old.counts ledger.new.counts }
         ensures count { self.new.count ≡ self.old.count }
     {
-        let tree = forests.tree_of(&self.forest);
-        ledger.make_room(MOST)?;
-        terms.raise_all(alloc, tree, phase, &mut self.socket, notes, ledger)?;
-        self.settle(alloc, &terms.in_force, forests, ledger)?;
+        for event in phase.raised.events.as_slice() {
+            let moment = phase.moment(*event);
+            self.raise(alloc, terms, forests, &moment, notes, ledger)?;
+        }
         Ok(())
     }
 
@@ -155,15 +197,15 @@ impl Flow {
         ensures stands { OnOk result ((s : ControlState) (others : Counts) (h : History) → IsInForce terms.now.in_force s
             → IsConnection terms.now.keep others (told terms.now.in_force) (F.content forests.old self.old.forest) self.old notes.old ledger.old.counts h
             → Reached terms.now.keep others (active_in (told terms.now.in_force) (F.content forests.new self.new.forest)) self.new.socket notes.new ledger.new
-            (F.interns forests.old) (F.interns forests.new) h.altered (sender_phase (A.meaning terms.now.app.now) s arrived.now.number arrived.now.from arrived.now.head.now h)) }
+            (F.interns forests.old) (F.interns forests.new) h.altered (sender_phase (A.meaning terms.now.app.now) s arrived.now.number arrived.now.from arrived.now.head.now arrived.now.scale h)) }
         ensures failed { OnErr result ((s : ControlState) (others : Counts) (h : History) → IsInForce terms.now.in_force s
             → IsConnection terms.now.keep others (told terms.now.in_force) (F.content forests.old self.old.forest) self.old notes.old ledger.old.counts h
-            → InternsWithin (F.interns forests.old) (F.interns forests.new) h.altered (sender_phase (A.meaning terms.now.app.now) s arrived.now.number arrived.now.from arrived.now.head.now h).altered) }
+            → InternsWithin (F.interns forests.old) (F.interns forests.new) h.altered (sender_phase (A.meaning terms.now.app.now) s arrived.now.number arrived.now.from arrived.now.head.now arrived.now.scale h).altered) }
         ensures rise { RiseBy 1530 ledger.old.counts ledger.new.counts }
         ensures count { self.new.count ≡ self.old.count }
     {
         ledger.begin();
-        let sent = self.socket.send(arrived.from, arrived.head);
+        let sent = self.socket.send(arrived.from, arrived.head, arrived.scale);
         let raised = raised_at_sender(
             arrived.head,
             arrived.from,
@@ -282,22 +324,22 @@ impl Flow {
         ensures kept { Keeps F.answered F.content forests.old forests.new }
         ensures stands { OnOk result ((s : ControlState) (others : Counts) (h : History) → IsInForce terms.now.in_force s
             → IsConnection terms.now.keep others (told terms.now.in_force) (F.content forests.old self.old.forest) self.old notes.old ledger.old.counts h
-            → IsConnection terms.now.keep others (told terms.now.in_force) (F.content forests.new self.new.forest) self.new notes.new ledger.new.counts (followed (A.meaning terms.now.app.now) s arrived.now.number arrived.now.from arrived.now.head.now arrived.now.payload.now h)) }
+            → IsConnection terms.now.keep others (told terms.now.in_force) (F.content forests.new self.new.forest) self.new notes.new ledger.new.counts (followed (A.meaning terms.now.app.now) s arrived.now.number arrived.now.from arrived.now.head.now arrived.now.scale arrived.now.payload.now h)) }
 
         // At most one intern for each change that alters the private list, also where memory is refused on the way.
         ensures interned { (s : ControlState) (others : Counts) (h : History) → IsInForce terms.now.in_force s
             → IsConnection terms.now.keep others (told terms.now.in_force) (F.content forests.old self.old.forest) self.old notes.old ledger.old.counts h
-            → InternsWithin (F.interns forests.old) (F.interns forests.new) h.altered (followed (A.meaning terms.now.app.now) s arrived.now.number arrived.now.from arrived.now.head.now arrived.now.payload.now h).altered }
+            → InternsWithin (F.interns forests.old) (F.interns forests.new) h.altered (followed (A.meaning terms.now.app.now) s arrived.now.number arrived.now.from arrived.now.head.now arrived.now.scale arrived.now.payload.now h).altered }
 
         ensures over { IfOk result (λ step. (s : ControlState) (others : Counts) (h : History) → IsInForce terms.now.in_force s
             → IsConnection terms.now.keep others (told terms.now.in_force) (F.content forests.old self.old.forest) self.old notes.old ledger.old.counts h
-            → step.over ≡ is_over (followed (A.meaning terms.now.app.now) s arrived.now.number arrived.now.from arrived.now.head.now arrived.now.payload.now h)) }
+            → step.over ≡ is_over (followed (A.meaning terms.now.app.now) s arrived.now.number arrived.now.from arrived.now.head.now arrived.now.scale arrived.now.payload.now h)) }
         ensures verdict { IfOk result (λ step. (s : ControlState) (others : Counts) (h : History) → IsInForce terms.now.in_force s
             → IsConnection terms.now.keep others (told terms.now.in_force) (F.content forests.old self.old.forest) self.old notes.old ledger.old.counts h
-            → step.verdict ≡ verdict (A.meaning terms.now.app.now) s arrived.now.number arrived.now.from arrived.now.head.now h) }
+            → step.verdict ≡ verdict (A.meaning terms.now.app.now) s arrived.now.number arrived.now.from arrived.now.head.now arrived.now.scale h) }
         ensures drops { IfOk result (λ step. (s : ControlState) (others : Counts) (h : History) → IsInForce terms.now.in_force s
             → IsConnection terms.now.keep others (told terms.now.in_force) (F.content forests.old self.old.forest) self.old notes.old ledger.old.counts h
-            → (followed (A.meaning terms.now.app.now) s arrived.now.number arrived.now.from arrived.now.head.now arrived.now.payload.now h).drops ≡ h.drops ++ drops_of step.verdict arrived.now.number) }
+            → (followed (A.meaning terms.now.app.now) s arrived.now.number arrived.now.from arrived.now.head.now arrived.now.scale arrived.now.payload.now h).drops ≡ h.drops ++ drops_of step.verdict arrived.now.number) }
         ensures rise { RiseBy 3060 ledger.old.counts ledger.new.counts }
         ensures count { self.new.count ≤ self.old.count + 1 }
     {

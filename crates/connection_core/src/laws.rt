@@ -16,9 +16,9 @@ use crate::in_force::InForce;
 use event_trees::{Defs, later_events_change_nothing, slots_in_order};
 use shared_forest::Tree;
 
-/// The callbacks of a phase are, raise by raise, those registrations of its private list that fire: those with the
-/// raise's hook and root whose filters on the whole path are true, by path and then by number. The private list is that
-/// of the phase's beginning.
+/// The callbacks of a raise are those registrations of the private list that fire: those with the raise's hook and root
+/// whose filters on the whole path are true, by path and then by number. The private list is that of the raise's
+/// beginning, and a phase's next raise begins where this one ended, with its changes made.
 pub fn callbacks_are_those_that_fire()
     ensures { CallsWhatFires }
 {}

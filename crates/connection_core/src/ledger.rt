@@ -25,10 +25,10 @@ pub struct Counts {
 }
 
 /// What the callbacks of the packet under way ask, and the counts of all callbacks so far. The room for changes is used
-/// again by the next packet.
+/// again by the next raise, and by the next packet.
 #[derive(Drop)]
 pub struct Ledger {
-    /// The changes asked in this phase, in order.
+    /// The changes asked in this raise, in order.
     pub changes: Vec<Change1>,
     /// The first reason for which a drop was asked.
     pub drop: Option<Reason>,

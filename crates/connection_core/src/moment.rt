@@ -1,6 +1,7 @@
 //! Packets that arrive, and the raises that they make.
 
 ghost use Rattle.std.specs.Prelude.{◌≡◌, ◌≤◌, length};
+ghost use Rattle.std.specs.Option.{ForSome};
 
 use builtin_events::Raised;
 use native_filters::{Facts, Hook};
@@ -15,8 +16,11 @@ pub struct Arrived<'a> {
     /// Who sent it.
     pub from: Side,
     pub head: &'a Head,
+    /// The window scale that it offers (RFC 7323, section 2.2), at most 14.
+    pub scale: Option<u8>,
     /// Its `head.len` bytes.
     pub payload: &'a [u8],
+    ghost shift: { ForSome scale (λ shift. shift ≤ 14) },
     ghost len: { head.now.len ≡ length payload.now },
     ghost bytes: { length payload.now ≤ 65535 },
 }

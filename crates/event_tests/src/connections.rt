@@ -135,7 +135,7 @@ const CASES: [Case; 9] = [
             end packets 5 records 1 callbacks 1 drops 0 tail 0\n",
     },
     Case {
-        name: "on for the next phase",
+        name: "on for later raises",
         presets: Presets::Log,
         script: "unreg 1\n\
             unreg 2\n\
@@ -153,7 +153,7 @@ const CASES: [Case; 9] = [
             end packets 3 records 1 callbacks 6 drops 0 tail 0\n",
     },
     Case {
-        name: "off in the same phase",
+        name: "on in the same phase",
         presets: Presets::Log,
         script: "unreg 1\n\
             unreg 2\n\
@@ -162,9 +162,10 @@ const CASES: [Case; 9] = [
         traffic: Traffic::Connection(&[]),
         report: "conn 0 10.0.0.1:1000 > 10.0.0.2:80 v 4\n\
             cb 0 snd pkt_in 16\n\
+            cb 0 snd state 17\n\
             cb 1 snd pkt_in 16\n\
             cb 2 snd pkt_in 16\n\
-            end packets 3 records 1 callbacks 3 drops 0 tail 0\n",
+            end packets 3 records 1 callbacks 4 drops 0 tail 0\n",
     },
     Case {
         name: "dropped before its receiver",
@@ -197,9 +198,9 @@ const CASES: [Case; 9] = [
     },
 ];
 
-/// The changes that the callbacks of one phase may ask: four at each of 255 registrations, at each of six raises. Room for
-/// them is taken before the first callback, so that what one asks takes no memory.
-const MOST_CHANGES: usize = 4 * 255 * 6;
+/// The changes that the callbacks of one raise may ask: four at each of 255 registrations. Room for them is taken before
+/// the first callback, so that what one asks takes no memory.
+const MOST_CHANGES: usize = 4 * 255;
 
 /// What is kept of the connection, and which of its packets were dropped.
 #[derive(Drop)]
@@ -278,6 +279,7 @@ fn follow(
         number,
         from,
         head: &head,
+        scale: None,
         payload,
     };
     match played.flow.step(

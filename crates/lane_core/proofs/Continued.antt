@@ -85,8 +85,8 @@ module _ (app : Meaning) (control_at : ℕ → ControlState) (keep : Bool) (m : 
       → stepped app (control_at conn.version) conn number segment past.history ≡ (continued_by app control_at p.arrival past).history
   unfolding history_after
   next_history content number moment segment p is_p conn past is =
-      rw is_p (ap (λ side. followed app (control_at conn.version) number side segment.head segment.payload past.history) (is.sides segment)
-      ∙ ap (λ v. followed app (control_at v) number (side_in past.first.sight segment) segment.head segment.payload past.history) is.version)
+      rw is_p (ap (λ side. followed app (control_at conn.version) number side segment.head segment.scale segment.payload past.history) (is.sides segment)
+      ∙ ap (λ v. followed app (control_at v) number (side_in past.first.sight segment) segment.head segment.scale segment.payload past.history) is.version)
 
   -- what one record's alterations cost, all of them cost
   altered_in : (interns interns' : Option ℕ) (p : VersionedPacket) (pasts : List RecordSoFar) (i : ℕ) (d : RecordSoFar) → i < length pasts
@@ -142,8 +142,8 @@ module _ (app : Meaning) (control_at : ℕ → ControlState) (keep : Bool) (m : 
     unfolding verdict_after
     verdict_in is went =
         rw is_p (went.verdict_is
-        ∙ ap (λ side. verdict app (control_at conn.version) number side segment.head past.history) (is.sides segment)
-        ∙ ap (λ v. verdict app (control_at v) number (side_in past.first.sight segment) segment.head past.history) is.version)
+        ∙ ap (λ side. verdict app (control_at conn.version) number side segment.head segment.scale past.history) (is.sides segment)
+        ∙ ap (λ v. verdict app (control_at v) number (side_in past.first.sight segment) segment.head segment.scale past.history) is.version)
 
   -- the lane after a packet that an open connection takes
   pub record Continued (content' : Shared → TreeLists) (interns interns' : Option ℕ) (after : Flows Connection) (slots' : List Slot) (counts' : Counts) (p : VersionedPacket) (step : Step) (pasts : List RecordSoFar) : Type 0 where

@@ -22,7 +22,7 @@ use Rattle.builtin_events.specs.Raises.{raise_if, is_changed, sender_raises, rec
 use Rattle.event_trees.specs.Defs.{path}
 use Rattle.event_trees.specs.Fires.{fires}
 use Rattle.forest_versions.specs.State.{ControlState, start, active as first_active}
-use Rattle.connection_core.specs.Course.{Course, first_reason, called, called_all, called_at, raised, changed_all, settled, phase}
+use Rattle.connection_core.specs.Course.{Course, first_reason, called, called_all, called_at, raised, changed_all, settled, raise_done, phase}
 use Rattle.connection_core.specs.History.{History, followed, sender_phase, receiver_phase, received_unless, begin, go_on, orphaned}
 use Rattle.lane_core.specs.Sight.{Segment, Sight, Tcp, Other}
 use Rattle.lane_core.specs.Records.{orphan_raises_of}
@@ -93,28 +93,38 @@ module _ (number : ℕ) (from : Side) where
   -- ---- raises, one after the other
 
   abbrev LogsOn : List Raise → List Entry → Type 0
-  LogsOn raises entries = (c : Course) → c.active ≡ on → Logs c (raised log from_start number from raises c) entries
+  LogsOn raises entries = (c : Course) → c.active ≡ on → c.asked ≡ [] → Logs c (phase log from_start number from raises c) entries
 
-  raised-append : (xs ys : List Raise) (c : Course) → raised log from_start number from (xs ++ ys) c ≡ raised log from_start number from ys (raised log from_start number from xs c)
-  unfolding raised
-  raised-append [] ys c = refl
-  raised-append (x ∷ xs) ys c = raised-append xs ys (called_at log from_start number from x c)
+  phase-append : (xs ys : List Raise) (c : Course) → phase log from_start number from (xs ++ ys) c ≡ phase log from_start number from ys (phase log from_start number from xs c)
+  unfolding phase
+  phase-append [] ys c = refl
+  phase-append (x ∷ xs) ys c = phase-append xs ys (raise_done log from_start number from x c)
 
   logs-append : (xs ys : List Raise) (es fs : List Entry) → LogsOn xs es → LogsOn ys fs → LogsOn (xs ++ ys) (es ++ fs)
-  logs-append xs ys es fs one two c is =
-      let d = raised log from_start number from xs c in
-      let first = one c is in
-      subst (λ e. Logs c e (es ++ fs)) (sym (raised-append xs ys c))
-      (logs-then c d (raised log from_start number from ys d) es fs first (two d (first.active ∙ is)))
+  logs-append xs ys es fs one two c is asked =
+      let d = phase log from_start number from xs c in
+      let first = one c is asked in
+      subst (λ e. Logs c e (es ++ fs)) (sym (phase-append xs ys c))
+      (logs-then c d (phase log from_start number from ys d) es fs first (two d (first.active ∙ is) (first.asked ∙ asked)))
+
+  -- where nothing is asked at a raise, nothing is changed at its end
+  done_logs : (raise : Raise) (entries : List Entry) (c : Course) → c.asked ≡ [] → Logs c (called_at log from_start number from raise c) entries
+      → Logs c (raise_done log from_start number from raise c) entries
+  unfolding raise_done settled
+  done_logs raise entries c asked l =
+      let d = called_at log from_start number from raise c in
+      let nothing : d.asked ≡ [] = l.asked ∙ asked in
+      subst (λ cs. Logs c (record (changed_all from_start cs d) { asked = [] }) entries) (sym nothing)
+      (record { active = l.active; entries = l.entries; asked = sym asked; drop = l.drop })
 
   quiet : (b : Bool) (raise : Raise) → ((c : Course) → c.active ≡ on → Logs c (called_at log from_start number from raise c) []) → LogsOn (raise_if b raise) []
-  unfolding raised
-  quiet true raise none c is = none c is
-  quiet false raise none c is = logs-none c
+  unfolding phase
+  quiet true raise none c is asked = done_logs raise [] c asked (none c is)
+  quiet false raise none c is asked = logs-none c
 
   loud : (raise : Raise) (entry : Entry) → ((c : Course) → c.active ≡ on → Logs c (called_at log from_start number from raise c) (entry ∷ [])) → LogsOn (raise_if true raise) (entry ∷ [])
-  unfolding raised
-  loud raise entry one c is = one c is
+  unfolding phase
+  loud raise entry one c is asked = done_logs raise (entry ∷ []) c asked (one c is)
 
   quiet_start : (facts : Facts) (c : Course) → c.active ≡ on → Logs c (called_at log from_start number from (raise_of Snd facts START) c) []
   unfolding log start path
@@ -183,49 +193,37 @@ module _ (number : ℕ) (from : Side) where
       (quiet changed (raise_of Rcv facts STATE) (quiet_state facts)))
       (quiet g.over (raise_of Rcv facts END) (quiet_end facts))
 
-  -- where nothing is asked, nothing is changed at the phase's end
-  phase_logs : (raises : List Raise) (entries : List Entry) (c : Course) → LogsOn raises entries → c.active ≡ on → c.asked ≡ [] → Logs c (phase log from_start number from raises c) entries
-  unfolding phase settled
-  phase_logs raises entries c logs is asked =
-      let d = raised log from_start number from raises c in
-      let l = logs c is in
-      let nothing : d.asked ≡ [] = l.asked ∙ asked in
-      subst (λ cs. Logs c (record (changed_all from_start cs d) { asked = [] }) entries) (sym nothing)
-      (record { active = l.active; entries = l.entries; asked = sym asked; drop = l.drop })
-
 -- ---- both phases of a packet
 
 module _ (number : ℕ) (from : Side) (segment : Segment) (h : History) (is : h.active ≡ on) where
   abbrev at_s : Course
-  at_s = sender_phase log from_start number from segment.head h
+  at_s = sender_phase log from_start number from segment.head segment.scale h
 
   abbrev at_r : Course
   at_r = receiver_phase log from_start number from segment.head segment.payload h.count at_s
 
-  sent_logs : Logs (begin (sent from segment.head h.emulation) h) at_s (at_sender number ∷ [])
+  sent_logs : Logs (begin (sent from segment.head segment.scale h.emulation) h) at_s (at_sender number ∷ [])
   unfolding sender_phase
   sent_logs =
-      phase_logs number from (sender_raises segment.head from h.count (eqb h.count 0) (sent_answer from segment.head h.emulation)) (at_sender number ∷ [])
-      (begin (sent from segment.head h.emulation) h)
-      (sender_calls number from segment.head h.count (eqb h.count 0) (sent_answer from segment.head h.emulation)) is refl
+      sender_calls number from segment.head h.count (eqb h.count 0) (sent_answer from segment.head h.emulation)
+      (begin (sent from segment.head segment.scale h.emulation) h) is refl
 
   received_logs : Logs (go_on (received from segment.head segment.payload at_s.emulation) at_s) at_r (at_receiver number ∷ [])
   unfolding receiver_phase
   received_logs =
-      phase_logs number from (receiver_raises segment.head from h.count (got_of from segment.head segment.payload at_s.emulation)) (at_receiver number ∷ [])
-      (go_on (received from segment.head segment.payload at_s.emulation) at_s)
-      (receiver_calls number from segment.head h.count (got_of from segment.head segment.payload at_s.emulation)) (sent_logs.active ∙ is) sent_logs.asked
+      receiver_calls number from segment.head h.count (got_of from segment.head segment.payload at_s.emulation)
+      (go_on (received from segment.head segment.payload at_s.emulation) at_s) (sent_logs.active ∙ is) sent_logs.asked
 
-  followed_is : followed log from_start number from segment.head segment.payload h ≡ received_unless None number at_s at_r h
+  followed_is : followed log from_start number from segment.head segment.scale segment.payload h ≡ received_unless None number at_s at_r h
   unfolding followed
   followed_is = ap (λ d. received_unless d number at_s at_r h) sent_logs.drop
 
-  connection_called : (followed log from_start number from segment.head segment.payload h).entries ≡ h.entries ++ at_sender number ∷ at_receiver number ∷ []
+  connection_called : (followed log from_start number from segment.head segment.scale segment.payload h).entries ≡ h.entries ++ at_sender number ∷ at_receiver number ∷ []
   connection_called =
       ap (λ (g : History). g.entries) followed_is ∙ received_logs.entries ∙ ap (λ l. l ++ at_receiver number ∷ []) sent_logs.entries
       ∙ append_assoc h.entries (at_sender number ∷ []) (at_receiver number ∷ [])
 
-  stays : (followed log from_start number from segment.head segment.payload h).active ≡ h.active
+  stays : (followed log from_start number from segment.head segment.scale segment.payload h).active ≡ h.active
   stays = ap (λ (g : History). g.active) followed_is ∙ received_logs.active ∙ sent_logs.active
 
 orphan_is_called : (number : ℕ) (sight : Sight) → (orphaned log from_start number (orphan_raises_of sight)).entries ≡ at_orphan number ∷ []

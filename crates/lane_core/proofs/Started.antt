@@ -206,7 +206,7 @@ module _ (app : Meaning) (control_at : ℕ → ControlState) (keep : Bool) (m : 
       let notes_were = ap (λ (t : Slot). t.notes) slot_was in
       let went = st.stands counts h0 (fresh_connection app keep (told conn.version) o.tree conn.flow slot.notes counts s new notes_were) in
       let h1 = stepped app s conn number segment h0 in
-      let same : h1 ≡ r.history = rw opening (ap (λ c. followed app s number (side_of c segment) segment.head segment.payload h0) client) in
+      let same : h1 ≡ r.history = rw opening (ap (λ c. followed app s number (side_of c segment) segment.head segment.scale segment.payload h0) client) in
       let noted = went.stands.noted in
       let slot_is : slot' ≡ slot_of keep r =
       noted_slot number version (Tcp segment) h1 slot'.notes counts counts' slot'
@@ -224,7 +224,7 @@ module _ (app : Meaning) (control_at : ℕ → ControlState) (keep : Bool) (m : 
             (subst (λ g. IsFlow (told conn.version) (content' stepped_open.flow.forest) stepped_open.flow g) same went.stands.kept);
       } in
       let own_key : (k : EndpointPair) → is_open_at k r ≡ (same_key own k && not step.over) = λ k.
-      rw opening (ap (λ b. same_key own k && not b) (ap is_over (sym (ap (λ c. followed app s number (side_of c segment) segment.head segment.payload h0) client)) ∙ sym went.over)) in
+      rw opening (ap (λ b. same_key own k && not b) (ap is_over (sym (ap (λ c. followed app s number (side_of c segment) segment.head segment.scale segment.payload h0) client)) ∙ sym went.over)) in
       record {
         stands = started content' flows after slots slot' counts counts' p pasts
             (record {
@@ -242,7 +242,7 @@ module _ (app : Meaning) (control_at : ℕ → ControlState) (keep : Bool) (m : 
             (IsOpenAt-stored keep told content content' (found flows k) (place_of k pasts) pasts (stored k) (stands.placed k)))
             (λ k passes. subst (λ w. place_of w pasts ≡ None) (same_key-equal own k (left_of_and (same_key own k) (not step.over) (sym (own_key k) ∙ passes))) none);
         interned = altered_by interns interns' p pasts none (subst (λ (g : History). InternsWithin interns interns' 0 g.altered) same went.interned);
-        verdict_is = went.verdict_is ∙ ap (λ c. verdict app s number (side_of c segment) segment.head h0) client ∙ sym (verdict_on-none app control_at p pasts none ∙ (rw opening refl));
+        verdict_is = went.verdict_is ∙ ap (λ c. verdict app s number (side_of c segment) segment.head segment.scale h0) client ∙ sym (verdict_on-none app control_at p pasts none ∙ (rw opening refl));
         dropped = ap drops_in (added-new app control_at p pasts none) ∙ total-append (λ q. length q.history.drops) pasts r
             ∙ ap (λ ds. drops_in pasts + length ds) (ap (λ (g : History). g.drops) (sym same) ∙ went.drops);
       }

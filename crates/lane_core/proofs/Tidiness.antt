@@ -27,7 +27,7 @@ use Rattle.event_trees.specs.Fires.{is_called, fires}
 use Rattle.report_text.specs.declared.record.RecordKind.TheVariants.{Conn, Orphan}
 use Rattle.report_text.specs.Tidy.{is_event, is_tidy_seen, is_tidy_entry, may_have, are_named, is_tidy_record, tidy}
 use Rattle.forest_versions.specs.State.{ControlState}
-use Rattle.connection_core.specs.Course.{Course, seen_by, is_on, is_so, altered_to, switched, changed, changed_all, settled, called, called_all, called_at, raised, phase}
+use Rattle.connection_core.specs.Course.{Course, seen_by, is_on, is_so, altered_to, switched, changed, changed_all, settled, called, called_all, called_at, raised, raise_done, phase}
 use Rattle.connection_core.specs.History.{History, fresh, begin, go_on, sender_phase, receiver_phase, received_unless, followed, lone_course, orphaned, verdict_of, drops_of}
 use Rattle.lane_core.specs.Sight.{Sight, Tcp, Other, Arrival}
 use Rattle.lane_core.specs.Records.{RecordSoFar, VersionedPacket, opens, belongs_to, side_in, history_after, orphan_raises_of, continued_by, added, records_from}
@@ -95,12 +95,15 @@ module _ (app : Meaning) (control : ControlState) (are : AreEvents control.regs)
   all_tidy raise (r ∷ rs) c events t =
       all_tidy raise rs (called app control number from raise c r) (rest_of (is_event r.event) _ events) (called_tidy raise c r (first_of (is_event r.event) _ events) t)
 
+  called_at_tidy : (raise : Raise) (c : Course) → IsTidyCourse c → IsTidyCourse (called_at app control number from raise c)
+  unfolding called_at
+  called_at_tidy raise c t =
+      all_tidy raise (fires control.defs raise.facts raise.hook raise.event c.active) c (filtered (is_called control.defs raise.facts raise.hook raise.event) c.active t.events) t
+
   raised_tidy : (raises : List Raise) (c : Course) → IsTidyCourse c → IsTidyCourse (raised app control number from raises c)
-  unfolding raised called_at
+  unfolding raised
   raised_tidy [] c t = t
-  raised_tidy (raise ∷ raises) c t =
-      raised_tidy raises (called_at app control number from raise c)
-      (all_tidy raise (fires control.defs raise.facts raise.hook raise.event c.active) c (filtered (is_called control.defs raise.facts raise.hook raise.event) c.active t.events) t)
+  raised_tidy (raise ∷ raises) c t = raised_tidy raises (called_at app control number from raise c) (called_at_tidy raise c t)
 
   switched_tidy : (o : Option Reg) (on : Bool) (c : Course) → ((r : Reg) → o ≡ Some r → is_event r.event ≡ true) → IsTidyCourse c → IsTidyCourse (switched control o on c)
   switched_tidy None on c event t = t
@@ -116,11 +119,16 @@ module _ (app : Meaning) (control : ControlState) (are : AreEvents control.regs)
   changed_tidy (change ∷ changes) c t =
       changed_tidy changes (changed control change c) (switched_tidy (reg_of control.regs change.reg) change.on c (λ r is. looked_up change.reg control.regs r are is) t)
 
+  raise_tidy : (raise : Raise) (c : Course) → IsTidyCourse c → IsTidyCourse (raise_done app control number from raise c)
+  unfolding raise_done settled
+  raise_tidy raise c t =
+      let called = called_at app control number from raise c in
+      let d = changed_tidy called.asked called (called_at_tidy raise c t) in record { events = d.events; entries = d.entries }
+
   phase_tidy : (raises : List Raise) (c : Course) → IsTidyCourse c → IsTidyCourse (phase app control number from raises c)
-  unfolding phase settled
-  phase_tidy raises c t =
-      let d = changed_tidy (raised app control number from raises c).asked (raised app control number from raises c) (raised_tidy raises c t) in
-      record { events = d.events; entries = d.entries }
+  unfolding phase
+  phase_tidy [] c t = t
+  phase_tidy (raise ∷ raises) c t = phase_tidy raises (raise_done app control number from raise c) (raise_tidy raise c t)
 
 -- ---- a history
 
@@ -159,12 +167,13 @@ drops_below number Pass = omega arith
 drops_below number (Drop reason) = (omega arith, le_refl (number + 1))
 
 module _ (app : Meaning) (control : ControlState) (are : AreEvents control.regs) where
-  followed_tidy : (n number : ℕ) (from : Side) (head : Head) (payload : List ℕ) (h : History) → n ≤ number → IsTidyHistory n h → IsTidyHistory (number + 1) (followed app control number from head payload h)
+  followed_tidy : (n number : ℕ) (from : Side) (head : Head) (scale : Option ℕ) (payload : List ℕ) (h : History) → n ≤ number → IsTidyHistory n h
+      → IsTidyHistory (number + 1) (followed app control number from head scale payload h)
   unfolding followed sender_phase receiver_phase
-  followed_tidy n number from head payload h less t =
-      let s = sender_phase app control number from head h in
+  followed_tidy n number from head scale payload h less t =
+      let s = sender_phase app control number from head scale h in
       let r = receiver_phase app control number from head payload h.count s in
-      let ts = phase_tidy app control are number from (sender_raises head from h.count (h.count == 0) (sent_answer from head h.emulation)) (begin (sent from head h.emulation) h)
+      let ts = phase_tidy app control are number from (sender_raises head from h.count (h.count == 0) (sent_answer from head h.emulation)) (begin (sent from head scale h.emulation) h)
       (record { events = t.events; entries = t.entries }) in
       unless_tidy n number s.drop s r h less t.drops ts
       (phase_tidy app control are number from (receiver_raises head from h.count (got_of from head payload s.emulation)) (go_on (received from head payload s.emulation) s)
@@ -174,8 +183,8 @@ module _ (app : Meaning) (control : ControlState) (are : AreEvents control.regs)
   unfolding history_after
   after_tidy n opener a h less t = by a.sight
     where
-      by : (s : Sight) → IsTidyHistory (a.number + 1) (elim s [ Tcp segment ↦ followed app control a.number (side_in opener segment) segment.head segment.payload h | Other class ↦ h ])
-      by (Tcp segment) = followed_tidy n a.number (side_in opener segment) segment.head segment.payload h less t
+      by : (s : Sight) → IsTidyHistory (a.number + 1) (elim s [ Tcp segment ↦ followed app control a.number (side_in opener segment) segment.head segment.scale segment.payload h | Other class ↦ h ])
+      by (Tcp segment) = followed_tidy n a.number (side_in opener segment) segment.head segment.scale segment.payload h less t
       by (Other class) = later_history n (a.number + 1) h (omega arith) t
 
   fresh_tidy : IsTidyHistory 0 (fresh app control)

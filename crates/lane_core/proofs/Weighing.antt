@@ -13,7 +13,7 @@ use Rattle.builtin_events.specs.declared.raise.Raise.{Raise}
 use Rattle.event_trees.specs.Fires.{fires}
 use Rattle.event_trees.specs.Private.{edited}
 use Rattle.forest_versions.specs.State.{ControlState}
-use Rattle.connection_core.specs.Course.{Course, is_on, is_so, altered_to, switched, changed, changed_all, settled, called, called_all, called_at, raised, phase}
+use Rattle.connection_core.specs.Course.{Course, is_on, is_so, altered_to, switched, changed, changed_all, settled, called, called_all, called_at, raise_done, phase}
 use Rattle.connection_core.specs.History.{History, sender_phase, receiver_phase, received_unless, followed, weight_of}
 use Rattle.lane_core.specs.Sight.{Sight, Tcp, Other, Arrival}
 use Rattle.lane_core.specs.Records.{VersionedPacket, RecordSoFar, belongs_to, side_in, history_after, continued_by, added}
@@ -49,14 +49,6 @@ module _ (app : Meaning) (control : ControlState) (number : ℕ) (from : Side) w
       let d = called app control number from raise c r in
       following c.entries d.entries (called_all app control number from raise d rs).entries (called_more raise c r) (all_more raise rs d)
 
-  raised_more : (raises : List Raise) (c : Course) → Extends c.entries (raised app control number from raises c).entries
-  unfolding raised called_at
-  raised_more [] c = same c.entries
-  raised_more (raise ∷ raises) c =
-      let d = called_at app control number from raise c in
-      following c.entries d.entries (raised app control number from raises d).entries
-      (all_more raise (fires control.defs raise.facts raise.hook raise.event c.active) c) (raised_more raises d)
-
   switched_same : (o : Option Reg) (on : Bool) (c : Course) → (switched control o on c).entries ≡ c.entries
   switched_same None on c = refl
   switched_same (Some r) on c = elim (is_so (is_on r.number c.active) on) as (λ b. (if b then c else altered_to (edited control.defs c.active r on) c).entries ≡ c.entries) [ true ↦ refl | false ↦ refl ]
@@ -67,32 +59,39 @@ module _ (app : Meaning) (control : ControlState) (number : ℕ) (from : Side) w
   changed_same (change ∷ changes) c =
       changed_same changes (changed control change c) ∙ switched_same (reg_of control.regs change.reg) change.on c
 
+  raise_more : (raise : Raise) (c : Course) → Extends c.entries (raise_done app control number from raise c).entries
+  unfolding raise_done settled called_at
+  raise_more raise c =
+      let d = called_at app control number from raise c in
+      subst (Extends c.entries) (sym (changed_same d.asked d)) (all_more raise (fires control.defs raise.facts raise.hook raise.event c.active) c)
+
   phase_more : (raises : List Raise) (c : Course) → Extends c.entries (phase app control number from raises c).entries
-  unfolding phase settled
-  phase_more raises c =
-      let d = raised app control number from raises c in
-      subst (Extends c.entries) (sym (changed_same d.asked d)) (raised_more raises c)
+  unfolding phase
+  phase_more [] c = same c.entries
+  phase_more (raise ∷ raises) c =
+      let d = raise_done app control number from raise c in
+      following c.entries d.entries (phase app control number from raises d).entries (raise_more raise c) (phase_more raises d)
 
   unless_more : (o : Option Reason) (s r : Course) (h : History) → Extends h.entries s.entries → Extends s.entries r.entries → Extends h.entries (received_unless o number s r h).entries
   unless_more None s r h one two = following h.entries s.entries r.entries one two
   unless_more (Some reason) s r h one two = one
 
-  followed_more : (head : Head) (payload : List ℕ) (h : History) → Extends h.entries (followed app control number from head payload h).entries
+  followed_more : (head : Head) (scale : Option ℕ) (payload : List ℕ) (h : History) → Extends h.entries (followed app control number from head scale payload h).entries
   unfolding followed sender_phase receiver_phase
-  followed_more head payload h =
-      let s = sender_phase app control number from head h in
+  followed_more head scale payload h =
+      let s = sender_phase app control number from head scale h in
       unless_more s.drop s (receiver_phase app control number from head payload h.count s) h (phase_more _ _) (phase_more _ _)
 
 -- one more packet, by what is seen of it
 abbrev after_packet : Meaning → ControlState → Sight → Arrival → Sight → History → History
 after_packet app control opener a sight h = elim sight [
-  | Tcp segment ↦ followed app control a.number (side_in opener segment) segment.head segment.payload h
+  | Tcp segment ↦ followed app control a.number (side_in opener segment) segment.head segment.scale segment.payload h
   | Other class ↦ h
 ]
 
 after_heavier : (app : Meaning) (control : ControlState) (opener : Sight) (a : Arrival) (sight : Sight) (h : History)
     → weight_of h.entries ≤ weight_of (after_packet app control opener a sight h).entries
-after_heavier app control opener a (Tcp segment) h = heavier _ _ (followed_more app control a.number (side_in opener segment) segment.head segment.payload h)
+after_heavier app control opener a (Tcp segment) h = heavier _ _ (followed_more app control a.number (side_in opener segment) segment.head segment.scale segment.payload h)
 after_heavier app control opener a (Other class) h = omega arith
 
 added_here : (b : Bool) (past next : RecordSoFar) (pasts after : List RecordSoFar) → weight_of past.history.entries ≤ weight_of next.history.entries → weight pasts ≤ weight after

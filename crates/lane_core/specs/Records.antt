@@ -71,7 +71,7 @@ orphan_raises_of (Other class) = orphan_raises class None
 -- one more packet of the connection that a packet opened
 unfoldable pub history_after : Meaning → ControlState → Sight → Arrival → History → History
 history_after app control opener a h = elim a.sight [
-  | Tcp segment ↦ followed app control a.number (side_in opener segment) segment.head segment.payload h
+  | Tcp segment ↦ followed app control a.number (side_in opener segment) segment.head segment.scale segment.payload h
   | Other class ↦ h
 ]
 
@@ -84,7 +84,7 @@ first_history app control a =
 -- what becomes of a packet of the connection that a packet opened
 unfoldable pub verdict_after : Meaning → ControlState → Sight → Arrival → History → Verdict
 verdict_after app control opener a h = elim a.sight [
-  | Tcp segment ↦ verdict app control a.number (side_in opener segment) segment.head h
+  | Tcp segment ↦ verdict app control a.number (side_in opener segment) segment.head segment.scale h
   | Other class ↦ Pass
 ]
 

@@ -25,7 +25,7 @@ use Rattle.lane_core.specs.Records.{side_of}
 -- a history after one more packet of its connection
 abbrev pub stepped : Meaning → ControlState → Connection → ℕ → Segment → History → History
 stepped app control conn number segment h =
-    followed app control number (side_of conn.client segment) segment.head segment.payload h
+    followed app control number (side_of conn.client segment) segment.head segment.scale segment.payload h
 
 -- a connection's step, of which nothing else is known than the registrations by their numbers, the trees, and the interns
 pub record Stepping (app : Meaning) (keep : Bool) (at : ℕ → Option Reg) (control : ControlState) (others : Counts)
@@ -34,7 +34,7 @@ pub record Stepping (app : Meaning) (keep : Bool) (at : ℕ → Option Reg) (con
   pub stands : IsConnection keep others at tree_after conn_after.flow slot_after.notes counts_after (stepped app control conn number segment h)
   pub interned : InternsWithin interns interns_after h.altered (stepped app control conn number segment h).altered
   pub over : step.over ≡ is_over (stepped app control conn number segment h)
-  pub verdict_is : step.verdict ≡ verdict app control number (side_of conn.client segment) segment.head h
+  pub verdict_is : step.verdict ≡ verdict app control number (side_of conn.client segment) segment.head segment.scale h
   pub drops : (stepped app control conn number segment h).drops ≡ h.drops ++ drops_of step.verdict number
 
 -- a record under way with other notes, and with what this verdict adds to its dropped packets
@@ -61,7 +61,7 @@ pub record StepCosts (app : Meaning) (keep : Bool) (at : ℕ → Option Reg) (co
 -- a connection's history after the segment that opens it
 abbrev pub opened_by : Meaning → ControlState → ℕ → Segment → History
 opened_by app control number segment =
-    followed app control number (side_of segment.sender segment) segment.head segment.payload (fresh app control)
+    followed app control number (side_of segment.sender segment) segment.head segment.scale segment.payload (fresh app control)
 
 -- a packet of no connection was called for: `slot` is a record of no callback
 pub record IsLone (app : Meaning) (keep : Bool) (control : ControlState) (slot slot_after : Slot) (counts counts_after : Counts) (number : ℕ) (raises : List Raise) (verdict_is : Verdict) : Type 0 where

@@ -88,6 +88,7 @@ pub(crate) fn step_one<A: App, F: Forests>(
         number,
         from: side_of(&conn.client, segment),
         head: &segment.head,
+        scale: segment.scale,
         payload: segment.payload,
     };
     let step = conn

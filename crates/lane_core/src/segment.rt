@@ -1,6 +1,7 @@
 //! A TCP segment as the lane needs it.
 
 ghost use Rattle.std.specs.Prelude.{◌≡◌, ◌≤◌, length};
+ghost use Rattle.std.specs.Option.{ForSome};
 
 use flow_table::{Endpoint, Key};
 use packet_views::{Head, TcpView, window_scale};
@@ -16,6 +17,7 @@ pub(crate) struct Segment<'a> {
     /// The window scale that it offers (RFC 7323, section 2.2), at most 14.
     pub(crate) scale: Option<u8>,
     pub(crate) payload: &'a [u8],
+    ghost shift: { ForSome scale (λ shift. shift ≤ 14) },
     ghost len: { head.len ≡ length payload.now },
     ghost bytes: { length payload.now ≤ 65535 },
 }

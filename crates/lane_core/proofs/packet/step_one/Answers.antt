@@ -28,14 +28,14 @@ returns-clause-stands g c = rw (sym c.version_for.ensures) (λ control tells.
       noted = noted slot c.note.new.self c.step.new.notes c.in_ok-step.step number is;
       stands = λ others h connected. record {
         stands = subst (λ n. IsConnection c.args.world.now.keep others at (g.F.ForestView.content c.step.new.forests c.step.new.self.forest) c.step.new.self n c.step.new.ledger.counts
-            (followed app control number (side_of conn.client segment) segment.head segment.payload h)) (sym notes)
+            (followed app control number (side_of conn.client segment) segment.head segment.scale segment.payload h)) (sym notes)
             (subst (λ side. IsConnection c.args.world.now.keep others at (g.F.ForestView.content c.step.new.forests c.step.new.self.forest) c.step.new.self c.step.new.notes c.step.new.ledger.counts
-            (followed app control number side segment.head segment.payload h)) from (e.stands control others h tells connected));
+            (followed app control number side segment.head segment.scale segment.payload h)) from (e.stands control others h tells connected));
         interned = subst (λ side. InternsWithin (g.F.ForestView.interns c.args.forests.now) (g.F.ForestView.interns c.step.new.forests) h.altered
-            (followed app control number side segment.head segment.payload h).altered) from (e.interned control others h tells connected);
-        over = subst (λ side. c.in_ok-step.step.over ≡ is_over (followed app control number side segment.head segment.payload h)) from (e.over control others h tells connected);
-        verdict_is = subst (λ side. c.in_ok-step.step.verdict ≡ verdict app control number side segment.head h) from (e.verdict control others h tells connected);
-        drops = subst (λ side. (followed app control number side segment.head segment.payload h).drops ≡ h.drops ++ drops_of c.in_ok-step.step.verdict number) from
+            (followed app control number side segment.head segment.scale segment.payload h).altered) from (e.interned control others h tells connected);
+        over = subst (λ side. c.in_ok-step.step.over ≡ is_over (followed app control number side segment.head segment.scale segment.payload h)) from (e.over control others h tells connected);
+        verdict_is = subst (λ side. c.in_ok-step.step.verdict ≡ verdict app control number side segment.head segment.scale h) from (e.verdict control others h tells connected);
+        drops = subst (λ side. (followed app control number side segment.head segment.scale segment.payload h).drops ≡ h.drops ++ drops_of c.in_ok-step.step.verdict number) from
             (e.drops control others h tells connected);
       };
     })
@@ -45,7 +45,7 @@ returns-in_err-step-clause-costs g c = rw (sym c.version_for.ensures) (on_err_al
   interned = λ others h connected.
       let segment = seen c.args.segment.now in
       subst (λ side. InternsWithin (g.F.ForestView.interns c.args.forests.now) (g.F.ForestView.interns c.step.new.forests) h.altered
-      (followed (g.A.App.meaning c.args.world.now.app) control c.args.number side segment.head segment.payload h).altered) c.side_of.ensures (c.step.ensures.interned control others h tells connected);
+      (followed (g.A.App.meaning c.args.world.now.app) control c.args.number side segment.head segment.scale segment.payload h).altered) c.side_of.ensures (c.step.ensures.interned control others h tells connected);
 }))
 
 pub returns-in_err-note-clause-costs : goal.returns-in_err-note-clause-costs
@@ -53,7 +53,7 @@ returns-in_err-note-clause-costs g c = rw (sym c.version_for.ensures) (on_err_al
   interned = λ others h connected.
       let segment = seen c.args.segment.now in
       subst (λ side. InternsWithin (g.F.ForestView.interns c.args.forests.now) (g.F.ForestView.interns c.step.new.forests) h.altered
-      (followed (g.A.App.meaning c.args.world.now.app) control c.args.number side segment.head segment.payload h).altered) c.side_of.ensures (c.step.ensures.interned control others h tells connected);
+      (followed (g.A.App.meaning c.args.world.now.app) control c.args.number side segment.head segment.scale segment.payload h).altered) c.side_of.ensures (c.step.ensures.interned control others h tells connected);
 }))
 
 pub returns-in_err-step-clause-tree : goal.returns-in_err-step-clause-tree

@@ -1,51 +1,92 @@
-use Rattle.std.proofs.Common.{sym, subst}
-use Rattle.flow_socket.specs.View.{SocketView}
-use Rattle.shared_forest.specs.Lists.{TreeLists}
-use Rattle.builtin_events.specs.Raised.{raises_of}
+use Rattle.std.proofs.Common.{ℕ, ◌<◌, ◌≤◌, List, length, map, get_or, refl, subst, ap, ◌∙◌, arith}
+use Rattle.std.proofs.lemmas.List.{take_all}
+use Rattle.builtin_events.specs.declared.raise.Raise.{Raise}
 use Rattle.connection_core.specs.InForce.{told}
-use Rattle.connection_core.specs.Course.{raised}
 use Rattle.connection_core.specs.Trees.{active_in}
-use Rattle.connection_core.specs.Standing.{Steps}
+use Rattle.connection_core.specs.Course.{phase as phase_of}
+use Rattle.connection_core.specs.Standing.{Makes, CostsUnder, raise_of}
 use Rattle.connection_core.proofs.Errors.{on_err_always}
-use Rattle.connection_core.proofs.Phases.{phase_made, phase_costs_none, phase_costs}
+use Rattle.connection_core.proofs.Settling.{phase_begun, phase_on, phase_failed, raise_as}
 use Rattle.connection_core.proofs.flow.Flow.make.Goals as goal
+
+pub loop-event-init : goal.loop-event-init
+loop-event-init g c = record {
+  answered = c.requires.answered;
+  forest = c.requires.forest;
+  kept = record { still_answered = λ s a. a; same_content = λ s a. refl };
+  made = λ s force. phase_begun (g.A.App.meaning c.args.terms.now.app.now) s c.args.terms.now.keep
+      (active_in (told c.args.terms.now.in_force) (g.F.ForestView.content c.args.forests.now c.args.self.now.forest)) (g.F.ForestView.interns c.args.forests.now)
+      c.args.phase.now.number c.args.phase.now.from c.args.self.now.socket c.args.notes.now c.args.ledger.now;
+  rise = record { callbacks = omega arith; weight = omega arith };
+  count = refl;
+}
+
+pub loop-event-preserved : goal.loop-event-preserved
+loop-event-preserved g c =
+    let inv = c.loop-event.invariant in
+    let kept = c.raise.ensures.kept in record {
+      answered = c.raise.ensures.answered;
+      forest = c.raise.ensures.forest;
+      kept = record {
+        still_answered = λ s a. kept.still_answered s (inv.kept.still_answered s a);
+        same_content = λ s a. kept.same_content s (inv.kept.still_answered s a) ∙ inv.kept.same_content s a;
+      };
+      made = λ s force.
+          let app = g.A.App.meaning c.args.terms.now.app.now in
+          let keep = c.args.terms.now.keep in
+          let interns = g.F.ForestView.interns in
+          let content = g.F.ForestView.content in
+          let in_tree = active_in (told c.args.terms.now.in_force) in
+          let phase = c.args.phase.now in
+          let at : ℕ → Raise = λ event. record { hook = phase.raised.hook; event = event; facts = phase.raised.facts } in
+          let n = c.loop-event.event-index in
+          let items = c.as_slice-event-items.ensures.items in
+          let list_now = in_tree (content c.loop-event.forests c.loop-event.self.forest) in
+          let list_after = in_tree (content c.raise.new.forests c.raise.new.self.forest) in
+          let one = raise_as
+          (λ step. Makes keep list_now c.loop-event.self.socket c.loop-event.notes c.loop-event.ledger (interns c.loop-event.forests)
+          list_after c.raise.new.self.socket c.raise.new.notes c.raise.new.ledger (interns c.raise.new.forests) step)
+          app s phase.number c.moment-moment.result.number phase.from c.moment-moment.result.from (at (get_or phase.raised.events n 0)) (raise_of c.moment-moment.result)
+          c.moment-moment.ensures.number c.moment-moment.ensures.from (c.moment-moment.ensures.raise ∙ ap (λ (l : List ℕ). at (get_or l n 0)) items)
+          (c.in_ok-raise.ensures.made s force) in
+          phase_on app s keep phase.number phase.from at phase.raised.events n
+          (in_tree (content c.args.forests.now c.args.self.now.forest)) list_now list_after
+          c.args.self.now.socket c.loop-event.self.socket c.raise.new.self.socket c.args.notes.now c.loop-event.notes c.raise.new.notes c.args.ledger.now c.loop-event.ledger c.raise.new.ledger
+          (interns c.args.forests.now) (interns c.loop-event.forests) (interns c.raise.new.forests)
+          (subst (λ (l : List ℕ). n < length l) items c.loop-event-test.true) (inv.made s force) one;
+      rise = record { callbacks = omega (arith, inv.rise.callbacks, c.raise.ensures.rise.callbacks); weight = omega (arith, inv.rise.weight, c.raise.ensures.rise.weight) };
+      count = c.raise.ensures.count ∙ inv.count;
+    }
 
 pub returns-clause-made : goal.returns-clause-made
 returns-clause-made g c = λ s force.
+    let phase = c.args.phase.now in
+    let at : ℕ → Raise = λ event. record { hook = phase.raised.hook; event = event; facts = phase.raised.facts } in
+    let in_tree = active_in (told c.args.terms.now.in_force) in
+    let n = c.loop-event.event-index in
+    let last : length phase.raised.events ≤ n = subst (λ (l : List ℕ). length l ≤ n) c.as_slice-event-items.ensures.items c.loop-event-test.false in
+    subst (λ l. Makes c.args.terms.now.keep
+    (in_tree (g.F.ForestView.content c.args.forests.now c.args.self.now.forest)) c.args.self.now.socket c.args.notes.now c.args.ledger.now (g.F.ForestView.interns c.args.forests.now)
+    (in_tree (g.F.ForestView.content c.loop-event.forests c.loop-event.self.forest)) c.loop-event.self.socket c.loop-event.notes c.loop-event.ledger (g.F.ForestView.interns c.loop-event.forests)
+    (phase_of (g.A.App.meaning c.args.terms.now.app.now) s phase.number phase.from (map at l))) (take_all n phase.raised.events last) (c.loop-event.invariant.made s force)
+
+pub returns-in_err-raise-clause-failed : goal.returns-in_err-raise-clause-failed
+returns-in_err-raise-clause-failed g c = on_err_always c.from_residual.result (λ s force.
     let app = g.A.App.meaning c.args.terms.now.app.now in
-    let at = told c.args.terms.now.in_force in
     let keep = c.args.terms.now.keep in
-    let step = raised app s c.args.phase.now.number c.args.phase.now.from (raises_of c.args.phase.now.raised) in
-    let steps = subst (λ (t : TreeLists). Steps keep (active_in at t) c.args.self.now.socket c.args.notes.now c.make_room.new.self c.raise_all.new.socket c.raise_all.new.notes c.raise_all.new.ledger step)
-    c.tree_of-tree.ensures (c.in_ok-raise_all.ensures.stands s force) in
-    let list = active_in at (g.F.ForestView.content c.args.forests.now c.args.self.now.forest) in
-    phase_made app s keep list (active_in at (g.F.ForestView.content c.settle.new.forests c.settle.new.self.forest)) (g.F.ForestView.interns c.args.forests.now) (g.F.ForestView.interns c.settle.new.forests)
-    c.args.phase.now.number c.args.phase.now.from (raises_of c.args.phase.now.raised)
-    c.args.self.now.socket c.settle.new.self.socket c.args.notes.now c.raise_all.new.notes c.args.ledger.now c.make_room.new.self c.raise_all.new.ledger c.settle.new.ledger
-    c.make_room.ensures.changes c.make_room.ensures.drop c.make_room.ensures.counts
-    (subst (λ (k : SocketView). Steps keep list c.args.self.now.socket c.args.notes.now c.make_room.new.self k c.raise_all.new.notes c.raise_all.new.ledger step) (sym c.settle.ensures.socket) steps)
-    (c.in_ok-settle.ensures.made s force) c.in_ok-settle.ensures.asked c.settle.ensures.drop c.settle.ensures.counts
-
-pub returns-in_err-make_room-clause-failed : goal.returns-in_err-make_room-clause-failed
-returns-in_err-make_room-clause-failed g c = on_err_always c.from_residual.result (λ s force.
-    phase_costs_none (g.A.App.meaning c.args.terms.now.app.now) s c.args.terms.now.keep (active_in (told c.args.terms.now.in_force) (g.F.ForestView.content c.args.forests.now c.args.self.now.forest))
-    (g.F.ForestView.interns c.args.forests.now) c.args.phase.now.number c.args.phase.now.from (raises_of c.args.phase.now.raised) c.args.self.now.socket c.args.notes.now c.args.ledger.now)
-
-pub returns-in_err-raise_all-clause-failed : goal.returns-in_err-raise_all-clause-failed
-returns-in_err-raise_all-clause-failed g c = on_err_always c.from_residual-in_err-raise_all.result (λ s force.
-    phase_costs_none (g.A.App.meaning c.args.terms.now.app.now) s c.args.terms.now.keep (active_in (told c.args.terms.now.in_force) (g.F.ForestView.content c.args.forests.now c.args.self.now.forest))
-    (g.F.ForestView.interns c.args.forests.now) c.args.phase.now.number c.args.phase.now.from (raises_of c.args.phase.now.raised) c.args.self.now.socket c.args.notes.now c.args.ledger.now)
-
-pub returns-in_err-settle-clause-failed : goal.returns-in_err-settle-clause-failed
-returns-in_err-settle-clause-failed g c = on_err_always c.from_residual-in_err-settle.result (λ s force.
-    let app = g.A.App.meaning c.args.terms.now.app.now in
-    let at = told c.args.terms.now.in_force in
-    let keep = c.args.terms.now.keep in
-    let step = raised app s c.args.phase.now.number c.args.phase.now.from (raises_of c.args.phase.now.raised) in
-    phase_costs app s keep (active_in at (g.F.ForestView.content c.args.forests.now c.args.self.now.forest)) (g.F.ForestView.interns c.args.forests.now) (g.F.ForestView.interns c.settle.new.forests)
-    c.args.phase.now.number c.args.phase.now.from (raises_of c.args.phase.now.raised)
-    c.args.self.now.socket c.raise_all.new.socket c.args.notes.now c.raise_all.new.notes c.args.ledger.now c.make_room.new.self c.raise_all.new.ledger
-    c.make_room.ensures.changes c.make_room.ensures.drop c.make_room.ensures.counts
-    (subst (λ (t : TreeLists). Steps keep (active_in at t) c.args.self.now.socket c.args.notes.now c.make_room.new.self c.raise_all.new.socket c.raise_all.new.notes c.raise_all.new.ledger step)
-    c.tree_of-tree.ensures (c.in_ok-raise_all.ensures.stands s force))
-    (c.in_err-settle.ensures.failed s force))
+    let interns = g.F.ForestView.interns in
+    let in_tree = active_in (told c.args.terms.now.in_force) in
+    let phase = c.args.phase.now in
+    let at : ℕ → Raise = λ event. record { hook = phase.raised.hook; event = event; facts = phase.raised.facts } in
+    let n = c.loop-event.event-index in
+    let items = c.as_slice-event-items.ensures.items in
+    let list_now = in_tree (g.F.ForestView.content c.loop-event.forests c.loop-event.self.forest) in
+    let one = raise_as
+    (λ step. CostsUnder keep list_now c.loop-event.self.socket c.loop-event.notes c.loop-event.ledger (interns c.loop-event.forests) (interns c.raise.new.forests) step)
+    app s phase.number c.moment-moment.result.number phase.from c.moment-moment.result.from (at (get_or phase.raised.events n 0)) (raise_of c.moment-moment.result)
+    c.moment-moment.ensures.number c.moment-moment.ensures.from (c.moment-moment.ensures.raise ∙ ap (λ (l : List ℕ). at (get_or l n 0)) items)
+    (c.in_err-raise.ensures.failed s force) in
+    phase_failed app s keep phase.number phase.from at phase.raised.events n (in_tree (g.F.ForestView.content c.args.forests.now c.args.self.now.forest)) list_now
+    c.args.self.now.socket c.loop-event.self.socket c.args.notes.now c.loop-event.notes c.args.ledger.now c.loop-event.ledger
+    (interns c.args.forests.now) (interns c.loop-event.forests) (interns c.raise.new.forests)
+    (subst (λ (l : List ℕ). n < length l) items c.loop-event-test.true) (c.loop-event.invariant.made s force) one)

@@ -20,7 +20,7 @@ returns-clause-interned g c = λ s others h force is.
 pub returns-in_err-send-clause-interned : goal.returns-in_err-send-clause-interned
 returns-in_err-send-clause-interned g c = λ s others h force is.
     let arrived = c.args.arrived.now in
-    sender_costs (g.A.App.meaning c.args.terms.now.app.now) s (g.F.ForestView.interns c.args.forests.now) (g.F.ForestView.interns c.send.new.forests) arrived.number arrived.from arrived.head.now arrived.payload.now h
+    sender_costs (g.A.App.meaning c.args.terms.now.app.now) s (g.F.ForestView.interns c.args.forests.now) (g.F.ForestView.interns c.send.new.forests) arrived.number arrived.from arrived.head.now arrived.scale arrived.payload.now h
     (c.in_err-send.ensures.failed s others h force is)
 
 pub returns-in_err-go_on-clause-interned : goal.returns-in_err-go_on-clause-interned
@@ -48,7 +48,7 @@ returns-clause-drops g c = λ s others h force is.
     let app = g.A.App.meaning c.args.terms.now.app.now in
     let number = c.args.arrived.now.number in
     let reached = c.in_ok-send.ensures.stands s others h force is in
-    let sent = sender_phase app s number c.args.arrived.now.from c.args.arrived.now.head.now h in
+    let sent = sender_phase app s number c.args.arrived.now.from c.args.arrived.now.head.now c.args.arrived.now.scale h in
     let same = c.verdict_of-verdict.ensures ∙ ap verdict_of reached.under.drop in
     drops_more sent.drop number sent (receiver_phase app s number c.args.arrived.now.from c.args.arrived.now.head.now c.args.arrived.now.payload.now h.count sent) h
     ∙ ap (λ v. h.drops ++ drops_of v number) (sym same)

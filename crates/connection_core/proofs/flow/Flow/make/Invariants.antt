@@ -1,0 +1,25 @@
+use Rattle.std.proofs.Common.{◌≡◌, ◌*◌, take, map}
+use Rattle.shared_forest.specs.Store.{Keeps}
+use Rattle.forest_versions.specs.State.{ControlState}
+use Rattle.connection_core.specs.InForce.{told, defs_at, IsInForce}
+use Rattle.connection_core.specs.Course.{phase}
+use Rattle.connection_core.specs.Trees.{active_in, IsForestIn}
+use Rattle.connection_core.specs.Standing.{RiseBy, Makes}
+use Rattle.connection_core.proofs.flow.Flow.make.Given as goal
+
+abbrev pub invariant-loop-event : goal.invariant-loop-event
+invariant-loop-event g l =
+    let at = told l.terms.in_force in
+    let content = g.F.ForestView.content in
+    let interns = g.F.ForestView.interns in record {
+      answered : g.F.ForestView.answered l.forests l.self.forest;
+      forest : IsForestIn (defs_at l.terms.in_force) at (content l.forests l.self.forest);
+      kept : Keeps g.F.ForestView.answered content l.fn.forests l.forests;
+      made : (s : ControlState) → IsInForce l.terms.in_force s → Makes l.terms.keep
+          (active_in at (content l.fn.forests l.fn.self.forest)) l.fn.self.socket l.fn.notes l.fn.ledger (interns l.fn.forests)
+          (active_in at (content l.forests l.self.forest)) l.self.socket l.notes l.ledger (interns l.forests)
+          (phase (g.A.App.meaning l.terms.app.now) s l.phase.number l.phase.from
+          (map (λ event. record { hook = l.phase.raised.hook; event = event; facts = l.phase.raised.facts }) (take l.event-index l.phase.raised.events)));
+      rise : RiseBy (255 * l.event-index) l.fn.ledger.counts l.ledger.counts;
+      count : l.self.count ≡ l.fn.self.count;
+    }
