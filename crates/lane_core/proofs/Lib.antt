@@ -12,7 +12,6 @@ pub mod Stored
 pub mod Continued
 pub mod Started
 pub mod Presets
-pub mod Sights
 pub mod Pieces
 pub mod Weighing
 pub mod Tidiness

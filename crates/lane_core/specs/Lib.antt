@@ -3,7 +3,6 @@ pub mod Records
 pub mod Run
 pub mod Shown
 pub mod Laws
-pub mod Seen
 pub mod Places
 pub mod End
 pub mod Trees

@@ -5,18 +5,18 @@ ghost use Rattle.flow_table.specs.Key.{EndpointPair, same_key};
 ghost use Rattle.flow_table.specs.Table.{found};
 ghost use Rattle.shared_forest.specs.Store.{Keeps};
 ghost use Rattle.connection_core.specs.Standing.{RiseBy};
-ghost use Rattle.lane_core.specs.Seen.{seen};
+ghost use Rattle.ip6_views.specs.Seen.{seen};
 ghost use Rattle.lane_core.specs.Trees.{AreAnswered, AreTrees, ArePlaced, AreSince, AreShort};
 ghost use Rattle.lane_core.specs.Steps.{Steps, Follows, Failed};
 
 use crate::connection::Connection;
 use crate::packet::step_one;
-use crate::segment::Segment;
 use crate::slot::Slot;
 use crate::world::World;
 use app_api::App;
 use connection_core::{Ledger, Step};
 use flow_table::{FlowTable, Key};
+use ip6_views::SightTcp;
 use native_filters::NativeBook;
 use shared_forest::Forests;
 use std::alloc::{AllocError, Global};
@@ -32,7 +32,7 @@ fn step_flow<A: App, F: Forests>(
     ledger: &mut Ledger,
     key: &Key,
     number: u64,
-    segment: &Segment<'_>,
+    segment: &SightTcp<'_>,
 ) -> Result<Option<Step>, AllocError>
     requires placed { ArePlaced (length slots.old) flows.old }
     requires answered { AreAnswered (F.answered forests.old) flows.old }
@@ -88,7 +88,7 @@ pub(crate) fn follow<A: App, F: Forests>(
     ledger: &mut Ledger,
     key: &Key,
     number: u64,
-    segment: &Segment<'_>,
+    segment: &SightTcp<'_>,
 ) -> Result<Option<Step>, AllocError>
     requires placed { ArePlaced (length slots.old) flows.old }
     requires answered { AreAnswered (F.answered forests.old) flows.old }

@@ -12,7 +12,6 @@ pub mod laws;
 pub mod limits;
 mod packet;
 pub mod recorder;
-mod segment;
 mod sides;
 mod slot;
 mod world;

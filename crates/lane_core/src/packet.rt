@@ -10,12 +10,11 @@ ghost use Rattle.forest_versions.specs.State.{ControlState, active};
 ghost use Rattle.connection_core.specs.InForce.{told_at};
 ghost use Rattle.connection_core.specs.Standing.{RiseBy};
 ghost use Rattle.connection_core.specs.Trees.{InternsWithin};
-ghost use Rattle.lane_core.specs.Seen.{seen};
+ghost use Rattle.ip6_views.specs.Seen.{seen};
 ghost use Rattle.lane_core.specs.Trees.{IsTree};
 ghost use Rattle.lane_core.specs.Steps.{IsStep, IsLone, Opens, StepCosts, opened_by};
 
 use crate::connection::Connection;
-use crate::segment::Segment;
 use crate::sides::side_of;
 use crate::slot::Slot;
 use crate::world::World;
@@ -23,6 +22,7 @@ use app_api::{App, Verdict};
 use builtin_events::Raised;
 use connection_core::laws::first_tree_names_the_first_list;
 use connection_core::{Arrived, Flow, InForce, Ledger, Step, Terms, lone};
+use ip6_views::SightTcp;
 use native_filters::NativeBook;
 use report_text::RecordKind;
 use shared_forest::Forests;
@@ -53,7 +53,7 @@ pub(crate) fn step_one<A: App, F: Forests>(
     slot: &mut Slot,
     ledger: &mut Ledger,
     number: u64,
-    segment: &Segment<'_>,
+    segment: &SightTcp<'_>,
 ) -> Result<Step, AllocError>
     requires count { conn.old.flow.count < 2 ^ 30 }
     requires answered { F.answered forests.old conn.old.flow.forest }
@@ -107,7 +107,7 @@ pub(crate) fn start_one<A: App, F: Forests>(
     ledger: &mut Ledger,
     place: usize,
     number: u64,
-    segment: &Segment<'_>,
+    segment: &SightTcp<'_>,
 ) -> Result<Opened, AllocError>
     requires answered { F.answered forests.old world.now.master.forest }
     requires tree { IsForestOf world.now.master.now.defs (active world.now.master.now) (listing (F.content forests.old world.now.master.forest)) }
@@ -126,8 +126,8 @@ pub(crate) fn start_one<A: App, F: Forests>(
 {
     let version = world.master.version();
     let kind = RecordKind::Conn {
-        client: segment.sender,
-        server: segment.receiver,
+        client: segment.from,
+        server: segment.to,
     };
     let mut slot = Slot::new(alloc, number, kind, version, world.app.fresh());
     let in_force = InForce {
@@ -139,7 +139,7 @@ pub(crate) fn start_one<A: App, F: Forests>(
     world.master.tells_the_present();
     let mut conn = Connection {
         place,
-        client: segment.sender,
+        client: segment.from,
         version,
         flow: Flow::new(alloc, &in_force, forest),
     };

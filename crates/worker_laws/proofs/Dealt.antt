@@ -3,15 +3,14 @@ use Rattle.std.proofs.Common.{◌≡◌, ◌<◌, ◌≤◌, ◌+◌, ℕ, true,
 use Rattle.std.specs.List.{All}
 use Rattle.std.proofs.lemmas.Grind.{common_steps}
 use Rattle.std.proofs.lemmas.List.Elements.{All-nil, All-cons}
-use Rattle.packet_views.specs.declared.packet.Class.{Class}
-use Rattle.packet_views.specs.Packet.{class_of, packet_with, packet_of}
 use Rattle.pcap_source.specs.Captured.{Captured}
-use Rattle.flow_table.specs.Key.{EndpointPair, key_of_head}
-use Rattle.flow_table.specs.Lane.{lane_of_key, lane_of_packet}
+use Rattle.flow_table.specs.Key.{EndpointPair}
+use Rattle.flow_table.specs.Lane.{lane_of_key}
+use Rattle.ip6_views.specs.Sight.{lane_of_sight}
 use Rattle.app_api.specs.App.{Meaning}
 use Rattle.app_api.specs.Numbers.{rise_from}
 use Rattle.forest_versions.specs.declared.command.Command.{Command}
-use Rattle.lane_core.specs.Sight.{Sight, Tcp, Other, arrivals, sight_with, sight_of}
+use Rattle.lane_core.specs.Sight.{Sight, Tcp, Other, arrivals}
 use Rattle.lane_core.specs.Laws.{rise}
 use Rattle.worker_laws.specs.Lanes.{lane_of}
 use Rattle.worker_laws.specs.Rising.{Rises}
@@ -48,11 +47,6 @@ unfolding lane_of_key
 below lanes (Tcp segment) some = omega arith
 below lanes (Other class) some = omega arith
 
-dealt_with : (lanes : ℕ) (class : Class) (frame : List ℕ) → lane_of (by_key lanes) (sight_with class frame) ≡ lane_of_packet (packet_with class frame) lanes
-unfolding key_of_head
-dealt_with lanes Class.Tcp frame = refl
-dealt_with lanes class frame = refl
-
-pub dealt : (lanes : ℕ) (frame : List ℕ) → lane_of (by_key lanes) (sight_of frame) ≡ lane_of_packet (packet_of frame) lanes
-unfolding sight_of packet_of
-dealt lanes frame = dealt_with lanes (class_of frame) frame
+pub dealt : (lanes : ℕ) (sight : Sight) → lane_of (by_key lanes) sight ≡ lane_of_sight sight lanes
+dealt lanes (Tcp segment) = refl
+dealt lanes (Other class) = refl

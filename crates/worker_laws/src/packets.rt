@@ -2,9 +2,9 @@
 //! lanes calls them for what they say.
 
 ghost use Rattle.std.specs.Prelude.{◌≡◌, ◌≤◌, ◌<◌, ℕ, List, map, IsTrue};
-ghost use Rattle.packet_views.specs.Packet.{packet_of};
 ghost use Rattle.pcap_source.specs.Captured.{Captured};
-ghost use Rattle.flow_table.specs.Lane.{lane_of_key, lane_of_packet};
+ghost use Rattle.flow_table.specs.Lane.{lane_of_key};
+ghost use Rattle.ip6_views.specs.Sight.{lane_of_sight};
 ghost use Rattle.app_api.specs.App.{Meaning};
 ghost use Rattle.forest_versions.specs.declared.command.Command.{Command};
 ghost use Rattle.lane_core.specs.Sight.{Sight, arrivals, sight_of};
@@ -20,9 +20,9 @@ pub fn packets_of_a_capture_rise()
         → IsTrue (rise 0 (packets_under app commands vs (arrivals 0 frames))) }
 {}
 
-/// Each packet goes to one of the lanes: that of its key, as `flow_table` has it of the frame.
+/// Each packet goes to one of the lanes: that of its key, as `ip6_views` has it of what is seen of the frame.
 pub fn packets_go_to_lanes()
     ensures below { (lanes : ℕ) (sight : Sight) → 1 ≤ lanes → lane_of (λ key. lane_of_key key lanes) sight < lanes }
     ensures frame { (lanes : ℕ) (frame : List ℕ)
-        → lane_of (λ key. lane_of_key key lanes) (sight_of frame) ≡ lane_of_packet (packet_of frame) lanes }
+        → lane_of (λ key. lane_of_key key lanes) (sight_of frame) ≡ lane_of_sight (sight_of frame) lanes }
 {}

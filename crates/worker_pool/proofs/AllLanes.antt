@@ -1,9 +1,8 @@
 -- What the lanes of all workers came to.
 use Rattle.std.proofs.Common.{◌≡◌, ◌≤◌, ◌<◌, ℕ, Bool, zero, suc, List, [], ◌∷◌, length, get_or, refl, ap, subst, arith}
 use Rattle.std.proofs.lemmas.List.{get_or_default}
-use Rattle.packet_views.specs.Packet.{packet_of}
 use Rattle.pcap_source.specs.Captured.{Captured}
-use Rattle.flow_table.specs.Lane.{lane_of_packet}
+use Rattle.ip6_views.specs.Sight.{lane_of_sight}
 use Rattle.app_api.specs.App.{Meaning}
 use Rattle.control_script.specs.declared.stamped.Stamped.{Stamped}
 use Rattle.lane_core.specs.declared.recorder.Recorder.{Ghosts}
@@ -35,7 +34,7 @@ listed {A} P (suc n) each =
 module _ {L : Type 0} (g : Ghosts L) (keep : Bool) (app : Meaning) (script : List Stamped) (frames : List Captured) (begins workers : List (Worker L)) (packets : List (RingTx Packet)) where
   module _ (ordered : AreOrdered script) (few : length frames ≤ 1048576) (team : IsTeam g app begins packets) (all_keep : AllKeep g keep begins) (served : HaveServed g script begins frames workers)
       (below : (sight : Sight) → lane_of (by_key (length workers)) sight < length workers)
-      (dealt_by_key : (frame : List ℕ) → lane_of (by_key (length workers)) (sight_of frame) ≡ lane_of_packet (packet_of frame) (length workers)) where
+      (dealt_by_key : (frame : List ℕ) → lane_of (by_key (length workers)) (sight_of frame) ≡ lane_of_sight (sight_of frame) (length workers)) where
     abbrev Came : ℕ → List LaneEvent → Type 0
     Came k events = (v w : Worker L) → HasCome g keep app script frames (length workers) k (get_or workers k w).lane events × HasAnswered g app frames events (get_or begins k v) (get_or workers k w)
 
@@ -93,7 +92,7 @@ module _ {L : Type 0} (g : Ghosts L) (keep : Bool) (app : Meaning) (script : Lis
   -- the lanes of workers that have served a capture
   pub all_came : AreOrdered script → length frames ≤ 1048576 → IsTeam g app begins packets → AllKeep g keep begins → HaveServed g script begins frames workers
       → ((sight : Sight) → 1 ≤ length workers → lane_of (by_key (length workers)) sight < length workers)
-      → ((frame : List ℕ) → lane_of (by_key (length workers)) (sight_of frame) ≡ lane_of_packet (packet_of frame) (length workers))
+      → ((frame : List ℕ) → lane_of (by_key (length workers)) (sight_of frame) ≡ lane_of_sight (sight_of frame) (length workers))
       → (lanes : List (List LaneEvent)) × CameTo g keep app script frames workers lanes × HaveAnswered g app frames begins workers lanes
   all_came ordered few team all_keep served below dealt_by_key =
       let some : 1 ≤ length workers = (let e = served.count in let one = team.some in omega arith) in

@@ -4,14 +4,14 @@ use Rattle.std.specs.Prelude.{◌==◌}
 use Rattle.std.specs.List.{All}
 use Rattle.std.proofs.lemmas.Bool.{lt-ltb}
 use Rattle.std.proofs.lemmas.List.Elements.{All-nil, All-cons, All-filter}
-use Rattle.packet_views.specs.Packet.{packet_of}
 use Rattle.pcap_source.specs.Captured.{Captured}
-use Rattle.flow_table.specs.Lane.{lane_of_key, lane_of_packet}
+use Rattle.flow_table.specs.Lane.{lane_of_key}
+use Rattle.ip6_views.specs.Sight.{lane_of_sight}
 use Rattle.control_script.specs.declared.stamped.Stamped.{Stamped}
 use Rattle.control_script.specs.Versions.{floor, ceil}
 use Rattle.lane_rings.specs.declared.items.Packet.{Packet}
 use Rattle.lane_core.specs.Sight.{Arrival, arrivals, arrival_of, sight_of}
-use Rattle.worker_laws.specs.Lanes.{lane_of as lane_of_sight, share}
+use Rattle.worker_laws.specs.Lanes.{lane_of as lane_by, share}
 use Rattle.worker_pool.specs.Sent.{sent_as, packets_from, lane_of, dealt}
 use Rattle.worker_pool.specs.Steps.{is_behind}
 use Rattle.worker_pool.proofs.Handing.{arrival_in, AreInTurn, IsMarked}
@@ -63,7 +63,7 @@ module _ (script : List Stamped) where
 
 -- ---- they are the lane's share
 
-module _ (lanes l : ℕ) (dealt_by_key : (frame : List ℕ) → lane_of_sight (λ key. lane_of_key key lanes) (sight_of frame) ≡ lane_of_packet (packet_of frame) lanes) where
+module _ (lanes l : ℕ) (dealt_by_key : (frame : List ℕ) → lane_by (λ key. lane_of_key key lanes) (sight_of frame) ≡ lane_of_sight (sight_of frame) lanes) where
   shared_where : (b c : Bool) (p : Packet) (a : Arrival) (ps : List Packet) (as_seen : List Arrival) → b ≡ c → arrival_in p ≡ a → map arrival_in ps ≡ as_seen
       → map arrival_in (cond b (p ∷ ps) ps) ≡ cond c (a ∷ as_seen) as_seen
   shared_where true true p a ps as_seen e f g = ap (λ x. x ∷ map arrival_in ps) f ∙ ap (λ l. a ∷ l) g
@@ -76,6 +76,6 @@ module _ (lanes l : ℕ) (dealt_by_key : (frame : List ℕ) → lane_of_sight (�
   dealt_is_share script n [] = refl
   dealt_is_share script n (frame ∷ frames) =
       let here = dealt_by_key frame.bytes in
-      shared_where (lane_of lanes (sent_as script n frame) == l) (lane_of_sight (λ key. lane_of_key key lanes) (sight_of frame.bytes) == l) (sent_as script n frame) (arrival_of n frame)
+      shared_where (lane_of lanes (sent_as script n frame) == l) (lane_by (λ key. lane_of_key key lanes) (sight_of frame.bytes) == l) (sent_as script n frame) (arrival_of n frame)
       (dealt lanes l (packets_from script (n + 1) frames)) (share (λ key. lane_of_key key lanes) l (arrivals (n + 1) frames))
       (ap (λ k. k == l) (sym here)) refl (dealt_is_share script (n + 1) frames)

@@ -7,12 +7,11 @@ use Rattle.std.proofs.lemmas.List.{append-nil, length-map, get_or-map, get_or_de
 use Rattle.std.proofs.lemmas.List.Elements.{filter-append}
 use mathlib.Core.List.{IsPrefix}
 use Rattle.mos_bytes.specs.Writes.{AppendsFront}
-use Rattle.packet_views.specs.Packet.{packet_of}
 use Rattle.app_api.specs.App.{Meaning}
 use Rattle.app_api.specs.declared.reaction.Verdict.{Verdict}
 use Rattle.app_api.specs.declared.reaction.Verdict.TheVariants.{Pass, Drop}
 use Rattle.pcap_source.specs.Captured.{Captured}
-use Rattle.flow_table.specs.Lane.{lane_of_packet}
+use Rattle.ip6_views.specs.Sight.{lane_of_sight}
 use Rattle.flow_table.specs.Key.{EndpointPair}
 use Rattle.forest_versions.specs.declared.command.Command.{Command}
 use Rattle.control_script.specs.declared.stamped.Stamped.{Stamped}
@@ -234,7 +233,7 @@ module _ {L : Type 0} (g : Ghosts L) (app : Meaning) (script : List Stamped) (fr
   -- ---- the lane of each packet
 
   module _ (all_judged : map (λ j. j.0) js ≡ arrivals 0 told)
-      (dealt_by_key : (frame : List ℕ) → lane_of (by_key (length workers)) (sight_of frame) ≡ lane_of_packet (packet_of frame) (length workers)) where
+      (dealt_by_key : (frame : List ℕ) → lane_of (by_key (length workers)) (sight_of frame) ≡ lane_of_sight (sight_of frame) (length workers)) where
     pub js_count : length js ≡ length told
     js_count = sym (length-map js (λ j. j.0)) ∙ ap length all_judged ∙ arrivals_count 0 told
 
@@ -251,8 +250,8 @@ module _ {L : Type 0} (g : Ghosts L) (app : Meaning) (script : List Stamped) (fr
         let among : i < length told = (let le = front_length frames told behind in omega (arith, le, lt)) in
         ap (λ (a : Arrival). lane_of (by_key (length workers)) a.sight) (judged_at i among)
         ∙ dealt_by_key (get_or told i blank).bytes
-        ∙ ap (λ (f : Captured). lane_of_packet (packet_of f.bytes) (length workers)) (front_at frames told i blank behind lt)
-        ∙ sym (get_or-map (λ (f : Captured). lane_of_packet (packet_of f.bytes) (length workers)) frames i blank 0 lt)
+        ∙ ap (λ (f : Captured). lane_of_sight (sight_of f.bytes) (length workers)) (front_at frames told i blank behind lt)
+        ∙ sym (get_or-map (λ (f : Captured). lane_of_sight (sight_of f.bytes) (length workers)) frames i blank 0 lt)
 
     told_bytes : forwarded_numbers right (length js) ≡ forwarded (frame_bytes frame_at) js → forwarded_numbers right (length js) ≡ forwarded_with app script vs told
     told_bytes law = law ∙ left_is frame_at 0 js told all_judged (λ i d lt. ap frame_at (let e : 0 + i ≡ i = omega arith in e) ∙ told_tells i d lt)

@@ -4,9 +4,8 @@ use Rattle.std.specs.Prelude.{◌==◌}
 use Rattle.std.proofs.Math.Seq.{map-set_same}
 use Rattle.std.proofs.lemmas.Bool.{cases_eq}
 use Rattle.std.proofs.lemmas.List.{length_push, length-map, get_or_default, get_or-map, map-set, get_or-set_same, get_or-set_other, length-set}
-use Rattle.packet_views.specs.Packet.{packet_of}
 use Rattle.pcap_source.specs.Captured.{Captured}
-use Rattle.flow_table.specs.Lane.{lane_of_packet}
+use Rattle.ip6_views.specs.Sight.{sight_of, lane_of_sight}
 use Rattle.lane_rings.specs.Ring.{taken}
 use Rattle.lane_rings.specs.Share.{share}
 use Rattle.lane_rings.specs.Waiting.{Waiting}
@@ -139,7 +138,7 @@ lane_before n [] frame i lt = absurd (omega (arith, lt))
 lane_before n (f ∷ frames) frame zero lt = refl
 lane_before n (f ∷ frames) frame (suc i) lt = lane_before n frames frame i (omega (arith, lt))
 
-pub lane_own : (n : ℕ) (frames : List Captured) (frame : Captured) → lane_at n (frames ++ frame ∷ []) (length frames) ≡ lane_of_packet (packet_of frame.bytes) n
+pub lane_own : (n : ℕ) (frames : List Captured) (frame : Captured) → lane_at n (frames ++ frame ∷ []) (length frames) ≡ lane_of_sight (sight_of frame.bytes) n
 lane_own n [] frame = refl
 lane_own n (f ∷ frames) frame = lane_own n frames frame
 
@@ -161,7 +160,7 @@ few_sent begins frames relays k r are lt few =
     omega (arith, count, within, few)
 
 module _ (own : IsOwnShare) (others : IsOtherShare) (same_share : IsSameShare) (n : ℕ) (frames : List Captured) (frame : Captured) where
-  share_more : (k : ℕ) → lane_of_packet (packet_of frame.bytes) n ≡ k
+  share_more : (k : ℕ) → lane_of_sight (sight_of frame.bytes) n ≡ k
       → length (share (lane_at n (frames ++ frame ∷ [])) k (length (frames ++ frame ∷ []))) ≡ length (share (lane_at n frames) k (length frames)) + 1
   share_more k is =
       let more = lane_at n (frames ++ frame ∷ []) in
@@ -170,7 +169,7 @@ module _ (own : IsOwnShare) (others : IsOtherShare) (same_share : IsSameShare) (
       ∙ length_push (share more k (length frames)) (length frames)
       ∙ ap (λ xs. length xs + 1) (same_share (lane_at n frames) more (length frames) (lane_before n frames frame) k)
 
-  share_same : (k : ℕ) → lane_of_packet (packet_of frame.bytes) n ≢ k
+  share_same : (k : ℕ) → lane_of_sight (sight_of frame.bytes) n ≢ k
       → length (share (lane_at n (frames ++ frame ∷ [])) k (length (frames ++ frame ∷ []))) ≡ length (share (lane_at n frames) k (length frames))
   share_same k not =
       let more = lane_at n (frames ++ frame ∷ []) in
@@ -191,7 +190,7 @@ some_relay [] k lt = absurd (omega (arith, lt))
 some_relay (r ∷ relays) k lt = r
 
 module _ {L : Type 0} (own : IsOwnShare) (others : IsOtherShare) (same_share : IsSameShare) (begins : List (Worker L)) (frames : List Captured) (frame : Captured) (relays : List Relay) (k : ℕ) (d : Relay)
-    (below : k < length relays) (is : k ≡ lane_of_packet (packet_of frame.bytes) (length relays)) (are : AreRelays begins frames relays) where
+    (below : k < length relays) (is : k ≡ lane_of_sight (sight_of frame.bytes) (length relays)) (are : AreRelays begins frames relays) where
   abbrev after : Relay
   after = with_sent (get_or relays k d) ((get_or relays k d).sent + 1)
 

@@ -3,9 +3,8 @@ use Rattle.std.proofs.Common.{◌≡◌, ◌<◌, ◌≤◌, ℕ, Bool, true, So
 use Rattle.std.specs.List.{All}
 use Rattle.std.proofs.lemmas.List.{append-nil, length-map, map-append}
 use mathlib.Core.List.{IsPrefix}
-use Rattle.packet_views.specs.Packet.{packet_of}
 use Rattle.pcap_source.specs.Captured.{Captured}
-use Rattle.flow_table.specs.Lane.{lane_of_packet}
+use Rattle.ip6_views.specs.Sight.{lane_of_sight}
 use Rattle.app_api.specs.App.{Meaning}
 use Rattle.control_script.specs.declared.stamped.Stamped.{Stamped}
 use Rattle.control_script.specs.Order.{commands_of}
@@ -48,7 +47,7 @@ module _ {L : Type 0} (g : Ghosts L) (keep : Bool) (app : Meaning) (script : Lis
     pub whole : g.failed lane ≡ None → arrivals_of (versioned_from 0 events) ≡ share (by_key lanes) l (arrivals 0 frames)
     pub heavy : g.failed lane ≡ Some Heavy → (keep ≡ true) × IsHeavy app events
 
-  module _ (ordered : AreOrdered script) (few : length frames ≤ 1048576) (dealt_by_key : (frame : List ℕ) → lane_of (by_key lanes) (sight_of frame) ≡ lane_of_packet (packet_of frame) lanes) where
+  module _ (ordered : AreOrdered script) (few : length frames ≤ 1048576) (dealt_by_key : (frame : List ℕ) → lane_of (by_key lanes) (sight_of frame) ≡ lane_of_sight (sight_of frame) lanes) where
     abbrev its : List Packet
     its = dealt lanes l (packets_from script 0 frames)
 

@@ -1,8 +1,7 @@
 -- What the dispatcher makes of a capture: of each frame a packet, numbered in the order of the capture, for the lane of its key.
 use Rattle.std.specs.Prelude.{ℕ, ◌+◌, ◌==◌, List, [], ◌∷◌, filter}
-use Rattle.packet_views.specs.Packet.{packet_of}
 use Rattle.pcap_source.specs.Captured.{Captured}
-use Rattle.flow_table.specs.Lane.{lane_of_packet}
+use Rattle.ip6_views.specs.Sight.{sight_of, lane_of_sight}
 use Rattle.control_script.specs.declared.stamped.Stamped.{Stamped}
 use Rattle.control_script.specs.Versions.{floor, ceil}
 use Rattle.lane_rings.specs.declared.items.Packet.{Packet}
@@ -18,7 +17,7 @@ packets_from script n (frame ∷ frames) = sent_as script n frame ∷ packets_fr
 
 -- the lane of a packet, among so many
 abbrev pub lane_of : ℕ → Packet → ℕ
-lane_of lanes p = lane_of_packet (packet_of p.frame.bytes) lanes
+lane_of lanes p = lane_of_sight (sight_of p.frame.bytes) lanes
 
 -- the packets of a lane, in order
 abbrev pub dealt : ℕ → ℕ → List Packet → List Packet

@@ -2,11 +2,10 @@
 use Rattle.std.specs.Prelude.{◌≡◌, ◌≢◌, ℕ, ◌<◌, ◌≤◌, List, [], ◌++◌, length, map, get_or, Option, Some, Result, Ok, Err, ⊤}
 use Rattle.std.specs.Io.KnownBytes.{Appends}
 use mathlib.Core.List.{IsPrefix}
-use Rattle.packet_views.specs.Packet.{packet_of}
 use Rattle.pcap_source.specs.Captured.{Captured}
 use Rattle.pcap_source.specs.Capture.{tail, too_long, too_many}
 use Rattle.pcap_source.specs.Reading.{CaptureState, frames_at}
-use Rattle.flow_table.specs.Lane.{lane_of_packet}
+use Rattle.ip6_views.specs.Sight.{sight_of, lane_of_sight}
 use Rattle.control_script.specs.declared.stamped.Stamped.{Stamped}
 use Rattle.lane_rings.specs.declared.items.Answer.{Answer}
 use Rattle.lane_rings.specs.declared.ring.RingTx.{RingTx}
@@ -25,7 +24,7 @@ use Rattle.worker_pool.specs.Posts.{ArePosts}
 
 -- the lane of each packet by its number, among so many lanes; lane 0 past the end
 abbrev pub lane_at : ℕ → List Captured → ℕ → ℕ
-lane_at lanes frames i = get_or (map (λ f. lane_of_packet (packet_of f.bytes) lanes) frames) i 0
+lane_at lanes frames i = get_or (map (λ f. lane_of_sight (sight_of f.bytes) lanes) frames) i 0
 
 -- the answers that were taken from each lane; none where there is no such lane
 abbrev pub taken_from : List Relay → ℕ → List Answer

@@ -2,22 +2,22 @@
 
 ghost use Rattle.std.specs.Prelude.{◌≡◌, ◌<◌, ◌≤◌, ◌++◌, [], ◌∷◌, List, length, IsErrOf, false};
 ghost use Rattle.mos_bytes.specs.Causes.{HasCauseOf};
-ghost use Rattle.packet_views.specs.Packet.{packet_of};
 ghost use Rattle.pcap_source.specs.Captured.{Captured};
 ghost use Rattle.pcap_source.specs.Reading.{Opened};
-ghost use Rattle.flow_table.specs.Lane.{lane_of_key, lane_of_packet};
+ghost use Rattle.flow_table.specs.Lane.{lane_of_key};
+ghost use Rattle.ip6_views.specs.Sight.{sight_of, lane_of_sight};
 ghost use Rattle.worker_pool.specs.declared.worker.Worker.{Worker as Begun};
 ghost use Rattle.worker_pool.specs.Posts.{ArePosts, Dispatched};
 
 use crate::gate::Gate;
 use crate::post::{Post, send_to};
 use control_script::Script;
-use flow_table::{Key, key_of, mix};
+use flow_table::{Key, mix};
+use ip6_views::{Sight, key_between, sight_of};
 use lane_core::Recorder;
 use lane_rings::Packet;
 use mos_bytes::Source;
 use native_filters::NativeBook;
-use packet_views::{View, view_of};
 use pcap_source::{Capture, Frame, NextError, Step};
 use std::alloc::Global;
 use std::sync::Wait;
@@ -46,12 +46,12 @@ fn lane_of_key(key: &Key, lanes: usize) -> usize
 // The lane of a packet; what has no key goes to lane 0.
 fn lane_of_frame(frame: &Frame, lanes: usize) -> usize
     requires some { 1 ≤ lanes }
-    ensures lane { result ≡ lane_of_packet (packet_of frame.now.bytes) lanes }
+    ensures lane { result ≡ lane_of_sight (sight_of frame.now.bytes) lanes }
     ensures within { result < lanes }
 {
-    match view_of(&frame.bytes) {
-        View::Tcp(segment) => lane_of_key(&key_of(&segment), lanes),
-        View::Other(_) => 0,
+    match sight_of(&frame.bytes) {
+        Sight::Tcp(segment) => lane_of_key(&key_between(segment.from, segment.to), lanes),
+        Sight::Other(_) => 0,
     }
 }
 
@@ -69,7 +69,7 @@ pub(crate) fn send_frame<R: Wait, L: Recorder + Drop, G: Gate>(
 ) -> usize
     requires some { 1 ≤ length posts.old.items }
     requires posts { (begins : List (Begun L)) × (frames : List Captured) × ArePosts L.Recorder script.now begins frames posts.old.items }
-    ensures lane { result ≡ lane_of_packet (packet_of frame.bytes) (length posts.old.items) }
+    ensures lane { result ≡ lane_of_sight (sight_of frame.bytes) (length posts.old.items) }
     ensures within { result < length posts.old.items }
     ensures count { length posts.new.items ≡ length posts.old.items }
     ensures sent { (begins : List (Begun L)) (frames : List Captured) → length frames ≡ index

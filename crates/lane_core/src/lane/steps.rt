@@ -12,7 +12,7 @@ ghost use Rattle.forest_versions.specs.declared.command.Command.{Command as Comm
 ghost use Rattle.connection_core.specs.History.{drops_of};
 ghost use Rattle.connection_core.specs.InForce.{told_at};
 ghost use Rattle.lane_core.specs.Sight.{Tcp, Other, Moment, arrival_of, key_of_segment};
-ghost use Rattle.lane_core.specs.Seen.{seen};
+ghost use Rattle.ip6_views.specs.Seen.{seen};
 ghost use Rattle.lane_core.specs.Records.{RecordSoFar, opens};
 ghost use Rattle.lane_core.specs.Kept.{Keeps, AddsTo, AddsStray, CostsAtMost, arrived};
 
@@ -23,15 +23,15 @@ use crate::kept::Kept;
 use crate::lane::Lane;
 use crate::limits::WEIGHT;
 use crate::packet::{Opened, lone_at, start_one};
-use crate::segment::Segment;
 use crate::sides::is_opening;
 use crate::slot::Slot;
 use app_api::{App, Verdict};
 use builtin_events::raised_by_orphan;
 use flow_table::{FlowTable, Key, seed_of};
 use forest_versions::Command;
+use ip6_views::{Sight, SightTcp, key_between, sight_of};
 use native_filters::NativeBook;
-use packet_views::{Class, Head, View, view_of};
+use packet_views::{Class, Head};
 use pcap_source::Frame;
 use report_text::RecordKind;
 use shared_forest::Forests;
@@ -45,7 +45,7 @@ impl<A: App + Drop, F: Forests + Drop> Lane<A, F> {
         natives: &NativeBook,
         key: Key,
         number: u64,
-        segment: &Segment<'_>,
+        segment: &SightTcp<'_>,
     ) -> Result<Verdict, AllocError>
         requires key { key ≡ key_of_segment (seen segment.now) }
         requires absent { found self.old.kept.flows key ≡ None }
@@ -122,7 +122,7 @@ impl<A: App + Drop, F: Forests + Drop> Lane<A, F> {
         alloc: Global,
         natives: &NativeBook,
         number: u64,
-        segment: &Segment<'_>,
+        segment: &SightTcp<'_>,
     ) -> Result<Verdict, AllocError>
         requires rising { self.old.next ≤ number }
         requires bound { number < 1048576 }
@@ -138,7 +138,7 @@ impl<A: App + Drop, F: Forests + Drop> Lane<A, F> {
         ensures dropped { self.new.kept.dropped ≡ self.old.kept.dropped }
     {
         self.next = number + 1;
-        let key = segment.key();
+        let key = key_between(segment.from, segment.to);
         let followed = follow(
             alloc,
             &self.world,
@@ -240,9 +240,9 @@ impl<A: App + Drop, F: Forests + Drop> Lane<A, F> {
         ensures failed { self.new.failed ≡ self.old.failed }
         ensures dropped { self.new.kept.dropped ≡ self.old.kept.dropped }
     {
-        match view_of(frame.bytes.as_slice()) {
-            View::Tcp(view) => self.segment(alloc, natives, number, &Segment::of(&view)),
-            View::Other(class) => self.other(alloc, natives, number, class),
+        match sight_of(frame.bytes.as_slice()) {
+            Sight::Tcp(segment) => self.segment(alloc, natives, number, &segment),
+            Sight::Other(class) => self.other(alloc, natives, number, class),
         }
     }
 

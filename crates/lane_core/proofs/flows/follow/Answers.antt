@@ -1,7 +1,7 @@
 use Rattle.std.proofs.Common.{◌≤◌, ◌+◌, subst}
 use Rattle.std.specs.Option.{IfSome}
 use Rattle.connection_core.specs.declared.flow.Step.{Step}
-use Rattle.lane_core.specs.Seen.{seen}
+use Rattle.ip6_views.specs.Seen.{seen}
 use Rattle.lane_core.specs.Steps.{Steps}
 use Rattle.lane_core.specs.Trees.{IsTree}
 use Rattle.lane_core.proofs.Settling.{settled}

@@ -9,7 +9,7 @@ use Rattle.connection_core.specs.InForce.{told_at}
 use Rattle.connection_core.specs.Trees.{active_in}
 use Rattle.lane_core.specs.declared.connection.Connection.{Connection}
 use Rattle.lane_core.specs.declared.slot.Slot.{Slot}
-use Rattle.lane_core.specs.Seen.{seen}
+use Rattle.ip6_views.specs.Seen.{seen}
 use Rattle.connection_core.specs.History.{fresh}
 use Rattle.connection_core.specs.Standing.{IsConnection}
 use Rattle.connection_core.specs.Trees.{InternsWithin}

@@ -5,7 +5,7 @@ use Rattle.connection_core.specs.Standing.{IsConnection}
 use Rattle.connection_core.specs.Trees.{InternsWithin}
 use Rattle.connection_core.proofs.Errors.{on_err_always}
 use Rattle.lane_core.specs.Records.{side_of}
-use Rattle.lane_core.specs.Seen.{seen}
+use Rattle.ip6_views.specs.Seen.{seen}
 use Rattle.lane_core.proofs.Noting.{noted, notes_after}
 use Rattle.lane_core.proofs.packet.step_one.Goals as goal
 

@@ -1,3 +1,4 @@
+use Rattle.lane_core.specs.Sight.{sight_of}
 use Rattle.worker_laws.proofs.Dealt.{below, dealt}
 use Rattle.worker_laws.proofs.packets.packets_go_to_lanes.Goals as goal
 
@@ -5,4 +6,4 @@ pub returns-clause-below : goal.returns-clause-below
 returns-clause-below c = λ lanes sight some. below lanes sight some
 
 pub returns-clause-frame : goal.returns-clause-frame
-returns-clause-frame c = λ lanes frame. dealt lanes frame
+returns-clause-frame c = λ lanes frame. dealt lanes (sight_of frame)

@@ -1,6 +1,5 @@
 use Rattle.std.proofs.Common.{◌≡◌, ◌<◌, ◌++◌, ◌∷◌, [], length, sym, ap, subst, ◌∙◌}
-use Rattle.packet_views.specs.Packet.{packet_of}
-use Rattle.flow_table.specs.Lane.{lane_of_packet}
+use Rattle.ip6_views.specs.Sight.{sight_of, lane_of_sight}
 use Rattle.control_script.specs.Order.{commands_of}
 use Rattle.lane_rings.specs.declared.items.Packet.{Packet}
 use Rattle.worker_pool.specs.declared.post.Post.{Post}
@@ -25,7 +24,7 @@ returns-clause-sent g c = λ begins frames count are.
     let lane = c.lane_of_frame-lane.result in
     let count_is : c.len.result ≡ length posts = c.len.ensures ∙ c.args.posts.now.ok.0 in
     let within : lane < length posts = subst (λ n. lane < n) count_is c.lane_of_frame-lane.ensures.within in
-    let own : lane ≡ lane_of_packet (packet_of c.args.frame.bytes) (length posts) = c.lane_of_frame-lane.ensures.lane ∙ ap (lane_of_packet (packet_of c.args.frame.bytes)) count_is in
+    let own : lane ≡ lane_of_sight (sight_of c.args.frame.bytes) (length posts) = c.lane_of_frame-lane.ensures.lane ∙ ap (lane_of_sight (sight_of c.args.frame.bytes)) count_is in
     posted g.L.Recorder script begins frames c.args.frame c.args.index count posts are lane c.index_mut.result.now c.send_to.new.post own within
     (λ begin packets p. subst (λ (q : Packet). IsPost g.L.Recorder (commands_of script) begin (packets ++ q ∷ []) c.send_to.new.post)
     (as_sent script c.args.index c.floor.result c.ceil.result c.args.frame c.floor.ensures.floor c.ceil.ensures.ceil)

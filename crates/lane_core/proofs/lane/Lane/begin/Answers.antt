@@ -8,7 +8,7 @@ use Rattle.connection_core.specs.InForce.{told_at}
 use Rattle.lane_core.specs.declared.connection.Connection.{Connection}
 use Rattle.lane_core.specs.Records.{added}
 use Rattle.lane_core.specs.Sight.{Tcp}
-use Rattle.lane_core.specs.Seen.{seen}
+use Rattle.ip6_views.specs.Seen.{seen}
 use Rattle.lane_core.specs.Kept.{AreKept, slot_of, arrived}
 use Rattle.lane_core.specs.Steps.{Opens}
 use Rattle.lane_core.specs.Trees.{IsTree}

@@ -11,7 +11,7 @@ use Rattle.report_text.specs.declared.record.RecordKind.TheVariants.{Orphan}
 use Rattle.connection_core.specs.declared.flow.Step.{Step}
 use Rattle.connection_core.specs.InForce.{told_at}
 use Rattle.lane_core.specs.Sight.{Tcp, key_of_segment}
-use Rattle.lane_core.specs.Seen.{seen}
+use Rattle.ip6_views.specs.Seen.{seen}
 use Rattle.lane_core.specs.Records.{opens, added}
 use Rattle.lane_core.specs.Shown.{kind_of, alterations}
 use Rattle.lane_core.specs.Places.{place_of}
@@ -55,7 +55,7 @@ returns-in-Some-clause-stands g c = λ moment control_at pasts tells now stands.
     let kept = self.kept in
     let number = c.args.number in
     let segment = seen c.args.segment.now in
-    let key = c.key-key.result in
+    let key = c.key_between-key.result in
     let slots = c.deref_mut.result.now in
     let same = c.deref_mut.ensures.value in
     let content = g.F.ForestView.content in
@@ -64,7 +64,7 @@ returns-in-Some-clause-stands g c = λ moment control_at pasts tells now stands.
     c.follow.new.ledger.counts key number segment s)) c.in-Some.is c.in_ok-followed.ensures.some in
     let s = continued app control_at keep m (content old) (content new) (interns old) (interns new) kept.flows c.follow.new.flows slots c.follow.new.slots kept.ledger.counts c.follow.new.ledger.counts key m.version number moment segment
     c.in-Some.step pasts tells (contents_kept g.F.ForestView.answered content old new kept.flows c.follow.ensures.kept self.answered)
-    (subst (λ ss. AreKept keep (told_at m) (content old) kept.flows ss kept.ledger.counts pasts) (sym same) stands) c.key-key.ensures follows in
+    (subst (λ ss. AreKept keep (told_at m) (content old) kept.flows ss kept.ledger.counts pasts) (sym same) stands) c.key_between-key.ensures.key follows in
     let back = take_at c.follow.new.slots (drop (length c.follow.new.slots) kept.slots.items) kept.slots.len (c.follow.ensures.len ∙ ap length same ∙ sym kept.slots.ok.0) in
     let p = arrived m.version number moment (Tcp segment) in
     record {
@@ -129,7 +129,7 @@ returns-else-is_opening-clause-stands g c =
     let back = take_at c.follow.new.slots (drop (length c.follow.new.slots) kept.slots.items) kept.slots.len (c.follow.ensures.len ∙ ap length same ∙ sym kept.slots.ok.0) ∙ none.2 ∙ same in
     IfOk-weaker c.stray.result _ _ (λ verdict any. λ moment control_at pasts tells now stands.
     let untaken : place_of own pasts ≡ None =
-    subst (λ o. IsOpenAt (told_at m) content o (place_of own pasts) pasts) (ap (λ k. found kept.flows k) (sym c.key-key.ensures) ∙ none.0) (stands.placed own) in
+    subst (λ o. IsOpenAt (told_at m) content o (place_of own pasts) pasts) (ap (λ k. found kept.flows k) (sym c.key_between-key.ensures.key) ∙ none.0) (stands.placed own) in
     let met = c.follow.new in
     let kept_still = kept_unfollowed g.F.ForestView.content keep (told_at m) self.forests met.forests kept.flows met.flows kept.slots.items _ kept.ledger.counts met.ledger.counts pasts none.1 back none.3 none.4 stands in
     let packet = arrived m.version c.args.number moment p in
@@ -144,8 +144,8 @@ returns-in_err-followed-clause-costs g c = on_err_always c.from_residual.result 
     let m = self.world.master in
     let content = g.F.ForestView.content self.forests in
     continued_costs (g.A.App.meaning self.world.app) control_at self.world.keep m content (g.F.ForestView.interns self.forests) (g.F.ForestView.interns c.follow.new.forests) kept.flows c.deref_mut.result.now kept.ledger.counts
-    c.key-key.result m.version c.args.number moment (seen c.args.segment.now) pasts tells
-    (subst (λ ss. AreKept self.world.keep (told_at m) content kept.flows ss kept.ledger.counts pasts) (sym c.deref_mut.ensures.value) stands) c.key-key.ensures c.in_err-followed.ensures.failed)
+    c.key_between-key.result m.version c.args.number moment (seen c.args.segment.now) pasts tells
+    (subst (λ ss. AreKept self.world.keep (told_at m) content kept.flows ss kept.ledger.counts pasts) (sym c.deref_mut.ensures.value) stands) c.key_between-key.ensures.key c.in_err-followed.ensures.failed)
 
 pub returns-else-is_opening-clause-costs : goal.returns-else-is_opening-clause-costs
 returns-else-is_opening-clause-costs g c = on_err_always c.stray.result (λ moment control_at pasts tells now stands.
@@ -157,7 +157,7 @@ returns-else-is_opening-clause-costs g c = on_err_always c.stray.result (λ mome
     let p = arrived m.version c.args.number moment (Tcp segment) in
     let none = c.in_ok-followed.ensures.none (ap Ok c.in-None.is) in
     let untaken : place_of own pasts ≡ None =
-    subst (λ o. IsOpenAt (told_at m) (g.F.ForestView.content self.forests) o (place_of own pasts) pasts) (ap (λ k. found self.kept.flows k) (sym c.key-key.ensures) ∙ none.0) (stands.placed own) in
+    subst (λ o. IsOpenAt (told_at m) (g.F.ForestView.content self.forests) o (place_of own pasts) pasts) (ap (λ k. found self.kept.flows k) (sym c.key_between-key.ensures.key) ∙ none.0) (stands.placed own) in
     let interns = g.F.ForestView.interns in
     subst (λ f. InternsWithin (interns self.forests) (interns f) (alterations pasts) (alterations (added app control_at p pasts))) (sym (c.stray.ensures.forests ∙ none.3))
     (stray_costs app control_at self.world.keep m (interns self.forests) p pasts untaken))

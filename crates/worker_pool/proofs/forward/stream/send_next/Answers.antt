@@ -1,6 +1,5 @@
 use Rattle.std.proofs.Common.{◌≡◌, ◌<◌, ◌++◌, ◌∷◌, [], List, length, sym, ap, subst, ◌∙◌, arith}
-use Rattle.packet_views.specs.Packet.{packet_of}
-use Rattle.flow_table.specs.Lane.{lane_of_packet}
+use Rattle.ip6_views.specs.Sight.{sight_of, lane_of_sight}
 use Rattle.worker_pool.specs.declared.forward.relay.Relay.{Relay}
 use Rattle.worker_pool.specs.Drained.{OfferAll}
 use Rattle.worker_pool.specs.Relayed.{AreCounted, HaveTaken, counted_on}
@@ -33,7 +32,7 @@ take_answers-requires-clause-counted g c =
     let below : lane < length relays = omega (arith, c.send_frame-lane.ensures.within, given.3.count, given.4.count) in
     let r = some_relay relays lane below in
     let lanes : length c.args.posts.now.items ≡ length relays = omega (arith, given.3.count, given.4.count) in
-    let own : lane ≡ lane_of_packet (packet_of c.args.frame.bytes) (length relays) = c.send_frame-lane.ensures.lane ∙ ap (lane_of_packet (packet_of c.args.frame.bytes)) lanes in
+    let own : lane ≡ lane_of_sight (sight_of c.args.frame.bytes) (length relays) = c.send_frame-lane.ensures.lane ∙ ap (lane_of_sight (sight_of c.args.frame.bytes)) lanes in
     subst AreCounted (sym {A = List Relay} (c.count_sent.ensures r))
     (are_counted given.0 (given.1 ++ c.args.frame ∷ []) (counted_on relays lane r)
     (relays_sent c.sending_stays_right.ensures.own c.sending_stays_right.ensures.others c.later_lanes_change_nothing.ensures.share given.0 given.1 c.args.frame relays lane r below own given.4))
@@ -45,7 +44,7 @@ returns-clause-sent g c = λ begins frames count posts_are relays_are.
     let below : lane < length relays = omega (arith, c.send_frame-lane.ensures.within, posts_are.count, relays_are.count) in
     let r = some_relay relays lane below in
     let lanes : length c.args.posts.now.items ≡ length relays = omega (arith, posts_are.count, relays_are.count) in
-    let own : lane ≡ lane_of_packet (packet_of c.args.frame.bytes) (length relays) = c.send_frame-lane.ensures.lane ∙ ap (lane_of_packet (packet_of c.args.frame.bytes)) lanes in (
+    let own : lane ≡ lane_of_sight (sight_of c.args.frame.bytes) (length relays) = c.send_frame-lane.ensures.lane ∙ ap (lane_of_sight (sight_of c.args.frame.bytes)) lanes in (
       c.send_frame-lane.ensures.sent begins frames count posts_are,
       relays_after begins (frames ++ c.args.frame ∷ []) (counted_on relays lane r) c.take_answers.new.relays.items
           (subst (λ (xs : List Relay). HaveTaken xs c.take_answers.new.relays.items) (c.count_sent.ensures r) c.take_answers.ensures.takes)
@@ -59,7 +58,7 @@ returns-clause-leaves g c = λ begins frames before now count posts_are relays_a
     let below : lane < length relays = omega (arith, c.send_frame-lane.ensures.within, posts_are.count, relays_are.count) in
     let r = some_relay relays lane below in
     let lanes : length c.args.posts.now.items ≡ length relays = omega (arith, posts_are.count, relays_are.count) in
-    let own : lane ≡ lane_of_packet (packet_of c.args.frame.bytes) (length relays) = c.send_frame-lane.ensures.lane ∙ ap (lane_of_packet (packet_of c.args.frame.bytes)) lanes in
+    let own : lane ≡ lane_of_sight (sight_of c.args.frame.bytes) (length relays) = c.send_frame-lane.ensures.lane ∙ ap (lane_of_sight (sight_of c.args.frame.bytes)) lanes in
     sent_and_taken c.later_lanes_change_nothing.ensures.keeps c.sending_stays_right.ensures.keeps begins frames c.args.frame c.args.index relays c.take_answers.new.relays.items lane r c.args.waiting.now c.take_answers.new.waiting before now count place
     (relays_sent c.sending_stays_right.ensures.own c.sending_stays_right.ensures.others c.later_lanes_change_nothing.ensures.share begins frames c.args.frame relays lane r below own relays_are)
     (subst (λ (xs : List Relay). HaveTaken xs c.take_answers.new.relays.items) (c.count_sent.ensures r) c.take_answers.ensures.takes)
