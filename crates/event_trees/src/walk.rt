@@ -1,6 +1,6 @@
 //! The walk over a tree, which gives the registrations that fire.
 
-ghost use Rattle.std.specs.Prelude.{◌≡◌, ◌+◌, ◌≤◌, ◌<◌, ◌++◌, [], ◌∷◌, length, drop, List, IfSome, IfNone, Contains};
+ghost use Rattle.std.specs.Prelude.{◌≡◌, ◌+◌, ◌^◌, ◌≤◌, ◌<◌, ◌++◌, [], ◌∷◌, length, drop, List, IfSome, IfNone, Contains};
 ghost use Rattle.shared_forest.specs.declared.node.Slot.{Slot as SlotOf};
 ghost use Rattle.native_filters.specs.declared.facts.Hook.{Hook as HookOf};
 ghost use Rattle.shared_forest.specs.Listing.{slots_of};
@@ -51,15 +51,16 @@ impl Question<'_> {
             if self.keeps(node.event) {
                 return Some((node, i + 1));
             }
-            i += left_out(&node);
+            i += left_out(node);
         }
         None
     }
 }
 
 // How many nodes a walk leaves out where one doesn't pass: it and those under it, whose path it is on.
-fn left_out(node: &Node) -> usize
-    ensures { result ≡ node.now.below + 1 }
+fn left_out(node: Node) -> usize
+    ensures count { result ≡ 1 + node.below }
+    ensures bound { result ≤ 2 ^ 32 }
 {
     1 + node.below as usize
 }
