@@ -9,11 +9,11 @@ use Rattle.reassembly.specs.Runs.{is_accepted, is_covered}
 use Rattle.reassembly.specs.Segment.{is_last}
 use Rattle.reassembly.specs.Pages.{IsGrown, tally_in}
 use Rattle.reassembly.specs.Waiting.{runs_of, IsMet}
-use Rattle.reassembly.specs.Window.{byte_at, cell_at, IsBounded, taken_cell, taken_tally}
+use Rattle.reassembly.specs.Window.{byte_at, cell_at, IsBounded, HaveAccepted, taken_cell, again_cell, taken_tally, AreAgain}
 use Rattle.reassembly.proofs.Counts.{count_below-same, count_below-le}
 use Rattle.reassembly.proofs.Laid.{IsFew, tally_is, length-part}
 use Rattle.reassembly.proofs.Taken.{accepted_from_next, met_covered}
-use Rattle.reassembly.proofs.Placing.{IsCut, some_of_cond}
+use Rattle.reassembly.proofs.Placing.{IsCut, placed_cell, some_of_cond}
 
 -- no more bytes are judged than there are
 pub few_in : (w : Window) (met : List Run) (low : ℕ) (bytes : List ℕ) (t : Tally) → t ≡ tally_in w.bytes met low bytes (length bytes) → IsFew t (length bytes)
@@ -61,12 +61,12 @@ pub record IsAgain (old mid : Window) (met : List Run) (low high : ℕ) : Type 0
   pub same : (p : ℕ) → low ≤ p → p < high → cell_at mid p ≡ cell_at old p
 
 -- no other byte of a segment is taken where its bytes come again
-pub again_from : (old ready mid : Window) (met : List Run) (limit end start m k j : ℕ) (policy : Policy) (segment : List ℕ) → IsCut old.next limit end start (length segment) m k j
-    → old.bytes.base ≤ old.next → ready.next ≡ old.next → ready.runs ≡ old.runs → IsGrown old.bytes ready.bytes
+pub again_from : (old ready mid : Window) (met : List Run) (limit end start m k j low : ℕ) (policy : Policy) (segment : List ℕ) → IsCut old.next limit end start (length segment) m k j
+    → low ≡ start + m → old.bytes.base ≤ old.next → ready.next ≡ old.next → ready.runs ≡ old.runs → IsGrown old.bytes ready.bytes
     → (start + j ≤ start + k) ⊎ IsMet (runs_of old.runs) (start + k) (start + j) met
-    → ((p : ℕ) → ready.bytes.base ≤ p → cell_at mid p ≡ taken_cell policy (start + m) (take (k - m) (drop m segment)) p (cell_at ready p))
+    → ((p : ℕ) → ready.bytes.base ≤ p → cell_at mid p ≡ taken_cell policy low (take (k - m) (drop m segment)) p (cell_at ready p))
     → IsAgain old mid met (start + k) (start + j)
-again_from old ready mid met limit end start m k j policy segment cut base next runs grown meets cells =
+again_from old ready mid met limit end start m k j low policy segment cut at base next runs grown meets cells =
     let middle = take (k - m) (drop m segment) in
     let cm : m ≡ min (old.next - start) (length segment) = cut.below in
     let ck : k ≡ min (limit - start) (length segment) = cut.within in
@@ -77,8 +77,21 @@ again_from old ready mid met limit end start m k j policy segment cut base next 
     record {
       next = λ l. omega arith;
       meets = meets;
-      same = λ p l b. cells p (omega arith) ∙ cell_stays policy (start + m) middle p (cell_at ready p) (omega arith) ∙ met_cell old ready p next runs grown;
+      same = λ p l b. cells p (omega arith) ∙ cell_stays policy low middle p (cell_at ready p) (omega arith) ∙ met_cell old ready p next runs grown;
     }
+
+-- the cells of the whole segment
+pub cells_placed : (old ready mid new : Window) (start m k j low : ℕ) (policy : Policy) (segment : List ℕ) → low ≡ start + m
+    → ready.next ≡ old.next → ready.runs ≡ old.runs → IsGrown old.bytes ready.bytes → mid.bytes.base ≡ ready.bytes.base
+    → ((p : ℕ) → ready.bytes.base ≤ p → cell_at mid p ≡ taken_cell policy low (take (k - m) (drop m segment)) p (cell_at ready p))
+    → AreAgain policy (start + k) (take (j - k) (drop k segment)) mid new
+    → (p : ℕ) → old.bytes.base ≤ p → cell_at new p ≡ placed_cell policy start segment m k j p (cell_at old p)
+cells_placed old ready mid new start m k j low policy segment at next runs grown base cells again p l =
+    let middle = take (k - m) (drop m segment) in
+    let same_base : ready.bytes.base ≡ old.bytes.base = grown.base in
+    again p (omega arith)
+    ∙ ap (again_cell policy (start + k) (take (j - k) (drop k segment)) p)
+    (cells p (omega arith) ∙ ap₂ (λ x c. taken_cell policy x middle p c) at (met_cell old ready p next runs grown))
 
 covered_again : (old mid : Window) (met : List Run) (low high : ℕ) → IsAgain old mid met low high → (p : ℕ) → low ≤ p → p < high → is_covered met p ≡ is_covered (runs_of old.runs) p
 covered_again old mid met low high h p from below = ⊎_elim
@@ -87,7 +100,7 @@ covered_again old mid met low high h p from below = ⊎_elim
     h.meets
 
 -- the runs that were met still cover what is accepted
-pub accepted_again : (old mid : Window) (met : List Run) (low high : ℕ) → IsAgain old mid met low high → (p : ℕ) → low ≤ p → p < high → is_covered met p ≡ is_accepted mid.next (runs_of mid.runs) p
+pub accepted_again : (old mid : Window) (met : List Run) (low high : ℕ) → IsAgain old mid met low high → HaveAccepted mid met low high
 accepted_again old mid met low high h p from below =
     let next : old.next ≤ low = h.next (omega arith) in
     covered_again old mid met low high h p from below ∙ sym (accepted_from_next old.next (runs_of old.runs) p (omega arith)) ∙ sym (accepted_alike mid old p (h.same p from below))
@@ -113,4 +126,5 @@ tally_again old mid met low high bytes len h =
     (λ i. is_covered met (low + i) && not (eqb (byte_at mid (low + i)) (slice_index bytes i)))
     (λ i. is_covered runs (low + i) && not (eqb (byte_at old (low + i)) (slice_index bytes i)))
     (length bytes)
-    (λ i l. ap (λ b. b && not (eqb (byte_at mid (low + i)) (slice_index bytes i))) (same i l) ∙ only_covered (is_covered runs (low + i)) (byte_at mid (low + i)) (byte_at old (low + i)) (slice_index bytes i) (byte i l)))
+    (λ i l. ap (λ b. b && not (eqb (byte_at mid (low + i)) (slice_index bytes i))) (same i l)
+    ∙ only_covered (is_covered runs (low + i)) (byte_at mid (low + i)) (byte_at old (low + i)) (slice_index bytes i) (byte i l)))

@@ -4,7 +4,7 @@ use Rattle.std.proofs.lemmas.Bool.{cases_lt, lt-leb, cond-true, cond-false}
 use Rattle.std.specs.Prelude.{slice_index}
 use Rattle.reassembly.specs.declared.answers.Policy.{Policy}
 use Rattle.reassembly.specs.declared.answers.Placed.{Placed}
-use Rattle.reassembly.specs.Receiver.{Receiver, held, next_of, wide_of, limit_of}
+use Rattle.reassembly.specs.Receiver.{Receiver, held, next_of, limit_at}
 use Rattle.reassembly.specs.Segment.{is_old, is_new, is_over, is_differing, is_last, cell_after, has_byte, held_after, accept_at, count_below, counts_at}
 use Rattle.reassembly.specs.View.{StreamView, StandsFor}
 use Rattle.reassembly.specs.Steps.{StepsTo, counts_viewed}
@@ -27,10 +27,10 @@ after_past next limit policy q bytes p c l =
 
 -- the model's cells, position by position
 pub held_accepted : (r : Receiver) (q : ℕ) (bytes : List ℕ) (policy : Policy) (rbuf p : ℕ)
-    → held (accept_at r q bytes policy rbuf).cells p ≡ held_after (next_of r.cells) (limit_of (next_of r.cells) r.fin (wide_of r rbuf)) policy q bytes p (held r.cells p)
+    → held (accept_at r q bytes policy rbuf).cells p ≡ held_after (next_of r.cells) (limit_at r rbuf) policy q bytes p (held r.cells p)
 held_accepted r q bytes policy rbuf p =
     let next = next_of r.cells in
-    let limit = limit_of (next_of r.cells) r.fin (wide_of r rbuf) in
+    let limit = limit_at r rbuf in
     let end = max (length r.cells) (q + length bytes) in
     let step : ℕ → Option ℕ = λ x. held_after next limit policy q bytes x (held r.cells x) in
     ⊎_elim
@@ -47,12 +47,8 @@ viewed_cell s r h p l =
     let low : next_of r.cells - s.rbuf ≤ p = rw (← e) l in
     h.cells p ∙ cond-true (leb (next_of r.cells - s.rbuf) p) (held r.cells p) None (le-leb (next_of r.cells - s.rbuf) p low)
 
--- the limit that a segment was placed by is the receiver's
-abbrev pub IsLimitOf : ℕ → Receiver → ℕ → Type 0
-IsLimitOf limit r rbuf = limit ≡ limit_of (next_of r.cells) r.fin (wide_of r rbuf)
-
 pub stands_after : (limit q : ℕ) (bytes : List ℕ) (policy : Policy) (s n : StreamView) → StepsTo limit q bytes policy s n
-    → (r : Receiver) → StandsFor s r → IsLimitOf limit r s.rbuf → StandsFor n (accept_at r q bytes policy s.rbuf)
+    → (r : Receiver) → StandsFor s r → limit ≡ limit_at r s.rbuf → StandsFor n (accept_at r q bytes policy s.rbuf)
 stands_after limit q bytes policy s n step r h is_limit =
     let after : ℕ → Option ℕ = λ p. held_after s.next limit policy q bytes p (held r.cells p) in
     let acc = accept_at r q bytes policy s.rbuf in
@@ -101,10 +97,11 @@ placed_is a b n o d v =
     let made : ℕ → ℕ → ℕ → ℕ → Placed = λ w x y z. record { new = w; old = x; differ = y; over = z } in
     ap (λ w. made w a.old a.differ a.over) n ∙ ap (λ x. made b.new x a.differ a.over) o ∙ ap (λ y. made b.new b.old y a.over) d ∙ ap (λ z. made b.new b.old b.differ z) v
 
-pub counts_stand : (limit q : ℕ) (bytes : List ℕ) (s : StreamView) (r : Receiver) → StandsFor s r → IsLimitOf limit r s.rbuf → counts_viewed s limit q bytes ≡ counts_at r q bytes s.rbuf
+pub counts_stand : (limit q : ℕ) (bytes : List ℕ) (s : StreamView) (r : Receiver) → StandsFor s r → limit ≡ limit_at r s.rbuf
+    → counts_viewed s limit q bytes ≡ counts_at r q bytes s.rbuf
 counts_stand limit q bytes s r h is_limit =
     let same_next : s.next ≡ next_of r.cells = h.next in
-    let limit_is : limit_of (next_of r.cells) r.fin (wide_of r s.rbuf) ≡ limit = sym is_limit in
+    let limit_is : limit_at r s.rbuf ≡ limit = sym is_limit in
     let told : Placed = record {
       new = count_below (λ i. is_new s.next limit (q + i) (held r.cells (q + i))) (length bytes);
       old = count_below (λ i. is_old s.next (q + i) (held r.cells (q + i))) (length bytes);

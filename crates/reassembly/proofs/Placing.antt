@@ -102,13 +102,14 @@ pub record IsCut (next limit end start n m k j : ℕ) : Type 0 where
   pub reach : j ≡ max k (min (end - start) n)
   pub order : next ≤ limit
 
-pub cut_at : (next limit end start n m k j r : ℕ) → m ≡ min (next - start) n → k ≡ min (limit - start) n → r ≡ min (end - start) n → j ≡ max k r → next ≤ limit → IsCut next limit end start n m k j
+pub cut_at : (next limit end start n m k j r : ℕ) → m ≡ min (next - start) n → k ≡ min (limit - start) n
+    → r ≡ min (end - start) n → j ≡ max k r → next ≤ limit → IsCut next limit end start n m k j
 cut_at next limit end start n m k j r below within under reach order = record { below = below; within = within; reach = reach ∙ ap (max k) under; order = order }
 
 -- the bytes that are taken end at the limit or below it
-pub middle_end : (next limit end start m k j : ℕ) (segment : List ℕ) → IsCut next limit end start (length segment) m k j → (b : ℕ) → limit ≤ b
-    → (length (take (k - m) (drop m segment)) ≡ 0) ⊎ (start + m + length (take (k - m) (drop m segment)) ≤ b)
-middle_end next limit end start m k j segment cut b l =
+pub middle_end : (next limit end start m k j low : ℕ) (segment : List ℕ) → IsCut next limit end start (length segment) m k j → low ≡ start + m
+    → (b : ℕ) → limit ≤ b → (length (take (k - m) (drop m segment)) ≡ 0) ⊎ (low + length (take (k - m) (drop m segment)) ≤ b)
+middle_end next limit end start m k j low segment cut at b l =
     let cm : m ≡ min (next - start) (length segment) = cut.below in
     let ck : k ≡ min (limit - start) (length segment) = cut.within in
     let order : next ≤ limit = cut.order in
@@ -264,10 +265,11 @@ differs_above next rbuf p byte b false l = refl
 
 -- the counts of the whole segment
 pub counts_placed : (w : Window) (fin : Option ℕ) (rbuf limit end start m k j : ℕ) (segment : List ℕ) → IsLaid w → IsBounded w end → IsCut w.next limit end start (length segment) m k j
-    → (tally again : Tally) (below : ℕ) → tally ≡ taken_tally w (start + m) (take (k - m) (drop m segment)) → again ≡ taken_tally w (start + k) (take (j - k) (drop k segment))
+    → (tally again : Tally) (below from : ℕ) → from ≡ start + m → tally ≡ taken_tally w from (take (k - m) (drop m segment)) → again ≡ taken_tally w (start + k) (take (j - k) (drop k segment))
     → below ≡ differing_below w rbuf start (take m segment)
-    → record { new = tally.new; old = m + tally.old + again.old; differ = below + tally.differ + again.differ; over = length segment - j + again.new } ≡ counts_viewed (view_of w fin rbuf) limit start segment
-counts_placed w fin rbuf limit end start m k j segment laid bounded cut tally again below told_tally told_again told_below =
+    → record { new = tally.new; old = m + tally.old + again.old; differ = below + tally.differ + again.differ; over = length segment - j + again.new }
+    ≡ counts_viewed (view_of w fin rbuf) limit start segment
+counts_placed w fin rbuf limit end start m k j segment laid bounded cut tally again below from at told_from told_again told_below =
     let n = length segment in
     let next = w.next in
     let low = start + m in
@@ -295,7 +297,8 @@ counts_placed w fin rbuf limit end start m k j segment laid bounded cut tally ag
     let some2 : (i : ℕ) → i < k - m → is_some (cell (start + (m + i))) ≡ covered i = λ i l. ap is_some (cell2 i l) ∙ some_of_cond (covered i) (byte_at w (low + i)) in
     let some3 : (i : ℕ) → i < j - k → is_some (cell (start + (k + i))) ≡ covered2 i = λ i l. ap is_some (cell3 i l) ∙ some_of_cond (covered2 i) (byte_at w (low2 + i)) in
     let cell4 : (i : ℕ) → i < n - j → cell (start + (j + i)) ≡ None = λ i l.
-    seen (start + (j + i)) ∙ kept_cell w rbuf (start + (j + i)) (omega arith) ∙ ap (λ b. cond b (Some (byte_at w (start + (j + i)))) None) (bounded_cell w end (start + (j + i)) bounded (omega arith)) in
+    seen (start + (j + i)) ∙ kept_cell w rbuf (start + (j + i)) (omega arith)
+    ∙ ap (λ b. cond b (Some (byte_at w (start + (j + i)))) None) (bounded_cell w end (start + (j + i)) bounded (omega arith)) in
     let new_ : ℕ → Bool = λ i. is_new next limit (start + i) (cell (start + i)) in
     let old_ : ℕ → Bool = λ i. is_old next (start + i) (cell (start + i)) in
     let over_ : ℕ → Bool = λ i. is_over next limit (start + i) (cell (start + i)) in
@@ -335,6 +338,7 @@ counts_placed w fin rbuf limit end start m k j segment laid bounded cut tally ag
     ∙ ap (count_below (λ i. leb (next - rbuf) (start + i) && not (eqb (byte_at w (start + i)) (slice_index (take m segment) i)))) front
     ∙ count_below-same (λ i. leb (next - rbuf) (start + i) && not (eqb (byte_at w (start + i)) (slice_index (take m segment) i))) here m
     (λ i l. ap (λ b. leb (next - rbuf) (start + i) && not (eqb (byte_at w (start + i)) b)) (get_or-take m segment i 0 l)) in
+    let told_tally : tally ≡ taken_tally w low middle = told_from ∙ ap (λ x. taken_tally w x middle) at in
     let t_new : tally.new ≡ count_below (λ i. not (covered i)) (k - m) = ap (λ t. t.new) told_tally ∙ ap (count_below (λ i. not (covered i))) len in
     let t_old : tally.old ≡ count_below covered (k - m) = ap (λ t. t.old) told_tally ∙ ap (count_below covered) len in
     let t_differ : tally.differ ≡ count_below there (k - m) = ap (λ t. t.differ) told_tally ∙ ap (count_below there) len in

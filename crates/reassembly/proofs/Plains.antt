@@ -5,7 +5,7 @@ use Rattle.std.proofs.lemmas.List.FromFn.{length-map-range_with_len}
 use Rattle.reassembly.specs.declared.answers.Policy.{Policy}
 use Rattle.reassembly.specs.declared.answers.Placed.{Placed}
 use Rattle.reassembly.specs.declared.plain.Before.{Before}
-use Rattle.reassembly.specs.Receiver.{Receiver, held, next_of, wide_of, limit_of}
+use Rattle.reassembly.specs.Receiver.{Receiver, held, next_of, limit_at}
 use Rattle.reassembly.specs.Segment.{is_old, is_new, is_over, is_differing, cell_after, has_byte, held_after, accept, accept_at, counts, counts_at, from_zero, below_zero}
 use Rattle.reassembly.specs.Plain.{judged_below, counted_more}
 use Rattle.reassembly.proofs.Counts.{count_below-same, count_below-le}
@@ -48,20 +48,21 @@ written_more next limit policy start i bytes old cells w within l done rest e p 
 
 pub plain_cells : (r : Receiver) (q rbuf : ℕ) (bytes : List ℕ) (policy : Policy) (mid new : List (Option ℕ))
     → length new ≡ length mid → length mid ≡ max (length r.cells) (q + length bytes) → ((p : ℕ) → held mid p ≡ held r.cells p)
-    → ((p : ℕ) → held new p ≡ held_after (next_of r.cells) (limit_of (next_of r.cells) r.fin (wide_of r rbuf)) policy q bytes p (held mid p))
+    → ((p : ℕ) → held new p ≡ held_after (next_of r.cells) (limit_at r rbuf) policy q bytes p (held mid p))
     → new ≡ (accept_at r q bytes policy rbuf).cells
 plain_cells r q rbuf bytes policy mid new same len start after =
     let acc = (accept_at r q bytes policy rbuf).cells in
     let end = max (length r.cells) (q + length bytes) in
-    let length_acc : length acc ≡ end = length-map-range_with_len (λ p. held_after (next_of r.cells) (limit_of (next_of r.cells) r.fin (wide_of r rbuf)) policy q bytes p (held r.cells p)) 0 end in
+    let length_acc : length acc ≡ end = length-map-range_with_len (λ p. held_after (next_of r.cells) (limit_at r rbuf) policy q bytes p (held r.cells p)) 0 end in
     ext_get_or None new acc (same ∙ len ∙ sym length_acc)
-    (λ i l. after i ∙ ap (held_after (next_of r.cells) (limit_of (next_of r.cells) r.fin (wide_of r rbuf)) policy q bytes i) (start i) ∙ sym (held_accepted r q bytes policy rbuf i))
+    (λ i l. after i ∙ ap (held_after (next_of r.cells) (limit_at r rbuf) policy q bytes i) (start i) ∙ sym (held_accepted r q bytes policy rbuf i))
 
-pub plain_counts : (r : Receiver) (q rbuf : ℕ) (bytes : List ℕ) (mid : List (Option ℕ)) (before : Before) → before ≡ record { next = next_of r.cells; limit = limit_of (next_of r.cells) r.fin (wide_of r rbuf); rbuf = rbuf } → ((p : ℕ) → held mid p ≡ held r.cells p)
+pub plain_counts : (r : Receiver) (q rbuf : ℕ) (bytes : List ℕ) (mid : List (Option ℕ)) (before : Before)
+    → before ≡ record { next = next_of r.cells; limit = limit_at r rbuf; rbuf = rbuf } → ((p : ℕ) → held mid p ≡ held r.cells p)
     → judged_below before q bytes mid (length bytes) ≡ counts_at r q bytes rbuf
 plain_counts r q rbuf bytes mid before e start =
     let next = next_of r.cells in
-    let limit = limit_of next r.fin (wide_of r rbuf) in
+    let limit = limit_at r rbuf in
     let told : Before = record { next = next; limit = limit; rbuf = rbuf } in
     ap (λ (b : Before). judged_below b q bytes mid (length bytes)) e ∙ placed_is (judged_below told q bytes mid (length bytes)) (counts_at r q bytes rbuf)
     (count_below-same (λ i. is_new next limit (q + i) (held mid (q + i))) (λ i. is_new next limit (q + i) (held r.cells (q + i))) (length bytes) (λ i l. ap (is_new next limit (q + i)) (start (q + i))))
@@ -85,7 +86,7 @@ resized old mid end len l same none p = ⊎_elim
 pub plain_accept : (r : Receiver) (d : ℤ) (rbuf : ℕ) (bytes : List ℕ) (policy : Policy) (position below cut : ℕ) (mid new : List (Option ℕ))
     → position ≡ from_zero (pos (next_of r.cells) +ℤ d) → below ≡ below_zero (pos (next_of r.cells) +ℤ d) → cut ≡ min below (length bytes)
     → length new ≡ length mid → length mid ≡ max (length r.cells) (position + length (take (length bytes - cut) (drop cut bytes))) → ((p : ℕ) → held mid p ≡ held r.cells p)
-    → ((p : ℕ) → held new p ≡ held_after (next_of r.cells) (limit_of (next_of r.cells) r.fin (wide_of r rbuf)) policy position (take (length bytes - cut) (drop cut bytes)) p (held mid p))
+    → ((p : ℕ) → held new p ≡ held_after (next_of r.cells) (limit_at r rbuf) policy position (take (length bytes - cut) (drop cut bytes)) p (held mid p))
     → record { cells = new; fin = r.fin; offer = r.offer } ≡ accept r (pos (next_of r.cells) +ℤ d) bytes policy rbuf
 unfolding accept
 plain_accept r d rbuf bytes policy position below cut mid new at under e same len start after =
@@ -95,7 +96,7 @@ plain_accept r d rbuf bytes policy position below cut mid new at under e same le
 
 pub plain_judged : (r : Receiver) (d : ℤ) (rbuf : ℕ) (bytes : List ℕ) (position below cut : ℕ) (mid : List (Option ℕ)) (before : Before) (placed : Placed)
     → position ≡ from_zero (pos (next_of r.cells) +ℤ d) → below ≡ below_zero (pos (next_of r.cells) +ℤ d) → cut ≡ min below (length bytes)
-    → before ≡ record { next = next_of r.cells; limit = limit_of (next_of r.cells) r.fin (wide_of r rbuf); rbuf = rbuf } → ((p : ℕ) → held mid p ≡ held r.cells p)
+    → before ≡ record { next = next_of r.cells; limit = limit_at r rbuf; rbuf = rbuf } → ((p : ℕ) → held mid p ≡ held r.cells p)
     → placed ≡ judged_below before position (take (length bytes - cut) (drop cut bytes)) mid (length (take (length bytes - cut) (drop cut bytes)))
     → record { new = placed.new; old = cut + placed.old; differ = placed.differ; over = placed.over } ≡ counts r (pos (next_of r.cells) +ℤ d) bytes rbuf
 unfolding counts

@@ -8,13 +8,13 @@ use Rattle.std.proofs.lemmas.List.Sums.{prefix_len_is}
 use Rattle.reassembly.specs.declared.answers.Policy.{Policy}
 use Rattle.reassembly.specs.declared.answers.Placed.{Placed}
 use Rattle.reassembly.specs.declared.window.Window.{Window}
-use Rattle.reassembly.specs.Receiver.{Receiver, held, next_of, kept, low_of, wide_of, limit_of}
+use Rattle.reassembly.specs.Receiver.{Receiver, held, next_of, kept, low_of, wide_of, limit_of, limit_at}
 use Rattle.reassembly.specs.Segment.{accept, accept_at, counts, counts_at, from_zero, below_zero}
 use Rattle.reassembly.specs.View.{StandsFor}
 use Rattle.reassembly.specs.Steps.{StepsTo, counts_viewed}
 use Rattle.reassembly.specs.Window.{view_of, IsWhole, IsSameWindow}
 use Rattle.reassembly.proofs.Cells.{below_next}
-use Rattle.reassembly.proofs.Laws.{IsLimitOf, stands_after, counts_stand}
+use Rattle.reassembly.proofs.Laws.{stands_after, counts_stand}
 
 -- the limit lies at next or above it, in the window and at a noted FIN or below it
 pub next_limit : (w : Window) (fin : Option ℕ) (rbuf wide : ℕ) → IsWhole w fin rbuf → w.next ≤ limit_of w.next fin wide
@@ -30,7 +30,7 @@ limit_fin next fin wide f e = rw e (omega arith)
 
 -- the limit of the stream is that of whichever receiver it stands for
 limit_same : (w : Window) (fin : Option ℕ) (rbuf wide limit : ℕ) → limit ≡ limit_of w.next fin wide
-    → (r : Receiver) → StandsFor (view_of w fin rbuf) r → wide ≡ wide_of r rbuf → IsLimitOf limit r rbuf
+    → (r : Receiver) → StandsFor (view_of w fin rbuf) r → wide ≡ wide_of r rbuf → limit ≡ limit_at r rbuf
 limit_same w fin rbuf wide limit is_limit r h is_wide = is_limit ∙ ap₂ (λ n f. limit_of n f wide) h.next h.fin ∙ ap (limit_of (next_of r.cells) r.fin) is_wide
 
 -- the same content has the same invariant

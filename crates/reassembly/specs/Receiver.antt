@@ -2,8 +2,8 @@
 use Rattle.std.specs.Prelude.{ℕ, ◌+◌, ◌-◌, List, [], Option, Some, None, min, nat_le, is_some, is_none, slice_index_or, map, if◌then◌else◌}
 use Rattle.std.specs.List.{prefix_len, range_with_len}
 
--- the accepted bytes by position, None where none was accepted, the position of the FIN once it is noted, and the greatest
--- right edge of the send window that the receiver has offered, once it has
+-- the accepted bytes by position, None where none was accepted, the position of the FIN once it is noted, and the first
+-- position past all that the receiver has offered to take, once it has
 pub record Receiver : Type 0 where
   pub cells : List (Option ℕ)
   pub fin : Option ℕ
@@ -29,8 +29,8 @@ kept cells rbuf p = if nat_le (next_of cells - rbuf) p then held cells p else No
 unfoldable pub low_of : List (Option ℕ) → ℕ → ℕ
 low_of cells rbuf = prefix_len is_none (map (kept cells rbuf) (range_with_len 0 (next_of cells)))
 
--- how many positions from next on lie in the receive window (RFC 9293, section 3.3.1): those of the receive buffer, and once
--- an offer was made no more than it leaves
+-- how many positions from next on lie in the receive window (RFC 9293, section 3.3.1): those of the receive buffer, and
+-- once an offer was made no more than it leaves
 abbrev pub wide_with : ℕ → Option ℕ → ℕ → ℕ
 wide_with next None rbuf = rbuf
 wide_with next (Some offer) rbuf = min rbuf (offer - next)
@@ -43,3 +43,7 @@ wide_of r rbuf = wide_with (next_of r.cells) r.offer rbuf
 abbrev pub limit_of : ℕ → Option ℕ → ℕ → ℕ
 limit_of next None wide = next + wide
 limit_of next (Some fin) wide = min fin (next + wide)
+
+-- the receiver's
+abbrev pub limit_at : Receiver → ℕ → ℕ
+limit_at r rbuf = limit_of (next_of r.cells) r.fin (wide_of r rbuf)

@@ -5,7 +5,7 @@ use Rattle.std.specs.List.{range_with_len}
 use Rattle.reassembly.specs.declared.answers.Policy.{Policy}
 use Rattle.reassembly.specs.declared.answers.Policy.TheVariants.{First, Last}
 use Rattle.reassembly.specs.declared.answers.Placed.{Placed}
-use Rattle.reassembly.specs.Receiver.{Receiver, held, next_of, wide_of, limit_of}
+use Rattle.reassembly.specs.Receiver.{Receiver, held, next_of, limit_at}
 
 -- below next, or accepted before
 abbrev pub is_old : ℕ → ℕ → Option ℕ → Bool
@@ -44,7 +44,7 @@ held_after next limit policy q bytes p c = if has_byte q bytes p then cell_after
 -- the receiver after a segment whose bytes stand from position q on
 abbrev pub accept_at : Receiver → ℕ → List ℕ → Policy → ℕ → Receiver
 accept_at r q bytes policy rbuf = record {
-  cells = map (λ p. held_after (next_of r.cells) (limit_of (next_of r.cells) r.fin (wide_of r rbuf)) policy q bytes p (held r.cells p)) (range_with_len 0 (max (length r.cells) (q + length bytes)));
+  cells = map (λ p. held_after (next_of r.cells) (limit_at r rbuf) policy q bytes p (held r.cells p)) (range_with_len 0 (max (length r.cells) (q + length bytes)));
   fin = r.fin;
   offer = r.offer;
 }
@@ -57,10 +57,10 @@ count_below test (suc n) = (if test n then 1 else 0) + count_below test n
 -- how the bytes of that segment are judged
 abbrev pub counts_at : Receiver → ℕ → List ℕ → ℕ → Placed
 counts_at r q bytes rbuf = record {
-  new = count_below (λ i. is_new (next_of r.cells) (limit_of (next_of r.cells) r.fin (wide_of r rbuf)) (q + i) (held r.cells (q + i))) (length bytes);
+  new = count_below (λ i. is_new (next_of r.cells) (limit_at r rbuf) (q + i) (held r.cells (q + i))) (length bytes);
   old = count_below (λ i. is_old (next_of r.cells) (q + i) (held r.cells (q + i))) (length bytes);
   differ = count_below (λ i. is_differing (next_of r.cells) rbuf (q + i) (held r.cells (q + i)) (slice_index bytes i)) (length bytes);
-  over = count_below (λ i. is_over (next_of r.cells) (limit_of (next_of r.cells) r.fin (wide_of r rbuf)) (q + i) (held r.cells (q + i))) (length bytes);
+  over = count_below (λ i. is_over (next_of r.cells) (limit_at r rbuf) (q + i) (held r.cells (q + i))) (length bytes);
 }
 
 -- A segment may begin below position 0. Its bytes there are old, and never kept.

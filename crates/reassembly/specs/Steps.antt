@@ -6,13 +6,14 @@ use Rattle.reassembly.specs.Receiver.{held}
 use Rattle.reassembly.specs.Segment.{is_old, is_new, is_over, is_differing, held_after, count_below}
 use Rattle.reassembly.specs.View.{StreamView}
 
--- what a stream knows after a segment of bytes from q on, of which none is accepted anew from the limit on, told from what
--- it knew
+-- what a stream knows after a segment of bytes from q on, of which none is accepted anew from the limit on, told from
+-- what it knew
 pub record StepsTo (limit q : ℕ) (bytes : List ℕ) (policy : Policy) (s n : StreamView) : Type 0 where
   pub fin : n.fin ≡ s.fin
   pub rbuf : n.rbuf ≡ s.rbuf
   pub rises : s.next ≤ n.next
-  pub filled : (p : ℕ) → s.next ≤ p → p < n.next → is_some (held_after s.next limit policy q bytes p (held s.kept p)) ≡ true
+  pub filled : (p : ℕ) → s.next ≤ p → p < n.next
+      → is_some (held_after s.next limit policy q bytes p (held s.kept p)) ≡ true
   pub empty : is_some (held_after s.next limit policy q bytes n.next (held s.kept n.next)) ≡ false
   pub cells : (p : ℕ) → n.next - n.rbuf ≤ p → held n.kept p ≡ held_after s.next limit policy q bytes p (held s.kept p)
   pub forgotten : (p : ℕ) → p < n.next - n.rbuf → held n.kept p ≡ None

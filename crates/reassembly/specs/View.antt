@@ -9,8 +9,8 @@ pub record StreamView : Type 0 where
   pub fin : Option ℕ
   pub rbuf : ℕ
 
--- a stream stands for each receiver that has its next, its FIN and its kept bytes, whatever that one has offered; what lies
--- below them is forgotten
+-- a stream stands for each receiver that has its next, its FIN and its kept bytes, whatever that one has offered; what
+-- lies below them is forgotten
 pub record StandsFor (s : StreamView) (r : Receiver) : Type 0 where
   pub next : s.next ≡ next_of r.cells
   pub fin : s.fin ≡ r.fin

@@ -6,7 +6,7 @@ use Rattle.reassembly.specs.declared.laying.Tally.{Tally}
 use Rattle.reassembly.specs.declared.runs.Run.{Run}
 use Rattle.reassembly.specs.declared.window.Window.{Window}
 use Rattle.reassembly.specs.Segment.{is_last, has_byte, count_below}
-use Rattle.reassembly.specs.Runs.{is_accepted, AreOrdered, AreAbove, AreWithin}
+use Rattle.reassembly.specs.Runs.{is_accepted, is_covered, AreOrdered, AreAbove, AreWithin}
 use Rattle.reassembly.specs.Pages.{byte_of, IsHeld, IsKeyed, tally_in}
 use Rattle.reassembly.specs.Waiting.{runs_of}
 use Rattle.reassembly.specs.View.{StreamView}
@@ -74,9 +74,20 @@ pub record IsSameWindow (old new : Window) : Type 0 where
 abbrev pub taken_cell : Policy → ℕ → List ℕ → ℕ → Option ℕ → Option ℕ
 taken_cell policy low bytes p c = if has_byte low bytes p && not (is_some c && not (is_last policy)) then Some (slice_index bytes (p - low)) else c
 
--- the cell at p after bytes came again that stand from low on: none is accepted anew, and an old one is replaced under last
+-- the cell at p after bytes came again that stand from low on: none is accepted anew, and an old one is replaced where
+-- the last one stays
 abbrev pub again_cell : Policy → ℕ → List ℕ → ℕ → Option ℕ → Option ℕ
-again_cell policy low bytes p c = if has_byte low bytes p && (is_some c && is_last policy) then Some (slice_index bytes (p - low)) else c
+again_cell policy low bytes p c =
+    if has_byte low bytes p && (is_some c && is_last policy) then Some (slice_index bytes (p - low)) else c
+
+-- each cell is so after them
+abbrev pub AreAgain : Policy → ℕ → List ℕ → Window → Window → Type 0
+AreAgain policy low bytes old new =
+    (p : ℕ) → old.bytes.base ≤ p → cell_at new p ≡ again_cell policy low bytes p (cell_at old p)
+
+-- from low to below high the runs have what is accepted, and nothing else
+abbrev pub HaveAccepted : Window → List Run → ℕ → ℕ → Type 0
+HaveAccepted w met low high = (p : ℕ) → low ≤ p → p < high → is_covered met p ≡ is_accepted w.next (runs_of w.runs) p
 
 -- how those bytes are judged
 abbrev pub taken_tally : Window → ℕ → List ℕ → Tally

@@ -1,7 +1,7 @@
 //! One direction of a TCP connection, as its receiver accepts it: which bytes of each segment are
 //! new, old or outside the window, which are kept, and where the FIN stands (RFC 9293, section 3.10.7.4).
 //!
-//! Start with `specs/Receiver.antt` and `specs/Segment.antt`, the definitions, and then
+//! Start with `specs/Receiver.antt`, `specs/Segment.antt` and `specs/Offer.antt`, the definitions, and then
 //! `Stream::place`, whose contract says that a stream stands for the receiver of the definitions.
 #![tactic(auto)]
 

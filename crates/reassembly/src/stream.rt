@@ -18,7 +18,8 @@ use std::marker::Model;
 ///
 /// Positions count the bytes of the stream from 0 on, the one after the SYN (RFC 9293, section 3.4). A contract sees
 /// a stream as its next position, its kept bytes, its FIN and the size `rbuf` of its receive buffer, and says for
-/// whichever receiver the stream stood for before a call, which one it stands for after.
+/// whichever receiver the stream stood for before a call, which one it stands for after. What that receiver has offered
+/// isn't stored here: its owner keeps the offer, and tells `place` how wide the window is by it.
 #[derive(Drop)]
 pub struct Stream {
     window: Window,
@@ -75,9 +76,9 @@ impl Stream {
         self.window.next.saturating_sub(u64::from(self.rbuf))
     }
 
-    /// Places the bytes of a segment whose first one stands `d` above `next`, where the receive window is `wide`
-    /// positions wide, from 0 to `rbuf`, and answers how they were judged. Where memory is refused, the stream is as
-    /// before.
+    /// Places the bytes of a segment whose first one stands `d` above `next`, where the receive window has the `wide`
+    /// positions from `next` on, and answers how they were judged: see [`wide`](crate::wide). A byte that was accepted
+    /// before an offer left it outside the window is old. Where memory is refused, the stream is as before.
     pub fn place(
         &mut self,
         d: i64,

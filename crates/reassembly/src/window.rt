@@ -1,7 +1,7 @@
 //! The buffer of a stream: the bytes of its pages, of which those below `next` and those in a run are accepted.
 
 ghost use Rattle.std.specs.Prelude.{◌≡◌, ℕ, ◌+◌, ◌-◌, ◌<◌, ◌≤◌, ◌^◌, ◌⊎◌, ◌||◌, ◌&&◌, [], length, min, true, nat_le, nat_lt, slice_index, OnOk, OnErr, IfOk, Option, IsTrue, IsFalse};
-ghost use Rattle.reassembly.specs.Runs.{AreOrdered, AreAbove, is_accepted, is_covered};
+ghost use Rattle.reassembly.specs.Runs.{AreOrdered, AreAbove, is_accepted};
 ghost use Rattle.reassembly.specs.Pages.{IsHeld, IsReady, IsGrown, tally_in};
 ghost use Rattle.reassembly.specs.Waiting.{runs_of, IsMet};
 
@@ -29,7 +29,7 @@ fn count_under(position: u64, start: u64, len: usize) -> usize
 impl Window {
     ghost use Rattle.reassembly.specs.Steps.{StepsTo, counts_viewed};
     ghost use Rattle.reassembly.specs.Kept.{IsRunEnd, IsFirstKept};
-    ghost use Rattle.reassembly.specs.Window.{view_of, kept_at, byte_at, cell_at, IsLaid, IsSized, IsBounded, IsSameWindow, taken_cell, taken_tally, again_cell, differing_below};
+    ghost use Rattle.reassembly.specs.Window.{view_of, kept_at, byte_at, cell_at, IsLaid, IsSized, IsBounded, IsSameWindow, taken_cell, taken_tally, AreAgain, HaveAccepted, differing_below};
 
     /// A buffer with nothing in it. It takes no memory.
     pub fn new(alloc: Global) -> Self
@@ -55,8 +55,8 @@ impl Window {
         }
     }
 
-    // Takes the memory for the positions from `low` to below `high`, and answers the runs that touch them. Where there is
-    // no such position, it takes none.
+    // Takes the memory for the positions from `low` to below `high`, and answers the runs that touch them. Where there
+    // is no such position, it takes none.
     fn meet(&mut self, low: u64, high: u64) -> Result<Vec<Run>, AllocError>
         requires laid { IsLaid self.old }
         requires base { (high ≤ low) ⊎ (self.old.bytes.base ≤ low) }
@@ -158,21 +158,23 @@ impl Window {
         Ok(self.bytes.lay(&met, low, bytes, policy))
     }
 
-    // Lays bytes from `low` on, whose memory is there and which `met` covers where they are accepted. These came before,
-    // and none of the others is accepted.
+    // Lays bytes from `low` on, past the limit, whose memory is there. They come again where `met` has their positions,
+    // which are accepted: these are compared, and replaced where the last byte stays. None of the others is accepted.
     fn repeat(&mut self, met: &[Run], low: u64, bytes: &[u8], policy: Policy) -> Tally
         requires laid { IsLaid self.old }
         requires ordered { AreOrdered met.now }
         requires base { (length bytes.now ≡ 0) ⊎ (self.old.bytes.base ≤ low) }
         requires ready { IsReady self.old.bytes low (low + length bytes.now) }
-        requires met { (p : ℕ) → low ≤ p → p < low + length bytes.now → is_covered met.now p ≡ is_accepted self.old.next (runs_of self.old.runs) p }
+        requires met { HaveAccepted self.old met.now low (low + length bytes.now) }
         requires short { length bytes.now ≤ 65535 }
         requires reach { low + length bytes.now < 2 ^ 63 }
-        ensures place { (self.new.next ≡ self.old.next) × (self.new.runs ≡ self.old.runs) × (self.new.bytes.base ≡ self.old.bytes.base) }
+        ensures place { (self.new.next ≡ self.old.next) × (self.new.runs ≡ self.old.runs) }
+        ensures base { self.new.bytes.base ≡ self.old.bytes.base }
         ensures laid { IsLaid self.new }
-        ensures cells { (p : ℕ) → self.old.bytes.base ≤ p → cell_at self.new p ≡ again_cell policy low bytes.now p (cell_at self.old p) }
+        ensures cells { AreAgain policy low bytes.now self.old self.new }
         ensures tally { result ≡ tally_in self.old.bytes met.now low bytes.now (length bytes.now) }
-        ensures few { (result.new ≤ length bytes.now) × (result.old ≤ length bytes.now) × (result.differ ≤ length bytes.now) }
+        ensures new { result.new ≤ length bytes.now }
+        ensures few { (result.old ≤ length bytes.now) × (result.differ ≤ length bytes.now) }
     {
         if bytes.is_empty() {
             return Tally {
@@ -185,7 +187,8 @@ impl Window {
     }
 
     /// Places a segment that begins at `start`, where no position from `limit` on is accepted anew, and answers how its
-    /// bytes were judged. What was accepted there before an offer stays old. Where memory is refused, nothing has changed.
+    /// bytes were judged. A position past the limit that was accepted before an offer set it is old. Where memory is
+    /// refused, nothing has changed.
     pub fn place(
         &mut self,
         start: u64,

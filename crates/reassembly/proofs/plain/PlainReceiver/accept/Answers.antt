@@ -1,7 +1,7 @@
 use Rattle.std.proofs.Common.{◌≡◌, ℕ, ◌-◌, ℤ, pos, ◌+ℤ◌, List, Option, length, take, drop, ap, ap₂, sym, refl, ◌∙◌, arith, to_z-of_z, vec_len, length-drop}
 use Rattle.std.proofs.lemmas.List.{with_items_is, take_rest}
 use Rattle.reassembly.specs.declared.plain.Before.{Before}
-use Rattle.reassembly.specs.Receiver.{Receiver, held, next_of, wide_with, limit_of}
+use Rattle.reassembly.specs.Receiver.{Receiver, held, next_of, wide_with, limit_of, limit_at}
 use Rattle.reassembly.specs.Segment.{accept, counts, held_after, from_zero, below_zero}
 use Rattle.reassembly.proofs.Plains.{judged_few, resized, plain_accept, plain_judged}
 use Rattle.reassembly.proofs.plain.PlainReceiver.accept.Goals as goal
@@ -18,8 +18,12 @@ overflow_add-result c =
 next_is : (c : goal.After-struct_known-1) → c.next-next.result ≡ next_of c.self.inside.cells.items
 next_is c = c.next-next.ensures ∙ ap (λ (r : Receiver). next_of r.cells) (sym c.self.view_is)
 
-limit_is : (c : goal.After-struct_known-1) → c.limit.result ≡ limit_of (next_of c.self.inside.cells.items) c.self.inside.fin (wide_with (next_of c.self.inside.cells.items) c.self.inside.offer c.args.rbuf)
-limit_is c = c.limit.ensures ∙ ap (limit_of c.next-next.result c.self.inside.fin) c.wide.ensures.value ∙ ap (λ n. limit_of n c.self.inside.fin (wide_with n c.self.inside.offer c.args.rbuf)) (next_is c)
+abbrev before : (c : goal.After-struct_known-1) → Receiver
+before c = record { cells = c.self.inside.cells.items; fin = c.self.inside.fin; offer = c.self.inside.offer }
+
+limit_is : (c : goal.After-struct_known-1) → c.limit.result ≡ limit_at (before c) c.args.rbuf
+limit_is c = c.limit.ensures ∙ ap (limit_of c.next-next.result c.self.inside.fin) c.wide.ensures.value
+    ∙ ap (λ n. limit_of n c.self.inside.fin (wide_with n c.self.inside.offer c.args.rbuf)) (next_is c)
 
 begins : (c : goal.After-struct_known-1) → c.start_of-start.result.position ≡ from_zero (pos (next_of c.self.inside.cells.items) +ℤ c.args.d)
 begins c = c.start_of-start.ensures.position ∙ ap₂ (λ n (z : ℤ). from_zero (pos n +ℤ z)) (next_is c) (to_z-of_z c.ranges.d)
@@ -39,7 +43,7 @@ same_cells c p =
 pub returns-clause-ok : goal.returns-clause-ok
 returns-clause-ok c =
     let s = c.self.inside in
-    let r : Receiver = record { cells = s.cells.items; fin = s.fin; offer = s.offer } in
+    let r = before c in
     let bytes = c.args.bytes.now in
     let cut = c.min-below.result in
     let mid = c.deref_mut.result.now in
@@ -48,7 +52,7 @@ returns-clause-ok c =
     let long : length mid ≡ vec_len c.resize.new.self = c.deref_mut.ensures.len in
     let same : length new ≡ length mid = c.write_all-placed.auto.cells in
     let short : length (take (length bytes - cut) (drop cut bytes)) ≡ length bytes - cut = ap length (take_rest bytes cut) ∙ length-drop cut bytes in
-    let after : (p : ℕ) → held new p ≡ held_after (next_of s.cells.items) (limit_of (next_of s.cells.items) s.fin (wide_with (next_of s.cells.items) s.offer c.args.rbuf)) c.args.policy c.start_of-start.result.position (take (length bytes - cut) (drop cut bytes)) p (held mid p)
+    let after : (p : ℕ) → held new p ≡ held_after (next_of s.cells.items) (limit_at r c.args.rbuf) c.args.policy c.start_of-start.result.position (take (length bytes - cut) (drop cut bytes)) p (held mid p)
     = λ p. c.write_all-placed.ensures.cells p ∙ ap₂ (λ n l. held_after n l c.args.policy c.start_of-start.result.position (take (length bytes - cut) (drop cut bytes)) p (held mid p)) (next_is c) (limit_is c) in
     ap (λ (cells : List (Option ℕ)). record { cells = cells; fin = s.fin; offer = s.offer }) (with_items_is c.resize.new.self new (omega arith))
     ∙ plain_accept r c.args.d c.args.rbuf bytes c.args.policy c.start_of-start.result.position c.start_of-start.result.below cut mid new
@@ -58,10 +62,10 @@ returns-clause-ok c =
 pub returns-clause-counts : goal.returns-clause-counts
 returns-clause-counts c =
     let s = c.self.inside in
-    let r : Receiver = record { cells = s.cells.items; fin = s.fin; offer = s.offer } in
-    let before : Before = record { next = c.next-next.result; limit = c.limit.result; rbuf = c.args.rbuf } in
-    let told : before ≡ record { next = next_of s.cells.items; limit = limit_of (next_of s.cells.items) s.fin (wide_with (next_of s.cells.items) s.offer c.args.rbuf); rbuf = c.args.rbuf }
+    let r = before c in
+    let judged_by : Before = record { next = c.next-next.result; limit = c.limit.result; rbuf = c.args.rbuf } in
+    let told : judged_by ≡ record { next = next_of s.cells.items; limit = limit_at r c.args.rbuf; rbuf = c.args.rbuf }
     = ap₂ (λ n l. record { next = n; limit = l; rbuf = c.args.rbuf }) (next_is c) (limit_is c) in
-    plain_judged r c.args.d c.args.rbuf c.args.bytes.now c.start_of-start.result.position c.start_of-start.result.below c.min-below.result c.deref_mut.result.now before c.write_all-placed.result
+    plain_judged r c.args.d c.args.rbuf c.args.bytes.now c.start_of-start.result.position c.start_of-start.result.below c.min-below.result c.deref_mut.result.now judged_by c.write_all-placed.result
     (begins c) (begins_below c) c.min-below.ensures told (same_cells c) c.write_all-placed.ensures.placed
     ∙ ap (λ (x : Receiver). counts x (pos (next_of x.cells) +ℤ c.args.d) c.args.bytes.now c.args.rbuf) c.self.view_is

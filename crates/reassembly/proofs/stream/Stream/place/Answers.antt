@@ -37,8 +37,10 @@ begins_below c = c.start_of-start.ensures.below ∙ ap (λ (z : ℤ). below_zero
 pub returns-clause-stands : goal.returns-clause-stands
 returns-clause-stands c r h is_wide =
     let s = c.self.inside in
-    subst (λ (k : StreamView). StandsFor k r → c.args.wide ≡ wide_of r k.rbuf → StandsFor (view_of c.place.new.self s.fin s.rbuf) (accept r (pos (next_of r.cells) +ℤ c.args.d) c.args.bytes.now c.args.policy k.rbuf)) c.self.view_is
-    (stream_stands s.window c.place.new.self s.fin s.rbuf c.args.wide c.limit-limit.result c.args.d c.args.bytes.now c.args.policy c.start_of-start.result.position c.start_of-start.result.below c.min-below.result
+    subst (λ (k : StreamView). StandsFor k r → c.args.wide ≡ wide_of r k.rbuf
+    → StandsFor (view_of c.place.new.self s.fin s.rbuf) (accept r (pos (next_of r.cells) +ℤ c.args.d) c.args.bytes.now c.args.policy k.rbuf)) c.self.view_is
+    (stream_stands s.window c.place.new.self s.fin s.rbuf c.args.wide c.limit-limit.result c.args.d c.args.bytes.now c.args.policy
+    c.start_of-start.result.position c.start_of-start.result.below c.min-below.result
     (begins c) (begins_below c) c.min-below.ensures c.limit-limit.ensures (c.in_ok-placed.ensures.steps s.fin) r)
     h is_wide
 

@@ -1,27 +1,29 @@
 use Rattle.std.proofs.Common.{◌≡◌, ℕ, ◌+◌, ◌-◌, ◌≤◌, arith, ap, ◌∙◌, length, take, drop}
 use Rattle.reassembly.specs.Runs.{run_at, is_covered}
 use Rattle.reassembly.specs.Waiting.{runs_of}
-use Rattle.reassembly.specs.Window.{IsBounded, cell_at, taken_cell, again_cell, taken_tally}
+use Rattle.reassembly.specs.Window.{IsBounded, cell_at, taken_tally}
 use Rattle.reassembly.proofs.Placing.{IsCut, cut_at, middle_end, rest_end, placed_cell, counts_placed, steps_placed}
-use Rattle.reassembly.proofs.Again.{IsAgain, again_from, met_cell, tally_met, same_bound, accepted_again, tally_again}
+use Rattle.reassembly.proofs.Again.{IsAgain, again_from, cells_placed, tally_met, same_bound, accepted_again, tally_again}
 use Rattle.reassembly.proofs.window.Window.place.Goals as goal
 
 -- how the segment is cut, before the bytes past the limit are laid and at the end
-cut : (c : goal.After-repeat-arg-2-1) → IsCut c.args.self.now.next c.args.limit c.end.result c.args.start (length c.args.segment.now) c.count_under-below.result c.count_under-within.result c.max-reach.result
+cut : (c : goal.After-repeat-arg-2-1) → IsCut c.args.self.now.next c.args.limit c.end.result c.args.start (length c.args.segment.now)
+    c.count_under-below.result c.count_under-within.result c.max-reach.result
 cut c = cut_at _ _ _ _ _ _ _ _ _ c.count_under-below.ensures c.count_under-within.ensures c.count_under.ensures c.max-reach.ensures c.requires.order
 
-cut_after : (c : goal.After-drop-met-2) → IsCut c.args.self.now.next c.args.limit c.end.result c.args.start (length c.args.segment.now) c.count_under-below.result c.count_under-within.result c.max-reach.result
+cut_after : (c : goal.After-drop-met-2) → IsCut c.args.self.now.next c.args.limit c.end.result c.args.start (length c.args.segment.now)
+    c.count_under-below.result c.count_under-within.result c.max-reach.result
 cut_after c = cut_at _ _ _ _ _ _ _ _ _ c.count_under-below.ensures c.count_under-within.ensures c.count_under.ensures c.max-reach.ensures c.requires.order
 
 kept_below_next : (base next rbuf : ℕ) → base ≤ next - rbuf → base ≤ next
 kept_below_next base next rbuf l = omega arith
 
 again : (c : goal.After-repeat-arg-2-1) → IsAgain c.args.self.now c.take.new.self c.in_ok-met.met.items (c.args.start + c.count_under-within.result) (c.args.start + c.max-reach.result)
-again c = again_from c.args.self.now c.meet.new.self c.take.new.self c.in_ok-met.met.items c.args.limit c.end.result c.args.start _ _ _ c.args.policy c.args.segment.now (cut c)
+again c = again_from c.args.self.now c.meet.new.self c.take.new.self c.in_ok-met.met.items c.args.limit c.end.result c.args.start _ _ _ _ c.args.policy c.args.segment.now (cut c) (omega arith)
     (kept_below_next _ _ _ c.requires.sized.kept) c.meet.ensures.place.0 c.meet.ensures.place.1 c.meet.ensures.grown c.in_ok-met.ensures.met c.in_ok-tally.ensures.cells
 
 again_after : (c : goal.After-drop-met-2) → IsAgain c.args.self.now c.take.new.self c.in_ok-met.met.items (c.args.start + c.count_under-within.result) (c.args.start + c.max-reach.result)
-again_after c = again_from c.args.self.now c.meet.new.self c.take.new.self c.in_ok-met.met.items c.args.limit c.end.result c.args.start _ _ _ c.args.policy c.args.segment.now (cut_after c)
+again_after c = again_from c.args.self.now c.meet.new.self c.take.new.self c.in_ok-met.met.items c.args.limit c.end.result c.args.start _ _ _ _ c.args.policy c.args.segment.now (cut_after c) (omega arith)
     (kept_below_next _ _ _ c.requires.sized.kept) c.meet.ensures.place.0 c.meet.ensures.place.1 c.meet.ensures.grown c.in_ok-met.ensures.met c.in_ok-tally.ensures.cells
 
 pub repeat-again-requires-clause-met : goal.repeat-again-requires-clause-met
@@ -33,7 +35,7 @@ repeat-again-requires-clause-met c p from below =
 bounded : (c : goal.After-drop-met-2) (m : ℕ) → c.args.limit ≤ m → IsBounded c.args.self.now m → IsBounded c.forget.new.self m
 bounded c m l old =
     let ready = same_bound c.args.self.now c.meet.new.self m c.meet.ensures.place.0 c.meet.ensures.place.1 old in
-    let mid = c.in_ok-tally.ensures.bounded m (middle_end _ _ _ c.args.start _ _ _ c.args.segment.now (cut_after c) m l) ready in
+    let mid = c.in_ok-tally.ensures.bounded m (middle_end _ _ _ c.args.start _ _ _ _ c.args.segment.now (cut_after c) (omega arith) m l) ready in
     let laid = same_bound c.take.new.self c.repeat-again.new.self m c.repeat-again.ensures.place.0 c.repeat-again.ensures.place.1 mid in
     same_bound c.repeat-again.new.self c.forget.new.self m c.forget.ensures.place.0 c.forget.ensures.place.1 laid
 
@@ -61,21 +63,16 @@ returns-clause-sized c =
     }
 
 placed : (c : goal.After-drop-met-2) (p : ℕ) → c.args.self.now.bytes.base ≤ p
-    → cell_at c.repeat-again.new.self p ≡ placed_cell c.args.policy c.args.start c.args.segment.now c.count_under-below.result c.count_under-within.result c.max-reach.result p (cell_at c.args.self.now p)
+    → cell_at c.repeat-again.new.self p ≡ placed_cell c.args.policy c.args.start c.args.segment.now
+    c.count_under-below.result c.count_under-within.result c.max-reach.result p (cell_at c.args.self.now p)
 placed c p l =
-    let below = c.count_under-below.result in
-    let within = c.count_under-within.result in
-    let grown : c.meet.new.self.bytes.base ≡ c.args.self.now.bytes.base = c.meet.ensures.grown.base in
-    let mid : c.take.new.self.bytes.base ≡ c.meet.new.self.bytes.base = c.in_ok-tally.ensures.base in
-    c.repeat-again.ensures.cells p (omega arith)
-    ∙ ap (again_cell c.args.policy (c.args.start + within) (take (c.max-reach.result - within) (drop within c.args.segment.now)) p)
-    (c.in_ok-tally.ensures.cells p (omega arith)
-    ∙ ap (taken_cell c.args.policy (c.args.start + below) (take (within - below) (drop below c.args.segment.now)) p)
-    (met_cell c.args.self.now c.meet.new.self p c.meet.ensures.place.0 c.meet.ensures.place.1 c.meet.ensures.grown))
+    cells_placed c.args.self.now c.meet.new.self c.take.new.self c.repeat-again.new.self c.args.start _ _ _ _ c.args.policy c.args.segment.now (omega arith)
+    c.meet.ensures.place.0 c.meet.ensures.place.1 c.meet.ensures.grown c.in_ok-tally.ensures.base c.in_ok-tally.ensures.cells c.repeat-again.ensures.cells p l
 
 pub returns-clause-steps : goal.returns-clause-steps
 returns-clause-steps c fin =
-    steps_placed c.args.self.now c.repeat-again.new.self c.forget.new.self fin c.args.rbuf c.args.limit c.end.result c.args.start c.count_under-below.result c.count_under-within.result c.max-reach.result c.args.policy c.args.segment.now
+    steps_placed c.args.self.now c.repeat-again.new.self c.forget.new.self fin c.args.rbuf c.args.limit c.end.result c.args.start
+    c.count_under-below.result c.count_under-within.result c.max-reach.result c.args.policy c.args.segment.now
     (record {
       old_laid = c.requires.laid;
       old_kept = c.requires.sized.kept;
@@ -99,8 +96,9 @@ returns-clause-counts c fin =
     let rest = take (reach - within) (drop within segment) in
     let told : c.repeat-again.result ≡ taken_tally c.args.self.now (c.args.start + within) rest
     = (rw c.deref.ensures.value at c.repeat-again.ensures.tally)
-    ∙ tally_again c.args.self.now c.take.new.self c.in_ok-met.met.items (c.args.start + within) (c.args.start + reach) rest (rest_end _ _ _ c.args.start _ _ _ segment (cut_after c)) (again_after c) in
+    ∙ tally_again c.args.self.now c.take.new.self c.in_ok-met.met.items (c.args.start + within) (c.args.start + reach) rest
+    (rest_end _ _ _ c.args.start _ _ _ segment (cut_after c)) (again_after c) in
     counts_placed c.args.self.now fin c.args.rbuf c.args.limit c.end.result c.args.start below within reach segment c.requires.laid c.end.ensures.bounded (cut_after c)
-    c.in_ok-tally.tally c.repeat-again.result c.compare-differ.result
-    (c.in_ok-tally.ensures.tally ∙ tally_met c.args.self.now c.meet.new.self (c.args.start + below) (take (within - below) (drop below segment)) c.meet.ensures.place.1 c.meet.ensures.grown)
+    c.in_ok-tally.tally c.repeat-again.result c.compare-differ.result _ (omega arith)
+    (c.in_ok-tally.ensures.tally ∙ tally_met c.args.self.now c.meet.new.self _ (take (within - below) (drop below segment)) c.meet.ensures.place.1 c.meet.ensures.grown)
     told c.compare-differ.ensures.value
