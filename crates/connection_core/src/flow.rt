@@ -197,10 +197,14 @@ impl Flow {
         ensures stands { OnOk result ((s : ControlState) (others : Counts) (h : History) → IsInForce terms.now.in_force s
             → IsConnection terms.now.keep others (told terms.now.in_force) (F.content forests.old self.old.forest) self.old notes.old ledger.old.counts h
             → Reached terms.now.keep others (active_in (told terms.now.in_force) (F.content forests.new self.new.forest)) self.new.socket notes.new ledger.new
-            (F.interns forests.old) (F.interns forests.new) h.altered (sender_phase (A.meaning terms.now.app.now) s arrived.now.number arrived.now.from arrived.now.head.now arrived.now.scale h)) }
+            (F.interns forests.old) (F.interns forests.new) h.altered
+            (sender_phase (A.meaning terms.now.app.now) s arrived.now.number arrived.now.from
+            arrived.now.head.now arrived.now.scale h)) }
         ensures failed { OnErr result ((s : ControlState) (others : Counts) (h : History) → IsInForce terms.now.in_force s
             → IsConnection terms.now.keep others (told terms.now.in_force) (F.content forests.old self.old.forest) self.old notes.old ledger.old.counts h
-            → InternsWithin (F.interns forests.old) (F.interns forests.new) h.altered (sender_phase (A.meaning terms.now.app.now) s arrived.now.number arrived.now.from arrived.now.head.now arrived.now.scale h).altered) }
+            → InternsWithin (F.interns forests.old) (F.interns forests.new) h.altered
+            (sender_phase (A.meaning terms.now.app.now) s arrived.now.number arrived.now.from
+            arrived.now.head.now arrived.now.scale h).altered) }
         ensures rise { RiseBy 1530 ledger.old.counts ledger.new.counts }
         ensures count { self.new.count ≡ self.old.count }
     {
@@ -324,22 +328,31 @@ impl Flow {
         ensures kept { Keeps F.answered F.content forests.old forests.new }
         ensures stands { OnOk result ((s : ControlState) (others : Counts) (h : History) → IsInForce terms.now.in_force s
             → IsConnection terms.now.keep others (told terms.now.in_force) (F.content forests.old self.old.forest) self.old notes.old ledger.old.counts h
-            → IsConnection terms.now.keep others (told terms.now.in_force) (F.content forests.new self.new.forest) self.new notes.new ledger.new.counts (followed (A.meaning terms.now.app.now) s arrived.now.number arrived.now.from arrived.now.head.now arrived.now.scale arrived.now.payload.now h)) }
+            → IsConnection terms.now.keep others (told terms.now.in_force) (F.content forests.new self.new.forest)
+            self.new notes.new ledger.new.counts
+            (followed (A.meaning terms.now.app.now) s arrived.now.number arrived.now.from
+            arrived.now.head.now arrived.now.scale arrived.now.payload.now h)) }
 
         // At most one intern for each change that alters the private list, also where memory is refused on the way.
         ensures interned { (s : ControlState) (others : Counts) (h : History) → IsInForce terms.now.in_force s
             → IsConnection terms.now.keep others (told terms.now.in_force) (F.content forests.old self.old.forest) self.old notes.old ledger.old.counts h
-            → InternsWithin (F.interns forests.old) (F.interns forests.new) h.altered (followed (A.meaning terms.now.app.now) s arrived.now.number arrived.now.from arrived.now.head.now arrived.now.scale arrived.now.payload.now h).altered }
+            → InternsWithin (F.interns forests.old) (F.interns forests.new) h.altered
+            (followed (A.meaning terms.now.app.now) s arrived.now.number arrived.now.from
+            arrived.now.head.now arrived.now.scale arrived.now.payload.now h).altered }
 
         ensures over { IfOk result (λ step. (s : ControlState) (others : Counts) (h : History) → IsInForce terms.now.in_force s
             → IsConnection terms.now.keep others (told terms.now.in_force) (F.content forests.old self.old.forest) self.old notes.old ledger.old.counts h
-            → step.over ≡ is_over (followed (A.meaning terms.now.app.now) s arrived.now.number arrived.now.from arrived.now.head.now arrived.now.scale arrived.now.payload.now h)) }
+            → step.over ≡ is_over (followed (A.meaning terms.now.app.now) s arrived.now.number arrived.now.from
+            arrived.now.head.now arrived.now.scale arrived.now.payload.now h)) }
         ensures verdict { IfOk result (λ step. (s : ControlState) (others : Counts) (h : History) → IsInForce terms.now.in_force s
             → IsConnection terms.now.keep others (told terms.now.in_force) (F.content forests.old self.old.forest) self.old notes.old ledger.old.counts h
-            → step.verdict ≡ verdict (A.meaning terms.now.app.now) s arrived.now.number arrived.now.from arrived.now.head.now arrived.now.scale h) }
+            → step.verdict ≡ verdict (A.meaning terms.now.app.now) s arrived.now.number arrived.now.from
+            arrived.now.head.now arrived.now.scale h) }
         ensures drops { IfOk result (λ step. (s : ControlState) (others : Counts) (h : History) → IsInForce terms.now.in_force s
             → IsConnection terms.now.keep others (told terms.now.in_force) (F.content forests.old self.old.forest) self.old notes.old ledger.old.counts h
-            → (followed (A.meaning terms.now.app.now) s arrived.now.number arrived.now.from arrived.now.head.now arrived.now.scale arrived.now.payload.now h).drops ≡ h.drops ++ drops_of step.verdict arrived.now.number) }
+            → (followed (A.meaning terms.now.app.now) s arrived.now.number arrived.now.from
+            arrived.now.head.now arrived.now.scale arrived.now.payload.now h).drops
+            ≡ h.drops ++ drops_of step.verdict arrived.now.number) }
         ensures rise { RiseBy 3060 ledger.old.counts ledger.new.counts }
         ensures count { self.new.count ≤ self.old.count + 1 }
     {

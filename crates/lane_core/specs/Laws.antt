@@ -66,7 +66,8 @@ at_orphan number = record { index = number; hook = Snd; event = ORPHAN; reg = 3;
 -- and each packet of no connection is called once
 pub record PresetsAreCalled : Type 0 where
   pub connection : (number : ℕ) (side : Side) (segment : Segment) (h : History) → h.active ≡ first_active (start log.presets)
-      → (followed log (start log.presets) number side segment.head segment.scale segment.payload h).entries ≡ h.entries ++ at_sender number ∷ at_receiver number ∷ []
+      → (followed log (start log.presets) number side segment.head segment.scale segment.payload h).entries
+      ≡ h.entries ++ at_sender number ∷ at_receiver number ∷ []
   pub stay : (number : ℕ) (side : Side) (segment : Segment) (h : History) → h.active ≡ first_active (start log.presets)
       → (followed log (start log.presets) number side segment.head segment.scale segment.payload h).active ≡ h.active
   pub orphan : (number : ℕ) (sight : Sight)

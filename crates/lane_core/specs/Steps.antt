@@ -61,7 +61,8 @@ pub record StepCosts (app : Meaning) (keep : Bool) (at : ℕ → Option Reg) (co
 -- a connection's history after the segment that opens it
 abbrev pub opened_by : Meaning → ControlState → ℕ → Segment → History
 opened_by app control number segment =
-    followed app control number (side_of segment.sender segment) segment.head segment.scale segment.payload (fresh app control)
+    followed app control number (side_of segment.sender segment)
+    segment.head segment.scale segment.payload (fresh app control)
 
 -- a packet of no connection was called for: `slot` is a record of no callback
 pub record IsLone (app : Meaning) (keep : Bool) (control : ControlState) (slot slot_after : Slot) (counts counts_after : Counts) (number : ℕ) (raises : List Raise) (verdict_is : Verdict) : Type 0 where

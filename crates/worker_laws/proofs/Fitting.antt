@@ -36,7 +36,8 @@ drops_unless None number s r h = omega arith
 drops_unless (Some reason) number s r h = let one = length_push h.drops (number, reason) in omega arith
 
 drops_after : (app : Meaning) (control : ControlState) (opener : Sight) (a : Arrival) (sight : Sight) (h : History)
-    → length (elim sight as (λ s. History) [ Tcp segment ↦ followed app control a.number (side_in opener segment) segment.head segment.scale segment.payload h | Other class ↦ h ]).drops ≤ length h.drops + 1
+    → length (elim sight as (λ s. History) [ Tcp segment ↦ followed app control a.number (side_in opener segment) segment.head segment.scale segment.payload h | Other class ↦ h ]).drops
+    ≤ length h.drops + 1
 unfolding followed
 drops_after app control opener a (Tcp segment) h = drops_unless _ a.number _ _ h
 drops_after app control opener a (Other class) h = omega arith

@@ -45,7 +45,8 @@ returns-in_err-step-clause-costs g c = rw (sym c.version_for.ensures) (on_err_al
   interned = λ others h connected.
       let segment = seen c.args.segment.now in
       subst (λ side. InternsWithin (g.F.ForestView.interns c.args.forests.now) (g.F.ForestView.interns c.step.new.forests) h.altered
-      (followed (g.A.App.meaning c.args.world.now.app) control c.args.number side segment.head segment.scale segment.payload h).altered) c.side_of.ensures (c.step.ensures.interned control others h tells connected);
+      (followed (g.A.App.meaning c.args.world.now.app) control c.args.number side segment.head segment.scale segment.payload h).altered)
+      c.side_of.ensures (c.step.ensures.interned control others h tells connected);
 }))
 
 pub returns-in_err-note-clause-costs : goal.returns-in_err-note-clause-costs
@@ -53,7 +54,8 @@ returns-in_err-note-clause-costs g c = rw (sym c.version_for.ensures) (on_err_al
   interned = λ others h connected.
       let segment = seen c.args.segment.now in
       subst (λ side. InternsWithin (g.F.ForestView.interns c.args.forests.now) (g.F.ForestView.interns c.step.new.forests) h.altered
-      (followed (g.A.App.meaning c.args.world.now.app) control c.args.number side segment.head segment.scale segment.payload h).altered) c.side_of.ensures (c.step.ensures.interned control others h tells connected);
+      (followed (g.A.App.meaning c.args.world.now.app) control c.args.number side segment.head segment.scale segment.payload h).altered)
+      c.side_of.ensures (c.step.ensures.interned control others h tells connected);
 }))
 
 pub returns-in_err-step-clause-tree : goal.returns-in_err-step-clause-tree

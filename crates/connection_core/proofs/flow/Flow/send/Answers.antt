@@ -12,7 +12,8 @@ returns-clause-stands g c =
     let app = g.A.App.meaning c.args.terms.now.app.now in
     let at = told c.args.terms.now.in_force in
     let keep = c.args.terms.now.keep in
-    sender_makes app s keep others at (g.F.ForestView.content c.args.forests.now c.args.self.now.forest) c.args.arrived.now.number c.args.arrived.now.from c.args.arrived.now.head.now c.args.arrived.now.scale
+    sender_makes app s keep others at (g.F.ForestView.content c.args.forests.now c.args.self.now.forest)
+    c.args.arrived.now.number c.args.arrived.now.from c.args.arrived.now.head.now c.args.arrived.now.scale
     c.send-sent.result (raises_of c.raised_at_sender-raised.result) c.args.self.now c.send-sent.new.self c.args.notes.now c.args.ledger.now c.begin.new.self h
     (λ before after. Reached keep others (active_in at (g.F.ForestView.content c.make.new.forests c.make.new.self.forest)) c.make.new.self.socket c.make.new.notes c.make.new.ledger
     (g.F.ForestView.interns c.args.forests.now) (g.F.ForestView.interns c.make.new.forests) before.altered after)

@@ -20,7 +20,8 @@ returns-clause-interned g c = λ s others h force is.
 pub returns-in_err-send-clause-interned : goal.returns-in_err-send-clause-interned
 returns-in_err-send-clause-interned g c = λ s others h force is.
     let arrived = c.args.arrived.now in
-    sender_costs (g.A.App.meaning c.args.terms.now.app.now) s (g.F.ForestView.interns c.args.forests.now) (g.F.ForestView.interns c.send.new.forests) arrived.number arrived.from arrived.head.now arrived.scale arrived.payload.now h
+    sender_costs (g.A.App.meaning c.args.terms.now.app.now) s (g.F.ForestView.interns c.args.forests.now) (g.F.ForestView.interns c.send.new.forests)
+    arrived.number arrived.from arrived.head.now arrived.scale arrived.payload.now h
     (c.in_err-send.ensures.failed s others h force is)
 
 pub returns-in_err-go_on-clause-interned : goal.returns-in_err-go_on-clause-interned
