@@ -10,6 +10,7 @@ mod Serving
 mod Beside
 mod Posted
 mod Reading
+mod Source
 mod Stopping
 mod Handing
 mod Dealing

@@ -18,7 +18,7 @@ HasCause-since first before now earlier call same = record {
   cause = λ fault. Rose-earlier first before now earlier (call.cause (same fault));
 }
 
-pub same_error : {T : Type 0} (a b : NextError) (r : Result T NextError) → r ≡ Err a → r ≡ Err b → a ≡ b
+pub same_error : {T E : Type 0} (a b : E) (r : Result T E) → r ≡ Err a → r ≡ Err b → a ≡ b
 same_error a b r one two = cc
 
 pub read_none : (capture : CaptureState) (bytes : List ℕ) (left : Option (List ℕ)) → left ≡ Some bytes → IsReadTo capture bytes [] capture left
@@ -59,6 +59,16 @@ module _ (start : CaptureState) (bytes : List ℕ) (frames : List Captured) (old
   read_end None after gives r = let told = r.told in absurd (cc)
   read_end (Some b) None gives r = absurd gives
   read_end (Some b) (Some a) gives r = (at-end (tail 0) b gives.0 (Some b) refl r, ap (λ l. Some l) gives.1)
+
+-- a fault of the source where nothing is left: no more whole records, and no refusal
+pub read_cut : (start old new : CaptureState) (bytes : List ℕ) (frames : List Captured) (frame : Captured) (before after : Option (List ℕ)) → NextGives old new before after frame (Err ReadFault)
+    → IsReadTo start bytes frames old before → after ≡ Some [] → (n : ℕ) × ((frames_at start bytes).ending ≡ tail n)
+read_cut start old new bytes frames frame None after gives r none = let told = r.told in absurd (cc)
+read_cut start old new bytes frames frame (Some b) None gives r none = absurd gives
+read_cut start old new bytes frames frame (Some b) (Some a) gives r none =
+    let last : a ≡ [] = cc in
+    let cut = gives last in
+    (cut.0, ap (λ f. f.ending) (at-end start bytes frames old new frame (tail cut.0) b cut.1 (Some b) refl r))
 
 -- a refusal is that of the whole capture
 pub read_refused : (start old new : CaptureState) (frames : List Captured) (frame : Captured) (first before after last : Option (List ℕ)) (e : NextError) → NextGives old new before after frame (Err e)

@@ -15,3 +15,4 @@ pub mod Drained
 pub mod Explained
 pub mod Relayed
 pub mod GoesOn
+pub mod Source

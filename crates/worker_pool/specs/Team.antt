@@ -1,6 +1,5 @@
 -- Workers that share a run, from their start to their end.
-use Rattle.std.specs.Prelude.{◌≡◌, ℕ, ◌<◌, ◌≤◌, Bool, List, [], length, get_or, Option, Some, None, Result, Ok, Err, ⊤, IsErrOf}
-use Rattle.mos_bytes.specs.Causes.{HasCauseOf}
+use Rattle.std.specs.Prelude.{◌≡◌, ℕ, ◌<◌, ◌≤◌, Bool, List, [], length, get_or, Option, Some, None, Result, Ok, Err, ⊤}
 use Rattle.pcap_source.specs.Captured.{Captured}
 use Rattle.pcap_source.specs.Capture.{tail, too_long, too_many}
 use Rattle.pcap_source.specs.Reading.{CaptureState, frames_at}
@@ -78,8 +77,3 @@ ReadsWhole frames capture old new (Err ReadFault) = ⊤
 ReadsWhole frames capture old new (Err WriteFault) = ⊥
 ReadsWhole frames capture old new (Err Heavy) = ⊥
 ReadsWhole frames capture old new (Err NoMemory) = ⊤
-
--- so it was, and a fault of the source is told only where its count rose
-pub record HasRead (frames : List Captured) (capture : CaptureState) (old new : Option (List ℕ)) (faults faults_now : ℕ) (result : Result Whole PoolError) : Type 0 where
-  pub whole : ReadsWhole frames capture old new result
-  pub cause : HasCauseOf faults faults_now (IsErrOf result ReadFault)

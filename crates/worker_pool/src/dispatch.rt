@@ -1,13 +1,13 @@
 //! Reads a capture, and sends each packet to its lane.
 
-ghost use Rattle.std.specs.Prelude.{◌≡◌, ◌<◌, ◌≤◌, ◌++◌, [], ◌∷◌, List, length, IsErrOf, false};
-ghost use Rattle.mos_bytes.specs.Causes.{HasCauseOf};
+ghost use Rattle.std.specs.Prelude.{◌≡◌, ◌<◌, ◌≤◌, ◌++◌, [], ◌∷◌, List, length, IsOk, IsErrOf, false};
 ghost use Rattle.pcap_source.specs.Captured.{Captured};
 ghost use Rattle.pcap_source.specs.Reading.{Opened};
 ghost use Rattle.flow_table.specs.Lane.{lane_of_key};
 ghost use Rattle.ip6_views.specs.Sight.{sight_of, lane_of_sight};
 ghost use Rattle.worker_pool.specs.declared.worker.Worker.{Worker as Begun};
 ghost use Rattle.worker_pool.specs.Posts.{ArePosts, Dispatched};
+ghost use Rattle.worker_pool.specs.Source.{ReadsOn};
 
 use crate::gate::Gate;
 use crate::post::{Post, send_to};
@@ -114,8 +114,8 @@ pub(crate) fn dispatch<R: Wait, L: Recorder + Drop, S: Source, G: Gate>(
     requires posts { (begins : List (Begun L)) × ArePosts L.Recorder script.now begins [] posts.old.items }
     ensures dispatched { (begins : List (Begun L)) → ArePosts L.Recorder script.now begins [] posts.old.items
         → Dispatched L.Recorder script.now begins posts.new.items capture.old (S.left source.old) (S.left source.new) result }
-    ensures cause { HasCauseOf (S.faults source.old) (S.faults source.new) (IsErrOf result NextError.ReadFault) }
-    ensures lasts { S.lasting source.new ≡ S.lasting source.old }
+    ensures reads { ReadsOn S.Source capture.old source.old source.new (IsOk result)
+        (IsErrOf result NextError.ReadFault) }
     ensures stopped { capture.new.is_live ≡ false }
 {
     let mut packets = 0;

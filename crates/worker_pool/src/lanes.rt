@@ -1,13 +1,13 @@
 //! A run on several lanes.
 
-ghost use Rattle.std.specs.Prelude.{◌≡◌, ◌≤◌, [], ℕ, List, Some, Err, IsOk, IfOk, IsTrue, IsErrOf};
-ghost use Rattle.mos_bytes.specs.Causes.{HasCauseOf};
+ghost use Rattle.std.specs.Prelude.{◌≡◌, ◌≤◌, ◌⊎◌, [], ℕ, List, Some, Err, IsOk, IfOk, IsTrue, IsErrOf};
 ghost use Rattle.pcap_source.specs.Captured.{Captured};
 ghost use Rattle.pcap_source.specs.Reading.{Opened, frames_at};
 ghost use Rattle.forest_versions.specs.Lawful.{are_lawful};
 ghost use Rattle.forest_versions.specs.State.{start};
 ghost use Rattle.control_script.specs.Order.{commands_of};
 ghost use Rattle.worker_pool.specs.Run.{EndsOver, IsWhole};
+ghost use Rattle.worker_pool.specs.Source.{ReadsOn};
 
 use crate::conclude::conclude;
 use crate::gate::Gate;
@@ -53,9 +53,11 @@ pub fn run_lanes<
         → EndsOver (A.meaning job.now.app) job.now.script.now job.now.workers (frames_at capture.old rest) result }
     ensures whole { IfOk result (λ end. (frames : List Captured) × (tail : ℕ) × IsWhole (A.meaning job.now.app) job.now.script.now job.now.workers frames tail end) }
     ensures read { IsOk result → (rest : List ℕ) → S.left source.old ≡ Some rest → S.left source.new ≡ Some [] }
-    ensures cause { HasCauseOf (S.faults source.old) (S.faults source.new) (IsErrOf result PoolError.ReadFault) }
     ensures no_write { IsErrOf result PoolError.WriteFault → ⊥ }
-    ensures lasts { S.lasting source.new ≡ S.lasting source.old }
+
+    // That a run weighs too much is told only where all of the capture was read.
+    ensures reads { ReadsOn S.Source capture.old source.old source.new
+        (IsOk result ⊎ IsErrOf result PoolError.Heavy) (IsErrOf result PoolError.ReadFault) }
 
     // The capture may be read on only where nothing of it was read.
     ensures stopped { IsTrue capture.new.is_live → (result ≡ Err PoolError.NoMemory) × (capture.new ≡ capture.old) × (source.new ≡ source.old) }

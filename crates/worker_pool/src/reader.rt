@@ -1,12 +1,12 @@
 //! A run that is reported: this thread reads the capture, and sends its packets to the workers.
 
-ghost use Rattle.std.specs.Prelude.{◌≡◌, Err, IsErrOf, IsTrue};
-ghost use Rattle.mos_bytes.specs.Causes.{HasCauseOf};
+ghost use Rattle.std.specs.Prelude.{◌≡◌, ◌≢◌, Err, IsOk, IfErr, IsErrOf, IsTrue};
 ghost use Rattle.pcap_source.specs.Reading.{Opened};
 ghost use Rattle.app_api.specs.App.{Meaning};
 ghost use Rattle.forest_versions.specs.Lawful.{are_lawful};
 ghost use Rattle.forest_versions.specs.State.{start};
 ghost use Rattle.control_script.specs.Order.{commands_of};
+ghost use Rattle.worker_pool.specs.Source.{ReadsOn};
 ghost use Rattle.worker_pool.specs.Team.{IsTeam, TeamRan};
 
 use crate::dealer::Dealer;
@@ -40,16 +40,18 @@ pub(crate) struct Reader<'a, R, S, G> {
 }
 
 impl<'a, R: Wait, L: Recorder + Drop, S: Source, G: Gate> Dealer<L> for Reader<'a, R, S, G> {
-    ghost use Rattle.std.specs.Prelude.{◌≡◌, false};
+    ghost use Rattle.std.specs.Prelude.{◌≡◌, IsOk, IsErrOf, false};
     ghost use Rattle.pcap_source.specs.Reading.{Opened};
-    ghost use Rattle.worker_pool.specs.Team.{HasRead};
+    ghost use Rattle.worker_pool.specs.declared.job.PoolError.TheVariants.{ReadFault};
+    ghost use Rattle.worker_pool.specs.Source.{ReadsOn};
+    ghost use Rattle.worker_pool.specs.Team.{ReadsWhole};
 
     ghost script = { λ d. d.script.now };
 
     ghost may = { λ d begins. Opened d.capture.now };
 
-    ghost did = { λ d e begins frames result. HasRead frames d.capture.now (S.left d.source.now) (S.left e.source.now) (S.faults d.source.now) (S.faults e.source.now) result
-        × (S.lasting e.source.now ≡ S.lasting d.source.now)
+    ghost did = { λ d e begins frames result. ReadsWhole frames d.capture.now (S.left d.source.now) (S.left e.source.now) result
+        × ReadsOn S.Source d.capture.now d.source.now e.source.now (IsOk result) (IsErrOf result ReadFault)
         × (e.capture.ghost_name ≡ d.capture.ghost_name) × (e.source.ghost_name ≡ d.source.ghost_name)
         × (e.capture.now.is_live ≡ false) };
 
@@ -93,8 +95,9 @@ pub(crate) fn read_team<
     requires team { (app : Meaning) × IsTeam L.Recorder app team.workers.items team.packets.items
         × IsTrue (are_lawful (start app.presets) (commands_of script.now)) }
     ensures ran { TeamRan L.Recorder script.now team.workers.items capture.old (S.left source.old) (S.left source.new) result }
-    ensures cause { HasCauseOf (S.faults source.old) (S.faults source.new) (IsErrOf result PoolError.ReadFault) }
-    ensures lasts { S.lasting source.new ≡ S.lasting source.old }
+    ensures light { IfErr result (λ e. e ≢ PoolError.Heavy) }
+    ensures reads { ReadsOn S.Source capture.old source.old source.new (IsOk result)
+        (IsErrOf result PoolError.ReadFault) }
     ensures stopped { IsTrue capture.new.is_live → (result ≡ Err PoolError.NoMemory) × (capture.new ≡ capture.old) × (source.new ≡ source.old) }
 {
     let failed = AtomicBool::new(false);

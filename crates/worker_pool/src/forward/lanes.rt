@@ -1,7 +1,7 @@
 //! A forward run on several lanes.
 
 ghost use Rattle.std.specs.Prelude.{◌≡◌, ◌≢◌, ◌≤◌, ◌⊎◌, [], ℕ, List, Option, Some, Err, length, IsOk, IsTrue, IsErrOf, IfOk, IfErr};
-ghost use Rattle.mos_bytes.specs.Causes.{HasCauseOf};
+ghost use Rattle.mos_bytes.specs.Outside.{Writes};
 ghost use Rattle.pcap_source.specs.Captured.{Captured};
 ghost use Rattle.pcap_source.specs.Reading.{Opened, frames_at};
 ghost use Rattle.app_api.specs.App.{Meaning};
@@ -10,6 +10,7 @@ ghost use Rattle.forest_versions.specs.State.{start};
 ghost use Rattle.control_script.specs.Order.{commands_of};
 ghost use Rattle.worker_pool.specs.GoesOn.{GoesOn};
 ghost use Rattle.worker_pool.specs.Manned.{CanRun, Served};
+ghost use Rattle.worker_pool.specs.Source.{ReadsOn};
 ghost use Rattle.worker_pool.specs.Streamed.{AreRelays, Leaves, Streamed, lane_at, taken_from};
 ghost use Rattle.worker_pool.specs.Forward.{ForwardsFront, ForwardsOver};
 
@@ -77,10 +78,9 @@ fn stream_team<
     requires begins { Leaves (lane_at (length relays.old.items) []) 0 (taken_from relays.old.items) waiting.old (O.taken out.old) (O.taken out.old) }
     ensures served { IfOk result (λ r. Served L.Recorder script.now team.workers.items r.1.items (λ frames. Streamed team.workers.items frames relays.new.items waiting.new
         capture.old (S.left source.old) (S.left source.new) (O.taken out.old) (O.taken out.new) r.0)) }
-    ensures read_fault { IfOk result (λ r. HasCauseOf (S.faults source.old) (S.faults source.new) (IsErrOf r.0 PoolError.ReadFault)) }
-    ensures write_fault { IfOk result (λ r. HasCauseOf (O.faults out.old) (O.faults out.new) (IsErrOf r.0 PoolError.WriteFault)) }
-    ensures source_lasts { IfOk result (λ _. S.lasting source.new ≡ S.lasting source.old) }
-    ensures out_lasts { IfOk result (λ _. O.lasting out.new ≡ O.lasting out.old) }
+    ensures reads { IfOk result (λ r. ReadsOn S.Source capture.old source.old source.new (IsOk r.0)
+        (IsErrOf r.0 PoolError.ReadFault)) }
+    ensures writes { IfOk result (λ r. Writes O.Sink out.old out.new (IsErrOf r.0 PoolError.WriteFault)) }
     ensures stopped { IfOk result (λ r. IsTrue capture.new.is_live → ((r.0 ≡ Err PoolError.WriteFault) ⊎ (r.0 ≡ Err PoolError.NoMemory))
         × GoesOn capture.old capture.new (S.left source.old) (S.left source.new)) }
     ensures unchanged { IfErr result (λ _. (capture.new ≡ capture.old) × (source.new ≡ source.old) × (out.new ≡ out.old)) }
@@ -146,10 +146,9 @@ pub fn forward_lanes<
 
     // It keeps no entries, so they never weigh too much.
     ensures never_heavy { IfErr result (λ e. e ≢ PoolError.Heavy) }
-    ensures read_fault { HasCauseOf (S.faults source.old) (S.faults source.new) (IsErrOf result PoolError.ReadFault) }
-    ensures write_fault { HasCauseOf (O.faults out.old) (O.faults out.new) (IsErrOf result PoolError.WriteFault) }
-    ensures source_lasts { S.lasting source.new ≡ S.lasting source.old }
-    ensures out_lasts { O.lasting out.new ≡ O.lasting out.old }
+    ensures reads { ReadsOn S.Source capture.old source.old source.new (IsOk result)
+        (IsErrOf result PoolError.ReadFault) }
+    ensures writes { Writes O.Sink out.old out.new (IsErrOf result PoolError.WriteFault) }
 
     // The capture may be read on only where a write failed or memory was refused: then it goes on behind the records read.
     ensures stopped { IsTrue capture.new.is_live → ((result ≡ Err PoolError.WriteFault) ⊎ (result ≡ Err PoolError.NoMemory))

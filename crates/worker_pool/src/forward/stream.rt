@@ -1,12 +1,14 @@
 //! Reads a capture, sends each packet to its lane, and writes what the lanes let pass, in the order of the capture.
 
-ghost use Rattle.std.specs.Prelude.{◌≡◌, ◌≢◌, ◌<◌, ◌≤◌, ◌+◌, ◌++◌, ◌⊎◌, [], ◌∷◌, List, Option, ℕ, length, nat_lt, true, Err, IfErr, OnOk, IsErrOf, IsTrue};
+ghost use Rattle.std.specs.Prelude.{◌≡◌, ◌≢◌, ◌<◌, ◌≤◌, ◌+◌, ◌++◌, ◌⊎◌, [], ◌∷◌, List, Option, ℕ, length, nat_lt, true, Err, IfErr, OnOk, IsOk, IsErrOf, IsTrue};
 ghost use Rattle.mos_bytes.specs.Causes.{HasCauseOf};
+ghost use Rattle.mos_bytes.specs.Outside.{Writes};
 ghost use Rattle.pcap_source.specs.Captured.{Captured};
 ghost use Rattle.pcap_source.specs.Reading.{Opened};
 ghost use Rattle.worker_pool.specs.declared.worker.Worker.{Worker as Begun};
 ghost use Rattle.worker_pool.specs.GoesOn.{GoesOn};
 ghost use Rattle.worker_pool.specs.Posts.{ArePosts};
+ghost use Rattle.worker_pool.specs.Source.{ReadsOn};
 ghost use Rattle.worker_pool.specs.Streamed.{AreRelays, Leaves, Streamed, Dealt, lane_at, taken_from};
 ghost use Rattle.worker_pool.specs.Relayed.{HaveTaken, LeaveAll, CutAll};
 
@@ -165,10 +167,9 @@ pub(crate) fn stream<R: Wait, L: Recorder + Drop, S: Source, O: Sink, G: Gate>(
         → Leaves (lane_at (length relays.old.items) []) 0 (taken_from relays.old.items) waiting.old before (O.taken out.old)
         → Dealt L.Recorder script.now begins posts.new.items (λ frames. Streamed begins frames relays.new.items waiting.new
         capture.old (S.left source.old) (S.left source.new) before (O.taken out.new) result) }
-    ensures read_fault { HasCauseOf (S.faults source.old) (S.faults source.new) (IsErrOf result PoolError.ReadFault) }
-    ensures write_fault { HasCauseOf (O.faults out.old) (O.faults out.new) (IsErrOf result PoolError.WriteFault) }
-    ensures source_lasts { S.lasting source.new ≡ S.lasting source.old }
-    ensures out_lasts { O.lasting out.new ≡ O.lasting out.old }
+    ensures reads { ReadsOn S.Source capture.old source.old source.new (IsOk result)
+        (IsErrOf result PoolError.ReadFault) }
+    ensures writes { Writes O.Sink out.old out.new (IsErrOf result PoolError.WriteFault) }
     ensures stopped { IsTrue capture.new.is_live → ((result ≡ Err PoolError.WriteFault) ⊎ (result ≡ Err PoolError.NoMemory)) × GoesOn capture.old capture.new (S.left source.old) (S.left source.new) }
 {
     let mut packets = 0;

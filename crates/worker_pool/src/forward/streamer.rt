@@ -36,11 +36,12 @@ pub(crate) struct Streamer<'a, R, S, O, G> {
 
 impl<'a, R: Wait, L: Recorder + Drop, S: Source, O: Sink, G: Gate> Dealer<L>
     for Streamer<'a, R, S, O, G> {
-    ghost use Rattle.std.specs.Prelude.{◌≡◌, ◌⊎◌, [], length, Err, IsErrOf, IsTrue};
-    ghost use Rattle.mos_bytes.specs.Causes.{HasCauseOf};
+    ghost use Rattle.std.specs.Prelude.{◌≡◌, ◌⊎◌, [], length, Err, IsOk, IsErrOf, IsTrue};
+    ghost use Rattle.mos_bytes.specs.Outside.{Writes};
     ghost use Rattle.pcap_source.specs.Reading.{Opened};
     ghost use Rattle.worker_pool.specs.declared.job.PoolError.TheVariants.{ReadFault, WriteFault, NoMemory};
     ghost use Rattle.worker_pool.specs.GoesOn.{GoesOn};
+    ghost use Rattle.worker_pool.specs.Source.{ReadsOn};
     ghost use Rattle.worker_pool.specs.Streamed.{AreRelays, Leaves, Streamed, lane_at, taken_from};
 
     ghost script = { λ d. d.script.now };
@@ -50,10 +51,8 @@ impl<'a, R: Wait, L: Recorder + Drop, S: Source, O: Sink, G: Gate> Dealer<L>
 
     ghost did = { λ d e begins frames result.
         Streamed begins frames e.relays.now.items e.waiting.now d.capture.now (S.left d.source.now) (S.left e.source.now) (O.taken d.out.now) (O.taken e.out.now) result
-        × HasCauseOf (S.faults d.source.now) (S.faults e.source.now) (IsErrOf result ReadFault)
-        × HasCauseOf (O.faults d.out.now) (O.faults e.out.now) (IsErrOf result WriteFault)
-        × (S.lasting e.source.now ≡ S.lasting d.source.now)
-        × (O.lasting e.out.now ≡ O.lasting d.out.now)
+        × ReadsOn S.Source d.capture.now d.source.now e.source.now (IsOk result) (IsErrOf result ReadFault)
+        × Writes O.Sink d.out.now e.out.now (IsErrOf result WriteFault)
         × (e.relays.ghost_name ≡ d.relays.ghost_name) × (e.waiting.ghost_name ≡ d.waiting.ghost_name)
         × (e.source.ghost_name ≡ d.source.ghost_name) × (e.out.ghost_name ≡ d.out.ghost_name)
         × (e.capture.ghost_name ≡ d.capture.ghost_name)

@@ -1,9 +1,12 @@
-use Rattle.std.proofs.Common.{◌+◌, [], ◌∷◌, ◌++◌, Ok, Err, refl, sym, ap, subst, ◌∙◌, arith, le_refl}
+use Rattle.std.proofs.Common.{◌≡◌, ◌≢◌, ◌+◌, [], ◌∷◌, ◌++◌, Ok, Err, refl, sym, ap, subst, ◌∙◌, arith, le_refl}
 use Rattle.std.proofs.lemmas.List.{length-append}
 use Rattle.std.proofs.lemmas.Result.{err_from_is_err_and}
+use Rattle.std.specs.Prelude.{IsErrOf}
+use Rattle.pcap_source.specs.declared.capture.Step.TheVariants.{Frame}
 use Rattle.pcap_source.specs.Reading.{NextGives}
 use Rattle.pcap_source.specs.declared.errors.NextError.TheVariants.{ReadFault}
-use Rattle.worker_pool.proofs.Reading.{HasCause-since, same_error, read_none, read_more, read_tail, read_end, read_refused}
+use Rattle.worker_pool.proofs.Reading.{same_error, read_none, read_more, read_tail, read_end, read_refused, read_cut}
+use Rattle.worker_pool.proofs.Source.{reads_well, reads_ill, no_value, no_error}
 use Rattle.worker_pool.proofs.dispatch.dispatch.Goals as goal
 
 pub loop-frame-init : goal.loop-frame-init
@@ -31,11 +34,18 @@ returns-in_err-next-clause-dispatched g c = λ begins are.
           c.in_err-next.field-0.0 c.in_err-next.ensures.gives read.3;
     })
 
-pub returns-in_err-next-clause-cause : goal.returns-in_err-next-clause-cause
-returns-in_err-next-clause-cause g c =
+pub returns-in_err-next-clause-reads : goal.returns-in_err-next-clause-reads
+returns-in_err-next-clause-reads g c =
+    let at = c.loop-frame in
+    let inv = at.invariant in
+    let new = c.next.new in
     let p = err_from_is_err_and c.from_residual.result c.from_residual.ensures.1 in
-    HasCause-since (g.S.Source.faults c.args.source.now) (g.S.Source.faults c.loop-frame.source) (g.S.Source.faults c.next.new.source) c.loop-frame.invariant.faults c.next.ensures.cause
-    (λ fault. c.in_err-next.was ∙ ap (λ e. Err e) (sym p.2 ∙ same_error p.0 ReadFault c.from_residual.result p.1 fault))
+    let is_fault : IsErrOf c.from_residual.result ReadFault → c.in_err-next.field-0.0 ≡ ReadFault = λ fault. sym p.2 ∙ same_error p.0 ReadFault c.from_residual.result p.1 fault in
+    reads_ill g.S.Source c.args.capture.now c.args.source.now new.source at.source inv.faults inv.lasts c.next.ensures.cause c.next.ensures.lasts (no_value p.0 c.from_residual.result p.1)
+    (λ fault. c.in_err-next.was ∙ ap (λ e. Err e) (is_fault fault))
+    (λ fault bytes told. read_cut c.args.capture.now at.capture new.self bytes inv.read.0 new.frame (g.S.Source.left at.source) (g.S.Source.left new.source)
+    (subst (λ e. NextGives at.capture new.self (g.S.Source.left at.source) (g.S.Source.left new.source) new.frame (Err e)) (is_fault fault) c.in_err-next.ensures.gives)
+    (inv.read.3 bytes told))
 
 pub send_frame-requires-clause-posts : goal.send_frame-requires-clause-posts
 send_frame-requires-clause-posts g c =
@@ -82,9 +92,14 @@ returns-in-Tail-clause-dispatched g c = λ begins are.
       );
     }
 
-pub returns-in-Tail-clause-cause : goal.returns-in-Tail-clause-cause
-returns-in-Tail-clause-cause g c =
-    HasCause-since (g.S.Source.faults c.args.source.now) (g.S.Source.faults c.loop-frame.source) (g.S.Source.faults c.next.new.source) c.loop-frame.invariant.faults c.next.ensures.cause (λ fault. absurd (cc))
+pub returns-in-Tail-clause-reads : goal.returns-in-Tail-clause-reads
+returns-in-Tail-clause-reads g c =
+    let inv = c.loop-frame.invariant in
+    let before = inv.faults in
+    let then = c.next.ensures.cause.later in
+    let stops : c.in_ok-next.field-0 ≢ Frame = λ is. absurd (cc) in
+    reads_well g.S.Source c.args.capture.now c.args.source.now c.next.new.source (omega (arith, before, then)) (c.next.ensures.lasts ∙ inv.lasts)
+    (λ ok. c.in_ok-next.ensures.ended stops) (no_error _ ReadFault)
 
 pub returns-in-End-clause-dispatched : goal.returns-in-End-clause-dispatched
 returns-in-End-clause-dispatched g c = λ begins are.
@@ -102,6 +117,11 @@ returns-in-End-clause-dispatched g c = λ begins are.
       );
     }
 
-pub returns-in-End-clause-cause : goal.returns-in-End-clause-cause
-returns-in-End-clause-cause g c =
-    HasCause-since (g.S.Source.faults c.args.source.now) (g.S.Source.faults c.loop-frame.source) (g.S.Source.faults c.next.new.source) c.loop-frame.invariant.faults c.next.ensures.cause (λ fault. absurd (cc))
+pub returns-in-End-clause-reads : goal.returns-in-End-clause-reads
+returns-in-End-clause-reads g c =
+    let inv = c.loop-frame.invariant in
+    let before = inv.faults in
+    let then = c.next.ensures.cause.later in
+    let stops : c.in_ok-next.field-0 ≢ Frame = λ is. absurd (cc) in
+    reads_well g.S.Source c.args.capture.now c.args.source.now c.next.new.source (omega (arith, before, then)) (c.next.ensures.lasts ∙ inv.lasts)
+    (λ ok. c.in_ok-next.ensures.ended stops) (no_error _ ReadFault)

@@ -1,14 +1,18 @@
 use denote.Exit.{yes}
 use denote.Param.{copied}
 use denote.Param.Send.{param_send, arg_send}
-use Rattle.std.proofs.Common.{length, sym, subst}
+use Rattle.std.proofs.Common.{◌≡◌, ◌∙◌, ⊎_elim, Err, length, refl, sym, ap, subst}
+use Rattle.std.proofs.lemmas.Result.{err_from_is_err_and}
 use Rattle.pcap_source.specs.Capture.{Frames}
 use Rattle.shared_forest.proofs.store_user.StoreUser.TheSendSync as user
 use Rattle.shared_forest.specs.contracts.store_user.StoreUserForestView.TheImpl as view
 use Rattle.lane_core.proofs.Handed.{lane_send}
+use Rattle.worker_pool.specs.declared.job.PoolError.TheVariants.{ReadFault, Heavy}
 use Rattle.worker_pool.specs.Run.{EndsOver}
 use Rattle.worker_pool.specs.Ending.{Concludes}
 use Rattle.worker_pool.proofs.Concluding.{concluded, no_fault, no_write, of_frames}
+use Rattle.worker_pool.proofs.Source.{reads_less, reads_nothing, no_value}
+use Rattle.worker_pool.proofs.Reading.{same_error}
 use Rattle.worker_pool.proofs.lanes.run_lanes.Goals as goal
 
 pub read_team-requires-send-L : goal.read_team-requires-send-L
@@ -37,15 +41,29 @@ returns-clause-whole g c =
 pub returns-clause-read : goal.returns-clause-read
 returns-clause-read g c ok rest is = (c.in_ok-ran.ensures.ran.3 rest is).1
 
-pub returns-clause-cause : goal.returns-clause-cause
-returns-clause-cause g c = record {
-  later = c.in_ok-ran.ensures.cause.later;
-  cause = λ fault.
-      let app = g.A.App.meaning c.args.job.now.app in
-      let ran = c.in_ok-ran.ensures.ran in
-      absurd (no_fault app c.args.job.now.script.now (length c.in_ok-team.team.workers.items) ran.0 c.in_ok-ran.ran.tail c.conclude.result
-      (c.conclude.ensures.ends app ran.0 c.in_ok-team.team.workers.items c.in_ok-team.team.packets.items ran.1 ran.2 c.in_ok-team.ensures.team c.in_ok-team.ensures.keep ran.4) fault);
-}
+pub returns-in_err-team-clause-reads : goal.returns-in_err-team-clause-reads
+returns-in_err-team-clause-reads g c =
+    let p = err_from_is_err_and c.from_residual.result c.from_residual.ensures.1 in
+    reads_nothing g.S.Source c.args.capture.now c.args.source.now c.args.source.now c.from_residual.result (p.1 ∙ ap Err p.2) refl
+
+pub returns-in_err-ran-clause-reads : goal.returns-in_err-ran-clause-reads
+returns-in_err-ran-clause-reads g c =
+    let result = c.from_residual-in_err-ran.result in
+    let e = c.in_err-ran.field-0.0 in
+    let p = err_from_is_err_and result c.from_residual-in_err-ran.ensures.1 in
+    let is : result ≡ Err e = p.1 ∙ ap Err p.2 in
+    reads_less g.S.Source c.args.capture.now c.args.source.now c.read_team.new.source
+    (λ told. absurd (⊎_elim (no_value e result is) (λ heavy. c.in_err-ran.ensures.light (same_error e Heavy result is heavy)) told))
+    (λ fault. ap Err (same_error e ReadFault result is fault)) c.in_err-ran.ensures.reads
+
+pub returns-clause-reads : goal.returns-clause-reads
+returns-clause-reads g c =
+    let app = g.A.App.meaning c.args.job.now.app in
+    let ran = c.in_ok-ran.ensures.ran in
+    reads_less g.S.Source c.args.capture.now c.args.source.now c.read_team.new.source (λ told. refl)
+    (λ fault. absurd (no_fault app c.args.job.now.script.now (length c.in_ok-team.team.workers.items) ran.0 c.in_ok-ran.ran.tail c.conclude.result
+    (c.conclude.ensures.ends app ran.0 c.in_ok-team.team.workers.items c.in_ok-team.team.packets.items ran.1 ran.2 c.in_ok-team.ensures.team c.in_ok-team.ensures.keep ran.4) fault))
+    c.in_ok-ran.ensures.reads
 
 pub returns-clause-no_write : goal.returns-clause-no_write
 returns-clause-no_write g c fault =

@@ -1,17 +1,20 @@
 use denote.Exit.{yes}
 use denote.Param.{copied}
 use denote.Param.Send.{param_send, arg_send}
-use Rattle.std.proofs.Common.{◌∙◌, [], sym, ap, subst, inr, Err, length, ⊎_elim, arith}
+use Rattle.std.proofs.Common.{◌∙◌, [], refl, sym, ap, subst, inl, inr, Err, length, ⊎_elim, arith}
 use Rattle.std.proofs.lemmas.Result.{err_from_is_err_and}
+use Rattle.std.specs.Prelude.{IsErrOf}
+use Rattle.mos_bytes.specs.Outside.{Writes}
 use Rattle.pcap_source.specs.Reading.{frames_at}
 use Rattle.shared_forest.proofs.store_user.StoreUser.TheSendSync as user
 use Rattle.shared_forest.specs.contracts.store_user.StoreUserForestView.TheImpl as view
 use Rattle.lane_core.proofs.Handed.{lane_send}
-use Rattle.worker_pool.specs.declared.job.PoolError.TheVariants.{ReadFault, WriteFault}
+use Rattle.worker_pool.specs.declared.job.PoolError.TheVariants.{WriteFault}
 use Rattle.worker_pool.specs.Forward.{ForwardsOver}
 use Rattle.worker_pool.specs.Streamed.{lane_at}
 use Rattle.worker_pool.proofs.Stopping.{unread, told_last}
 use Rattle.worker_pool.proofs.Forwarding.{run_begins, ended_early, no_fault_early, read_all, rose_before, rose_after}
+use Rattle.worker_pool.proofs.Source.{reads_less, reads_nothing}
 use Rattle.worker_pool.proofs.forward.lanes.forward_lanes.Goals as goal
 
 pub stream_team-requires-send-L : goal.stream_team-requires-send-L
@@ -32,16 +35,6 @@ returns-in_err-waiting-clause-forwards g c = λ rest is.
     let f = frames_at c.args.capture.now rest in
     ended_early app c.args.job.now.script.now c.args.job.now.workers f (g.O.Sink.taken c.args.out.now) c.from_residual-in_err-waiting.result (p.1 ∙ ap Err p.2)
     (c.nothing_is_a_front.ensures.front app c.args.job.now.workers f.frames (g.O.Sink.taken c.args.out.now))
-
-pub returns-in_err-waiting-clause-read_fault : goal.returns-in_err-waiting-clause-read_fault
-returns-in_err-waiting-clause-read_fault g c =
-    let p = err_from_is_err_and c.from_residual-in_err-waiting.result c.from_residual-in_err-waiting.ensures.1 in
-    no_fault_early (g.S.Source.faults c.args.source.now) ReadFault c.from_residual-in_err-waiting.result (p.1 ∙ ap Err p.2) (λ e. cc)
-
-pub returns-in_err-waiting-clause-write_fault : goal.returns-in_err-waiting-clause-write_fault
-returns-in_err-waiting-clause-write_fault g c =
-    let p = err_from_is_err_and c.from_residual-in_err-waiting.result c.from_residual-in_err-waiting.ensures.1 in
-    no_fault_early (g.O.Sink.faults c.args.out.now) WriteFault c.from_residual-in_err-waiting.result (p.1 ∙ ap Err p.2) (λ e. cc)
 
 pub returns-in_err-read-clause-forwards : goal.returns-in_err-read-clause-forwards
 returns-in_err-read-clause-forwards g c = λ rest is.
@@ -68,22 +61,23 @@ returns-clause-read g c = λ ok rest is.
     let s = c.in_ok-read.ensures.served in
     read_all s.frames c.args.capture.now (g.S.Source.left c.args.source.now) (g.S.Source.left c.stream_team.new.source) c.in_ok-read.read (c.leave.ensures.ok ok) s.done.stops rest is
 
-pub returns-clause-read_fault : goal.returns-clause-read_fault
-returns-clause-read_fault g c = record {
-  later = c.in_ok-read.ensures.read_fault.later;
-  cause = λ fault. c.in_ok-read.ensures.read_fault.cause (c.leave.ensures.read_fault fault);
-}
+pub returns-clause-reads : goal.returns-clause-reads
+returns-clause-reads g c =
+    reads_less g.S.Source c.args.capture.now c.args.source.now c.stream_team.new.source c.leave.ensures.ok c.leave.ensures.read_fault c.in_ok-read.ensures.reads
 
-pub returns-clause-write_fault : goal.returns-clause-write_fault
-returns-clause-write_fault g c =
-    let before = c.in_ok-read.ensures.write_fault in
+pub returns-clause-writes : goal.returns-clause-writes
+returns-clause-writes g c =
+    let before = c.in_ok-read.ensures.writes in
     let then = c.leave.ensures.counts in
     record {
-      later = let e = before.later in omega (arith, e, then);
-      cause = λ fault. ⊎_elim
-          (λ told. rose_before (g.O.Sink.faults c.args.out.now) (g.O.Sink.faults c.stream_team.new.out) (g.O.Sink.faults c.leave.new.out) (before.cause told) then)
-          (λ rose. rose_after (g.O.Sink.faults c.args.out.now) (g.O.Sink.faults c.stream_team.new.out) (g.O.Sink.faults c.leave.new.out) before.later rose)
-          (c.leave.ensures.write_fault fault);
+      cause = record {
+        later = let e = before.cause.later in omega (arith, e, then);
+        cause = λ fault. ⊎_elim
+            (λ told. rose_before (g.O.Sink.faults c.args.out.now) (g.O.Sink.faults c.stream_team.new.out) (g.O.Sink.faults c.leave.new.out) (before.cause.cause told) then)
+            (λ rose. rose_after (g.O.Sink.faults c.args.out.now) (g.O.Sink.faults c.stream_team.new.out) (g.O.Sink.faults c.leave.new.out) before.cause.later rose)
+            (c.leave.ensures.write_fault fault);
+      };
+      lasts = c.leave.ensures.lasts ∙ before.lasts;
     }
 
 pub returns-in_err-waiting-clause-never_heavy : goal.returns-in_err-waiting-clause-never_heavy
@@ -123,3 +117,38 @@ pub returns-clause-stopped : goal.returns-clause-stopped
 returns-clause-stopped g c = λ live.
     let stopped = c.in_ok-read.ensures.stopped live in
     (told_last c.in_ok-read.read c.leave.result stopped.0 c.leave.ensures.error, stopped.1)
+
+pub returns-in_err-team-clause-reads : goal.returns-in_err-team-clause-reads
+returns-in_err-team-clause-reads g c =
+    let p = err_from_is_err_and c.from_residual.result c.from_residual.ensures.1 in
+    reads_less g.S.Source c.args.capture.now c.args.source.now c.args.source.now inl (λ fault. fault)
+    (reads_nothing g.S.Source c.args.capture.now c.args.source.now c.args.source.now c.from_residual.result (p.1 ∙ ap Err p.2) refl)
+
+pub returns-in_err-team-clause-writes : goal.returns-in_err-team-clause-writes
+returns-in_err-team-clause-writes g c =
+    let p = err_from_is_err_and c.from_residual.result c.from_residual.ensures.1 in
+    record { cause = no_fault_early (g.O.Sink.faults c.args.out.now) WriteFault c.from_residual.result (p.1 ∙ ap Err p.2) (λ e. cc); lasts = refl }
+
+pub returns-in_err-waiting-clause-reads : goal.returns-in_err-waiting-clause-reads
+returns-in_err-waiting-clause-reads g c =
+    let p = err_from_is_err_and c.from_residual-in_err-waiting.result c.from_residual-in_err-waiting.ensures.1 in
+    reads_less g.S.Source c.args.capture.now c.args.source.now c.args.source.now inl (λ fault. fault)
+    (reads_nothing g.S.Source c.args.capture.now c.args.source.now c.args.source.now c.from_residual-in_err-waiting.result (p.1 ∙ ap Err p.2) refl)
+
+pub returns-in_err-waiting-clause-writes : goal.returns-in_err-waiting-clause-writes
+returns-in_err-waiting-clause-writes g c =
+    let p = err_from_is_err_and c.from_residual-in_err-waiting.result c.from_residual-in_err-waiting.ensures.1 in
+    record { cause = no_fault_early (g.O.Sink.faults c.args.out.now) WriteFault c.from_residual-in_err-waiting.result (p.1 ∙ ap Err p.2) (λ e. cc); lasts = refl }
+
+pub returns-in_err-read-clause-reads : goal.returns-in_err-read-clause-reads
+returns-in_err-read-clause-reads g c =
+    let p = err_from_is_err_and c.from_residual-in_err-read.result c.from_residual-in_err-read.ensures.1 in
+    reads_less g.S.Source c.args.capture.now c.args.source.now c.stream_team.new.source inl (λ fault. fault)
+    (reads_nothing g.S.Source c.args.capture.now c.args.source.now c.stream_team.new.source c.from_residual-in_err-read.result (p.1 ∙ ap Err p.2) (sym c.in_err-read.ensures.unchanged.1))
+
+pub returns-in_err-read-clause-writes : goal.returns-in_err-read-clause-writes
+returns-in_err-read-clause-writes g c =
+    let p = err_from_is_err_and c.from_residual-in_err-read.result c.from_residual-in_err-read.ensures.1 in
+    let same = c.in_err-read.ensures.unchanged.2 in
+    subst (λ (o : g.row.O.Denot). Writes g.O.Sink c.args.out.now o (IsErrOf c.from_residual-in_err-read.result WriteFault)) (sym same)
+    (record { cause = no_fault_early (g.O.Sink.faults c.args.out.now) WriteFault c.from_residual-in_err-read.result (p.1 ∙ ap Err p.2) (λ e. cc); lasts = refl })

@@ -1,10 +1,14 @@
-use Rattle.std.proofs.Common.{◌≤◌, ◌+◌, [], ◌∷◌, ◌++◌, length, Ok, Err, refl, ap, subst, ◌∙◌, le_refl, arith}
+use Rattle.std.proofs.Common.{◌≡◌, ◌≢◌, ◌≤◌, ◌+◌, [], ◌∷◌, ◌++◌, length, Ok, Err, refl, sym, ap, subst, ◌∙◌, le_refl, arith}
 use Rattle.std.proofs.lemmas.List.{length-append}
 use Rattle.std.proofs.lemmas.Result.{err_from_is_err_and}
+use Rattle.std.specs.Prelude.{IsErrOf}
 use Rattle.pcap_source.specs.Reading.{NextGives}
-use Rattle.worker_pool.proofs.Reading.{read_none, read_more, read_tail, read_end, read_refused}
+use Rattle.pcap_source.specs.declared.capture.Step.TheVariants.{Frame}
+use Rattle.pcap_source.specs.declared.errors.NextError.TheVariants.{ReadFault as NextFault}
+use Rattle.worker_pool.proofs.Reading.{HasCause-since, same_error, read_none, read_more, read_tail, read_end, read_refused, read_cut}
+use Rattle.worker_pool.proofs.Source.{reads_well, reads_ill, no_value, no_error, none_read, none_written, fault_read}
 use Rattle.worker_pool.proofs.Leaving.{come_none, come_on, come_sent, stops_refused, same_refusal, told_whole, told_early}
-use Rattle.worker_pool.specs.declared.job.PoolError.TheVariants.{WriteFault}
+use Rattle.worker_pool.specs.declared.job.PoolError.TheVariants.{ReadFault, WriteFault}
 use Rattle.worker_pool.proofs.forward.stream.stream.Goals as goal
 
 pub loop-spare-init : goal.loop-spare-init
@@ -148,3 +152,88 @@ returns-in-End-clause-streamed g c = λ begins before posts_are relays_are l.
     (come_on g.L.Recorder c.args.script.now c.args.posts.now.items c.args.relays.now.items c.args.waiting.now (g.O.Sink.taken c.args.out.now) read.0 at.posts.items new.posts.items at.relays.items new.relays.items
     at.waiting new.waiting (g.O.Sink.taken at.out) (g.O.Sink.taken new.out) read.2 c.await_place.ensures.posts c.await_place.ensures.takes (c.in_ok-await_place.ensures.leaves (λ is. absurd (cc))))
     (read.1, λ bytes told. read_end c.args.capture.now bytes read.0 at.capture c.next.new.self c.next.new.frame (g.S.Source.left at.source) last gives (read.3 bytes told))
+
+pub returns-in_err-await_place-clause-reads : goal.returns-in_err-await_place-clause-reads
+returns-in_err-await_place-clause-reads g c =
+    let at = c.loop-spare in
+    let inv = at.invariant in
+    let e = c.in_err-await_place.field-0.0 in
+    let p = err_from_is_err_and c.from_residual.result c.from_residual.ensures.1 in
+    reads_well g.S.Source c.args.capture.now c.args.source.now at.source inv.read_faults inv.source_lasts (λ ok. absurd (no_value p.0 c.from_residual.result p.1 ok))
+    (none_read e c.from_residual.result (p.1 ∙ ap Err p.2) c.in_err-await_place.ensures.only)
+
+pub returns-in_err-await_place-clause-writes : goal.returns-in_err-await_place-clause-writes
+returns-in_err-await_place-clause-writes g c =
+    let at = c.loop-spare in
+    let inv = at.invariant in
+    let p = err_from_is_err_and c.from_residual.result c.from_residual.ensures.1 in
+    record {
+      cause = HasCause-since (g.O.Sink.faults c.args.out.now) (g.O.Sink.faults at.out) (g.O.Sink.faults c.await_place.new.out) inv.write_faults c.await_place.ensures.cause
+          (λ fault. c.in_err-await_place.was ∙ ap Err (sym p.2 ∙ same_error p.0 WriteFault c.from_residual.result p.1 fault));
+      lasts = c.await_place.ensures.lasts ∙ inv.out_lasts;
+    }
+
+pub returns-in_err-next-clause-reads : goal.returns-in_err-next-clause-reads
+returns-in_err-next-clause-reads g c =
+    let at = c.loop-spare in
+    let inv = at.invariant in
+    let new = c.next.new in
+    let result = c.from_residual-in_err-next.result in
+    let e = c.in_err-next.field-0.0 in
+    let p = err_from_is_err_and result c.from_residual-in_err-next.ensures.1 in
+    let is_fault : IsErrOf result ReadFault → e ≡ NextFault = fault_read e result (p.1 ∙ ap Err p.2) in
+    reads_ill g.S.Source c.args.capture.now c.args.source.now new.source at.source inv.read_faults inv.source_lasts c.next.ensures.cause c.next.ensures.lasts (no_value p.0 result p.1)
+    (λ fault. c.in_err-next.was ∙ ap Err (is_fault fault))
+    (λ fault bytes told. read_cut c.args.capture.now at.capture new.self bytes inv.read.0 new.frame (g.S.Source.left at.source) (g.S.Source.left new.source)
+    (subst (λ e. NextGives at.capture new.self (g.S.Source.left at.source) (g.S.Source.left new.source) new.frame (Err e)) (is_fault fault) c.in_err-next.ensures.gives)
+    (inv.read.3 bytes told))
+
+pub returns-in_err-next-clause-writes : goal.returns-in_err-next-clause-writes
+returns-in_err-next-clause-writes g c =
+    let at = c.loop-spare in
+    let inv = at.invariant in
+    let result = c.from_residual-in_err-next.result in
+    let p = err_from_is_err_and result c.from_residual-in_err-next.ensures.1 in
+    record {
+      cause = HasCause-since (g.O.Sink.faults c.args.out.now) (g.O.Sink.faults at.out) (g.O.Sink.faults c.await_place.new.out) inv.write_faults c.await_place.ensures.cause
+          (λ fault. absurd (none_written c.in_err-next.field-0.0 result (p.1 ∙ ap Err p.2) fault));
+      lasts = c.await_place.ensures.lasts ∙ inv.out_lasts;
+    }
+
+pub returns-in-Tail-clause-reads : goal.returns-in-Tail-clause-reads
+returns-in-Tail-clause-reads g c =
+    let inv = c.loop-spare.invariant in
+    let before = inv.read_faults in
+    let then = c.next.ensures.cause.later in
+    let stops : c.in_ok-next.field-0 ≢ Frame = λ is. absurd (cc) in
+    reads_well g.S.Source c.args.capture.now c.args.source.now c.next.new.source (omega (arith, before, then)) (c.next.ensures.lasts ∙ inv.source_lasts)
+    (λ ok. c.in_ok-next.ensures.ended stops) (no_error _ ReadFault)
+
+pub returns-in-Tail-clause-writes : goal.returns-in-Tail-clause-writes
+returns-in-Tail-clause-writes g c =
+    let at = c.loop-spare in
+    let inv = at.invariant in
+    record {
+      cause = HasCause-since (g.O.Sink.faults c.args.out.now) (g.O.Sink.faults at.out) (g.O.Sink.faults c.await_place.new.out) inv.write_faults c.await_place.ensures.cause
+          (λ fault. absurd (no_error _ WriteFault fault));
+      lasts = c.await_place.ensures.lasts ∙ inv.out_lasts;
+    }
+
+pub returns-in-End-clause-reads : goal.returns-in-End-clause-reads
+returns-in-End-clause-reads g c =
+    let inv = c.loop-spare.invariant in
+    let before = inv.read_faults in
+    let then = c.next.ensures.cause.later in
+    let stops : c.in_ok-next.field-0 ≢ Frame = λ is. absurd (cc) in
+    reads_well g.S.Source c.args.capture.now c.args.source.now c.next.new.source (omega (arith, before, then)) (c.next.ensures.lasts ∙ inv.source_lasts)
+    (λ ok. c.in_ok-next.ensures.ended stops) (no_error _ ReadFault)
+
+pub returns-in-End-clause-writes : goal.returns-in-End-clause-writes
+returns-in-End-clause-writes g c =
+    let at = c.loop-spare in
+    let inv = at.invariant in
+    record {
+      cause = HasCause-since (g.O.Sink.faults c.args.out.now) (g.O.Sink.faults at.out) (g.O.Sink.faults c.await_place.new.out) inv.write_faults c.await_place.ensures.cause
+          (λ fault. absurd (no_error _ WriteFault fault));
+      lasts = c.await_place.ensures.lasts ∙ inv.out_lasts;
+    }

@@ -9,6 +9,6 @@ returns g c = record {
         frames = dealt.frames;
         few = dealt.few;
         posts_are = dealt.posts_are;
-        done = (dealt.done, c.stream.ensures.read_fault, c.stream.ensures.write_fault, c.stream.ensures.source_lasts, c.stream.ensures.out_lasts, refl, refl, refl, refl, refl, c.stream.ensures.stopped);
+        done = (dealt.done, c.stream.ensures.reads, c.stream.ensures.writes, refl, refl, refl, refl, refl, c.stream.ensures.stopped);
       };
 }
