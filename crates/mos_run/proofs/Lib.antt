@@ -1,4 +1,3 @@
-pub mod Apps
 pub mod Events
 pub mod Following
 pub mod Closing

@@ -2,6 +2,7 @@
 #![tactic(auto)]
 
 mod advance;
+mod chosen;
 mod close;
 mod gathered;
 pub mod laws;

@@ -10,28 +10,15 @@ ghost use Rattle.mos_run.specs.Told.{commands_in, text_under};
 ghost use Rattle.mos_run.specs.Refusal.{status_of};
 
 use crate::RunError;
-use app_api::{LogApp, Reg, presets_of};
-use app_firewall::FirewallApp;
-use app_traffic::{AcctApp, RexmitApp};
+use crate::chosen::Chosen;
+use app_api::presets_of;
 use control_script::{Script, parse_script};
 use mos_bytes::{FetchError, Shelf};
-use std::alloc::{AllocError, Global};
-use words::{AppKind, Name, Settings};
+use std::alloc::Global;
+use words::{Name, Settings};
 
 /// The most bytes that a script may have.
 const MOST_BYTES: usize = 262_144;
-
-// The presets of an application.
-fn presets(alloc: Global, app: AppKind) -> Result<Vec<Reg>, AllocError>
-    ensures { IfOk result (λ presets. presets.items ≡ (meaning_of app).presets) }
-{
-    match app {
-        AppKind::Log => presets_of(alloc, &LogApp),
-        AppKind::Acct => presets_of(alloc, &AcctApp),
-        AppKind::Rexmit => presets_of(alloc, &RexmitApp),
-        AppKind::Firewall => presets_of(alloc, &FirewallApp),
-    }
-}
 
 // The text of the script; where none is named, it is empty.
 fn text_of<H: Shelf>(
@@ -68,7 +55,7 @@ pub(crate) fn script_of<H: Shelf>(
     ensures cause { HasCauseOf (H.faults shelf.old) (H.faults shelf.new) (IsErrOf result RunError.ReadFault) }
     ensures lasts { H.lasting shelf.new ≡ H.lasting shelf.old }
 {
-    let presets = presets(alloc, settings.app)?;
+    let presets = presets_of(alloc, &Chosen(settings.app))?;
     let text = text_of(alloc, shelf, &settings.script)?;
     let script = parse_script(alloc, &text, &presets)?;
     Ok(script)

@@ -2,7 +2,6 @@
 
 ghost use Rattle.std.specs.Prelude.{◌≡◌, ◌≢◌, ◌<◌, ◌≤◌, [], ℕ, List, true, false, Some, None, IsOk, IsTrue, IsFalse, IfSome, IfErr, IsErrOf};
 ghost use Rattle.mos_bytes.specs.Causes.{HasCauseOf};
-ghost use Rattle.app_api.specs.App.{IsLawful};
 ghost use Rattle.forest_versions.specs.Lawful.{are_lawful};
 ghost use Rattle.forest_versions.specs.State.{start};
 ghost use Rattle.control_script.specs.Order.{commands_of, are_in_order};
@@ -12,14 +11,13 @@ ghost use Rattle.mos_run.specs.Outcome.{is_forward, output_of};
 ghost use Rattle.mos_run.specs.Refusal.{status_of};
 ghost use Rattle.mos_run.specs.Told.{bytes_under};
 
+use crate::chosen::Chosen;
 use crate::close::write_end;
 use crate::laws::what_one_worker_has_is_allowed;
 use crate::output::output_of;
 use crate::replay::Plan;
 use crate::{RunError, VersionList};
-use app_api::{App, LogApp};
-use app_firewall::FirewallApp;
-use app_traffic::{AcctApp, RexmitApp};
+use app_api::App;
 use capture_maker::Maker;
 use control_script::Script;
 use lane_core::laws::records_are_tidy;
@@ -29,7 +27,7 @@ use pcap_source::Capture;
 use std::alloc::Global;
 use std::sync::Wait;
 use std::thread::Threads;
-use words::{AppKind, Settings};
+use words::Settings;
 use worker_laws::packets::packets_of_a_capture_rise;
 use worker_laws::runs::a_run_has_its_versions;
 use worker_pool::{Gate, Job, forward_lanes, run_lanes};
@@ -53,7 +51,6 @@ fn report_on<
 ) -> Result<VersionList, RunError>
     requires some { 1 ≤ workers }
     requires most { workers ≤ 16 }
-    requires app { IsLawful (A.meaning app) }
     requires lawful { IsTrue (are_lawful (start (A.meaning app).presets) (commands_of plan.now.script.now)) }
     requires order { IsTrue (are_in_order plan.now.script.now) }
     requires kept { is_forward plan.now.output ≡ false }
@@ -154,7 +151,6 @@ fn run_on<
 ) -> Result<VersionList, RunError>
     requires some { 1 ≤ workers }
     requires most { workers ≤ 16 }
-    requires app { IsLawful (A.meaning app) }
     requires lawful { IsTrue (are_lawful (start (A.meaning app).presets) (commands_of plan.now.script.now)) }
     requires order { IsTrue (are_in_order plan.now.script.now) }
     ensures runs { (bytes : List ℕ) → S.left source.old ≡ Some bytes
@@ -171,44 +167,6 @@ fn run_on<
         return forward_on(rt, alloc, plan, app, workers, source, out, gate);
     }
     report_on(rt, alloc, plan, app, workers, source, out, gate)
-}
-
-// Runs the application of this name so.
-fn run_app_on<
-    R: Threads + Wait + Sync + Send + Copy + Drop + 'static,
-    S: Source,
-    O: Sink,
-    G: Gate + Sync,
->(
-    rt: &R,
-    alloc: Global,
-    plan: &Plan<'_>,
-    app: AppKind,
-    workers: usize,
-    source: &mut S,
-    out: &mut O,
-    gate: &G,
-) -> Result<VersionList, RunError>
-    requires some { 1 ≤ workers }
-    requires most { workers ≤ 16 }
-    requires lawful { IsTrue (are_lawful (start (meaning_of app).presets) (commands_of plan.now.script.now)) }
-    requires order { IsTrue (are_in_order plan.now.script.now) }
-    ensures runs { (bytes : List ℕ) → S.left source.old ≡ Some bytes
-        → RunsWith (meaning_of app) plan.now.script.now workers plan.now.output bytes (O.taken out.old) (O.taken out.new) result }
-    ensures read { IsOk result → (bytes : List ℕ) → S.left source.old ≡ Some bytes → S.left source.new ≡ Some [] }
-    ensures silent { is_forward plan.now.output ≡ false → IfErr result (λ e. e ≢ RunError.WriteFault → e ≢ RunError.NoMemory → out.new ≡ out.old) }
-    ensures late { IfErr result (λ e. 2 < status_of e) }
-    ensures read_fault { HasCauseOf (S.faults source.old) (S.faults source.new) (IsErrOf result RunError.ReadFault) }
-    ensures write_fault { HasCauseOf (O.faults out.old) (O.faults out.new) (IsErrOf result RunError.WriteFault) }
-    ensures source_lasts { S.lasting source.new ≡ S.lasting source.old }
-    ensures out_lasts { O.lasting out.new ≡ O.lasting out.old }
-{
-    match app {
-        AppKind::Log => run_on(rt, alloc, plan, LogApp, workers, source, out, gate),
-        AppKind::Acct => run_on(rt, alloc, plan, AcctApp, workers, source, out, gate),
-        AppKind::Rexmit => run_on(rt, alloc, plan, RexmitApp, workers, source, out, gate),
-        AppKind::Firewall => run_on(rt, alloc, plan, FirewallApp, workers, source, out, gate),
-    }
 }
 
 /// Replays a capture, or the one that is made, with the settings' workers, 1 to 16, each in a thread of its own, and writes
@@ -254,21 +212,13 @@ pub(crate) fn run_several<
         natives,
         output: output_of(settings),
     };
+    let app = Chosen(settings.app);
     let workers = settings.workers;
     match settings.make {
         Some(n) => {
             let mut maker = Maker::new(n);
-            run_app_on(
-                rt,
-                alloc,
-                &plan,
-                settings.app,
-                workers,
-                &mut maker,
-                out,
-                gate,
-            )
+            run_on(rt, alloc, &plan, app, workers, &mut maker, out, gate)
         }
-        None => run_app_on(rt, alloc, &plan, settings.app, workers, capture, out, gate),
+        None => run_on(rt, alloc, &plan, app, workers, capture, out, gate),
     }
 }

@@ -12,45 +12,16 @@ ghost use Rattle.mos_run.specs.Refusal.{status_of};
 ghost use Rattle.mos_run.specs.Run.{RunsAs};
 ghost use Rattle.mos_run.specs.Told.{bytes_under};
 
+use crate::chosen::Chosen;
 use crate::output::output_of;
 use crate::replay::{Plan, replay};
 use crate::{RunError, VersionList};
-use app_api::LogApp;
-use app_firewall::FirewallApp;
-use app_traffic::{AcctApp, RexmitApp};
 use capture_maker::Maker;
 use control_script::Script;
 use mos_bytes::{Sink, Source};
 use native_filters::NativeBook;
 use std::alloc::Global;
-use words::{AppKind, Settings};
-
-// Runs the application of this name over a capture.
-fn run_app<S: Source, O: Sink>(
-    alloc: Global,
-    app: AppKind,
-    plan: &Plan<'_>,
-    source: &mut S,
-    out: &mut O,
-) -> Result<VersionList, RunError>
-    requires lawful { IsTrue (are_lawful (start (meaning_of app).presets) (commands_of plan.now.script.now)) }
-    ensures runs { (bytes : List ℕ) → S.left source.old ≡ Some bytes
-        → RunsAs (outcome (meaning_of app) plan.now.script.now (packets_of plan.now.script.now) plan.now.output bytes) (O.taken out.old) (O.taken out.new) result }
-    ensures read { IsOk result → (bytes : List ℕ) → S.left source.old ≡ Some bytes → S.left source.new ≡ Some [] }
-    ensures silent { is_forward plan.now.output ≡ false → IfErr result (λ e. e ≢ RunError.WriteFault → e ≢ RunError.NoMemory → out.new ≡ out.old) }
-    ensures late { IfErr result (λ e. 2 < status_of e) }
-    ensures read_fault { HasCauseOf (S.faults source.old) (S.faults source.new) (IsErrOf result RunError.ReadFault) }
-    ensures write_fault { HasCauseOf (O.faults out.old) (O.faults out.new) (IsErrOf result RunError.WriteFault) }
-    ensures source_lasts { S.lasting source.new ≡ S.lasting source.old }
-    ensures out_lasts { O.lasting out.new ≡ O.lasting out.old }
-{
-    match app {
-        AppKind::Log => replay(alloc, plan, LogApp, source, out),
-        AppKind::Acct => replay(alloc, plan, AcctApp, source, out),
-        AppKind::Rexmit => replay(alloc, plan, RexmitApp, source, out),
-        AppKind::Firewall => replay(alloc, plan, FirewallApp, source, out),
-    }
-}
+use words::Settings;
 
 /// Replays a capture, or the one that is made, with one worker, and writes what the settings ask for. Answers the version of
 /// each record, in order of name: before each packet the commands up to its ceiling are given.
@@ -84,8 +55,9 @@ pub fn run_one<S: Source, O: Sink>(
         natives,
         output: output_of(settings),
     };
+    let app = Chosen(settings.app);
     match settings.make {
-        Some(n) => run_app(alloc, settings.app, &plan, &mut Maker::new(n), out),
-        None => run_app(alloc, settings.app, &plan, capture, out),
+        Some(n) => replay(alloc, &plan, app, &mut Maker::new(n), out),
+        None => replay(alloc, &plan, app, capture, out),
     }
 }

@@ -40,7 +40,7 @@ write_end-requires g c = record {
       let app = g.A.App.meaning c.args.app in
       let whole = c.in_ok-end.ensures.whole in
       subst (λ l. tidy l ≡ true) (sym c.as_slice.ensures)
-      (whole_is_tidy c.records_are_tidy.ensures c.packets_of_a_capture_rise.ensures.run app plan.script.now c.args.workers whole.1 whole.0 c.in_ok-end.end c.requires.app c.requires.lawful whole.2);
+      (whole_is_tidy c.records_are_tidy.ensures c.packets_of_a_capture_rise.ensures.run app plan.script.now c.args.workers whole.1 whole.0 c.in_ok-end.end (g.met.A.App.lawful c.args.app) c.requires.lawful whole.2);
 }
 
 pub returns-in_err-write_end-clause-runs : goal.returns-in_err-write_end-clause-runs
