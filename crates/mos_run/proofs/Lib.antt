@@ -8,5 +8,6 @@ pub mod Scripts
 pub mod Ceilings
 pub mod Outcomes
 pub mod Below
+pub mod Gathering
 pub mod Joined
 pub mod Forwarding

@@ -1,20 +1,13 @@
 //! The run of one worker.
 
-ghost use Rattle.std.specs.Prelude.{◌≡◌, ◌≢◌, ◌<◌, ◌≤◌, [], ℕ, List, false, Some, None, IsOk, IsTrue, IfSome, IfErr, IsErrOf};
-ghost use Rattle.mos_bytes.specs.Causes.{HasCauseOf};
-ghost use Rattle.forest_versions.specs.Lawful.{are_lawful};
-ghost use Rattle.forest_versions.specs.State.{start};
-ghost use Rattle.control_script.specs.Order.{commands_of};
+ghost use Rattle.std.specs.Prelude.{◌≤◌, IfSome};
 ghost use Rattle.mos_run.specs.Apps.{meaning_of};
-ghost use Rattle.mos_run.specs.Records.{packets_of};
-ghost use Rattle.mos_run.specs.Outcome.{is_forward, outcome, output_of};
-ghost use Rattle.mos_run.specs.Refusal.{status_of};
-ghost use Rattle.mos_run.specs.Run.{RunsAs};
-ghost use Rattle.mos_run.specs.Told.{bytes_under};
+ghost use Rattle.mos_run.specs.Outcome.{output_of};
+ghost use Rattle.mos_run.specs.Runs.{MayRun, RunsAlone, RunsUnderSettings};
 
-use crate::chosen::Chosen;
 use crate::output::output_of;
-use crate::replay::{Plan, replay};
+use crate::plan::Plan;
+use crate::replay::replay;
 use crate::{RunError, VersionList};
 use capture_maker::Maker;
 use control_script::Script;
@@ -37,27 +30,21 @@ pub fn run_one<S: Source, O: Sink>(
     out: &mut O,
     natives: &NativeBook,
 ) -> Result<VersionList, RunError>
-    requires lawful { IsTrue (are_lawful (start (meaning_of settings.now.app).presets) (commands_of script.now)) }
+    requires lawful { MayRun (meaning_of settings.now.app) script.now }
     requires few { IfSome settings.now.make (λ n. n ≤ 100000) }
-    ensures runs { (bytes : List ℕ) → bytes_under settings.now.make (S.left capture.old) ≡ Some bytes
-        → RunsAs (outcome (meaning_of settings.now.app) script.now (packets_of script.now) (output_of settings.now) bytes) (O.taken out.old) (O.taken out.new) result }
-    ensures read { IsOk result → settings.now.make ≡ None → (bytes : List ℕ) → S.left capture.old ≡ Some bytes → S.left capture.new ≡ Some [] }
-    ensures made { settings.now.make ≢ None → capture.new ≡ capture.old }
-    ensures silent { is_forward (output_of settings.now) ≡ false → IfErr result (λ e. e ≢ RunError.WriteFault → e ≢ RunError.NoMemory → out.new ≡ out.old) }
-    ensures late { IfErr result (λ e. 2 < status_of e) }
-    ensures read_fault { HasCauseOf (S.faults capture.old) (S.faults capture.new) (IsErrOf result RunError.ReadFault) }
-    ensures write_fault { HasCauseOf (O.faults out.old) (O.faults out.new) (IsErrOf result RunError.WriteFault) }
-    ensures capture_lasts { S.lasting capture.new ≡ S.lasting capture.old }
-    ensures out_lasts { O.lasting out.new ≡ O.lasting out.old }
+    ensures ran { RunsUnderSettings S.Source O.Sink settings.now
+        (RunsAlone (meaning_of settings.now.app) script.now (output_of settings.now))
+        capture.old capture.new out.old out.new result }
 {
     let plan = Plan {
+        app: settings.app,
         script,
         natives,
         output: output_of(settings),
+        workers: 1,
     };
-    let app = Chosen(settings.app);
     match settings.make {
-        Some(n) => replay(alloc, &plan, app, &mut Maker::new(n), out),
-        None => replay(alloc, &plan, app, capture, out),
+        Some(n) => replay(alloc, &plan, &mut Maker::new(n), out),
+        None => replay(alloc, &plan, capture, out),
     }
 }
