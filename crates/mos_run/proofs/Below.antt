@@ -26,7 +26,6 @@ use Rattle.mos_run.specs.Outcome.{is_heavy, refused, outcome, outcome_by, follow
 use Rattle.mos_run.specs.Told.{Told, Refused, Asked, outcome_under}
 use Rattle.mos_run.specs.Run.{Finishes, FinishesUnder, StopsAs, UnderSome}
 use Rattle.mos_run.proofs.Closing.{some-closing}
-use Rattle.mos_run.proofs.Outcomes.{under_more}
 
 -- ---- what ends well writes something
 
@@ -85,9 +84,9 @@ may_fail t e versions old new done (inr memory) = record { versions = versions; 
 -- ---- what the sink below took
 
 -- a front of the text
-front-below : {S : Type 0} (taken : S → Option (List ℕ)) (out start : S) (first given handed now : Option (List ℕ)) (text : List ℕ) → start ≡ out → first ≡ taken out
+pub front_below : {S : Type 0} (taken : S → Option (List ℕ)) (out start : S) (first given handed now : Option (List ℕ)) (text : List ℕ) → start ≡ out → first ≡ taken out
     → AppendsFront first given text → Keeps given handed → IsBetween (taken start) now handed → AppendsFront (taken out) now text
-front-below taken out start first given handed now text same none part kept between =
+front_below taken out start first given handed now text same none part kept between =
     let more : AppendsFront (taken out) handed text = record {
       front = part.front;
       rest = part.rest;
@@ -95,12 +94,6 @@ front-below taken out start first given handed now text same none part kept betw
       whole = part.whole;
     } in
     AppendsFront-between (taken out) now handed text more (subst (λ s. IsBetween (taken s) now handed) same between)
-
-pub front_below : {S : Type 0} (taken : S → Option (List ℕ)) (out start : S) (first given handed now : Option (List ℕ)) (t : Told) → start ≡ out → first ≡ taken out
-    → UnderSome t (λ o. AppendsFront first given o.text) → Keeps given handed → IsBetween (taken start) now handed → UnderSome t (λ o. AppendsFront (taken out) now o.text)
-front_below taken out start first given handed now t same none part kept between =
-    under_more t (λ o. AppendsFront first given o.text) (λ o. AppendsFront (taken out) now o.text)
-    (λ o front. front-below taken out start first given handed now o.text same none front kept between) part
 
 -- all of it, once nothing is held
 pub done_below : (t : Told) (versions : List ℕ) (start first given handed now : Option (List ℕ)) → first ≡ start → FinishesUnder t versions first given → Keeps given handed → now ≡ handed

@@ -1,4 +1,3 @@
-pub mod Apps
 pub mod Events
 pub mod Following
 pub mod Closing
@@ -9,5 +8,6 @@ pub mod Scripts
 pub mod Ceilings
 pub mod Outcomes
 pub mod Below
+pub mod Gathering
 pub mod Joined
 pub mod Forwarding

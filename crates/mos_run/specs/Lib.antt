@@ -5,7 +5,9 @@ pub mod Summary
 pub mod Refusal
 pub mod Outcome
 pub mod Told
+pub mod Outside
 pub mod Reading
 pub mod Run
+pub mod Runs
 pub mod Lanes
 pub mod Laws

@@ -14,6 +14,7 @@ use Rattle.lane_core.specs.Records.{VersionedPacket, records, verdict_on}
 use Rattle.lane_core.specs.Run.{LaneEvent, versioned_from, commands_of as given_in}
 use Rattle.lane_core.specs.Shown.{weight}
 use Rattle.lane_core.specs.Lane.{IsAfter}
+use Rattle.lane_core.specs.declared.recorder.Recorder.{Ghosts as Recorder}
 use Rattle.mos_run.specs.declared.output.Output.{Output}
 use Rattle.mos_run.specs.Records.{control_at, packets_of, records_of}
 use Rattle.lane_rings.specs.Forwarded.{bytes_under as left_by}
@@ -50,6 +51,20 @@ pub record IsRead (app : Meaning) (script : List Stamped) (output : Output) (giv
   pub follows : failed ≡ None → Follows script given stands (packets_of script frames)
   pub light : failed ≡ None → is_heavy app script (packets_of script) output frames ≡ false
   pub heavy : failed ≢ None → is_heavy app script (packets_of script) output frames ≡ true
+
+-- the same of a lane
+module _ {L : Type 0} (g : Recorder L) (script : List Stamped) where
+  abbrev pub LaneIsUnder : L → Type 0
+  LaneIsUnder lane = IsUnder (g.app lane) script (g.given lane) (g.control lane)
+
+  abbrev pub LaneIsReady : L → ℕ → Type 0
+  LaneIsReady lane number = IsReady (g.app lane) script (g.given lane) (g.control lane) (g.last lane) number
+
+  abbrev pub LaneFollows : L → List VersionedPacket → Type 0
+  LaneFollows lane ps = Follows script (g.given lane) (g.stands lane) ps
+
+  abbrev pub LaneHasRead : Output → L → List Captured → Type 0
+  LaneHasRead output lane frames = IsRead (g.app lane) script output (g.given lane) (g.failed lane) (g.stands lane) frames
 
 -- what one frame more adds to what is written while the capture is read
 abbrev pub gained : Meaning → List Stamped → Output → List Captured → Captured → List ℕ

@@ -1,15 +1,19 @@
 -- What the top call promises.
-use Rattle.std.specs.Prelude.{◌≡◌, ◌≢◌, ◌⊎◌, ℕ, Bool, false, List, [], map, ⊤, Option, Some, None, Result, Ok, Err, IsOk}
+use Rattle.std.specs.Prelude.{◌≡◌, ◌≢◌, ◌⊎◌, ◌≤◌, ℕ, Bool, false, List, [], Option, Some, None, Result, Ok, Err, IsOk}
 use Rattle.std.specs.Io.KnownBytes.{Appends}
-use Rattle.mos_bytes.specs.Causes.{Rose}
+use Rattle.mos_bytes.specs.Causes.{Rose, HasCauseOf}
+use Rattle.mos_bytes.specs.declared.source.Source.{Ghosts as Source}
+use Rattle.mos_bytes.specs.declared.shelf.Shelf.{Ghosts as Shelf}
+use Rattle.mos_bytes.specs.declared.sink.Sink.{Ghosts as Sink}
 use Rattle.mos_bytes.specs.Writes.{AppendsFront}
 use Rattle.words.specs.Words.{words_settings}
 use Rattle.words.specs.declared.settings.Settings.{Settings}
+use Rattle.mos_run.specs.declared.ended.Ended.{Ended}
 use Rattle.mos_run.specs.declared.refusal.RunError.{RunError}
 use Rattle.mos_run.specs.declared.refusal.RunError.TheVariants.{ReadFault, WriteFault, NoMemory}
 use Rattle.mos_run.specs.Outcome.{Outcome, is_forward, output_of}
 use Rattle.mos_run.specs.Refusal.{status_of, refusal_text}
-use Rattle.mos_run.specs.Told.{Told, Allows, outcome_under}
+use Rattle.mos_run.specs.Told.{Told, Allows, outcome_under, told as told_by}
 
 -- the run ends well, under these versions, and all of its text was written, and nothing else
 pub record Finishes (o : Outcome) (versions : List ℕ) (old new : Option (List ℕ)) : Type 0 where
@@ -88,3 +92,39 @@ Makes words = (s : Settings) × (words_settings words ≡ Some s) × (s.make ≢
 -- the capture was read whole, where none is made
 abbrev pub ReadsCapture : List (List ℕ) → Option (List ℕ) → Option (List ℕ) → Type 0
 ReadsCapture words old new = (s : Settings) → words_settings words ≡ Some s → s.make ≡ None → (bytes : List ℕ) → old ≡ Some bytes → new ≡ Some []
+
+-- How a run under these words ended, and what it did: it found the capture as s and left it as t, the shelf as h and i, the output as o and
+-- p, and err as e and f.
+module _ {S H O E : Type 0} (source : Source S) (shelf : Shelf H) (sink : Sink O) (err : Sink E) where
+  pub record MosRun (words : List (List ℕ)) (s t : S) (h i : H) (o p : O) (e f : E) (ended : Ended) : Type 0 where
+    -- where all was written, the capture was read whole
+    pub read : ended.status ≡ 0 → ReadsCapture words (source.left s) (source.left t)
+    -- every other status has its cause; only want of memory has none
+    pub ends : (x : Told) → told_by words (shelf.content h) (source.left s) ≡ Some x → UnderSome x (λ outcome. EndsAs outcome ended.status)
+    pub usage : words_settings words ≡ None → ((ended.status ≡ 1) ⊎ (ended.status ≡ 6)) × (t ≡ s) × (i ≡ h) × (p ≡ o)
+    pub only_usage : ended.status ≡ 1 → words_settings words ≡ None
+    pub read_fault : ended.status ≡ 4 → Rose (source.faults s) (source.faults t) ⊎ Rose (shelf.faults h) (shelf.faults i)
+    pub write_fault : HasCauseOf (sink.faults o) (sink.faults p) (ended.status ≡ 5)
+    pub capture_counts : source.faults s ≤ source.faults t
+    pub shelf_counts : shelf.faults h ≤ shelf.faults i
+    -- what isn't touched
+    pub unread : (ended.status ≡ 1) ⊎ (ended.status ≡ 2) → t ≡ s
+    pub made : Makes words → t ≡ s
+    pub unasked : NamesNone words → (i ≡ h) × (ended.status ≢ 2)
+    -- what is written where the output isn't whole
+    pub silent : forwards (words_settings words) ≡ false → ComesBefore ended.status → p ≡ o
+    pub front : (x : Told) → told_by words (shelf.content h) (source.left s) ≡ Some x
+        → UnderSome x (λ outcome. AppendsFront (sink.taken o) (sink.taken p) outcome.text)
+    pub no_versions : ended.status ≢ 0 → ended.versions ≡ []
+    -- what is told on err
+    pub told_nothing : ended.status ≡ 0 → f ≡ e
+    pub told : ended.status ≢ 0 → Tells (told_by words (shelf.content h) (source.left s)) ended.status (err.taken e) (err.taken f) (err.faults e) (err.faults f)
+    -- what ends well under all versions that it may have is written whole, or memory is refused, unless the outside fails
+    pub complete : (x : Told) → told_by words (shelf.content h) (source.left s) ≡ Some x → EndsWell x
+        → ¬ Rose (source.faults s) (source.faults t) → ¬ Rose (shelf.faults h) (shelf.faults i) → ¬ Rose (sink.faults o) (sink.faults p)
+        → (ended.status ≡ 0) ⊎ (ended.status ≡ 6)
+    -- what no call of the outside changes stays
+    pub capture_lasts : source.lasting t ≡ source.lasting s
+    pub shelf_lasts : shelf.lasting i ≡ shelf.lasting h
+    pub out_lasts : sink.lasting p ≡ sink.lasting o
+    pub err_lasts : err.lasting f ≡ err.lasting e

@@ -1,13 +1,10 @@
 //! A lane under a script: before each packet it takes the commands that the packet may see.
 
-ghost use Rattle.std.specs.Prelude.{◌≡◌, ◌≢◌, ◌+◌, ◌<◌, ◌≤◌, [], ◌∷◌, ◌++◌, List, length, true, None, Some, Err, IsOk, IsTrue, OnOk, IfOk};
-ghost use Rattle.forest_versions.specs.Lawful.{are_lawful};
-ghost use Rattle.forest_versions.specs.State.{start};
-ghost use Rattle.control_script.specs.Order.{commands_of};
-ghost use Rattle.control_script.specs.Versions.{ceil};
+ghost use Rattle.std.specs.Prelude.{◌≡◌, ◌≢◌, ◌+◌, ◌<◌, ◌≤◌, [], ◌∷◌, ◌++◌, List, length, true, None, Err, IsOk, OnOk, IfOk};
 ghost use Rattle.lane_core.specs.Records.{VersionedPacket, records, verdict_on};
 ghost use Rattle.mos_run.specs.Records.{control_at};
-ghost use Rattle.mos_run.specs.Reading.{IsUnder, IsReady, Follows, IsOver, packet_of};
+ghost use Rattle.mos_run.specs.Reading.{LaneIsUnder, LaneIsReady, LaneFollows, IsOver, packet_of};
+ghost use Rattle.mos_run.specs.Runs.{MayRun};
 
 use app_api::Verdict;
 use control_script::Script;
@@ -25,16 +22,16 @@ fn give<L: Recorder>(
     version: u32,
 ) -> Result<(), AllocError>
     requires good { L.failed lane.old ≡ None }
-    requires lawful { IsTrue (are_lawful (start (L.app lane.old).presets) (commands_of script.now)) }
-    requires under { IsUnder (L.app lane.old) script.now (L.given lane.old) (L.control lane.old) }
+    requires lawful { MayRun (L.app lane.old) script.now }
+    requires under { LaneIsUnder L.Recorder script.now lane.old }
     requires before { L.given lane.old ≤ version }
     requires within { version ≤ length script.now }
     requires few { version ≤ 4096 }
     ensures good { IsOk result → L.failed lane.new ≡ None }
     ensures given { IsOk result → L.given lane.new ≡ version }
-    ensures under { IsOk result → IsUnder (L.app lane.new) script.now (L.given lane.new) (L.control lane.new) }
-    ensures follows { IsOk result → (ps : List VersionedPacket) → Follows script.now (L.given lane.old) (L.stands lane.old) ps
-        → Follows script.now (L.given lane.new) (L.stands lane.new) ps }
+    ensures under { IsOk result → LaneIsUnder L.Recorder script.now lane.new }
+    ensures follows { IsOk result → (ps : List VersionedPacket)
+        → LaneFollows L.Recorder script.now lane.old ps → LaneFollows L.Recorder script.now lane.new ps }
     ensures newest { L.last lane.new ≡ L.last lane.old }
     ensures app { L.app lane.new ≡ L.app lane.old }
     ensures keeps { L.keeps lane.new ≡ L.keeps lane.old }
@@ -63,21 +60,25 @@ pub(crate) fn advance<L: Recorder>(
     frame: &Frame,
 ) -> Result<Verdict, LaneError>
     requires good { L.failed lane.old ≡ None }
-    requires lawful { IsTrue (are_lawful (start (L.app lane.old).presets) (commands_of script.now)) }
-    requires ready { IsReady (L.app lane.old) script.now (L.given lane.old) (L.control lane.old) (L.last lane.old) number }
+    requires lawful { MayRun (L.app lane.old) script.now }
+    requires ready { LaneIsReady L.Recorder script.now lane.old number }
     requires bound { number < 1048576 }
     ensures ok { OnOk result (L.failed lane.new ≡ None) }
     ensures failed { result ≡ Err LaneError.Heavy → L.failed lane.new ≢ None }
-    ensures follows { OnOk result ((ps : List VersionedPacket) → Follows script.now (L.given lane.old) (L.stands lane.old) ps
-        → Follows script.now (L.given lane.new) (L.stands lane.new) (ps ++ packet_of script.now number frame.now ∷ [])) }
-    ensures verdict { IfOk result (λ verdict. (ps : List VersionedPacket) → Follows script.now (L.given lane.old) (L.stands lane.old) ps
-        → verdict ≡ verdict_on (L.app lane.old) (control_at (L.app lane.old) script.now) (packet_of script.now number frame.now)
+    ensures follows { OnOk result ((ps : List VersionedPacket) → LaneFollows L.Recorder script.now lane.old ps
+        → LaneFollows L.Recorder script.now lane.new (ps ++ packet_of script.now number frame.now ∷ [])) }
+    ensures verdict { IfOk result (λ verdict. (ps : List VersionedPacket)
+        → LaneFollows L.Recorder script.now lane.old ps
+        → verdict ≡ verdict_on (L.app lane.old) (control_at (L.app lane.old) script.now)
+        (packet_of script.now number frame.now)
         (records (L.app lane.old) (control_at (L.app lane.old) script.now) ps)) }
-    ensures light { OnOk result (L.keeps lane.old ≡ true → (ps : List VersionedPacket) → Follows script.now (L.given lane.old) (L.stands lane.old) ps
+    ensures light { OnOk result (L.keeps lane.old ≡ true → (ps : List VersionedPacket)
+        → LaneFollows L.Recorder script.now lane.old ps
         → IsOver (L.app lane.old) script.now (ps ++ packet_of script.now number frame.now ∷ []) → ⊥) }
-    ensures heavy { result ≡ Err LaneError.Heavy → (L.keeps lane.old ≡ true) × ((ps : List VersionedPacket) → Follows script.now (L.given lane.old) (L.stands lane.old) ps
+    ensures heavy { result ≡ Err LaneError.Heavy → (L.keeps lane.old ≡ true) × ((ps : List VersionedPacket)
+        → LaneFollows L.Recorder script.now lane.old ps
         → IsOver (L.app lane.old) script.now (ps ++ packet_of script.now number frame.now ∷ [])) }
-    ensures ready { result ≢ Err LaneError.NoMemory → IsReady (L.app lane.new) script.now (L.given lane.new) (L.control lane.new) (L.last lane.new) (number + 1) }
+    ensures ready { result ≢ Err LaneError.NoMemory → LaneIsReady L.Recorder script.now lane.new (number + 1) }
     ensures app { L.app lane.new ≡ L.app lane.old }
     ensures keeps { L.keeps lane.new ≡ L.keeps lane.old }
 {

@@ -1,21 +1,18 @@
 //! The end of a run: its records, and what is written of them.
 
-ghost use Rattle.std.specs.Prelude.{◌≡◌, ◌≢◌, ◌⊎◌, ◌++◌, ℕ, List, Option, length, not, true, false, IsTrue, IfOk, IfErr, IsErrOf, OnOk};
+ghost use Rattle.std.specs.Prelude.{◌≡◌, ◌≢◌, ◌⊎◌, ℕ, List, Option, length, not, true, false, IsTrue, IfErr, IsErrOf};
 ghost use Rattle.std.specs.Io.KnownBytes.{Appends};
-ghost use Rattle.mos_bytes.specs.Causes.{HasCauseOf};
 ghost use Rattle.mos_bytes.specs.Writes.{WriteAdds};
 ghost use Rattle.report_text.specs.Tidy.{tidy};
 ghost use Rattle.pcap_source.specs.Captured.{Captured};
-ghost use Rattle.forest_versions.specs.Lawful.{are_lawful};
-ghost use Rattle.forest_versions.specs.State.{start};
-ghost use Rattle.control_script.specs.Order.{commands_of};
 ghost use Rattle.app_api.specs.App.{IsLawful};
 ghost use Rattle.mos_run.specs.Records.{packets_of};
-ghost use Rattle.mos_run.specs.Outcome.{is_forward, streamed, weighed, closing};
-ghost use Rattle.mos_run.specs.Reading.{IsRead};
-ghost use Rattle.mos_run.specs.Run.{RunsAs};
+ghost use Rattle.mos_run.specs.Outcome.{is_forward, streamed, closing};
+ghost use Rattle.mos_run.specs.Outside.{Writes};
+ghost use Rattle.mos_run.specs.Reading.{LaneHasRead};
+ghost use Rattle.mos_run.specs.Runs.{EndsAlone, MayRun};
 
-use crate::replay::Plan;
+use crate::plan::Plan;
 use crate::summary::write_summary;
 use crate::{Output, RunError, VersionList};
 use lane_core::Recorder;
@@ -36,9 +33,9 @@ pub(crate) fn write_end<O: Sink>(
     requires tidy { output ≡ Output.Report → IsTrue (tidy records.now) }
     ensures text { WriteAdds (O.taken out.old) (O.taken out.new) result (closing output records.now totals.now) }
     ensures silent { is_forward output ≡ true → out.new ≡ out.old }
-    ensures only { IfErr result (λ e. ((e ≡ RunError.WriteFault) × (is_forward output ≡ false)) ⊎ (e ≡ RunError.NoMemory)) }
-    ensures cause { HasCauseOf (O.faults out.old) (O.faults out.new) (IsErrOf result RunError.WriteFault) }
-    ensures lasts { O.lasting out.new ≡ O.lasting out.old }
+    ensures only { IfErr result
+        (λ e. ((e ≡ RunError.WriteFault) × (is_forward output ≡ false)) ⊎ (e ≡ RunError.NoMemory)) }
+    ensures to { Writes O.Sink out.old out.new (IsErrOf result RunError.WriteFault) }
 {
     match output {
         Output::Report => write_report(alloc, out, records, totals)?,
@@ -58,18 +55,21 @@ pub(crate) fn close<L: Recorder + Drop, O: Sink>(
     out: &mut O,
 ) -> Result<VersionList, RunError>
     requires app { IsLawful (L.app lane) }
-    requires lawful { IsTrue (are_lawful (start (L.app lane).presets) (commands_of plan.now.script.now)) }
+    requires lawful { MayRun (L.app lane) plan.now.script.now }
     requires keeps { L.keeps lane ≡ not (is_forward plan.now.output) }
     requires read { (frames : List Captured) × (length frames ≡ packets)
-        × IsRead (L.app lane) plan.now.script.now plan.now.output (L.given lane) (L.failed lane) (L.stands lane) frames }
-    ensures ends { (header : List ℕ) (frames : List Captured) (before : Option (List ℕ)) → length frames ≡ packets
-        → IsRead (L.app lane) plan.now.script.now plan.now.output (L.given lane) (L.failed lane) (L.stands lane) frames
-        → Appends before (O.taken out.old) (streamed (L.app lane) plan.now.script.now (packets_of plan.now.script.now) plan.now.output header frames)
-        → RunsAs (weighed (L.app lane) plan.now.script.now (packets_of plan.now.script.now) plan.now.output header frames tail) before (O.taken out.new) result }
-    ensures silent { IfErr result (λ e. e ≢ RunError.WriteFault → e ≢ RunError.NoMemory → out.new ≡ out.old) }
-    ensures only { IfErr result (λ e. (e ≡ RunError.WriteFault) ⊎ (e ≡ RunError.NoMemory) ⊎ (e ≡ RunError.Heavy)) }
-    ensures cause { HasCauseOf (O.faults out.old) (O.faults out.new) (IsErrOf result RunError.WriteFault) }
-    ensures lasts { O.lasting out.new ≡ O.lasting out.old }
+        × LaneHasRead L.Recorder plan.now.script.now plan.now.output lane frames }
+    ensures ends { (header : List ℕ) (frames : List Captured) (before : Option (List ℕ))
+        → length frames ≡ packets → LaneHasRead L.Recorder plan.now.script.now plan.now.output lane frames
+        → Appends before (O.taken out.old)
+        (streamed (L.app lane) plan.now.script.now (packets_of plan.now.script.now) plan.now.output header frames)
+        → EndsAlone (L.app lane) plan.now.script.now plan.now.output header frames tail
+        before (O.taken out.new) result }
+    ensures silent { IfErr result
+        (λ e. e ≢ RunError.WriteFault → e ≢ RunError.NoMemory → out.new ≡ out.old) }
+    ensures only { IfErr result
+        (λ e. (e ≡ RunError.WriteFault) ⊎ (e ≡ RunError.NoMemory) ⊎ (e ≡ RunError.Heavy)) }
+    ensures to { Writes O.Sink out.old out.new (IsErrOf result RunError.WriteFault) }
 {
     later_commands_change_none();
     records_are_tidy();

@@ -2,10 +2,13 @@
 #![tactic(auto)]
 
 mod advance;
+mod chosen;
 mod close;
+mod ended;
 mod gathered;
 pub mod laws;
 pub mod output;
+mod plan;
 pub mod refusal;
 mod replay;
 pub mod run;
@@ -15,10 +18,11 @@ mod single;
 mod summary;
 mod telling;
 
+pub use ended::{Ended, refuse};
 pub use gathered::{GatheredRun, run_gathered};
 pub use output::Output;
 pub use refusal::{RunError, ScriptFault};
-pub use run::{Ended, refuse, run_mos};
+pub use run::run_mos;
 pub use single::run_one;
 pub use words::{AppKind, Emit, Name, Settings, WordsError, read_words};
 pub use worker_pool::{Gate, OpenGate, VersionList};

@@ -1,46 +1,39 @@
 //! Reads a capture front to back, and hands its packets to a lane.
 
-ghost use Rattle.std.specs.Prelude.{◌≡◌, ◌≢◌, ◌⊎◌, ◌+◌, ◌<◌, ◌∷◌, ◌++◌, [], ℕ, List, Option, length, not, true, false, if◌then◌else◌, Some, IsOk, IsTrue, IfErr, IsErrOf, OnOk};
+ghost use Rattle.std.specs.Prelude.{◌≡◌, ◌≢◌, ◌⊎◌, ◌+◌, ◌<◌, ◌∷◌, ◌++◌, [], ℕ, List, Option, length, not, true, false, if◌then◌else◌};
+ghost use Rattle.std.specs.Prelude.{Some, IsOk, IfErr, IsErrOf};
 ghost use Rattle.std.specs.Io.KnownBytes.{Appends, Keeps};
-ghost use Rattle.mos_bytes.specs.Causes.{HasCause, HasCauseOf};
+ghost use Rattle.mos_bytes.specs.Causes.{HasCause};
 ghost use Rattle.mos_bytes.specs.Writes.{WriteAdds};
 ghost use Rattle.pcap_source.specs.Captured.{Captured};
 ghost use Rattle.pcap_source.specs.Reading.{Opened};
-ghost use Rattle.forest_versions.specs.Lawful.{are_lawful};
-ghost use Rattle.forest_versions.specs.State.{start};
-ghost use Rattle.control_script.specs.Order.{commands_of};
-ghost use Rattle.app_api.specs.App.{IsLawful};
-ghost use Rattle.mos_run.specs.Records.{packets_of};
 ghost use Rattle.lane_rings.specs.Forwarded.{bytes_under as left_by};
-ghost use Rattle.mos_run.specs.Outcome.{is_forward, outcome, streamed};
-ghost use Rattle.mos_run.specs.Reading.{IsReady, IsRead, Replaying, gained};
+ghost use Rattle.app_api.specs.App.{IsLawful};
+ghost use Rattle.mos_run.specs.Apps.{meaning_of};
+ghost use Rattle.mos_run.specs.Records.{packets_of};
+ghost use Rattle.mos_run.specs.Outcome.{is_forward, streamed};
+ghost use Rattle.mos_run.specs.Outside.{Reads, Writes};
+ghost use Rattle.mos_run.specs.Reading.{LaneIsReady, LaneHasRead, Replaying, gained};
 ghost use Rattle.mos_run.specs.Refusal.{status_of};
-ghost use Rattle.mos_run.specs.Run.{RunsAs};
+ghost use Rattle.mos_run.specs.Runs.{MayRun, Runs, RunsAlone};
 
 use crate::advance::advance;
+use crate::chosen::Chosen;
 use crate::close::close;
+use crate::plan::Plan;
 use crate::{Output, RunError, VersionList};
-use app_api::{App, Verdict};
-use control_script::Script;
+use app_api::Verdict;
 use lane_core::laws::{last_packet_is_added, weight_never_falls};
 use lane_core::{Lane, LaneError, Recorder};
 use mos_bytes::{Failed, Sink, Source};
-use native_filters::NativeBook;
 use pcap_source::{Capture, Frame, Step};
 use shared_forest::Table;
 use std::alloc::Global;
 
-/// What a run does with the packets of a capture.
-#[derive(Drop)]
-pub(crate) struct Plan<'a> {
-    pub(crate) script: &'a Script,
-    pub(crate) natives: &'a NativeBook,
-    pub(crate) output: Output,
-}
-
 // Hands the capture's header on, where packets are.
 fn write_front<O: Sink>(output: Output, capture: &Capture, out: &mut O) -> Result<(), Failed>
-    ensures text { WriteAdds (O.taken out.old) (O.taken out.new) result (if is_forward output then capture.now.header else []) }
+    ensures text { WriteAdds (O.taken out.old) (O.taken out.new) result
+        (if is_forward output then capture.now.header else []) }
     ensures silent { is_forward output ≡ false → IsOk result × (out.new ≡ out.old) }
     ensures cause { HasCause (O.faults out.old) (O.faults out.new) result }
     ensures lasts { O.lasting out.new ≡ O.lasting out.old }
@@ -59,7 +52,8 @@ fn write_passed<O: Sink>(
     frame: &Frame,
     out: &mut O,
 ) -> Result<(), Failed>
-    ensures text { WriteAdds (O.taken out.old) (O.taken out.new) result (if is_forward output then left_by verdict frame.now else []) }
+    ensures text { WriteAdds (O.taken out.old) (O.taken out.new) result
+        (if is_forward output then left_by verdict frame.now else []) }
     ensures silent { is_forward output ≡ false → IsOk result × (out.new ≡ out.old) }
     ensures cause { HasCause (O.faults out.old) (O.faults out.new) result }
     ensures lasts { O.lasting out.new ≡ O.lasting out.old }
@@ -102,21 +96,22 @@ fn take<L: Recorder, O: Sink>(
     frame: &Frame,
     out: &mut O,
 ) -> Result<(), RunError>
-    requires lawful { IsTrue (are_lawful (start (L.app lane.old).presets) (commands_of plan.now.script.now)) }
-    requires ready { IsReady (L.app lane.old) plan.now.script.now (L.given lane.old) (L.control lane.old) (L.last lane.old) number }
+    requires lawful { MayRun (L.app lane.old) plan.now.script.now }
+    requires ready { LaneIsReady L.Recorder plan.now.script.now lane.old number }
     requires bound { number < 1048576 }
     requires keeps { L.keeps lane.old ≡ not (is_forward plan.now.output) }
-    ensures ready { IsOk result → IsReady (L.app lane.new) plan.now.script.now (L.given lane.new) (L.control lane.new) (L.last lane.new) (number + 1) }
+    ensures ready { IsOk result → LaneIsReady L.Recorder plan.now.script.now lane.new (number + 1) }
     ensures reads { IsOk result → (frames : List Captured) → length frames ≡ number
-        → IsRead (L.app lane.old) plan.now.script.now plan.now.output (L.given lane.old) (L.failed lane.old) (L.stands lane.old) frames
-        → IsRead (L.app lane.new) plan.now.script.now plan.now.output (L.given lane.new) (L.failed lane.new) (L.stands lane.new) (frames ++ frame.now ∷ []) }
+        → LaneHasRead L.Recorder plan.now.script.now plan.now.output lane.old frames
+        → LaneHasRead L.Recorder plan.now.script.now plan.now.output lane.new (frames ++ frame.now ∷ []) }
     ensures writes { (frames : List Captured) → length frames ≡ number
-        → IsRead (L.app lane.old) plan.now.script.now plan.now.output (L.given lane.old) (L.failed lane.old) (L.stands lane.old) frames
-        → WriteAdds (O.taken out.old) (O.taken out.new) result (gained (L.app lane.old) plan.now.script.now plan.now.output frames frame.now) }
+        → LaneHasRead L.Recorder plan.now.script.now plan.now.output lane.old frames
+        → WriteAdds (O.taken out.old) (O.taken out.new) result
+        (gained (L.app lane.old) plan.now.script.now plan.now.output frames frame.now) }
     ensures silent { is_forward plan.now.output ≡ false → out.new ≡ out.old }
-    ensures only { IfErr result (λ e. ((e ≡ RunError.WriteFault) × (is_forward plan.now.output ≡ true)) ⊎ (e ≡ RunError.NoMemory)) }
-    ensures cause { HasCauseOf (O.faults out.old) (O.faults out.new) (IsErrOf result RunError.WriteFault) }
-    ensures lasts { O.lasting out.new ≡ O.lasting out.old }
+    ensures only { IfErr result
+        (λ e. ((e ≡ RunError.WriteFault) × (is_forward plan.now.output ≡ true)) ⊎ (e ≡ RunError.NoMemory)) }
+    ensures to { Writes O.Sink out.old out.new (IsErrOf result RunError.WriteFault) }
     ensures app { L.app lane.new ≡ L.app lane.old }
     ensures keeps { L.keeps lane.new ≡ L.keeps lane.old }
 {
@@ -143,21 +138,22 @@ fn read_on<L: Recorder + Drop, S: Source, O: Sink>(
     out: &mut O,
 ) -> Result<VersionList, RunError>
     requires app { IsLawful (L.app lane) }
-    requires lawful { IsTrue (are_lawful (start (L.app lane).presets) (commands_of plan.now.script.now)) }
+    requires lawful { MayRun (L.app lane) plan.now.script.now }
     requires keeps { L.keeps lane ≡ not (is_forward plan.now.output) }
     requires opened { Opened capture }
-    requires ready { IsReady (L.app lane) plan.now.script.now (L.given lane) (L.control lane) (L.last lane) 0 }
-    requires read { IsRead (L.app lane) plan.now.script.now plan.now.output (L.given lane) (L.failed lane) (L.stands lane) [] }
+    requires ready { LaneIsReady L.Recorder plan.now.script.now lane 0 }
+    requires read { LaneHasRead L.Recorder plan.now.script.now plan.now.output lane [] }
     ensures runs { (bytes : List ℕ) (before : Option (List ℕ)) → Replaying bytes (S.left source.old) capture []
-        → Appends before (O.taken out.old) (streamed (L.app lane) plan.now.script.now (packets_of plan.now.script.now) plan.now.output capture.header [])
-        → RunsAs (outcome (L.app lane) plan.now.script.now (packets_of plan.now.script.now) plan.now.output bytes) before (O.taken out.new) result }
-    ensures read { IsOk result → (bytes : List ℕ) → Replaying bytes (S.left source.old) capture [] → S.left source.new ≡ Some [] }
-    ensures silent { is_forward plan.now.output ≡ false → IfErr result (λ e. e ≢ RunError.WriteFault → e ≢ RunError.NoMemory → out.new ≡ out.old) }
+        → Appends before (O.taken out.old)
+        (streamed (L.app lane) plan.now.script.now (packets_of plan.now.script.now) plan.now.output capture.header [])
+        → RunsAlone (L.app lane) plan.now.script.now plan.now.output bytes before (O.taken out.new) result }
+    ensures read { IsOk result → (bytes : List ℕ) → Replaying bytes (S.left source.old) capture []
+        → S.left source.new ≡ Some [] }
+    ensures silent { is_forward plan.now.output ≡ false
+        → IfErr result (λ e. e ≢ RunError.WriteFault → e ≢ RunError.NoMemory → out.new ≡ out.old) }
     ensures late { IfErr result (λ e. 2 < status_of e) }
-    ensures read_fault { HasCauseOf (S.faults source.old) (S.faults source.new) (IsErrOf result RunError.ReadFault) }
-    ensures write_fault { HasCauseOf (O.faults out.old) (O.faults out.new) (IsErrOf result RunError.WriteFault) }
-    ensures source_lasts { S.lasting source.new ≡ S.lasting source.old }
-    ensures out_lasts { O.lasting out.new ≡ O.lasting out.old }
+    ensures from { Reads S.Source source.old source.new (IsErrOf result RunError.ReadFault) }
+    ensures to { Writes O.Sink out.old out.new (IsErrOf result RunError.WriteFault) }
 {
     let mut capture = capture;
     let mut lane = lane;
@@ -176,27 +172,25 @@ fn read_on<L: Recorder + Drop, S: Source, O: Sink>(
     }
 }
 
-/// Runs an application over a capture, and answers the version of each record.
-pub(crate) fn replay<A: App + Drop, S: Source, O: Sink>(
+/// Runs over a capture with one worker, and answers the version of each record.
+pub(crate) fn replay<S: Source, O: Sink>(
     alloc: Global,
     plan: &Plan<'_>,
-    app: A,
     source: &mut S,
     out: &mut O,
 ) -> Result<VersionList, RunError>
-    requires lawful { IsTrue (are_lawful (start (A.meaning app).presets) (commands_of plan.now.script.now)) }
-    ensures runs { (bytes : List ℕ) → S.left source.old ≡ Some bytes
-        → RunsAs (outcome (A.meaning app) plan.now.script.now (packets_of plan.now.script.now) plan.now.output bytes) (O.taken out.old) (O.taken out.new) result }
-    ensures read { IsOk result → (bytes : List ℕ) → S.left source.old ≡ Some bytes → S.left source.new ≡ Some [] }
-    ensures silent { is_forward plan.now.output ≡ false → IfErr result (λ e. e ≢ RunError.WriteFault → e ≢ RunError.NoMemory → out.new ≡ out.old) }
-    ensures late { IfErr result (λ e. 2 < status_of e) }
-    ensures read_fault { HasCauseOf (S.faults source.old) (S.faults source.new) (IsErrOf result RunError.ReadFault) }
-    ensures write_fault { HasCauseOf (O.faults out.old) (O.faults out.new) (IsErrOf result RunError.WriteFault) }
-    ensures source_lasts { S.lasting source.new ≡ S.lasting source.old }
-    ensures out_lasts { O.lasting out.new ≡ O.lasting out.old }
+    requires lawful { MayRun (meaning_of plan.now.app) plan.now.script.now }
+    ensures ran { Runs S.Source O.Sink plan.now.output
+        (RunsAlone (meaning_of plan.now.app) plan.now.script.now plan.now.output)
+        source.old source.new out.old out.new result }
 {
     let capture = Capture::open(source)?;
     write_front(plan.output, &capture, out)?;
-    let lane = Lane::new(alloc, app, Table::new(alloc), !plan.output.is_forward())?;
+    let lane = Lane::new(
+        alloc,
+        Chosen(plan.app),
+        Table::new(alloc),
+        !plan.output.is_forward(),
+    )?;
     read_on(alloc, plan, lane, capture, source, out)
 }

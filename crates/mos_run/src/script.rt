@@ -1,37 +1,23 @@
 //! The script of a run.
 
 ghost use Rattle.std.specs.Prelude.{◌≡◌, ◌⊎◌, ◌<◌, ◌≤◌, ℕ, List, length, Some, None, Ok, Err, IsOk, IfOk, IfErr, IsTrue, IsErrOf};
-ghost use Rattle.mos_bytes.specs.Causes.{HasCauseOf};
-ghost use Rattle.forest_versions.specs.Lawful.{are_lawful};
-ghost use Rattle.forest_versions.specs.State.{start};
-ghost use Rattle.control_script.specs.Order.{commands_of, are_in_order};
+ghost use Rattle.control_script.specs.Order.{are_in_order};
 ghost use Rattle.mos_run.specs.Apps.{meaning_of};
+ghost use Rattle.mos_run.specs.Outside.{Fetches};
 ghost use Rattle.mos_run.specs.Told.{commands_in, text_under};
 ghost use Rattle.mos_run.specs.Refusal.{status_of};
+ghost use Rattle.mos_run.specs.Runs.{MayRun};
 
 use crate::RunError;
-use app_api::{LogApp, Reg, presets_of};
-use app_firewall::FirewallApp;
-use app_traffic::{AcctApp, RexmitApp};
+use crate::chosen::Chosen;
+use app_api::presets_of;
 use control_script::{Script, parse_script};
 use mos_bytes::{FetchError, Shelf};
-use std::alloc::{AllocError, Global};
-use words::{AppKind, Name, Settings};
+use std::alloc::Global;
+use words::{Name, Settings};
 
 /// The most bytes that a script may have.
 const MOST_BYTES: usize = 262_144;
-
-// The presets of an application.
-fn presets(alloc: Global, app: AppKind) -> Result<Vec<Reg>, AllocError>
-    ensures { IfOk result (λ presets. presets.items ≡ (meaning_of app).presets) }
-{
-    match app {
-        AppKind::Log => presets_of(alloc, &LogApp),
-        AppKind::Acct => presets_of(alloc, &AcctApp),
-        AppKind::Rexmit => presets_of(alloc, &RexmitApp),
-        AppKind::Firewall => presets_of(alloc, &FirewallApp),
-    }
-}
 
 // The text of the script; where none is named, it is empty.
 fn text_of<H: Shelf>(
@@ -39,12 +25,13 @@ fn text_of<H: Shelf>(
     shelf: &mut H,
     name: &Option<Name>,
 ) -> Result<Vec<u8>, FetchError>
-    ensures text { IfOk result (λ bytes. (text : List ℕ) → text_under name.now (H.content shelf.old) ≡ Some text → bytes.items ≡ text) }
+    ensures text { IfOk result (λ bytes. (text : List ℕ) → text_under name.now (H.content shelf.old) ≡ Some text
+        → bytes.items ≡ text) }
     ensures within { IfOk result (λ bytes. length bytes.items ≤ 262144) }
-    ensures too_long { result ≡ Err FetchError.TooLong → (text : List ℕ) → text_under name.now (H.content shelf.old) ≡ Some text → 262144 < length text }
+    ensures too_long { result ≡ Err FetchError.TooLong
+        → (text : List ℕ) → text_under name.now (H.content shelf.old) ≡ Some text → 262144 < length text }
     ensures unasked { name.now ≡ None → IsOk result × (shelf.new ≡ shelf.old) }
-    ensures cause { HasCauseOf (H.faults shelf.old) (H.faults shelf.new) (IsErrOf result FetchError.Failed) }
-    ensures lasts { H.lasting shelf.new ≡ H.lasting shelf.old }
+    ensures from { Fetches H.Shelf shelf.old shelf.new (IsErrOf result FetchError.Failed) }
 {
     match name {
         Some(name) => shelf.fetch(alloc, name.as_str(), MOST_BYTES),
@@ -58,17 +45,21 @@ pub(crate) fn script_of<H: Shelf>(
     shelf: &mut H,
     settings: &Settings,
 ) -> Result<Script, RunError>
-    ensures ok { IfOk result (λ script. (text : List ℕ) → text_under settings.now.script (H.content shelf.old) ≡ Some text → commands_in settings.now.app text ≡ Ok script) }
-    ensures lawful { IfOk result (λ script. IsTrue (are_lawful (start (meaning_of settings.now.app).presets) (commands_of script))) }
+    ensures ok { IfOk result (λ script. (text : List ℕ)
+        → text_under settings.now.script (H.content shelf.old) ≡ Some text
+        → commands_in settings.now.app text ≡ Ok script) }
+    ensures lawful { IfOk result (λ script. MayRun (meaning_of settings.now.app) script) }
     ensures order { IfOk result (λ script. IsTrue (are_in_order script)) }
-    ensures refused { IfErr result (λ e. (text : List ℕ) → text_under settings.now.script (H.content shelf.old) ≡ Some text
+    ensures refused { IfErr result (λ e. (text : List ℕ)
+        → text_under settings.now.script (H.content shelf.old) ≡ Some text
         → (commands_in settings.now.app text ≡ Err e) ⊎ (e ≡ RunError.ReadFault) ⊎ (e ≡ RunError.NoMemory)) }
-    ensures early { IfErr result (λ e. (status_of e ≡ 2) ⊎ (e ≡ RunError.ReadFault) ⊎ (e ≡ RunError.NoMemory)) }
-    ensures unasked { settings.now.script ≡ None → (shelf.new ≡ shelf.old) × IfErr result (λ e. e ≡ RunError.NoMemory) }
-    ensures cause { HasCauseOf (H.faults shelf.old) (H.faults shelf.new) (IsErrOf result RunError.ReadFault) }
-    ensures lasts { H.lasting shelf.new ≡ H.lasting shelf.old }
+    ensures early { IfErr result
+        (λ e. (status_of e ≡ 2) ⊎ (e ≡ RunError.ReadFault) ⊎ (e ≡ RunError.NoMemory)) }
+    ensures unasked { settings.now.script ≡ None
+        → (shelf.new ≡ shelf.old) × IfErr result (λ e. e ≡ RunError.NoMemory) }
+    ensures from { Fetches H.Shelf shelf.old shelf.new (IsErrOf result RunError.ReadFault) }
 {
-    let presets = presets(alloc, settings.app)?;
+    let presets = presets_of(alloc, &Chosen(settings.app))?;
     let text = text_of(alloc, shelf, &settings.script)?;
     let script = parse_script(alloc, &text, &presets)?;
     Ok(script)

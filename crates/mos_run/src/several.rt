@@ -1,25 +1,17 @@
 //! The run of several workers.
 
-ghost use Rattle.std.specs.Prelude.{◌≡◌, ◌≢◌, ◌<◌, ◌≤◌, [], ℕ, List, true, false, Some, None, IsOk, IsTrue, IsFalse, IfSome, IfErr, IsErrOf};
-ghost use Rattle.mos_bytes.specs.Causes.{HasCauseOf};
-ghost use Rattle.app_api.specs.App.{IsLawful};
-ghost use Rattle.forest_versions.specs.Lawful.{are_lawful};
-ghost use Rattle.forest_versions.specs.State.{start};
-ghost use Rattle.control_script.specs.Order.{commands_of, are_in_order};
+ghost use Rattle.std.specs.Prelude.{◌≡◌, ◌≤◌, true, false, IfSome};
 ghost use Rattle.mos_run.specs.Apps.{meaning_of};
 ghost use Rattle.mos_run.specs.Lanes.{RunsWith};
 ghost use Rattle.mos_run.specs.Outcome.{is_forward, output_of};
-ghost use Rattle.mos_run.specs.Refusal.{status_of};
-ghost use Rattle.mos_run.specs.Told.{bytes_under};
+ghost use Rattle.mos_run.specs.Runs.{IsJob, Runs, RunsUnderSettings};
 
+use crate::chosen::Chosen;
 use crate::close::write_end;
 use crate::laws::what_one_worker_has_is_allowed;
 use crate::output::output_of;
-use crate::replay::Plan;
+use crate::plan::{Crew, Plan};
 use crate::{RunError, VersionList};
-use app_api::{App, LogApp};
-use app_firewall::FirewallApp;
-use app_traffic::{AcctApp, RexmitApp};
 use capture_maker::Maker;
 use control_script::Script;
 use lane_core::laws::records_are_tidy;
@@ -29,43 +21,29 @@ use pcap_source::Capture;
 use std::alloc::Global;
 use std::sync::Wait;
 use std::thread::Threads;
-use words::{AppKind, Settings};
+use words::Settings;
 use worker_laws::packets::packets_of_a_capture_rise;
 use worker_laws::runs::a_run_has_its_versions;
 use worker_pool::{Gate, Job, forward_lanes, run_lanes};
 
-// Runs an application over a capture on so many lanes, and then writes what is written at the end.
+// Runs over a capture on the plan's lanes, and then writes what is written at the end.
 fn report_on<
     R: Threads + Wait + Sync + Send + Copy + Drop + 'static,
-    A: App + Copy + Send + Sync + Drop,
     S: Source,
     O: Sink,
     G: Gate + Sync,
 >(
-    rt: &R,
+    crew: &Crew<'_, R, G>,
     alloc: Global,
     plan: &Plan<'_>,
-    app: A,
-    workers: usize,
     source: &mut S,
     out: &mut O,
-    gate: &G,
 ) -> Result<VersionList, RunError>
-    requires some { 1 ≤ workers }
-    requires most { workers ≤ 16 }
-    requires app { IsLawful (A.meaning app) }
-    requires lawful { IsTrue (are_lawful (start (A.meaning app).presets) (commands_of plan.now.script.now)) }
-    requires order { IsTrue (are_in_order plan.now.script.now) }
+    requires job { IsJob (meaning_of plan.now.app) plan.now.script.now plan.now.workers }
     requires kept { is_forward plan.now.output ≡ false }
-    ensures runs { (bytes : List ℕ) → S.left source.old ≡ Some bytes
-        → RunsWith (A.meaning app) plan.now.script.now workers plan.now.output bytes (O.taken out.old) (O.taken out.new) result }
-    ensures read { IsOk result → (bytes : List ℕ) → S.left source.old ≡ Some bytes → S.left source.new ≡ Some [] }
-    ensures silent { IfErr result (λ e. e ≢ RunError.WriteFault → e ≢ RunError.NoMemory → out.new ≡ out.old) }
-    ensures late { IfErr result (λ e. 2 < status_of e) }
-    ensures read_fault { HasCauseOf (S.faults source.old) (S.faults source.new) (IsErrOf result RunError.ReadFault) }
-    ensures write_fault { HasCauseOf (O.faults out.old) (O.faults out.new) (IsErrOf result RunError.WriteFault) }
-    ensures source_lasts { S.lasting source.new ≡ S.lasting source.old }
-    ensures out_lasts { O.lasting out.new ≡ O.lasting out.old }
+    ensures ran { Runs S.Source O.Sink plan.now.output
+        (RunsWith (meaning_of plan.now.app) plan.now.script.now plan.now.workers plan.now.output)
+        source.old source.new out.old out.new result }
 {
     a_run_has_its_versions();
     packets_of_a_capture_rise();
@@ -73,142 +51,86 @@ fn report_on<
     what_one_worker_has_is_allowed();
     let mut capture = Capture::open(source)?;
     let job = Job {
-        app,
+        app: Chosen(plan.app),
         script: plan.script,
-        workers,
+        workers: plan.workers,
     };
-    let end = run_lanes(rt, alloc, &job, &mut capture, source, plan.natives, gate)?;
+    let end = run_lanes(
+        crew.rt,
+        alloc,
+        &job,
+        &mut capture,
+        source,
+        plan.natives,
+        crew.gate,
+    )?;
     write_end(alloc, plan.output, end.records.as_slice(), &end.totals, out)?;
     Ok(end.versions)
 }
 
-// Runs an application over a capture on so many lanes, and writes the capture without its dropped packets meanwhile.
+// Runs over a capture on the plan's lanes, and writes the capture without its dropped packets meanwhile.
 fn forward_on<
     R: Threads + Wait + Sync + Send + Copy + Drop + 'static,
-    A: App + Copy + Send + Sync + Drop,
     S: Source,
     O: Sink,
     G: Gate + Sync,
 >(
-    rt: &R,
+    crew: &Crew<'_, R, G>,
     alloc: Global,
     plan: &Plan<'_>,
-    app: A,
-    workers: usize,
     source: &mut S,
     out: &mut O,
-    gate: &G,
 ) -> Result<VersionList, RunError>
-    requires some { 1 ≤ workers }
-    requires most { workers ≤ 16 }
-    requires lawful { IsTrue (are_lawful (start (A.meaning app).presets) (commands_of plan.now.script.now)) }
-    requires order { IsTrue (are_in_order plan.now.script.now) }
+    requires job { IsJob (meaning_of plan.now.app) plan.now.script.now plan.now.workers }
     requires forwards { is_forward plan.now.output ≡ true }
-    ensures runs { (bytes : List ℕ) → S.left source.old ≡ Some bytes
-        → RunsWith (A.meaning app) plan.now.script.now workers plan.now.output bytes (O.taken out.old) (O.taken out.new) result }
-    ensures read { IsOk result → (bytes : List ℕ) → S.left source.old ≡ Some bytes → S.left source.new ≡ Some [] }
-    ensures late { IfErr result (λ e. 2 < status_of e) }
-    ensures read_fault { HasCauseOf (S.faults source.old) (S.faults source.new) (IsErrOf result RunError.ReadFault) }
-    ensures write_fault { HasCauseOf (O.faults out.old) (O.faults out.new) (IsErrOf result RunError.WriteFault) }
-    ensures source_lasts { S.lasting source.new ≡ S.lasting source.old }
-    ensures out_lasts { O.lasting out.new ≡ O.lasting out.old }
+    ensures ran { Runs S.Source O.Sink plan.now.output
+        (RunsWith (meaning_of plan.now.app) plan.now.script.now plan.now.workers plan.now.output)
+        source.old source.new out.old out.new result }
 {
     a_run_has_its_versions();
     what_one_worker_has_is_allowed();
     let mut capture = Capture::open(source)?;
     capture.write_header(out)?;
     let job = Job {
-        app,
+        app: Chosen(plan.app),
         script: plan.script,
-        workers,
+        workers: plan.workers,
     };
     let versions = forward_lanes(
-        rt,
+        crew.rt,
         alloc,
         &job,
         &mut capture,
         source,
         out,
         plan.natives,
-        gate,
+        crew.gate,
     )?;
     Ok(versions)
 }
 
-// Runs an application over a capture on so many lanes.
+// Runs over a capture on the plan's lanes.
 fn run_on<
     R: Threads + Wait + Sync + Send + Copy + Drop + 'static,
-    A: App + Copy + Send + Sync + Drop,
     S: Source,
     O: Sink,
     G: Gate + Sync,
 >(
-    rt: &R,
+    crew: &Crew<'_, R, G>,
     alloc: Global,
     plan: &Plan<'_>,
-    app: A,
-    workers: usize,
     source: &mut S,
     out: &mut O,
-    gate: &G,
 ) -> Result<VersionList, RunError>
-    requires some { 1 ≤ workers }
-    requires most { workers ≤ 16 }
-    requires app { IsLawful (A.meaning app) }
-    requires lawful { IsTrue (are_lawful (start (A.meaning app).presets) (commands_of plan.now.script.now)) }
-    requires order { IsTrue (are_in_order plan.now.script.now) }
-    ensures runs { (bytes : List ℕ) → S.left source.old ≡ Some bytes
-        → RunsWith (A.meaning app) plan.now.script.now workers plan.now.output bytes (O.taken out.old) (O.taken out.new) result }
-    ensures read { IsOk result → (bytes : List ℕ) → S.left source.old ≡ Some bytes → S.left source.new ≡ Some [] }
-    ensures silent { is_forward plan.now.output ≡ false → IfErr result (λ e. e ≢ RunError.WriteFault → e ≢ RunError.NoMemory → out.new ≡ out.old) }
-    ensures late { IfErr result (λ e. 2 < status_of e) }
-    ensures read_fault { HasCauseOf (S.faults source.old) (S.faults source.new) (IsErrOf result RunError.ReadFault) }
-    ensures write_fault { HasCauseOf (O.faults out.old) (O.faults out.new) (IsErrOf result RunError.WriteFault) }
-    ensures source_lasts { S.lasting source.new ≡ S.lasting source.old }
-    ensures out_lasts { O.lasting out.new ≡ O.lasting out.old }
+    requires job { IsJob (meaning_of plan.now.app) plan.now.script.now plan.now.workers }
+    ensures ran { Runs S.Source O.Sink plan.now.output
+        (RunsWith (meaning_of plan.now.app) plan.now.script.now plan.now.workers plan.now.output)
+        source.old source.new out.old out.new result }
 {
     if plan.output.is_forward() {
-        return forward_on(rt, alloc, plan, app, workers, source, out, gate);
+        return forward_on(crew, alloc, plan, source, out);
     }
-    report_on(rt, alloc, plan, app, workers, source, out, gate)
-}
-
-// Runs the application of this name so.
-fn run_app_on<
-    R: Threads + Wait + Sync + Send + Copy + Drop + 'static,
-    S: Source,
-    O: Sink,
-    G: Gate + Sync,
->(
-    rt: &R,
-    alloc: Global,
-    plan: &Plan<'_>,
-    app: AppKind,
-    workers: usize,
-    source: &mut S,
-    out: &mut O,
-    gate: &G,
-) -> Result<VersionList, RunError>
-    requires some { 1 ≤ workers }
-    requires most { workers ≤ 16 }
-    requires lawful { IsTrue (are_lawful (start (meaning_of app).presets) (commands_of plan.now.script.now)) }
-    requires order { IsTrue (are_in_order plan.now.script.now) }
-    ensures runs { (bytes : List ℕ) → S.left source.old ≡ Some bytes
-        → RunsWith (meaning_of app) plan.now.script.now workers plan.now.output bytes (O.taken out.old) (O.taken out.new) result }
-    ensures read { IsOk result → (bytes : List ℕ) → S.left source.old ≡ Some bytes → S.left source.new ≡ Some [] }
-    ensures silent { is_forward plan.now.output ≡ false → IfErr result (λ e. e ≢ RunError.WriteFault → e ≢ RunError.NoMemory → out.new ≡ out.old) }
-    ensures late { IfErr result (λ e. 2 < status_of e) }
-    ensures read_fault { HasCauseOf (S.faults source.old) (S.faults source.new) (IsErrOf result RunError.ReadFault) }
-    ensures write_fault { HasCauseOf (O.faults out.old) (O.faults out.new) (IsErrOf result RunError.WriteFault) }
-    ensures source_lasts { S.lasting source.new ≡ S.lasting source.old }
-    ensures out_lasts { O.lasting out.new ≡ O.lasting out.old }
-{
-    match app {
-        AppKind::Log => run_on(rt, alloc, plan, LogApp, workers, source, out, gate),
-        AppKind::Acct => run_on(rt, alloc, plan, AcctApp, workers, source, out, gate),
-        AppKind::Rexmit => run_on(rt, alloc, plan, RexmitApp, workers, source, out, gate),
-        AppKind::Firewall => run_on(rt, alloc, plan, FirewallApp, workers, source, out, gate),
-    }
+    report_on(crew, alloc, plan, source, out)
 }
 
 /// Replays a capture, or the one that is made, with the settings' workers, 1 to 16, each in a thread of its own, and writes
@@ -224,51 +146,29 @@ pub(crate) fn run_several<
     O: Sink,
     G: Gate + Sync,
 >(
-    rt: &R,
+    crew: &Crew<'_, R, G>,
     alloc: Global,
     settings: &Settings,
     capture: &mut S,
     script: &Script,
     out: &mut O,
     natives: &NativeBook,
-    gate: &G,
 ) -> Result<VersionList, RunError>
-    requires some { 1 ≤ settings.now.workers }
-    requires most { settings.now.workers ≤ 16 }
-    requires lawful { IsTrue (are_lawful (start (meaning_of settings.now.app).presets) (commands_of script.now)) }
-    requires order { IsTrue (are_in_order script.now) }
+    requires job { IsJob (meaning_of settings.now.app) script.now settings.now.workers }
     requires few { IfSome settings.now.make (λ n. n ≤ 100000) }
-    ensures runs { (bytes : List ℕ) → bytes_under settings.now.make (S.left capture.old) ≡ Some bytes
-        → RunsWith (meaning_of settings.now.app) script.now settings.now.workers (output_of settings.now) bytes (O.taken out.old) (O.taken out.new) result }
-    ensures read { IsOk result → settings.now.make ≡ None → (bytes : List ℕ) → S.left capture.old ≡ Some bytes → S.left capture.new ≡ Some [] }
-    ensures made { settings.now.make ≢ None → capture.new ≡ capture.old }
-    ensures silent { is_forward (output_of settings.now) ≡ false → IfErr result (λ e. e ≢ RunError.WriteFault → e ≢ RunError.NoMemory → out.new ≡ out.old) }
-    ensures late { IfErr result (λ e. 2 < status_of e) }
-    ensures read_fault { HasCauseOf (S.faults capture.old) (S.faults capture.new) (IsErrOf result RunError.ReadFault) }
-    ensures write_fault { HasCauseOf (O.faults out.old) (O.faults out.new) (IsErrOf result RunError.WriteFault) }
-    ensures capture_lasts { S.lasting capture.new ≡ S.lasting capture.old }
-    ensures out_lasts { O.lasting out.new ≡ O.lasting out.old }
+    ensures ran { RunsUnderSettings S.Source O.Sink settings.now
+        (RunsWith (meaning_of settings.now.app) script.now settings.now.workers (output_of settings.now))
+        capture.old capture.new out.old out.new result }
 {
     let plan = Plan {
+        app: settings.app,
         script,
         natives,
         output: output_of(settings),
+        workers: settings.workers,
     };
-    let workers = settings.workers;
     match settings.make {
-        Some(n) => {
-            let mut maker = Maker::new(n);
-            run_app_on(
-                rt,
-                alloc,
-                &plan,
-                settings.app,
-                workers,
-                &mut maker,
-                out,
-                gate,
-            )
-        }
-        None => run_app_on(rt, alloc, &plan, settings.app, workers, capture, out, gate),
+        Some(n) => run_on(crew, alloc, &plan, &mut Maker::new(n), out),
+        None => run_on(crew, alloc, &plan, capture, out),
     }
 }

@@ -1,56 +1,20 @@
 //! The run of one worker.
 
-ghost use Rattle.std.specs.Prelude.{◌≡◌, ◌≢◌, ◌<◌, ◌≤◌, [], ℕ, List, false, Some, None, IsOk, IsTrue, IfSome, IfErr, IsErrOf};
-ghost use Rattle.mos_bytes.specs.Causes.{HasCauseOf};
-ghost use Rattle.forest_versions.specs.Lawful.{are_lawful};
-ghost use Rattle.forest_versions.specs.State.{start};
-ghost use Rattle.control_script.specs.Order.{commands_of};
+ghost use Rattle.std.specs.Prelude.{◌≤◌, IfSome};
 ghost use Rattle.mos_run.specs.Apps.{meaning_of};
-ghost use Rattle.mos_run.specs.Records.{packets_of};
-ghost use Rattle.mos_run.specs.Outcome.{is_forward, outcome, output_of};
-ghost use Rattle.mos_run.specs.Refusal.{status_of};
-ghost use Rattle.mos_run.specs.Run.{RunsAs};
-ghost use Rattle.mos_run.specs.Told.{bytes_under};
+ghost use Rattle.mos_run.specs.Outcome.{output_of};
+ghost use Rattle.mos_run.specs.Runs.{MayRun, RunsAlone, RunsUnderSettings};
 
 use crate::output::output_of;
-use crate::replay::{Plan, replay};
+use crate::plan::Plan;
+use crate::replay::replay;
 use crate::{RunError, VersionList};
-use app_api::LogApp;
-use app_firewall::FirewallApp;
-use app_traffic::{AcctApp, RexmitApp};
 use capture_maker::Maker;
 use control_script::Script;
 use mos_bytes::{Sink, Source};
 use native_filters::NativeBook;
 use std::alloc::Global;
-use words::{AppKind, Settings};
-
-// Runs the application of this name over a capture.
-fn run_app<S: Source, O: Sink>(
-    alloc: Global,
-    app: AppKind,
-    plan: &Plan<'_>,
-    source: &mut S,
-    out: &mut O,
-) -> Result<VersionList, RunError>
-    requires lawful { IsTrue (are_lawful (start (meaning_of app).presets) (commands_of plan.now.script.now)) }
-    ensures runs { (bytes : List ℕ) → S.left source.old ≡ Some bytes
-        → RunsAs (outcome (meaning_of app) plan.now.script.now (packets_of plan.now.script.now) plan.now.output bytes) (O.taken out.old) (O.taken out.new) result }
-    ensures read { IsOk result → (bytes : List ℕ) → S.left source.old ≡ Some bytes → S.left source.new ≡ Some [] }
-    ensures silent { is_forward plan.now.output ≡ false → IfErr result (λ e. e ≢ RunError.WriteFault → e ≢ RunError.NoMemory → out.new ≡ out.old) }
-    ensures late { IfErr result (λ e. 2 < status_of e) }
-    ensures read_fault { HasCauseOf (S.faults source.old) (S.faults source.new) (IsErrOf result RunError.ReadFault) }
-    ensures write_fault { HasCauseOf (O.faults out.old) (O.faults out.new) (IsErrOf result RunError.WriteFault) }
-    ensures source_lasts { S.lasting source.new ≡ S.lasting source.old }
-    ensures out_lasts { O.lasting out.new ≡ O.lasting out.old }
-{
-    match app {
-        AppKind::Log => replay(alloc, plan, LogApp, source, out),
-        AppKind::Acct => replay(alloc, plan, AcctApp, source, out),
-        AppKind::Rexmit => replay(alloc, plan, RexmitApp, source, out),
-        AppKind::Firewall => replay(alloc, plan, FirewallApp, source, out),
-    }
-}
+use words::Settings;
 
 /// Replays a capture, or the one that is made, with one worker, and writes what the settings ask for. Answers the version of
 /// each record, in order of name: before each packet the commands up to its ceiling are given.
@@ -66,26 +30,21 @@ pub fn run_one<S: Source, O: Sink>(
     out: &mut O,
     natives: &NativeBook,
 ) -> Result<VersionList, RunError>
-    requires lawful { IsTrue (are_lawful (start (meaning_of settings.now.app).presets) (commands_of script.now)) }
+    requires lawful { MayRun (meaning_of settings.now.app) script.now }
     requires few { IfSome settings.now.make (λ n. n ≤ 100000) }
-    ensures runs { (bytes : List ℕ) → bytes_under settings.now.make (S.left capture.old) ≡ Some bytes
-        → RunsAs (outcome (meaning_of settings.now.app) script.now (packets_of script.now) (output_of settings.now) bytes) (O.taken out.old) (O.taken out.new) result }
-    ensures read { IsOk result → settings.now.make ≡ None → (bytes : List ℕ) → S.left capture.old ≡ Some bytes → S.left capture.new ≡ Some [] }
-    ensures made { settings.now.make ≢ None → capture.new ≡ capture.old }
-    ensures silent { is_forward (output_of settings.now) ≡ false → IfErr result (λ e. e ≢ RunError.WriteFault → e ≢ RunError.NoMemory → out.new ≡ out.old) }
-    ensures late { IfErr result (λ e. 2 < status_of e) }
-    ensures read_fault { HasCauseOf (S.faults capture.old) (S.faults capture.new) (IsErrOf result RunError.ReadFault) }
-    ensures write_fault { HasCauseOf (O.faults out.old) (O.faults out.new) (IsErrOf result RunError.WriteFault) }
-    ensures capture_lasts { S.lasting capture.new ≡ S.lasting capture.old }
-    ensures out_lasts { O.lasting out.new ≡ O.lasting out.old }
+    ensures ran { RunsUnderSettings S.Source O.Sink settings.now
+        (RunsAlone (meaning_of settings.now.app) script.now (output_of settings.now))
+        capture.old capture.new out.old out.new result }
 {
     let plan = Plan {
+        app: settings.app,
         script,
         natives,
         output: output_of(settings),
+        workers: 1,
     };
     match settings.make {
-        Some(n) => run_app(alloc, settings.app, &plan, &mut Maker::new(n), out),
-        None => run_app(alloc, settings.app, &plan, capture, out),
+        Some(n) => replay(alloc, &plan, &mut Maker::new(n), out),
+        None => replay(alloc, &plan, capture, out),
     }
 }

@@ -1,8 +1,8 @@
 //! What is told of a run over a capture that was made for it.
 
 ghost use Rattle.std.specs.Prelude.{◌≡◌, ◌⊎◌, ◌*◌, ◌+◌, IfOk, IfErr, IsErrOf, string_bytes};
-ghost use Rattle.mos_bytes.specs.Causes.{HasCauseOf};
 ghost use Rattle.mos_bytes.specs.Writes.{WriteAdds};
+ghost use Rattle.mos_run.specs.Outside.{Writes};
 ghost use Rattle.mos_run.specs.Summary.{made_line, summary_text};
 
 use crate::RunError;
@@ -29,8 +29,7 @@ pub(crate) fn write_summary<O: Sink>(
 ) -> Result<(), RunError>
     ensures text { WriteAdds (O.taken out.old) (O.taken out.new) result (summary_text n totals.now) }
     ensures only { IfErr result (λ e. (e ≡ RunError.WriteFault) ⊎ (e ≡ RunError.NoMemory)) }
-    ensures cause { HasCauseOf (O.faults out.old) (O.faults out.new) (IsErrOf result RunError.WriteFault) }
-    ensures lasts { O.lasting out.new ≡ O.lasting out.old }
+    ensures to { Writes O.Sink out.old out.new (IsErrOf result RunError.WriteFault) }
 {
     let line = made_line(alloc, n)?;
     out.write_all(line.as_bytes())?;

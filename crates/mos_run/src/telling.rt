@@ -102,7 +102,8 @@ fn write_text<E: Sink>(err: &mut E, text: &str)
 fn tell_line<E: Sink>(err: &mut E, line: Result<String, AllocError>, error: RunError) -> RunError
     requires { ForOk line (λ line. string_bytes line ≡ refusal_text error) }
     ensures which { (result ≡ error) ⊎ (result ≡ RunError.NoMemory) }
-    ensures text { WritesText (E.taken err.old) (E.taken err.new) (E.faults err.old) (E.faults err.new) (refusal_text result) }
+    ensures text { WritesText (E.taken err.old) (E.taken err.new)
+        (E.faults err.old) (E.faults err.new) (refusal_text result) }
     ensures lasts { E.lasting err.new ≡ E.lasting err.old }
 {
     match line {
@@ -122,7 +123,8 @@ fn tell_line<E: Sink>(err: &mut E, line: Result<String, AllocError>, error: RunE
 pub(crate) fn tell<E: Sink>(alloc: Global, err: &mut E, error: RunError) -> RunError
     ensures which { (result ≡ error) ⊎ (result ≡ RunError.NoMemory) }
     ensures usage { error ≡ RunError.Usage → result ≡ error }
-    ensures text { WritesText (E.taken err.old) (E.taken err.new) (E.faults err.old) (E.faults err.new) (refusal_text result) }
+    ensures text { WritesText (E.taken err.old) (E.taken err.new)
+        (E.faults err.old) (E.faults err.new) (refusal_text result) }
     ensures lasts { E.lasting err.new ≡ E.lasting err.old }
 {
     match error {

@@ -1,105 +1,65 @@
 -- What the run did to the sink that gathers, and what is left to hand on, is what the output took.
-use Rattle.std.proofs.Common.{◌≡◌, ap, arith, inl, inr, refl, rules, subst, sym, ◌∙◌}
-use Rattle.mos_bytes.specs.Writes.{AppendsFront}
-use Rattle.mos_bytes.proofs.Writes.{AppendsFront-nil}
-use Rattle.mos_bytes.specs.Gathering.{IsFinished, gathering_faults, given_to, inner_of, start_of}
-use Rattle.mos_run.specs.declared.refusal.RunError.TheVariants as Run
-use Rattle.mos_run.specs.Refusal.{refusal_text}
-use Rattle.mos_run.specs.Told.{outcome_under}
-use Rattle.mos_run.specs.Run.{EndsAs, StopsAs, WritesText}
-use Rattle.mos_run.proofs.Below.{done_below, front_below, may_fail, rose_below}
-use Rattle.mos_run.proofs.Outcomes.{ends_as, has_some, stops_or_memory, under_more}
-use Rattle.mos_run.proofs.gathered.run_gathered.Goals.{else-ended-eq0-via-then-ended-eq0+else-is_err, else-ended-eq0-via-else-ended-eq0}
+use Rattle.std.proofs.Common.{◌≡◌, ℕ, ap, arith, inl, inr, le_refl, map, subst, sym, ◌≤◌, ◌∙◌}
+use Rattle.std.specs.Prelude.{◌⊎◌, string_bytes}
+use Rattle.mos_bytes.specs.Gathering.{failures_of, gathering_faults, given_to, held_of, inner_of, start_of}
+use Rattle.mos_run.specs.Run.{FinishesUnder, MosRun}
+use Rattle.mos_run.proofs.Below.{done_below, front_below, rose_below}
+use Rattle.mos_run.proofs.Following.{ok_value}
+use Rattle.mos_run.proofs.Gathering.{IsBelow, handed_by, ran_below, ran_failed, ran_without_memory}
+use Rattle.mos_run.proofs.Outcomes.{has_some}
+use Rattle.mos_run.proofs.Refusals.{rose_since}
 use Rattle.mos_run.proofs.gathered.run_gathered.Goals as goal
 
-pub returns-in-Err-clause-ends : goal.returns-in-Err-clause-ends
-returns-in-Err-clause-ends g c = λ t is.
-    let some = has_some c.what_one_worker_has_is_allowed.ensures.allowed _ _ _ t is in
-    record {
-      versions = some.versions;
-      allowed = some.allowed;
-      holds = ends_as _ Run.NoMemory c.refuse-ended.result.status (inr (inr (inl refl))) c.refuse-ended.ensures.status;
-    }
+either-six : (status : ℕ) → (status ≡ 6) ⊎ (status ≡ 6) → status ≡ 6
+either-six status (inl six) = six
+either-six status (inr six) = six
 
-pub returns-in-Err-clause-front : goal.returns-in-Err-clause-front
-returns-in-Err-clause-front g c = λ t is.
-    let some = has_some c.what_one_worker_has_is_allowed.ensures.allowed _ _ _ t is in
-    record {
-      versions = some.versions;
-      allowed = some.allowed;
-      holds = subst (λ s. AppendsFront (g.O.Sink.taken c.args.out) (g.O.Sink.taken s) (outcome_under some.versions t).text) (sym c.in-Err.ensures.err)
-          (AppendsFront-nil (g.O.Sink.taken c.args.out) (outcome_under some.versions t).text);
-    }
-
-pub returns-in-Err-clause-told : goal.returns-in-Err-clause-told
-returns-in-Err-clause-told g c = λ failed.
-    let tells = c.refuse-ended.ensures.told in
-    record {
-      refusal = tells.refusal;
-      status_is = tells.status_is;
-      of_run = λ t is.
-          let some = has_some c.what_one_worker_has_is_allowed.ensures.allowed _ _ _ t is in
-          record {
-            versions = some.versions;
-            allowed = some.allowed;
-            holds = stops_or_memory _ Run.NoMemory tells.refusal (inr (inr (inl refl))) tells.which;
-          };
-      text = tells.text;
-    }
-
-pub returns-then-is_err-clause-ends : goal.returns-then-is_err-clause-ends
-returns-then-is_err-clause-ends g c = λ t is.
-    let done = c.run_mos-ended.ensures.done c.if-ended-eq0.true t is in
-    under_more t (λ o. StopsAs o Run.WriteFault) (λ o. EndsAs o c.refuse-ended-then-is_err.result.status)
-    (λ o stops. ends_as o Run.WriteFault c.refuse-ended-then-is_err.result.status stops c.refuse-ended-then-is_err.ensures.status)
-    (may_fail t Run.WriteFault _ _ _ done (inl refl))
-
-pub returns-then-is_err-clause-told : goal.returns-then-is_err-clause-told
-returns-then-is_err-clause-told g c = λ failed.
-    let tells = c.refuse-ended-then-is_err.ensures.told in
-    record {
-      refusal = tells.refusal;
-      status_is = tells.status_is;
-      of_run = λ t is. may_fail t tells.refusal _ _ _ (c.run_mos-ended.ensures.done c.if-ended-eq0.true t is) tells.which;
-      text = subst (λ e. WritesText (g.E.Sink.taken e) (g.E.Sink.taken c.refuse-ended-then-is_err.new.err) (g.E.Sink.faults e) (g.E.Sink.faults c.refuse-ended-then-is_err.new.err) (refusal_text tells.refusal))
-          (c.run_mos-ended.ensures.told_nothing c.if-ended-eq0.true) tells.text;
-    }
-
-pub returns-then-is_err-clause-front : goal.returns-then-is_err-clause-front
-returns-then-is_err-clause-front g c = λ t is.
-    let new = c.in-Ok.ensures.ok in
-    let start : start_of c.finish-finished.new.self ≡ c.args.out =
-    ap (λ p. p.0) c.finish-finished.ensures.lasts ∙ ap (λ p. p.0) c.run_mos-ended.ensures.out_lasts ∙ new.start in
-    front_below g.O.Sink.taken c.args.out (start_of c.finish-finished.new.self) (given_to c.in-Ok.gathering) (given_to c.run_mos-ended.new.out) (given_to c.finish-finished.new.self)
-    (g.O.Sink.taken c.into_inner-out.result) t start new.given (c.run_mos-ended.ensures.front t is) c.finish-finished.ensures.given c.into_inner-out.ensures.between
+pub returns-in-Err-clause-ran : goal.returns-in-Err-clause-ran
+returns-in-Err-clause-ran g c =
+    let refused = c.refuse-ended.ensures in
+    ran_without_memory g.S.Source g.H.Shelf g.O.Sink g.E.Sink (map string_bytes c.args.words.now) c.args.capture.now c.args.shelf.now c.args.out _ c.args.err.now c.refuse-ended.new.err c.refuse-ended.result
+    (λ x is. has_some c.what_one_worker_has_is_allowed.ensures.allowed _ _ _ x is) c.in-Err.ensures.err (either-six _ refused.status) refused.versions refused.told refused.lasts
 
 pub returns-clause-done : goal.returns-clause-done
 returns-clause-done g c = λ zero t is.
     let new = c.in-Ok.ensures.ok in
-    let finished : IsFinished c.finish-finished.new.self = elim c.else-ended-eq0.branch [
-      | else-ended-eq0-via-then-ended-eq0+else-is_err w ↦ search rules
-      | else-ended-eq0-via-else-ended-eq0 w ↦ search rules
-    ] in
-    done_below t c.run_mos-ended.result.versions (g.O.Sink.taken c.args.out) (given_to c.in-Ok.gathering) (given_to c.run_mos-ended.new.out) (given_to c.finish-finished.new.self)
-    (g.O.Sink.taken c.into_inner-out.result) new.given (c.run_mos-ended.ensures.done zero t is) c.finish-finished.ensures.given
-    (ap g.O.Sink.taken c.into_inner-out.ensures.inner ∙ finished.taken)
+    let whole = c.handed_on-ended.ensures.whole zero in
+    let same = (c.handed_on-ended.ensures.stays (inl whole)).0 in
+    let finished = ok_value c.finish-handed.result whole c.finish-handed.ensures.finished in
+    subst (λ ended. FinishesUnder t ended.versions (g.O.Sink.taken c.args.out) (g.O.Sink.taken c.into_inner-out.result)) (sym same)
+    (done_below t c.run_mos-ended.result.versions (g.O.Sink.taken c.args.out) (given_to c.in-Ok.gathering) (given_to c.run_mos-ended.new.out) (given_to c.finish-handed.new.self)
+    (g.O.Sink.taken c.into_inner-out.result) new.given (c.run_mos-ended.ensures.done (sym (ap (λ ended. ended.status) same) ∙ zero) t is) c.finish-handed.ensures.given
+    (ap g.O.Sink.taken c.into_inner-out.ensures.inner ∙ finished.taken))
 
-pub returns-clause-front : goal.returns-clause-front
-returns-clause-front g c = λ t is.
+pub returns-clause-ran : goal.returns-clause-ran
+returns-clause-ran g c =
+    let words = map string_bytes c.args.words.now in
+    let out = c.args.out in
+    let got = c.into_inner-out.result in
+    let a = c.in-Ok.gathering in
+    let b = c.run_mos-ended.new.out in
+    let handed = c.finish-handed.new.self in
     let new = c.in-Ok.ensures.ok in
-    let start : start_of c.finish-finished.new.self ≡ c.args.out =
-    ap (λ p. p.0) c.finish-finished.ensures.lasts ∙ ap (λ p. p.0) c.run_mos-ended.ensures.out_lasts ∙ new.start in
-    front_below g.O.Sink.taken c.args.out (start_of c.finish-finished.new.self) (given_to c.in-Ok.gathering) (given_to c.run_mos-ended.new.out) (given_to c.finish-finished.new.self)
-    (g.O.Sink.taken c.into_inner-out.result) t start new.given (c.run_mos-ended.ensures.front t is) c.finish-finished.ensures.given c.into_inner-out.ensures.between
-
-pub returns-clause-complete : goal.returns-clause-complete
-returns-clause-complete g c = λ t is well capture shelf out.
-    let new = c.in-Ok.ensures.ok in
-    let start : start_of c.finish-finished.new.self ≡ c.args.out =
-    ap (λ p. p.0) c.finish-finished.ensures.lasts ∙ ap (λ p. p.0) c.run_mos-ended.ensures.out_lasts ∙ new.start in
-    let below : g.O.Sink.faults (inner_of c.in-Ok.gathering) ≡ g.O.Sink.faults c.args.out = ap g.O.Sink.faults new.over in
+    let ran = c.run_mos-ended.ensures.ran in
+    let finish = c.finish-handed.ensures in
+    let inner = c.into_inner-out.ensures in
+    let start : start_of handed ≡ out = ap (λ p. p.0) finish.lasts ∙ ap (λ p. p.0) ran.out_lasts ∙ new.start in
+    let below : g.O.Sink.faults (inner_of a) ≡ g.O.Sink.faults out = ap g.O.Sink.faults new.over in
     let sound = new.sound in
-    let first : gathering_faults c.in-Ok.gathering ≡ g.O.Sink.faults c.args.out = omega (arith, below, sound) in
-    c.run_mos-ended.ensures.complete t is well capture shelf (λ rose. out (
-    rose_below g.O.Sink.faults c.args.out (start_of c.finish-finished.new.self) (gathering_faults c.in-Ok.gathering) (gathering_faults c.run_mos-ended.new.out) (gathering_faults c.finish-finished.new.self)
-    (g.O.Sink.faults c.into_inner-out.result) start first c.finish-finished.ensures.cause.later c.into_inner-out.ensures.cause rose))
+    let first : gathering_faults a ≡ g.O.Sink.faults out = omega (arith, below, sound) in
+    let run = ran_below g.S.Source g.H.Shelf g.O.Sink g.E.Sink words c.args.capture.now c.run_mos-ended.new.capture c.args.shelf.now c.run_mos-ended.new.shelf out got _ a b c.args.err.now c.run_mos-ended.new.err c.run_mos-ended.result (record {
+      still = λ same. inner.inner ∙ ap inner_of (finish.idle (ap failures_of same ∙ new.sound) (ap held_of same ∙ new.empty)).1 ∙ ap inner_of same ∙ new.over;
+      later = subst (λ x. g.O.Sink.faults x ≤ g.O.Sink.faults got) start inner.counts;
+      rose = rose_below g.O.Sink.faults out (start_of handed) (gathering_faults a) (gathering_faults b) (gathering_faults handed) (g.O.Sink.faults got) start first finish.cause.later inner.cause;
+      front = λ text part. front_below g.O.Sink.taken out (start_of handed) (given_to a) (given_to b) (given_to handed) (g.O.Sink.taken got) text start new.given part finish.given inner.between;
+      lasts = ap g.O.Sink.lasting inner.inner ∙ ap (λ p. p.1) finish.lasts ∙ ap (λ p. p.1) ran.out_lasts ∙ ap g.O.Sink.lasting new.over;
+    }) ran in
+    let after = c.handed_on-ended.ensures in
+    handed_by c.finish-handed.result c.run_mos-ended.result.status
+    (λ same. let stays = after.stays same in rw (stays.0, stays.1) run)
+    (λ failed zero.
+    ran_failed g.S.Source g.H.Shelf g.O.Sink g.E.Sink words c.args.capture.now c.run_mos-ended.new.capture c.args.shelf.now c.run_mos-ended.new.shelf out got c.args.err.now c.run_mos-ended.new.err c.handed_on-ended.new.err
+    c.run_mos-ended.result c.handed_on-ended.result _ _ run zero (c.run_mos-ended.ensures.done zero)
+    (rose_below g.O.Sink.faults out (start_of handed) (gathering_faults a) (gathering_faults handed) (gathering_faults handed) (g.O.Sink.faults got) start first (le_refl _) inner.cause
+    (rose_since (gathering_faults a) (gathering_faults b) (gathering_faults handed) ran.write_fault.later (finish.cause.failed failed)))
+    (after.status failed zero) (after.told failed zero).0 (after.told failed zero).1 after.lasts)

@@ -1,4 +1,4 @@
-use Rattle.std.proofs.Common.{◌≡◌, ◌≢◌, ◌≤◌, true, false, ◌+◌, ◌++◌, ◌∷◌, [], length, Some, Ok, Err, refl, sym, ap, subst, ◌∙◌, arith, le_refl}
+use Rattle.std.proofs.Common.{◌≡◌, ◌≢◌, ◌≤◌, true, false, ◌+◌, ◌++◌, ◌∷◌, [], length, Some, Ok, Err, refl, sym, ap, subst, ◌∙◌, arith, le_refl, rules}
 use Rattle.std.proofs.lemmas.List.{length-append}
 use Rattle.std.proofs.lemmas.Result.{err_from_is_err_and, IfErr-weaker}
 use Rattle.std.specs.Prelude.{IsErr}
@@ -49,22 +49,28 @@ returns-in_err-hand_on-clause-runs g c = λ bytes before r written.
           (Appends-kept before (g.O.Sink.taken at.out) (g.O.Sink.taken c.hand_on.new.out) _ (read.3 before written) c.hand_on.ensures.bytes),
     ))
 
-pub returns-in_err-hand_on-clause-read_fault : goal.returns-in_err-hand_on-clause-read_fault
-returns-in_err-hand_on-clause-read_fault g c =
-    let p = err_from_is_err_and c.from_residual.result c.from_residual.ensures.1 in
-    record {
-      later = c.loop-frame.invariant.source_faults;
-      cause = λ fault. let is = p.1 in let why = p.2 in absurd (cc);
-    }
+pub returns-in_err-hand_on-clause-from : goal.returns-in_err-hand_on-clause-from
+returns-in_err-hand_on-clause-from g c = record {
+  cause =
+      let p = err_from_is_err_and c.from_residual.result c.from_residual.ensures.1 in
+      record {
+        later = c.loop-frame.invariant.source_faults;
+        cause = λ fault. let is = p.1 in let why = p.2 in absurd (cc);
+      };
+  lasts = search rules;
+}
 
-pub returns-in_err-hand_on-clause-write_fault : goal.returns-in_err-hand_on-clause-write_fault
-returns-in_err-hand_on-clause-write_fault g c =
-    let before = c.loop-frame.invariant.out_faults in
-    let handed = c.hand_on.ensures.cause in
-    record {
-      later = let later = handed.later in omega (arith, before, later);
-      cause = λ fault. rose_since _ _ _ before (handed.failed (subst IsErr (sym c.in_err-hand_on.was) refl));
-    }
+pub returns-in_err-hand_on-clause-to : goal.returns-in_err-hand_on-clause-to
+returns-in_err-hand_on-clause-to g c = record {
+  cause =
+      let before = c.loop-frame.invariant.out_faults in
+      let handed = c.hand_on.ensures.cause in
+      record {
+        later = let later = handed.later in omega (arith, before, later);
+        cause = λ fault. rose_since _ _ _ before (handed.failed (subst IsErr (sym c.in_err-hand_on.was) refl));
+      };
+  lasts = search rules;
+}
 
 pub returns-in_err-next-clause-runs : goal.returns-in_err-next-clause-runs
 returns-in_err-next-clause-runs g c = λ bytes before r written.
@@ -87,25 +93,31 @@ returns-in_err-next-clause-late g c =
     let p = err_from_is_err_and c.from_residual-in_err-next.result c.from_residual-in_err-next.ensures.1 in
     rw (p.1, p.2) (is_late c.in_err-next.field-0.0)
 
-pub returns-in_err-next-clause-read_fault : goal.returns-in_err-next-clause-read_fault
-returns-in_err-next-clause-read_fault g c =
-    let p = err_from_is_err_and c.from_residual-in_err-next.result c.from_residual-in_err-next.ensures.1 in
-    let before = c.loop-frame.invariant.source_faults in
-    let next = c.next.ensures.cause in
-    record {
-      later = let later = next.later in omega (arith, before, later);
-      cause = λ fault. rose_since _ _ _ before (next.cause (c.in_err-next.was ∙ ap (λ e. Err e) (is_read_fault c.in_err-next.field-0.0 (sym p.2 ∙ same_error p.0 Run.ReadFault c.from_residual-in_err-next.result p.1 fault))));
-    }
+pub returns-in_err-next-clause-from : goal.returns-in_err-next-clause-from
+returns-in_err-next-clause-from g c = record {
+  cause =
+      let p = err_from_is_err_and c.from_residual-in_err-next.result c.from_residual-in_err-next.ensures.1 in
+      let before = c.loop-frame.invariant.source_faults in
+      let next = c.next.ensures.cause in
+      record {
+        later = let later = next.later in omega (arith, before, later);
+        cause = λ fault. rose_since _ _ _ before (next.cause (c.in_err-next.was ∙ ap (λ e. Err e) (is_read_fault c.in_err-next.field-0.0 (sym p.2 ∙ same_error p.0 Run.ReadFault c.from_residual-in_err-next.result p.1 fault))));
+      };
+  lasts = search rules;
+}
 
-pub returns-in_err-next-clause-write_fault : goal.returns-in_err-next-clause-write_fault
-returns-in_err-next-clause-write_fault g c =
-    let p = err_from_is_err_and c.from_residual-in_err-next.result c.from_residual-in_err-next.ensures.1 in
-    let before = c.loop-frame.invariant.out_faults in
-    let handed = c.hand_on.ensures.cause.later in
-    record {
-      later = omega (arith, before, handed);
-      cause = λ fault. absurd (no_write_fault c.in_err-next.field-0.0 (sym p.2 ∙ same_error p.0 Run.WriteFault c.from_residual-in_err-next.result p.1 fault));
-    }
+pub returns-in_err-next-clause-to : goal.returns-in_err-next-clause-to
+returns-in_err-next-clause-to g c = record {
+  cause =
+      let p = err_from_is_err_and c.from_residual-in_err-next.result c.from_residual-in_err-next.ensures.1 in
+      let before = c.loop-frame.invariant.out_faults in
+      let handed = c.hand_on.ensures.cause.later in
+      record {
+        later = omega (arith, before, handed);
+        cause = λ fault. absurd (no_write_fault c.in_err-next.field-0.0 (sym p.2 ∙ same_error p.0 Run.WriteFault c.from_residual-in_err-next.result p.1 fault));
+      };
+  lasts = search rules;
+}
 
 pub returns-in_err-take-in-Frame-clause-runs : goal.returns-in_err-take-in-Frame-clause-runs
 returns-in_err-take-in-Frame-clause-runs g c = λ bytes before r written.
@@ -131,26 +143,32 @@ returns-in_err-take-in-Frame-clause-late g c =
     let p = err_from_is_err_and c.from_residual-in_err-take-in-Frame.result c.from_residual-in_err-take-in-Frame.ensures.1 in
     rw (p.1, p.2) (late_by c.in_err-take-in-Frame.field-0.0 c.in_err-take-in-Frame.ensures.only)
 
-pub returns-in_err-take-in-Frame-clause-read_fault : goal.returns-in_err-take-in-Frame-clause-read_fault
-returns-in_err-take-in-Frame-clause-read_fault g c =
-    let p = err_from_is_err_and c.from_residual-in_err-take-in-Frame.result c.from_residual-in_err-take-in-Frame.ensures.1 in
-    let before = c.loop-frame.invariant.source_faults in
-    record {
-      later = let later = c.next.ensures.cause.later in omega (arith, before, later);
-      cause = λ fault. absurd (no_read_fault c.in_err-take-in-Frame.field-0.0 c.in_err-take-in-Frame.ensures.only (sym p.2 ∙ same_error p.0 Run.ReadFault c.from_residual-in_err-take-in-Frame.result p.1 fault));
-    }
+pub returns-in_err-take-in-Frame-clause-from : goal.returns-in_err-take-in-Frame-clause-from
+returns-in_err-take-in-Frame-clause-from g c = record {
+  cause =
+      let p = err_from_is_err_and c.from_residual-in_err-take-in-Frame.result c.from_residual-in_err-take-in-Frame.ensures.1 in
+      let before = c.loop-frame.invariant.source_faults in
+      record {
+        later = let later = c.next.ensures.cause.later in omega (arith, before, later);
+        cause = λ fault. absurd (no_read_fault c.in_err-take-in-Frame.field-0.0 c.in_err-take-in-Frame.ensures.only (sym p.2 ∙ same_error p.0 Run.ReadFault c.from_residual-in_err-take-in-Frame.result p.1 fault));
+      };
+  lasts = search rules;
+}
 
-pub returns-in_err-take-in-Frame-clause-write_fault : goal.returns-in_err-take-in-Frame-clause-write_fault
-returns-in_err-take-in-Frame-clause-write_fault g c =
-    let p = err_from_is_err_and c.from_residual-in_err-take-in-Frame.result c.from_residual-in_err-take-in-Frame.ensures.1 in
-    let was = c.loop-frame.invariant.out_faults in
-    let handed = c.hand_on.ensures.cause.later in
-    let before : g.O.Sink.faults c.args.out.now ≤ g.O.Sink.faults c.hand_on.new.out = omega (arith, was, handed) in
-    let take = c.take.ensures.cause in
-    record {
-      later = let later = take.later in omega (arith, before, later);
-      cause = λ fault. rose_since _ _ _ before (take.cause (c.in_err-take-in-Frame.was ∙ ap (λ e. Err e) (sym p.2 ∙ same_error p.0 Run.WriteFault c.from_residual-in_err-take-in-Frame.result p.1 fault)));
-    }
+pub returns-in_err-take-in-Frame-clause-to : goal.returns-in_err-take-in-Frame-clause-to
+returns-in_err-take-in-Frame-clause-to g c = record {
+  cause =
+      let p = err_from_is_err_and c.from_residual-in_err-take-in-Frame.result c.from_residual-in_err-take-in-Frame.ensures.1 in
+      let was = c.loop-frame.invariant.out_faults in
+      let handed = c.hand_on.ensures.cause.later in
+      let before : g.O.Sink.faults c.args.out.now ≤ g.O.Sink.faults c.hand_on.new.out = omega (arith, was, handed) in
+      let take = c.take.ensures.to.cause in
+      record {
+        later = let later = take.later in omega (arith, before, later);
+        cause = λ fault. rose_since _ _ _ before (take.cause (c.in_err-take-in-Frame.was ∙ ap (λ e. Err e) (sym p.2 ∙ same_error p.0 Run.WriteFault c.from_residual-in_err-take-in-Frame.result p.1 fault)));
+      };
+  lasts = search rules;
+}
 
 pub loop-frame-preserved : goal.loop-frame-preserved
 loop-frame-preserved g c =
@@ -173,9 +191,9 @@ loop-frame-preserved g c =
       keeps = c.take.ensures.keeps ∙ inv.keeps;
       silent = λ is. c.take.ensures.silent is ∙ (c.hand_on.ensures.silent is).1 ∙ inv.silent is;
       source_faults = let before = inv.source_faults in let later = c.next.ensures.cause.later in omega (arith, before, later);
-      out_faults = let before = inv.out_faults in let handed = c.hand_on.ensures.cause.later in let later = c.take.ensures.cause.later in omega (arith, before, handed, later);
+      out_faults = let before = inv.out_faults in let handed = c.hand_on.ensures.cause.later in let later = c.take.ensures.to.cause.later in omega (arith, before, handed, later);
       source_lasts = c.next.ensures.lasts ∙ inv.source_lasts;
-      out_lasts = c.take.ensures.lasts ∙ c.hand_on.ensures.lasts ∙ inv.out_lasts;
+      out_lasts = c.take.ensures.to.lasts ∙ c.hand_on.ensures.lasts ∙ inv.out_lasts;
       read = (
         read.0 ++ frame ∷ [],
         length-append read.0 (frame ∷ []) ∙ ap (λ n. n + 1) read.1,

@@ -1,6 +1,7 @@
-use Rattle.std.proofs.Common.{◌≡◌, [], refl, subst, inl, inr}
+use Rattle.std.proofs.Common.{◌≡◌, [], refl, subst, inl, inr, rules}
 use Rattle.std.proofs.lemmas.Result.{err_from_is_err_and}
 use Rattle.mos_bytes.proofs.Writes.{AppendsFront-nil}
+use Rattle.mos_run.specs.Apps.{meaning_of, lawful_app}
 use Rattle.mos_run.specs.Records.{packets_of}
 use Rattle.mos_run.specs.Outcome.{is_forward, outcome}
 use Rattle.mos_run.specs.Run.{RunsAs}
@@ -8,57 +9,93 @@ use Rattle.mos_run.proofs.Reading.{none_read, fails_forward}
 use Rattle.mos_run.proofs.Replaying.{opened_replay, refused_header, stopped_writing, front_of_header, header_written, front_so_far}
 use Rattle.mos_run.proofs.replay.replay.Goals as goal
 
-pub returns-in_err-capture-clause-runs : goal.returns-in_err-capture-clause-runs
-returns-in_err-capture-clause-runs g c = λ bytes told.
-    let plan = c.args.plan.now in
-    let p = err_from_is_err_and c.from_residual.result c.from_residual.ensures.1 in
-    rw (p.1, p.2) (
-      refused_header (g.A.App.meaning c.args.app) plan.script.now (packets_of plan.script.now) plan.output (g.S.Source.left c.args.source.now) (g.S.Source.left c.open.new.source) bytes c.in_err-capture.field-0.0 c.in_err-capture.ensures.gives told,
-      AppendsFront-nil _ _,
-    )
+pub returns-in_err-capture : goal.returns-in_err-capture
+returns-in_err-capture g c = record {
+  ran = record {
+    comes_to = λ bytes told.
+        let plan = c.args.plan.now in
+        let p = err_from_is_err_and c.from_residual.result c.from_residual.ensures.1 in
+        rw (p.1, p.2) (
+          refused_header (meaning_of plan.app) plan.script.now (packets_of plan.script.now) plan.output (g.S.Source.left c.args.source.now) (g.S.Source.left c.open.new.source) bytes c.in_err-capture.field-0.0 c.in_err-capture.ensures.gives told,
+          AppendsFront-nil _ _,
+        );
+    read = search rules;
+    silent = search rules;
+    late = search rules;
+    from = search rules;
+    to = search rules;
+  };
+}
 
-pub returns-in_err-write_front-clause-runs : goal.returns-in_err-write_front-clause-runs
-returns-in_err-write_front-clause-runs g c = λ bytes told.
-    let plan = c.args.plan.now in
-    let app = g.A.App.meaning c.args.app in
-    let start = c.in_ok-capture.ensures.start in
-    let rep = opened_replay (g.S.Source.left c.args.source.now) (g.S.Source.left c.open.new.source) c.in_ok-capture.capture bytes c.in_ok-capture.ensures.gives start.count start.offset told in
-    let forward = fails_forward (is_forward plan.output) c.write_front.result c.in_err-write_front.field-0.0 c.in_err-write_front.was (λ is. (c.write_front.ensures.silent is).0) in
-    let p = err_from_is_err_and c.from_residual-in_err-write_front.result c.from_residual-in_err-write_front.ensures.1 in
-    rw (p.1, p.2) (
-      stopped_writing app plan.script.now plan.output bytes _ c.in_ok-capture.capture [] rep forward start.header,
-      front_of_header app plan.script.now plan.output bytes _ c.in_ok-capture.capture (g.O.Sink.taken c.args.out.now) (g.O.Sink.taken c.write_front.new.out) rep c.in_err-write_front.ensures.text,
-    )
+pub returns-in_err-write_front : goal.returns-in_err-write_front
+returns-in_err-write_front g c = record {
+  ran = record {
+    comes_to = λ bytes told.
+        let plan = c.args.plan.now in
+        let app = meaning_of plan.app in
+        let start = c.in_ok-capture.ensures.start in
+        let rep = opened_replay (g.S.Source.left c.args.source.now) (g.S.Source.left c.open.new.source) c.in_ok-capture.capture bytes c.in_ok-capture.ensures.gives start.count start.offset told in
+        let forward = fails_forward (is_forward plan.output) c.write_front.result c.in_err-write_front.field-0.0 c.in_err-write_front.was (λ is. (c.write_front.ensures.silent is).0) in
+        let p = err_from_is_err_and c.from_residual-in_err-write_front.result c.from_residual-in_err-write_front.ensures.1 in
+        rw (p.1, p.2) (
+          stopped_writing app plan.script.now plan.output bytes _ c.in_ok-capture.capture [] rep forward start.header,
+          front_of_header app plan.script.now plan.output bytes _ c.in_ok-capture.capture (g.O.Sink.taken c.args.out.now) (g.O.Sink.taken c.write_front.new.out) rep c.in_err-write_front.ensures.text,
+        );
+    read = search rules;
+    silent = search rules;
+    late = search rules;
+    from = search rules;
+    to = search rules;
+  };
+}
 
-pub returns-in_err-lane-clause-runs : goal.returns-in_err-lane-clause-runs
-returns-in_err-lane-clause-runs g c = λ bytes told.
-    let plan = c.args.plan.now in
-    let app = g.A.App.meaning c.args.app in
-    let start = c.in_ok-capture.ensures.start in
-    let rep = opened_replay (g.S.Source.left c.args.source.now) (g.S.Source.left c.open.new.source) c.in_ok-capture.capture bytes c.in_ok-capture.ensures.gives start.count start.offset told in
-    let written = header_written app plan.script.now plan.output c.in_ok-capture.capture.header (g.O.Sink.taken c.args.out.now) (g.O.Sink.taken c.write_front.new.out) c.in_ok-write_front.ensures.text in
-    let p = err_from_is_err_and c.from_residual-in_err-lane.result c.from_residual-in_err-lane.ensures.1 in
-    rw (p.1, p.2)
-    (inr (inr (inl refl)), front_so_far app plan.script.now plan.output bytes _ c.in_ok-capture.capture [] (g.O.Sink.taken c.args.out.now) (g.O.Sink.taken c.write_front.new.out) rep written)
+pub returns-in_err-lane : goal.returns-in_err-lane
+returns-in_err-lane g c = record {
+  ran = record {
+    comes_to = λ bytes told.
+        let plan = c.args.plan.now in
+        let app = meaning_of plan.app in
+        let start = c.in_ok-capture.ensures.start in
+        let rep = opened_replay (g.S.Source.left c.args.source.now) (g.S.Source.left c.open.new.source) c.in_ok-capture.capture bytes c.in_ok-capture.ensures.gives start.count start.offset told in
+        let written = header_written app plan.script.now plan.output c.in_ok-capture.capture.header (g.O.Sink.taken c.args.out.now) (g.O.Sink.taken c.write_front.new.out) c.in_ok-write_front.ensures.text in
+        let p = err_from_is_err_and c.from_residual-in_err-lane.result c.from_residual-in_err-lane.ensures.1 in
+        rw (p.1, p.2)
+        (inr (inr (inl refl)), front_so_far app plan.script.now plan.output bytes _ c.in_ok-capture.capture [] (g.O.Sink.taken c.args.out.now) (g.O.Sink.taken c.write_front.new.out) rep written);
+    read = search rules;
+    silent = search rules;
+    late = search rules;
+    from = search rules;
+    to = search rules;
+  };
+}
+
+pub read_on-requires-clause-app : goal.read_on-requires-clause-app
+read_on-requires-clause-app g c = lawful_app c.in_ok-lane.lane.world.app.0
 
 pub read_on-requires-clause-read : goal.read_on-requires-clause-read
 read_on-requires-clause-read g c =
     let lane = c.in_ok-lane.lane in
     let made = c.in_ok-lane.ensures in
-    none_read (g.A.App.meaning lane.world.app) c.args.plan.now.script.now c.args.plan.now.output lane.world.master.version lane.failed _ made.failed made.given made.stands
+    none_read (meaning_of lane.world.app.0) c.args.plan.now.script.now c.args.plan.now.output lane.world.master.version lane.failed _ made.failed made.given made.stands
 
-pub returns-clause-runs : goal.returns-clause-runs
-returns-clause-runs g c = λ bytes told.
-    let plan = c.args.plan.now in
-    let lane = c.in_ok-lane.lane in
-    let start = c.in_ok-capture.ensures.start in
-    let rep = opened_replay (g.S.Source.left c.args.source.now) (g.S.Source.left c.open.new.source) c.in_ok-capture.capture bytes c.in_ok-capture.ensures.gives start.count start.offset told in
-    let written = header_written (g.A.App.meaning lane.world.app) plan.script.now plan.output c.in_ok-capture.capture.header (g.O.Sink.taken c.args.out.now) (g.O.Sink.taken c.write_front.new.out) c.in_ok-write_front.ensures.text in
-    subst (λ a. RunsAs (outcome a plan.script.now (packets_of plan.script.now) plan.output bytes) (g.O.Sink.taken c.args.out.now) (g.O.Sink.taken c.read_on.new.out) c.read_on.result) c.in_ok-lane.ensures.app
-    (c.read_on.ensures.runs bytes (g.O.Sink.taken c.args.out.now) rep written)
-
-pub returns-clause-read : goal.returns-clause-read
-returns-clause-read g c = λ ok bytes told.
-    let start = c.in_ok-capture.ensures.start in
-    let rep = opened_replay (g.S.Source.left c.args.source.now) (g.S.Source.left c.open.new.source) c.in_ok-capture.capture bytes c.in_ok-capture.ensures.gives start.count start.offset told in
-    c.read_on.ensures.read ok bytes rep
+pub returns : goal.returns
+returns g c = record {
+  ran = record {
+    comes_to = λ bytes told.
+        let plan = c.args.plan.now in
+        let lane = c.in_ok-lane.lane in
+        let start = c.in_ok-capture.ensures.start in
+        let rep = opened_replay (g.S.Source.left c.args.source.now) (g.S.Source.left c.open.new.source) c.in_ok-capture.capture bytes c.in_ok-capture.ensures.gives start.count start.offset told in
+        let written = header_written (meaning_of lane.world.app.0) plan.script.now plan.output c.in_ok-capture.capture.header (g.O.Sink.taken c.args.out.now) (g.O.Sink.taken c.write_front.new.out) c.in_ok-write_front.ensures.text in
+        subst (λ a. RunsAs (outcome a plan.script.now (packets_of plan.script.now) plan.output bytes) (g.O.Sink.taken c.args.out.now) (g.O.Sink.taken c.read_on.new.out) c.read_on.result) c.in_ok-lane.ensures.app
+        (c.read_on.ensures.runs bytes (g.O.Sink.taken c.args.out.now) rep written);
+    read = λ ok bytes told.
+        let start = c.in_ok-capture.ensures.start in
+        let rep = opened_replay (g.S.Source.left c.args.source.now) (g.S.Source.left c.open.new.source) c.in_ok-capture.capture bytes c.in_ok-capture.ensures.gives start.count start.offset told in
+        c.read_on.ensures.read ok bytes rep;
+    silent = search rules;
+    late = search rules;
+    from = search rules;
+    to = search rules;
+  };
+}

@@ -32,4 +32,4 @@ returns-clause-runs g c = λ t is.
     let u = under_text (map string_bytes c.args.words.now) content left t s c.in_ok-settings.ensures.ok is in
     let over = over_bytes s content left t c.in_ok-script.script u (c.in_ok-script.ensures.ok u.text u.told_so) in
     subst (λ x. RunsUnder x (g.O.Sink.taken c.args.out.now) (g.O.Sink.taken c.run_asked.new.out) c.run_asked.result) over.comes_to
-    (c.run_asked.ensures.runs over.bytes over.told_so)
+    (c.run_asked.ensures.ran.comes_to over.bytes over.told_so)

@@ -1,6 +1,7 @@
-use Rattle.std.proofs.Common.{[], sym, subst}
+use Rattle.std.proofs.Common.{[], rules, sym, subst}
 use Rattle.std.proofs.lemmas.Result.{err_from_is_err_and}
 use Rattle.pcap_source.specs.Reading.{frames_at}
+use Rattle.mos_run.specs.Apps.{meaning_of}
 use Rattle.mos_run.specs.Records.{packets_with}
 use Rattle.mos_run.specs.Lanes.{RunsWith, FinishesWith}
 use Rattle.mos_run.proofs.Replaying.{opened_replay, refused_header}
@@ -8,50 +9,86 @@ use Rattle.mos_run.proofs.Joined.{stopped_any}
 use Rattle.mos_run.proofs.Forwarding.{forward_is, no_header, cut_short, all_left}
 use Rattle.mos_run.proofs.several.forward_on.Goals as goal
 
-pub returns-in_err-capture-clause-runs : goal.returns-in_err-capture-clause-runs
-returns-in_err-capture-clause-runs g c = λ bytes told.
-    let plan = c.args.plan.now in
-    let app = g.A.App.meaning c.args.app in
-    let p = err_from_is_err_and c.from_residual.result c.from_residual.ensures.1 in
-    rw (p.1, p.2)
-    (stopped_any app plan.script.now c.args.workers plan.output bytes c.what_one_worker_has_is_allowed.ensures.allowed c.requires.order (g.O.Sink.taken c.args.out.now) _
-    (λ vs. refused_header app plan.script.now (packets_with app plan.script.now vs) plan.output (g.S.Source.left c.args.source.now) (g.S.Source.left c.open.new.source) bytes c.in_err-capture.field-0.0 c.in_err-capture.ensures.gives told))
+pub returns-in_err-capture : goal.returns-in_err-capture
+returns-in_err-capture g c = record {
+  ran = record {
+    comes_to = λ bytes told.
+        let plan = c.args.plan.now in
+        let app = meaning_of plan.app in
+        let p = err_from_is_err_and c.from_residual.result c.from_residual.ensures.1 in
+        rw (p.1, p.2)
+        (stopped_any app plan.script.now plan.workers plan.output bytes c.what_one_worker_has_is_allowed.ensures.allowed c.requires.job.order (g.O.Sink.taken c.args.out.now) _
+        (λ vs. refused_header app plan.script.now (packets_with app plan.script.now vs) plan.output (g.S.Source.left c.args.source.now) (g.S.Source.left c.open.new.source) bytes c.in_err-capture.field-0.0 c.in_err-capture.ensures.gives told));
+    read = search rules;
+    silent = search rules;
+    late = search rules;
+    from = search rules;
+    to = search rules;
+  };
+}
 
-pub returns-in_err-write_header-clause-runs : goal.returns-in_err-write_header-clause-runs
-returns-in_err-write_header-clause-runs g c = λ bytes told.
-    let plan = c.args.plan.now in
-    let app = g.A.App.meaning c.args.app in
-    let capture = c.in_ok-capture.capture in
-    let start = c.in_ok-capture.ensures.start in
-    let rep = opened_replay (g.S.Source.left c.args.source.now) (g.S.Source.left c.open.new.source) capture bytes c.in_ok-capture.ensures.gives start.count start.offset told in
-    let p = err_from_is_err_and c.from_residual-in_err-write_header.result c.from_residual-in_err-write_header.ensures.1 in
-    let old = g.O.Sink.taken c.args.out.now in
-    let new = g.O.Sink.taken c.write_header.new.out in
-    rw (p.1, p.2, forward_is plan.output c.requires.forwards)
-    (no_header app plan.script.now c.args.workers bytes capture.header (frames_at capture rep.rest) rep.holds rep.header start.header
-    c.what_one_worker_has_is_allowed.ensures.allowed c.requires.order old new c.in_err-write_header.ensures.bytes)
+pub returns-in_err-write_header : goal.returns-in_err-write_header
+returns-in_err-write_header g c = record {
+  ran = record {
+    comes_to = λ bytes told.
+        let plan = c.args.plan.now in
+        let app = meaning_of plan.app in
+        let capture = c.in_ok-capture.capture in
+        let start = c.in_ok-capture.ensures.start in
+        let rep = opened_replay (g.S.Source.left c.args.source.now) (g.S.Source.left c.open.new.source) capture bytes c.in_ok-capture.ensures.gives start.count start.offset told in
+        let p = err_from_is_err_and c.from_residual-in_err-write_header.result c.from_residual-in_err-write_header.ensures.1 in
+        let old = g.O.Sink.taken c.args.out.now in
+        let new = g.O.Sink.taken c.write_header.new.out in
+        rw (p.1, p.2, forward_is plan.output c.requires.forwards)
+        (no_header app plan.script.now plan.workers bytes capture.header (frames_at capture rep.rest) rep.holds rep.header start.header
+        c.what_one_worker_has_is_allowed.ensures.allowed c.requires.job.order old new c.in_err-write_header.ensures.bytes);
+    read = search rules;
+    silent = search rules;
+    late = search rules;
+    from = search rules;
+    to = search rules;
+  };
+}
 
-pub returns-in_err-versions-clause-runs : goal.returns-in_err-versions-clause-runs
-returns-in_err-versions-clause-runs g c = λ bytes told.
-    let plan = c.args.plan.now in
-    let app = g.A.App.meaning c.args.app in
-    let capture = c.in_ok-capture.capture in
-    let start = c.in_ok-capture.ensures.start in
-    let rep = opened_replay (g.S.Source.left c.args.source.now) (g.S.Source.left c.open.new.source) capture bytes c.in_ok-capture.ensures.gives start.count start.offset told in
-    let p = err_from_is_err_and c.from_residual-in_err-versions.result c.from_residual-in_err-versions.ensures.1 in
-    rw (p.1, p.2, forward_is plan.output c.requires.forwards)
-    (cut_short app plan.script.now c.args.workers bytes capture.header (frames_at capture rep.rest) rep.holds rep.header start.header
-    (g.O.Sink.taken c.args.out.now) (g.O.Sink.taken c.write_header.new.out) (g.O.Sink.taken c.forward_lanes.new.out) c.in_err-versions.field-0.0
-    c.in_ok-write_header.ensures.bytes (c.in_err-versions.ensures.forwards rep.rest rep.told))
+pub returns-in_err-versions : goal.returns-in_err-versions
+returns-in_err-versions g c = record {
+  ran = record {
+    comes_to = λ bytes told.
+        let plan = c.args.plan.now in
+        let app = meaning_of plan.app in
+        let capture = c.in_ok-capture.capture in
+        let start = c.in_ok-capture.ensures.start in
+        let rep = opened_replay (g.S.Source.left c.args.source.now) (g.S.Source.left c.open.new.source) capture bytes c.in_ok-capture.ensures.gives start.count start.offset told in
+        let p = err_from_is_err_and c.from_residual-in_err-versions.result c.from_residual-in_err-versions.ensures.1 in
+        rw (p.1, p.2, forward_is plan.output c.requires.forwards)
+        (cut_short app plan.script.now plan.workers bytes capture.header (frames_at capture rep.rest) rep.holds rep.header start.header
+        (g.O.Sink.taken c.args.out.now) (g.O.Sink.taken c.write_header.new.out) (g.O.Sink.taken c.forward_lanes.new.out) c.in_err-versions.field-0.0
+        c.in_ok-write_header.ensures.bytes (c.in_err-versions.ensures.forwards rep.rest rep.told));
+    read = search rules;
+    silent = search rules;
+    late = search rules;
+    from = search rules;
+    to = search rules;
+  };
+}
 
-pub returns-clause-runs : goal.returns-clause-runs
-returns-clause-runs g c = λ bytes told.
-    let plan = c.args.plan.now in
-    let app = g.A.App.meaning c.args.app in
-    let capture = c.in_ok-capture.capture in
-    let start = c.in_ok-capture.ensures.start in
-    let rep = opened_replay (g.S.Source.left c.args.source.now) (g.S.Source.left c.open.new.source) capture bytes c.in_ok-capture.ensures.gives start.count start.offset told in
-    rw (forward_is plan.output c.requires.forwards)
-    (all_left app plan.script.now c.args.workers bytes capture.header (frames_at capture rep.rest) rep.holds rep.header start.header
-    c.a_run_has_its_versions.ensures.versions (g.O.Sink.taken c.args.out.now) (g.O.Sink.taken c.write_header.new.out) (g.O.Sink.taken c.forward_lanes.new.out) c.in_ok-versions.versions
-    c.in_ok-write_header.ensures.bytes (c.in_ok-versions.ensures.forwards rep.rest rep.told))
+pub returns : goal.returns
+returns g c = record {
+  ran = record {
+    comes_to = λ bytes told.
+        let plan = c.args.plan.now in
+        let app = meaning_of plan.app in
+        let capture = c.in_ok-capture.capture in
+        let start = c.in_ok-capture.ensures.start in
+        let rep = opened_replay (g.S.Source.left c.args.source.now) (g.S.Source.left c.open.new.source) capture bytes c.in_ok-capture.ensures.gives start.count start.offset told in
+        rw (forward_is plan.output c.requires.forwards)
+        (all_left app plan.script.now plan.workers bytes capture.header (frames_at capture rep.rest) rep.holds rep.header start.header
+        c.a_run_has_its_versions.ensures.versions (g.O.Sink.taken c.args.out.now) (g.O.Sink.taken c.write_header.new.out) (g.O.Sink.taken c.forward_lanes.new.out) c.in_ok-versions.versions
+        c.in_ok-write_header.ensures.bytes (c.in_ok-versions.ensures.forwards rep.rest rep.told));
+    read = search rules;
+    silent = search rules;
+    late = search rules;
+    from = search rules;
+    to = search rules;
+  };
+}

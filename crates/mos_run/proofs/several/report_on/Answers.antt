@@ -1,4 +1,4 @@
-use Rattle.std.proofs.Common.{◌≡◌, ◌≤◌, true, false, sym, subst, ap, ◌∙◌, arith}
+use Rattle.std.proofs.Common.{◌≡◌, ◌≤◌, true, false, sym, subst, ap, ◌∙◌, arith, rules}
 use Rattle.std.specs.Prelude.{◌⊎◌}
 use Rattle.std.specs.Io.KnownBytes.{Appends}
 use Rattle.std.proofs.lemmas.Result.{err_from_is_err_and}
@@ -6,74 +6,111 @@ use Rattle.mos_bytes.specs.Writes.{AppendsFront}
 use Rattle.report_text.specs.Tidy.{tidy}
 use Rattle.pcap_source.specs.Reading.{frames_at}
 use Rattle.mos_run.specs.declared.refusal.RunError.TheVariants as Run
+use Rattle.mos_run.specs.Apps.{meaning_of, lawful_app}
 use Rattle.mos_run.specs.Records.{packets_with}
 use Rattle.mos_run.specs.Outcome.{closing, is_forward}
 use Rattle.mos_run.proofs.Replaying.{opened_replay, refused_header}
 use Rattle.mos_run.proofs.Joined.{no_write_told, whole_is_tidy, stopped_any, stopped, finished, broke_off}
 use Rattle.mos_run.proofs.several.report_on.Goals as goal
 
-pub returns-in_err-capture-clause-runs : goal.returns-in_err-capture-clause-runs
-returns-in_err-capture-clause-runs g c = λ bytes told.
-    let plan = c.args.plan.now in
-    let app = g.A.App.meaning c.args.app in
-    let p = err_from_is_err_and c.from_residual.result c.from_residual.ensures.1 in
-    rw (p.1, p.2)
-    (stopped_any app plan.script.now c.args.workers plan.output bytes c.what_one_worker_has_is_allowed.ensures.allowed c.requires.order (g.O.Sink.taken c.args.out.now) _
-    (λ vs. refused_header app plan.script.now (packets_with app plan.script.now vs) plan.output (g.S.Source.left c.args.source.now) (g.S.Source.left c.open.new.source) bytes c.in_err-capture.field-0.0 c.in_err-capture.ensures.gives told))
+pub returns-in_err-capture : goal.returns-in_err-capture
+returns-in_err-capture g c = record {
+  ran = record {
+    comes_to = λ bytes told.
+        let plan = c.args.plan.now in
+        let app = meaning_of plan.app in
+        let p = err_from_is_err_and c.from_residual.result c.from_residual.ensures.1 in
+        rw (p.1, p.2)
+        (stopped_any app plan.script.now plan.workers plan.output bytes c.what_one_worker_has_is_allowed.ensures.allowed c.requires.job.order (g.O.Sink.taken c.args.out.now) _
+        (λ vs. refused_header app plan.script.now (packets_with app plan.script.now vs) plan.output (g.S.Source.left c.args.source.now) (g.S.Source.left c.open.new.source) bytes c.in_err-capture.field-0.0 c.in_err-capture.ensures.gives told));
+    read = search rules;
+    silent = search rules;
+    late = search rules;
+    from = search rules;
+    to = search rules;
+  };
+}
 
-pub returns-in_err-end-clause-runs : goal.returns-in_err-end-clause-runs
-returns-in_err-end-clause-runs g c = λ bytes told.
-    let plan = c.args.plan.now in
-    let app = g.A.App.meaning c.args.app in
-    let start = c.in_ok-capture.ensures.start in
-    let rep = opened_replay (g.S.Source.left c.args.source.now) (g.S.Source.left c.open.new.source) c.in_ok-capture.capture bytes c.in_ok-capture.ensures.gives start.count start.offset told in
-    let ends = c.in_err-end.ensures.ends rep.rest rep.told in
-    let p = err_from_is_err_and c.from_residual-in_err-end.result c.from_residual-in_err-end.ensures.1 in
-    rw (p.1, p.2)
-    (stopped app plan.script.now c.args.workers plan.output bytes (frames_at c.in_ok-capture.capture rep.rest) rep.holds c.requires.kept c.what_one_worker_has_is_allowed.ensures.allowed c.requires.order
-    (g.O.Sink.taken c.args.out.now) c.in_err-end.field-0.0 ends)
+pub returns-in_err-end : goal.returns-in_err-end
+returns-in_err-end g c = record {
+  ran = record {
+    comes_to = λ bytes told.
+        let plan = c.args.plan.now in
+        let app = meaning_of plan.app in
+        let start = c.in_ok-capture.ensures.start in
+        let rep = opened_replay (g.S.Source.left c.args.source.now) (g.S.Source.left c.open.new.source) c.in_ok-capture.capture bytes c.in_ok-capture.ensures.gives start.count start.offset told in
+        let ends = c.in_err-end.ensures.ends rep.rest rep.told in
+        let p = err_from_is_err_and c.from_residual-in_err-end.result c.from_residual-in_err-end.ensures.1 in
+        rw (p.1, p.2)
+        (stopped app plan.script.now plan.workers plan.output bytes (frames_at c.in_ok-capture.capture rep.rest) rep.holds c.requires.kept c.what_one_worker_has_is_allowed.ensures.allowed c.requires.job.order
+        (g.O.Sink.taken c.args.out.now) c.in_err-end.field-0.0 ends);
+    read = search rules;
+    silent = search rules;
+    late = search rules;
+    from = search rules;
+    to = record {
+      cause =
+          let p = err_from_is_err_and c.from_residual-in_err-end.result c.from_residual-in_err-end.ensures.1 in
+          let faults = g.O.Sink.faults c.args.out.now in
+          rw (p.1, p.2) (record {
+            later = let same : faults ≤ faults = omega arith in same;
+            cause = λ fault. absurd (no_write_told c.in_err-end.field-0.0 c.in_err-end.ensures.no_write fault);
+          });
+      lasts = search rules;
+    };
+  };
+}
 
 pub write_end-requires : goal.write_end-requires
 write_end-requires g c = record {
   tidy = λ report.
       let plan = c.args.plan.now in
-      let app = g.A.App.meaning c.args.app in
+      let app = meaning_of plan.app in
       let whole = c.in_ok-end.ensures.whole in
       subst (λ l. tidy l ≡ true) (sym c.as_slice.ensures)
-      (whole_is_tidy c.records_are_tidy.ensures c.packets_of_a_capture_rise.ensures.run app plan.script.now c.args.workers whole.1 whole.0 c.in_ok-end.end c.requires.app c.requires.lawful whole.2);
+      (whole_is_tidy c.records_are_tidy.ensures c.packets_of_a_capture_rise.ensures.run app plan.script.now plan.workers whole.1 whole.0 c.in_ok-end.end (lawful_app plan.app) c.requires.job.lawful whole.2);
 }
 
-pub returns-in_err-write_end-clause-runs : goal.returns-in_err-write_end-clause-runs
-returns-in_err-write_end-clause-runs g c = λ bytes told.
-    let plan = c.args.plan.now in
-    let app = g.A.App.meaning c.args.app in
-    let start = c.in_ok-capture.ensures.start in
-    let rep = opened_replay (g.S.Source.left c.args.source.now) (g.S.Source.left c.open.new.source) c.in_ok-capture.capture bytes c.in_ok-capture.ensures.gives start.count start.offset told in
-    let ends = c.in_ok-end.ensures.ends rep.rest rep.told in
-    let p = err_from_is_err_and c.from_residual-in_err-write_end.result c.from_residual-in_err-write_end.ensures.1 in
-    let which = subst (λ e. ((e ≡ Run.WriteFault) × (is_forward plan.output ≡ false)) ⊎ (e ≡ Run.NoMemory)) (sym p.2) c.in_err-write_end.ensures.only in
-    rw (p.1)
-    (broke_off app plan.script.now c.args.workers plan.output bytes (frames_at c.in_ok-capture.capture rep.rest) rep.holds c.requires.kept ends.0 ends.1 c.in_ok-end.end ends.2
-    (g.O.Sink.taken c.args.out.now) (g.O.Sink.taken c.write_end.new.out) p.0 which
-    (subst (λ l. AppendsFront (g.O.Sink.taken c.args.out.now) (g.O.Sink.taken c.write_end.new.out) (closing plan.output l c.in_ok-end.end.totals)) c.as_slice.ensures c.in_err-write_end.ensures.text))
+pub returns-in_err-write_end : goal.returns-in_err-write_end
+returns-in_err-write_end g c = record {
+  ran = record {
+    comes_to = λ bytes told.
+        let plan = c.args.plan.now in
+        let app = meaning_of plan.app in
+        let start = c.in_ok-capture.ensures.start in
+        let rep = opened_replay (g.S.Source.left c.args.source.now) (g.S.Source.left c.open.new.source) c.in_ok-capture.capture bytes c.in_ok-capture.ensures.gives start.count start.offset told in
+        let ends = c.in_ok-end.ensures.ends rep.rest rep.told in
+        let p = err_from_is_err_and c.from_residual-in_err-write_end.result c.from_residual-in_err-write_end.ensures.1 in
+        let which = subst (λ e. ((e ≡ Run.WriteFault) × (is_forward plan.output ≡ false)) ⊎ (e ≡ Run.NoMemory)) (sym p.2) c.in_err-write_end.ensures.only in
+        rw (p.1)
+        (broke_off app plan.script.now plan.workers plan.output bytes (frames_at c.in_ok-capture.capture rep.rest) rep.holds c.requires.kept ends.0 ends.1 c.in_ok-end.end ends.2
+        (g.O.Sink.taken c.args.out.now) (g.O.Sink.taken c.write_end.new.out) p.0 which
+        (subst (λ l. AppendsFront (g.O.Sink.taken c.args.out.now) (g.O.Sink.taken c.write_end.new.out) (closing plan.output l c.in_ok-end.end.totals)) c.as_slice.ensures c.in_err-write_end.ensures.text));
+    read = search rules;
+    silent = search rules;
+    late = search rules;
+    from = search rules;
+    to = search rules;
+  };
+}
 
-pub returns-clause-runs : goal.returns-clause-runs
-returns-clause-runs g c = λ bytes told.
-    let plan = c.args.plan.now in
-    let app = g.A.App.meaning c.args.app in
-    let start = c.in_ok-capture.ensures.start in
-    let rep = opened_replay (g.S.Source.left c.args.source.now) (g.S.Source.left c.open.new.source) c.in_ok-capture.capture bytes c.in_ok-capture.ensures.gives start.count start.offset told in
-    let ends = c.in_ok-end.ensures.ends rep.rest rep.told in
-    let f = frames_at c.in_ok-capture.capture rep.rest in
-    finished app plan.script.now c.args.workers plan.output bytes f rep.holds c.requires.kept ends.0 ends.1 c.in_ok-end.end ends.2 c.a_run_has_its_versions.ensures.versions
-    (g.O.Sink.taken c.args.out.now) (g.O.Sink.taken c.write_end.new.out)
-    (subst (λ l. Appends (g.O.Sink.taken c.args.out.now) (g.O.Sink.taken c.write_end.new.out) (closing plan.output l c.in_ok-end.end.totals)) c.as_slice.ensures c.in_ok-write_end.ensures.text)
-
-pub returns-in_err-end-clause-write_fault : goal.returns-in_err-end-clause-write_fault
-returns-in_err-end-clause-write_fault g c =
-    let p = err_from_is_err_and c.from_residual-in_err-end.result c.from_residual-in_err-end.ensures.1 in
-    let faults = g.O.Sink.faults c.args.out.now in
-    rw (p.1, p.2) (record {
-      later = let same : faults ≤ faults = omega arith in same;
-      cause = λ fault. absurd (no_write_told c.in_err-end.field-0.0 c.in_err-end.ensures.no_write fault);
-    })
+pub returns : goal.returns
+returns g c = record {
+  ran = record {
+    comes_to = λ bytes told.
+        let plan = c.args.plan.now in
+        let app = meaning_of plan.app in
+        let start = c.in_ok-capture.ensures.start in
+        let rep = opened_replay (g.S.Source.left c.args.source.now) (g.S.Source.left c.open.new.source) c.in_ok-capture.capture bytes c.in_ok-capture.ensures.gives start.count start.offset told in
+        let ends = c.in_ok-end.ensures.ends rep.rest rep.told in
+        let f = frames_at c.in_ok-capture.capture rep.rest in
+        finished app plan.script.now plan.workers plan.output bytes f rep.holds c.requires.kept ends.0 ends.1 c.in_ok-end.end ends.2 c.a_run_has_its_versions.ensures.versions
+        (g.O.Sink.taken c.args.out.now) (g.O.Sink.taken c.write_end.new.out)
+        (subst (λ l. Appends (g.O.Sink.taken c.args.out.now) (g.O.Sink.taken c.write_end.new.out) (closing plan.output l c.in_ok-end.end.totals)) c.as_slice.ensures c.in_ok-write_end.ensures.text);
+    read = search rules;
+    silent = search rules;
+    late = search rules;
+    from = search rules;
+    to = search rules;
+  };
+}
