@@ -5,7 +5,6 @@ pub mod Summary
 pub mod Refusal
 pub mod Outcome
 pub mod Told
-pub mod Outside
 pub mod Reading
 pub mod Run
 pub mod Runs

@@ -17,7 +17,7 @@ use Rattle.mos_run.specs.declared.refusal.RunError.{RunError}
 use Rattle.mos_run.specs.declared.refusal.RunError.TheVariants.{Usage, ReadFault, WriteFault, NoMemory}
 use Rattle.mos_run.specs.Records.{packets_of}
 use Rattle.mos_run.specs.Outcome.{is_forward, outcome, output_of, weighed}
-use Rattle.mos_run.specs.Outside.{Reads, Writes}
+use Rattle.mos_bytes.specs.Outside.{Reads, Writes}
 use Rattle.mos_run.specs.Refusal.{status_of}
 use Rattle.mos_run.specs.Told.{bytes_under}
 use Rattle.mos_run.specs.Run.{RunsAs, ReadsCapture, Makes, NamesNone, forwards}

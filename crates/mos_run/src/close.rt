@@ -8,7 +8,7 @@ ghost use Rattle.pcap_source.specs.Captured.{Captured};
 ghost use Rattle.app_api.specs.App.{IsLawful};
 ghost use Rattle.mos_run.specs.Records.{packets_of};
 ghost use Rattle.mos_run.specs.Outcome.{is_forward, streamed, closing};
-ghost use Rattle.mos_run.specs.Outside.{Writes};
+ghost use Rattle.mos_bytes.specs.Outside.{Writes};
 ghost use Rattle.mos_run.specs.Reading.{LaneHasRead};
 ghost use Rattle.mos_run.specs.Runs.{EndsAlone, MayRun};
 

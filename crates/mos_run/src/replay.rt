@@ -12,7 +12,7 @@ ghost use Rattle.app_api.specs.App.{IsLawful};
 ghost use Rattle.mos_run.specs.Apps.{meaning_of};
 ghost use Rattle.mos_run.specs.Records.{packets_of};
 ghost use Rattle.mos_run.specs.Outcome.{is_forward, streamed};
-ghost use Rattle.mos_run.specs.Outside.{Reads, Writes};
+ghost use Rattle.mos_bytes.specs.Outside.{Reads, Writes};
 ghost use Rattle.mos_run.specs.Reading.{LaneIsReady, LaneHasRead, Replaying, gained};
 ghost use Rattle.mos_run.specs.Refusal.{status_of};
 ghost use Rattle.mos_run.specs.Runs.{MayRun, Runs, RunsAlone};

@@ -2,7 +2,7 @@
 
 ghost use Rattle.std.specs.Prelude.{◌≡◌, ◌⊎◌, ◌*◌, ◌+◌, IfOk, IfErr, IsErrOf, string_bytes};
 ghost use Rattle.mos_bytes.specs.Writes.{WriteAdds};
-ghost use Rattle.mos_run.specs.Outside.{Writes};
+ghost use Rattle.mos_bytes.specs.Outside.{Writes};
 ghost use Rattle.mos_run.specs.Summary.{made_line, summary_text};
 
 use crate::RunError;
