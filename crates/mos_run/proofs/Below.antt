@@ -1,5 +1,5 @@
 -- A run whose output is gathered: from the sink that gathers to the one below it.
-use Rattle.std.proofs.Common.{◌≡◌, ◌≢◌, ℕ, ◌+◌, ◌≤◌, Bool, true, false, Option, Some, None, List, [], ◌∷◌, ◌++◌, length, map, take, Result, Ok, Err, refl, sym, ap, subst, ◌∙◌, arith, inl, inr}
+use Rattle.std.proofs.Common.{◌≡◌, ◌≢◌, ℕ, ◌≤◌, Bool, true, false, Option, List, [], ◌∷◌, ◌++◌, length, map, take, Result, Ok, Err, refl, sym, subst, arith, inl, inr}
 use Rattle.std.specs.Prelude.{◌⊎◌, if◌then◌else◌}
 use Rattle.std.specs.Io.KnownBytes.{Appends, Keeps}
 use Rattle.std.proofs.KnownBytes.{Appends-kept}
@@ -24,7 +24,7 @@ use Rattle.mos_run.specs.Records.{packets_with, records_of}
 use Rattle.mos_run.specs.Forward.{forwarded}
 use Rattle.mos_run.specs.Outcome.{is_heavy, refused, outcome, outcome_by, followed, weighed, ended, output_of}
 use Rattle.mos_run.specs.Told.{Told, Refused, Asked, outcome_under}
-use Rattle.mos_run.specs.Run.{Finishes, FinishesUnder, StopsAs, UnderSome}
+use Rattle.mos_run.specs.Run.{FinishesUnder, StopsAs, UnderSome}
 use Rattle.mos_run.proofs.Closing.{some-closing}
 
 -- ---- what ends well writes something

@@ -1,6 +1,6 @@
 -- The versions of one worker: any number of workers may have them, and under them all make the same records and verdicts.
-use Rattle.std.proofs.Common.{◌≡◌, ℕ, ◌≤◌, List, [], map, true, refl, sym, ap, subst, ◌∙◌, le_refl, Result, Ok, Err}
-use Rattle.std.specs.Prelude.{IsTrue, Bool, ◌&&◌, not, nat_lt, if◌then◌else◌, ◌++◌, length, take}
+use Rattle.std.proofs.Common.{◌≡◌, ℕ, ◌≤◌, List, [], map, refl, sym, ap, subst, ◌∙◌, le_refl, Result, Ok, Err}
+use Rattle.std.specs.Prelude.{Bool, ◌&&◌, not, nat_lt, if◌then◌else◌, ◌++◌, length, take}
 use Rattle.flow_table.specs.Key.{EndpointPair}
 use Rattle.flow_table.specs.Lane.{lane_of_key}
 use Rattle.app_api.specs.App.{Meaning}
@@ -11,7 +11,7 @@ use Rattle.pcap_source.specs.Capture.{Frames, Ending, tail, too_long, too_many, 
 use Rattle.pcap_source.specs.declared.errors.OpenError.{OpenError}
 use Rattle.pcap_source.specs.declared.errors.CaptureFault.TheVariants as Fault
 use Rattle.control_script.specs.declared.stamped.Stamped.{Stamped}
-use Rattle.control_script.specs.Order.{commands_of, are_in_order}
+use Rattle.control_script.specs.Order.{commands_of}
 use Rattle.control_script.specs.Versions.{floor, ceil}
 use Rattle.lane_core.specs.Sight.{Arrival, arrivals}
 use Rattle.lane_core.specs.Records.{VersionedPacket, RecordSoFar, records, versioned}
@@ -23,7 +23,7 @@ use Rattle.worker_laws.specs.Whole.{in_force, over_under, run_under, verdicts_un
 use Rattle.worker_pool.specs.Run.{MayHave, totals_of}
 use Rattle.mos_run.specs.declared.output.Output.{Output}
 use Rattle.mos_run.specs.declared.refusal.RunError.TheVariants.{Heavy, Capture, TooMany}
-use Rattle.mos_run.specs.Records.{control_at, packets_of, packets_with, records_of, verdicts_of, versions_of}
+use Rattle.mos_run.specs.Records.{packets_of, packets_with, records_of, verdicts_of, versions_of}
 use Rattle.worker_pool.specs.Forward.{left_by_all}
 use Rattle.mos_run.specs.Outcome.{Outcome, refused, is_forward, closing, followed, outcome, outcome_by}
 use Rattle.mos_run.specs.Told.{frames_in}

@@ -1,14 +1,13 @@
 -- The end of a run: what a lane ends with, and what is written of it.
-use Rattle.std.proofs.Common.{◌≡◌, ◌≢◌, ℕ, zero, suc, ◌+◌, ◌<◌, ◌≤◌, Bool, true, false, Option, Some, None, List, [], ◌∷◌, ◌++◌, length, map, refl, sym, ap, subst, ◌∙◌, arith, inl, inr}
+use Rattle.std.proofs.Common.{◌≡◌, ◌≢◌, ℕ, ◌+◌, Bool, true, false, Option, Some, None, List, [], ◌∷◌, ◌++◌, length, map, refl, sym, ap, subst, ◌∙◌, arith, inl, inr}
 use Rattle.std.proofs.lemmas.List.{length-map}
 use Rattle.std.proofs.lemmas.Grind.{common_steps}
-use Rattle.std.specs.Prelude.{◌⊎◌, not, if◌then◌else◌, Result, Ok, Err, ⊤}
+use Rattle.std.specs.Prelude.{◌⊎◌, not, if◌then◌else◌, Result, Ok, Err}
 use Rattle.std.specs.Io.KnownBytes.{Appends}
 use Rattle.std.proofs.KnownBytes.{Appends-trans}
 use Rattle.mos_bytes.specs.Writes.{AppendsFront}
-use Rattle.mos_bytes.proofs.Writes.{AppendsFront-after, AppendsFront-nil, AppendsFront-whole}
+use Rattle.mos_bytes.proofs.Writes.{AppendsFront-after}
 use Rattle.app_api.specs.App.{Meaning, IsLawful}
-use Rattle.app_api.specs.Numbers.{rise_from}
 use Rattle.pcap_source.specs.Captured.{Captured}
 use Rattle.report_text.specs.declared.record.Record.{Record}
 use Rattle.report_text.specs.declared.record.Totals.{Totals}
@@ -22,9 +21,9 @@ use Rattle.control_script.specs.Order.{commands_of}
 use Rattle.control_script.specs.Versions.{ceil}
 use Rattle.lane_core.specs.declared.errors.LaneError.{LaneError}
 use Rattle.lane_core.specs.Sight.{arrivals}
-use Rattle.lane_core.specs.Records.{VersionedPacket, RecordSoFar, records, versioned}
+use Rattle.lane_core.specs.Records.{VersionedPacket, RecordSoFar, versioned}
 use Rattle.lane_core.specs.Run.{LaneEvent, lane_run}
-use Rattle.lane_core.specs.Shown.{record_of, callbacks_of, drops_of}
+use Rattle.lane_core.specs.Shown.{record_of, callbacks_of}
 use Rattle.lane_core.specs.Lane.{IsEnd, shown}
 use Rattle.lane_core.specs.Laws.{LaterCommandsChangeNone, RecordsAreTidy, rise}
 use Rattle.mos_run.specs.declared.output.Output.{Output}
@@ -33,10 +32,10 @@ use Rattle.mos_run.specs.declared.refusal.RunError.{RunError}
 use Rattle.mos_run.specs.declared.refusal.RunError.TheVariants as Run
 use Rattle.worker_pool.specs.Run.{totals_of}
 use Rattle.mos_run.specs.Records.{control_at, packets_of, records_of, versions_of}
-use Rattle.mos_run.specs.Outcome.{Outcome, is_forward, is_heavy, streamed, closing, ended, weighed, refused}
+use Rattle.mos_run.specs.Outcome.{is_forward, is_heavy, streamed, closing, ended, weighed, refused}
 use Rattle.mos_run.specs.Summary.{summary_text, made_line}
-use Rattle.mos_run.specs.Reading.{Follows, IsRead}
-use Rattle.mos_run.specs.Run.{StopsAs, RunsAs, Finishes}
+use Rattle.mos_run.specs.Reading.{IsRead}
+use Rattle.mos_run.specs.Run.{StopsAs, RunsAs}
 use Rattle.mos_run.proofs.Events.{are_events}
 use Rattle.mos_run.proofs.Following.{records_are}
 

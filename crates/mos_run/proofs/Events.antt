@@ -1,6 +1,6 @@
 -- Registrations of a lawful script are registrations of events.
-use Rattle.std.proofs.Common.{◌≡◌, ℕ, zero, suc, ◌+◌, ◌-◌, ◌<◌, ◌≤◌, Bool, true, false, Option, Some, None, List, [], ◌∷◌, ◌++◌, take, refl, sym, ap, subst, ◌∙◌, arith}
-use Rattle.std.specs.Prelude.{◌&&◌, ◌||◌, ◌==◌, not, if◌then◌else◌, nat_le, is_none}
+use Rattle.std.proofs.Common.{◌≡◌, ℕ, zero, suc, ◌+◌, ◌-◌, ◌<◌, ◌≤◌, Bool, true, false, List, [], ◌∷◌, take, refl, subst, arith}
+use Rattle.std.specs.Prelude.{◌&&◌, ◌==◌, not, if◌then◌else◌, nat_le, is_none}
 use Rattle.std.specs.List.{fold, filter, list_all}
 use Rattle.std.proofs.lemmas.Grind.{common_steps}
 use Rattle.std.proofs.lemmas.Bool.{leb-true}
@@ -8,15 +8,15 @@ use Rattle.std.specs.Ordering.{is_lt}
 use Rattle.native_filters.specs.declared.facts.Hook.{Hook}
 use Rattle.app_api.specs.App.{Meaning, IsLawful}
 use Rattle.app_api.specs.Events.{allows_hook, is_rcv}
-use Rattle.app_api.specs.Reg.{are_presets, is_preset, peek_fits}
+use Rattle.app_api.specs.Reg.{is_preset, peek_fits}
 use Rattle.app_api.specs.declared.registration.Reg.{Reg}
 use Rattle.event_trees.specs.declared.defs.EventDef.{EventDef}
-use Rattle.event_trees.specs.Private.{put_reg, reg_cmp, without}
+use Rattle.event_trees.specs.Private.{put_reg, reg_cmp}
 use Rattle.report_text.specs.Tidy.{is_event}
 use Rattle.forest_versions.specs.declared.command.Command.{Command}
 use Rattle.forest_versions.specs.declared.command.Command.TheVariants.{Event, Register, Unregister, Buffer, Overlap, AddRule, RemoveRule}
 use Rattle.forest_versions.specs.Lawful.{are_lawful, is_lawful, is_within, is_reg_within, may_be_event, refusal}
-use Rattle.forest_versions.specs.State.{ControlState, start, after, control, presets_in}
+use Rattle.forest_versions.specs.State.{ControlState, start, after, control}
 use Rattle.lane_core.specs.Laws.{AreEvents}
 use Rattle.mos_run.proofs.Following.{both}
 

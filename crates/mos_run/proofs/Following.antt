@@ -1,5 +1,5 @@
 -- A lane that takes commands of a script, and packets.
-use Rattle.std.proofs.Common.{◌≡◌, ℕ, zero, suc, ◌+◌, ◌<◌, ◌≤◌, Bool, true, false, Option, Some, None, List, [], ◌∷◌, ◌++◌, length, take, drop, map, refl, sym, ap, subst, ◌∙◌, arith}
+use Rattle.std.proofs.Common.{◌≡◌, ℕ, zero, suc, ◌+◌, ◌<◌, ◌≤◌, Bool, true, false, Option, Some, None, List, [], ◌∷◌, ◌++◌, length, take, drop, refl, sym, ap, subst, ◌∙◌, arith}
 use Rattle.std.proofs.lemmas.List.{length-map}
 use Rattle.std.specs.Prelude.{◌&&◌, slice_get, nat_lt, if◌then◌else◌, Result, Ok, Err, IsOk, OnOk}
 use Rattle.std.proofs.lemmas.Grind.{common_steps}
@@ -16,7 +16,7 @@ use Rattle.control_script.specs.Versions.{ceil, is_barred}
 use Rattle.forest_versions.specs.declared.command.Stamp.{Stamp}
 use Rattle.forest_versions.specs.declared.command.Stamp.TheVariants.{At, Live}
 use Rattle.lane_core.specs.Sight.{Arrival, arrival_of}
-use Rattle.lane_core.specs.Records.{VersionedPacket, RecordSoFar, records, verdict_on}
+use Rattle.lane_core.specs.Records.{VersionedPacket, records, verdict_on}
 use Rattle.lane_core.specs.Run.{LaneEvent, Gave, Arrived, versioned_from, lane_run, commands_of as given_in}
 use Rattle.lane_core.specs.Lane.{IsHeavy, IsAfter, next_verdict, with_event}
 use Rattle.lane_core.specs.Laws.{OneEventMore, LaterCommandsChangeNone}

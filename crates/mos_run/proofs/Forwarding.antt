@@ -1,5 +1,5 @@
 -- A forward run on several lanes: the header, and then what the lanes let pass, is what is written, or a front of it.
-use Rattle.std.proofs.Common.{◌≡◌, ◌≢◌, ℕ, Bool, true, false, Option, List, [], ◌∷◌, ◌++◌, length, map, take, Result, Ok, Err, refl, sym, ap, subst, ◌∙◌, arith, append-nil, inl, inr}
+use Rattle.std.proofs.Common.{◌≡◌, ◌≢◌, ℕ, true, Option, List, [], ◌∷◌, ◌++◌, length, take, Ok, Err, refl, sym, ap, subst, ◌∙◌, arith, append-nil, inl, inr}
 use Rattle.std.specs.Io.KnownBytes.{Appends}
 use Rattle.std.proofs.KnownBytes.{Appends-nil, Appends-trans}
 use Rattle.mos_bytes.specs.Writes.{AppendsFront}
@@ -7,22 +7,20 @@ use Rattle.mos_bytes.proofs.Writes.{AppendsFront-after, AppendsFront-more}
 use Rattle.app_api.specs.App.{Meaning}
 use Rattle.pcap_source.specs.Captured.{Captured}
 use Rattle.pcap_source.specs.Capture.{Frames, Ending, tail, too_long, too_many, capture_of}
-use Rattle.pcap_source.specs.declared.errors.CaptureFault.TheVariants as Fault
 use Rattle.control_script.specs.declared.stamped.Stamped.{Stamped}
 use Rattle.control_script.specs.Order.{commands_of, are_in_order}
 use Rattle.lane_core.specs.Sight.{arrivals}
 use Rattle.lane_core.specs.Records.{VersionedPacket}
 use Rattle.worker_pool.specs.Run.{MayHave}
-use Rattle.worker_pool.specs.Forward.{RefusedAs, ForwardsAll, ForwardsFront, ForwardsOver}
+use Rattle.worker_pool.specs.Forward.{RefusedAs, ForwardsOver}
 use Rattle.worker_pool.specs.declared.job.PoolError.{PoolError}
 use Rattle.worker_pool.specs.declared.job.PoolError.TheVariants as Pool
 use Rattle.mos_run.specs.declared.output.Output.{Output}
 use Rattle.mos_run.specs.declared.output.Output.TheVariants.{Report, Forward, Summary}
-use Rattle.mos_run.specs.declared.refusal.RunError.{RunError}
 use Rattle.mos_run.specs.declared.refusal.RunError.TheVariants as Run
 use Rattle.mos_run.specs.Records.{packets_with}
 use Rattle.mos_run.specs.Forward.{forwarded}
-use Rattle.mos_run.specs.Outcome.{Outcome, is_forward, followed, outcome, outcome_by}
+use Rattle.mos_run.specs.Outcome.{is_forward, followed, outcome, outcome_by}
 use Rattle.mos_run.specs.Refusal.{pool_refusal}
 use Rattle.mos_run.specs.Told.{frames_in}
 use Rattle.mos_run.specs.Run.{Finishes, StopsAs}

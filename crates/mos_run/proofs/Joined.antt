@@ -1,5 +1,5 @@
 -- The end of a run on several lanes: what they end with is what is written, or why it isn't.
-use Rattle.std.proofs.Common.{◌≡◌, ◌≢◌, ℕ, ◌<◌, ◌≤◌, Bool, true, false, Option, List, [], ◌++◌, length, map, take, Result, Ok, Err, refl, sym, ap, subst, ◌∙◌, arith, inl, inr}
+use Rattle.std.proofs.Common.{◌≡◌, ℕ, Bool, true, false, Option, List, [], ◌++◌, length, map, take, Ok, Err, refl, sym, ap, subst, ◌∙◌, arith, inl, inr}
 use Rattle.std.specs.Prelude.{◌⊎◌, ◌&&◌, IsErrOf, not, nat_lt, if◌then◌else◌}
 use Rattle.std.specs.Io.KnownBytes.{Appends}
 use Rattle.std.proofs.KnownBytes.{Appends-nil}
@@ -16,7 +16,7 @@ use Rattle.forest_versions.specs.State.{start}
 use Rattle.control_script.specs.declared.stamped.Stamped.{Stamped}
 use Rattle.control_script.specs.Order.{commands_of, are_in_order}
 use Rattle.lane_core.specs.Sight.{arrivals}
-use Rattle.lane_core.specs.Records.{VersionedPacket, RecordSoFar}
+use Rattle.lane_core.specs.Records.{VersionedPacket}
 use Rattle.lane_core.specs.Shown.{record_of, weight}
 use Rattle.lane_core.specs.Laws.{RecordsAreTidy, rise}
 use Rattle.worker_laws.specs.Whole.{packets_under}
@@ -27,9 +27,9 @@ use Rattle.worker_pool.specs.declared.job.PoolError.TheVariants as Pool
 use Rattle.mos_run.specs.declared.output.Output.{Output}
 use Rattle.mos_run.specs.declared.refusal.RunError.{RunError}
 use Rattle.mos_run.specs.declared.refusal.RunError.TheVariants as Run
-use Rattle.mos_run.specs.Records.{control_at, packets_with, records_of, versions_of}
+use Rattle.mos_run.specs.Records.{control_at, packets_with, records_of}
 use Rattle.mos_run.specs.Forward.{forwarded}
-use Rattle.mos_run.specs.Outcome.{Outcome, is_forward, is_heavy, streamed, closing, ended, followed, weighed, refused, outcome, outcome_by}
+use Rattle.mos_run.specs.Outcome.{is_forward, is_heavy, streamed, closing, ended, followed, weighed, refused, outcome, outcome_by}
 use Rattle.mos_run.specs.Refusal.{pool_refusal}
 use Rattle.mos_run.specs.Told.{frames_in}
 use Rattle.mos_run.specs.Run.{Finishes, StopsAs, RunsAs}

@@ -1,5 +1,5 @@
 -- What a lane has come to, with one frame more.
-use Rattle.std.proofs.Common.{◌≡◌, ◌≢◌, ℕ, zero, suc, ◌+◌, ◌<◌, ◌≤◌, Bool, true, false, Option, Some, None, List, [], ◌∷◌, ◌++◌, length, map, take, refl, sym, ap, subst, ◌∙◌, arith, add-zero, append_assoc, append-nil}
+use Rattle.std.proofs.Common.{◌≡◌, ◌≢◌, ℕ, ◌+◌, ◌<◌, Bool, true, false, Option, Some, None, List, [], ◌∷◌, ◌++◌, length, take, refl, sym, ap, subst, ◌∙◌, arith, add-zero}
 use Rattle.std.proofs.lemmas.List.{map-append}
 use Rattle.std.proofs.lemmas.Grind.{common_steps}
 use Rattle.std.specs.Prelude.{not, ◌&&◌, nat_lt, if◌then◌else◌, Result, Err, is_ok, IsOk}
@@ -11,15 +11,14 @@ use Rattle.control_script.specs.Order.{commands_of}
 use Rattle.control_script.specs.Versions.{ceil}
 use Rattle.lane_core.specs.declared.errors.LaneError.{LaneError}
 use Rattle.lane_core.specs.Sight.{arrival_of, arrivals}
-use Rattle.lane_core.specs.Records.{VersionedPacket, RecordSoFar, added, records, records_from, verdict_on, versioned}
+use Rattle.lane_core.specs.Records.{added, records, records_from, verdict_on, versioned}
 use Rattle.lane_core.specs.Run.{LaneEvent}
 use Rattle.lane_core.specs.Laws.{LastPacketIsAdded, WeightNeverFalls}
 use Rattle.lane_core.specs.Shown.{weight, total}
 use Rattle.mos_run.specs.declared.output.Output.{Output}
-use Rattle.mos_run.specs.declared.output.Output.TheVariants.{Report, Forward, Summary}
 use Rattle.mos_run.specs.Records.{control_at, packets_of, records_of}
 use Rattle.lane_rings.specs.Forwarded.{bytes_under as left_by}
-use Rattle.mos_run.specs.Outcome.{is_forward, is_heavy, streamed}
+use Rattle.mos_run.specs.Outcome.{is_forward, is_heavy}
 use Rattle.mos_run.specs.Reading.{Follows, IsOver, IsRead, gained, packet_of}
 use Rattle.mos_run.proofs.Following.{both}
 

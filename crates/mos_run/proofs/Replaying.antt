@@ -1,11 +1,10 @@
 -- What a replay keeps while it reads: the frames so far, and what is left, are the capture.
-use Rattle.std.proofs.Common.{◌≡◌, ◌≢◌, ℕ, zero, ◌+◌, ◌-◌, ◌<◌, Bool, true, false, Option, Some, None, List, [], ◌∷◌, ◌++◌, length, take, drop, Result, Ok, Err, refl, sym, ap, subst, ◌∙◌, arith, append_assoc, append-nil, inl, inr}
+use Rattle.std.proofs.Common.{◌≡◌, ◌≢◌, ℕ, ◌+◌, ◌-◌, Bool, true, false, Option, Some, None, List, [], ◌∷◌, ◌++◌, length, take, drop, Result, Ok, Err, refl, sym, ap, subst, ◌∙◌, arith, append_assoc, append-nil, inl, inr}
 use Rattle.std.specs.Prelude.{◌⊎◌, if◌then◌else◌}
 use Rattle.std.specs.Io.KnownBytes.{Appends}
-use Rattle.std.proofs.KnownBytes.{Appends-nil, Appends-trans}
 use Rattle.app_api.specs.App.{Meaning}
 use Rattle.pcap_source.specs.Captured.{Captured}
-use Rattle.pcap_source.specs.Capture.{Frames, Ending, tail, too_long, too_many, ended, with_frame, frames_from, frames_by, header_of, capture_of}
+use Rattle.pcap_source.specs.Capture.{Ending, tail, too_long, too_many, ended, frames_from, frames_by, header_of, capture_of}
 use Rattle.pcap_source.specs.Reading.{CaptureState, OpenGives, NextGives, StepsAs, frames_at}
 use Rattle.pcap_source.specs.declared.capture.Step.{Step}
 use Rattle.pcap_source.specs.declared.capture.Step.TheVariants.{Frame}
@@ -14,7 +13,7 @@ use Rattle.pcap_source.specs.declared.errors.NextError.TheVariants as Next
 use Rattle.pcap_source.specs.declared.errors.OpenError.{OpenError}
 use Rattle.pcap_source.specs.declared.errors.OpenError.TheVariants as Open
 use Rattle.mos_bytes.specs.Writes.{AppendsFront}
-use Rattle.mos_bytes.proofs.Writes.{AppendsFront-after, AppendsFront-nil, AppendsFront-whole, AppendsFront-more}
+use Rattle.mos_bytes.proofs.Writes.{AppendsFront-after, AppendsFront-whole, AppendsFront-more}
 use Rattle.control_script.specs.declared.stamped.Stamped.{Stamped}
 use Rattle.control_script.specs.Versions.{ceil}
 use Rattle.lane_core.specs.Sight.{arrivals}
@@ -32,7 +31,7 @@ use Rattle.mos_run.specs.Outcome.{Outcome, is_forward, is_heavy, streamed, follo
 use Rattle.mos_run.specs.Outcome as Outcomes
 use Rattle.mos_run.specs.Reading.{Replaying, behind, gained, packet_of}
 use Rattle.mos_run.proofs.Reading.{heavy_is_kept}
-use Rattle.mos_run.specs.Run.{StopsAs, RunsAs}
+use Rattle.mos_run.specs.Run.{StopsAs}
 
 -- ---- the global header
 

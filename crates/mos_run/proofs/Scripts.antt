@@ -1,6 +1,6 @@
 -- The script of a text: where none is named it has no commands, and its commands are in order.
-use Rattle.std.proofs.Common.{◌≡◌, ◌≢◌, ℕ, Bool, true, false, List, [], ◌∷◌, ◌++◌, length, Option, Some, None, Result, Ok, Err, refl, sym, ap, subst, ◌∙◌}
-use Rattle.std.specs.Prelude.{◌&&◌, ◌||◌, not, nat_le, nat_lt, if◌then◌else◌}
+use Rattle.std.proofs.Common.{◌≡◌, ◌≢◌, ℕ, Bool, true, false, List, [], ◌∷◌, ◌++◌, length, Option, Some, None, Result, Ok, Err, refl, ap, subst, ◌∙◌}
+use Rattle.std.specs.Prelude.{◌||◌, not, nat_le, nat_lt, if◌then◌else◌}
 use Rattle.std.specs.List.{list_any, list_all}
 use Rattle.std.proofs.lemmas.List.Folds.{list_all-append}
 use Rattle.app_api.specs.declared.registration.Reg.{Reg}
@@ -12,7 +12,7 @@ use Rattle.control_script.specs.declared.error.ScriptError.TheVariants as Text
 use Rattle.control_script.specs.declared.stamped.Stamped.{Stamped}
 use Rattle.control_script.specs.Lines.{lines, without_return, is_skipped, next_line}
 use Rattle.control_script.specs.Order.{commands_of, is_later, are_in_order}
-use Rattle.control_script.specs.Script.{said, joined, admitted, admitted_said, line_read, then_lines, lines_read, script}
+use Rattle.control_script.specs.Script.{said, joined, admitted_said, line_read, then_lines, lines_read, script}
 use Rattle.words.specs.declared.settings.AppKind.{AppKind}
 use Rattle.mos_run.specs.declared.refusal.RunError.TheVariants as Run
 use Rattle.mos_run.specs.Apps.{meaning_of}

@@ -13,7 +13,6 @@ use Rattle.lane_core.specs.Records.{VersionedPacket}
 use Rattle.lane_core.specs.Shown.{record_of, weight}
 use Rattle.worker_pool.specs.Run.{totals_of}
 use Rattle.words.specs.declared.settings.Emit.{Emit}
-use Rattle.words.specs.declared.settings.Emit.TheVariants as Emit
 use Rattle.words.specs.declared.settings.Settings.{Settings}
 use Rattle.mos_run.specs.declared.output.Output.{Output}
 use Rattle.mos_run.specs.declared.output.Output.TheVariants.{Report, Forward, Summary}

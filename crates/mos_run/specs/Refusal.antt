@@ -13,11 +13,10 @@ use Rattle.pcap_source.specs.declared.errors.CaptureFault.TheVariants as Fault
 use Rattle.pcap_source.specs.declared.errors.OpenError.{OpenError}
 use Rattle.pcap_source.specs.declared.errors.OpenError.TheVariants as Open
 use Rattle.pcap_source.specs.declared.errors.NextError.{NextError}
-use Rattle.pcap_source.specs.declared.errors.NextError.TheVariants as Next
 use Rattle.lane_core.specs.declared.errors.LaneError.{LaneError}
-use Rattle.lane_core.specs.declared.errors.LaneError.TheVariants as Lane
 use Rattle.report_text.specs.declared.write.TextError.{TextError}
 use Rattle.report_text.specs.declared.write.TextError.TheVariants as Report
+use Rattle.worker_pool.specs.Refused.{read_refusal, lane_refusal as lane_failure}
 use Rattle.worker_pool.specs.declared.job.PoolError.{PoolError}
 use Rattle.worker_pool.specs.declared.job.PoolError.TheVariants as Pool
 use Rattle.mos_run.specs.declared.refusal.RunError.{RunError}
@@ -93,24 +92,12 @@ header_refusal Open.BadLink = Capture Fault.BadLink 20
 header_refusal (Open.ShortHeader n) = Capture Fault.ShortHeader n
 header_refusal Open.ReadFault = ReadFault
 
--- a record of the capture that can't be read
-abbrev pub record_refusal : NextError → RunError
-record_refusal (Next.TooLong offset) = Capture Fault.TooLong offset
-record_refusal (Next.TooMany offset) = TooMany offset
-record_refusal Next.ReadFault = ReadFault
-record_refusal Next.NoMemory = NoMemory
-
 -- output that can't be written
 abbrev pub text_refusal : TextError → RunError
 text_refusal Report.WriteFault = WriteFault
 text_refusal Report.NoMemory = NoMemory
 
--- a lane that failed
-abbrev pub lane_refusal : LaneError → RunError
-lane_refusal Lane.NoMemory = NoMemory
-lane_refusal Lane.Heavy = Heavy
-
--- a run on several lanes that ended early
+-- what ends a run early while its capture is read, however many lanes it has
 abbrev pub pool_refusal : PoolError → RunError
 pool_refusal (Pool.TooLong offset) = Capture Fault.TooLong offset
 pool_refusal (Pool.TooMany offset) = TooMany offset
@@ -118,3 +105,11 @@ pool_refusal Pool.ReadFault = ReadFault
 pool_refusal Pool.WriteFault = WriteFault
 pool_refusal Pool.Heavy = Heavy
 pool_refusal Pool.NoMemory = NoMemory
+
+-- so a record of the capture that can't be read
+abbrev pub record_refusal : NextError → RunError
+record_refusal e = pool_refusal (read_refusal e)
+
+-- and a lane that failed
+abbrev pub lane_refusal : LaneError → RunError
+lane_refusal e = pool_refusal (lane_failure e)

@@ -8,7 +8,7 @@ use lane_core::LaneError;
 use mos_bytes::{Failed, FetchError};
 use pcap_source::{CaptureFault, NextError, OpenError};
 use report_text::TextError;
-use std::alloc::{AllocError, AllocFailed};
+use std::alloc::AllocError;
 use words::WordsError;
 use worker_pool::PoolError;
 
@@ -122,12 +122,7 @@ impl From<NextError> for RunError {
     ghost from_gives = { λ e r. r ≡ record_refusal e };
 
     fn from(error: NextError) -> Self {
-        match error {
-            NextError::TooLong(offset) => RunError::Capture(CaptureFault::TooLong, offset),
-            NextError::TooMany(offset) => RunError::TooMany(offset),
-            NextError::ReadFault => RunError::ReadFault,
-            NextError::NoMemory => RunError::NoMemory,
-        }
+        RunError::from(PoolError::from(error))
     }
 }
 
@@ -161,13 +156,11 @@ impl From<LaneError> for RunError {
     ghost from_gives = { λ e r. r ≡ lane_refusal e };
 
     fn from(error: LaneError) -> Self {
-        match error {
-            LaneError::NoMemory => RunError::NoMemory,
-            LaneError::Heavy => RunError::Heavy,
-        }
+        RunError::from(PoolError::from(error))
     }
 }
 
+// What ends a run while its capture is read is one table, whether one lane has its packets or several.
 impl From<PoolError> for RunError {
     ghost use Rattle.mos_run.specs.Refusal.{pool_refusal};
 
@@ -191,16 +184,6 @@ impl From<AllocError> for RunError {
     ghost from_gives = { λ _ r. r ≡ NoMemory };
 
     fn from(_: AllocError) -> Self {
-        RunError::NoMemory
-    }
-}
-
-impl<T: Drop> From<AllocFailed<T>> for RunError {
-    ghost use Rattle.mos_run.specs.declared.refusal.RunError.TheVariants.{NoMemory};
-
-    ghost from_gives = { λ _ r. r ≡ NoMemory };
-
-    fn from(_: AllocFailed<T>) -> Self {
         RunError::NoMemory
     }
 }

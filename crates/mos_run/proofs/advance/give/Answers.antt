@@ -2,7 +2,7 @@ use Rattle.std.proofs.Common.{◌≡◌, ◌∙◌, true, not, Some, None, sym, 
 use Rattle.std.specs.Prelude.{IsOk, slice_get}
 use Rattle.forest_versions.specs.Lawful.{is_lawful}
 use Rattle.control_script.specs.Order.{commands_of}
-use Rattle.mos_run.specs.Reading.{IsUnder, Follows}
+use Rattle.mos_run.specs.Reading.{Follows}
 use Rattle.mos_run.proofs.Following.{lawful_at, under_more, follows_command, no_command, ok_value}
 use Rattle.mos_run.proofs.advance.give.Goals as goal
 

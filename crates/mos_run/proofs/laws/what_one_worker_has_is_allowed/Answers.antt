@@ -1,4 +1,3 @@
-use Rattle.std.specs.Prelude.{IsTrue}
 use Rattle.pcap_source.specs.Capture.{capture_of}
 use Rattle.mos_run.specs.Told.{frames_in}
 use Rattle.mos_run.proofs.Ceilings.{ceilings_allowed, same_outcome}

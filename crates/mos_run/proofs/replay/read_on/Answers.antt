@@ -1,4 +1,4 @@
-use Rattle.std.proofs.Common.{◌≡◌, ◌≢◌, ◌≤◌, true, false, ◌+◌, ◌++◌, ◌∷◌, [], length, Some, Ok, Err, refl, sym, ap, subst, ◌∙◌, arith, le_refl, rules}
+use Rattle.std.proofs.Common.{◌≤◌, ◌+◌, ◌++◌, ◌∷◌, [], length, Some, Ok, Err, refl, sym, ap, subst, ◌∙◌, arith, le_refl, rules}
 use Rattle.std.proofs.lemmas.List.{length-append}
 use Rattle.std.proofs.lemmas.Result.{err_from_is_err_and, IfErr-weaker}
 use Rattle.std.specs.Prelude.{IsErr}

@@ -1,4 +1,4 @@
-use Rattle.std.proofs.Common.{◌≡◌, [], refl, subst, inl, inr, rules}
+use Rattle.std.proofs.Common.{[], refl, subst, inl, inr, rules}
 use Rattle.std.proofs.lemmas.Result.{err_from_is_err_and}
 use Rattle.mos_bytes.proofs.Writes.{AppendsFront-nil}
 use Rattle.mos_run.specs.Apps.{meaning_of, lawful_app}

@@ -1,4 +1,4 @@
-use Rattle.std.proofs.Common.{◌≡◌, ◌≢◌, ◌∙◌, true, None, Ok, Err, not, sym, ap}
+use Rattle.std.proofs.Common.{◌∙◌, Err, sym, ap}
 use Rattle.mos_run.specs.Records.{packets_of}
 use Rattle.mos_run.proofs.Following.{ready_still}
 use Rattle.mos_run.proofs.Reading.{not_failed, read_still, read_more, read_heavy}

@@ -1,4 +1,3 @@
-use Rattle.std.proofs.Common.{◌≡◌}
 use Rattle.mos_run.proofs.Outcomes.{under_one}
 use Rattle.mos_run.proofs.run.run_asked.Goals as goal
 

@@ -1,4 +1,4 @@
-use Rattle.std.proofs.Common.{◌≡◌, rules}
+use Rattle.std.proofs.Common.{rules}
 use Rattle.mos_run.specs.Run.{EndsAs, StopsAs}
 use Rattle.mos_bytes.specs.Writes.{AppendsFront}
 use Rattle.mos_run.proofs.Outcomes.{ends_as, under_more}

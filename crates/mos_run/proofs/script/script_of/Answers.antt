@@ -1,4 +1,4 @@
-use Rattle.std.proofs.Common.{◌≡◌, IsTrue, [], Some, refl, subst, sym, ap, ◌∙◌}
+use Rattle.std.proofs.Common.{IsTrue, [], subst, sym, ap, ◌∙◌}
 use Rattle.std.proofs.lemmas.Result.{err_from_is_err_and}
 use Rattle.app_api.specs.Reg.{are_presets}
 use Rattle.mos_run.specs.Told.{text_under}

@@ -1,9 +1,8 @@
-use Rattle.std.proofs.Common.{[], rules, sym, subst}
+use Rattle.std.proofs.Common.{rules}
 use Rattle.std.proofs.lemmas.Result.{err_from_is_err_and}
 use Rattle.pcap_source.specs.Reading.{frames_at}
 use Rattle.mos_run.specs.Apps.{meaning_of}
 use Rattle.mos_run.specs.Records.{packets_with}
-use Rattle.mos_run.specs.Lanes.{RunsWith, FinishesWith}
 use Rattle.mos_run.proofs.Replaying.{opened_replay, refused_header}
 use Rattle.mos_run.proofs.Joined.{stopped_any}
 use Rattle.mos_run.proofs.Forwarding.{forward_is, no_header, cut_short, all_left}
