@@ -1,0 +1,10 @@
+pub mod Given
+pub mod Order
+pub mod Fields
+pub mod Packets
+pub mod Places
+pub mod Refusals
+pub mod Blocks
+pub mod Laws
+pub mod Reading
+pub mod Sources

@@ -1,0 +1,1 @@
+-- What a source over a file of either form tells.
