@@ -38,18 +38,15 @@ blocks_from before (suc n) offset bytes = given_by (refusal_of before offset byt
 unfoldable pub classic_header : List ℕ
 classic_header = 0xa1 ∷ 0xb2 ∷ 0xc3 ∷ 0xd4 ∷ 0 ∷ 2 ∷ 0 ∷ 4 ∷ 0 ∷ 0 ∷ 0 ∷ 0 ∷ 0 ∷ 0 ∷ 0 ∷ 0 ∷ 0 ∷ 4 ∷ 0 ∷ 0 ∷ 0 ∷ 0 ∷ 0 ∷ 1 ∷ []
 
--- before the first section
-abbrev pub no_section : SectionState
-no_section = record { order = Big; interfaces = [] }
-
--- what a pcapng file gives: a classic capture of up to 4,194,304 blocks
-unfoldable pub classic : List ℕ → Given
-classic bytes = after classic_header (blocks_from no_section 4194304 0 bytes)
-
 -- these bytes are a pcapng file
 abbrev pub is_pcapng : List ℕ → Bool
 is_pcapng bytes = has 4 bytes && is_section bytes
 
--- what a file gives
+-- What a file of these bytes gives, where up to n blocks follow this section: the classic capture of a pcapng file, and
+-- any other file as it is.
+abbrev pub begun : SectionState → ℕ → ℕ → List ℕ → Given
+begun section n offset bytes = if is_pcapng bytes then after classic_header (blocks_from section n offset bytes) else whole bytes
+
+-- What a file gives, of up to 4,194,304 blocks. No section begins before the first block.
 unfoldable pub any : List ℕ → Given
-any bytes = if is_pcapng bytes then classic bytes else whole bytes
+any bytes = begun (record { order = Big; interfaces = [] }) 4194304 0 bytes

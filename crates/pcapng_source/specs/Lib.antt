@@ -1,6 +1,7 @@
 pub mod Given
 pub mod Order
 pub mod Fields
+pub mod Found
 pub mod Packets
 pub mod Places
 pub mod Refusals

@@ -1,13 +1,13 @@
 //! The source over a file of either form.
 
-ghost use Rattle.std.specs.Prelude.{◌≡◌, ◌+◌, ◌<◌, ◌≤◌, ⊤, ℕ, List, [], length};
+ghost use Rattle.std.specs.Prelude.{◌≡◌, ◌+◌, ◌<◌, ◌≤◌, ⊤, ℕ, List, [], length, None};
 ghost use Rattle.std.specs.Io.{ReadsAtMost};
 ghost use Rattle.std.specs.Io.KnownBytes.{ReadConsumes};
 ghost use Rattle.mos_bytes.specs.Causes.{HasCause};
 ghost use Rattle.mos_bytes.specs.Reads.{BeginsWith};
 
 use crate::NgFault;
-use crate::reader::Reader;
+use crate::reader::{Next, Reader};
 use mos_bytes::{Failed, Source};
 
 // How many bytes are skipped at once.
@@ -40,36 +40,33 @@ impl<'a, S: Source> AnySource<'a, S> {
         self.reader.fault()
     }
 
-    // Skips some of the next bytes, and answers whether there were any.
-    fn pass_over(&mut self) -> Result<bool, Failed> {
+    // Gives up to so many of the next bytes as they are.
+    fn give(&mut self, buf: &mut [u8]) -> Result<Option<usize>, Failed> {
+        let count = self.source.read(buf)?;
+        self.reader.gave(count);
+        Ok(Some(count))
+    }
+
+    // Skips up to so many of the next bytes.
+    fn skip(&mut self, most: usize) -> Result<Option<usize>, Failed> {
         let mut bytes = [0; SKIPPED];
-        let most = SKIPPED.min(self.reader.skipped());
-        let count = self.source.read(&mut bytes[..most])?;
-        self.reader.skip(count);
-        Ok(count > 0)
-    }
-
-    // Holds some of the next bytes, and answers whether there were any.
-    fn collect(&mut self) -> Result<bool, Failed> {
-        let mut bytes = [0; HELD];
-        let most = self.reader.wanted();
-        let count = self.source.read(&mut bytes[..most])?;
-        self.reader.keep(&bytes[..count]);
-        Ok(count > 0)
-    }
-
-    // Reads on where nothing is to be given yet. The answer is that of a read, or nothing where there may be more.
-    fn advance(&mut self) -> Result<Option<usize>, Failed> {
-        let moved = if self.reader.skipped() > 0 {
-            self.pass_over()?
-        } else {
-            self.collect()?
-        };
-        if moved || self.reader.end() {
-            Ok(None)
-        } else {
-            Ok(Some(0))
+        let count = self.source.read(&mut bytes[..SKIPPED.min(most)])?;
+        if count == 0 {
+            return Ok(Some(0));
         }
+        self.reader.skip(count);
+        Ok(None)
+    }
+
+    // Holds up to so many of the next bytes.
+    fn hold(&mut self, most: usize) -> Result<Option<usize>, Failed> {
+        let mut bytes = [0; HELD];
+        let count = self.source.read(&mut bytes[..most])?;
+        if count == 0 {
+            return Ok(if self.reader.end() { None } else { Some(0) });
+        }
+        self.reader.keep(&bytes[..count]);
+        Ok(None)
     }
 
     // One step of a read, which asks the source below at most once. The answer is that of the read, or nothing where it
@@ -79,16 +76,15 @@ impl<'a, S: Source> AnySource<'a, S> {
         if self.reader.made() > 0 {
             return Ok(Some(self.reader.give(buf)));
         }
-        if self.reader.meet() {
-            return Err(Failed);
+        match self.reader.next(buf.len()) {
+            Next::Give(most) => self.give(&mut buf[..most]),
+            Next::Skip(most) => self.skip(most),
+            Next::Hold(most) => self.hold(most),
+            Next::Refuse => {
+                self.reader.meet();
+                Err(Failed)
+            }
         }
-        let direct = self.reader.direct(buf.len());
-        if direct == 0 {
-            return self.advance();
-        }
-        let count = self.source.read(&mut buf[..direct])?;
-        self.reader.gave(count);
-        Ok(Some(count))
     }
 }
 

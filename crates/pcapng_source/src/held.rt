@@ -1,6 +1,6 @@
 //! Bytes that are held for a while: those that were read and not judged yet, and those that were made and not given yet.
 
-ghost use Rattle.std.specs.Prelude.{◌≡◌, ◌+◌, ◌≤◌, List, ℕ, [], ◌++◌, length, take, drop, min};
+ghost use Rattle.std.specs.Prelude.{◌≡◌, ◌+◌, ◌≤◌, List, ℕ, [], ◌++◌, length, take, drop, min, slice_range};
 
 use std::marker::Model;
 
@@ -138,7 +138,7 @@ pub(crate) struct Made {
 impl Model for Made {
     ghost Value = { List ℕ };
 
-    ghost view = { λ m. drop m.place (take m.end m.bytes) };
+    ghost view = { λ m. slice_range m.bytes m.place m.end };
 
     ghost invariant = { λ m. (m.place ≤ m.end) × (m.end ≤ 24) };
 }

@@ -13,11 +13,14 @@ mod held;
 mod judge;
 mod kind;
 mod laws;
+mod open;
+mod options;
 mod order;
 mod packet;
 mod place;
 mod reader;
 mod section;
+mod take;
 mod time;
 
 pub use any_source::AnySource;

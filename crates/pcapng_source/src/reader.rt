@@ -1,28 +1,19 @@
 //! What was read of a file and not given yet. It knows no source.
 
-ghost use Rattle.std.specs.Prelude.{◌≡◌, ◌+◌, ◌-◌, ◌*◌, ◌/◌, ◌<◌, ◌≤◌, ℕ, List, [], ◌++◌, length, take, min};
+ghost use Rattle.std.specs.Prelude.{◌≡◌, ◌+◌, ◌-◌, ◌*◌, ◌<◌, ◌≤◌, ℕ, List, [], ◌++◌, length, take, min, IsTrue, IsFalse};
 
 use crate::NgFault;
 use crate::held::{Head, Made, Word};
-use crate::judge::{judge, told_order};
-use crate::kind::{Kind, begins_section};
+use crate::kind::Kind;
 use crate::order::Order;
-use crate::packet::{enhanced_record, simple_record};
 use crate::place::Place;
-use crate::section::{Interface, Section};
+use crate::section::Section;
 
-// The global header of the classic capture: microseconds, version 2.4, records of up to 262,144 bytes, Ethernet.
-const CLASSIC_HEADER: [u8; 24] = [
-    0xa1, 0xb2, 0xc3, 0xd4, 0, 2, 0, 4, 0, 0, 0, 0, 0, 0, 0, 0, 0, 4, 0, 0, 0, 0, 0, 1,
-];
+// How many bytes of a block are there before anything of it is judged: its type and its total length.
+pub(crate) const FIRST_FIELDS: usize = 8;
 
-// The time resolution of an interface that tells none: microseconds.
-const MICROSECONDS: u8 = 6;
-
-// How many bytes of a block are there before anything of it is judged.
-const FIRST_FIELDS: usize = 8;
-
-const WORD: usize = 4;
+// How many bytes are held between heads: the first field of a file, of an option, and behind a body.
+pub(crate) const WORD: usize = 4;
 
 /// Where in a file a reader stands.
 #[derive(Clone, Copy)]
@@ -41,8 +32,17 @@ pub(crate) enum Stage {
     Resolution,
     // In the second total length of a block.
     Trailer,
-    // Before a block that is refused. So many reads met the refusal.
+    // Before a block that is refused. So many reads have met the refusal.
     Refused(NgFault, u64),
+}
+
+// What is done with the bytes that come next: how many at most are given as they are, skipped or held. Or none is read.
+#[derive(Clone, Copy)]
+pub(crate) enum Next {
+    Give(usize),
+    Skip(usize),
+    Hold(usize),
+    Refuse,
 }
 
 // The block in whose body a reader stands.
@@ -54,24 +54,38 @@ pub(crate) struct Block {
 
 #[derive(Drop)]
 pub(crate) struct Reader {
-    stage: Stage,
+    pub(crate) stage: Stage,
     // The section of the block at hand.
-    section: Section,
+    pub(crate) section: Section,
     // Where the next block begins; in a head, the block at hand.
-    place: Place,
-    block: Block,
-    // Of the block's body: data to be given, then bytes to be skipped, then options, in words of four bytes.
-    owed: u32,
-    skip: u32,
-    options: u32,
-    head: Head,
-    word: Word,
-    made: Made,
+    pub(crate) place: Place,
+    pub(crate) block: Block,
+    // What is left of the block's body: data to be given, bytes to be skipped, and then options in words of four bytes, but
+    // for the word that is read now.
+    pub(crate) owed: u32,
+    pub(crate) skip: u64,
+    pub(crate) options: u32,
+    // What was read and not judged yet: the head of a block, or a word.
+    pub(crate) head: Head,
+    pub(crate) word: Word,
+    // What was made and not given yet.
+    pub(crate) made: Made,
 }
 
 impl Reader {
+    ghost use Rattle.mos_bytes.specs.Causes.{risen};
+    ghost use Rattle.std.specs.Bool.{OnTrue, OnFalse};
+    ghost use Rattle.pcapng_source.specs.Given.{after};
+    ghost use Rattle.pcapng_source.specs.Blocks.{any};
+    ghost use Rattle.pcapng_source.specs.Reading.{IsFitting, IsOpen, IsRefused, NextIs, direct_at, fault_at, met_at, rest_of, settled_at, skipped_at, stop_of, wanted_at, weight_of};
+
     // In front of a file.
-    pub(crate) fn new() -> Self {
+    #[tactic(auto, unfolding(crate::specs::Blocks::any))]
+    pub(crate) fn new() -> Self
+        ensures rest { (left : List ℕ) → rest_of result left ≡ any left }
+        ensures fits { IsFitting result }
+        ensures met { met_at result.stage ≡ 0 }
+    {
         Reader {
             stage: Stage::Start,
             section: Section::new(Order::Big),
@@ -90,83 +104,116 @@ impl Reader {
     }
 
     // How many bytes were made and not given yet.
-    pub(crate) fn made(&self) -> usize {
+    pub(crate) fn made(&self) -> usize
+        ensures { result ≡ length self.now.made }
+    {
         self.made.len()
     }
 
     // Gives bytes that were made, as many as `buf` has room for, and answers how many.
-    pub(crate) fn give(&mut self, buf: &mut [u8]) -> usize {
+    pub(crate) fn give(&mut self, buf: &mut [u8]) -> usize
+        requires { IsFitting self.old }
+        ensures count { result ≡ min (length self.old.made) (length buf.old) }
+        ensures rest { (left : List ℕ) → rest_of self.old left ≡ after (take result buf.new) (rest_of self.new left) }
+        ensures fits { IsFitting self.new }
+        ensures stage { self.new.stage ≡ self.old.stage }
+    {
         self.made.give(buf)
     }
 
-    // How many of the next bytes are given as they are, where there is so much room for them.
-    pub(crate) fn direct(&self, room: usize) -> usize {
+    // What is done with the bytes that come next, where there is so much room for them.
+    pub(crate) fn next(&self, room: usize) -> Next
+        requires settled { settled_at self.now.stage self.now }
+        requires room { 0 < room }
+        ensures { NextIs self.now room result }
+    {
         match self.stage {
-            Stage::Plain => room,
-            Stage::Body => room.min(self.owed as usize),
-            _ => 0,
+            Stage::Plain => Next::Give(room),
+            Stage::Body if self.owed > 0 => Next::Give(room.min(self.owed as usize)),
+            Stage::Body => Next::Skip(self.skip as usize),
+            Stage::Head => Next::Hold(self.head_wanted()),
+            Stage::Start | Stage::OptionHead | Stage::Resolution | Stage::Trailer => {
+                Next::Hold(WORD - self.word.as_slice().len())
+            }
+            Stage::Refused(_, _) => Next::Refuse,
         }
     }
 
+    // How many bytes more of a head are to be held before it is judged again.
+    fn head_wanted(&self) -> usize
+        ensures { result ≡ stop_of self.now.section.order self.now.head - length self.now.head }
+    {
+        let head = self.head.as_slice();
+        let stop = if head.len() < FIRST_FIELDS {
+            FIRST_FIELDS
+        } else {
+            Kind::of(self.section.order(), head).head_length()
+        };
+        stop.saturating_sub(head.len())
+    }
+
     // So many of the next bytes were given as they are.
-    pub(crate) fn gave(&mut self, count: usize) {
+    pub(crate) fn gave(&mut self, count: usize)
+        requires few { count ≤ direct_at self.old.stage self.old count }
+        requires made { self.old.made ≡ [] }
+        requires fits { IsFitting self.old }
+        ensures rest { (front left : List ℕ) → length front ≡ count
+            → rest_of self.old (front ++ left) ≡ after front (rest_of self.new left) }
+        ensures fits { IsFitting self.new }
+        ensures stage { self.new.stage ≡ self.old.stage }
+    {
         if let Stage::Body = self.stage {
             self.owed -= count as u32;
         }
     }
 
-    // How many of the next bytes are skipped.
-    pub(crate) fn skipped(&self) -> usize {
-        match self.stage {
-            Stage::Body => self.skip as usize,
-            _ => 0,
-        }
-    }
-
     // So many of the next bytes were skipped.
-    pub(crate) fn skip(&mut self, count: usize) {
+    pub(crate) fn skip(&mut self, count: usize)
+        requires few { count ≤ skipped_at self.old.stage self.old }
+        requires fits { IsFitting self.old }
+        ensures rest { (front left : List ℕ) → length front ≡ count → rest_of self.new left ≡ rest_of self.old (front ++ left) }
+        ensures fits { IsFitting self.new }
+        ensures lighter { 0 < count → weight_of self.new < weight_of self.old }
+        ensures stage { self.new.stage ≡ self.old.stage }
+    {
         if let Stage::Body = self.stage {
-            self.skip -= count as u32;
+            self.skip -= count as u64;
         }
-    }
-
-    // How many of the next bytes are to be held.
-    pub(crate) fn wanted(&self) -> usize {
-        match self.stage {
-            Stage::Start | Stage::OptionHead | Stage::Resolution | Stage::Trailer => {
-                WORD - self.word.as_slice().len()
-            }
-            Stage::Head => self.head_wanted(),
-            _ => 0,
-        }
-    }
-
-    fn head_wanted(&self) -> usize {
-        let head = self.head.as_slice();
-        let end = if head.len() < FIRST_FIELDS {
-            FIRST_FIELDS
-        } else {
-            Kind::of(self.section.order(), head).head_length()
-        };
-        end - head.len()
     }
 
     // Holds these bytes, which come next.
-    pub(crate) fn keep(&mut self, bytes: &[u8]) {
+    pub(crate) fn keep(&mut self, bytes: &[u8])
+        requires few { length bytes.now ≤ wanted_at self.old.stage self.old }
+        requires fits { IsFitting self.old }
+        ensures rest { (left : List ℕ) → rest_of self.new left ≡ rest_of self.old (bytes.now ++ left) }
+        ensures fits { IsFitting self.new }
+        ensures lighter { 0 < length bytes.now → weight_of self.new < weight_of self.old }
+        ensures stage { self.new.stage ≡ self.old.stage }
+    {
         match self.stage {
             Stage::Start | Stage::OptionHead | Stage::Resolution | Stage::Trailer => {
                 self.word.put(bytes)
             }
             Stage::Head => self.head.put(bytes),
-            _ => {}
+            Stage::Plain | Stage::Body | Stage::Refused(_, _) => {}
         }
     }
 
     // No byte comes any more. Whether there are bytes to be given for all that: a file of up to three bytes.
-    pub(crate) fn end(&mut self) -> bool {
+    pub(crate) fn end(&mut self) -> bool
+        requires some { 0 < wanted_at self.old.stage self.old }
+        requires settled { settled_at self.old.stage self.old }
+        requires made { self.old.made ≡ [] }
+        requires fits { IsFitting self.old }
+        ensures start { OnTrue result ((rest_of self.new [] ≡ rest_of self.old []) × (weight_of self.new < weight_of self.old)) }
+        ensures over { OnFalse result ((self.new ≡ self.old) × IsOpen self.new) }
+        ensures fits { IsFitting self.new }
+        ensures met { met_at self.new.stage ≡ met_at self.old.stage }
+    {
         match self.stage {
             Stage::Start => {
                 self.made = Made::of(self.word.as_slice());
+                self.word.clear();
                 self.stage = Stage::Plain;
                 true
             }
@@ -174,204 +221,26 @@ impl Reader {
         }
     }
 
-    // Whether a block is refused here. The read that asks has met the refusal.
-    pub(crate) fn meet(&mut self) -> bool {
-        match self.stage {
-            Stage::Refused(fault, met) => {
-                self.stage = Stage::Refused(fault, met.saturating_add(1));
-                true
-            }
-            _ => false,
+    // A read has met the refusal before which this stands.
+    pub(crate) fn meet(&mut self)
+        requires refused { IsRefused self.old.stage }
+        requires fits { IsFitting self.old }
+        ensures rest { (left : List ℕ) → rest_of self.new left ≡ rest_of self.old left }
+        ensures fits { IsFitting self.new }
+        ensures met { met_at self.new.stage ≡ risen (met_at self.old.stage) }
+    {
+        if let Stage::Refused(fault, met) = self.stage {
+            self.stage = Stage::Refused(fault, met.saturating_add(1));
         }
     }
 
     // The refusal, where a read has met it.
-    pub(crate) fn fault(&self) -> Option<NgFault> {
+    pub(crate) fn fault(&self) -> Option<NgFault>
+        ensures { result ≡ fault_at self.now.stage }
+    {
         match self.stage {
             Stage::Refused(fault, met) if met > 0 => Some(fault),
             _ => None,
-        }
-    }
-
-    // Judges what is held, and goes on where that is enough.
-    pub(crate) fn take(&mut self) {
-        if self.made.len() == 0 {
-            self.take_held();
-            self.leave_body();
-        }
-    }
-
-    fn take_held(&mut self) {
-        match self.stage {
-            Stage::Start if self.word.as_slice().len() == WORD => self.begin(),
-            Stage::Head if self.head.as_slice().len() >= FIRST_FIELDS => self.take_head(),
-            Stage::OptionHead if self.word.as_slice().len() == WORD => self.take_option(),
-            Stage::Resolution if self.word.as_slice().len() == WORD => self.take_resolution(),
-            Stage::Trailer if self.word.as_slice().len() == WORD => self.close(),
-            _ => {}
-        }
-    }
-
-    // Tells by the first four bytes whether the file is a pcapng file.
-    fn begin(&mut self) {
-        if begins_section(self.word.as_slice()) {
-            self.head.put(self.word.as_slice());
-            self.made = Made::of(&CLASSIC_HEADER);
-            self.stage = Stage::Head;
-        } else {
-            self.made = Made::of(self.word.as_slice());
-            self.stage = Stage::Plain;
-        }
-    }
-
-    fn take_head(&mut self) {
-        if self.place.allowed() == 0 {
-            self.stage = Stage::Refused(NgFault::TooManyBlocks(self.place.offset()), 0);
-            return;
-        }
-        match judge(&self.section, self.place.offset(), self.head.as_slice()) {
-            Some(fault) => self.stage = Stage::Refused(fault, 0),
-            None => self.open(),
-        }
-    }
-
-    // Goes on behind the head, where it is whole.
-    fn open(&mut self) {
-        let head = self.head.as_slice();
-        let kind = Kind::of(self.section.order(), head);
-        if head.len() < kind.head_length() {
-            return;
-        }
-        match kind {
-            Kind::SectionHeader => self.open_section(),
-            Kind::InterfaceBlock => self.open_interface(),
-            Kind::SimplePacket => self.open_simple(),
-            Kind::EnhancedPacket => self.open_enhanced(),
-            Kind::OtherBlock => self.open_other(),
-        }
-    }
-
-    fn open_section(&mut self) {
-        let head = self.head.as_slice();
-        let order = told_order(head).unwrap_or(Order::Big);
-        let total = order.u32_at(head, 4);
-        self.section = Section::new(order);
-        self.enter(total, 0, total - 18, 0);
-    }
-
-    fn open_interface(&mut self) {
-        let head = self.head.as_slice();
-        let order = self.section.order();
-        let total = order.u32_at(head, 4);
-        let interface = Interface {
-            link: order.u16_at(head, 8),
-            snap: order.u32_at(head, 12),
-            resolution: MICROSECONDS,
-        };
-        self.section.add(interface);
-        self.enter(total, 0, 0, (total - 20) / 4);
-    }
-
-    fn open_simple(&mut self) {
-        let head = self.head.as_slice();
-        let order = self.section.order();
-        let Some(interface) = self.section.interface(0) else {
-            unreachable!();
-        };
-        let total = order.u32_at(head, 4);
-        let captured = interface.captured(order.u32_at(head, 8));
-        self.made = Made::of(&simple_record(order, &interface, head));
-        self.enter(total, captured, total - 16 - captured, 0);
-    }
-
-    fn open_enhanced(&mut self) {
-        let head = self.head.as_slice();
-        let order = self.section.order();
-        let Some(interface) = self.section.interface(order.u32_at(head, 8)) else {
-            unreachable!();
-        };
-        let total = order.u32_at(head, 4);
-        let captured = order.u32_at(head, 20);
-        self.made = Made::of(&enhanced_record(order, &interface, head));
-        self.enter(total, captured, total - 32 - captured, 0);
-    }
-
-    fn open_other(&mut self) {
-        let total = self.section.order().u32_at(self.head.as_slice(), 4);
-        self.enter(total, 0, total - 12, 0);
-    }
-
-    // Goes on behind the head of a block of so many bytes.
-    fn enter(&mut self, total: u32, owed: u32, skip: u32, options: u32) {
-        self.block = Block {
-            offset: self.place.offset(),
-            total,
-        };
-        self.place.pass(total);
-        self.owed = owed;
-        self.skip = skip;
-        self.options = options;
-        self.head.clear();
-        self.stage = Stage::Body;
-    }
-
-    // Goes on behind data and skipped bytes: to an option, or else to the second total length.
-    fn leave_body(&mut self) {
-        if let Stage::Body = self.stage
-            && self.owed == 0
-            && self.skip == 0
-        {
-            self.word.clear();
-            if self.options > 0 {
-                self.options -= 1;
-                self.stage = Stage::OptionHead;
-            } else {
-                self.stage = Stage::Trailer;
-            }
-        }
-    }
-
-    // Judges the head of an option.
-    fn take_option(&mut self) {
-        let order = self.section.order();
-        let word = self.word.as_slice();
-        let code = order.u16_in(word);
-        let length = u32::from(order.u16_at(word, 2));
-        // The words of its value.
-        let words = length.div_ceil(4);
-        if code == 0 || words > self.options {
-            self.resolve(MICROSECONDS);
-        } else if code == 9 && length == 1 {
-            self.options -= 1;
-            self.word.clear();
-            self.stage = Stage::Resolution;
-        } else {
-            self.options -= words;
-            self.skip = 4 * words;
-            self.stage = Stage::Body;
-        }
-    }
-
-    fn take_resolution(&mut self) {
-        self.resolve(self.word.as_slice()[0]);
-    }
-
-    // Gives the last interface its time resolution. The options behind it are skipped.
-    fn resolve(&mut self, resolution: u8) {
-        self.section.resolve(resolution);
-        self.owed = 0;
-        self.skip = 4 * self.options;
-        self.options = 0;
-        self.stage = Stage::Body;
-    }
-
-    // Judges the second total length.
-    fn close(&mut self) {
-        if self.section.order().u32_in(self.word.as_slice()) == self.block.total {
-            self.head.clear();
-            self.stage = Stage::Head;
-        } else {
-            self.stage = Stage::Refused(NgFault::BadBlock(self.block.offset), 0);
         }
     }
 }

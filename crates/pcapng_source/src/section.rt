@@ -44,13 +44,13 @@ pub(crate) struct Section {
 
 impl Model for Section {
     ghost use Rattle.pcapng_source.specs.Fields.{SectionState};
-    ghost use Rattle.std.specs.Prelude.{take, ◌≤◌};
+    ghost use Rattle.std.specs.Prelude.{◌≡◌, ◌≤◌, length, take};
 
     ghost Value = { SectionState };
 
     ghost view = { λ s. record { order = s.order; interfaces = take s.count s.interfaces } };
 
-    ghost invariant = { λ s. s.count ≤ 64 };
+    ghost invariant = { λ s. (s.count ≤ 64) × (length s.interfaces ≡ 64) };
 }
 
 impl Section {

@@ -1,0 +1,1 @@
+use Rattle.pcapng_source.proofs.options.judge_option.Goals as goal
