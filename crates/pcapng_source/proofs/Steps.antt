@@ -1,6 +1,6 @@
 -- What a reader's steps leave as it was.
 use Rattle.std.proofs.Common.{◌≡◌, ℕ, zero, suc, ◌+◌, ◌-◌, ◌*◌, ◌<◌, ◌≤◌, List, [], ◌++◌, length, take, drop, Bool, true, false, nat_le, ◌==◌, cond, Option, None, Some, refl, sym, ap, subst, ◌∙◌, arith, length-append, append_assoc, ⊎_elim}
-use Rattle.std.proofs.lemmas.Bool.{cases_Bool, eqb-true}
+use Rattle.std.proofs.lemmas.Bool.{cases_Bool, cases_lt, cond-false, cond-true, eqb-true}
 use Rattle.std.proofs.lemmas.List.{nil_from_length}
 use Rattle.std.proofs.Math.Seq.{take-nil, drop-nil, take-append-add, drop-append-add}
 use Rattle.pcapng_source.specs.Given.{Given, after, nothing, refused}
@@ -9,13 +9,15 @@ use Rattle.pcapng_source.specs.Fields.{SectionState, has, head_length, kind_of}
 use Rattle.pcapng_source.specs.Refusals.{refusal_of}
 use Rattle.pcapng_source.specs.Blocks.{blocks_from, closed}
 use Rattle.pcapng_source.specs.Reading.{Goes, IsFitting, IsOpen, IsUnrefused, ready_at, behind, behind_words, rest_at, rest_of, stop_of, weight_at, weight_of}
+use Rattle.pcapng_source.specs.declared.order.Order.{Order}
 use Rattle.pcapng_source.specs.declared.fault.NgFault.{NgFault}
 use Rattle.pcapng_source.specs.declared.fault.NgFault.TheVariants.{TooManyBlocks, BadBlock}
 use Rattle.pcapng_source.specs.declared.reader.Reader.{Reader}
 use Rattle.pcapng_source.specs.declared.reader.Stage.{Stage}
 use Rattle.pcapng_source.specs.declared.reader.Stage.TheVariants.{Start, Plain, Head, Body, OptionHead, Resolution, Trailer, Refused}
 use Rattle.pcapng_source.proofs.Numbers.{has-front, has-there}
-use Rattle.pcapng_source.proofs.Blocks.{after-after, blocks-many, closed-short, has-short}
+use Rattle.pcapng_source.proofs.Firm.{kind_of-front}
+use Rattle.pcapng_source.proofs.Blocks.{after-after, blocks-many, closed-short, has-short, head_length-least}
 use Rattle.pcapng_source.proofs.Enters.{blocks-short, head-refused, head-waits}
 
 pub rest-at : (r : Reader) (stage : Stage) (left : List ℕ) → r.stage ≡ stage → rest_of r left ≡ after r.made (rest_at stage r left)
@@ -134,3 +136,24 @@ skips r count front left is few sized = ⊎_elim
         ap (λ k. rest_of (record r { skip = k }) left) (let it : r.skip - count ≡ r.skip = omega arith in it)
         ∙ ap (λ l. rest_of r (l ++ left)) (sym (nil_from_length front (sized ∙ none))))
     (cases_Bool (r.owed == 0))
+
+-- ---- bytes that are held
+
+stop-least : (order : Order) (head : List ℕ) (there : Bool) → 8 ≤ cond there (head_length (kind_of order head)) 8
+stop-least order head true = head_length-least (kind_of order head)
+stop-least order head false = omega arith
+
+-- no more of a head is held than is judged next
+pub keeps-head : (order : Order) (head bytes : List ℕ) → length head ≤ stop_of order head → length bytes ≤ stop_of order head - length head
+    → length (head ++ bytes) ≤ stop_of order (head ++ bytes)
+keeps-head order head bytes fits few = ⊎_elim
+    (λ short.
+        let stop : stop_of order head ≡ 8 = cond-false (has 8 head) _ 8 (has-short 8 head short) in
+        let least = stop-least order (head ++ bytes) (has 8 (head ++ bytes)) in
+        omega (arith, stop, least, length-append head bytes))
+    (λ long.
+        let stop : stop_of order head ≡ head_length (kind_of order head) = cond-true (has 8 head) _ 8 (has-there 8 head long) in
+        let next : stop_of order (head ++ bytes) ≡ head_length (kind_of order head) =
+        cond-true (has 8 (head ++ bytes)) _ 8 (has-front 8 head bytes long) ∙ ap head_length (kind_of-front order head bytes (omega arith)) in
+        omega (arith, stop, next, length-append head bytes))
+    (cases_lt (length head) 8)

@@ -1,6 +1,6 @@
 //! Bytes that are held for a while: those that were read and not judged yet, and those that were made and not given yet.
 
-ghost use Rattle.std.specs.Prelude.{◌≡◌, ◌+◌, ◌≤◌, List, ℕ, [], ◌++◌, length, take, drop, min, slice_range};
+ghost use Rattle.std.specs.Prelude.{◌≡◌, ◌+◌, ◌-◌, ◌≤◌, List, ℕ, [], ◌++◌, length, take, drop, min, slice_range};
 
 use std::marker::Model;
 
@@ -113,7 +113,7 @@ impl Word {
     }
 
     pub(crate) fn put(&mut self, bytes: &[u8])
-        requires { length self.old + length bytes.now ≤ 4 }
+        requires { length bytes.now ≤ 4 - length self.old }
         ensures { self.new ≡ self.old ++ bytes.now }
     {
         self.len = put_behind(&mut self.bytes, self.len, bytes);

@@ -39,7 +39,10 @@ fn judge_option(order: Order, word: &[u8], left: u32) -> Found
 {
     // How many words its value has.
     let words = (u32::from(order.u16_at(word, 2)) + 3) / 4;
-    if order.u16_in(word) == 0 || words > left {
+    if order.u16_in(word) == 0 {
+        return Found::Nothing;
+    }
+    if words > left {
         return Found::Nothing;
     }
     if tells_resolution(order, word) {
