@@ -1,10 +1,10 @@
 //! The source of the generated capture.
 
-ghost use Rattle.std.specs.Prelude.{◌≡◌, ◌+◌, ◌*◌, ◌≤◌, ℕ, [], ◌++◌, length, take, drop, min, Some, IsOk};
+ghost use Rattle.std.specs.Prelude.{◌≡◌, ◌+◌, ◌*◌, ◌<◌, ◌≤◌, ℕ, [], ◌++◌, length, take, drop, min, Some, IsOk, IfOk};
 ghost use Rattle.std.specs.Io.{ReadsAtMost};
 ghost use Rattle.std.specs.Io.KnownBytes.{ReadConsumes};
 ghost use Rattle.mos_bytes.specs.Causes.{HasCause};
-ghost use Rattle.mos_bytes.specs.Reads.{BeginsWith};
+ghost use Rattle.mos_bytes.specs.Reads.{BeginsWith, HasAtLeast};
 ghost use Rattle.capture_maker.specs.Made.{MakerState, made, records_from};
 
 use crate::piece::Piece;
@@ -102,10 +102,14 @@ impl Source for Maker {
 
     ghost lasting = { λ m. m.count };
 
+    // Nothing is left.
+    ghost ended = { λ m. m.left ≡ [] };
+
     /// Gives the rest of a record, or as much of it as `buf` has room for. It never fails.
     fn read(&mut self, buf: &mut [u8]) -> Result<usize, Failed>
         ensures bound { ReadsAtMost result buf.new }
         ensures bytes { ReadConsumes (Some self.old.left) (Some self.new.left) result buf.new }
+        ensures ended { IfOk result (λ n. n ≡ 0 → 0 < length buf.new → self.new.left ≡ []) }
         ensures cause { HasCause 0 0 result }
         ensures never { IsOk result }
         ensures lasts { self.new.count ≡ self.old.count }
@@ -124,5 +128,12 @@ impl Source for Maker {
         ensures front { BeginsWith (Some self.now.left) result.now }
     {
         &[]
+    }
+
+    /// Nothing, as `at_hand`.
+    fn count_at_hand(&self) -> usize
+        ensures least { HasAtLeast (Some self.now.left) result }
+    {
+        0
     }
 }

@@ -4,5 +4,6 @@ pub mod Fetches
 pub mod Gathers
 pub mod Gathering
 pub mod Memory
+pub mod Outside
 pub mod Reads
 pub mod Writes

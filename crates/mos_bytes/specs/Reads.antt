@@ -11,16 +11,21 @@ abbrev pub BeginsWith : Option (List ℕ) → List ℕ → Type 0
 BeginsWith None bytes = ⊤
 BeginsWith (Some left) bytes = StartsWith left bytes
 
+-- so many bytes are left at least, where they are told
+abbrev pub HasAtLeast : Option (List ℕ) → ℕ → Type 0
+HasAtLeast None count = ⊤
+HasAtLeast (Some left) count = count ≤ length left
+
 -- n bytes were consumed, those at the front of buf, and fewer than buf has room for only where none is left
 pub record Fills (old new : Option (List ℕ)) (n : ℕ) (buf : List ℕ) : Type 0 where
   pub within : n ≤ length buf
   pub consumed : Consumes old new (take n buf)
   pub short : n < length buf → IsAtEnd new
 
--- some bytes were consumed, those at the front of buf
+-- some bytes were consumed, fewer than buf has room for: those at the front of buf
 pub record FillsPart (old new : Option (List ℕ)) (buf : List ℕ) : Type 0 where
   pub count : ℕ
-  pub within : count ≤ length buf
+  pub within : count < length buf
   pub consumed : Consumes old new (take count buf)
 
 -- `fill(buf)` consumed what it answers at `Ok`, and part of it at `Failed`

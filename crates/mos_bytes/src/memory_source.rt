@@ -1,11 +1,11 @@
 //! A source over bytes in memory, for tests.
 
-ghost use Rattle.std.specs.Prelude.{◌≡◌, ◌-◌, ◌^◌, ◌≤◌, ◌↔◌, ℕ, List, length, take, drop, min, Some, IfOk, IsErr, OnOk, OnErr, Contains};
+ghost use Rattle.std.specs.Prelude.{◌≡◌, [], ◌-◌, ◌^◌, ◌<◌, ◌≤◌, ◌↔◌, ℕ, List, length, take, drop, min, Some, IfOk, IsErr, OnOk, OnErr, Contains};
 ghost use Rattle.std.specs.Io.{ReadsAtMost};
 ghost use Rattle.std.specs.Io.KnownBytes.{ReadConsumes};
 ghost use Rattle.mos_bytes.specs.Causes.{HasCause, risen};
 ghost use Rattle.mos_bytes.specs.Memory.{SourceLasting, SourceState};
-ghost use Rattle.mos_bytes.specs.Reads.{BeginsWith};
+ghost use Rattle.mos_bytes.specs.Reads.{BeginsWith, HasAtLeast};
 
 use crate::copy::copy_front;
 use crate::{Failed, Source};
@@ -78,10 +78,14 @@ impl Source for MemSource {
 
     ghost lasting = { λ s. record { piece = s.piece; fails = s.fails } };
 
+    // Nothing is left.
+    ghost ended = { λ s. s.left ≡ [] };
+
     /// Gives as many bytes as `buf` has room for and are left, and no more than a piece. A listed call fails and gives none.
     fn read(&mut self, buf: &mut [u8]) -> Result<usize, Failed>
         ensures bound { ReadsAtMost result buf.new }
         ensures bytes { ReadConsumes (Some self.old.left) (Some self.new.left) result buf.new }
+        ensures ended { IfOk result (λ n. n ≡ 0 → 0 < length buf.new → self.new.left ≡ []) }
         ensures cause { HasCause self.old.faults self.new.faults result }
         ensures listed { IsErr result ↔ Contains self.old.fails self.old.calls }
         ensures count { IfOk result (λ n. n ≡ min (length buf.old) (min self.old.piece (length self.old.left))) }
@@ -109,5 +113,13 @@ impl Source for MemSource {
         ensures all { result.now ≡ self.now.left }
     {
         &self.bytes[self.place..]
+    }
+
+    /// How many bytes are left.
+    fn count_at_hand(&self) -> usize
+        ensures least { HasAtLeast (Some self.now.left) result }
+        ensures all { result ≡ length self.now.left }
+    {
+        self.bytes.len() - self.place
     }
 }

@@ -4,7 +4,7 @@ ghost use Rattle.std.specs.Prelude.{◌≡◌, ◌≢◌, [], ◌+◌, ◌-◌, 
 ghost use Rattle.std.specs.Io.{ReadsAtMost};
 ghost use Rattle.std.specs.Io.KnownBytes.{Consumes, IsAtEnd, Keeps, ReadConsumes};
 ghost use Rattle.mos_bytes.specs.Causes.{HasCause, risen};
-ghost use Rattle.mos_bytes.specs.Reads.{BeginsWith};
+ghost use Rattle.mos_bytes.specs.Reads.{BeginsWith, HasAtLeast};
 
 use crate::copy::copy_front;
 use crate::{Failed, Source};
@@ -103,6 +103,8 @@ impl<R: Read> Source for ReadSource<R> {
 
     ghost lasting = { λ _. tt };
 
+    ghost ended = { λ _. ⊤ };
+
     /// Gives what was read ahead, or asks the reader once. An error counts one fault more, any other answer none.
     fn read(&mut self, buf: &mut [u8]) -> Result<usize, Failed>
         ensures bound { ReadsAtMost result buf.new }
@@ -130,5 +132,13 @@ impl<R: Read> Source for ReadSource<R> {
         ensures ahead { result.now ≡ ahead_of self.now }
     {
         &self.buffer[self.start..self.end]
+    }
+
+    /// How many bytes were read ahead.
+    fn count_at_hand(&self) -> usize
+        ensures least { HasAtLeast (source_left R.remaining self.now) result }
+        ensures ahead { result ≡ length (ahead_of self.now) }
+    {
+        self.end - self.start
     }
 }

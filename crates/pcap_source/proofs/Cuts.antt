@@ -1,5 +1,5 @@
 -- What the records of a capture say, step by step.
-use Rattle.std.proofs.Common.{◌≡◌, ℕ, zero, suc, ◌+◌, ◌<◌, ◌≤◌, List, ◌++◌, length, take, drop, Bool, IsTrue, true, false, ◌&&◌, nat_lt, nat_le, ◌==◌, refl, sym, ap, ◌∙◌, arith, length-append}
+use Rattle.std.proofs.Common.{◌≡◌, ℕ, zero, suc, ◌+◌, ◌<◌, ◌≤◌, List, ◌++◌, length, take, drop, Bool, IsTrue, true, false, ◌&&◌, nat_lt, nat_le, ◌==◌, refl, sym, ap, ◌∙◌, arith}
 use Rattle.std.proofs.lemmas.Bool.Decides.{nat_tests}
 use Rattle.std.proofs.lemmas.List.{take-append-le}
 use Rattle.std.proofs.KnownBytes.{starts_with_rest}
@@ -70,16 +70,15 @@ frames_from-whole order n offset bytes within whole =
     let fits : nat_le (record_length order bytes) (length bytes) ≡ true = grind (arith, nat_tests) in
     rw (bound, fits) refl
 
--- a record that stands whole in a front of the bytes, by its captured length, stands whole in the bytes
-pub is_whole-front : (order : Order) (captured : ℕ) (front bytes : List ℕ) → StartsWith bytes front → captured ≡ captured_length order front
-    → captured ≤ 262144 → IsTrue (nat_le (16 + captured) (length front)) → IsTrue (is_whole order bytes)
-is_whole-front order captured front bytes begins is within test =
-    let fits : 16 + captured ≤ length front = grind (arith, nat_tests, test) in
+-- a record whose head stands in a front of the bytes, and for whose captured length there are enough of them, stands whole in the bytes
+pub is_whole-front : (order : Order) (captured count : ℕ) (front bytes : List ℕ) → StartsWith bytes front → 16 ≤ length front → captured ≡ captured_length order front
+    → count ≤ length bytes → captured ≤ 262144 → IsTrue (nat_le (16 + captured) count) → IsTrue (is_whole order bytes)
+is_whole-front order captured count front bytes begins headed is least within test =
+    let fits : 16 + captured ≤ count = grind (arith, nat_tests, test) in
     let rest = drop (length front) bytes in
     let parts : bytes ≡ front ++ rest = starts_with_rest bytes front begins in
-    let head : take 16 bytes ≡ take 16 front = ap (take 16) parts ∙ take-append-le 16 front rest (omega arith) in
+    let head : take 16 bytes ≡ take 16 front = ap (take 16) parts ∙ take-append-le 16 front rest headed in
     let told : captured_length order bytes ≡ captured = ap (λ h. number_in order 4 (drop 8 h)) head ∙ sym is in
-    let size : length front ≤ length bytes = omega (arith, ap length parts, length-append front rest) in
     let bound : nat_le (captured_length order bytes) 262144 ≡ true = rw told (grind (arith, nat_tests)) in
     let whole : nat_le (record_length order bytes) (length bytes) ≡ true = rw told (grind (arith, nat_tests)) in
     rw (bound, whole) refl

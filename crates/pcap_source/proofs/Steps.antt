@@ -1,17 +1,18 @@
 -- What `next` may answer after it has read a head, and then a body.
-use Rattle.std.proofs.Common.{◌≡◌, ℕ, suc, ◌+◌, ◌-◌, ◌<◌, ◌≤◌, List, ◌++◌, length, take, drop, None, Some, Ok, Err, refl, sym, ap, subst, ◌∙◌, arith, length-append, length-take-le, take_all}
+use Rattle.std.proofs.Common.{◌≡◌, ◌⊎◌, inl, inr, rules, ℕ, suc, ◌+◌, ◌-◌, ◌<◌, ◌≤◌, List, [], ◌++◌, length, take, drop, None, Some, Ok, Err, refl, sym, ap, subst, ◌∙◌, arith, length-append, length-take-le, take_all}
 use Rattle.std.proofs.Math.Seq.{take-append_seam, drop-append_seam, drop-append-add}
 use Rattle.std.specs.declared.option.Option.{Option}
 use Rattle.std.specs.Io.KnownBytes.{Consumes}
 use Rattle.std.proofs.KnownBytes.{Consumes-trans}
-use Rattle.mos_bytes.specs.Reads.{Fills}
+use Rattle.mos_bytes.specs.Reads.{Fills, FillsPart}
 use Rattle.pcap_source.specs.Captured.{Captured}
 use Rattle.pcap_source.specs.Order.{number_in}
 use Rattle.pcap_source.specs.Capture.{tail, ended, with_frame, record_at, record_of, record_length, captured_length, frames_from}
-use Rattle.pcap_source.specs.Reading.{NextGives, reading}
+use Rattle.pcap_source.specs.Reading.{IsTold, NextGives, reading}
 use Rattle.pcap_source.specs.declared.order.Order.{Order}
 use Rattle.pcap_source.specs.declared.capture.Step.TheVariants.{Frame, Tail, End}
-use Rattle.pcap_source.specs.declared.errors.NextError.TheVariants.{TooLong, TooMany}
+use Rattle.pcap_source.specs.declared.errors.NextError.{NextError}
+use Rattle.pcap_source.specs.declared.errors.NextError.TheVariants.{TooLong, TooMany, ReadFault, NoMemory}
 use Rattle.pcap_source.proofs.Cuts.{take-head, drop-head, frames_from-short, frames_from-too_many, frames_from-too_long, frames_from-cut, frames_from-whole}
 
 -- a buffer that wasn't filled holds all that was left
@@ -23,6 +24,13 @@ all_left n before after buf fills short =
 -- a buffer that was filled holds the front of what was left
 whole : (n : ℕ) (before after buf : List ℕ) → Fills (Some before) (Some after) n buf → length buf ≤ n → before ≡ buf ++ after
 whole n before after buf fills full = fills.consumed ∙ ap (λ l. l ++ after) (take_all n buf full)
+
+-- a source that failed, and of which nothing is left, had less left than the buffer has room for
+part_left : (before after buf : List ℕ) → FillsPart (Some before) (Some after) buf → after ≡ [] → length before < length buf
+part_left before after buf part none =
+    let within = part.within in
+    let front : length (take part.count buf) ≡ part.count = length-take-le part.count buf (omega arith) in
+    omega (arith, front, ap length part.consumed, length-append (take part.count buf) after, ap length none)
 
 module _ (order : Order) (count offset behind : ℕ) (frame : Captured) where
   pub gives-End : (n : ℕ) (a b : Option (List ℕ)) (head : List ℕ) → Fills a b n head → length head ≡ 16 → n ≡ 0
@@ -88,6 +96,37 @@ module _ (order : Order) (count offset behind : ℕ) (frame : Captured) where
             ∙ ap (λ k. ended (tail k)) size,
         omega arith,
         rest.short short,
+      )
+
+  -- the source failed before the head was read
+  pub gives-head-fault : (a b : Option (List ℕ)) (head : List ℕ) → FillsPart a b head → length head ≡ 16
+      → NextGives (reading order count offset) (reading order (count + 1) behind) a b frame (Err ReadFault)
+  gives-head-fault None b head part is = tt
+  gives-head-fault (Some before) None head part is = absurd part.consumed
+  gives-head-fault (Some before) (Some after) head part is = λ none.
+      let short = part.within in
+      (length before, frames_from-short order (1048576 - count) offset before (omega (arith, part_left before after head part none)))
+
+  -- the source failed, or memory was refused, before the captured bytes were read
+  pub gives-body-Err : (n : ℕ) (a b d : Option (List ℕ)) (head body : List ℕ) (e : NextError) → Fills a b n head → length head ≡ 16 → 16 ≤ n → count < 1048576
+      → number_in order 4 (drop 8 head) ≤ 262144 → (IsTold b → IsTold d) → (e ≡ ReadFault) ⊎ (e ≡ NoMemory) → (e ≡ ReadFault → FillsPart b d body)
+      → (e ≡ ReadFault → length body ≡ number_in order 4 (drop 8 head))
+      → NextGives (reading order count offset) (reading order (count + 1) behind) a d frame (Err e)
+  gives-body-Err n None b d head body e fills is full few within kept only part sized = tt
+  gives-body-Err n (Some before) None d head body e fills is full few within kept only part sized = absurd fills.consumed
+  gives-body-Err n (Some before) (Some mid) None head body e fills is full few within kept only part sized = absurd (kept tt)
+  gives-body-Err n (Some before) (Some mid) (Some after) head body (TooLong o) fills is full few within kept only part sized = elim only [ inl e ↦ search rules | inr e ↦ search rules ]
+  gives-body-Err n (Some before) (Some mid) (Some after) head body (TooMany o) fills is full few within kept only part sized = elim only [ inl e ↦ search rules | inr e ↦ search rules ]
+  gives-body-Err n (Some before) (Some mid) (Some after) head body NoMemory fills is full few within kept only part sized = tt
+  gives-body-Err n (Some before) (Some mid) (Some after) head body ReadFault fills is full few within kept only part sized = λ none.
+      let all : before ≡ head ++ mid = whole n before mid head fills (omega arith) in
+      let size : length before ≡ 16 + length mid = omega (arith, ap length all, length-append head mid) in
+      let short : length mid < length body = part_left mid after body (part refl) none in
+      let length_is : captured_length order before ≡ number_in order 4 (drop 8 head) = ap (captured_length order) all ∙ told head mid is in
+      let more : 1048576 - count ≡ suc (1048576 - (count + 1)) = omega arith in (
+        length before,
+        ap (λ k. frames_from order k offset before) more
+            ∙ frames_from-cut order (1048576 - (count + 1)) offset before (omega arith) (omega (arith, length_is)) (omega (arith, length_is, size, short, sized refl)),
       )
 
 -- the record at the front, where others follow

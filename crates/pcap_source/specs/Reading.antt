@@ -53,7 +53,7 @@ frames_at capture bytes = frames_from capture.order (1048576 - capture.count) ca
 -- `open` on these bytes, of which it leaves others
 abbrev pub OpensAs : List ℕ → List ℕ → Result CaptureState OpenError → Type 0
 OpensAs bytes after (Ok capture) = (header_of bytes ≡ Ok capture.order) × (capture.header ≡ take 24 bytes) × (after ≡ drop 24 bytes)
-OpensAs bytes after (Err OpenFault) = ⊤
+OpensAs bytes after (Err OpenFault) = after ≡ [] → length bytes < 24
 OpensAs bytes after (Err e) = header_of bytes ≡ Err e
 
 -- the same where the source tells its bytes
@@ -62,6 +62,10 @@ OpenGives None new result = ⊤
 OpenGives (Some bytes) None result = ⊥
 OpenGives (Some bytes) (Some after) result = OpensAs bytes after result
 
+-- no whole record is left, and what is left isn't refused
+abbrev pub IsTail : Frames → Type 0
+IsTail frames = (n : ℕ) × (frames ≡ ended (tail n))
+
 -- `next` where the bytes said `before`, then say `others`, and these are left
 abbrev pub StepsAs : Frames → Frames → List ℕ → Captured → Result Step NextError → Type 0
 StepsAs before others left frame (Ok Frame) = before ≡ with_frame frame others
@@ -69,7 +73,7 @@ StepsAs before others left frame (Ok (Tail n)) = (before ≡ ended (tail n)) × 
 StepsAs before others left frame (Ok End) = (before ≡ ended (tail 0)) × (left ≡ [])
 StepsAs before others left frame (Err (TooLong offset)) = before ≡ ended (too_long offset)
 StepsAs before others left frame (Err (TooMany offset)) = before ≡ ended (too_many offset)
-StepsAs before others left frame (Err ReadFault) = ⊤
+StepsAs before others left frame (Err ReadFault) = left ≡ [] → IsTail before
 StepsAs before others left frame (Err NoMemory) = ⊤
 
 -- the same where the source tells its bytes

@@ -1,9 +1,9 @@
 //! Reading a capture front to back.
 
-ghost use Rattle.std.specs.Prelude.{◌≡◌, ◌+◌, ◌*◌, ◌<◌, ◌≤◌, ◌⊎◌, ◌↔◌, ◌++◌, ℕ, List, length, Some, IsTrue, IfOk, OnOk, IfErr, IsErrOf, true, false};
+ghost use Rattle.std.specs.Prelude.{◌≡◌, ◌+◌, ◌*◌, ◌<◌, ◌≤◌, ◌⊎◌, ◌↔◌, ◌++◌, ℕ, List, length, Some, IsTrue, IfOk, OnOk, IfErr, IsErrOf, Err, true, false, ◌≢◌};
 ghost use Rattle.std.specs.Io.KnownBytes.{Consumes};
 ghost use Rattle.mos_bytes.specs.Causes.{HasCauseOf};
-ghost use Rattle.mos_bytes.specs.Reads.{Fills};
+ghost use Rattle.mos_bytes.specs.Reads.{Fills, FillsPart};
 ghost use Rattle.pcap_source.specs.Capture.{is_whole};
 ghost use Rattle.pcap_source.specs.Reading.{CaptureState, IsRecord, IsTold, NextGives, RefusesAt, reading};
 
@@ -64,6 +64,9 @@ fn read_bytes<S: Source>(
 ) -> Result<usize, NextError>
     ensures length { OnOk result (length bytes.new.items ≡ count) }
     ensures ok { IfOk result (λ n. Fills (S.left source.old) (S.left source.new) n bytes.new.items) }
+    ensures part { result ≡ Err NextError.ReadFault → FillsPart (S.left source.old) (S.left source.new) bytes.new.items }
+    ensures sized { result ≡ Err NextError.ReadFault → length bytes.new.items ≡ count }
+    ensures ended { IfOk result (λ n. n < count → S.ended source.new) }
     ensures told { IsTold (S.left source.old) → IsTold (S.left source.new) }
     ensures cause { HasCauseOf (S.faults source.old) (S.faults source.new) (IsErrOf result NextError.ReadFault) }
     ensures lasts { S.lasting source.new ≡ S.lasting source.old }
@@ -85,6 +88,7 @@ fn read_record<S: Source>(
     ensures gives { NextGives (reading order count offset) (reading order (count + 1) (offset + 16 + length frame.new.bytes))
         (S.left source.old) (S.left source.new) frame.new result }
     ensures few { result ≡ Ok Step.Frame → count < 1048576 }
+    ensures ended { IfOk result (λ step. step ≢ Step.Frame → S.ended source.new) }
     ensures refused { RefusesAt (reading order count offset) result }
     ensures whole { result ≡ Ok Step.Frame → IsRecord order frame.new }
     ensures consumed { result ≡ Ok Step.Frame → Consumes (S.left source.old) (S.left source.new) (frame.new.head ++ frame.new.bytes) }
@@ -122,6 +126,7 @@ impl Capture {
     pub fn open<S: Source>(source: &mut S) -> Result<Capture, OpenError>
         ensures gives { OpenGives (S.left source.old) (S.left source.new) result }
         ensures start { IfOk result Opened }
+        ensures ended { (count : ℕ) → result ≡ Err (OpenError.ShortHeader count) → S.ended source.new }
         ensures cause { HasCauseOf (S.faults source.old) (S.faults source.new) (IsErrOf result OpenError.ReadFault) }
         ensures lasts { S.lasting source.new ≡ S.lasting source.old }
         ensures at_most { (read : List ℕ) × Consumes (S.left source.old) (S.left source.new) read × (length read ≤ 24) }
@@ -144,12 +149,12 @@ impl Capture {
     pub fn is_at_hand<S: Source>(&self, source: &S) -> bool
         ensures whole { IsTrue result → (bytes : List ℕ) → S.left source.now ≡ Some bytes → IsTrue (is_whole self.now.order bytes) }
     {
-        let bytes = source.at_hand();
-        if bytes.len() < HEAD {
+        let front = source.at_hand();
+        if front.len() < HEAD {
             return false;
         }
-        let captured = self.order.u32_at(&bytes[..HEAD], 8);
-        captured <= CAPTURED_LIMIT && HEAD + captured as usize <= bytes.len()
+        let captured = self.order.u32_at(&front[..HEAD], 8);
+        captured <= CAPTURED_LIMIT && HEAD + captured as usize <= source.count_at_hand()
     }
 
     /// Reads the next record into the frame, whose memory it uses again. After any answer but `Step::Frame` the capture
@@ -157,6 +162,9 @@ impl Capture {
     pub fn next<S: Source>(&mut self, source: &mut S, frame: &mut Frame) -> Result<Step, NextError>
         requires live { IsTrue self.old.is_live }
         ensures gives { NextGives self.old self.new (S.left source.old) (S.left source.new) frame.new result }
+
+        // An end is told only where the source has ended.
+        ensures ended { IfOk result (λ step. step ≢ Step.Frame → S.ended source.new) }
 
         // Only a whole record leaves the capture live.
         ensures live { IsTrue self.new.is_live ↔ (result ≡ Ok Step.Frame) }

@@ -72,6 +72,8 @@ impl<'a, S: Source> Source for WatchedSource<'a, S> {
 
     ghost lasting = { λ s. tt };
 
+    ghost ended = { λ s. S.ended s.below };
+
     fn read(&mut self, buf: &mut [u8]) -> Result<usize, Failed> {
         self.flow.note_read();
         let count = self.below.read(buf)?;
@@ -84,6 +86,13 @@ impl<'a, S: Source> Source for WatchedSource<'a, S> {
             return self.below.at_hand();
         }
         &[]
+    }
+
+    fn count_at_hand(&self) -> usize {
+        if self.is_at_hand {
+            return self.below.count_at_hand();
+        }
+        0
     }
 }
 

@@ -1,7 +1,9 @@
 -- Each answer is what the definition has at this place.
-use Rattle.std.proofs.Common.{◌≡◌, ◌≤◌, ◌<◌, ◌∙◌, length, drop, arith, rules}
+use Rattle.std.proofs.Common.{◌≡◌, ◌≤◌, ◌<◌, ◌∙◌, Err, length, drop, ap, arith, rules}
+use Rattle.std.proofs.lemmas.Result.{err_from_is_err_and}
 use Rattle.pcap_source.specs.Order.{number_in}
-use Rattle.pcap_source.proofs.Steps.{gives-End, gives-Tail, gives-TooMany, gives-TooLong, gives-cut, gives-Frame}
+use Rattle.pcap_source.specs.declared.errors.NextError.TheVariants.{ReadFault}
+use Rattle.pcap_source.proofs.Steps.{gives-End, gives-Tail, gives-TooMany, gives-TooLong, gives-cut, gives-Frame, gives-head-fault, gives-body-Err}
 use Rattle.pcap_source.proofs.capture.read_record.Goals as goal
 
 pub returns-then-filled-eq0-clause-gives : goal.returns-then-filled-eq0-clause-gives
@@ -34,3 +36,18 @@ returns-clause-gives g c =
     let all : length c.read_bytes.new.bytes.items ≤ c.in_ok-filled-2.filled = omega (arith, c.len.ensures) in
     rw (c.u32_at-frame-inside.ensures, c.u32_at-frame-inside-2.ensures, c.u32_at-frame-inside-3.ensures)
     (gives-Frame _ _ _ _ _ _ _ _ _ _ c.in_ok-filled.ensures.bytes (search rules) (omega arith) (omega arith) sized (search rules) c.in_ok-filled-2.ensures.ok all)
+
+pub returns-in_err-filled-clause-gives : goal.returns-in_err-filled-clause-gives
+returns-in_err-filled-clause-gives g c =
+    let error = err_from_is_err_and c.from_residual.result c.from_residual.ensures.1 in
+    rw (error.1, error.2) (gives-head-fault _ _ _ _ _ _ _ _ c.in_err-filled.ensures.bytes (search rules))
+
+pub returns-in_err-filled-2-clause-gives : goal.returns-in_err-filled-2-clause-gives
+returns-in_err-filled-2-clause-gives g c =
+    let error = err_from_is_err_and c.from_residual-in_err-filled-2.result c.from_residual-in_err-filled-2.ensures.1 in
+    let given = c.in_err-filled-2.ensures in
+    let bounded : number_in c.args.order 4 (drop 8 c.fill.new.buf) ≤ 262144 = omega (arith, c.u32_at-captured.ensures) in
+    let sized : c.in_err-filled-2.field-0.0 ≡ ReadFault → length c.read_bytes.new.bytes.items ≡ number_in c.args.order 4 (drop 8 c.fill.new.buf) =
+    λ fault. given.sized (ap Err fault) ∙ c.u32_at-captured.ensures in
+    rw (error.1, error.2) (gives-body-Err _ _ _ _ _ _ _ _ _ _ c.read_bytes.new.bytes.items _ c.in_ok-filled.ensures.bytes (search rules) (omega arith) (omega arith) bounded
+    given.told given.only (λ fault. given.part (ap Err fault)) sized)
