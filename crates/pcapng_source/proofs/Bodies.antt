@@ -8,7 +8,7 @@ use Rattle.pcapng_source.specs.Given.{Given, after, nothing, refused, whole}
 use Rattle.pcapng_source.specs.Order.{number_in}
 use Rattle.pcapng_source.specs.Fields.{SectionState, has, is_past_options, is_resolution, is_section, option_size, padded, resolution_in, with_resolution}
 use Rattle.pcapng_source.specs.Blocks.{begun, blocks_from, classic_header, closed, is_pcapng}
-use Rattle.pcapng_source.specs.Reading.{Goes, IsFitting, behind, behind_options, behind_words, rest_at, rest_of, weight_at, weight_of}
+use Rattle.pcapng_source.specs.Reading.{Goes, IsFitting, met_at, behind, behind_options, behind_words, rest_at, rest_of, weight_at, weight_of}
 use Rattle.pcapng_source.specs.declared.order.Order.{Order}
 use Rattle.pcapng_source.specs.declared.fault.NgFault.TheVariants.{BadBlock}
 use Rattle.pcapng_source.specs.declared.reader.Reader.{Reader}
@@ -51,6 +51,7 @@ leaves-option r is fits owed skip some = record {
   same = λ left. sym (rest-at r Body left is ∙ ap (after r.made) (body-at r left owed skip ∙ words-at r r.options left some));
   fits = fits;
   lighter = omega (arith, weight-at r Body is);
+  met = sym (ap met_at is);
 }
 
 pub leaves-body : (r : Reader) → r.stage ≡ Body → IsFitting r → r.owed ≡ 0 → r.skip ≡ 0 → r.options ≡ 0
@@ -59,6 +60,7 @@ leaves-body r is fits owed skip none = record {
   same = λ left. sym (rest-at r Body left is ∙ ap (after r.made) (body-at r left owed skip ∙ ap (λ n. behind_words r n left) none));
   fits = fits;
   lighter = omega (arith, weight-at r Body is);
+  met = sym (ap met_at is);
 }
 
 -- ---- the second total length
@@ -74,11 +76,12 @@ closes r is whole same = record {
   same = λ left. sym (rest-at r Trailer left is ∙ ap (after r.made) (trailer-at r left true whole same));
   fits = omega arith;
   lighter = omega (arith, weight-at r Trailer is);
+  met = sym (ap met_at is);
 }
 
 pub closes-badly : (r : Reader) → r.stage ≡ Trailer → length r.word ≡ 4 → IsFitting r → (number_in r.section.order 4 r.word == r.block.total) ≡ false
     → Goes r (record r { stage = Refused (BadBlock r.block.offset) 0 })
-closes-badly r is whole fits same = refuses r Trailer (BadBlock r.block.offset) is fits (λ left. trailer-at r left false whole same)
+closes-badly r is whole fits same = refuses r Trailer (BadBlock r.block.offset) is refl fits (λ left. trailer-at r left false whole same)
 
 -- ---- the first four bytes
 
@@ -93,6 +96,7 @@ begins r is none long section = record {
   same = λ left. sym (rest-at r Start left is ∙ ap (λ l. after l (rest_at Start r left)) none ∙ begun-at r left true long section);
   fits = rw (has-short 8 r.word (omega arith)) (omega arith);
   lighter = omega (arith, weight-at r Start is);
+  met = sym (ap met_at is);
 }
 
 pub begins-plain : (r : Reader) → r.stage ≡ Start → r.made ≡ [] → length r.word ≡ 4 → is_section r.word ≡ false
@@ -101,6 +105,7 @@ begins-plain r is none long section = record {
   same = λ left. sym (rest-at r Start left is ∙ ap (λ l. after l (rest_at Start r left)) none ∙ begun-at r left false long section);
   fits = omega arith;
   lighter = omega arith;
+  met = sym (ap met_at is);
 }
 
 -- ---- options
@@ -129,6 +134,7 @@ resolves r resolution is whole fits read = record {
       ∙ resolved-at r resolution left whole));
   fits = fits;
   lighter = omega (arith, weight-at r Resolution is);
+  met = sym (ap met_at is);
 }
 
 -- an option behind which the interface has no resolution of its own
@@ -144,6 +150,7 @@ ends-options r is whole fits none = record {
       ∙ resolved-at r 6 left whole));
   fits = fits;
   lighter = omega (arith, weight-at r OptionHead is);
+  met = sym (ap met_at is);
 }
 
 -- the option tells the resolution
@@ -166,6 +173,7 @@ tells r is whole fits more some size told = record {
       ∙ ap (behind (with_resolution r.section (slice_index left 0)) r (4 * (r.options - 1) + 4)) (drop_at r.word left 4 whole)));
   fits = fits;
   lighter = omega (arith, weight-at r OptionHead is);
+  met = sym (ap met_at is);
 }
 
 -- the option is another one, with so many words, and options follow it
@@ -202,4 +210,5 @@ passes r words is whole fits more some size told = record {
       ∙ ap (λ k. behind_words r rest (drop k left)) (let it : 4 * words ≡ 0 + 4 * words = omega arith in it)));
   fits = fits;
   lighter = omega (arith, weight-at r OptionHead is);
+  met = sym (ap met_at is);
 }

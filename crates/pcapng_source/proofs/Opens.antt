@@ -9,7 +9,7 @@ use Rattle.pcapng_source.specs.Fields.{SectionState, has, head_length, interface
 use Rattle.pcapng_source.specs.Packets.{captured_of, interface_of, record_by, record_head, record_of, record_on, within_snap}
 use Rattle.pcapng_source.specs.Refusals.{kind_refusal}
 use Rattle.pcapng_source.specs.Blocks.{blocks_from, closed}
-use Rattle.pcapng_source.specs.Reading.{Goes, IsFitting, IsUnrefused, IsWhole, behind, behind_words, rest_at, rest_of, weight_at, weight_of}
+use Rattle.pcapng_source.specs.Reading.{Goes, IsFitting, IsUnrefused, IsWhole, met_at, behind, behind_words, rest_at, rest_of, weight_at, weight_of}
 use Rattle.pcapng_source.specs.declared.order.Order.{Order}
 use Rattle.pcapng_source.specs.declared.kind.Kind.{Kind}
 use Rattle.pcapng_source.specs.declared.kind.Kind.TheVariants.{SectionHeader, InterfaceBlock, SimplePacket, EnhancedPacket, OtherBlock}
@@ -87,6 +87,7 @@ opens r kind s section made total owed skip words it is_section_is sized most pa
       }) words bytes)));
   fits = omega arith;
   lighter = let u = it.unrefused in let some = u.allowed in omega (arith, weight-at r Head u.stage, some);
+  met = sym (ap met_at it.unrefused.stage);
 }
 
 -- ---- each kind of block

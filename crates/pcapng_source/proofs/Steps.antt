@@ -8,7 +8,7 @@ use Rattle.pcapng_source.specs.Order.{number_in}
 use Rattle.pcapng_source.specs.Fields.{SectionState, has, head_length, kind_of}
 use Rattle.pcapng_source.specs.Refusals.{refusal_of}
 use Rattle.pcapng_source.specs.Blocks.{blocks_from, closed}
-use Rattle.pcapng_source.specs.Reading.{Goes, IsFitting, IsOpen, IsUnrefused, ready_at, behind, behind_words, rest_at, rest_of, stop_of, weight_at, weight_of}
+use Rattle.pcapng_source.specs.Reading.{Goes, IsFitting, IsOpen, IsUnrefused, met_at, ready_at, behind, behind_words, rest_at, rest_of, stop_of, weight_at, weight_of}
 use Rattle.pcapng_source.specs.declared.order.Order.{Order}
 use Rattle.pcapng_source.specs.declared.fault.NgFault.{NgFault}
 use Rattle.pcapng_source.specs.declared.fault.NgFault.TheVariants.{TooManyBlocks, BadBlock}
@@ -28,32 +28,33 @@ weight-at r stage is = ap (λ s. weight_at s r) is
 
 -- nothing happens
 pub goes-same : (r : Reader) → IsFitting r → Goes r r
-goes-same r fits = record { same = λ left. refl; fits = fits; lighter = omega arith }
+goes-same r fits = record { same = λ left. refl; fits = fits; lighter = omega arith; met = refl }
 
 pub goes-trans : (a b c : Reader) → Goes a b → Goes b c → Goes a c
 goes-trans a b c first second =
     let one = first.lighter in
     let two = second.lighter in
-    record { same = λ left. second.same left ∙ first.same left; fits = second.fits; lighter = omega (arith, one, two) }
+    record { same = λ left. second.same left ∙ first.same left; fits = second.fits; lighter = omega (arith, one, two); met = second.met ∙ first.met }
 
 -- a block is refused
-pub refuses : (r : Reader) (stage : Stage) (fault : NgFault) → r.stage ≡ stage → IsFitting r → ((left : List ℕ) → rest_at stage r left ≡ refused fault)
+pub refuses : (r : Reader) (stage : Stage) (fault : NgFault) → r.stage ≡ stage → met_at stage ≡ 0 → IsFitting r → ((left : List ℕ) → rest_at stage r left ≡ refused fault)
     → Goes r (record r { stage = Refused fault 0 })
-refuses r stage fault is fits refusal = record {
+refuses r stage fault is none fits refusal = record {
   same = λ left. ap (after r.made) (sym (refusal left)) ∙ sym (rest-at r stage left is);
   fits = fits;
   lighter = omega arith;
+  met = sym (ap met_at is ∙ none);
 }
 
 pub refuses-many : (r : Reader) → r.stage ≡ Head → IsFitting r → 8 ≤ length r.head → r.place.allowed ≡ 0
     → Goes r (record r { stage = Refused (TooManyBlocks r.place.offset) 0 })
-refuses-many r is fits long none = refuses r Head (TooManyBlocks r.place.offset) is fits (λ left.
+refuses-many r is fits long none = refuses r Head (TooManyBlocks r.place.offset) is refl fits (λ left.
     ap (λ n. blocks_from r.section n r.place.offset (r.head ++ left)) none
     ∙ blocks-many r.section r.place.offset (r.head ++ left) (has-front 8 r.head left long))
 
 pub refuses-head : (r : Reader) (fault : NgFault) → r.stage ≡ Head → IsFitting r → 8 ≤ length r.head → 0 < r.place.allowed
     → refusal_of r.section r.place.offset r.head ≡ Some fault → Goes r (record r { stage = Refused fault 0 })
-refuses-head r fault is fits long some refusal = refuses r Head fault is fits (λ left.
+refuses-head r fault is fits long some refusal = refuses r Head fault is refl fits (λ left.
     head-refused r.section r.place.allowed r.place.offset r.head left fault long some refusal)
 
 -- a head that is too short to be judged

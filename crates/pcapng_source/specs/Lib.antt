@@ -8,4 +8,4 @@ pub mod Refusals
 pub mod Blocks
 pub mod Laws
 pub mod Reading
-pub mod Sources
+pub mod Outlooks

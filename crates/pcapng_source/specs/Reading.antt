@@ -162,6 +162,7 @@ pub record Goes (old new : Reader) : Type 0 where
   pub same : (left : List ℕ) → rest_of new left ≡ rest_of old left
   pub fits : IsFitting new
   pub lighter : weight_of new ≤ weight_of old
+  pub met : met_at new.stage ≡ met_at old.stage
 
 -- a block whose head isn't refused, as far as it is held
 pub record IsUnrefused (r : Reader) : Type 0 where

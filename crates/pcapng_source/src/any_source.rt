@@ -1,10 +1,11 @@
 //! The source over a file of either form.
 
-ghost use Rattle.std.specs.Prelude.{◌≡◌, ◌+◌, ◌<◌, ◌≤◌, ⊤, ℕ, List, [], length, None};
+ghost use Rattle.std.specs.Prelude.{◌≡◌, ◌+◌, ◌<◌, ◌≤◌, ℕ, List, [], length, min, option_map, IfOk, OnErr};
 ghost use Rattle.std.specs.Io.{ReadsAtMost};
 ghost use Rattle.std.specs.Io.KnownBytes.{ReadConsumes};
 ghost use Rattle.mos_bytes.specs.Causes.{HasCause};
-ghost use Rattle.mos_bytes.specs.Reads.{BeginsWith};
+ghost use Rattle.mos_bytes.specs.Reads.{BeginsWith, HasAtLeast};
+ghost use Rattle.pcapng_source.specs.Reading.{IsFitting};
 
 use crate::NgFault;
 use crate::reader::{Next, Reader};
@@ -24,11 +25,21 @@ const HELD: usize = 28;
 pub struct AnySource<'a, S: Source> {
     source: &'a mut S,
     reader: Reader,
+    ghost fits: { IsFitting reader },
 }
 
 impl<'a, S: Source> AnySource<'a, S> {
+    ghost use Rattle.pcapng_source.specs.Given.{nothing};
+    ghost use Rattle.pcapng_source.specs.Blocks.{any};
+    ghost use Rattle.pcapng_source.specs.Reading.{IsOpen, direct_at, fault_at, met_at, settled_at, skipped_at, wanted_at};
+    ghost use Rattle.pcapng_source.specs.Outlooks.{StepEnds, StepFalls, StepFits, StepGives, faults_with, outlook};
+
     /// A source over this one, from whose start the file is read.
-    pub fn new(source: &'a mut S) -> AnySource<'a, S> {
+    pub fn new(source: &'a mut S) -> AnySource<'a, S>
+        ensures outlook { outlook result.reader (S.left result.source.now) ≡ option_map any (S.left source.old) }
+        ensures met { met_at result.reader.stage ≡ 0 }
+        ensures name { result.source.ghost_name ≡ source.entry.ghost_name }
+    {
         AnySource {
             source,
             reader: Reader::new(),
@@ -36,19 +47,49 @@ impl<'a, S: Source> AnySource<'a, S> {
     }
 
     /// Why the file is refused, where a read has met that.
-    pub fn fault(&self) -> Option<NgFault> {
+    pub fn fault(&self) -> Option<NgFault>
+        ensures { result ≡ fault_at self.now.reader.stage }
+    {
         self.reader.fault()
     }
 
     // Gives up to so many of the next bytes as they are.
-    fn give(&mut self, buf: &mut [u8]) -> Result<Option<usize>, Failed> {
+    fn give(&mut self, buf: &mut [u8]) -> Result<Option<usize>, Failed>
+        requires some { 0 < length buf.old }
+        requires few { length buf.old ≤ direct_at self.old.reader.stage self.old.reader (length buf.old) }
+        requires made { self.old.reader.made ≡ [] }
+        requires open { IsOpen self.old.reader }
+        ensures gives { StepGives (outlook self.old.reader (S.left self.old.source.now))
+            (outlook self.new.reader (S.left self.new.source.now)) result buf.new }
+        ensures fits { StepFits result buf.new }
+        ensures ends { StepEnds self.new.reader (S.left self.new.source.now) result (S.ended self.new.source.now) }
+        ensures falls { StepFalls self.old.reader self.new.reader result }
+        ensures cause { HasCause (faults_with self.old.reader (S.faults self.old.source.now))
+            (faults_with self.new.reader (S.faults self.new.source.now)) result }
+        ensures lasts { S.lasting self.new.source.now ≡ S.lasting self.old.source.now }
+        ensures name { self.new.source.ghost_name ≡ self.old.source.ghost_name }
+    {
         let count = self.source.read(buf)?;
         self.reader.gave(count);
         Ok(Some(count))
     }
 
     // Skips up to so many of the next bytes.
-    fn skip(&mut self, most: usize) -> Result<Option<usize>, Failed> {
+    fn skip(&mut self, most: usize) -> Result<Option<usize>, Failed>
+        requires some { 0 < most }
+        requires few { most ≤ skipped_at self.old.reader.stage self.old.reader }
+        requires made { self.old.reader.made ≡ [] }
+        requires open { IsOpen self.old.reader }
+        ensures gives { StepGives (outlook self.old.reader (S.left self.old.source.now))
+            (outlook self.new.reader (S.left self.new.source.now)) result [] }
+        ensures fits { StepFits result [] }
+        ensures ends { StepEnds self.new.reader (S.left self.new.source.now) result (S.ended self.new.source.now) }
+        ensures falls { StepFalls self.old.reader self.new.reader result }
+        ensures cause { HasCause (faults_with self.old.reader (S.faults self.old.source.now))
+            (faults_with self.new.reader (S.faults self.new.source.now)) result }
+        ensures lasts { S.lasting self.new.source.now ≡ S.lasting self.old.source.now }
+        ensures name { self.new.source.ghost_name ≡ self.old.source.ghost_name }
+    {
         let mut bytes = [0; SKIPPED];
         let count = self.source.read(&mut bytes[..SKIPPED.min(most)])?;
         if count == 0 {
@@ -59,8 +100,23 @@ impl<'a, S: Source> AnySource<'a, S> {
     }
 
     // Holds up to so many of the next bytes.
-    fn hold(&mut self, most: usize) -> Result<Option<usize>, Failed> {
+    fn hold(&mut self, most: usize) -> Result<Option<usize>, Failed>
+        requires some { 0 < most }
+        requires wanted { most ≡ wanted_at self.old.reader.stage self.old.reader }
+        requires made { self.old.reader.made ≡ [] }
+        requires settled { settled_at self.old.reader.stage self.old.reader }
+        ensures gives { StepGives (outlook self.old.reader (S.left self.old.source.now))
+            (outlook self.new.reader (S.left self.new.source.now)) result [] }
+        ensures fits { StepFits result [] }
+        ensures ends { StepEnds self.new.reader (S.left self.new.source.now) result (S.ended self.new.source.now) }
+        ensures falls { StepFalls self.old.reader self.new.reader result }
+        ensures cause { HasCause (faults_with self.old.reader (S.faults self.old.source.now))
+            (faults_with self.new.reader (S.faults self.new.source.now)) result }
+        ensures lasts { S.lasting self.new.source.now ≡ S.lasting self.old.source.now }
+        ensures name { self.new.source.ghost_name ≡ self.old.source.ghost_name }
+    {
         let mut bytes = [0; HELD];
+        let most = most.min(HELD);
         let count = self.source.read(&mut bytes[..most])?;
         if count == 0 {
             return Ok(if self.reader.end() { None } else { Some(0) });
@@ -71,7 +127,18 @@ impl<'a, S: Source> AnySource<'a, S> {
 
     // One step of a read, which asks the source below at most once. The answer is that of the read, or nothing where it
     // takes a further step.
-    fn step(&mut self, buf: &mut [u8]) -> Result<Option<usize>, Failed> {
+    fn step(&mut self, buf: &mut [u8]) -> Result<Option<usize>, Failed>
+        requires { 0 < length buf.old }
+        ensures gives { StepGives (outlook self.old.reader (S.left self.old.source.now))
+            (outlook self.new.reader (S.left self.new.source.now)) result buf.new }
+        ensures fits { StepFits result buf.new }
+        ensures ends { StepEnds self.new.reader (S.left self.new.source.now) result (S.ended self.new.source.now) }
+        ensures falls { StepFalls self.old.reader self.new.reader result }
+        ensures cause { HasCause (faults_with self.old.reader (S.faults self.old.source.now))
+            (faults_with self.new.reader (S.faults self.new.source.now)) result }
+        ensures lasts { S.lasting self.new.source.now ≡ S.lasting self.old.source.now }
+        ensures name { self.new.source.ghost_name ≡ self.old.source.ghost_name }
+    {
         self.reader.take();
         if self.reader.made() > 0 {
             return Ok(Some(self.reader.give(buf)));
@@ -89,6 +156,8 @@ impl<'a, S: Source> AnySource<'a, S> {
 }
 
 impl<'a, S: Source> Source for AnySource<'a, S> {
+    ghost use Rattle.std.specs.Prelude.{⊤, None};
+
     ghost left = { λ _. None };
 
     ghost faults = { λ _. 0 };
@@ -96,6 +165,8 @@ impl<'a, S: Source> Source for AnySource<'a, S> {
     ghost Lasting = { ⊤ };
 
     ghost lasting = { λ _. tt };
+
+    ghost ended = { λ _. ⊤ };
 
     fn read(&mut self, buf: &mut [u8]) -> Result<usize, Failed> {
         if buf.is_empty() {
@@ -110,5 +181,9 @@ impl<'a, S: Source> Source for AnySource<'a, S> {
 
     fn at_hand(&self) -> &[u8] {
         &[]
+    }
+
+    fn count_at_hand(&self) -> usize {
+        0
     }
 }

@@ -163,7 +163,7 @@ impl Reader {
         ensures stage { self.new.stage ≡ self.old.stage }
     {
         if let Stage::Body = self.stage {
-            self.owed -= count as u32;
+            self.owed = (self.owed as usize - count) as u32;
         }
     }
 
@@ -228,6 +228,7 @@ impl Reader {
         ensures rest { (left : List ℕ) → rest_of self.new left ≡ rest_of self.old left }
         ensures fits { IsFitting self.new }
         ensures met { met_at self.new.stage ≡ risen (met_at self.old.stage) }
+        ensures grows { met_at self.old.stage ≤ met_at self.new.stage }
     {
         if let Stage::Refused(fault, met) = self.stage {
             self.stage = Stage::Refused(fault, met.saturating_add(1));

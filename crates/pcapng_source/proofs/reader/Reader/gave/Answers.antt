@@ -4,8 +4,8 @@ use Rattle.pcapng_source.specs.Reading.{direct_at}
 use Rattle.pcapng_source.proofs.Steps.{gives-body}
 use Rattle.pcapng_source.proofs.reader.Reader.gave.Goals as goal
 
-pub overflow_cast-self : goal.overflow_cast-self
-overflow_cast-self c =
+pub overflow_sub-self : goal.overflow_sub-self
+overflow_sub-self c =
     let few : c.args.count ≤ min c.args.count c.args.self.now.owed = subst (λ s. c.args.count ≤ direct_at s c.args.self.now c.args.count) c.in-Body.is c.requires.few in
     omega arith
 

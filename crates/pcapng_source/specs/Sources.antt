@@ -1,1 +1,0 @@
--- What a source over a file of either form tells.
