@@ -8,4 +8,4 @@ pub mod Resolutions
 pub mod Steps
 pub mod Bodies
 pub mod Opens
-pub mod Turns
+pub mod Going

@@ -9,3 +9,4 @@ pub mod Blocks
 pub mod Laws
 pub mod Reading
 pub mod Outlooks
+pub mod Sources

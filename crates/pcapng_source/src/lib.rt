@@ -22,6 +22,7 @@ mod reader;
 mod section;
 mod take;
 mod time;
+mod turns;
 
 pub use any_source::AnySource;
 pub use fault::NgFault;

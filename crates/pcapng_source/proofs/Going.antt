@@ -4,8 +4,9 @@ use Rattle.std.proofs.lemmas.Bool.{cases_lt}
 use Rattle.std.proofs.lemmas.List.{take-append-le}
 use Rattle.mos_bytes.specs.declared.failed.Failed.{Failed}
 use Rattle.mos_bytes.specs.Causes.{HasCause, Rose, risen}
+use Rattle.mos_bytes.proofs.Causes.{Rose-earlier}
 use Rattle.pcapng_source.specs.Given.{Given, after}
-use Rattle.pcapng_source.specs.Reading.{met_at, rest_of}
+use Rattle.pcapng_source.specs.Reading.{IsFitting, met_at, rest_of}
 use Rattle.pcapng_source.specs.Outlooks.{Gives, StepFits, StepGives, faults_with, outlook}
 use Rattle.pcapng_source.specs.declared.reader.Reader.{Reader}
 
@@ -46,3 +47,31 @@ cause-same r s before now result same cause = subst (λ m. HasCause (before + m)
 -- a read that met a refusal
 pub met-rose : (before met : ℕ) → Rose (before + met) (before + risen met)
 met-rose before met = ⊎_elim (λ more. inl (omega arith)) (λ end. inr (omega arith)) (cases_lt (met + 1) (2 ^ 64))
+
+-- ---- one step after another
+
+-- what was given in two parts
+pub Gives-trans : (a b c : Option Given) (front : List ℕ) → Gives a b [] → Gives b c front → Gives a c front
+Gives-trans None b c front one two = tt
+Gives-trans (Some a) None c front one two = absurd one
+Gives-trans (Some a) (Some b) None front one two = absurd two
+Gives-trans (Some a) (Some b) (Some c) front one two = one ∙ two
+
+Gives-nothing : (a : Option Given) → Gives a a []
+Gives-nothing None = tt
+Gives-nothing (Some a) = refl
+
+-- the steps of a read so far: they gave nothing, and the faults have not fallen
+pub record Going {S L : Type 0} (left : S → Option (List ℕ)) (faults : S → ℕ) (lasting : S → L) (old now : S) (r s : Reader) : Type 0 where
+  pub gives : Gives (outlook r (left old)) (outlook s (left now)) []
+  pub later : faults_with r (faults old) ≤ faults_with s (faults now)
+  pub lasts : lasting now ≡ lasting old
+  pub fits : IsFitting s
+
+pub going-none : {S L : Type 0} (left : S → Option (List ℕ)) (faults : S → ℕ) (lasting : S → L) (s : S) (r : Reader) → IsFitting r → Going left faults lasting s s r r
+going-none left faults lasting s r fits = record { gives = Gives-nothing (outlook r (left s)); later = omega arith; lasts = refl; fits = fits }
+
+-- a cause of the last step
+pub cause-going : {T : Type 0} (before middle now : ℕ) (result : Result T Failed) → before ≤ middle → HasCause middle now result → HasCause before now result
+cause-going before middle now result le cause =
+    let later = cause.later in record { later = omega (arith, later); failed = λ err. Rose-earlier before middle now le (cause.failed err) }
