@@ -75,3 +75,11 @@ going-none left faults lasting s r fits = record { gives = Gives-nothing (outloo
 pub cause-going : {T : Type 0} (before middle now : ℕ) (result : Result T Failed) → before ≤ middle → HasCause middle now result → HasCause before now result
 cause-going before middle now result le cause =
     let later = cause.later in record { later = omega (arith, later); failed = λ err. Rose-earlier before middle now le (cause.failed err) }
+
+-- a step that gave nothing, whatever it answers
+pub step-none : (old new : Option Given) (result : Result (Option ℕ) Failed) → StepFits result [] → StepGives old new result [] → Gives old new []
+step-none old new (Ok (Some count)) fits gives =
+    let none : count ≡ 0 = omega arith in
+    subst (Gives old new) (ap (λ n. take n []) none) gives
+step-none old new (Ok None) fits gives = gives
+step-none old new (Err failed) fits gives = gives

@@ -1,5 +1,5 @@
 -- What a reader stands for, between the bytes that it has read and those that come next.
-use Rattle.std.specs.Prelude.{◌≡◌, ℕ, zero, suc, ◌+◌, ◌-◌, ◌*◌, ◌<◌, ◌≤◌, ⊤, List, [], ◌++◌, length, take, drop, Bool, ◌==◌, min, slice_index, if◌then◌else◌, Option, None, Some}
+use Rattle.std.specs.Prelude.{◌≡◌, ℕ, zero, suc, ◌+◌, ◌-◌, ◌*◌, ◌<◌, ◌≤◌, ⊤, List, [], ◌++◌, length, take, drop, Bool, false, ◌==◌, min, slice_index, if◌then◌else◌, Option, None, Some}
 use Rattle.pcapng_source.specs.Given.{Given, after, nothing, refused, whole}
 use Rattle.pcapng_source.specs.Fields.{SectionState, has, head_length, kind_of, resolution_in, with_resolution}
 use Rattle.pcapng_source.specs.Refusals.{refusal_of}
@@ -71,6 +71,17 @@ direct_at OptionHead r count = 0
 direct_at Resolution r count = 0
 direct_at Trailer r count = 0
 direct_at (Refused fault met) r count = 0
+
+-- the bytes that come next are given as they are, to the end of the file
+abbrev pub is_plain_at : Stage → Reader → Bool
+is_plain_at Start r = false
+is_plain_at Plain r = length r.made == 0
+is_plain_at Head r = false
+is_plain_at Body r = false
+is_plain_at OptionHead r = false
+is_plain_at Resolution r = false
+is_plain_at Trailer r = false
+is_plain_at (Refused fault met) r = false
 
 -- how many of the next bytes are skipped
 abbrev pub skipped_at : Stage → Reader → ℕ

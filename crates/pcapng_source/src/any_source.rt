@@ -10,7 +10,7 @@ ghost use Rattle.pcapng_source.specs.Outlooks.{IsLinked, IsLinked-prop};
 
 use crate::NgFault;
 use crate::reader::Reader;
-use crate::turns::read_on;
+use crate::turns::{look_ahead, read_on};
 use mos_bytes::{Failed, Source};
 use std::snapshot::Snapshot;
 
@@ -82,20 +82,30 @@ impl<'a, S: Source> Source for AnySource<'a, S> {
         if buf.is_empty() {
             return Ok(0);
         }
-        read_on(self.source, &mut self.reader, buf)
+        let count = read_on(self.source, &mut self.reader, buf)?;
+        if count > 0 {
+            look_ahead(self.source, &mut self.reader);
+        }
+        Ok(count)
     }
 
-    /// Nothing.
+    /// The bytes that were made; of a file that is no pcapng file, those that the source below has at hand.
     fn at_hand(&self) -> &[u8]
         ensures front { BeginsWith (any_left self.now) result.now }
     {
-        &[]
+        if self.reader.is_plain() {
+            self.source.at_hand()
+        } else {
+            self.reader.made_bytes()
+        }
     }
 
-    /// None.
+    /// How many bytes were made, and how many stand behind them as they are and are at hand below: where the head of a
+    /// record was made, those of its data.
     fn count_at_hand(&self) -> usize
         ensures least { HasAtLeast (any_left self.now) result }
     {
-        0
+        let made = self.reader.made();
+        made.saturating_add(self.reader.direct(self.source.count_at_hand()))
     }
 }

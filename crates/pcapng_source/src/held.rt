@@ -174,6 +174,13 @@ impl Made {
         self.end - self.place
     }
 
+    // Those that weren't given yet.
+    pub(crate) fn as_slice(&self) -> &[u8]
+        ensures { result.now ≡ self.now }
+    {
+        &self.bytes[self.place..self.end]
+    }
+
     // Gives as many bytes as `buf` has room for, and answers how many.
     pub(crate) fn give(&mut self, buf: &mut [u8]) -> usize
         ensures count { result ≡ min (length self.old) (length buf.old) }

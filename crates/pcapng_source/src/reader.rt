@@ -77,7 +77,7 @@ impl Reader {
     ghost use Rattle.std.specs.Bool.{OnTrue, OnFalse};
     ghost use Rattle.pcapng_source.specs.Given.{after};
     ghost use Rattle.pcapng_source.specs.Blocks.{any};
-    ghost use Rattle.pcapng_source.specs.Reading.{IsFitting, IsOpen, IsRefused, NextIs, direct_at, fault_at, met_at, rest_of, settled_at, skipped_at, stop_of, wanted_at, weight_of};
+    ghost use Rattle.pcapng_source.specs.Reading.{IsFitting, IsOpen, IsRefused, NextIs, direct_at, fault_at, is_plain_at, met_at, rest_of, settled_at, skipped_at, stop_of, wanted_at, weight_of};
 
     // In front of a file.
     #[tactic(auto, unfolding(crate::specs::Blocks::any))]
@@ -108,6 +108,34 @@ impl Reader {
         ensures { result ≡ length self.now.made }
     {
         self.made.len()
+    }
+
+    // The bytes that were made and not given yet.
+    pub(crate) fn made_bytes(&self) -> &[u8]
+        ensures { result.now ≡ self.now.made }
+    {
+        self.made.as_slice()
+    }
+
+    // Whether the bytes that come next are given as they are, to the end of the file.
+    pub(crate) fn is_plain(&self) -> bool
+        ensures { result ≡ is_plain_at self.now.stage self.now }
+    {
+        match self.stage {
+            Stage::Plain => self.made.len() == 0,
+            _ => false,
+        }
+    }
+
+    // How many of the next bytes are given as they are, of so many.
+    pub(crate) fn direct(&self, count: usize) -> usize
+        ensures { result ≡ direct_at self.now.stage self.now count }
+    {
+        match self.stage {
+            Stage::Plain => count,
+            Stage::Body => count.min(self.owed as usize),
+            _ => 0,
+        }
     }
 
     // Gives bytes that were made, as many as `buf` has room for, and answers how many.

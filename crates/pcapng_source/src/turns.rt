@@ -1,11 +1,12 @@
 //! Reading on: what comes from a source goes through a reader.
 
 ghost use Rattle.std.specs.Prelude.{◌≡◌, ◌+◌, ◌<◌, ◌≤◌, ℕ, List, [], length, min, IfOk};
+ghost use Rattle.std.specs.Bool.{OnTrue};
 ghost use Rattle.std.specs.Io.{ReadsAtMost};
 ghost use Rattle.std.specs.Io.KnownBytes.{IsAtEnd};
 ghost use Rattle.mos_bytes.specs.Causes.{HasCause};
-ghost use Rattle.pcapng_source.specs.Outlooks.{IsOver, ReadGives, StepEnds, StepFalls, StepFits, StepGives, faults_with, outlook};
-ghost use Rattle.pcapng_source.specs.Reading.{IsFitting, IsOpen, direct_at, settled_at, skipped_at, wanted_at};
+ghost use Rattle.pcapng_source.specs.Outlooks.{Gives, IsOver, ReadGives, StepEnds, StepFalls, StepFits, StepGives, faults_with, outlook};
+ghost use Rattle.pcapng_source.specs.Reading.{IsFitting, IsOpen, direct_at, settled_at, skipped_at, wanted_at, weight_of};
 
 use crate::reader::{Next, Reader};
 use mos_bytes::{Failed, Source};
@@ -149,4 +150,36 @@ pub(crate) fn read_on<S: Source>(
             return Ok(count);
         }
     }
+}
+
+// Goes on by bytes that are at hand alone, and answers whether there may be more to do. A fault that is met here is counted
+// and not told: the next read asks again.
+fn step_ahead<S: Source>(source: &mut S, reader: &mut Reader) -> bool
+    requires { IsFitting reader.old }
+    ensures gives { Gives (outlook reader.old (S.left source.old)) (outlook reader.new (S.left source.new)) [] }
+    ensures later { faults_with reader.old (S.faults source.old) ≤ faults_with reader.new (S.faults source.new) }
+    ensures falls { OnTrue result (weight_of reader.new < weight_of reader.old) }
+    ensures lasts { S.lasting source.new ≡ S.lasting source.old }
+    ensures fits { IsFitting reader.new }
+{
+    reader.take();
+    if reader.made() > 0 || source.count_at_hand() == 0 {
+        return false;
+    }
+    match reader.next(1) {
+        Next::Skip(most) => skip(source, reader, most) == Ok(None),
+        Next::Hold(most) => hold(source, reader, most) == Ok(None),
+        Next::Give(_) | Next::Refuse => false,
+    }
+}
+
+// Goes on by bytes that are at hand, until bytes are made or stand next in the file: so that these can be shown.
+pub(crate) fn look_ahead<S: Source>(source: &mut S, reader: &mut Reader)
+    requires { IsFitting reader.old }
+    ensures gives { Gives (outlook reader.old (S.left source.old)) (outlook reader.new (S.left source.new)) [] }
+    ensures later { faults_with reader.old (S.faults source.old) ≤ faults_with reader.new (S.faults source.new) }
+    ensures lasts { S.lasting source.new ≡ S.lasting source.old }
+    ensures fits { IsFitting reader.new }
+{
+    while step_ahead(source, reader) {}
 }
