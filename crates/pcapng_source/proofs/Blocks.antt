@@ -1,10 +1,9 @@
 -- What the blocks give, one after another.
-use Rattle.std.proofs.Common.{◌≡◌, ℕ, zero, suc, ◌+◌, ◌-◌, ◌<◌, ◌≤◌, List, [], ◌++◌, length, take, drop, Bool, true, false, nat_le, ◌==◌, cond, Option, None, Some, refl, sym, ap, subst, ◌∙◌, arith, length-append, length-drop, append_assoc}
+use Rattle.std.proofs.Common.{◌≡◌, ℕ, suc, ◌+◌, ◌-◌, ◌<◌, ◌≤◌, List, ◌++◌, length, drop, true, false, cond, None, Some, refl, ap, ◌∙◌, arith, length-drop, append_assoc}
 use Rattle.std.proofs.lemmas.Bool.{cond-false, cond-true, le-leb, lt-leb}
 use Rattle.std.proofs.lemmas.Bool.Decides.{nat_tests}
-use Rattle.std.proofs.lemmas.List.{drop-drop, drop_at}
+use Rattle.std.proofs.lemmas.List.{drop-drop}
 use Rattle.pcapng_source.specs.Given.{Given, after, nothing, refused}
-use Rattle.pcapng_source.specs.Order.{number_in}
 use Rattle.pcapng_source.specs.Fields.{SectionState, has, head_length, kind_of, section_behind, section_by, section_in, total_of}
 use Rattle.pcapng_source.specs.Packets.{record_of}
 use Rattle.pcapng_source.specs.Refusals.{refusal_of}

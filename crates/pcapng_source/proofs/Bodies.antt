@@ -1,22 +1,21 @@
 -- What a reader's steps leave as it was in the body of a block.
-use Rattle.std.proofs.Common.{◌≡◌, ℕ, zero, suc, ◌+◌, ◌-◌, ◌*◌, ◌<◌, ◌≤◌, List, [], ◌++◌, length, take, drop, Bool, true, false, nat_le, ◌==◌, cond, get_or, refl, sym, ap, subst, ◌∙◌, arith, length-append, length-drop, length-take, length-take-le, append_assoc, ⊎_elim}
+use Rattle.std.proofs.Common.{◌≡◌, ℕ, zero, suc, ◌+◌, ◌-◌, ◌*◌, ◌<◌, ◌≤◌, List, [], ◌++◌, length, take, drop, Bool, true, false, ◌==◌, cond, refl, sym, ap, ◌∙◌, arith, length-append, length-take, length-take-le, ⊎_elim}
 use Rattle.std.proofs.lemmas.Bool.{cases_Bool, cond-false, leb-true}
 use Rattle.std.proofs.lemmas.List.{drop-drop, drop_at, drop-take, get_or-take, get_or_append_left}
 use Rattle.std.proofs.Math.Seq.{take-append-add, drop-append-add}
 use Rattle.std.specs.Prelude.{slice_index}
-use Rattle.pcapng_source.specs.Given.{Given, after, nothing, refused, whole}
+use Rattle.pcapng_source.specs.Given.{after, nothing, refused, whole}
 use Rattle.pcapng_source.specs.Order.{number_in}
-use Rattle.pcapng_source.specs.Fields.{SectionState, has, is_past_options, is_resolution, is_section, option_size, padded, resolution_in, with_resolution}
-use Rattle.pcapng_source.specs.Blocks.{begun, blocks_from, classic_header, closed, is_pcapng}
-use Rattle.pcapng_source.specs.Reading.{Goes, IsFitting, met_at, behind, behind_options, behind_words, rest_at, rest_of, weight_at, weight_of}
-use Rattle.pcapng_source.specs.declared.order.Order.{Order}
+use Rattle.pcapng_source.specs.Fields.{SectionState, has, is_resolution, is_section, option_size, resolution_in, with_resolution}
+use Rattle.pcapng_source.specs.Blocks.{blocks_from, classic_header, closed}
+use Rattle.pcapng_source.specs.Reading.{Goes, IsFitting, met_at, behind, behind_options, behind_words, rest_at}
 use Rattle.pcapng_source.specs.declared.fault.NgFault.TheVariants.{BadBlock}
 use Rattle.pcapng_source.specs.declared.reader.Reader.{Reader}
 use Rattle.pcapng_source.specs.declared.reader.Stage.TheVariants.{Start, Plain, Head, Body, OptionHead, Resolution, Trailer, Refused}
-use Rattle.pcapng_source.proofs.Numbers.{number_in-front, has-there, has-front}
+use Rattle.pcapng_source.proofs.Numbers.{number_in-front, has-front}
 use Rattle.pcapng_source.proofs.Firm.{is_section-front}
 use Rattle.pcapng_source.proofs.Blocks.{closed-drop, has-short}
-use Rattle.pcapng_source.proofs.Resolutions.{not-past, past-code, past-size, resolution-behind, resolution-count, resolution-here, resolution-last, resolution-past}
+use Rattle.pcapng_source.proofs.Resolutions.{resolution-behind, resolution-count, resolution-here}
 use Rattle.pcapng_source.proofs.Steps.{refuses, rest-at, weight-at}
 
 -- k bytes of a body are passed

@@ -1,23 +1,20 @@
 -- From the head of a block into its body.
-use Rattle.std.proofs.Common.{◌≡◌, ℕ, zero, suc, ◌+◌, ◌-◌, ◌*◌, ◌<◌, ◌≤◌, List, [], ◌∷◌, ◌++◌, length, take, drop, Bool, true, false, nat_le, ◌==◌, cond, Option, None, Some, refl, sym, ap, subst, ◌∙◌, arith, length-append, length-drop, append_assoc, ⊎_elim}
-use Rattle.std.proofs.lemmas.Bool.{cases_Bool, leb-true}
-use Rattle.std.proofs.lemmas.List.{drop-drop, drop_at, append-nil}
+use Rattle.std.proofs.Common.{◌≡◌, ℕ, zero, suc, ◌+◌, ◌-◌, ◌<◌, ◌≤◌, List, [], ◌++◌, length, drop, Bool, true, false, cond, None, Some, refl, sym, ap, subst, ◌∙◌, arith, length-append}
+use Rattle.std.proofs.lemmas.List.{drop-drop, append-nil}
 use Rattle.std.proofs.Math.Seq.{drop-append-add}
-use Rattle.pcapng_source.specs.Given.{Given, after, nothing, refused}
+use Rattle.pcapng_source.specs.Given.{after, nothing, refused}
 use Rattle.pcapng_source.specs.Order.{number_in}
-use Rattle.pcapng_source.specs.Fields.{SectionState, has, head_length, is_section, kind_by, kind_of, section_by, section_in, total_of}
+use Rattle.pcapng_source.specs.Fields.{SectionState, head_length, is_section, kind_by, kind_of, section_by, section_in, total_of}
 use Rattle.pcapng_source.specs.Packets.{record_of}
 use Rattle.pcapng_source.specs.Refusals.{refusal_of}
 use Rattle.pcapng_source.specs.Blocks.{blocks_from, closed}
 use Rattle.pcapng_source.specs.declared.order.Order.{Order}
 use Rattle.pcapng_source.specs.declared.kind.Kind.{Kind}
-use Rattle.pcapng_source.specs.declared.kind.Kind.TheVariants.{SectionHeader, InterfaceBlock, SimplePacket, EnhancedPacket, OtherBlock}
+use Rattle.pcapng_source.specs.declared.kind.Kind.TheVariants.{SectionHeader}
 use Rattle.pcapng_source.specs.declared.fault.NgFault.{NgFault}
-use Rattle.pcapng_source.specs.declared.fault.NgFault.TheVariants.{TooManyBlocks}
-use Rattle.pcapng_source.proofs.Numbers.{has-there, has-front}
-use Rattle.pcapng_source.proofs.Firm.{Firm, refusal_firm, is_section-front, kind_of-front, order_told-front, total_of-front}
+use Rattle.pcapng_source.proofs.Firm.{refusal_firm, is_section-front, kind_of-front, order_told-front, total_of-front}
 use Rattle.pcapng_source.proofs.Accepted.{kind_in}
-use Rattle.pcapng_source.proofs.Blocks.{head_length-least, has-short, blocks-many, blocks-refused, blocks-wait, blocks-open, closed-drop}
+use Rattle.pcapng_source.proofs.Blocks.{head_length-least, has-short, blocks-refused, blocks-wait, blocks-open, closed-drop}
 
 -- fewer bytes than are judged
 pub blocks-short : (before : SectionState) (n offset : ℕ) (bytes : List ℕ) → length bytes < 8 → blocks_from before n offset bytes ≡ nothing

@@ -1,18 +1,18 @@
 -- What is refused by a front of the bytes is refused by all of them, and a whole head is accepted for good.
-use Rattle.std.proofs.Common.{◌≡◌, ℕ, ◌+◌, ◌<◌, ◌≤◌, List, ◌++◌, length, drop, Bool, true, false, nat_le, nat_lt, ◌==◌, not, cond, Option, None, Some, refl, sym, ap, subst, ◌∙◌, arith, ⊎_elim}
+use Rattle.std.proofs.Common.{◌≡◌, ℕ, ◌<◌, ◌≤◌, List, ◌++◌, length, drop, Bool, true, false, ◌==◌, not, cond, Option, None, Some, refl, sym, ap, subst, ◌∙◌, arith, ⊎_elim}
 use Rattle.std.proofs.lemmas.Bool.{cases_Bool, cond-true, leb-true, leb-false}
 use Rattle.std.specs.List.{slice_get}
 use Rattle.pcapng_source.specs.Order.{number_in}
 use Rattle.pcapng_source.specs.Fields.{SectionState, has, head_length, is_section, is_total, kind_by, kind_of, order_told, total_of}
 use Rattle.pcapng_source.specs.Packets.{captured_of, interface_of, within_snap}
-use Rattle.pcapng_source.specs.Refusals.{block_by, header_by, kind_refusal, length_by, packet_by, refusal_of}
+use Rattle.pcapng_source.specs.Refusals.{block_by, header_by, kind_refusal, packet_by, refusal_of}
 use Rattle.pcapng_source.specs.declared.order.Order.{Order}
 use Rattle.pcapng_source.specs.declared.order.Order.TheVariants.{Big, Little}
 use Rattle.pcapng_source.specs.declared.kind.Kind.{Kind}
 use Rattle.pcapng_source.specs.declared.kind.Kind.TheVariants.{SectionHeader, InterfaceBlock, SimplePacket, EnhancedPacket, OtherBlock}
 use Rattle.pcapng_source.specs.declared.section.Interface.{Interface}
 use Rattle.pcapng_source.specs.declared.fault.NgFault.{NgFault}
-use Rattle.pcapng_source.specs.declared.fault.NgFault.TheVariants.{BadBlock, BadVersion, BadLink, TooLong}
+use Rattle.pcapng_source.specs.declared.fault.NgFault.TheVariants.{BadBlock, BadVersion, BadLink}
 use Rattle.pcapng_source.proofs.Numbers.{number_in-front, number_at-front, has-there, has-front}
 
 -- a refusal by a front, and one by all of the bytes; `whole` says that the front has all that is ever judged

@@ -1,15 +1,15 @@
 -- What a reader's step from the head of a block into its body leaves as it was.
-use Rattle.std.proofs.Common.{◌≡◌, ℕ, zero, suc, ◌+◌, ◌-◌, ◌*◌, ◌/◌, ◌%◌, ◌<◌, ◌≤◌, List, [], ◌∷◌, ◌++◌, length, take, drop, Bool, true, false, nat_le, nat_lt, ◌==◌, cond, Option, None, Some, unwrap_or, refl, sym, ap, subst, ◌∙◌, arith, length-append, append_assoc, ⊎_elim}
+use Rattle.std.proofs.Common.{◌≡◌, ℕ, zero, suc, ◌+◌, ◌-◌, ◌*◌, ◌/◌, ◌%◌, ◌≤◌, List, [], ◌++◌, length, take, drop, None, Some, unwrap_or, refl, sym, ap, ◌∙◌, arith, ⊎_elim}
 use Rattle.std.proofs.lemmas.Bool.{cases_Bool, cond-false, cond-true, leb-true}
 use Rattle.std.proofs.lemmas.List.{drop_at}
 use Rattle.std.specs.List.{slice_get}
-use Rattle.pcapng_source.specs.Given.{Given, after, nothing, refused}
+use Rattle.pcapng_source.specs.Given.{Given, after, nothing}
 use Rattle.pcapng_source.specs.Order.{number_in}
-use Rattle.pcapng_source.specs.Fields.{SectionState, has, head_length, interface_by, kind_of, order_told, resolution_in, section_by, section_in, total_of, with_interface, with_resolution}
+use Rattle.pcapng_source.specs.Fields.{SectionState, has, head_length, interface_by, order_told, resolution_in, section_by, section_in, total_of, with_interface, with_resolution}
 use Rattle.pcapng_source.specs.Packets.{captured_of, interface_of, record_by, record_head, record_of, record_on, within_snap}
 use Rattle.pcapng_source.specs.Refusals.{kind_refusal}
 use Rattle.pcapng_source.specs.Blocks.{blocks_from, closed}
-use Rattle.pcapng_source.specs.Reading.{Goes, IsFitting, IsUnrefused, IsWhole, met_at, behind, behind_words, rest_at, rest_of, weight_at, weight_of}
+use Rattle.pcapng_source.specs.Reading.{Goes, IsWhole, met_at, behind_words}
 use Rattle.pcapng_source.specs.declared.order.Order.{Order}
 use Rattle.pcapng_source.specs.declared.kind.Kind.{Kind}
 use Rattle.pcapng_source.specs.declared.kind.Kind.TheVariants.{SectionHeader, InterfaceBlock, SimplePacket, EnhancedPacket, OtherBlock}

@@ -1,5 +1,5 @@
 -- Options, one after another.
-use Rattle.std.proofs.Common.{◌≡◌, ℕ, zero, suc, ◌+◌, ◌-◌, ◌*◌, ◌/◌, ◌<◌, ◌≤◌, List, [], ◌∷◌, ◌++◌, length, take, drop, Bool, true, false, nat_le, ◌==◌, ◌||◌, ◌&&◌, not, cond, get_or, set, refl, sym, ap, ◌∙◌, arith, length-append, length-drop}
+use Rattle.std.proofs.Common.{◌≡◌, ℕ, zero, suc, ◌+◌, ◌-◌, ◌<◌, ◌≤◌, List, [], ◌∷◌, ◌++◌, length, take, drop, Bool, true, false, ◌==◌, not, cond, get_or, set, refl, sym, ap, ◌∙◌, arith, length-append, length-drop}
 use Rattle.std.proofs.lemmas.Bool.{leb-true, ne_eqb, not-false, or_from, or_left, or_parts, or_right}
 use Rattle.std.proofs.lemmas.List.{drop_all, get_or-append-add, take_more, take_more_set}
 use Rattle.std.proofs.Math.Seq.{drop-append-add}

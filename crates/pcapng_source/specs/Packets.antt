@@ -3,7 +3,7 @@ use Rattle.std.specs.Prelude.{ℕ, ◌+◌, ◌-◌, ◌*◌, ◌/◌, ◌%◌, 
 use Rattle.std.specs.List.{slice_get}
 use Rattle.byteorder.specs.Endian.{big_bytes}
 use Rattle.pcapng_source.specs.Order.{number_in}
-use Rattle.pcapng_source.specs.Fields.{SectionState, kind_of}
+use Rattle.pcapng_source.specs.Fields.{SectionState}
 use Rattle.pcapng_source.specs.declared.order.Order.{Order}
 use Rattle.pcapng_source.specs.declared.kind.Kind.{Kind}
 use Rattle.pcapng_source.specs.declared.kind.Kind.TheVariants.{SectionHeader, InterfaceBlock, SimplePacket, EnhancedPacket, OtherBlock}

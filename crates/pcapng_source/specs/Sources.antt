@@ -1,5 +1,5 @@
 -- What a source over a file of either form tells.
-use Rattle.std.specs.Prelude.{◌≡◌, ℕ, ◌+◌, ⊤, List, Option, None, Some}
+use Rattle.std.specs.Prelude.{◌≡◌, ℕ, ⊤, List, Option, None, Some}
 use Rattle.mos_bytes.specs.declared.source.Source.{Ghosts}
 use Rattle.pcapng_source.specs.Blocks.{any}
 use Rattle.pcapng_source.specs.Outlooks.{IsOver, bytes_left, faults_with, outlook}

@@ -1,6 +1,5 @@
 -- No option, one past the block, or the last one.
-use Rattle.std.proofs.Common.{◌≡◌, ◌+◌, ◌*◌, ◌<◌, suc, ◌++◌, drop, length, false, ap, ◌∙◌, sym, arith}
-use Rattle.pcapng_source.specs.Order.{number_in}
+use Rattle.std.proofs.Common.{◌≡◌, ◌+◌, ◌*◌, ◌<◌, suc, ◌++◌, length, false, ap, ◌∙◌, arith}
 use Rattle.pcapng_source.specs.Fields.{is_resolution, option_size, resolution_in}
 use Rattle.pcapng_source.proofs.Resolutions.{past-code, past-size, resolution-last, resolution-past}
 use Rattle.pcapng_source.proofs.options.judge_option.Goals as goal

@@ -1,5 +1,5 @@
 -- Powers of ten.
-use Rattle.std.proofs.Common.{◌≡◌, ◌*◌, ◌/◌, ◌^◌, ◌<◌, ◌≤◌, nat_lt, sym, ◌∙◌, arith, lit<}
+use Rattle.std.proofs.Common.{◌*◌, ◌^◌, ◌<◌, ◌≤◌, nat_lt, sym, ◌∙◌, arith, lit<}
 use Rattle.std.proofs.lemmas.Bool.{cond-true, lt-ltb}
 use Rattle.std.proofs.Math.Nat.{div-eq_of_lt, one-le-pow, pow-le-pow_right}
 use Rattle.pcapng_source.proofs.time.micros_in.Goals as goal

@@ -1,5 +1,4 @@
 -- The steps so far gave nothing.
-use Rattle.pcapng_source.specs.Outlooks.{faults_with, outlook}
 use Rattle.pcapng_source.specs.Reading.{weight_of}
 use Rattle.pcapng_source.proofs.Going.{Going}
 use Rattle.pcapng_source.proofs.turns.read_on.Given as goal

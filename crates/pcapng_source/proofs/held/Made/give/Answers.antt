@@ -1,5 +1,5 @@
 -- What was copied is what is gone.
-use Rattle.std.proofs.Common.{◌≤◌, ◌-◌, length, take, drop, slice_range, sym, ◌∙◌, arith, length-take}
+use Rattle.std.proofs.Common.{◌≤◌, ◌-◌, length, drop, slice_range, sym, ◌∙◌, arith, length-take}
 use Rattle.pcapng_source.proofs.Gives.{gives_front}
 use Rattle.pcapng_source.proofs.held.Made.give.Goals as goal
 

@@ -1,5 +1,5 @@
 -- By the first four bytes.
-use Rattle.std.proofs.Common.{◌≡◌, ◌<◌, ◌++◌, [], length, true, false, ap, ◌∙◌, arith, length-append}
+use Rattle.std.proofs.Common.{◌≡◌, ◌++◌, [], true, false, ap, ◌∙◌, arith, length-append}
 use Rattle.pcapng_source.specs.Fields.{is_section}
 use Rattle.pcapng_source.specs.Blocks.{classic_header}
 use Rattle.pcapng_source.proofs.Blocks.{has-short}

@@ -1,5 +1,5 @@
 -- Behind the second total length.
-use Rattle.std.proofs.Common.{◌≡◌, ◌==◌, arith, true, false}
+use Rattle.std.proofs.Common.{◌≡◌, arith}
 use Rattle.std.proofs.lemmas.Bool.{eq-eqb, ne_eqb}
 use Rattle.pcapng_source.specs.Order.{number_in}
 use Rattle.pcapng_source.proofs.Bodies.{closes, closes-badly}

@@ -1,6 +1,6 @@
 -- In a stage that holds a word, and in a head.
 use Rattle.std.proofs.Common.{◌≤◌, length, subst, ⊎_elim}
-use Rattle.pcapng_source.specs.Reading.{IsFitting, wanted_at}
+use Rattle.pcapng_source.specs.Reading.{wanted_at}
 use Rattle.pcapng_source.proofs.Steps.{keeps-head}
 use Rattle.pcapng_source.proofs.reader.Reader.keep.Goals as goal
 

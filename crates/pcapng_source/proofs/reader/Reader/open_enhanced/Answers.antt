@@ -1,5 +1,5 @@
 -- Into the data of an enhanced packet.
-use Rattle.std.proofs.Common.{◌≡◌, Some, ◌∙◌}
+use Rattle.std.proofs.Common.{◌≡◌, Some}
 use Rattle.pcapng_source.specs.Fields.{total_of}
 use Rattle.pcapng_source.specs.Packets.{captured_of, interface_of, record_by}
 use Rattle.pcapng_source.specs.declared.kind.Kind.TheVariants.{EnhancedPacket}

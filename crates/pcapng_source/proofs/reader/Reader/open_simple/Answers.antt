@@ -1,5 +1,5 @@
 -- Into the data of a simple packet.
-use Rattle.std.proofs.Common.{◌≡◌, Some, ◌∙◌}
+use Rattle.std.proofs.Common.{◌≡◌, Some}
 use Rattle.std.specs.List.{slice_get}
 use Rattle.pcapng_source.specs.Fields.{total_of}
 use Rattle.pcapng_source.specs.Packets.{captured_of, record_by}

@@ -1,5 +1,5 @@
 -- By the judgment of the head.
-use Rattle.std.proofs.Common.{◌≡◌, ◌<◌, ◌≤◌, length, Some, ap, arith}
+use Rattle.std.proofs.Common.{◌≡◌, length, Some, ap, arith}
 use Rattle.pcapng_source.specs.Refusals.{refusal_of}
 use Rattle.pcapng_source.proofs.Steps.{refuses-head, refuses-many, waits-short}
 use Rattle.pcapng_source.proofs.reader.Reader.take_head.Goals as goal

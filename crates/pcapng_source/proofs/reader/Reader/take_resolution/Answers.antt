@@ -1,5 +1,5 @@
 -- Behind the value of the option.
-use Rattle.std.proofs.Common.{◌≡◌, refl}
+use Rattle.std.proofs.Common.{refl}
 use Rattle.pcapng_source.proofs.Bodies.{resolves}
 use Rattle.pcapng_source.proofs.reader.Reader.take_resolution.Goals as goal
 
