@@ -16,6 +16,8 @@ mod made;
 #[cfg(test)]
 mod memory;
 #[cfg(test)]
+mod pcapng;
+#[cfg(test)]
 mod records;
 #[cfg(test)]
 mod refusals;

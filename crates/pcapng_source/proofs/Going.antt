@@ -1,0 +1,85 @@
+-- What a step of a read gives.
+use Rattle.std.proofs.Common.{◌≡◌, ℕ, ◌+◌, ◌^◌, ◌≤◌, List, [], ◌++◌, take, Option, Result, None, Some, Ok, Err, inl, inr, refl, sym, ap, subst, ◌∙◌, arith, ⊎_elim}
+use Rattle.std.proofs.lemmas.Bool.{cases_lt}
+use Rattle.std.proofs.lemmas.List.{take-append-le}
+use Rattle.mos_bytes.specs.declared.failed.Failed.{Failed}
+use Rattle.mos_bytes.specs.Causes.{HasCause, Rose, risen}
+use Rattle.mos_bytes.proofs.Causes.{Rose-earlier}
+use Rattle.pcapng_source.specs.Given.{Given}
+use Rattle.pcapng_source.specs.Reading.{IsFitting, met_at, rest_of}
+use Rattle.pcapng_source.specs.Outlooks.{Gives, StepFits, StepGives, faults_with, outlook}
+use Rattle.pcapng_source.specs.declared.reader.Reader.{Reader}
+
+-- a reader that gives the same
+Gives-same : (r s : Reader) (left : Option (List ℕ)) (new : Option Given) (front : List ℕ) → ((l : List ℕ) → rest_of s l ≡ rest_of r l)
+    → Gives (outlook s left) new front → Gives (outlook r left) new front
+Gives-same r s None new front same given = tt
+Gives-same r s (Some left) None front same given = absurd given
+Gives-same r s (Some left) (Some new) front same given = sym (same left) ∙ given
+
+-- a step into the front of a buffer
+pub step-front : (r s : Reader) (left : Option (List ℕ)) (new : Option Given) (result : Result (Option ℕ) Failed) (front rest : List ℕ)
+    → ((l : List ℕ) → rest_of s l ≡ rest_of r l) → StepFits result front → StepGives (outlook s left) new result front → StepGives (outlook r left) new result (front ++ rest)
+step-front r s left new (Ok (Some count)) front rest same fits gives =
+    subst (Gives (outlook r left) new) (sym (take-append-le count front rest fits)) (Gives-same r s left new (take count front) same gives)
+step-front r s left new (Ok None) front rest same fits gives = Gives-same r s left new [] same gives
+step-front r s left new (Err failed) front rest same fits gives = Gives-same r s left new [] same gives
+
+-- a step that gave nothing
+pub step-nothing : (r s : Reader) (left : Option (List ℕ)) (new : Option Given) (result : Result (Option ℕ) Failed) (buf : List ℕ)
+    → ((l : List ℕ) → rest_of s l ≡ rest_of r l) → StepFits result [] → StepGives (outlook s left) new result [] → StepGives (outlook r left) new result buf
+step-nothing r s left new (Ok (Some count)) buf same fits gives =
+    let none : count ≡ 0 = omega arith in
+    subst (Gives (outlook r left) new) (ap (λ n. take n []) none ∙ sym (ap (λ n. take n buf) none)) (Gives-same r s left new (take count []) same gives)
+step-nothing r s left new (Ok None) buf same fits gives = Gives-same r s left new [] same gives
+step-nothing r s left new (Err failed) buf same fits gives = Gives-same r s left new [] same gives
+
+-- no more answers than the buffer has room for
+pub fits-nothing : (result : Result (Option ℕ) Failed) (buf : List ℕ) → StepFits result [] → StepFits result buf
+fits-nothing (Ok (Some count)) buf fits = omega arith
+fits-nothing (Ok None) buf fits = tt
+fits-nothing (Err failed) buf fits = tt
+
+pub cause-same : {T : Type 0} (r s : Reader) (before now : ℕ) (result : Result T Failed) → met_at s.stage ≡ met_at r.stage
+    → HasCause (faults_with s before) now result → HasCause (faults_with r before) now result
+cause-same r s before now result same cause = subst (λ m. HasCause (before + m) now result) same cause
+
+-- a read that met a refusal
+pub met-rose : (before met : ℕ) → Rose (before + met) (before + risen met)
+met-rose before met = ⊎_elim (λ more. inl (omega arith)) (λ end. inr (omega arith)) (cases_lt (met + 1) (2 ^ 64))
+
+-- ---- one step after another
+
+-- what was given in two parts
+pub Gives-trans : (a b c : Option Given) (front : List ℕ) → Gives a b [] → Gives b c front → Gives a c front
+Gives-trans None b c front one two = tt
+Gives-trans (Some a) None c front one two = absurd one
+Gives-trans (Some a) (Some b) None front one two = absurd two
+Gives-trans (Some a) (Some b) (Some c) front one two = one ∙ two
+
+Gives-nothing : (a : Option Given) → Gives a a []
+Gives-nothing None = tt
+Gives-nothing (Some a) = refl
+
+-- the steps of a read so far: they gave nothing, and the faults have not fallen
+pub record Going {S L : Type 0} (left : S → Option (List ℕ)) (faults : S → ℕ) (lasting : S → L) (old now : S) (r s : Reader) : Type 0 where
+  pub gives : Gives (outlook r (left old)) (outlook s (left now)) []
+  pub later : faults_with r (faults old) ≤ faults_with s (faults now)
+  pub lasts : lasting now ≡ lasting old
+  pub fits : IsFitting s
+
+pub going-none : {S L : Type 0} (left : S → Option (List ℕ)) (faults : S → ℕ) (lasting : S → L) (s : S) (r : Reader) → IsFitting r → Going left faults lasting s s r r
+going-none left faults lasting s r fits = record { gives = Gives-nothing (outlook r (left s)); later = omega arith; lasts = refl; fits = fits }
+
+-- a cause of the last step
+pub cause-going : {T : Type 0} (before middle now : ℕ) (result : Result T Failed) → before ≤ middle → HasCause middle now result → HasCause before now result
+cause-going before middle now result le cause =
+    let later = cause.later in record { later = omega (arith, later); failed = λ err. Rose-earlier before middle now le (cause.failed err) }
+
+-- a step that gave nothing, whatever it answers
+pub step-none : (old new : Option Given) (result : Result (Option ℕ) Failed) → StepFits result [] → StepGives old new result [] → Gives old new []
+step-none old new (Ok (Some count)) fits gives =
+    let none : count ≡ 0 = omega arith in
+    subst (Gives old new) (ap (λ n. take n []) none) gives
+step-none old new (Ok None) fits gives = gives
+step-none old new (Err failed) fits gives = gives

@@ -1,0 +1,11 @@
+pub mod Gives
+pub mod Numbers
+pub mod Firm
+pub mod Accepted
+pub mod Blocks
+pub mod Enters
+pub mod Resolutions
+pub mod Steps
+pub mod Bodies
+pub mod Opens
+pub mod Going

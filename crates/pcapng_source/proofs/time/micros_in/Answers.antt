@@ -1,0 +1,20 @@
+-- Powers of ten.
+use Rattle.std.proofs.Common.{◌*◌, ◌^◌, ◌<◌, ◌≤◌, nat_lt, sym, ◌∙◌, arith, lit<}
+use Rattle.std.proofs.lemmas.Bool.{cond-true, lt-ltb}
+use Rattle.std.proofs.Math.Nat.{div-eq_of_lt, one-le-pow, pow-le-pow_right}
+use Rattle.pcapng_source.proofs.time.micros_in.Goals as goal
+
+pub returns-then-resolution-gt-LARGEST_POWER : goal.returns-then-resolution-gt-LARGEST_POWER
+returns-then-resolution-gt-LARGEST_POWER c =
+    let bound : 10 ^ 38 ≤ 10 ^ c.args.resolution = pow-le-pow_right {n = 10} (lit< tt) {i = 38} {j = c.args.resolution} (omega arith) in
+    let fits = c.ranges.time.fits in
+    let small : c.args.time * 1000000 < 10 ^ c.args.resolution = omega (arith, bound, fits) in
+    sym (cond-true (nat_lt c.args.resolution 128) _ _ (lt-ltb _ _ c.if-resolution-ge128.false) ∙ div-eq_of_lt small)
+
+pub pow-requires : goal.pow-requires
+pow-requires c =
+    let bound : 10 ^ c.from.result ≤ 10 ^ 38 = pow-le-pow_right {n = 10} (lit< tt) {i = c.from.result} {j = 38} (omega arith) in
+    omega (arith, bound)
+
+pub nonzero_div-result : goal.nonzero_div-result
+nonzero_div-result c = omega (arith, c.pow.ensures, one-le-pow c.from.result 10 (lit< tt))

@@ -1,0 +1,12 @@
+pub mod Given
+pub mod Order
+pub mod Fields
+pub mod Found
+pub mod Packets
+pub mod Places
+pub mod Refusals
+pub mod Blocks
+pub mod Laws
+pub mod Reading
+pub mod Outlooks
+pub mod Sources

@@ -1,0 +1,72 @@
+-- The record that a packet block gives.
+use Rattle.std.specs.Prelude.{ℕ, ◌+◌, ◌-◌, ◌*◌, ◌/◌, ◌%◌, ◌^◌, List, [], ◌++◌, take, drop, min, ◌==◌, nat_lt, if◌then◌else◌, Option, None, Some}
+use Rattle.std.specs.List.{slice_get}
+use Rattle.byteorder.specs.Endian.{big_bytes}
+use Rattle.pcapng_source.specs.Order.{number_in}
+use Rattle.pcapng_source.specs.Fields.{SectionState}
+use Rattle.pcapng_source.specs.declared.order.Order.{Order}
+use Rattle.pcapng_source.specs.declared.kind.Kind.{Kind}
+use Rattle.pcapng_source.specs.declared.kind.Kind.TheVariants.{SectionHeader, InterfaceBlock, SimplePacket, EnhancedPacket, OtherBlock}
+use Rattle.pcapng_source.specs.declared.section.Interface.{Interface}
+
+-- A time of this resolution in microseconds, rounded down. With its highest bit clear the resolution is a power of ten,
+-- else the other bits are a power of two.
+abbrev pub micros_of : ℕ → ℕ → ℕ
+micros_of resolution time = if nat_lt resolution 128 then time * 1000000 / 10 ^ resolution else time * 1000000 / 2 ^ (resolution - 128)
+
+-- the head of a record of a classic capture, the highest byte first
+abbrev pub record_head : ℕ → ℕ → ℕ → List ℕ
+record_head micros captured original =
+    big_bytes 4 (micros / 1000000 % 2 ^ 32) ++ (big_bytes 4 (micros % 1000000) ++ (big_bytes 4 captured ++ big_bytes 4 original))
+
+-- ---- An enhanced packet block: behind the type and the total length interface u32, upper and lower half of the time u32,
+-- captured length u32, original length u32, then the data. A simple one: original length u32, then the data; its
+-- interface is the first of the section.
+
+-- the interface of the packet block at the front, if it is there
+abbrev pub interface_of : Kind → SectionState → List ℕ → Option Interface
+interface_of EnhancedPacket section bytes = slice_get section.interfaces (number_in section.order 4 (drop 8 bytes))
+interface_of SimplePacket section bytes = slice_get section.interfaces 0
+interface_of SectionHeader section bytes = None
+interface_of InterfaceBlock section bytes = None
+interface_of OtherBlock section bytes = None
+
+-- how many bytes of a packet were captured where nobody says so: a snap length of 0 is no limit
+abbrev pub within_snap : ℕ → ℕ → ℕ
+within_snap snap original = if snap == 0 then original else min original snap
+
+-- how many bytes of the packet were captured
+abbrev pub captured_of : Kind → Order → Interface → List ℕ → ℕ
+captured_of EnhancedPacket order interface bytes = number_in order 4 (drop 20 bytes)
+captured_of SimplePacket order interface bytes = within_snap interface.snap (number_in order 4 (drop 8 bytes))
+captured_of SectionHeader order interface bytes = 0
+captured_of InterfaceBlock order interface bytes = 0
+captured_of OtherBlock order interface bytes = 0
+
+-- when an enhanced packet was captured, in the unit of its interface
+abbrev pub time_of : Order → List ℕ → ℕ
+time_of order bytes = number_in order 4 (drop 12 bytes) * 2 ^ 32 + number_in order 4 (drop 16 bytes)
+
+-- the head of the packet's record
+abbrev pub record_by : Kind → Order → Interface → List ℕ → List ℕ
+record_by EnhancedPacket order interface bytes =
+    record_head (micros_of interface.resolution (time_of order bytes)) (captured_of EnhancedPacket order interface bytes) (number_in order 4 (drop 24 bytes))
+record_by SimplePacket order interface bytes =
+    record_head 0 (captured_of SimplePacket order interface bytes) (number_in order 4 (drop 8 bytes))
+record_by SectionHeader order interface bytes = []
+record_by InterfaceBlock order interface bytes = []
+record_by OtherBlock order interface bytes = []
+
+-- the record of a packet whose block has a head of so many bytes: its head, and as many of the captured bytes as are there
+abbrev pub record_on : ℕ → Kind → Order → Option Interface → List ℕ → List ℕ
+record_on head kind order None bytes = []
+record_on head kind order (Some interface) bytes =
+    record_by kind order interface bytes ++ take (captured_of kind order interface bytes) (drop head bytes)
+
+-- the record that the block at the front gives: none where it holds no packet
+abbrev pub record_of : Kind → SectionState → List ℕ → List ℕ
+record_of EnhancedPacket section bytes = record_on 28 EnhancedPacket section.order (interface_of EnhancedPacket section bytes) bytes
+record_of SimplePacket section bytes = record_on 12 SimplePacket section.order (interface_of SimplePacket section bytes) bytes
+record_of SectionHeader section bytes = []
+record_of InterfaceBlock section bytes = []
+record_of OtherBlock section bytes = []

@@ -1,0 +1,111 @@
+//! The source over a file of either form.
+
+ghost use Rattle.std.specs.Prelude.{◌≡◌, ◌+◌, ◌<◌, ◌≤◌, ℕ, List, [], length, option_map, IfOk, IfSome};
+ghost use Rattle.std.specs.Io.{ReadsAtMost};
+ghost use Rattle.std.specs.Io.KnownBytes.{ReadConsumes};
+ghost use Rattle.mos_bytes.specs.Causes.{HasCause};
+ghost use Rattle.mos_bytes.specs.Reads.{BeginsWith, HasAtLeast};
+ghost use Rattle.pcapng_source.specs.Reading.{IsFitting};
+ghost use Rattle.pcapng_source.specs.Outlooks.{IsLinked, IsLinked-prop};
+
+use crate::NgFault;
+use crate::reader::Reader;
+use crate::turns::{look_ahead, read_on};
+use mos_bytes::{Failed, Source};
+use std::snapshot::Snapshot;
+
+/// A source that gives a classic capture in place of a pcapng file, and any other file as it is. It takes no memory.
+///
+/// A block that is refused ends what it gives: a read that asks for more answers `Failed`, each time again, and `fault`
+/// tells why. Its count of faults is that of the source below, and one for each read that met the refusal.
+#[derive(Drop)]
+pub struct AnySource<'a, S: Source> {
+    source: &'a mut S,
+    reader: Reader,
+    // The source as it was handed in.
+    start: Snapshot<S>,
+    ghost fits: { IsFitting reader },
+    ghost linked: { IsLinked (S.left start.value) (S.left source.now) reader } by { IsLinked-prop (S.left start.value) (S.left source.now) reader },
+}
+
+impl<'a, S: Source> AnySource<'a, S> {
+    ghost use Rattle.pcapng_source.specs.Blocks.{any};
+    ghost use Rattle.pcapng_source.specs.Sources.{IsRefusal, any_faults, any_left, any_start, met_fault};
+
+    /// A source over this one, from whose start the file is read. It takes no memory.
+    pub fn new(source: &'a mut S) -> AnySource<'a, S>
+        ensures left { any_left result ≡ option_map (λ file. (any file).bytes) (S.left source.old) }
+        ensures faults { any_faults result ≡ S.faults source.old }
+        ensures start { any_start result ≡ source.old }
+        ensures fault { met_fault result ≡ None }
+        ensures name { result.source.ghost_name ≡ source.entry.ghost_name }
+    {
+        let start = Snapshot::of(source);
+        AnySource {
+            source,
+            reader: Reader::new(),
+            start,
+        }
+    }
+
+    /// Why the file is refused, where a read has met that: it is the refusal of the whole file.
+    pub fn fault(&self) -> Option<NgFault>
+        ensures met { result ≡ met_fault self.now }
+        ensures refusal { IfSome result (λ fault. IsRefusal (S.left (any_start self.now)) fault) }
+    {
+        self.reader.fault()
+    }
+}
+
+impl<'a, S: Source> Source for AnySource<'a, S> {
+    ghost use Rattle.pcapng_source.specs.Sources.{any_ended, any_faults, any_lasting, any_left};
+
+    ghost left = { any_left };
+
+    ghost faults = { any_faults };
+
+    // Which source is read, as it was handed in, and what no call of it changes.
+    ghost Lasting = { ℕ × S × S.Lasting };
+
+    ghost lasting = { any_lasting };
+
+    ghost ended = { any_ended };
+
+    /// Gives bytes that were made or that stand in the file. At a refused block it fails, each time again.
+    fn read(&mut self, buf: &mut [u8]) -> Result<usize, Failed>
+        ensures bound { ReadsAtMost result buf.new }
+        ensures bytes { ReadConsumes (any_left self.old) (any_left self.new) result buf.new }
+        ensures ended { IfOk result (λ count. count ≡ 0 → 0 < length buf.new → any_ended self.new) }
+        ensures cause { HasCause (any_faults self.old) (any_faults self.new) result }
+        ensures lasts { any_lasting self.new ≡ any_lasting self.old }
+    {
+        if buf.is_empty() {
+            return Ok(0);
+        }
+        let count = read_on(self.source, &mut self.reader, buf)?;
+        if count > 0 {
+            look_ahead(self.source, &mut self.reader);
+        }
+        Ok(count)
+    }
+
+    /// The bytes that were made; of a file that is no pcapng file, those that the source below has at hand.
+    fn at_hand(&self) -> &[u8]
+        ensures front { BeginsWith (any_left self.now) result.now }
+    {
+        if self.reader.is_plain() {
+            self.source.at_hand()
+        } else {
+            self.reader.made_bytes()
+        }
+    }
+
+    /// How many bytes were made, and how many stand behind them as they are and are at hand below: where the head of a
+    /// record was made, those of its data.
+    fn count_at_hand(&self) -> usize
+        ensures least { HasAtLeast (any_left self.now) result }
+    {
+        let made = self.reader.made();
+        made.saturating_add(self.reader.direct(self.source.count_at_hand()))
+    }
+}

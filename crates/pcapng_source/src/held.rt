@@ -1,0 +1,193 @@
+//! Bytes that are held for a while: those that were read and not judged yet, and those that were made and not given yet.
+
+ghost use Rattle.std.specs.Prelude.{◌≡◌, ◌+◌, ◌-◌, ◌≤◌, List, ℕ, [], ◌++◌, length, take, drop, min, slice_range};
+
+use std::marker::Model;
+
+// How many bytes the longest head of a block has.
+const HEAD_ROOM: usize = 28;
+
+// How many bytes a second total length has, and the head of an option, and the first field of a file.
+const WORD_ROOM: usize = 4;
+
+// How many bytes are made at once: a global header.
+const MADE_ROOM: usize = 24;
+
+// Writes the bytes behind this place, and answers the place behind them.
+fn put_behind(room: &mut [u8], place: usize, bytes: &[u8]) -> usize
+    requires { place + length bytes.now ≤ length room.old }
+    ensures place { result ≡ place + length bytes.now }
+    ensures room { length room.new ≡ length room.old }
+    ensures put { take result room.new ≡ take place room.old ++ bytes.now }
+{
+    let end = place + bytes.len();
+    room[place..end].copy_from_slice(bytes);
+    end
+}
+
+// Copies as many bytes as stand in `from` and have room in `to`, and answers how many.
+fn copy_front(from: &[u8], to: &mut [u8]) -> usize
+    ensures count { result ≡ min (length from.now) (length to.old) }
+    ensures copied { to.new ≡ take result from.now ++ drop result to.old }
+{
+    let count = from.len().min(to.len());
+    to[..count].copy_from_slice(&from[..count]);
+    count
+}
+
+// The head of a block, as far as it is there.
+#[derive(Drop)]
+pub(crate) struct Head {
+    bytes: [u8; HEAD_ROOM],
+    len: usize,
+}
+
+impl Model for Head {
+    ghost Value = { List ℕ };
+
+    ghost view = { λ h. take h.len h.bytes };
+
+    ghost invariant = { λ h. h.len ≤ 28 };
+}
+
+impl Head {
+    pub(crate) fn new() -> Self
+        ensures { result ≡ [] }
+    {
+        Head {
+            bytes: [0; HEAD_ROOM],
+            len: 0,
+        }
+    }
+
+    pub(crate) fn as_slice(&self) -> &[u8]
+        ensures bytes { result.now ≡ self.now }
+    {
+        &self.bytes[..self.len]
+    }
+
+    pub(crate) fn put(&mut self, bytes: &[u8])
+        requires { length self.old + length bytes.now ≤ 28 }
+        ensures { self.new ≡ self.old ++ bytes.now }
+    {
+        self.len = put_behind(&mut self.bytes, self.len, bytes);
+    }
+
+    pub(crate) fn clear(&mut self)
+        ensures { self.new ≡ [] }
+    {
+        self.len = 0;
+    }
+}
+
+// Up to four bytes that are judged once all four are there.
+#[derive(Drop)]
+pub(crate) struct Word {
+    bytes: [u8; WORD_ROOM],
+    len: usize,
+}
+
+impl Model for Word {
+    ghost Value = { List ℕ };
+
+    ghost view = { λ w. take w.len w.bytes };
+
+    ghost invariant = { λ w. w.len ≤ 4 };
+}
+
+impl Word {
+    pub(crate) fn new() -> Self
+        ensures { result ≡ [] }
+    {
+        Word {
+            bytes: [0; WORD_ROOM],
+            len: 0,
+        }
+    }
+
+    pub(crate) fn as_slice(&self) -> &[u8]
+        ensures bytes { result.now ≡ self.now }
+        ensures most { length self.now ≤ 4 }
+    {
+        &self.bytes[..self.len]
+    }
+
+    pub(crate) fn put(&mut self, bytes: &[u8])
+        requires { length bytes.now ≤ 4 - length self.old }
+        ensures { self.new ≡ self.old ++ bytes.now }
+    {
+        self.len = put_behind(&mut self.bytes, self.len, bytes);
+    }
+
+    pub(crate) fn clear(&mut self)
+        ensures { self.new ≡ [] }
+    {
+        self.len = 0;
+    }
+}
+
+// Bytes that were made.
+#[derive(Drop)]
+pub(crate) struct Made {
+    bytes: [u8; MADE_ROOM],
+    // Those before were given.
+    place: usize,
+    end: usize,
+}
+
+impl Model for Made {
+    ghost Value = { List ℕ };
+
+    ghost view = { λ m. slice_range m.bytes m.place m.end };
+
+    ghost invariant = { λ m. (m.place ≤ m.end) × (m.end ≤ 24) };
+}
+
+impl Made {
+    pub(crate) fn new() -> Self
+        ensures { result ≡ [] }
+    {
+        Made {
+            bytes: [0; MADE_ROOM],
+            place: 0,
+            end: 0,
+        }
+    }
+
+    // These bytes, none of which was given.
+    pub(crate) fn of(bytes: &[u8]) -> Self
+        requires { length bytes.now ≤ 24 }
+        ensures { result ≡ bytes.now }
+    {
+        let mut made = [0; MADE_ROOM];
+        let end = put_behind(&mut made, 0, bytes);
+        Made {
+            bytes: made,
+            place: 0,
+            end,
+        }
+    }
+
+    pub(crate) fn len(&self) -> usize
+        ensures { result ≡ length self.now }
+    {
+        self.end - self.place
+    }
+
+    // Those that weren't given yet.
+    pub(crate) fn as_slice(&self) -> &[u8]
+        ensures { result.now ≡ self.now }
+    {
+        &self.bytes[self.place..self.end]
+    }
+
+    // Gives as many bytes as `buf` has room for, and answers how many.
+    pub(crate) fn give(&mut self, buf: &mut [u8]) -> usize
+        ensures count { result ≡ min (length self.old) (length buf.old) }
+        ensures bytes { self.old ≡ take result buf.new ++ self.new }
+    {
+        let count = copy_front(&self.bytes[self.place..self.end], buf);
+        self.place += count;
+        count
+    }
+}

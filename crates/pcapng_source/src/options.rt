@@ -1,0 +1,113 @@
+//! The options of an interface, of which one tells its time resolution.
+
+ghost use Rattle.std.specs.Prelude.{◌≡◌, ◌+◌, ◌*◌, ◌<◌, ◌≤◌, length};
+ghost use Rattle.pcapng_source.specs.Fields.{is_resolution, with_resolution};
+ghost use Rattle.pcapng_source.specs.Found.{FoundIs};
+
+use crate::open::MICROSECONDS;
+use crate::order::Order;
+use crate::reader::{Reader, Stage};
+
+// The code of the option that tells a time resolution, and the length of its value.
+const RESOLUTION_CODE: u16 = 9;
+
+const RESOLUTION_LENGTH: u16 = 1;
+
+// What the head of an option says, of which so many words are left behind it.
+#[derive(Clone, Copy)]
+pub(crate) enum Found {
+    // The interface has no resolution of its own: the options end here or with this one.
+    Nothing,
+    // The next word tells the resolution.
+    Told,
+    // So many words of another option come next, and then more options.
+    Other(u32),
+}
+
+// Whether this is the head of the option that tells the time resolution.
+fn tells_resolution(order: Order, word: &[u8]) -> bool
+    requires { 4 ≤ length word.now }
+    ensures { result ≡ is_resolution order word.now }
+{
+    order.u16_in(word) == RESOLUTION_CODE && order.u16_at(word, 2) == RESOLUTION_LENGTH
+}
+
+// Judges the head of an option, behind which so many words are left.
+fn judge_option(order: Order, word: &[u8], left: u32) -> Found
+    requires { length word.now ≡ 4 }
+    ensures { FoundIs order word.now left result }
+{
+    // How many words its value has.
+    let words = (u32::from(order.u16_at(word, 2)) + 3) / 4;
+    if order.u16_in(word) == 0 {
+        return Found::Nothing;
+    }
+    if words > left {
+        return Found::Nothing;
+    }
+    if tells_resolution(order, word) {
+        return Found::Told;
+    }
+    if words == left {
+        return Found::Nothing;
+    }
+    Found::Other(words)
+}
+
+impl Reader {
+    ghost use Rattle.pcapng_source.specs.Reading.{Goes, IsFitting, ready_at};
+    ghost use Rattle.pcapng_source.specs.declared.reader.Stage.TheVariants.{Body, OptionHead, Resolution};
+
+    // Judges the head of an option.
+    pub(crate) fn take_option(&mut self)
+        requires stage { self.old.stage ≡ OptionHead }
+        requires word { length self.old.word ≡ 4 }
+        requires fits { IsFitting self.old }
+        ensures goes { Goes self.old self.new }
+        ensures ready { ready_at self.new.stage self.new }
+    {
+        match judge_option(self.section.order(), self.word.as_slice(), self.options) {
+            Found::Nothing => self.resolve(MICROSECONDS),
+            Found::Told => {
+                self.options -= 1;
+                self.word.clear();
+                self.stage = Stage::Resolution;
+            }
+            Found::Other(words) => {
+                self.options -= words;
+                self.owed = 0;
+                self.skip = 4 * u64::from(words);
+                self.stage = Stage::Body;
+            }
+        }
+    }
+
+    pub(crate) fn take_resolution(&mut self)
+        requires stage { self.old.stage ≡ Resolution }
+        requires word { length self.old.word ≡ 4 }
+        requires fits { IsFitting self.old }
+        ensures goes { Goes self.old self.new }
+        ensures ready { ready_at self.new.stage self.new }
+    {
+        let word = self.word.as_slice();
+        let resolution = word[0];
+        self.resolve(resolution);
+    }
+
+    // Gives the last interface its time resolution. The options behind it are skipped.
+    fn resolve(&mut self, resolution: u8)
+        ensures { self.new ≡ record self.old {
+          stage = Body;
+          section = with_resolution self.old.section resolution;
+          owed = 0;
+          skip = 4 * self.old.options;
+          options = 0;
+        } }
+    {
+        self.section.resolve(resolution);
+        self.owed = 0;
+        self.skip = 4 * u64::from(self.options);
+        self.options = 0;
+        self.stage = Stage::Body;
+    }
+}

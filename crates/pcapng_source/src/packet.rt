@@ -1,0 +1,51 @@
+//! The records that packets give.
+
+ghost use Rattle.std.specs.Prelude.{◌≡◌, ◌≤◌, length};
+ghost use Rattle.pcapng_source.specs.Packets.{captured_of, record_by, record_head, time_of};
+ghost use Rattle.pcapng_source.specs.declared.kind.Kind.TheVariants.{SimplePacket, EnhancedPacket};
+
+use crate::order::Order;
+use crate::section::Interface;
+use crate::time::micros_in;
+use byteorder::{BigEndian, ByteOrder};
+
+// How many bytes the head of a record has.
+pub(crate) const RECORD_HEAD: usize = 16;
+
+// The head of a record, with the seconds modulo 2^32.
+fn record_head_of(micros: u128, captured: u32, original: u32) -> [u8; RECORD_HEAD]
+    ensures { result ≡ record_head micros captured original }
+{
+    let mut head = [0; RECORD_HEAD];
+    BigEndian::write_u32(&mut head, (micros / 1_000_000 % (1 << 32)) as u32);
+    BigEndian::write_u32(&mut head[4..], (micros % 1_000_000) as u32);
+    BigEndian::write_u32(&mut head[8..], captured);
+    BigEndian::write_u32(&mut head[12..], original);
+    head
+}
+
+// When an enhanced packet was captured, in the unit of its interface.
+fn time_in(order: Order, head: &[u8]) -> u64
+    requires { 20 ≤ length head.now }
+    ensures { result ≡ time_of order head.now }
+{
+    (u64::from(order.u32_at(head, 12)) << 32) + u64::from(order.u32_at(head, 16))
+}
+
+// The head of an enhanced packet's record, by the head of its block.
+pub(crate) fn enhanced_record(order: Order, interface: &Interface, head: &[u8]) -> [u8; RECORD_HEAD]
+    requires { 28 ≤ length head.now }
+    ensures { result ≡ record_by EnhancedPacket order interface.now head.now }
+{
+    let micros = micros_in(interface.resolution, time_in(order, head));
+    record_head_of(micros, order.u32_at(head, 20), order.u32_at(head, 24))
+}
+
+// The head of a simple packet's record, by the head of its block. Its time is 0.
+pub(crate) fn simple_record(order: Order, interface: &Interface, head: &[u8]) -> [u8; RECORD_HEAD]
+    requires { 12 ≤ length head.now }
+    ensures { result ≡ record_by SimplePacket order interface.now head.now }
+{
+    let original = order.u32_at(head, 8);
+    record_head_of(0, interface.captured(original), original)
+}

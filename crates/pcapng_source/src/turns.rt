@@ -1,0 +1,185 @@
+//! Reading on: what comes from a source goes through a reader.
+
+ghost use Rattle.std.specs.Prelude.{◌≡◌, ◌+◌, ◌<◌, ◌≤◌, ℕ, List, [], length, min, IfOk};
+ghost use Rattle.std.specs.Bool.{OnTrue};
+ghost use Rattle.std.specs.Io.{ReadsAtMost};
+ghost use Rattle.std.specs.Io.KnownBytes.{IsAtEnd};
+ghost use Rattle.mos_bytes.specs.Causes.{HasCause};
+ghost use Rattle.pcapng_source.specs.Outlooks.{Gives, IsOver, ReadGives, StepEnds, StepFalls, StepFits, StepGives, faults_with, outlook};
+ghost use Rattle.pcapng_source.specs.Reading.{IsFitting, IsOpen, direct_at, settled_at, skipped_at, wanted_at, weight_of};
+
+use crate::reader::{Next, Reader};
+use mos_bytes::{Failed, Source};
+
+// How many bytes are skipped at once.
+const SKIPPED: usize = 512;
+
+// How many bytes are held at once: at most the head of a block.
+const HELD: usize = 28;
+
+// Gives up to so many of the next bytes as they are.
+fn give<S: Source>(
+    source: &mut S,
+    reader: &mut Reader,
+    buf: &mut [u8],
+) -> Result<Option<usize>, Failed>
+    requires some { 0 < length buf.old }
+    requires few { length buf.old ≤ direct_at reader.old.stage reader.old (length buf.old) }
+    requires made { reader.old.made ≡ [] }
+    requires open { IsOpen reader.old }
+    requires fits { IsFitting reader.old }
+    ensures gives { StepGives (outlook reader.old (S.left source.old)) (outlook reader.new (S.left source.new)) result buf.new }
+    ensures room { StepFits result buf.new }
+    ensures ends { StepEnds reader.new (S.left source.new) result (S.ended source.new) }
+    ensures falls { StepFalls reader.old reader.new result }
+    ensures cause { HasCause (faults_with reader.old (S.faults source.old)) (faults_with reader.new (S.faults source.new)) result }
+    ensures lasts { S.lasting source.new ≡ S.lasting source.old }
+    ensures fits { IsFitting reader.new }
+{
+    let count = source.read(buf)?;
+    reader.gave(count);
+    Ok(Some(count))
+}
+
+// Skips up to so many of the next bytes.
+fn skip<S: Source>(
+    source: &mut S,
+    reader: &mut Reader,
+    most: usize,
+) -> Result<Option<usize>, Failed>
+    requires some { 0 < most }
+    requires few { most ≤ skipped_at reader.old.stage reader.old }
+    requires made { reader.old.made ≡ [] }
+    requires open { IsOpen reader.old }
+    requires fits { IsFitting reader.old }
+    ensures gives { StepGives (outlook reader.old (S.left source.old)) (outlook reader.new (S.left source.new)) result [] }
+    ensures room { StepFits result [] }
+    ensures ends { StepEnds reader.new (S.left source.new) result (S.ended source.new) }
+    ensures falls { StepFalls reader.old reader.new result }
+    ensures cause { HasCause (faults_with reader.old (S.faults source.old)) (faults_with reader.new (S.faults source.new)) result }
+    ensures lasts { S.lasting source.new ≡ S.lasting source.old }
+    ensures fits { IsFitting reader.new }
+{
+    let mut bytes = [0; SKIPPED];
+    let count = source.read(&mut bytes[..SKIPPED.min(most)])?;
+    if count == 0 {
+        return Ok(Some(0));
+    }
+    reader.skip(count);
+    Ok(None)
+}
+
+// Holds up to so many of the next bytes.
+fn hold<S: Source>(
+    source: &mut S,
+    reader: &mut Reader,
+    most: usize,
+) -> Result<Option<usize>, Failed>
+    requires some { 0 < most }
+    requires wanted { most ≡ wanted_at reader.old.stage reader.old }
+    requires made { reader.old.made ≡ [] }
+    requires settled { settled_at reader.old.stage reader.old }
+    requires fits { IsFitting reader.old }
+    ensures gives { StepGives (outlook reader.old (S.left source.old)) (outlook reader.new (S.left source.new)) result [] }
+    ensures room { StepFits result [] }
+    ensures ends { StepEnds reader.new (S.left source.new) result (S.ended source.new) }
+    ensures falls { StepFalls reader.old reader.new result }
+    ensures cause { HasCause (faults_with reader.old (S.faults source.old)) (faults_with reader.new (S.faults source.new)) result }
+    ensures lasts { S.lasting source.new ≡ S.lasting source.old }
+    ensures fits { IsFitting reader.new }
+{
+    let mut bytes = [0; HELD];
+    let most = most.min(HELD);
+    let count = source.read(&mut bytes[..most])?;
+    if count == 0 {
+        return Ok(if reader.end() { None } else { Some(0) });
+    }
+    reader.keep(&bytes[..count]);
+    Ok(None)
+}
+
+// One step of a read, which asks the source at most once. The answer is that of the read, or nothing where it takes a
+// further step.
+fn step<S: Source>(
+    source: &mut S,
+    reader: &mut Reader,
+    buf: &mut [u8],
+) -> Result<Option<usize>, Failed>
+    requires room { 0 < length buf.old }
+    requires fits { IsFitting reader.old }
+    ensures gives { StepGives (outlook reader.old (S.left source.old)) (outlook reader.new (S.left source.new)) result buf.new }
+    ensures room { StepFits result buf.new }
+    ensures ends { StepEnds reader.new (S.left source.new) result (S.ended source.new) }
+    ensures falls { StepFalls reader.old reader.new result }
+    ensures cause { HasCause (faults_with reader.old (S.faults source.old)) (faults_with reader.new (S.faults source.new)) result }
+    ensures lasts { S.lasting source.new ≡ S.lasting source.old }
+    ensures fits { IsFitting reader.new }
+{
+    reader.take();
+    if reader.made() > 0 {
+        return Ok(Some(reader.give(buf)));
+    }
+    match reader.next(buf.len()) {
+        Next::Give(most) => give(source, reader, &mut buf[..most]),
+        Next::Skip(most) => skip(source, reader, most),
+        Next::Hold(most) => hold(source, reader, most),
+        Next::Refuse => {
+            reader.meet();
+            Err(Failed)
+        }
+    }
+}
+
+// Reads on until some bytes are given, or none comes any more.
+pub(crate) fn read_on<S: Source>(
+    source: &mut S,
+    reader: &mut Reader,
+    buf: &mut [u8],
+) -> Result<usize, Failed>
+    requires room { 0 < length buf.old }
+    requires fits { IsFitting reader.old }
+    ensures bound { ReadsAtMost result buf.new }
+    ensures gives { ReadGives (outlook reader.old (S.left source.old)) (outlook reader.new (S.left source.new)) result buf.new }
+    ensures ends { IfOk result (λ count. count ≡ 0 → IsAtEnd (S.left source.new) × S.ended source.new × IsOver reader.new) }
+    ensures cause { HasCause (faults_with reader.old (S.faults source.old)) (faults_with reader.new (S.faults source.new)) result }
+    ensures lasts { S.lasting source.new ≡ S.lasting source.old }
+    ensures fits { IsFitting reader.new }
+{
+    loop {
+        if let Some(count) = step(source, reader, buf)? {
+            return Ok(count);
+        }
+    }
+}
+
+// Goes on by bytes that are at hand alone, and answers whether there may be more to do. A fault that is met here is counted
+// and not told: the next read asks again.
+fn step_ahead<S: Source>(source: &mut S, reader: &mut Reader) -> bool
+    requires { IsFitting reader.old }
+    ensures gives { Gives (outlook reader.old (S.left source.old)) (outlook reader.new (S.left source.new)) [] }
+    ensures later { faults_with reader.old (S.faults source.old) ≤ faults_with reader.new (S.faults source.new) }
+    ensures falls { OnTrue result (weight_of reader.new < weight_of reader.old) }
+    ensures lasts { S.lasting source.new ≡ S.lasting source.old }
+    ensures fits { IsFitting reader.new }
+{
+    reader.take();
+    if reader.made() > 0 || source.count_at_hand() == 0 {
+        return false;
+    }
+    match reader.next(1) {
+        Next::Skip(most) => skip(source, reader, most) == Ok(None),
+        Next::Hold(most) => hold(source, reader, most) == Ok(None),
+        Next::Give(_) | Next::Refuse => false,
+    }
+}
+
+// Goes on by bytes that are at hand, until bytes are made or stand next in the file: so that these can be shown.
+pub(crate) fn look_ahead<S: Source>(source: &mut S, reader: &mut Reader)
+    requires { IsFitting reader.old }
+    ensures gives { Gives (outlook reader.old (S.left source.old)) (outlook reader.new (S.left source.new)) [] }
+    ensures later { faults_with reader.old (S.faults source.old) ≤ faults_with reader.new (S.faults source.new) }
+    ensures lasts { S.lasting source.new ≡ S.lasting source.old }
+    ensures fits { IsFitting reader.new }
+{
+    while step_ahead(source, reader) {}
+}
