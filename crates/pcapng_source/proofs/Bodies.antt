@@ -161,12 +161,12 @@ tells r is whole fits more some size told = record {
       (behind-there (with_resolution r.section (resolution_in r.section.order (4 * r.options + 4) (take (4 * r.options + 4) (r.word ++ left))))
       (with_resolution r.section (slice_index left 0)) r (4 * r.options + 4) (r.word ++ left)
       (λ there.
-          let area = take (4 * r.options) left in
-          let long : length area ≡ 4 * r.options = length-take-le (4 * r.options) left (omega (arith, length-append r.word left)) in
-          ap (with_resolution r.section) (ap (resolution_in r.section.order (4 * r.options + 4)) (options-at r.word left r.options whole)
-          ∙ ap (λ n. resolution_in r.section.order n (r.word ++ area)) (let it : 4 * r.options + 4 ≡ suc (4 * r.options + 3) = omega arith in it)
-          ∙ resolution-here r.section.order r.word area whole (4 * r.options + 3) told some (omega arith)
-          ∙ get_or-take (4 * r.options) left 0 0 (omega arith)))
+      let area = take (4 * r.options) left in
+      let long : length area ≡ 4 * r.options = length-take-le (4 * r.options) left (omega (arith, length-append r.word left)) in
+      ap (with_resolution r.section) (ap (resolution_in r.section.order (4 * r.options + 4)) (options-at r.word left r.options whole)
+      ∙ ap (λ n. resolution_in r.section.order n (r.word ++ area)) (let it : 4 * r.options + 4 ≡ suc (4 * r.options + 3) = omega arith in it)
+      ∙ resolution-here r.section.order r.word area whole (4 * r.options + 3) told some (omega arith)
+      ∙ get_or-take (4 * r.options) left 0 0 (omega arith)))
       ∙ ap (λ k. behind (with_resolution r.section (slice_index left 0)) r k (r.word ++ left)) (let it : 4 * r.options + 4 ≡ 4 + (4 * (r.options - 1) + 4) = omega arith in it)
       ∙ behind-drop (with_resolution r.section (slice_index left 0)) r 4 (4 * (r.options - 1) + 4) (r.word ++ left)
       ∙ ap (behind (with_resolution r.section (slice_index left 0)) r (4 * (r.options - 1) + 4)) (drop_at r.word left 4 whole)));
@@ -190,17 +190,17 @@ passes r words is whole fits more some size told = record {
       (behind-there (with_resolution r.section (resolution_in order (4 * r.options + 4) (take (4 * r.options + 4) (r.word ++ left))))
       (with_resolution r.section (resolution_in order (4 * (rest - 1) + 4) behind_it)) r (4 * r.options + 4) (r.word ++ left)
       (λ there.
-          let long : length area ≡ 4 * r.options = length-take-le (4 * r.options) left (omega (arith, length-append r.word left)) in
-          let moved : drop (option_size order r.word - 4) area ≡ behind_it =
-          ap (λ k. drop k area) (let it : option_size order r.word - 4 ≡ 4 * words = omega arith in it)
-          ∙ ap (λ k. drop (4 * words) (take k left)) (let it : 4 * r.options ≡ 4 * words + (4 * (rest - 1) + 4) = omega arith in it)
-          ∙ drop-take (4 * words) (4 * (rest - 1) + 4) left in
-          let few : length behind_it ≤ 4 * (rest - 1) + 4 = omega (arith, length-take (4 * (rest - 1) + 4) bytes) in
-          ap (with_resolution r.section) (ap (resolution_in order (4 * r.options + 4)) (options-at r.word left r.options whole)
-          ∙ ap (λ n. resolution_in order n (r.word ++ area)) (let it : 4 * r.options + 4 ≡ suc (4 * r.options + 3) = omega arith in it)
-          ∙ resolution-behind order r.word area whole (4 * r.options + 3) told some (omega arith)
-          ∙ ap (resolution_in order (4 * r.options + 3)) moved
-          ∙ resolution-count order (4 * r.options + 3) (4 * (rest - 1) + 4) behind_it (omega arith) few))
+      let long : length area ≡ 4 * r.options = length-take-le (4 * r.options) left (omega (arith, length-append r.word left)) in
+      let moved : drop (option_size order r.word - 4) area ≡ behind_it =
+      ap (λ k. drop k area) (let it : option_size order r.word - 4 ≡ 4 * words = omega arith in it)
+      ∙ ap (λ k. drop (4 * words) (take k left)) (let it : 4 * r.options ≡ 4 * words + (4 * (rest - 1) + 4) = omega arith in it)
+      ∙ drop-take (4 * words) (4 * (rest - 1) + 4) left in
+      let few : length behind_it ≤ 4 * (rest - 1) + 4 = omega (arith, length-take (4 * (rest - 1) + 4) bytes) in
+      ap (with_resolution r.section) (ap (resolution_in order (4 * r.options + 4)) (options-at r.word left r.options whole)
+      ∙ ap (λ n. resolution_in order n (r.word ++ area)) (let it : 4 * r.options + 4 ≡ suc (4 * r.options + 3) = omega arith in it)
+      ∙ resolution-behind order r.word area whole (4 * r.options + 3) told some (omega arith)
+      ∙ ap (resolution_in order (4 * r.options + 3)) moved
+      ∙ resolution-count order (4 * r.options + 3) (4 * (rest - 1) + 4) behind_it (omega arith) few))
       ∙ ap (λ k. behind (with_resolution r.section (resolution_in order (4 * (rest - 1) + 4) behind_it)) r k (r.word ++ left)) (let it : 4 * r.options + 4 ≡ 4 + 4 * words + (4 * (rest - 1) + 4) = omega arith in it)
       ∙ behind-drop (with_resolution r.section (resolution_in order (4 * (rest - 1) + 4) behind_it)) r (4 + 4 * words) (4 * (rest - 1) + 4) (r.word ++ left)
       ∙ ap (behind (with_resolution r.section (resolution_in order (4 * (rest - 1) + 4) behind_it)) r (4 * (rest - 1) + 4))

@@ -87,7 +87,7 @@ head-opens before n offset head left kind k size total accepted is whole some to
     ∙ sym (drop-drop (size + 4) (head_length kind + k) bytes) ∙ ap (drop (size + 4)) front in
     let others = blocks_from (section_by kind s bytes) (n - 1) (offset + total) (drop (size + 4) (drop k left)) in
     let opened : blocks_from before (suc (n - 1)) offset bytes
-        ≡ after (record_of kind s bytes) (closed s.order total offset (total - 4) bytes (blocks_from (section_by kind s bytes) (n - 1) (offset + total) (drop total bytes))) =
+    ≡ after (record_of kind s bytes) (closed s.order total offset (total - 4) bytes (blocks_from (section_by kind s bytes) (n - 1) (offset + total) (drop total bytes))) =
     blocks-open before (n - 1) offset bytes kind done named fits
     ∙ ap (λ t. after (record_of kind t bytes) (closed t.order (total_of t.order bytes) offset (total_of t.order bytes - 4) bytes (blocks_from (section_by kind t bytes) (n - 1) (offset + total_of t.order bytes) (drop (total_of t.order bytes) bytes)))) same
     ∙ ap (λ t. after (record_of kind s bytes) (closed s.order t offset (t - 4) bytes (blocks_from (section_by kind s bytes) (n - 1) (offset + t) (drop t bytes)))) sized in

@@ -37,8 +37,8 @@ firm_has : (whole : Type 0) (k : ℕ) (front left : List ℕ) (x y : Option NgFa
     → Firm whole (cond (has k front) x None) (cond (has k (front ++ left)) y None)
 firm_has whole k front left x y needs firm = ⊎_elim
     (λ there.
-        let within : k ≤ length front = leb-true k (length front) there in
-        rw (there, has-front k front left within) (firm within))
+    let within : k ≤ length front = leb-true k (length front) there in
+    rw (there, has-front k front left within) (firm within))
     (λ short. rw short (record {
       decided = λ w. let over : length front < k = leb-false k (length front) short in let within : k ≤ length front = needs w in absurd (omega arith);
       refused = λ fault is. cc;

@@ -59,8 +59,7 @@ refuses-head r fault is fits long some refusal = refuses r Head fault is refl fi
 -- a head that is too short to be judged
 pub waits-short : (r : Reader) → r.stage ≡ Head → length r.head < 8 → ready_at r.stage r
 waits-short r is short =
-    subst (λ s. ready_at s r) (sym is)
-    (
+    subst (λ s. ready_at s r) (sym is) (
       rw (has-short 8 r.head short) short,
       ap (λ s. rest_at s r []) is ∙ blocks-short r.section r.place.allowed r.place.offset (r.head ++ []) (omega (arith, length-append r.head [])),
     )
@@ -68,8 +67,7 @@ waits-short r is short =
 -- a head that isn't refused so far
 pub waits : (r : Reader) → IsUnrefused r → length r.head < head_length (kind_of r.section.order r.head) → ready_at r.stage r
 waits r it short =
-    subst (λ s. ready_at s r) (sym it.stage)
-    (
+    subst (λ s. ready_at s r) (sym it.stage) (
       rw (has-there 8 r.head it.long) short,
       ap (λ s. rest_at s r []) it.stage ∙ head-waits r.section r.place.allowed r.place.offset r.head it.allowed it.accepted short,
     )
@@ -131,10 +129,10 @@ pub skips : (r : Reader) (count : ℕ) (front left : List ℕ) → r.stage ≡ B
 skips r count front left is few sized = ⊎_elim
     (λ zero. skips-body r count front left is (eqb-true r.owed 0 zero) (subst (λ b. count ≤ cond b r.skip 0) zero few) sized)
     (λ some.
-        let stays : count ≤ 0 = subst (λ b. count ≤ cond b r.skip 0) some few in
-        let none : count ≡ 0 = omega arith in
-        ap (λ k. rest_of (record r { skip = k }) left) (let it : r.skip - count ≡ r.skip = omega arith in it)
-        ∙ ap (λ l. rest_of r (l ++ left)) (sym (nil_from_length front (sized ∙ none))))
+    let stays : count ≤ 0 = subst (λ b. count ≤ cond b r.skip 0) some few in
+    let none : count ≡ 0 = omega arith in
+    ap (λ k. rest_of (record r { skip = k }) left) (let it : r.skip - count ≡ r.skip = omega arith in it)
+    ∙ ap (λ l. rest_of r (l ++ left)) (sym (nil_from_length front (sized ∙ none))))
     (cases_Bool (r.owed == 0))
 
 -- ---- bytes that are held
@@ -148,12 +146,12 @@ pub keeps-head : (order : Order) (head bytes : List ℕ) → length head ≤ sto
     → length (head ++ bytes) ≤ stop_of order (head ++ bytes)
 keeps-head order head bytes fits few = ⊎_elim
     (λ short.
-        let stop : stop_of order head ≡ 8 = cond-false (has 8 head) _ 8 (has-short 8 head short) in
-        let least = stop-least order (head ++ bytes) (has 8 (head ++ bytes)) in
-        omega (arith, stop, least, length-append head bytes))
+    let stop : stop_of order head ≡ 8 = cond-false (has 8 head) _ 8 (has-short 8 head short) in
+    let least = stop-least order (head ++ bytes) (has 8 (head ++ bytes)) in
+    omega (arith, stop, least, length-append head bytes))
     (λ long.
-        let stop : stop_of order head ≡ head_length (kind_of order head) = cond-true (has 8 head) _ 8 (has-there 8 head long) in
-        let next : stop_of order (head ++ bytes) ≡ head_length (kind_of order head) =
-        cond-true (has 8 (head ++ bytes)) _ 8 (has-front 8 head bytes long) ∙ ap head_length (kind_of-front order head bytes (omega arith)) in
-        omega (arith, stop, next, length-append head bytes))
+    let stop : stop_of order head ≡ head_length (kind_of order head) = cond-true (has 8 head) _ 8 (has-there 8 head long) in
+    let next : stop_of order (head ++ bytes) ≡ head_length (kind_of order head) =
+    cond-true (has 8 (head ++ bytes)) _ 8 (has-front 8 head bytes long) ∙ ap head_length (kind_of-front order head bytes (omega arith)) in
+    omega (arith, stop, next, length-append head bytes))
     (cases_lt (length head) 8)

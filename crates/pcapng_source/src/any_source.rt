@@ -25,7 +25,8 @@ pub struct AnySource<'a, S: Source> {
     // The source as it was handed in.
     start: Snapshot<S>,
     ghost fits: { IsFitting reader },
-    ghost linked: { IsLinked (S.left start.value) (S.left source.now) reader } by { IsLinked-prop (S.left start.value) (S.left source.now) reader },
+    ghost linked: { IsLinked (S.left start.value) (S.left source.now) reader } by { IsLinked-prop
+        (S.left start.value) (S.left source.now) reader },
 }
 
 impl<'a, S: Source> AnySource<'a, S> {

@@ -1,4 +1,4 @@
-//! Bytes that are held for a while: those that were read and not judged yet, and those that were made and not given yet.
+//! Bytes that are held for a while: those that were read and not judged yet, and those that were made and not given.
 
 ghost use Rattle.std.specs.Prelude.{◌≡◌, ◌+◌, ◌-◌, ◌≤◌, List, ℕ, [], ◌++◌, length, take, drop, min, slice_range};
 

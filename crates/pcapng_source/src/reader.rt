@@ -60,8 +60,8 @@ pub(crate) struct Reader {
     // Where the next block begins; in a head, the block at hand.
     pub(crate) place: Place,
     pub(crate) block: Block,
-    // What is left of the block's body: data to be given, bytes to be skipped, and then options in words of four bytes, but
-    // for the word that is read now.
+    // What is left of the block's body: data to be given, bytes to be skipped, and then options in words of four bytes,
+    // but for the word that is read now.
     pub(crate) owed: u32,
     pub(crate) skip: u64,
     pub(crate) options: u32,
@@ -199,7 +199,8 @@ impl Reader {
     pub(crate) fn skip(&mut self, count: usize)
         requires few { count ≤ skipped_at self.old.stage self.old }
         requires fits { IsFitting self.old }
-        ensures rest { (front left : List ℕ) → length front ≡ count → rest_of self.new left ≡ rest_of self.old (front ++ left) }
+        ensures rest { (front left : List ℕ) → length front ≡ count
+            → rest_of self.new left ≡ rest_of self.old (front ++ left) }
         ensures fits { IsFitting self.new }
         ensures lighter { 0 < count → weight_of self.new < weight_of self.old }
         ensures stage { self.new.stage ≡ self.old.stage }
@@ -233,7 +234,8 @@ impl Reader {
         requires settled { settled_at self.old.stage self.old }
         requires made { self.old.made ≡ [] }
         requires fits { IsFitting self.old }
-        ensures start { OnTrue result ((rest_of self.new [] ≡ rest_of self.old []) × (weight_of self.new < weight_of self.old)) }
+        ensures start { OnTrue result ((rest_of self.new [] ≡ rest_of self.old [])
+            × (weight_of self.new < weight_of self.old)) }
         ensures over { OnFalse result ((self.new ≡ self.old) × IsOpen self.new) }
         ensures fits { IsFitting self.new }
         ensures met { met_at self.new.stage ≡ met_at self.old.stage }

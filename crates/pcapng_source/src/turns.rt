@@ -28,11 +28,13 @@ fn give<S: Source>(
     requires made { reader.old.made ≡ [] }
     requires open { IsOpen reader.old }
     requires fits { IsFitting reader.old }
-    ensures gives { StepGives (outlook reader.old (S.left source.old)) (outlook reader.new (S.left source.new)) result buf.new }
+    ensures gives { StepGives (outlook reader.old (S.left source.old))
+        (outlook reader.new (S.left source.new)) result buf.new }
     ensures room { StepFits result buf.new }
     ensures ends { StepEnds reader.new (S.left source.new) result (S.ended source.new) }
     ensures falls { StepFalls reader.old reader.new result }
-    ensures cause { HasCause (faults_with reader.old (S.faults source.old)) (faults_with reader.new (S.faults source.new)) result }
+    ensures cause { HasCause (faults_with reader.old (S.faults source.old))
+        (faults_with reader.new (S.faults source.new)) result }
     ensures lasts { S.lasting source.new ≡ S.lasting source.old }
     ensures fits { IsFitting reader.new }
 {
@@ -52,11 +54,13 @@ fn skip<S: Source>(
     requires made { reader.old.made ≡ [] }
     requires open { IsOpen reader.old }
     requires fits { IsFitting reader.old }
-    ensures gives { StepGives (outlook reader.old (S.left source.old)) (outlook reader.new (S.left source.new)) result [] }
+    ensures gives { StepGives (outlook reader.old (S.left source.old))
+        (outlook reader.new (S.left source.new)) result [] }
     ensures room { StepFits result [] }
     ensures ends { StepEnds reader.new (S.left source.new) result (S.ended source.new) }
     ensures falls { StepFalls reader.old reader.new result }
-    ensures cause { HasCause (faults_with reader.old (S.faults source.old)) (faults_with reader.new (S.faults source.new)) result }
+    ensures cause { HasCause (faults_with reader.old (S.faults source.old))
+        (faults_with reader.new (S.faults source.new)) result }
     ensures lasts { S.lasting source.new ≡ S.lasting source.old }
     ensures fits { IsFitting reader.new }
 {
@@ -80,11 +84,13 @@ fn hold<S: Source>(
     requires made { reader.old.made ≡ [] }
     requires settled { settled_at reader.old.stage reader.old }
     requires fits { IsFitting reader.old }
-    ensures gives { StepGives (outlook reader.old (S.left source.old)) (outlook reader.new (S.left source.new)) result [] }
+    ensures gives { StepGives (outlook reader.old (S.left source.old))
+        (outlook reader.new (S.left source.new)) result [] }
     ensures room { StepFits result [] }
     ensures ends { StepEnds reader.new (S.left source.new) result (S.ended source.new) }
     ensures falls { StepFalls reader.old reader.new result }
-    ensures cause { HasCause (faults_with reader.old (S.faults source.old)) (faults_with reader.new (S.faults source.new)) result }
+    ensures cause { HasCause (faults_with reader.old (S.faults source.old))
+        (faults_with reader.new (S.faults source.new)) result }
     ensures lasts { S.lasting source.new ≡ S.lasting source.old }
     ensures fits { IsFitting reader.new }
 {
@@ -107,11 +113,13 @@ fn step<S: Source>(
 ) -> Result<Option<usize>, Failed>
     requires room { 0 < length buf.old }
     requires fits { IsFitting reader.old }
-    ensures gives { StepGives (outlook reader.old (S.left source.old)) (outlook reader.new (S.left source.new)) result buf.new }
+    ensures gives { StepGives (outlook reader.old (S.left source.old))
+        (outlook reader.new (S.left source.new)) result buf.new }
     ensures room { StepFits result buf.new }
     ensures ends { StepEnds reader.new (S.left source.new) result (S.ended source.new) }
     ensures falls { StepFalls reader.old reader.new result }
-    ensures cause { HasCause (faults_with reader.old (S.faults source.old)) (faults_with reader.new (S.faults source.new)) result }
+    ensures cause { HasCause (faults_with reader.old (S.faults source.old))
+        (faults_with reader.new (S.faults source.new)) result }
     ensures lasts { S.lasting source.new ≡ S.lasting source.old }
     ensures fits { IsFitting reader.new }
 {
@@ -139,9 +147,12 @@ pub(crate) fn read_on<S: Source>(
     requires room { 0 < length buf.old }
     requires fits { IsFitting reader.old }
     ensures bound { ReadsAtMost result buf.new }
-    ensures gives { ReadGives (outlook reader.old (S.left source.old)) (outlook reader.new (S.left source.new)) result buf.new }
-    ensures ends { IfOk result (λ count. count ≡ 0 → IsAtEnd (S.left source.new) × S.ended source.new × IsOver reader.new) }
-    ensures cause { HasCause (faults_with reader.old (S.faults source.old)) (faults_with reader.new (S.faults source.new)) result }
+    ensures gives { ReadGives (outlook reader.old (S.left source.old))
+        (outlook reader.new (S.left source.new)) result buf.new }
+    ensures ends { IfOk result (λ count. count ≡ 0
+        → IsAtEnd (S.left source.new) × S.ended source.new × IsOver reader.new) }
+    ensures cause { HasCause (faults_with reader.old (S.faults source.old))
+        (faults_with reader.new (S.faults source.new)) result }
     ensures lasts { S.lasting source.new ≡ S.lasting source.old }
     ensures fits { IsFitting reader.new }
 {
@@ -152,8 +163,8 @@ pub(crate) fn read_on<S: Source>(
     }
 }
 
-// Goes on by bytes that are at hand alone, and answers whether there may be more to do. A fault that is met here is counted
-// and not told: the next read asks again.
+// Goes on by bytes that are at hand alone, and answers whether there may be more to do. A fault that is met here is
+// counted and not told: the next read asks again.
 fn step_ahead<S: Source>(source: &mut S, reader: &mut Reader) -> bool
     requires { IsFitting reader.old }
     ensures gives { Gives (outlook reader.old (S.left source.old)) (outlook reader.new (S.left source.new)) [] }

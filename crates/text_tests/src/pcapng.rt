@@ -147,24 +147,117 @@ fn moved(fault: NgFault, by: u64) -> NgFault {
 // Blocks behind a section header and an interface. The last one is refused at its last byte, and no earlier; the offset is
 // that behind the first two.
 const REFUSED: &[(&str, &[Part], NgFault)] = &[
-    ("a total length that is no multiple of 4", &[Four(5), Four(13)], NgFault::BadBlock(0)),
-    ("a total length of 8", &[Four(5), Four(8)], NgFault::BadBlock(0)),
-    ("a total length of 2^24 and 4", &[Four(5), Four(16_777_220)], NgFault::BadBlock(0)),
-    ("an obsolete packet of 8 bytes", &[Four(2), Four(8)], NgFault::BadBlock(0)),
-    ("a section of 24 bytes", &[SECTION_TYPE, Four(24), MAGIC], NgFault::BadBlock(0)),
-    ("a magic number that is none", &[SECTION_TYPE, Four(28), Four(0x1a2b_3c4e)], NgFault::BadBlock(0)),
-    ("version 2", &[SECTION_TYPE, Four(28), MAGIC, Two(2)], NgFault::BadVersion(0)),
-    ("an interface of 16 bytes", &[Four(1), Four(16)], NgFault::BadBlock(0)),
-    ("a simple packet of 12 bytes", &[Four(3), Four(12)], NgFault::BadBlock(0)),
-    ("an enhanced packet of 28 bytes", &[Four(6), Four(28)], NgFault::BadBlock(0)),
-    ("an interface that isn't there", &[Four(6), Four(32), Four(1)], NgFault::BadBlock(0)),
-    ("no interface", &[SECTION_TYPE, Four(28), MAGIC, Two(1), Two(0), Four(0), Four(0), Four(28), Four(3), Four(16)], NgFault::BadBlock(28)),
-    ("a link type of 113", &[Four(1), Four(20), Two(113), Two(0), Four(0), Four(20), Four(6), Four(32), Four(1)], NgFault::BadLink(20)),
-    ("262,145 captured bytes", &[Four(6), Four(32), Four(0), Four(0), Four(0), Four(262_145)], NgFault::TooLong(0)),
-    ("a simple packet of 262,145 bytes", &[Four(3), Four(16), Four(262_145)], NgFault::TooLong(0)),
-    ("data past the block", &[Four(6), Four(36), Four(0), Four(0), Four(0), Four(5)], NgFault::BadBlock(0)),
-    ("simple data past the block", &[Four(3), Four(20), Four(5)], NgFault::BadBlock(0)),
-    ("two total lengths", &[Four(5), Four(16), Four(0), Four(12)], NgFault::BadBlock(0)),
+    (
+        "a total length that is no multiple of 4",
+        &[Four(5), Four(13)],
+        NgFault::BadBlock(0),
+    ),
+    (
+        "a total length of 8",
+        &[Four(5), Four(8)],
+        NgFault::BadBlock(0),
+    ),
+    (
+        "a total length of 2^24 and 4",
+        &[Four(5), Four(16_777_220)],
+        NgFault::BadBlock(0),
+    ),
+    (
+        "an obsolete packet of 8 bytes",
+        &[Four(2), Four(8)],
+        NgFault::BadBlock(0),
+    ),
+    (
+        "a section of 24 bytes",
+        &[SECTION_TYPE, Four(24), MAGIC],
+        NgFault::BadBlock(0),
+    ),
+    (
+        "a magic number that is none",
+        &[SECTION_TYPE, Four(28), Four(0x1a2b_3c4e)],
+        NgFault::BadBlock(0),
+    ),
+    (
+        "version 2",
+        &[SECTION_TYPE, Four(28), MAGIC, Two(2)],
+        NgFault::BadVersion(0),
+    ),
+    (
+        "an interface of 16 bytes",
+        &[Four(1), Four(16)],
+        NgFault::BadBlock(0),
+    ),
+    (
+        "a simple packet of 12 bytes",
+        &[Four(3), Four(12)],
+        NgFault::BadBlock(0),
+    ),
+    (
+        "an enhanced packet of 28 bytes",
+        &[Four(6), Four(28)],
+        NgFault::BadBlock(0),
+    ),
+    (
+        "an interface that isn't there",
+        &[Four(6), Four(32), Four(1)],
+        NgFault::BadBlock(0),
+    ),
+    (
+        "no interface",
+        &[
+            SECTION_TYPE,
+            Four(28),
+            MAGIC,
+            Two(1),
+            Two(0),
+            Four(0),
+            Four(0),
+            Four(28),
+            Four(3),
+            Four(16),
+        ],
+        NgFault::BadBlock(28),
+    ),
+    (
+        "a link type of 113",
+        &[
+            Four(1),
+            Four(20),
+            Two(113),
+            Two(0),
+            Four(0),
+            Four(20),
+            Four(6),
+            Four(32),
+            Four(1),
+        ],
+        NgFault::BadLink(20),
+    ),
+    (
+        "262,145 captured bytes",
+        &[Four(6), Four(32), Four(0), Four(0), Four(0), Four(262_145)],
+        NgFault::TooLong(0),
+    ),
+    (
+        "a simple packet of 262,145 bytes",
+        &[Four(3), Four(16), Four(262_145)],
+        NgFault::TooLong(0),
+    ),
+    (
+        "data past the block",
+        &[Four(6), Four(36), Four(0), Four(0), Four(0), Four(5)],
+        NgFault::BadBlock(0),
+    ),
+    (
+        "simple data past the block",
+        &[Four(3), Four(20), Four(5)],
+        NgFault::BadBlock(0),
+    ),
+    (
+        "two total lengths",
+        &[Four(5), Four(16), Four(0), Four(12)],
+        NgFault::BadBlock(0),
+    ),
 ];
 
 // Whether a block is refused behind these blocks, which give these bytes, and not yet one byte before its end.
@@ -180,8 +273,10 @@ fn is_refused(
     let fault = moved(fault, bytes.len() as u64);
     put(&mut bytes, is_big, block)?;
     let short = bytes.len().saturating_sub(1);
-    Ok(gives(alloc, &bytes, want, Some(fault))?
-        && gives(alloc, bytes.get(..short).unwrap_or(&[]), want, None)?)
+    Ok(
+        gives(alloc, &bytes, want, Some(fault))?
+            && gives(alloc, bytes.get(..short).unwrap_or(&[]), want, None)?,
+    )
 }
 
 fn is_refused_anywhere(
@@ -193,7 +288,14 @@ fn is_refused_anywhere(
     let one = joined(alloc, &[HEADER, RECORD])?;
     Ok(
         is_refused(alloc, is_big, &[SECTION, INTERFACE], block, HEADER, fault)?
-            && is_refused(alloc, is_big, &[SECTION, INTERFACE, PACKET], block, &one, fault)?,
+            && is_refused(
+                alloc,
+                is_big,
+                &[SECTION, INTERFACE, PACKET],
+                block,
+                &one,
+                fault,
+            )?,
     )
 }
 
@@ -201,7 +303,10 @@ fn is_refused_anywhere(
 fn each_refusal_where_its_bytes_are_there(rt: HostRuntime) -> Result<(), Fail> {
     for &(name, block, fault) in REFUSED {
         for is_big in [true, false] {
-            assert!(rt; is_refused_anywhere(rt.alloc(), is_big, block, fault)?, "{name}");
+            assert!(rt;
+                is_refused_anywhere(rt.alloc(), is_big, block, fault)?,
+                "{name}"
+            );
         }
     }
     Ok(())
@@ -220,14 +325,12 @@ fn a_refused_trailer_comes_behind_its_packet(rt: HostRuntime) -> Result<(), Fail
 }
 
 // How many interfaces a section has, and why it is refused. A packet of the last one follows.
-const INTERFACES: [(usize, Option<NgFault>); 2] =
-    [(64, None), (65, Some(NgFault::TooManyInterfaces(1308)))];
+const INTERFACES: [(usize, Option<NgFault>); 2] = [
+    (64, None),
+    (65, Some(NgFault::TooManyInterfaces(1308))),
+];
 
-fn has_interfaces(
-    alloc: Global,
-    count: usize,
-    fault: Option<NgFault>,
-) -> Result<bool, AllocError> {
+fn has_interfaces(alloc: Global, count: usize, fault: Option<NgFault>) -> Result<bool, AllocError> {
     let mut bytes = file(alloc, false, &[SECTION])?;
     for _ in 0..count {
         put(&mut bytes, false, INTERFACE)?;
@@ -249,7 +352,12 @@ fn a_section_has_64_interfaces(rt: HostRuntime) -> Result<(), Fail> {
 // ---- files that are cut
 
 // A block of another kind, and a simple packet of three bytes.
-const OTHER: &[Part] = &[Four(0xbad), Four(20), Bytes(&[1, 2, 3, 4, 5, 6, 7, 8]), Four(20)];
+const OTHER: &[Part] = &[
+    Four(0xbad),
+    Four(20),
+    Bytes(&[1, 2, 3, 4, 5, 6, 7, 8]),
+    Four(20),
+];
 
 const SIMPLE: &[Part] = &[Four(3), Four(20), Four(3), Bytes(&[4, 5, 6, 0]), Four(20)];
 
@@ -339,19 +447,98 @@ fn sections_in_both_orders(rt: HostRuntime) -> Result<(), Fail> {
 // The options of an interface, and the seconds and microseconds of the time 5 * 2^48 + 7.
 const TIMES: &[(&str, &[Part], u32, u32)] = &[
     ("no options", &[], 0x53e2d623, 0x00087147),
-    ("nanoseconds", &[Two(9), Two(1), Bytes(&[9, 0, 0, 0])], 0x0015798e, 0x000d7b61),
-    ("milliseconds", &[Two(9), Two(1), Bytes(&[3, 0, 0, 0])], 0xae147ae1, 0x00046118),
-    ("seconds", &[Two(9), Two(1), Bytes(&[0, 0, 0, 0])], 0x00000007, 0x00000000),
-    ("a power of ten above each time", &[Two(9), Two(1), Bytes(&[39, 0, 0, 0])], 0x00000000, 0x00000000),
-    ("2^-10 seconds", &[Two(9), Two(1), Bytes(&[138, 0, 0, 0])], 0x00000000, 0x00001ab3),
-    ("2^-127 seconds", &[Two(9), Two(1), Bytes(&[255, 0, 0, 0])], 0x00000000, 0x00000000),
-    ("behind another option", &[Two(2), Two(5), Bytes(&[1, 2, 3, 4, 5, 0, 0, 0]), Two(9), Two(1), Bytes(&[9, 0, 0, 0])], 0x0015798e, 0x000d7b61),
-    ("behind an option without bytes", &[Two(2), Two(0), Two(9), Two(1), Bytes(&[9, 0, 0, 0])], 0x0015798e, 0x000d7b61),
-    ("behind the end of the options", &[Two(0), Two(0), Two(9), Two(1), Bytes(&[9, 0, 0, 0])], 0x53e2d623, 0x00087147),
-    ("of two the first", &[Two(9), Two(1), Bytes(&[3, 0, 0, 0]), Two(9), Two(1), Bytes(&[9, 0, 0, 0])], 0xae147ae1, 0x00046118),
-    ("a value of two bytes", &[Two(9), Two(2), Bytes(&[9, 9, 0, 0])], 0x53e2d623, 0x00087147),
-    ("a value past the block", &[Two(9), Two(1)], 0x53e2d623, 0x00087147),
-    ("behind an option past the block", &[Two(2), Two(13), Two(9), Two(1), Bytes(&[9, 0, 0, 0])], 0x53e2d623, 0x00087147),
+    (
+        "nanoseconds",
+        &[Two(9), Two(1), Bytes(&[9, 0, 0, 0])],
+        0x0015798e,
+        0x000d7b61,
+    ),
+    (
+        "milliseconds",
+        &[Two(9), Two(1), Bytes(&[3, 0, 0, 0])],
+        0xae147ae1,
+        0x00046118,
+    ),
+    (
+        "seconds",
+        &[Two(9), Two(1), Bytes(&[0, 0, 0, 0])],
+        0x00000007,
+        0x00000000,
+    ),
+    (
+        "a power of ten above each time",
+        &[Two(9), Two(1), Bytes(&[39, 0, 0, 0])],
+        0x00000000,
+        0x00000000,
+    ),
+    (
+        "2^-10 seconds",
+        &[Two(9), Two(1), Bytes(&[138, 0, 0, 0])],
+        0x00000000,
+        0x00001ab3,
+    ),
+    (
+        "2^-127 seconds",
+        &[Two(9), Two(1), Bytes(&[255, 0, 0, 0])],
+        0x00000000,
+        0x00000000,
+    ),
+    (
+        "behind another option",
+        &[
+            Two(2),
+            Two(5),
+            Bytes(&[1, 2, 3, 4, 5, 0, 0, 0]),
+            Two(9),
+            Two(1),
+            Bytes(&[9, 0, 0, 0]),
+        ],
+        0x0015798e,
+        0x000d7b61,
+    ),
+    (
+        "behind an option without bytes",
+        &[Two(2), Two(0), Two(9), Two(1), Bytes(&[9, 0, 0, 0])],
+        0x0015798e,
+        0x000d7b61,
+    ),
+    (
+        "behind the end of the options",
+        &[Two(0), Two(0), Two(9), Two(1), Bytes(&[9, 0, 0, 0])],
+        0x53e2d623,
+        0x00087147,
+    ),
+    (
+        "of two the first",
+        &[
+            Two(9),
+            Two(1),
+            Bytes(&[3, 0, 0, 0]),
+            Two(9),
+            Two(1),
+            Bytes(&[9, 0, 0, 0]),
+        ],
+        0xae147ae1,
+        0x00046118,
+    ),
+    (
+        "a value of two bytes",
+        &[Two(9), Two(2), Bytes(&[9, 9, 0, 0])],
+        0x53e2d623,
+        0x00087147,
+    ),
+    (
+        "a value past the block",
+        &[Two(9), Two(1)],
+        0x53e2d623,
+        0x00087147,
+    ),
+    (
+        "behind an option past the block",
+        &[Two(2), Two(13), Two(9), Two(1), Bytes(&[9, 0, 0, 0])],
+        0x53e2d623,
+        0x00087147,
+    ),
 ];
 
 // Whether a packet behind an interface with these options has this time.
@@ -368,11 +555,24 @@ fn has_time(
         &[Four(1), Four(size), Two(1), Two(0), Four(0)],
         options,
         &[Four(size)],
-        &[Four(6), Four(32), Four(0), Four(0x5_0000), Four(7), Four(0), Four(60), Four(32)],
+        &[
+            Four(6),
+            Four(32),
+            Four(0),
+            Four(0x5_0000),
+            Four(7),
+            Four(0),
+            Four(60),
+            Four(32),
+        ],
     ];
     let bytes = file(alloc, is_big, &blocks)?;
     let mut want = joined(alloc, &[HEADER])?;
-    put(&mut want, true, &[Four(seconds), Four(fraction), Four(0), Four(60)])?;
+    put(
+        &mut want,
+        true,
+        &[Four(seconds), Four(fraction), Four(0), Four(60)],
+    )?;
     gives(alloc, &bytes, &want, None)
 }
 
@@ -380,7 +580,10 @@ fn has_time(
 fn times_in_the_unit_of_their_interface(rt: HostRuntime) -> Result<(), Fail> {
     for &(name, options, seconds, fraction) in TIMES {
         for is_big in [true, false] {
-            assert!(rt; has_time(rt.alloc(), is_big, options, seconds, fraction)?, "{name}");
+            assert!(rt;
+                has_time(rt.alloc(), is_big, options, seconds, fraction)?,
+                "{name}"
+            );
         }
     }
     Ok(())
@@ -392,11 +595,25 @@ fn times_in_the_unit_of_their_interface(rt: HostRuntime) -> Result<(), Fail> {
 const HANDSHAKES: [(&str, u16, usize, usize, Option<NgFault>); 3] = [
     ("whole", 1, 0, 234, None),
     ("without its last 60 bytes", 1, 60, 180, None),
-    ("of another link type", 113, 0, 24, Some(NgFault::BadLink(48))),
+    (
+        "of another link type",
+        113,
+        0,
+        24,
+        Some(NgFault::BadLink(48)),
+    ),
 ];
 
 // The head of an enhanced packet of 54 bytes at time 0, and the head of its record.
-const HEAD: &[Part] = &[Four(6), Four(88), Four(0), Four(0), Four(0), Four(54), Four(54)];
+const HEAD: &[Part] = &[
+    Four(6),
+    Four(88),
+    Four(0),
+    Four(0),
+    Four(0),
+    Four(54),
+    Four(54),
+];
 
 const RECORD_HEAD: &[u8] = &[0, 0, 0, 0, 0, 0, 0, 0, 0, 0, 0, 54, 0, 0, 0, 54];
 
@@ -408,7 +625,14 @@ fn is_handshake(
     given: usize,
     fault: Option<NgFault>,
 ) -> Result<bool, AllocError> {
-    let interface = &[Four(1), Four(20), Two(link), Two(0), Four(262_144), Four(20)];
+    let interface = &[
+        Four(1),
+        Four(20),
+        Two(link),
+        Two(0),
+        Four(262_144),
+        Four(20),
+    ];
     let mut bytes = file(alloc, is_big, &[SECTION, interface])?;
     let mut want = joined(alloc, &[HEADER])?;
     for packet in &PACKETS {
@@ -419,13 +643,15 @@ fn is_handshake(
         want.extend_from_slice(packet)?;
     }
     let len = bytes.len().saturating_sub(left_out);
-    Ok(bytes.len() == 312
-        && gives(
-            alloc,
-            bytes.get(..len).unwrap_or(&[]),
-            want.get(..given).unwrap_or(&[]),
-            fault,
-        )?)
+    Ok(
+        bytes.len() == 312
+            && gives(
+                alloc,
+                bytes.get(..len).unwrap_or(&[]),
+                want.get(..given).unwrap_or(&[]),
+                fault,
+            )?,
+    )
 }
 
 #[test]
