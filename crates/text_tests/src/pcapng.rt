@@ -549,7 +549,10 @@ fn has_time(
     seconds: u32,
     fraction: u32,
 ) -> Result<bool, AllocError> {
-    let size = 20_u32.wrapping_add(file(alloc, is_big, &[options])?.len() as u32);
+    let size = match u32::try_from(file(alloc, is_big, &[options])?.len()) {
+        Ok(len) => len.wrapping_add(20),
+        Err(_) => return Ok(false),
+    };
     let blocks: [&[Part]; 5] = [
         SECTION,
         &[Four(1), Four(size), Two(1), Two(0), Four(0)],
