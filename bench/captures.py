@@ -1,5 +1,5 @@
 #!/usr/bin/env python3
-"""Writes captures for measuring: captures.py KIND COUNT > FILE.
+"""Writes captures for measuring: captures.py KIND COUNT [6] > FILE.
 
 KIND is one of
   flows   COUNT packets in COUNT / 10 connections, none of which ends: in groups of 16 connections a SYN, a SYN+ACK and
@@ -8,15 +8,15 @@ KIND is one of
           come in the wrong order and once again, and both FINs. Groups of 16 connections.
   long    8 connections that share COUNT packets: after the handshakes segments of 1,000 bytes from the server, and an
           acknowledgement of every two.
-All are classic pcap, big-endian, microseconds, Ethernet, IPv4 and TCP without options.
+All are classic pcap, big-endian, microseconds, Ethernet, IPv4 and TCP without options. With 6 the same packets go over IPv6.
 """
 import functools
 import struct
 import sys
 
 HEADER = struct.pack(">IHHIIII", 0xA1B2C3D4, 2, 4, 0, 0, 65535, 1)
-TO_SERVER = bytes.fromhex("020000000002" "020000000001" "0800")
-TO_CLIENT = bytes.fromhex("020000000001" "020000000002" "0800")
+TO_SERVER = bytes.fromhex("020000000002" "020000000001")
+TO_CLIENT = bytes.fromhex("020000000001" "020000000002")
 SERVER = (0xC0000201, 80)
 SYN, SYN_ACK, ACK, PUSH, FIN = 0x02, 0x12, 0x10, 0x18, 0x11
 WORD = 0xFFFFFFFF
@@ -26,23 +26,35 @@ GROUP = 16
 class Out:
     """Counts the packets, whose number gives their time."""
 
-    def __init__(self, file):
+    def __init__(self, file, ip_header):
         self.file = file
+        self.ip_header = ip_header
         self.number = 0
         file.write(HEADER)
 
     def packet(self, source, destination, flags, seq, ack, payload=b""):
-        size = 54 + len(payload)
-        time = divmod(self.number, 1000)
         ethernet = TO_SERVER if destination == SERVER else TO_CLIENT
+        kind, header = self.ip_header(source[0], destination[0], 20 + len(payload))
+        size = 14 + len(header) + 20 + len(payload)
+        time = divmod(self.number, 1000)
         self.file.write(
             struct.pack(">IIII", time[0], time[1] * 1000, size, size)
             + ethernet
-            + struct.pack(">BBHHHBBHII", 0x45, 0, size - 14, 0, 0x4000, 64, 6, 0, source[0], destination[0])
+            + kind
+            + header
             + struct.pack(">HHIIBBHHH", source[1], destination[1], seq & WORD, ack & WORD, 0x50, flags, 0xFFFF, 0, 0)
             + payload
         )
         self.number += 1
+
+
+def ipv4(source, destination, size):
+    """The frame's type and the header of so many bytes behind it."""
+    return b"\x08\x00", struct.pack(">BBHHHBBHII", 0x45, 0, 20 + size, 0, 0x4000, 64, 6, 0, source, destination)
+
+
+def ipv6(source, destination, size):
+    return b"\x86\xdd", struct.pack(">IHBB12xI12xI", 0x60000000, size, 6, 64, source, destination)
 
 
 def client_of(c):
@@ -123,10 +135,10 @@ def long_packet(out, c, step):
 
 
 def main():
-    if len(sys.argv) != 3 or sys.argv[1] not in ("flows", "pages", "long"):
+    if len(sys.argv) not in (3, 4) or sys.argv[1] not in ("flows", "pages", "long") or sys.argv[3:] not in ([], ["6"]):
         sys.exit(__doc__)
     kind, count = sys.argv[1], int(sys.argv[2])
-    out = Out(sys.stdout.buffer)
+    out = Out(sys.stdout.buffer, ipv6 if sys.argv[3:] else ipv4)
     if kind == "flows":
         in_groups(out, count // 10, 10, flow_packet)
     elif kind == "pages":
