@@ -26,9 +26,9 @@ GROUP = 16
 class Out:
     """Counts the packets, whose number gives their time."""
 
-    def __init__(self, file, ip_header):
+    def __init__(self, file, ip_header=None):
         self.file = file
-        self.ip_header = ip_header
+        self.ip_header = ip_header or ipv4
         self.number = 0
         file.write(HEADER)
 
@@ -138,7 +138,7 @@ def main():
     if len(sys.argv) not in (3, 4) or sys.argv[1] not in ("flows", "pages", "long") or sys.argv[3:] not in ([], ["6"]):
         sys.exit(__doc__)
     kind, count = sys.argv[1], int(sys.argv[2])
-    out = Out(sys.stdout.buffer, ipv6 if sys.argv[3:] else ipv4)
+    out = Out(sys.stdout.buffer, ipv6 if sys.argv[3:] else None)
     if kind == "flows":
         in_groups(out, count // 10, 10, flow_packet)
     elif kind == "pages":
