@@ -1,5 +1,5 @@
 #!/usr/bin/env python3
-"""Writes captures for measuring: captures.py KIND COUNT [6] > FILE.
+"""Writes captures for measuring: captures.py KIND COUNT [6] [ng] > FILE.
 
 KIND is one of
   flows   COUNT packets in COUNT / 10 connections, none of which ends: in groups of 16 connections a SYN, a SYN+ACK and
@@ -8,7 +8,8 @@ KIND is one of
           come in the wrong order and once again, and both FINs. Groups of 16 connections.
   long    8 connections that share COUNT packets: after the handshakes segments of 1,000 bytes from the server, and an
           acknowledgement of every two.
-All are classic pcap, big-endian, microseconds, Ethernet, IPv4 and TCP without options. With 6 the same packets go over IPv6.
+All are classic pcap, big-endian, microseconds, Ethernet, IPv4 and TCP without options. With 6 the same packets go over IPv6, and
+with ng they stand in a pcapng file: a section of one interface, and an enhanced packet block for each packet.
 """
 import functools
 import struct
@@ -23,28 +24,50 @@ WORD = 0xFFFFFFFF
 GROUP = 16
 
 
+class Classic:
+    """Records of a classic capture."""
+
+    front = HEADER
+
+    @staticmethod
+    def record(seconds, micros, frame):
+        return struct.pack(">IIII", seconds, micros, len(frame), len(frame)) + frame
+
+
+def block(kind, body, order=">"):
+    """A block of a pcapng file, its body padded to four bytes."""
+    padded = body + bytes(-len(body) % 4)
+    total = struct.pack(order + "I", len(padded) + 12)
+    return struct.pack(order + "I", kind) + total + padded + total
+
+
+class Pcapng:
+    """Blocks of a pcapng file whose times count microseconds."""
+
+    front = block(0x0A0D0D0A, struct.pack(">IHHq", 0x1A2B3C4D, 1, 0, -1)) + block(1, struct.pack(">HHI", 1, 0, 262144))
+
+    @staticmethod
+    def record(seconds, micros, frame):
+        time = divmod(seconds * 1_000_000 + micros, 2**32)
+        return block(6, struct.pack(">IIIII", 0, *time, len(frame), len(frame)) + frame)
+
+
 class Out:
     """Counts the packets, whose number gives their time."""
 
-    def __init__(self, file, ip_header=None):
+    def __init__(self, file, ip_header=None, form=Classic):
         self.file = file
         self.ip_header = ip_header or ipv4
+        self.form = form
         self.number = 0
-        file.write(HEADER)
+        file.write(form.front)
 
     def packet(self, source, destination, flags, seq, ack, payload=b""):
         ethernet = TO_SERVER if destination == SERVER else TO_CLIENT
         kind, header = self.ip_header(source[0], destination[0], 20 + len(payload))
-        size = 14 + len(header) + 20 + len(payload)
         time = divmod(self.number, 1000)
-        self.file.write(
-            struct.pack(">IIII", time[0], time[1] * 1000, size, size)
-            + ethernet
-            + kind
-            + header
-            + struct.pack(">HHIIBBHHH", source[1], destination[1], seq & WORD, ack & WORD, 0x50, flags, 0xFFFF, 0, 0)
-            + payload
-        )
+        segment = struct.pack(">HHIIBBHHH", source[1], destination[1], seq & WORD, ack & WORD, 0x50, flags, 0xFFFF, 0, 0)
+        self.file.write(self.form.record(time[0], time[1] * 1000, ethernet + kind + header + segment + payload))
         self.number += 1
 
 
@@ -135,10 +158,11 @@ def long_packet(out, c, step):
 
 
 def main():
-    if len(sys.argv) not in (3, 4) or sys.argv[1] not in ("flows", "pages", "long") or sys.argv[3:] not in ([], ["6"]):
+    more = sys.argv[3:]
+    if len(sys.argv) < 3 or sys.argv[1] not in ("flows", "pages", "long") or more not in ([], ["6"], ["ng"], ["6", "ng"]):
         sys.exit(__doc__)
     kind, count = sys.argv[1], int(sys.argv[2])
-    out = Out(sys.stdout.buffer, ipv6 if sys.argv[3:] else None)
+    out = Out(sys.stdout.buffer, ipv6 if "6" in more else ipv4, Pcapng if "ng" in more else Classic)
     if kind == "flows":
         in_groups(out, count // 10, 10, flow_packet)
     elif kind == "pages":
