@@ -80,6 +80,7 @@ pub(crate) fn event_name(event: u16) -> Option<&'static str>
         app_api::STATE => Some("state"),
         app_api::END => Some("end"),
         app_api::ORPHAN => Some("orphan"),
+        app_api::TIMER => Some("timer"),
         _ => None,
     }
 }
