@@ -1,6 +1,6 @@
 -- What a master stands for after one command more, and before the first.
-use Rattle.std.proofs.Common.{◌≡◌, ℕ, ◌+◌, ◌<◌, ◌≤◌, Bool, true, false, List, [], ◌∷◌, ◌++◌, length, refl, sym, ap, subst, ◌∙◌, arith, ⊎_elim, append-nil, append_assoc, length-append}
-use Rattle.std.specs.Prelude.{◌&&◌, ◌||◌, not, IsTrue, Option, is_none}
+use Rattle.std.proofs.Common.{◌≡◌, ℕ, suc, ◌+◌, ◌<◌, ◌≤◌, Bool, true, false, List, [], ◌∷◌, ◌++◌, length, take, refl, sym, ap, subst, ◌∙◌, arith, ⊎_elim, append-nil, append_assoc, length-append}
+use Rattle.std.specs.Prelude.{◌&&◌, ◌||◌, not, IsTrue, Option, Some, is_none}
 use Rattle.std.specs.List.{fold, list_any}
 use Rattle.std.proofs.lemmas.Bool.{and_parts, and_from, cases_lt}
 use Rattle.std.proofs.lemmas.List.{take_all, take-append-le}
@@ -17,9 +17,9 @@ use Rattle.forest_versions.specs.State.{ControlState, start, after, control, mas
 use Rattle.forest_versions.specs.Lawful.{is_lawful, are_lawful}
 use Rattle.forest_versions.specs.Sound.{IsSound}
 use Rattle.forest_versions.specs.Timeline.{Line, as_of, IsBefore}
-use Rattle.forest_versions.specs.Past.{PastLines, line_of, noted, AreBefore, IsPastOf}
+use Rattle.forest_versions.specs.Past.{PastLines, line_of, never, noted, AreBefore, IsPastOf}
 use Rattle.forest_versions.specs.Master.{Versions, Tells, StandsFor, IsMaster}
-use Rattle.forest_versions.proofs.Pasts.{as_of-unchanged, same-earlier, tells-later, before-noted}
+use Rattle.forest_versions.proofs.Pasts.{as_of-unchanged, TellTheSame, same-earlier, TellsOf, tells-later, before-noted}
 
 -- definitions only grow
 earlier-after : (s : ControlState) (c : Command) (earlier : List EventDef) → IsEarlier earlier s.defs → IsEarlier earlier (after s c).defs
