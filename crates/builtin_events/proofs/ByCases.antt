@@ -101,6 +101,7 @@ heard-more heard raises b event f =
     or_none : (x : Bool) → (x || false) ≡ x
     or_none true = refl
     or_none false = refl
+
     one : (b : Bool) → is_any_heard heard (raise_if b (rcv event f)) ≡ (b && get_or heard (event - 256) false)
     one true = or_none (get_or heard (event - 256) false)
     one false = refl

@@ -62,7 +62,7 @@ heard-placed : (defs : List EventDef) (hook : Hook) (event : ℕ) (list : List R
 heard-placed defs hook event [] = refl
 heard-placed defs hook event (r ∷ list) =
     let here : (tree.begins_with event (path defs r.event) && same_hook r.hook hook) ≡ (is_hook r.hook hook && begins_with event (path defs r.event)) =
-        ap (λ (b : Bool). b && same_hook r.hook hook) (begins-same event (path defs r.event)) ∙ turned r.hook hook (begins_with event (path defs r.event)) in
+    ap (λ (b : Bool). b && same_hook r.hook hook) (begins-same event (path defs r.event)) ∙ turned r.hook hook (begins_with event (path defs r.event)) in
     ap (λ (b : Bool). b || heard_placed hook event (placed defs list)) here ∙
     ap (λ (b : Bool). (is_hook r.hook hook && begins_with event (path defs r.event)) || b) (heard-placed defs hook event list)
 
