@@ -1,4 +1,5 @@
 pub mod Facts
+pub mod Heard
 pub mod Laws
 pub mod Raised
 pub mod Raises

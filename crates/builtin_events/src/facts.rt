@@ -120,7 +120,7 @@ fn head_facts(h: &Head) -> Facts
 }
 
 // A count of payload bytes, of which a segment with RST has none that is read.
-fn read_bytes(h: &Head, count: u32) -> u64
+pub(crate) fn read_bytes(h: &Head, count: u32) -> u64
     ensures { result ≡ read_bytes h.now count }
 {
     if h.has_rst() { 0 } else { u64::from(count) }

@@ -3,11 +3,13 @@
 
 mod facts;
 mod laws;
+mod listening;
 mod phases;
 mod raise;
 mod raised;
 
 pub use laws::{receiver_raises_each_event_in_order, sender_raises_each_event_in_order};
+pub use listening::{is_heard_at_receiver, is_heard_at_sender};
 pub use phases::{
     orphan_raise, phase_r, phase_s, raised_at_receiver, raised_at_sender, raised_by_orphan,
     raised_by_silence,

@@ -3,6 +3,7 @@ pub mod InForce
 pub mod Course
 pub mod History
 pub mod Trees
+pub mod Unheard
 pub mod Numbers
 pub mod Reach
 pub mod Laws

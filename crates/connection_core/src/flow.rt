@@ -9,6 +9,7 @@ ghost use Rattle.connection_core.specs.InForce.{told, defs_at, IsInForce};
 ghost use Rattle.connection_core.specs.Reach.{Reaches};
 
 use crate::changes::change_all;
+use crate::hearing::{hears, hears_receiver, hears_sender};
 use crate::in_force::InForce;
 use crate::ledger::{Ledger, Notes};
 use crate::moment::{Arrived, Moment, Phase};
@@ -133,6 +134,7 @@ impl Flow {
             (active_in (told terms.now.in_force) (F.content forests.old self.old.forest))
             self.old.socket notes.old ledger.old (F.interns forests.old) (F.interns forests.new)
             (raise_done (A.meaning terms.now.app.now) s moment.now.number moment.now.from (raise_of moment.now))) }
+        ensures asked { OnOk result (ledger.new.changes.items ≡ []) }
         ensures rise { RiseBy 255 ledger.old.counts ledger.new.counts }
         ensures count { self.new.count ≡ self.old.count }
     {
@@ -143,7 +145,8 @@ impl Flow {
         Ok(())
     }
 
-    // Makes the raises of a phase, one after the other, each over the list that the one before it left.
+    // Makes the raises of a phase, one after the other, each over the list that the one before it left. Of those that
+    // nobody hears nothing is made: they call nothing, and no change is asked that isn't made yet.
     fn make<A: App, F: Forests>(
         &mut self,
         alloc: Global,
@@ -157,6 +160,7 @@ impl Flow {
         requires forest { IsForestIn (defs_at terms.now.in_force) (told terms.now.in_force) (F.content forests.old self.old.forest) }
         requires callbacks { ledger.old.counts.callbacks < 2 ^ 61 }
         requires weight { ledger.old.counts.weight < 2 ^ 61 }
+        requires quiet { ledger.old.changes.items ≡ [] }
         ensures answered { F.answered forests.new self.new.forest }
         ensures forest { IsForestIn (defs_at terms.now.in_force) (told terms.now.in_force) (F.content forests.new self.new.forest) }
         ensures kept { Keeps F.answered F.content forests.old forests.new }
@@ -167,10 +171,15 @@ impl Flow {
         ensures failed { OnErr result ((s : ControlState) → IsInForce terms.now.in_force s
             → CostsUnder terms.now.keep (active_in (told terms.now.in_force) (F.content forests.old self.old.forest)) self.old.socket notes.old ledger.old (F.interns forests.old) (F.interns forests.new)
             (made (A.meaning terms.now.app.now) s phase.now.number phase.now.from (raises_of phase.now.raised))) }
+        ensures asked { OnOk result (ledger.new.changes.items ≡ []) }
         ensures rise { RiseBy 1530 ledger.old.counts ledger.new.counts }
         ensures count { self.new.count ≡ self.old.count }
     {
         for event in phase.raised.events.as_slice() {
+            let tree = forests.tree_of(&self.forest);
+            if !hears(&terms.in_force, tree, phase.raised.hook, *event) {
+                continue;
+            }
             let moment = phase.moment(*event);
             self.raise(alloc, terms, forests, &moment, notes, ledger)?;
         }
@@ -205,18 +214,17 @@ impl Flow {
             → InternsWithin (F.interns forests.old) (F.interns forests.new) h.altered
             (sender_phase (A.meaning terms.now.app.now) s arrived.now.number arrived.now.from
             arrived.now.head.now arrived.now.scale h).altered) }
+        ensures asked { OnOk result (ledger.new.changes.items ≡ []) }
         ensures rise { RiseBy 1530 ledger.old.counts ledger.new.counts }
         ensures count { self.new.count ≡ self.old.count }
     {
         ledger.begin();
         let sent = self.socket.send(arrived.from, arrived.head, arrived.scale);
-        let raised = raised_at_sender(
-            arrived.head,
-            arrived.from,
-            self.count,
-            self.count == 0,
-            &sent,
-        );
+        let first = self.count == 0;
+        if !hears_sender(&terms.in_force, forests.tree_of(&self.forest), first, &sent) {
+            return Ok(());
+        }
+        let raised = raised_at_sender(arrived.head, arrived.from, self.count, first, &sent);
         let phase = Phase {
             number: arrived.number,
             from: arrived.from,
@@ -240,6 +248,7 @@ impl Flow {
         requires forest { IsForestIn (defs_at terms.now.in_force) (told terms.now.in_force) (F.content forests.old self.old.forest) }
         requires callbacks { ledger.old.counts.callbacks < 2 ^ 61 }
         requires weight { ledger.old.counts.weight < 2 ^ 61 }
+        requires quiet { ledger.old.changes.items ≡ [] }
         ensures answered { F.answered forests.new self.new.forest }
         ensures forest { IsForestIn (defs_at terms.now.in_force) (told terms.now.in_force) (F.content forests.new self.new.forest) }
         ensures kept { Keeps F.answered F.content forests.old forests.new }
@@ -259,6 +268,10 @@ impl Flow {
             .socket
             .receive(arrived.from, arrived.head, arrived.payload)?;
         self.count += 1;
+        let tree = forests.tree_of(&self.forest);
+        if !hears_receiver(&terms.in_force, tree, arrived.head, &got) {
+            return Ok(());
+        }
         let phase = Phase {
             number: arrived.number,
             from: arrived.from,
@@ -282,6 +295,7 @@ impl Flow {
         requires forest { IsForestIn (defs_at terms.now.in_force) (told terms.now.in_force) (F.content forests.old self.old.forest) }
         requires callbacks { ledger.old.counts.callbacks < 2 ^ 61 }
         requires weight { ledger.old.counts.weight < 2 ^ 61 }
+        requires quiet { ledger.old.changes.items ≡ [] }
         ensures answered { F.answered forests.new self.new.forest }
         ensures forest { IsForestIn (defs_at terms.now.in_force) (told terms.now.in_force) (F.content forests.new self.new.forest) }
         ensures kept { Keeps F.answered F.content forests.old forests.new }

@@ -6,6 +6,7 @@
 mod calls;
 mod changes;
 mod flow;
+mod hearing;
 mod in_force;
 pub mod laws;
 mod ledger;

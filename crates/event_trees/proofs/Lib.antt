@@ -3,6 +3,7 @@ pub mod CanonFrom
 pub mod EditLaw
 pub mod Firing
 pub mod Growth
+pub mod Hears
 pub mod InOrder
 pub mod InsertLaid
 pub mod InsertLaw

@@ -1,6 +1,6 @@
 -- Which registrations of a private list a raise calls.
 use Rattle.std.specs.Prelude.{ℕ, Bool, true, false, ◌&&◌, ◌==◌, Option, Some, None, List, [], ◌∷◌}
-use Rattle.std.specs.List.{filter}
+use Rattle.std.specs.List.{filter, list_any}
 use Rattle.native_filters.specs.declared.facts.Facts.{Facts}
 use Rattle.native_filters.specs.declared.facts.Hook.{Hook}
 use Rattle.native_filters.specs.declared.facts.Hook.TheVariants.{Snd, Rcv}
@@ -36,3 +36,7 @@ is_called defs facts hook event r =
 -- the registrations that a raise calls, in the list's order
 abbrev pub fires : List EventDef → Facts → Hook → ℕ → List Reg → List Reg
 fires defs facts hook event list = filter (is_called defs facts hook event) list
+
+-- whether a registration of a list has the hook and stands under a root
+abbrev pub hears : List EventDef → Hook → ℕ → List Reg → Bool
+hears defs hook event list = list_any (λ r. is_hook r.hook hook && begins_with event (path defs r.event)) list

@@ -1,15 +1,16 @@
 //! What a caller may rest on: laws of private lists, their trees and definitions. These functions do nothing.
 
-ghost use Rattle.std.specs.Prelude.{◌≡◌, ◌≤◌, length, map, IsTrue, Bool, List, ℕ};
+ghost use Rattle.std.specs.Prelude.{◌≡◌, ◌≤◌, [], length, map, IsTrue, Bool, false, List, ℕ};
 ghost use Rattle.native_filters.specs.declared.facts.Facts.{Facts};
 ghost use Rattle.native_filters.specs.declared.facts.Hook.{Hook};
 ghost use Rattle.app_api.specs.declared.registration.Reg.{Reg};
 ghost use Rattle.shared_forest.specs.Listing.{listing};
+ghost use Rattle.shared_forest.specs.Heard.{is_heard};
 ghost use Rattle.event_trees.specs.declared.defs.EventDef.{EventDef};
 ghost use Rattle.event_trees.specs.Defs.{is_event, path, AreDefs};
 ghost use Rattle.event_trees.specs.Private.{IsPrivate, edited};
 ghost use Rattle.event_trees.specs.Canon.{slot_of, canon};
-ghost use Rattle.event_trees.specs.Fires.{fires};
+ghost use Rattle.event_trees.specs.Fires.{fires, hears};
 ghost use Rattle.event_trees.specs.Edit.{IsForestOf};
 ghost use Rattle.event_trees.specs.Later.{IsEarlier};
 
@@ -22,6 +23,17 @@ pub fn slots_in_order(tree: &Tree)
         → tree.now.slots ≡ map slot_of list }
     ensures few { (defs : List EventDef) (list : List Reg) → IsForestOf defs list (listing tree.now)
         → length tree.now.slots ≤ 255 }
+{
+    let _nodes = tree.nodes();
+}
+
+/// In the tree of a private list an event is heard exactly where a registration of the list has the hook and stands under
+/// that root. A raise that isn't heard calls nothing.
+pub fn heard_where_registered(tree: &Tree)
+    ensures heard { (defs : List EventDef) (list : List Reg) (hook : Hook) (event : ℕ) → IsForestOf defs list (listing tree.now)
+        → is_heard hook event (listing tree.now) ≡ hears defs hook event list }
+    ensures unheard { (defs : List EventDef) (list : List Reg) (hook : Hook) (event : ℕ) → IsForestOf defs list (listing tree.now)
+        → is_heard hook event (listing tree.now) ≡ false → (facts : Facts) → fires defs facts hook event list ≡ [] }
 {
     let _nodes = tree.nodes();
 }

@@ -1,2 +1,3 @@
 pub mod OneListing
 pub mod Rows
+pub mod Hearing

@@ -1,6 +1,7 @@
 pub mod Layout
 pub mod Lists
 pub mod Listing
+pub mod Heard
 pub mod Store
 pub mod Rows
 pub mod Key

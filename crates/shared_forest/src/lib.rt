@@ -3,6 +3,7 @@
 #![tactic(auto)]
 
 mod forest_store;
+mod heard;
 mod hints;
 mod key;
 mod node;

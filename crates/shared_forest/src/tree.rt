@@ -1,9 +1,11 @@
 //! A tree, as two flat lists.
 
-ghost use Rattle.std.specs.Prelude.{◌≡◌, ◌↔◌, IsTrue};
+ghost use Rattle.std.specs.Prelude.{◌≡◌, ◌≤◌, ◌↔◌, false, IsTrue};
 
+use crate::heard::{EVENTS, FIRST, heard_at};
 use crate::node::{are_same_nodes, are_same_slots};
 use crate::{Node, Slot};
+use native_filters::Hook;
 use std::marker::Model;
 
 /// An event tree: one list of nodes and one list of registrations. Contracts see the two lists.
@@ -15,6 +17,10 @@ use std::marker::Model;
 pub struct Tree {
     nodes: Vec<Node>,
     slots: Vec<Slot>,
+
+    // Which events are heard at each hook. Both follow from the lists, so that equal lists are equal trees.
+    at_sender: [bool; EVENTS],
+    at_receiver: [bool; EVENTS],
 }
 
 impl Model for Tree {
@@ -22,16 +28,22 @@ impl Model for Tree {
 
     ghost Value = { TreeLists };
 
+    ghost use Rattle.native_filters.specs.declared.facts.Hook.TheVariants.{Snd, Rcv};
     ghost use Rattle.shared_forest.specs.Layout.{IsTree};
+    ghost use Rattle.shared_forest.specs.Listing.{listing_of};
+    ghost use Rattle.shared_forest.specs.Heard.{AreHeard};
 
     ghost view = { λ t. record { nodes = t.nodes.items; slots = t.slots.items } };
 
-    ghost invariant = { λ t. IsTree t.nodes.items t.slots.items };
+    ghost invariant = { λ t. IsTree t.nodes.items t.slots.items
+        × AreHeard Snd t.at_sender (listing_of t.nodes.items t.slots.items)
+        × AreHeard Rcv t.at_receiver (listing_of t.nodes.items t.slots.items) };
 }
 
 impl Tree {
     ghost use Rattle.shared_forest.specs.Layout.{IsTree};
     ghost use Rattle.shared_forest.specs.Listing.{listing};
+    ghost use Rattle.shared_forest.specs.Heard.{is_heard, AreHeard};
 
     /// The tree of these two lists.
     pub fn new(nodes: Vec<Node>, slots: Vec<Slot>) -> Tree
@@ -39,7 +51,14 @@ impl Tree {
         ensures nodes { result.nodes ≡ nodes.items }
         ensures slots { result.slots ≡ slots.items }
     {
-        Tree { nodes, slots }
+        let at_sender = heard_at(&nodes, &slots, Hook::Snd);
+        let at_receiver = heard_at(&nodes, &slots, Hook::Rcv);
+        Tree {
+            nodes,
+            slots,
+            at_sender,
+            at_receiver,
+        }
     }
 
     /// The nodes, the top node first.
@@ -56,6 +75,29 @@ impl Tree {
         ensures tree { IsTree self.now.nodes self.now.slots }
     {
         &self.slots
+    }
+
+    /// Which of the events 256 to 264 are heard at a hook, in this order: those at the beginning of a path on which some
+    /// registration has the hook.
+    pub fn heard(&self, hook: Hook) -> &[bool; 9]
+        ensures { AreHeard hook result.now (listing self.now) }
+    {
+        match hook {
+            Hook::Snd => &self.at_sender,
+            Hook::Rcv => &self.at_receiver,
+        }
+    }
+
+    /// Whether an event is heard at a hook. Of an event that isn't one of these it always says so.
+    pub fn is_heard(&self, hook: Hook, event: u16) -> bool
+        ensures heard { 256 ≤ event → event ≤ 264 → result ≡ is_heard hook event (listing self.now) }
+        ensures unheard { result ≡ false → is_heard hook event (listing self.now) ≡ false }
+    {
+        if event < FIRST {
+            return true;
+        }
+        let place = (event - FIRST) as usize;
+        place >= EVENTS || self.heard(hook)[place]
     }
 
     /// Whether both are the same tree, list by list.

@@ -5,6 +5,9 @@ use Rattle.connection_core.specs.InForce.{told}
 use Rattle.connection_core.specs.Trees.{active_in}
 use Rattle.connection_core.specs.Course.{phase as phase_of}
 use Rattle.connection_core.specs.Standing.{Makes, CostsUnder, raise_of}
+use Rattle.shared_forest.specs.Lists.{TreeLists}
+use Rattle.connection_core.specs.Unheard.{CallsNothing}
+use Rattle.connection_core.proofs.Unheard.{made_silent}
 use Rattle.connection_core.proofs.Errors.{on_err_always}
 use Rattle.connection_core.proofs.Settling.{phase_begun, phase_on, phase_failed, raise_as}
 use Rattle.connection_core.proofs.flow.Flow.make.Goals as goal
@@ -18,6 +21,7 @@ loop-event-init g c = record {
       (active_in (told c.args.terms.now.in_force) (g.F.ForestView.content c.args.forests.now c.args.self.now.forest)) (g.F.ForestView.interns c.args.forests.now)
       c.args.phase.now.number c.args.phase.now.from c.args.self.now.socket c.args.notes.now c.args.ledger.now;
   rise = record { callbacks = omega arith; weight = omega arith };
+  asked = c.requires.quiet;
   count = refl;
 }
 
@@ -55,7 +59,40 @@ loop-event-preserved g c =
           (interns c.args.forests.now) (interns c.loop-event.forests) (interns c.raise.new.forests)
           (subst (λ (l : List ℕ). n < length l) items c.loop-event-test.true) (inv.made s force) one;
       rise = record { callbacks = omega (arith, inv.rise.callbacks, c.raise.ensures.rise.callbacks); weight = omega (arith, inv.rise.weight, c.raise.ensures.rise.weight) };
+      asked = c.in_ok-raise.ensures.asked;
       count = c.raise.ensures.count ∙ inv.count;
+    }
+
+-- nobody hears it
+pub loop-event-preserved-then-not-hears : goal.loop-event-preserved-then-not-hears
+loop-event-preserved-then-not-hears g c =
+    let inv = c.loop-event.invariant in record {
+      answered = inv.answered;
+      forest = inv.forest;
+      kept = inv.kept;
+      made = λ s force.
+          let app = g.A.App.meaning c.args.terms.now.app.now in
+          let keep = c.args.terms.now.keep in
+          let interns = g.F.ForestView.interns in
+          let in_tree = active_in (told c.args.terms.now.in_force) in
+          let phase = c.args.phase.now in
+          let at : ℕ → Raise = λ event. record { hook = phase.raised.hook; event = event; facts = phase.raised.facts } in
+          let n = c.loop-event.event-index in
+          let items = c.as_slice-event-items.ensures.items in
+          let list_now = in_tree (g.F.ForestView.content c.loop-event.forests c.loop-event.self.forest) in
+          let over_it = subst (λ (t : TreeLists). CallsNothing s (in_tree t) (at (get_or c.as_slice-event-items.result.now n 0))) c.tree_of-tree.ensures
+          (c.hears.ensures c.if-not-hears.true s phase.raised.facts force) in
+          let silent = subst (λ (l : List ℕ). CallsNothing s list_now (at (get_or l n 0))) items over_it in
+          phase_on app s keep phase.number phase.from at phase.raised.events n
+          (in_tree (g.F.ForestView.content c.args.forests.now c.args.self.now.forest)) list_now list_now
+          c.args.self.now.socket c.loop-event.self.socket c.loop-event.self.socket c.args.notes.now c.loop-event.notes c.loop-event.notes c.args.ledger.now c.loop-event.ledger c.loop-event.ledger
+          (interns c.args.forests.now) (interns c.loop-event.forests) (interns c.loop-event.forests)
+          (subst (λ (l : List ℕ). n < length l) items c.loop-event-test.true) (inv.made s force)
+          (made_silent app s keep list_now (interns c.loop-event.forests) phase.number phase.from (at (get_or phase.raised.events n 0))
+          c.loop-event.self.socket c.loop-event.notes c.loop-event.ledger silent inv.asked);
+      rise = record { callbacks = omega (arith, inv.rise.callbacks); weight = omega (arith, inv.rise.weight) };
+      asked = inv.asked;
+      count = inv.count;
     }
 
 pub returns-clause-made : goal.returns-clause-made

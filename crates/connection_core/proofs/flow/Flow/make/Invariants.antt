@@ -1,4 +1,4 @@
-use Rattle.std.proofs.Common.{◌≡◌, ◌*◌, take, map}
+use Rattle.std.proofs.Common.{◌≡◌, ◌*◌, [], take, map}
 use Rattle.shared_forest.specs.Store.{Keeps}
 use Rattle.forest_versions.specs.State.{ControlState}
 use Rattle.connection_core.specs.InForce.{told, defs_at, IsInForce}
@@ -21,5 +21,6 @@ invariant-loop-event g l =
           (phase (g.A.App.meaning l.terms.app.now) s l.phase.number l.phase.from
           (map (λ event. record { hook = l.phase.raised.hook; event = event; facts = l.phase.raised.facts }) (take l.event-index l.phase.raised.events)));
       rise : RiseBy (255 * l.event-index) l.fn.ledger.counts l.ledger.counts;
+      asked : l.ledger.changes.items ≡ [];
       count : l.self.count ≡ l.fn.self.count;
     }

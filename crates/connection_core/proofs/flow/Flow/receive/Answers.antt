@@ -5,6 +5,11 @@ use Rattle.connection_core.specs.Standing.{Reached}
 use Rattle.connection_core.specs.Trees.{active_in, InternsWithin}
 use Rattle.connection_core.proofs.Errors.{on_err_always}
 use Rattle.connection_core.proofs.Phases.{receiver_makes, receiver_costs_none}
+use Rattle.connection_core.proofs.Unheard.{phase_silent}
+use Rattle.connection_core.specs.Unheard.{CallNothing}
+use Rattle.builtin_events.specs.Raises.{receiver_raises}
+use Rattle.shared_forest.specs.Lists.{TreeLists}
+use Rattle.std.proofs.Common.{refl, subst}
 use Rattle.connection_core.proofs.flow.Flow.receive.Goals as goal
 
 pub returns-clause-stands : goal.returns-clause-stands
@@ -38,3 +43,21 @@ returns-in_err-got-clause-failed g c = on_err_always c.from_residual.result (λ 
     receiver_costs_none (g.A.App.meaning c.args.terms.now.app.now) s c.args.terms.now.keep (active_in (told c.args.terms.now.in_force) (g.F.ForestView.content c.args.forests.now c.args.self.now.forest))
     (g.F.ForestView.interns c.args.forests.now) c.args.arrived.now.number c.args.arrived.now.from c.args.arrived.now.head.now c.args.arrived.now.payload.now c.args.self.now.count
     c.args.self.now.socket c.args.notes.now c.args.ledger.now)
+
+-- nobody hears anything of it
+pub returns-then-not-hears_receiver-clause-stands : goal.returns-then-not-hears_receiver-clause-stands
+returns-then-not-hears_receiver-clause-stands g c = λ s others course force u.
+    let app = g.A.App.meaning c.args.terms.now.app.now in
+    let at = told c.args.terms.now.in_force in
+    let keep = c.args.terms.now.keep in
+    let tree = g.F.ForestView.content c.args.forests.now c.args.self.now.forest in
+    let interns = g.F.ForestView.interns c.args.forests.now in
+    let arrived = c.args.arrived.now in
+    let raises = receiver_raises arrived.head.now arrived.from c.args.self.now.count c.in_ok-got.got in
+    let silent = subst (λ (t : TreeLists). CallNothing s (active_in at t) raises) c.tree_of-tree.ensures
+    (c.hears_receiver.ensures c.if-not-hears_receiver.true s arrived.from c.args.self.now.count force) in
+    receiver_makes app s keep others (active_in at tree) arrived.number arrived.from arrived.head.now arrived.payload.now c.args.self.now.count
+    c.in_ok-got.got raises c.args.self.now.socket c.receive.new.self c.args.notes.now c.args.ledger.now course
+    (λ before after. Reached keep others (active_in at tree) c.receive.new.self c.args.notes.now c.args.ledger.now interns interns before.altered after)
+    u c.in_ok-got.ensures.stands c.in_ok-got.ensures.answer refl
+    (phase_silent app s keep others (active_in at tree) interns arrived.number arrived.from raises c.receive.new.self c.args.notes.now c.args.ledger.now silent c.requires.quiet)

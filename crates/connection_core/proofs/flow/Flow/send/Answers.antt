@@ -4,6 +4,11 @@ use Rattle.connection_core.specs.InForce.{told}
 use Rattle.connection_core.specs.Standing.{Reached}
 use Rattle.connection_core.specs.Trees.{active_in, InternsWithin}
 use Rattle.connection_core.proofs.Phases.{sender_makes}
+use Rattle.connection_core.proofs.Unheard.{phase_silent}
+use Rattle.connection_core.specs.Unheard.{CallNothing}
+use Rattle.builtin_events.specs.Raises.{sender_raises}
+use Rattle.shared_forest.specs.Lists.{TreeLists}
+use Rattle.std.proofs.Common.{eqb, refl, subst}
 use Rattle.connection_core.proofs.flow.Flow.send.Goals as goal
 
 pub returns-clause-stands : goal.returns-clause-stands
@@ -30,3 +35,21 @@ returns-clause-failed g c =
     (λ before after. InternsWithin (g.F.ForestView.interns c.args.forests.now) (g.F.ForestView.interns c.make.new.forests) before.altered after.altered)
     is c.send-sent.ensures.stands c.send-sent.ensures.answer c.raised_at_sender-raised.ensures.raises c.begin.ensures.changes c.begin.ensures.drop c.begin.ensures.counts ((costs s force).interned others))
     c.make.ensures.failed
+
+-- nobody hears anything of it
+pub returns-then-not-hears_sender-clause-stands : goal.returns-then-not-hears_sender-clause-stands
+returns-then-not-hears_sender-clause-stands g c = λ s others h force is.
+    let app = g.A.App.meaning c.args.terms.now.app.now in
+    let at = told c.args.terms.now.in_force in
+    let keep = c.args.terms.now.keep in
+    let tree = g.F.ForestView.content c.args.forests.now c.args.self.now.forest in
+    let interns = g.F.ForestView.interns c.args.forests.now in
+    let arrived = c.args.arrived.now in
+    let raises = sender_raises arrived.head.now arrived.from c.args.self.now.count (eqb c.args.self.now.count 0) c.send-sent.result in
+    let silent = subst (λ (t : TreeLists). CallNothing s (active_in at t) raises) c.tree_of.ensures
+    (c.hears_sender.ensures c.if-not-hears_sender.true s arrived.head.now arrived.from c.args.self.now.count force) in
+    sender_makes app s keep others at tree arrived.number arrived.from arrived.head.now arrived.scale
+    c.send-sent.result raises c.args.self.now c.send-sent.new.self c.args.notes.now c.args.ledger.now c.begin.new.self h
+    (λ before after. Reached keep others (active_in at tree) c.send-sent.new.self c.args.notes.now c.begin.new.self interns interns before.altered after)
+    is c.send-sent.ensures.stands c.send-sent.ensures.answer refl c.begin.ensures.changes c.begin.ensures.drop c.begin.ensures.counts
+    (phase_silent app s keep others (active_in at tree) interns arrived.number arrived.from raises c.send-sent.new.self c.args.notes.now c.begin.new.self silent c.begin.ensures.changes)

@@ -1,0 +1,65 @@
+//! Raises that nobody hears: they call nothing, so no walk begins for them, and for a phase of such raises there are no
+//! facts.
+
+ghost use Rattle.std.specs.Prelude.{◌≡◌, [], false, ℕ};
+ghost use Rattle.native_filters.specs.declared.facts.Facts.{Facts};
+ghost use Rattle.native_filters.specs.declared.facts.Hook.{Hook as HookOf};
+ghost use Rattle.packet_views.specs.declared.packet.Head.{Head as HeadOf};
+ghost use Rattle.tcp_emulation.specs.declared.segment.Side.{Side};
+ghost use Rattle.builtin_events.specs.Raises.{sender_raises, receiver_raises};
+ghost use Rattle.shared_forest.specs.Listing.{listing};
+ghost use Rattle.shared_forest.specs.Heard.{is_heard};
+ghost use Rattle.event_trees.specs.Fires.{fires};
+ghost use Rattle.forest_versions.specs.State.{ControlState};
+ghost use Rattle.connection_core.specs.InForce.{told, defs_at, IsInForce};
+ghost use Rattle.connection_core.specs.Trees.{active_in, IsForestIn};
+ghost use Rattle.connection_core.specs.Unheard.{CallsNothing, CallNothing};
+
+use crate::in_force::InForce;
+use builtin_events::{is_heard_at_receiver, is_heard_at_sender};
+use event_trees::{heard_where_registered, later_events_change_nothing};
+use flow_socket::{Got, Sent};
+use native_filters::Hook;
+use packet_views::Head;
+use shared_forest::Tree;
+
+// What isn't heard over the tree of a private list calls nothing. It does nothing.
+fn unheard_calls_nothing(in_force: &InForce, tree: &Tree)
+    requires forest { IsForestIn (defs_at in_force.now) (told in_force.now) tree.now }
+    ensures { (s : ControlState) (hook : HookOf) (event : ℕ) → IsInForce in_force.now s
+        → is_heard hook event (listing tree.now) ≡ false
+        → (facts : Facts) → fires s.defs facts hook event (active_in (told in_force.now) tree.now) ≡ [] }
+{
+    heard_where_registered(tree);
+    later_events_change_nothing(in_force.defs());
+}
+
+/// Whether the raise of an event is heard.
+pub(crate) fn hears(in_force: &InForce, tree: &Tree, hook: Hook, event: u16) -> bool
+    requires forest { IsForestIn (defs_at in_force.now) (told in_force.now) tree.now }
+    ensures { result ≡ false → (s : ControlState) (facts : Facts) → IsInForce in_force.now s
+        → CallsNothing s (active_in (told in_force.now) tree.now) (record { hook = hook; event = event; facts = facts }) }
+{
+    unheard_calls_nothing(in_force, tree);
+    tree.is_heard(hook, event)
+}
+
+/// Whether any raise of a packet's phase at its sender is heard.
+pub(crate) fn hears_sender(in_force: &InForce, tree: &Tree, first: bool, sent: &Sent) -> bool
+    requires forest { IsForestIn (defs_at in_force.now) (told in_force.now) tree.now }
+    ensures { result ≡ false → (s : ControlState) (h : HeadOf) (from : Side) (nth : ℕ) → IsInForce in_force.now s
+        → CallNothing s (active_in (told in_force.now) tree.now) (sender_raises h from nth first sent.now) }
+{
+    unheard_calls_nothing(in_force, tree);
+    is_heard_at_sender(tree.heard(Hook::Snd), first, sent)
+}
+
+/// Whether any raise of its phase at its receiver is heard.
+pub(crate) fn hears_receiver(in_force: &InForce, tree: &Tree, head: &Head, got: &Got) -> bool
+    requires forest { IsForestIn (defs_at in_force.now) (told in_force.now) tree.now }
+    ensures { result ≡ false → (s : ControlState) (from : Side) (nth : ℕ) → IsInForce in_force.now s
+        → CallNothing s (active_in (told in_force.now) tree.now) (receiver_raises head.now from nth got.now) }
+{
+    unheard_calls_nothing(in_force, tree);
+    is_heard_at_receiver(tree.heard(Hook::Rcv), head, got)
+}
