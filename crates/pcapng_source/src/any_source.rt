@@ -1,11 +1,12 @@
 //! The source over a file of either form.
 
-ghost use Rattle.std.specs.Prelude.{◌≡◌, ◌+◌, ◌<◌, ◌≤◌, ℕ, List, [], length, option_map, IfOk, IfSome};
+ghost use Rattle.std.specs.Prelude.{◌≡◌, ◌+◌, ◌<◌, ◌≤◌, ℕ, List, [], length, option_map, IfOk};
+ghost use Rattle.std.proofs.Props.{props};
 ghost use Rattle.std.specs.Io.{ReadsAtMost};
 ghost use Rattle.std.specs.Io.KnownBytes.{ReadConsumes};
 ghost use Rattle.mos_bytes.specs.Causes.{HasCause};
 ghost use Rattle.mos_bytes.specs.Reads.{BeginsWith, HasAtLeast};
-ghost use Rattle.pcapng_source.specs.Reading.{IsFitting};
+ghost use Rattle.pcapng_source.specs.Reading.{IsFitting, IsSpent};
 ghost use Rattle.pcapng_source.specs.Outlooks.{IsLinked, IsLinked-prop};
 
 use crate::NgFault;
@@ -25,13 +26,15 @@ pub struct AnySource<'a, S: Source> {
     // The source as it was handed in.
     start: Snapshot<S>,
     ghost fits: { IsFitting reader },
+    ghost spent: { IsSpent reader } by { Prim.hlevel props },
+    ghost counts: { S.faults start.value ≤ S.faults source.now },
     ghost linked: { IsLinked (S.left start.value) (S.left source.now) reader } by { IsLinked-prop
         (S.left start.value) (S.left source.now) reader },
 }
 
 impl<'a, S: Source> AnySource<'a, S> {
     ghost use Rattle.pcapng_source.specs.Blocks.{any};
-    ghost use Rattle.pcapng_source.specs.Sources.{IsRefusal, any_faults, any_left, any_start, met_fault};
+    ghost use Rattle.pcapng_source.specs.Sources.{Stands, any_faults, any_left, any_start, met_fault};
 
     /// A source over this one, from whose start the file is read. It takes no memory.
     pub fn new(source: &'a mut S) -> AnySource<'a, S>
@@ -52,7 +55,7 @@ impl<'a, S: Source> AnySource<'a, S> {
     /// Why the file is refused, where a read has met that: it is the refusal of the whole file.
     pub fn fault(&self) -> Option<NgFault>
         ensures met { result ≡ met_fault self.now }
-        ensures refusal { IfSome result (λ fault. IsRefusal (S.left (any_start self.now)) fault) }
+        ensures stands { Stands self.now }
     {
         self.reader.fault()
     }
