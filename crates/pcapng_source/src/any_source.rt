@@ -19,7 +19,6 @@ use std::snapshot::Snapshot;
 ///
 /// A block that is refused ends what it gives: a read that asks for more answers `Failed`, each time again, and `fault`
 /// tells why. Its count of faults is that of the source below, and one for each read that met the refusal.
-#[derive(Drop)]
 pub struct AnySource<'a, S: Source> {
     source: &'a mut S,
     reader: Reader,
@@ -32,15 +31,31 @@ pub struct AnySource<'a, S: Source> {
         (S.left start.value) (S.left source.now) reader },
 }
 
+impl<'a, S: Source> Drop for AnySource<'a, S> {
+    ghost use Rattle.pcapng_source.specs.Sources.{any_source};
+
+    // The source below stays as it is.
+    fn drop(self)
+        ensures below { self.exit.0.now ≡ any_source self.entry }
+    {
+        let AnySource {
+            source: _,
+            reader: _,
+            start: _,
+        } = self;
+    }
+}
+
 impl<'a, S: Source> AnySource<'a, S> {
     ghost use Rattle.pcapng_source.specs.Blocks.{any};
-    ghost use Rattle.pcapng_source.specs.Sources.{Stands, any_faults, any_left, any_start, met_fault};
+    ghost use Rattle.pcapng_source.specs.Sources.{Stands, any_faults, any_left, any_source, any_start, met_fault};
 
     /// A source over this one, from whose start the file is read. It takes no memory.
     pub fn new(source: &'a mut S) -> AnySource<'a, S>
         ensures left { any_left result ≡ option_map (λ file. (any file).bytes) (S.left source.old) }
         ensures faults { any_faults result ≡ S.faults source.old }
         ensures start { any_start result ≡ source.old }
+        ensures source { any_source result ≡ source.old }
         ensures fault { met_fault result ≡ None }
         ensures name { result.source.ghost_name ≡ source.entry.ghost_name }
     {
