@@ -1,5 +1,5 @@
 -- A run whose output is gathered: from the sink that gathers to the one below it.
-use Rattle.std.proofs.Common.{◌≡◌, ◌≢◌, ℕ, ◌≤◌, Bool, true, false, Option, List, [], ◌∷◌, ◌++◌, length, map, take, Result, Ok, Err, refl, sym, subst, arith, inl, inr}
+use Rattle.std.proofs.Common.{◌≡◌, ◌≢◌, ℕ, ◌≤◌, Bool, true, false, Option, None, Some, List, [], ◌∷◌, ◌++◌, length, map, take, Result, Ok, Err, refl, sym, subst, arith, inl, inr}
 use Rattle.std.specs.Prelude.{◌⊎◌, if◌then◌else◌}
 use Rattle.std.specs.Io.KnownBytes.{Appends, Keeps}
 use Rattle.std.proofs.KnownBytes.{Appends-kept}
@@ -11,6 +11,7 @@ use Rattle.app_api.specs.App.{Meaning}
 use Rattle.pcap_source.specs.Captured.{Captured}
 use Rattle.pcap_source.specs.Capture.{Frames, Ending, tail, too_long, too_many, capture_of}
 use Rattle.pcap_source.specs.declared.errors.OpenError.{OpenError}
+use Rattle.pcapng_source.specs.declared.fault.NgFault.{NgFault}
 use Rattle.control_script.specs.declared.stamped.Stamped.{Stamped}
 use Rattle.lane_core.specs.Records.{VersionedPacket}
 use Rattle.lane_core.specs.Shown.{record_of}
@@ -22,7 +23,7 @@ use Rattle.mos_run.specs.declared.refusal.RunError.TheVariants as Run
 use Rattle.mos_run.specs.Apps.{meaning_of}
 use Rattle.mos_run.specs.Records.{packets_with, records_of}
 use Rattle.mos_run.specs.Forward.{forwarded}
-use Rattle.mos_run.specs.Outcome.{is_heavy, refused, outcome, outcome_by, followed, weighed, ended, output_of}
+use Rattle.mos_run.specs.Outcome.{is_heavy, refused, outcome_by, followed, weighed, ended, output_of, outcome}
 use Rattle.mos_run.specs.Told.{Told, Refused, Asked, outcome_under}
 use Rattle.mos_run.specs.Run.{FinishesUnder, StopsAs, UnderSome}
 use Rattle.mos_run.proofs.Closing.{some-closing}
@@ -50,26 +51,28 @@ module _ (app : Meaning) (script : List Stamped) (given : List Captured → List
       subst (λ b. (if b then refused Run.Heavy else ended app script given output header frames n).text ≢ []) (sym is)
       (some-ended app script given output header frames n some)
 
-  some_followed : (header : List ℕ) (frames : List Captured) (ending : Ending) → header ≢ [] → (followed app script given output header frames ending).ends ≡ Ok versions
-      → (followed app script given output header frames ending).text ≢ []
-  some_followed header frames (tail n) some ends = some_weighed header frames n (is_heavy app script given output frames) some refl ends
-  some_followed header frames (too_long offset) some ends = absurd (cc)
-  some_followed header frames (too_many offset) some ends = absurd (cc)
+  some_followed : (header : List ℕ) (frames : List Captured) (ending : Ending) (behind : Option NgFault) → header ≢ [] → (followed app script given output header frames ending behind).ends ≡ Ok versions
+      → (followed app script given output header frames ending behind).text ≢ []
+  some_followed header frames (tail n) None some ends = some_weighed header frames n (is_heavy app script given output frames) some refl ends
+  some_followed header frames (tail n) (Some fault) some ends = absurd (cc)
+  some_followed header frames (too_long offset) behind some ends = absurd (cc)
+  some_followed header frames (too_many offset) behind some ends = absurd (cc)
 
-  some_by : (header : List ℕ) (read : Result Frames OpenError) → header ≢ [] → (outcome_by app script given output header read).ends ≡ Ok versions → (outcome_by app script given output header read).text ≢ []
-  some_by header (Ok f) some ends = some_followed header f.frames f.ending some ends
-  some_by header (Err e) some ends = absurd (cc)
+  some_by : (header : List ℕ) (read : Result Frames OpenError) (behind : Option NgFault) → header ≢ [] → (outcome_by app script given output header read behind).ends ≡ Ok versions → (outcome_by app script given output header read behind).text ≢ []
+  some_by header (Ok f) behind some ends = some_followed header f.frames f.ending behind some ends
+  some_by header (Err e) behind some ends = absurd (cc)
 
-  some_text : (bytes : List ℕ) → (outcome app script given output bytes).ends ≡ Ok versions → (outcome app script given output bytes).text ≢ []
+  some_text : (bytes : List ℕ) (behind : Option NgFault) → (outcome app script given output (record { bytes = bytes; refusal = behind })).ends ≡ Ok versions
+      → (outcome app script given output (record { bytes = bytes; refusal = behind })).text ≢ []
   unfolding outcome
-  some_text [] ends = absurd (cc)
-  some_text (b ∷ bytes) ends = some_by (take 24 (b ∷ bytes)) (capture_of (b ∷ bytes)) (λ none. cc) ends
+  some_text [] behind ends = absurd (cc)
+  some_text (b ∷ bytes) behind ends = some_by (take 24 (b ∷ bytes)) (capture_of (b ∷ bytes)) behind (λ none. cc) ends
 
 -- what ends well isn't empty
 pub writes_some : (t : Told) (vs versions : List ℕ) → (outcome_under vs t).ends ≡ Ok versions → (outcome_under vs t).text ≢ []
 writes_some (Refused e) vs versions ends = absurd (cc)
-writes_some (Asked s commands bytes) vs versions ends =
-    some_text (meaning_of s.app) commands (packets_with (meaning_of s.app) commands vs) (output_of s) versions bytes ends
+writes_some (Asked s commands file) vs versions ends =
+    some_text (meaning_of s.app) commands (packets_with (meaning_of s.app) commands vs) (output_of s) versions file.bytes file.refusal ends
 
 -- so it may end by a fault of writing
 pub may_fail : (t : Told) (e : RunError) (versions : List ℕ) (old new : Option (List ℕ)) → FinishesUnder t versions old new

@@ -1,5 +1,5 @@
 -- A forward run on several lanes: the header, and then what the lanes let pass, is what is written, or a front of it.
-use Rattle.std.proofs.Common.{◌≡◌, ◌≢◌, ℕ, true, Option, List, [], ◌∷◌, ◌++◌, length, take, Ok, Err, refl, sym, ap, subst, ◌∙◌, arith, append-nil, inl, inr}
+use Rattle.std.proofs.Common.{◌≡◌, ◌≢◌, ℕ, true, Option, None, List, [], ◌∷◌, ◌++◌, length, take, Ok, Err, refl, sym, ap, subst, ◌∙◌, arith, append-nil, inl, inr}
 use Rattle.std.specs.Io.KnownBytes.{Appends}
 use Rattle.std.proofs.KnownBytes.{Appends-nil, Appends-trans}
 use Rattle.mos_bytes.specs.Writes.{AppendsFront}
@@ -20,7 +20,7 @@ use Rattle.mos_run.specs.declared.output.Output.TheVariants.{Report, Forward, Su
 use Rattle.mos_run.specs.declared.refusal.RunError.TheVariants as Run
 use Rattle.mos_run.specs.Records.{packets_with}
 use Rattle.mos_run.specs.Forward.{forwarded}
-use Rattle.mos_run.specs.Outcome.{is_forward, followed, outcome, outcome_by}
+use Rattle.mos_run.specs.Outcome.{is_forward, followed, outcome_by, outcome, outcome_over}
 use Rattle.mos_run.specs.Refusal.{pool_refusal}
 use Rattle.mos_run.specs.Told.{frames_in}
 use Rattle.mos_run.specs.Run.{Finishes, StopsAs}
@@ -43,22 +43,22 @@ module _ (app : Meaning) (script : List Stamped) (lanes : ℕ) (bytes header : L
   abbrev given : List ℕ → List Captured → List VersionedPacket
   given vs = packets_with app script vs
 
-  outcome-at : (vs : List ℕ) → outcome app script (given vs) Forward bytes ≡ followed app script (given vs) Forward header f.frames f.ending
+  outcome-at : (vs : List ℕ) → outcome_over app script (given vs) Forward bytes ≡ followed app script (given vs) Forward header f.frames f.ending None
   unfolding outcome
-  outcome-at vs = ap (λ h. outcome_by app script (given vs) Forward h (capture_of bytes)) (sym header-is) ∙ ap (outcome_by app script (given vs) Forward header) opened
+  outcome-at vs = ap (λ h. outcome_by app script (given vs) Forward h (capture_of bytes) None) (sym header-is) ∙ ap (λ read. outcome_by app script (given vs) Forward header read None) opened
 
-  text-by : (vs : List ℕ) (ending : Ending) → (followed app script (given vs) Forward header f.frames ending).text ≡ header ++ forwarded app script (given vs) f.frames
+  text-by : (vs : List ℕ) (ending : Ending) → (followed app script (given vs) Forward header f.frames ending None).text ≡ header ++ forwarded app script (given vs) f.frames
   text-by vs (tail n) = append-nil _
   text-by vs (too_long offset) = refl
   text-by vs (too_many offset) = refl
 
-  text-is : (vs : List ℕ) → (outcome app script (given vs) Forward bytes).text ≡ header ++ forwarded app script (given vs) f.frames
+  text-is : (vs : List ℕ) → (outcome_over app script (given vs) Forward bytes).text ≡ header ++ forwarded app script (given vs) f.frames
   text-is vs = ap (λ o. o.text) (outcome-at vs) ∙ text-by vs f.ending
 
   may-have : (vs : List ℕ) → MayHave app script lanes f.frames vs → MayHave app script lanes (frames_in (capture_of bytes)) vs
   may-have vs may = subst (λ fs. MayHave app script lanes fs vs) (sym (ap frames_in opened)) may
 
-  write-fault : (vs : List ℕ) → StopsAs (outcome app script (given vs) Forward bytes) Run.WriteFault
+  write-fault : (vs : List ℕ) → StopsAs (outcome_over app script (given vs) Forward bytes) Run.WriteFault
   write-fault vs = inr (inr (inr (refl, λ none. not-empty header (forwarded app script (given vs) f.frames) len (sym (text-is vs) ∙ none))))
 
   -- the header can't be written
@@ -70,9 +70,9 @@ module _ (app : Meaning) (script : List Stamped) (lanes : ℕ) (bytes header : L
     front = subst (AppendsFront old new) (sym (text-is (ceilings_of app script bytes))) (AppendsFront-more old new header _ part);
   }
 
-  stops-by : (vs : List ℕ) (e : PoolError) → RefusedAs f e → StopsAs (outcome app script (given vs) Forward bytes) (pool_refusal e)
-  stops-by vs (Pool.TooLong offset) is = inl (ap (λ o. o.ends) (outcome-at vs ∙ ap (followed app script (given vs) Forward header f.frames) is))
-  stops-by vs (Pool.TooMany offset) is = inl (ap (λ o. o.ends) (outcome-at vs ∙ ap (followed app script (given vs) Forward header f.frames) is))
+  stops-by : (vs : List ℕ) (e : PoolError) → RefusedAs f e → StopsAs (outcome_over app script (given vs) Forward bytes) (pool_refusal e)
+  stops-by vs (Pool.TooLong offset) is = inl (ap (λ o. o.ends) (outcome-at vs ∙ ap (λ ending. followed app script (given vs) Forward header f.frames ending None) is))
+  stops-by vs (Pool.TooMany offset) is = inl (ap (λ o. o.ends) (outcome-at vs ∙ ap (λ ending. followed app script (given vs) Forward header f.frames ending None) is))
   stops-by vs Pool.ReadFault is = inr (inl refl)
   stops-by vs Pool.WriteFault is = write-fault vs
   stops-by vs Pool.Heavy is = absurd is
@@ -95,7 +95,7 @@ module _ (app : Meaning) (script : List Stamped) (lanes : ℕ) (bytes header : L
       let all = ends.2 in
       record {
         may_have = may-have versions all.may_have;
-        finishes = subst (λ o. Finishes o versions old new) (sym (outcome-at versions ∙ ap (followed app script (given versions) Forward header f.frames) ends.1))
+        finishes = subst (λ o. Finishes o versions old new) (sym (outcome-at versions ∙ ap (λ ending. followed app script (given versions) Forward header f.frames ending None) ends.1))
             (ends_well app script (given versions) Forward f.frames header ends.0 versions old new new refl (sym (has app (commands_of script) _ _ _ (arrivals 0 f.frames) versions all.may_have))
             (Appends-trans old mid new header _ written all.written) (Appends-nil new));
       }

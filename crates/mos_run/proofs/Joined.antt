@@ -1,5 +1,5 @@
 -- The end of a run on several lanes: what they end with is what is written, or why it isn't.
-use Rattle.std.proofs.Common.{◌≡◌, ℕ, Bool, true, false, Option, List, [], ◌++◌, length, map, take, Ok, Err, refl, sym, ap, subst, ◌∙◌, arith, inl, inr}
+use Rattle.std.proofs.Common.{◌≡◌, ℕ, Bool, true, false, Option, None, List, [], ◌++◌, length, map, take, Ok, Err, refl, sym, ap, subst, ◌∙◌, arith, inl, inr}
 use Rattle.std.specs.Prelude.{◌⊎◌, ◌&&◌, IsErrOf, not, nat_lt, if◌then◌else◌}
 use Rattle.std.specs.Io.KnownBytes.{Appends}
 use Rattle.std.proofs.KnownBytes.{Appends-nil}
@@ -29,7 +29,7 @@ use Rattle.mos_run.specs.declared.refusal.RunError.{RunError}
 use Rattle.mos_run.specs.declared.refusal.RunError.TheVariants as Run
 use Rattle.mos_run.specs.Records.{control_at, packets_with, records_of}
 use Rattle.mos_run.specs.Forward.{forwarded}
-use Rattle.mos_run.specs.Outcome.{is_forward, is_heavy, streamed, closing, ended, followed, weighed, refused, outcome, outcome_by}
+use Rattle.mos_run.specs.Outcome.{is_forward, is_heavy, streamed, closing, ended, followed, weighed, refused, outcome_by, outcome, outcome_over}
 use Rattle.mos_run.specs.Refusal.{pool_refusal}
 use Rattle.mos_run.specs.Told.{frames_in}
 use Rattle.mos_run.specs.Run.{Finishes, StopsAs, RunsAs}
@@ -61,7 +61,7 @@ whole_is_tidy law rises app script lanes rest frames end lawful commands whole =
 
 module _ (app : Meaning) (script : List Stamped) (lanes : ℕ) (output : Output) (bytes : List ℕ) where
   -- nothing could be said of the capture, or the run stopped before its end, whatever its versions
-  pub stopped_any : CeilingsMayBeHad → are_in_order script ≡ true → (old : Option (List ℕ)) (e : RunError) → ((vs : List ℕ) → StopsAs (outcome app script (packets_with app script vs) output bytes) e)
+  pub stopped_any : CeilingsMayBeHad → are_in_order script ≡ true → (old : Option (List ℕ)) (e : RunError) → ((vs : List ℕ) → StopsAs (outcome_over app script (packets_with app script vs) output bytes) e)
       → StopsWith app script lanes output bytes e old old
   stopped_any law ordered old e stops = record {
     versions = ceilings_of app script bytes;
@@ -73,9 +73,9 @@ module _ (app : Meaning) (script : List Stamped) (lanes : ℕ) (output : Output)
   -- the capture was opened
   module _ (f : Frames) (opened : capture_of bytes ≡ Ok f) (kept : is_forward output ≡ false) where
     outcome-at : (vs : List ℕ) (ending : Ending) → f.ending ≡ ending
-        → outcome app script (packets_with app script vs) output bytes ≡ followed app script (packets_with app script vs) output (take 24 bytes) f.frames ending
+        → outcome_over app script (packets_with app script vs) output bytes ≡ followed app script (packets_with app script vs) output (take 24 bytes) f.frames ending None
     unfolding outcome
-    outcome-at vs ending is = ap (outcome_by app script (packets_with app script vs) output (take 24 bytes)) opened ∙ ap (followed app script (packets_with app script vs) output (take 24 bytes) f.frames) is
+    outcome-at vs ending is = ap (λ read. outcome_by app script (packets_with app script vs) output (take 24 bytes) read None) opened ∙ ap (λ ending. followed app script (packets_with app script vs) output (take 24 bytes) f.frames ending None) is
 
     may-have : (vs : List ℕ) → MayHave app script lanes f.frames vs → MayHave app script lanes (frames_in (capture_of bytes)) vs
     may-have vs may = subst (λ fs. MayHave app script lanes fs vs) (sym (ap frames_in opened)) may

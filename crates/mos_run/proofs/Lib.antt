@@ -1,3 +1,5 @@
+pub mod Files
+pub mod Ends
 pub mod Events
 pub mod Following
 pub mod Closing

@@ -7,6 +7,7 @@ use Rattle.app_api.specs.App.{Meaning}
 use Rattle.pcap_source.specs.Captured.{Captured}
 use Rattle.pcap_source.specs.Capture.{Frames, Ending, tail, too_long, too_many, capture_of}
 use Rattle.pcap_source.specs.declared.errors.OpenError.{OpenError}
+use Rattle.pcapng_source.specs.Given.{Given, whole}
 use Rattle.control_script.specs.declared.stamped.Stamped.{Stamped}
 use Rattle.control_script.specs.Order.{are_in_order}
 use Rattle.words.specs.declared.settings.Settings.{Settings}
@@ -19,8 +20,8 @@ use Rattle.mos_run.specs.declared.refusal.RunError.{RunError}
 use Rattle.mos_run.specs.declared.refusal.RunError.TheVariants as Run
 use Rattle.mos_run.specs.Apps.{meaning_of}
 use Rattle.mos_run.specs.Records.{packets_of, records_of, versions_of}
-use Rattle.mos_run.specs.Outcome.{Outcome, refused, outcome, outcome_by, followed, ended, is_heavy, output_of}
-use Rattle.mos_run.specs.Told.{Told, Refused, Asked, Allows, AreAllowed, commands_in, text_under, bytes_under, asked, chosen, told, frames_in, outcome_under}
+use Rattle.mos_run.specs.Outcome.{Outcome, refused, outcome_by, followed, ended, is_heavy, output_of, outcome, outcome_over}
+use Rattle.mos_run.specs.Told.{Told, Refused, Asked, Allows, AreAllowed, commands_in, text_under, given_under, asked, chosen, told, frames_in, outcome_under}
 use Rattle.mos_run.specs.Refusal.{status_of, words_refusal}
 use Rattle.mos_run.specs.Run.{Finishes, FinishesUnder, StopsAs, RunsAs, RunsUnder, EndsAs, EndsWell, UnderSome}
 use Rattle.mos_run.specs.Lanes.{RunsWith}
@@ -50,18 +51,18 @@ under_text words content left t s accepted is =
 
 -- an accepted script has a capture that was told
 pub record IsOver (s : Settings) (left : Option (List ℕ)) (commands : List Stamped) (t : Told) : Type 0 where
-  pub bytes : List ℕ
-  pub told_so : bytes_under s.make left ≡ Some bytes
-  pub comes_to : Asked s commands bytes ≡ t
+  pub file : Given
+  pub told_so : given_under s.make left ≡ Some file
+  pub comes_to : Asked s commands file ≡ t
 
-over-by : (s : Settings) (left : Option (List ℕ)) (commands : List Stamped) (t : Told) (b : Option (List ℕ)) → bytes_under s.make left ≡ b
-    → option_map (Asked s commands) b ≡ Some t → IsOver s left commands t
+over-by : (s : Settings) (left : Option (List ℕ)) (commands : List Stamped) (t : Told) (g : Option Given) → given_under s.make left ≡ g
+    → option_map (Asked s commands) g ≡ Some t → IsOver s left commands t
 over-by s left commands t None is comes = absurd (cc)
-over-by s left commands t (Some bytes) is comes = record { bytes = bytes; told_so = is; comes_to = cc }
+over-by s left commands t (Some file) is comes = record { file = file; told_so = is; comes_to = cc }
 
-pub over_bytes : (s : Settings) (content : List ℕ → Option (List ℕ)) (left : Option (List ℕ)) (t : Told) (commands : List Stamped) → (u : IsUnderText s content left t) → commands_in s.app u.text ≡ Ok commands → IsOver s left commands t
-over_bytes s content left t commands u accepted =
-    over-by s left commands t (bytes_under s.make left) refl (sym (ap (asked s left) accepted) ∙ u.comes_to)
+pub over_file : (s : Settings) (content : List ℕ → Option (List ℕ)) (left : Option (List ℕ)) (t : Told) (commands : List Stamped) → (u : IsUnderText s content left t) → commands_in s.app u.text ≡ Ok commands → IsOver s left commands t
+over_file s content left t commands u accepted =
+    over-by s left commands t (given_under s.make left) refl (sym (ap (asked s left) accepted) ∙ u.comes_to)
 
 -- a refused script
 pub refused_text : (s : Settings) (content : List ℕ → Option (List ℕ)) (left : Option (List ℕ)) (t : Told) (e : RunError) → (u : IsUnderText s content left t) → commands_in s.app u.text ≡ Err e → Refused e ≡ t
@@ -80,10 +81,10 @@ some-under : CeilingsMayBeHad → (s : Settings) (content : List ℕ → Option 
     → commands_in s.app u.text ≡ commands → HasSome t
 some-under law s content left t (Err e) u is = subst HasSome (refused_text s content left t e u is) (record { versions = []; allowed = tt })
 some-under law s content left t (Ok commands) u is =
-    let over = over_bytes s content left t commands u is in
+    let over = over_file s content left t commands u is in
     subst HasSome over.comes_to (record {
-      versions = ceilings_of (meaning_of s.app) commands over.bytes;
-      allowed = ceilings_are_allowed law s commands over.bytes (commands_order s.app u.text commands is);
+      versions = ceilings_of (meaning_of s.app) commands over.file.bytes;
+      allowed = ceilings_are_allowed law s commands over.file.bytes (commands_order s.app u.text commands is);
     })
 
 some-by : CeilingsMayBeHad → (words : List (List ℕ)) (content : List ℕ → Option (List ℕ)) (left : Option (List ℕ)) (t : Told) (settings : Option Settings) → words_settings words ≡ settings → told words content left ≡ Some t → HasSome t
@@ -127,39 +128,39 @@ module _ (app : Meaning) (script : List Stamped) (given : List Captured → List
   weighed-versions header frames n true ends = absurd (cc)
   weighed-versions header frames n false ends = cc
 
-  followed-versions : (header : List ℕ) (frames : List Captured) (ending : Ending) → (followed app script given output header frames ending).ends ≡ Ok versions → versions ≡ versions_of (records_of app script given frames)
+  followed-versions : (header : List ℕ) (frames : List Captured) (ending : Ending) → (followed app script given output header frames ending None).ends ≡ Ok versions → versions ≡ versions_of (records_of app script given frames)
   followed-versions header frames (tail n) ends = weighed-versions header frames n (is_heavy app script given output frames) ends
   followed-versions header frames (too_long offset) ends = absurd (cc)
   followed-versions header frames (too_many offset) ends = absurd (cc)
 
-  versions-by : (header : List ℕ) (capture : Result Frames OpenError) → (outcome_by app script given output header capture).ends ≡ Ok versions → versions ≡ versions_of (records_of app script given (frames_in capture))
+  versions-by : (header : List ℕ) (capture : Result Frames OpenError) → (outcome_by app script given output header capture None).ends ≡ Ok versions → versions ≡ versions_of (records_of app script given (frames_in capture))
   versions-by header (Ok f) ends = followed-versions header f.frames f.ending ends
   versions-by header (Err e) ends = absurd (cc)
 
   -- what ends well answers the versions of its records
-  pub answers_its_own : (bytes : List ℕ) → (outcome app script given output bytes).ends ≡ Ok versions → versions ≡ versions_of (records_of app script given (frames_in (capture_of bytes)))
+  pub answers_its_own : (bytes : List ℕ) → (outcome_over app script given output bytes).ends ≡ Ok versions → versions ≡ versions_of (records_of app script given (frames_in (capture_of bytes)))
   unfolding outcome
   answers_its_own bytes ends = versions-by (take 24 bytes) (capture_of bytes) ends
 
 module _ (s : Settings) (commands : List Stamped) (bytes : List ℕ) (old new : Option (List ℕ)) where
   pub under_one : CeilingsMayBeHad → CeilingsAreOneWorkers → are_in_order commands ≡ true → (result : Result (List ℕ) RunError)
-      → RunsAs (outcome (meaning_of s.app) commands (packets_of commands) (output_of s) bytes) old new result → RunsUnder (Asked s commands bytes) old new result
+      → RunsAs (outcome_over (meaning_of s.app) commands (packets_of commands) (output_of s) bytes) old new result → RunsUnder (Asked s commands (whole bytes)) old new result
   under_one law same ordered (Ok versions) done =
       let vs = ceilings_of (meaning_of s.app) commands bytes in
       let is : versions ≡ vs = answers_its_own (meaning_of s.app) commands (packets_of commands) (output_of s) versions bytes done.answered in
-      let all : FinishesUnder (Asked s commands bytes) vs old new = record {
+      let all : FinishesUnder (Asked s commands (whole bytes)) vs old new = record {
         allowed = ceilings_are_allowed law s commands bytes ordered;
-        finishes = subst (λ o. Finishes o vs old new) (sym (same (meaning_of s.app) commands (output_of s) bytes))
-            (subst (λ l. Finishes (outcome (meaning_of s.app) commands (packets_of commands) (output_of s) bytes) l old new) is done);
+        finishes = subst (λ o. Finishes o vs old new) (sym (same (meaning_of s.app) commands (output_of s) (whole bytes)))
+            (subst (λ l. Finishes (outcome_over (meaning_of s.app) commands (packets_of commands) (output_of s) bytes) l old new) is done);
       } in
-      subst (λ l. FinishesUnder (Asked s commands bytes) l old new) (sym is) all
+      subst (λ l. FinishesUnder (Asked s commands (whole bytes)) l old new) (sym is) all
   under_one law same ordered (Err e) stops = record {
     versions = ceilings_of (meaning_of s.app) commands bytes;
     allowed = ceilings_are_allowed law s commands bytes ordered;
-    holds = subst (λ o. StopsAs o e × AppendsFront old new o.text) (sym (same (meaning_of s.app) commands (output_of s) bytes)) stops;
+    holds = subst (λ o. StopsAs o e × AppendsFront old new o.text) (sym (same (meaning_of s.app) commands (output_of s) (whole bytes))) stops;
   }
 
-  pub under_several : s.workers ≢ 1 → (result : Result (List ℕ) RunError) → RunsWith (meaning_of s.app) commands s.workers (output_of s) bytes old new result → RunsUnder (Asked s commands bytes) old new result
+  pub under_several : s.workers ≢ 1 → (result : Result (List ℕ) RunError) → RunsWith (meaning_of s.app) commands s.workers (output_of s) bytes old new result → RunsUnder (Asked s commands (whole bytes)) old new result
   under_several many (Ok versions) done = record {
     allowed = record { may_have = done.may_have; with_one = λ one. absurd (many one) };
     finishes = done.finishes;

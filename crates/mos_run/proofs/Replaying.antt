@@ -27,7 +27,7 @@ use Rattle.lane_rings.specs.Forwarded.{bytes_under as left_by}
 use Rattle.worker_pool.specs.Forward.{left_by_all}
 use Rattle.mos_run.specs.Forward.{forwarded}
 use Rattle.mos_run.specs.Refusal.{record_refusal, header_refusal}
-use Rattle.mos_run.specs.Outcome.{Outcome, is_forward, is_heavy, streamed, followed, weighed, refused, outcome, outcome_by}
+use Rattle.mos_run.specs.Outcome.{Outcome, is_forward, is_heavy, streamed, followed, weighed, refused, outcome_by, outcome, outcome_over}
 use Rattle.mos_run.specs.Outcome as Outcomes
 use Rattle.mos_run.specs.Reading.{Replaying, behind, gained, packet_of}
 use Rattle.mos_run.proofs.Reading.{heavy_is_kept}
@@ -61,14 +61,14 @@ header-refused : (bytes : List ℕ) (e : OpenError) → header_of bytes ≡ Err 
 header-refused bytes e is = ap (λ r. frames_by r bytes) is
 
 module _ (app : Meaning) (script : List Stamped) (given : List Captured → List VersionedPacket) (output : Output) where
-  header-stops : (b bytes : List ℕ) (e : OpenError) → header_of b ≡ Err e → Some b ≡ Some bytes → StopsAs (outcome app script given output bytes) (header_refusal e)
+  header-stops : (b bytes : List ℕ) (e : OpenError) → header_of b ≡ Err e → Some b ≡ Some bytes → StopsAs (outcome_over app script given output bytes) (header_refusal e)
   unfolding outcome
   header-stops b bytes e is told =
       let same : b ≡ bytes = cc in
-      inl (ap (λ r. (outcome_by app script given output (take 24 bytes) r).ends) (header-refused bytes e (ap header_of (sym same) ∙ is)))
+      inl (ap (λ r. (outcome_by app script given output (take 24 bytes) r None).ends) (header-refused bytes e (ap header_of (sym same) ∙ is)))
 
   -- a refused header
-  pub refused_header : (old new : Option (List ℕ)) (bytes : List ℕ) (e : OpenError) → OpenGives old new (Err e) → old ≡ Some bytes → StopsAs (outcome app script given output bytes) (header_refusal e)
+  pub refused_header : (old new : Option (List ℕ)) (bytes : List ℕ) (e : OpenError) → OpenGives old new (Err e) → old ≡ Some bytes → StopsAs (outcome_over app script given output bytes) (header_refusal e)
   refused_header None new bytes e gives told = absurd (cc)
   refused_header (Some b) None bytes e gives told = absurd gives
   refused_header (Some b) (Some after) bytes Open.ReadFault gives told = inr (inl refl)
@@ -79,10 +79,10 @@ module _ (app : Meaning) (script : List Stamped) (given : List Captured → List
 
   -- the outcome by the frames so far and what is left
   pub outcome_is : (bytes : List ℕ) (left : Option (List ℕ)) (capture : CaptureState) (frames : List Captured) → (r : Replaying bytes left capture frames)
-      → outcome app script given output bytes ≡ followed app script given output capture.header (frames ++ (frames_at capture r.rest).frames) (frames_at capture r.rest).ending
+      → outcome_over app script given output bytes ≡ followed app script given output capture.header (frames ++ (frames_at capture r.rest).frames) (frames_at capture r.rest).ending None
   unfolding outcome
   outcome_is bytes left capture frames r =
-      ap (λ h. outcome_by app script given output h (capture_of bytes)) (sym r.header) ∙ ap (outcome_by app script given output capture.header) r.holds
+      ap (λ h. outcome_by app script given output h (capture_of bytes) None) (sym r.header) ∙ ap (λ read. outcome_by app script given output capture.header read None) r.holds
 
 -- ---- the next record
 
@@ -181,30 +181,30 @@ module _ (app : Meaning) (script : List Stamped) where
     weighed-text frames n true heavy = ([], sym (append-nil _ ∙ heavy-text (is_forward output) refl frames heavy))
     weighed-text frames n false light = (_, refl)
 
-    text-of : (frames : List Captured) (ending : Ending) → (rest : List ℕ) × ((followed app script (packets_of script) output header frames ending).text ≡ streamed app script (packets_of script) output header frames ++ rest)
+    text-of : (frames : List Captured) (ending : Ending) → (rest : List ℕ) × ((followed app script (packets_of script) output header frames ending None).text ≡ streamed app script (packets_of script) output header frames ++ rest)
     text-of frames (tail n) = weighed-text frames n (is_heavy app script (packets_of script) output frames) refl
     text-of frames (too_long offset) = ([], sym (append-nil _))
     text-of frames (too_many offset) = ([], sym (append-nil _))
 
     -- what is written of some frames is a front of what is written of them and others
-    front-of : (frames more : List Captured) (ending : Ending) → (rest : List ℕ) × ((followed app script (packets_of script) output header (frames ++ more) ending).text ≡ streamed app script (packets_of script) output header frames ++ rest)
+    front-of : (frames more : List Captured) (ending : Ending) → (rest : List ℕ) × ((followed app script (packets_of script) output header (frames ++ more) ending None).text ≡ streamed app script (packets_of script) output header frames ++ rest)
     front-of frames more ending =
         let all = text-of (frames ++ more) ending in
         let some = written-more (is_forward output) header frames more in
         (some.0 ++ all.0, all.1 ∙ ap (λ l. l ++ all.0) some.1 ∙ append_assoc (streamed app script (packets_of script) output header frames) some.0 all.0)
 
     pub front_whole : (frames more : List Captured) (ending : Ending) (old now : Option (List ℕ)) → Appends old now (streamed app script (packets_of script) output header frames)
-        → AppendsFront old now (followed app script (packets_of script) output header (frames ++ more) ending).text
+        → AppendsFront old now (followed app script (packets_of script) output header (frames ++ more) ending None).text
     front_whole frames more ending old now written =
         let front = front-of frames more ending in
         subst (AppendsFront old now) (sym front.1) (AppendsFront-whole old now (streamed app script (packets_of script) output header frames) front.0 written)
 
     pub front_part : (frames more : List Captured) (frame : Captured) (ending : Ending) (old mid now : Option (List ℕ)) → Appends old mid (streamed app script (packets_of script) output header frames)
-        → AppendsFront mid now (gained app script output frames frame) → AppendsFront old now (followed app script (packets_of script) output header (frames ++ frame ∷ more) ending).text
+        → AppendsFront mid now (gained app script output frames frame) → AppendsFront old now (followed app script (packets_of script) output header (frames ++ frame ∷ more) ending None).text
     front_part frames more frame ending old mid now written part =
         let front = front-of (frames ++ frame ∷ []) more ending in
         let all : AppendsFront old now (streamed app script (packets_of script) output header frames ++ gained app script output frames frame) = AppendsFront-after old mid now _ _ written part in
-        subst (λ fs. AppendsFront old now (followed app script (packets_of script) output header fs ending).text) (append_assoc frames (frame ∷ []) more)
+        subst (λ fs. AppendsFront old now (followed app script (packets_of script) output header fs ending None).text) (append_assoc frames (frame ∷ []) more)
         (subst (AppendsFront old now) (sym front.1) (AppendsFront-more old now _ front.0 (subst (AppendsFront old now) (sym (streamed_last frames frame)) all)))
 
     front-nonempty : (b : Bool) → b ≡ true → length header ≡ 24 → (frames : List Captured) (rest : List ℕ) → written_by b header frames ++ rest ≢ []
@@ -216,7 +216,7 @@ module _ (app : Meaning) (script : List Stamped) where
         nonempty (x ∷ h) l = λ none. cc
 
     -- something is written where packets are
-    pub writes_something : is_forward output ≡ true → length header ≡ 24 → (frames : List Captured) (ending : Ending) → (followed app script (packets_of script) output header frames ending).text ≢ []
+    pub writes_something : is_forward output ≡ true → length header ≡ 24 → (frames : List Captured) (ending : Ending) → (followed app script (packets_of script) output header frames ending None).text ≢ []
     writes_something forward len frames ending none =
         let all = text-of frames ending in
         front-nonempty (is_forward output) forward len frames all.0 (sym all.1 ∙ none)
@@ -226,17 +226,17 @@ module _ (app : Meaning) (script : List Stamped) where
   module _ (output : Output) where
     -- a record that can't be read
     pub refused_record : (bytes : List ℕ) (left after : Option (List ℕ)) (old new : CaptureState) (frames : List Captured) (frame : Captured) (e : NextError)
-        → (r : Replaying bytes left old frames) → StepTold old new r.rest after frame (Err e) → StopsAs (outcome app script (packets_of script) output bytes) (record_refusal e)
+        → (r : Replaying bytes left old frames) → StepTold old new r.rest after frame (Err e) → StopsAs (outcome_over app script (packets_of script) output bytes) (record_refusal e)
     refused_record bytes left after old new frames frame (Next.TooLong offset) r step =
-        inl (ap (λ o. o.ends) (outcome_is app script (packets_of script) output bytes left old frames r) ∙ ap (λ f. (followed app script (packets_of script) output old.header (frames ++ f.frames) f.ending).ends) step.steps)
+        inl (ap (λ o. o.ends) (outcome_is app script (packets_of script) output bytes left old frames r) ∙ ap (λ f. (followed app script (packets_of script) output old.header (frames ++ f.frames) f.ending None).ends) step.steps)
     refused_record bytes left after old new frames frame (Next.TooMany offset) r step =
-        inl (ap (λ o. o.ends) (outcome_is app script (packets_of script) output bytes left old frames r) ∙ ap (λ f. (followed app script (packets_of script) output old.header (frames ++ f.frames) f.ending).ends) step.steps)
+        inl (ap (λ o. o.ends) (outcome_is app script (packets_of script) output bytes left old frames r) ∙ ap (λ f. (followed app script (packets_of script) output old.header (frames ++ f.frames) f.ending None).ends) step.steps)
     refused_record bytes left after old new frames frame Next.ReadFault r step = inr (inl refl)
     refused_record bytes left after old new frames frame Next.NoMemory r step = inr (inr (inl refl))
 
     -- what was written so far is a front of the whole
     pub front_so_far : (bytes : List ℕ) (left : Option (List ℕ)) (capture : CaptureState) (frames : List Captured) (old now : Option (List ℕ)) → Replaying bytes left capture frames
-        → Appends old now (streamed app script (packets_of script) output capture.header frames) → AppendsFront old now (outcome app script (packets_of script) output bytes).text
+        → Appends old now (streamed app script (packets_of script) output capture.header frames) → AppendsFront old now (outcome_over app script (packets_of script) output bytes).text
     front_so_far bytes left capture frames old now r written =
         subst (λ o. AppendsFront old now o.text) (sym (outcome_is app script (packets_of script) output bytes left capture frames r))
         (front_whole output capture.header frames (frames_at capture r.rest).frames (frames_at capture r.rest).ending old now written)
@@ -244,14 +244,14 @@ module _ (app : Meaning) (script : List Stamped) where
     -- and so is what was written of one frame more
     pub front_of_frame : (bytes : List ℕ) (left after : Option (List ℕ)) (before capture : CaptureState) (frames : List Captured) (frame : Captured) (old mid now : Option (List ℕ)) → (r : Replaying bytes left before frames)
         → StepTold before capture r.rest after frame (Ok Frame) → Appends old mid (streamed app script (packets_of script) output before.header frames)
-        → AppendsFront mid now (gained app script output frames frame) → AppendsFront old now (outcome app script (packets_of script) output bytes).text
+        → AppendsFront mid now (gained app script output frames frame) → AppendsFront old now (outcome_over app script (packets_of script) output bytes).text
     front_of_frame bytes left after before capture frames frame old mid now r step written part =
-        subst (λ o. AppendsFront old now o.text) (sym (outcome_is app script (packets_of script) output bytes left before frames r ∙ ap (λ f. followed app script (packets_of script) output before.header (frames ++ f.frames) f.ending) step.steps))
+        subst (λ o. AppendsFront old now o.text) (sym (outcome_is app script (packets_of script) output bytes left before frames r ∙ ap (λ f. followed app script (packets_of script) output before.header (frames ++ f.frames) f.ending None) step.steps))
         (front_part output before.header frames (frames_at capture step.rest).frames frame (frames_at capture step.rest).ending old mid now written part)
 
     -- a write that failed
     pub stopped_writing : (bytes : List ℕ) (left : Option (List ℕ)) (capture : CaptureState) (frames : List Captured) → Replaying bytes left capture frames → is_forward output ≡ true → length capture.header ≡ 24
-        → StopsAs (outcome app script (packets_of script) output bytes) Run.WriteFault
+        → StopsAs (outcome_over app script (packets_of script) output bytes) Run.WriteFault
     stopped_writing bytes left capture frames r forward len = inr (inr (inr (
       refl,
       λ none. writes_something output capture.header forward len (frames ++ (frames_at capture r.rest).frames) (frames_at capture r.rest).ending
@@ -260,20 +260,20 @@ module _ (app : Meaning) (script : List Stamped) where
 
     -- the end of the capture
     pub ended_at : (bytes : List ℕ) (left : Option (List ℕ)) (capture : CaptureState) (frames : List Captured) (n : ℕ) → (r : Replaying bytes left capture frames) → frames_at capture r.rest ≡ ended (tail n)
-        → outcome app script (packets_of script) output bytes ≡ weighed app script (packets_of script) output capture.header frames n
+        → outcome_over app script (packets_of script) output bytes ≡ weighed app script (packets_of script) output capture.header frames n
     ended_at bytes left capture frames n r is =
-        outcome_is app script (packets_of script) output bytes left capture frames r ∙ ap (λ f. followed app script (packets_of script) output capture.header (frames ++ f.frames) f.ending) is
-        ∙ ap (λ fs. followed app script (packets_of script) output capture.header fs (tail n)) (append-nil frames)
+        outcome_is app script (packets_of script) output bytes left capture frames r ∙ ap (λ f. followed app script (packets_of script) output capture.header (frames ++ f.frames) f.ending None) is
+        ∙ ap (λ fs. followed app script (packets_of script) output capture.header fs (tail n) None) (append-nil frames)
 
     -- a write that failed, or want of memory
     pub stopped_by : (bytes : List ℕ) (left : Option (List ℕ)) (capture : CaptureState) (frames : List Captured) (e : RunError) → Replaying bytes left capture frames → length capture.header ≡ 24
-        → ((e ≡ Run.WriteFault) × (is_forward output ≡ true)) ⊎ (e ≡ Run.NoMemory) → StopsAs (outcome app script (packets_of script) output bytes) e
-    stopped_by bytes left capture frames e r len (inl w) = subst (λ x. StopsAs (outcome app script (packets_of script) output bytes) x) (sym w.0) (stopped_writing bytes left capture frames r w.1 len)
+        → ((e ≡ Run.WriteFault) × (is_forward output ≡ true)) ⊎ (e ≡ Run.NoMemory) → StopsAs (outcome_over app script (packets_of script) output bytes) e
+    stopped_by bytes left capture frames e r len (inl w) = subst (λ x. StopsAs (outcome_over app script (packets_of script) output bytes) x) (sym w.0) (stopped_writing bytes left capture frames r w.1 len)
     stopped_by bytes left capture frames e r len (inr m) = inr (inr (inl m))
 
     -- a front of the header
     pub front_of_header : (bytes : List ℕ) (left : Option (List ℕ)) (capture : CaptureState) (old now : Option (List ℕ)) → Replaying bytes left capture []
-        → AppendsFront old now (if is_forward output then capture.header else []) → AppendsFront old now (outcome app script (packets_of script) output bytes).text
+        → AppendsFront old now (if is_forward output then capture.header else []) → AppendsFront old now (outcome_over app script (packets_of script) output bytes).text
     front_of_header bytes left capture old now r part =
         let front = front-of output capture.header [] (frames_at capture r.rest).frames (frames_at capture r.rest).ending in
         subst (λ o. AppendsFront old now o.text) (sym (outcome_is app script (packets_of script) output bytes left capture [] r))

@@ -8,14 +8,14 @@ use Rattle.worker_pool.specs.Run.{MayHave}
 use Rattle.mos_run.specs.declared.output.Output.{Output}
 use Rattle.mos_run.specs.declared.refusal.RunError.{RunError}
 use Rattle.mos_run.specs.Records.{packets_with}
-use Rattle.mos_run.specs.Outcome.{Outcome, outcome}
+use Rattle.mos_run.specs.Outcome.{Outcome, outcome_over}
 use Rattle.mos_run.specs.Told.{frames_in}
 use Rattle.mos_run.specs.Run.{Finishes, StopsAs}
 
 module _ (app : Meaning) (script : List Stamped) (lanes : ℕ) (output : Output) (bytes : List ℕ) where
   -- its outcome where its records have these versions
   abbrev pub outcome_with : List ℕ → Outcome
-  outcome_with vs = outcome app script (packets_with app script vs) output bytes
+  outcome_with vs = outcome_over app script (packets_with app script vs) output bytes
 
   -- it ends well under these versions, which it may have
   pub record FinishesWith (versions : List ℕ) (old new : Option (List ℕ)) : Type 0 where

@@ -6,6 +6,7 @@ use Rattle.pcap_source.specs.Capture.{capture_of}
 use Rattle.control_script.specs.declared.stamped.Stamped.{Stamped}
 use Rattle.control_script.specs.Order.{are_in_order}
 use Rattle.control_script.specs.Versions.{is_live}
+use Rattle.pcapng_source.specs.Given.{Given}
 use Rattle.worker_pool.specs.Run.{MayHave}
 use Rattle.mos_run.specs.declared.output.Output.{Output}
 use Rattle.mos_run.specs.Records.{packets_of, packets_with, records_of, versions_of}
@@ -23,8 +24,8 @@ CeilingsMayBeHad = (app : Meaning) (script : List Stamped) (workers : ℕ) (byte
 
 -- a run under them is that of one worker
 abbrev pub CeilingsAreOneWorkers : Type 0
-CeilingsAreOneWorkers = (app : Meaning) (script : List Stamped) (output : Output) (bytes : List ℕ)
-    → outcome app script (packets_with app script (ceilings_of app script bytes)) output bytes ≡ outcome app script (packets_of script) output bytes
+CeilingsAreOneWorkers = (app : Meaning) (script : List Stamped) (output : Output) (file : Given)
+    → outcome app script (packets_with app script (ceilings_of app script file.bytes)) output file ≡ outcome app script (packets_of script) output file
 
 -- without live commands no other versions may be had, however many workers there are
 abbrev pub OneListIsAllowed : Type 0

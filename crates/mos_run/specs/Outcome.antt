@@ -1,10 +1,12 @@
--- How a run over the bytes of a capture ends, and what it writes.
+-- How a run over a capture ends, and what it writes.
 use Rattle.std.specs.Prelude.{ℕ, Bool, true, false, not, ◌&&◌, List, [], ◌++◌, length, take, map, nat_lt, if◌then◌else◌, Option, Some, None, Result, Ok, Err}
 use Rattle.app_api.specs.App.{Meaning}
 use Rattle.pcap_source.specs.Captured.{Captured}
 use Rattle.pcap_source.specs.Capture.{Frames, Ending, tail, too_long, too_many, capture_of}
 use Rattle.pcap_source.specs.declared.errors.OpenError.{OpenError}
 use Rattle.pcap_source.specs.declared.errors.CaptureFault.TheVariants as Fault
+use Rattle.pcapng_source.specs.Given.{Given, whole}
+use Rattle.pcapng_source.specs.declared.fault.NgFault.{NgFault}
 use Rattle.report_text.specs.Report.{report_text}
 use Rattle.report_text.specs.declared.record.Record.{Record}
 use Rattle.report_text.specs.declared.record.Totals.{Totals}
@@ -21,7 +23,7 @@ use Rattle.mos_run.specs.declared.refusal.RunError.TheVariants.{Capture, TooMany
 use Rattle.mos_run.specs.Records.{records_of, versions_of}
 use Rattle.mos_run.specs.Forward.{forwarded}
 use Rattle.mos_run.specs.Summary.{summary_text}
-use Rattle.mos_run.specs.Refusal.{header_refusal}
+use Rattle.mos_run.specs.Refusal.{file_refusal, header_refusal}
 
 -- ---- what is written
 
@@ -83,16 +85,22 @@ module _ (app : Meaning) (script : List Stamped) (given : List Captured → List
   abbrev pub cut_off : Output → List ℕ → List Captured → RunError → Outcome
   cut_off output header frames e = record { text = streamed output header frames; ends = Err e }
 
-  -- whole records, to the end of the capture or to where it is refused
-  abbrev pub followed : Output → List ℕ → List Captured → Ending → Outcome
-  followed output header frames (tail n) = weighed output header frames n
-  followed output header frames (too_long offset) = cut_off output header frames (Capture Fault.TooLong offset)
-  followed output header frames (too_many offset) = cut_off output header frames (TooMany offset)
+  -- Whole records, to the end of the capture or to where it is refused: by a record of its own, or else by what stands behind all of
+  -- its bytes.
+  abbrev pub followed : Output → List ℕ → List Captured → Ending → Option NgFault → Outcome
+  followed output header frames (tail n) None = weighed output header frames n
+  followed output header frames (tail n) (Some fault) = cut_off output header frames (file_refusal fault)
+  followed output header frames (too_long offset) behind = cut_off output header frames (Capture Fault.TooLong offset)
+  followed output header frames (too_many offset) behind = cut_off output header frames (TooMany offset)
 
-  abbrev pub outcome_by : Output → List ℕ → Result Frames OpenError → Outcome
-  outcome_by output header (Ok f) = followed output header f.frames f.ending
-  outcome_by output header (Err e) = refused (header_refusal e)
+  abbrev pub outcome_by : Output → List ℕ → Result Frames OpenError → Option NgFault → Outcome
+  outcome_by output header (Ok f) behind = followed output header f.frames f.ending behind
+  outcome_by output header (Err e) behind = refused (header_refusal e)
 
-  -- a run over these bytes
-  unfoldable pub outcome : Output → List ℕ → Outcome
-  outcome output bytes = outcome_by output (take 24 bytes) (capture_of bytes)
+  -- a run over a file that gives these bytes, and then a refusal or none
+  unfoldable pub outcome : Output → Given → Outcome
+  outcome output file = outcome_by output (take 24 file.bytes) (capture_of file.bytes) file.refusal
+
+  -- a run over these bytes, behind which nothing is refused
+  abbrev pub outcome_over : Output → List ℕ → Outcome
+  outcome_over output bytes = outcome output (whole bytes)

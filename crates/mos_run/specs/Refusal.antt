@@ -1,5 +1,5 @@
 -- Why a run ends before its output is whole: the status and the line that tell it.
-use Rattle.std.specs.Prelude.{ℕ, List, ◌++◌, codes}
+use Rattle.std.specs.Prelude.{ℕ, List, ◌++◌, codes, Option, Some, Result, Ok, Err}
 use Rattle.std.specs.Fmt.{decimal}
 use Rattle.words.specs.Usage.{usage_text}
 use Rattle.words.specs.declared.settings.WordsError.{WordsError}
@@ -13,6 +13,8 @@ use Rattle.pcap_source.specs.declared.errors.CaptureFault.TheVariants as Fault
 use Rattle.pcap_source.specs.declared.errors.OpenError.{OpenError}
 use Rattle.pcap_source.specs.declared.errors.OpenError.TheVariants as Open
 use Rattle.pcap_source.specs.declared.errors.NextError.{NextError}
+use Rattle.pcapng_source.specs.declared.fault.NgFault.{NgFault}
+use Rattle.pcapng_source.specs.declared.fault.NgFault.TheVariants as Ng
 use Rattle.lane_core.specs.declared.errors.LaneError.{LaneError}
 use Rattle.report_text.specs.declared.write.TextError.{TextError}
 use Rattle.report_text.specs.declared.write.TextError.TheVariants as Report
@@ -20,7 +22,7 @@ use Rattle.worker_pool.specs.Refused.{read_refusal, lane_refusal as lane_failure
 use Rattle.worker_pool.specs.declared.job.PoolError.{PoolError}
 use Rattle.worker_pool.specs.declared.job.PoolError.TheVariants as Pool
 use Rattle.mos_run.specs.declared.refusal.RunError.{RunError}
-use Rattle.mos_run.specs.declared.refusal.RunError.TheVariants.{Usage, ScriptTooLong, Script, Capture, TooMany, Heavy, ReadFault, WriteFault, NoMemory}
+use Rattle.mos_run.specs.declared.refusal.RunError.TheVariants.{Usage, ScriptTooLong, Script, Capture, BadBlock, TooMany, TooManyBlocks, TooManyInterfaces, Heavy, ReadFault, WriteFault, NoMemory}
 use Rattle.mos_run.specs.declared.refusal.ScriptFault.{ScriptFault}
 use Rattle.mos_run.specs.declared.refusal.ScriptFault.TheVariants as Line
 
@@ -29,10 +31,13 @@ status_of Usage = 1
 status_of ScriptTooLong = 2
 status_of (Script fault line) = 2
 status_of (Capture fault offset) = 3
+status_of (BadBlock offset) = 3
 status_of ReadFault = 4
 status_of WriteFault = 5
 status_of NoMemory = 6
 status_of (TooMany offset) = 7
+status_of (TooManyBlocks offset) = 7
+status_of (TooManyInterfaces offset) = 7
 status_of Heavy = 7
 
 abbrev pub fault_text : CaptureFault → List ℕ
@@ -56,7 +61,10 @@ refusal_text Usage = usage_text
 refusal_text ScriptTooLong = codes "mos: script: too long\n"
 refusal_text (Script fault line) = codes "mos: script: line " ++ (decimal line ++ (codes ": " ++ (kind_text fault ++ codes "\n")))
 refusal_text (Capture fault offset) = codes "mos: capture: " ++ (fault_text fault ++ (codes " at " ++ (decimal offset ++ codes "\n")))
+refusal_text (BadBlock offset) = codes "mos: capture: bad block at " ++ (decimal offset ++ codes "\n")
 refusal_text (TooMany offset) = codes "mos: too many packets at " ++ (decimal offset ++ codes "\n")
+refusal_text (TooManyBlocks offset) = codes "mos: too many blocks at " ++ (decimal offset ++ codes "\n")
+refusal_text (TooManyInterfaces offset) = codes "mos: too many interfaces at " ++ (decimal offset ++ codes "\n")
 refusal_text Heavy = codes "mos: log too large\n"
 refusal_text ReadFault = codes "mos: read fault\n"
 refusal_text WriteFault = codes "mos: write fault\n"
@@ -113,3 +121,22 @@ record_refusal e = pool_refusal (read_refusal e)
 -- and a lane that failed
 abbrev pub lane_refusal : LaneError → RunError
 lane_refusal e = pool_refusal (lane_failure e)
+
+-- a refused block of a pcapng file
+abbrev pub file_refusal : NgFault → RunError
+file_refusal (Ng.TooManyBlocks offset) = TooManyBlocks offset
+file_refusal (Ng.BadBlock offset) = BadBlock offset
+file_refusal (Ng.BadVersion offset) = Capture Fault.BadVersion offset
+file_refusal (Ng.TooManyInterfaces offset) = TooManyInterfaces offset
+file_refusal (Ng.BadLink offset) = Capture Fault.BadLink offset
+file_refusal (Ng.TooLong offset) = Capture Fault.TooLong offset
+
+-- why a run ends whose source met this refusal, or none: the refusal stands in place of the fault by which the source stops there
+abbrev pub met_in : Option NgFault → RunError → RunError
+met_in (Some fault) ReadFault = file_refusal fault
+met_in fault e = e
+
+-- the same of what a run came to
+abbrev pub explained : Option NgFault → Result (List ℕ) RunError → Result (List ℕ) RunError
+explained fault (Ok versions) = Ok versions
+explained fault (Err e) = Err (met_in fault e)

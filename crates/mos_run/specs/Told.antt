@@ -4,6 +4,8 @@ use Rattle.capture_maker.specs.Made.{made}
 use Rattle.pcap_source.specs.Captured.{Captured}
 use Rattle.pcap_source.specs.Capture.{Frames, capture_of}
 use Rattle.pcap_source.specs.declared.errors.OpenError.{OpenError}
+use Rattle.pcapng_source.specs.Given.{Given, whole}
+use Rattle.pcapng_source.specs.Blocks.{any}
 use Rattle.control_script.specs.declared.error.ScriptError.{ScriptError}
 use Rattle.control_script.specs.declared.stamped.Stamped.{Stamped}
 use Rattle.control_script.specs.Script.{script}
@@ -18,10 +20,10 @@ use Rattle.mos_run.specs.Records.{packets_of, packets_with, records_of, versions
 use Rattle.mos_run.specs.Outcome.{Outcome, refused, outcome, output_of}
 use Rattle.mos_run.specs.Refusal.{script_refusal}
 
--- what a run is told to do: it is refused before a packet is read, or these settings and this script are asked of these bytes
+-- what a run is told to do: it is refused before a packet is read, or these settings and this script are asked of what this file gives
 pub data Told : Type 0 where
   Refused : RunError → Told
-  Asked : Settings → List Stamped → List ℕ → Told
+  Asked : Settings → List Stamped → Given → Told
 
 -- the commands of a script's text, or why it has none
 abbrev pub read_as : Result (List Stamped) ScriptError → Result (List Stamped) RunError
@@ -37,14 +39,20 @@ abbrev pub text_under : Option (List ℕ) → (List ℕ → Option (List ℕ)) �
 text_under None content = Some []
 text_under (Some name) content = content name
 
--- the bytes of the capture: those of the one that is made, else what the source tells
+-- the bytes of a capture: those of the one that is made, else what the source tells
 abbrev pub bytes_under : Option ℕ → Option (List ℕ) → Option (List ℕ)
 bytes_under None left = left
 bytes_under (Some n) left = Some (made n)
 
+-- What the capture gives: the one that is made; else what the file gives whose bytes the source tells. A pcapng file gives a
+-- classic capture, up to the first block that is refused.
+abbrev pub given_under : Option ℕ → Option (List ℕ) → Option Given
+given_under None left = option_map any left
+given_under (Some n) left = Some (whole (made n))
+
 abbrev pub asked : Settings → Option (List ℕ) → Result (List Stamped) RunError → Option Told
 asked s left (Err e) = Some (Refused e)
-asked s left (Ok commands) = option_map (Asked s commands) (bytes_under s.make left)
+asked s left (Ok commands) = option_map (Asked s commands) (given_under s.make left)
 
 abbrev pub chosen : Option Settings → (List ℕ → Option (List ℕ)) → Option (List ℕ) → Option Told
 chosen None content left = Some (Refused Usage)
@@ -70,10 +78,10 @@ pub record AreAllowed (s : Settings) (commands : List Stamped) (bytes : List ℕ
 
 abbrev pub Allows : Told → List ℕ → Type 0
 Allows (Refused e) vs = ⊤
-Allows (Asked s commands bytes) vs = AreAllowed s commands bytes vs
+Allows (Asked s commands file) vs = AreAllowed s commands file.bytes vs
 
 -- how a run ends, and what it writes, where its records have these versions
 abbrev pub outcome_under : List ℕ → Told → Outcome
 outcome_under vs (Refused e) = refused e
-outcome_under vs (Asked s commands bytes) =
-    outcome (meaning_of s.app) commands (packets_with (meaning_of s.app) commands vs) (output_of s) bytes
+outcome_under vs (Asked s commands file) =
+    outcome (meaning_of s.app) commands (packets_with (meaning_of s.app) commands vs) (output_of s) file

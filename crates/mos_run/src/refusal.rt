@@ -1,16 +1,17 @@
 //! Why a run ends before its output is whole, with the status of each.
 
 ghost use Rattle.std.specs.Prelude.{◌≡◌};
-ghost use Rattle.mos_run.specs.Refusal.{status_of};
+ghost use Rattle.mos_run.specs.Refusal.{explained, met_in, status_of};
 
 use control_script::ScriptError;
 use lane_core::LaneError;
 use mos_bytes::{Failed, FetchError};
 use pcap_source::{CaptureFault, NextError, OpenError};
+use pcapng_source::NgFault;
 use report_text::TextError;
 use std::alloc::AllocError;
 use words::WordsError;
-use worker_pool::PoolError;
+use worker_pool::{PoolError, VersionList};
 
 /// Why a line of a script is refused.
 #[derive(Clone, Copy, Debug, PartialEq, Eq)]
@@ -31,7 +32,8 @@ pub enum ScriptFault {
     StampOrder,
 }
 
-/// Why a run ended before its output was whole. Offsets count bytes from the start of the capture.
+/// Why a run ended before its output was whole. Offsets count bytes from the start of the capture; for a pcapng file those
+/// of its own refusals are where the block begins in the file, and the others count in the classic form that it gives.
 #[derive(Clone, Copy, Debug, PartialEq, Eq)]
 pub enum RunError {
     /// The words are refused.
@@ -42,8 +44,14 @@ pub enum RunError {
     Script(ScriptFault, u32),
     /// The capture is refused at this offset; for a short header the offset is the number of bytes there.
     Capture(CaptureFault, u64),
+    /// The capture is a pcapng file with a block at this offset that has the form of none.
+    BadBlock(u64),
     /// More than 1,048,576 packets: a further record begins at this offset.
     TooMany(u64),
+    /// The capture is a pcapng file of more than 4,194,304 blocks: a further one begins at this offset.
+    TooManyBlocks(u64),
+    /// The capture is a pcapng file with more than 64 interfaces in a section: the block at this offset tells the next.
+    TooManyInterfaces(u64),
     /// The callbacks weigh more than 134,217,728: for each of them 32, and the bytes that it saw.
     Heavy,
     /// The capture's source failed, or the shelf.
@@ -112,6 +120,23 @@ impl From<OpenError> for RunError {
             OpenError::BadLink => RunError::Capture(CaptureFault::BadLink, 20),
             OpenError::ShortHeader(bytes) => RunError::Capture(CaptureFault::ShortHeader, bytes),
             OpenError::ReadFault => RunError::ReadFault,
+        }
+    }
+}
+
+impl From<NgFault> for RunError {
+    ghost use Rattle.mos_run.specs.Refusal.{file_refusal};
+
+    ghost from_gives = { λ e r. r ≡ file_refusal e };
+
+    fn from(fault: NgFault) -> Self {
+        match fault {
+            NgFault::TooManyBlocks(offset) => RunError::TooManyBlocks(offset),
+            NgFault::BadBlock(offset) => RunError::BadBlock(offset),
+            NgFault::BadVersion(offset) => RunError::Capture(CaptureFault::BadVersion, offset),
+            NgFault::TooManyInterfaces(offset) => RunError::TooManyInterfaces(offset),
+            NgFault::BadLink(offset) => RunError::Capture(CaptureFault::BadLink, offset),
+            NgFault::TooLong(offset) => RunError::Capture(CaptureFault::TooLong, offset),
         }
     }
 }
@@ -196,11 +221,37 @@ impl RunError {
         match self {
             RunError::Usage => 1,
             RunError::ScriptTooLong | RunError::Script(..) => 2,
-            RunError::Capture(..) => 3,
+            RunError::Capture(..) | RunError::BadBlock(_) => 3,
             RunError::ReadFault => 4,
             RunError::WriteFault => 5,
             RunError::NoMemory => 6,
-            RunError::TooMany(_) | RunError::Heavy => 7,
+            RunError::TooMany(_)
+            | RunError::TooManyBlocks(_)
+            | RunError::TooManyInterfaces(_)
+            | RunError::Heavy => 7,
         }
+    }
+}
+
+// Why a run ends: a refusal of the file that its source met stands in place of the fault by which the source stops there.
+fn met_in(fault: Option<NgFault>, error: RunError) -> RunError
+    ensures { result ≡ met_in fault error }
+{
+    match (fault, error) {
+        (Some(fault), RunError::ReadFault) => RunError::from(fault),
+        (_, error) => error,
+    }
+}
+
+/// What a run came to whose source met this refusal of the file, or none.
+pub(crate) fn explain(
+    fault: Option<NgFault>,
+    ran: Result<VersionList, RunError>,
+) -> Result<VersionList, RunError>
+    ensures { result ≡ explained fault ran }
+{
+    match ran {
+        Ok(versions) => Ok(versions),
+        Err(error) => Err(met_in(fault, error)),
     }
 }

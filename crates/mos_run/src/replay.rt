@@ -15,7 +15,7 @@ ghost use Rattle.mos_run.specs.Outcome.{is_forward, streamed};
 ghost use Rattle.mos_bytes.specs.Outside.{Reads, Writes};
 ghost use Rattle.mos_run.specs.Reading.{LaneIsReady, LaneHasRead, Replaying, gained};
 ghost use Rattle.mos_run.specs.Refusal.{status_of};
-ghost use Rattle.mos_run.specs.Runs.{MayRun, Runs, RunsAlone};
+ghost use Rattle.mos_run.specs.Runs.{IsIdle, MayRun, ReadsFile, Runs, RunsAlone};
 
 use crate::advance::advance;
 use crate::chosen::Chosen;
@@ -152,6 +152,8 @@ fn read_on<L: Recorder + Drop, S: Source, O: Sink>(
     ensures silent { is_forward plan.now.output ≡ false
         → IfErr result (λ e. e ≢ RunError.WriteFault → e ≢ RunError.NoMemory → out.new ≡ out.old) }
     ensures late { IfErr result (λ e. 2 < status_of e) }
+    ensures reads { ReadsFile S.Source plan.now.output (λ bytes. Replaying bytes (S.left source.old) capture [])
+        source.new (IsIdle out.old out.new result) result }
     ensures from { Reads S.Source source.old source.new (IsErrOf result RunError.ReadFault) }
     ensures to { Writes O.Sink out.old out.new (IsErrOf result RunError.WriteFault) }
 {

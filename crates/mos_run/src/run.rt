@@ -1,21 +1,23 @@
 //! The top call: words, a script and a capture come in; what was asked for, or the reason why it isn't there, goes out.
 
 ghost use Rattle.std.specs.Prelude.{◌≡◌, ◌≤◌, map, Some, IfSome, string_bytes};
+ghost use Rattle.pcapng_source.specs.Given.{whole};
 ghost use Rattle.mos_run.specs.Apps.{meaning_of};
 ghost use Rattle.mos_run.specs.Told.{Told, Asked, told};
 ghost use Rattle.mos_run.specs.Run.{FinishesUnder, MosRun, RunsUnder};
-ghost use Rattle.mos_run.specs.Runs.{IsJob, RunsUnderSettings, RunsUnderWords};
+ghost use Rattle.mos_run.specs.Runs.{IsJob, RunsOverFile, RunsUnderSettings, RunsUnderWords};
 
 use crate::ended::{Ended, refuse};
 use crate::laws::what_one_worker_has_is_allowed;
 use crate::plan::Crew;
-use crate::refusal::RunError;
+use crate::refusal::{RunError, explain};
 use crate::script::script_of;
 use crate::several::run_several;
 use crate::single::run_one;
 use control_script::Script;
 use mos_bytes::{Shelf, Sink, Source};
 use native_filters::NativeBook;
+use pcapng_source::{AnySource, refused_files_begin_with_a_header};
 use std::alloc::Global;
 use std::sync::Wait;
 use std::thread::Threads;
@@ -40,7 +42,7 @@ fn run_asked<
     requires job { IsJob (meaning_of settings.now.app) script.now settings.now.workers }
     requires few { IfSome settings.now.make (λ n. n ≤ 100000) }
     ensures ran { RunsUnderSettings S.Source O.Sink settings.now
-        (λ bytes. RunsUnder (Asked settings.now script.now bytes))
+        (λ bytes. RunsUnder (Asked settings.now script.now (whole bytes)))
         capture.old capture.new out.old out.new result }
 {
     what_one_worker_has_is_allowed();
@@ -48,6 +50,33 @@ fn run_asked<
         return run_one(alloc, settings, capture, script, out, natives);
     }
     run_several(crew, alloc, settings, capture, script, out, natives)
+}
+
+// The run over a file of either form. Where a block of it is refused, that is told in place of the fault by which the
+// source stops there.
+fn run_file<
+    R: Threads + Wait + Sync + Send + Copy + Drop + 'static,
+    S: Source,
+    O: Sink,
+    G: Gate + Sync,
+>(
+    crew: &Crew<'_, R, G>,
+    alloc: Global,
+    settings: &Settings,
+    capture: &mut S,
+    script: &Script,
+    out: &mut O,
+    natives: &NativeBook,
+) -> Result<VersionList, RunError>
+    requires job { IsJob (meaning_of settings.now.app) script.now settings.now.workers }
+    requires few { IfSome settings.now.make (λ n. n ≤ 100000) }
+    ensures ran { RunsOverFile S.Source O.Sink settings.now script.now
+        capture.old capture.new out.old out.new result }
+{
+    refused_files_begin_with_a_header();
+    let mut source = AnySource::new(capture);
+    let ran = run_asked(crew, alloc, settings, &mut source, script, out, natives);
+    explain(source.fault(), ran)
 }
 
 // The run up to its versions, or to why it stopped.
@@ -75,10 +104,11 @@ fn run<
     what_one_worker_has_is_allowed();
     let settings = read_words(alloc, words)?;
     let script = script_of(alloc, shelf, &settings)?;
-    run_asked(crew, alloc, &settings, capture, &script, out, natives)
+    run_file(crew, alloc, &settings, capture, &script, out, natives)
 }
 
-/// Runs as the words say: fetches the script that they name, replays the capture, and writes what they ask for to `out`.
+/// Runs as the words say: fetches the script that they name, replays the capture, and writes what they ask for to `out`. The
+/// capture is a classic one or a pcapng file, which is turned into a classic capture while it is read.
 ///
 /// `words` are the words after the program's name. The script is fetched from `shelf` by its name, and `natives` answer the
 /// native filters. On a refusal `err` gets the line that tells it. A fault of `err` changes no status.
@@ -95,11 +125,11 @@ fn run<
 /// | 0 | done: the capture was read to its end or to its tail, and all was written |
 /// | 1 | the words are refused |
 /// | 2 | the script has more than 262,144 bytes, or a line of it is refused |
-/// | 3 | the capture is refused, other than for too many packets |
+/// | 3 | the capture is refused, other than for too many packets, blocks or interfaces |
 /// | 4 | the capture's source failed, or the shelf |
 /// | 5 | `out` failed |
 /// | 6 | memory was refused |
-/// | 7 | the capture has more than 1,048,576 packets; or the callbacks of a report or a summary weigh more than 134,217,728 |
+/// | 7 | the capture has too many packets (1,048,576), blocks (4,194,304) or interfaces (64); or the callbacks weigh too much |
 ///
 /// Of causes that stand together the earlier one is told: the words, the fetch, the script, the capture from front to back,
 /// the weight, writing. A forwarded capture is written while it is read, so a fault of `out` may come before.

@@ -31,12 +31,36 @@ fn capture_line(alloc: Global, fault: CaptureFault, offset: u64) -> Result<Strin
     format!(in alloc; "mos: capture: {fault} at {offset}\n")
 }
 
+// The line that tells a block of no form.
+#[tactic(auto, unfolding(crate::specs::Refusal::refusal_text))]
+fn bad_block_line(alloc: Global, offset: u64) -> Result<String, AllocError>
+    ensures { IfOk result (λ line. string_bytes line ≡ refusal_text (RunError.BadBlock offset)) }
+{
+    format!(in alloc; "mos: capture: bad block at {offset}\n")
+}
+
 // The line that tells a capture of too many packets.
 #[tactic(auto, unfolding(crate::specs::Refusal::refusal_text))]
 fn too_many_line(alloc: Global, offset: u64) -> Result<String, AllocError>
     ensures { IfOk result (λ line. string_bytes line ≡ refusal_text (RunError.TooMany offset)) }
 {
     format!(in alloc; "mos: too many packets at {offset}\n")
+}
+
+// The line that tells a file of too many blocks.
+#[tactic(auto, unfolding(crate::specs::Refusal::refusal_text))]
+fn too_many_blocks_line(alloc: Global, offset: u64) -> Result<String, AllocError>
+    ensures { IfOk result (λ line. string_bytes line ≡ refusal_text (RunError.TooManyBlocks offset)) }
+{
+    format!(in alloc; "mos: too many blocks at {offset}\n")
+}
+
+// The line that tells a section of too many interfaces.
+#[tactic(auto, unfolding(crate::specs::Refusal::refusal_text))]
+fn too_many_interfaces_line(alloc: Global, offset: u64) -> Result<String, AllocError>
+    ensures { IfOk result (λ line. string_bytes line ≡ refusal_text (RunError.TooManyInterfaces offset)) }
+{
+    format!(in alloc; "mos: too many interfaces at {offset}\n")
 }
 
 fn kind_name(fault: ScriptFault) -> &'static str
@@ -78,7 +102,10 @@ impl fmt::Display for RunError {
                 let fault = fault_name(fault);
                 write!(f, "capture: {fault} at {offset}")
             }
+            RunError::BadBlock(offset) => write!(f, "capture: bad block at {offset}"),
             RunError::TooMany(offset) => write!(f, "too many packets at {offset}"),
+            RunError::TooManyBlocks(offset) => write!(f, "too many blocks at {offset}"),
+            RunError::TooManyInterfaces(offset) => write!(f, "too many interfaces at {offset}"),
             RunError::Heavy => f.write_str("log too large"),
             RunError::ReadFault => f.write_str("read fault"),
             RunError::WriteFault => f.write_str("write fault"),
@@ -134,8 +161,17 @@ pub(crate) fn tell<E: Sink>(alloc: Global, err: &mut E, error: RunError) -> RunE
         RunError::Capture(fault, offset) => {
             return tell_line(err, capture_line(alloc, fault, offset), error);
         }
+        RunError::BadBlock(offset) => {
+            return tell_line(err, bad_block_line(alloc, offset), error);
+        }
         RunError::TooMany(offset) => {
             return tell_line(err, too_many_line(alloc, offset), error);
+        }
+        RunError::TooManyBlocks(offset) => {
+            return tell_line(err, too_many_blocks_line(alloc, offset), error);
+        }
+        RunError::TooManyInterfaces(offset) => {
+            return tell_line(err, too_many_interfaces_line(alloc, offset), error);
         }
         RunError::Usage => write_text(err, usage_text()),
         RunError::ScriptTooLong => write_text(err, "mos: script: too long\n"),

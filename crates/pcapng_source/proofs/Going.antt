@@ -6,7 +6,7 @@ use Rattle.mos_bytes.specs.declared.failed.Failed.{Failed}
 use Rattle.mos_bytes.specs.Causes.{HasCause, Rose, risen}
 use Rattle.mos_bytes.proofs.Causes.{Rose-earlier}
 use Rattle.pcapng_source.specs.Given.{Given}
-use Rattle.pcapng_source.specs.Reading.{IsFitting, met_at, rest_of}
+use Rattle.pcapng_source.specs.Reading.{IsFitting, IsSpent, met_at, rest_of}
 use Rattle.pcapng_source.specs.Outlooks.{Gives, StepFits, StepGives, faults_with, outlook}
 use Rattle.pcapng_source.specs.declared.reader.Reader.{Reader}
 
@@ -67,9 +67,11 @@ pub record Going {S L : Type 0} (left : S → Option (List ℕ)) (faults : S →
   pub later : faults_with r (faults old) ≤ faults_with s (faults now)
   pub lasts : lasting now ≡ lasting old
   pub fits : IsFitting s
+  pub spent : IsSpent s
+  pub source_faults : faults old ≤ faults now
 
-pub going-none : {S L : Type 0} (left : S → Option (List ℕ)) (faults : S → ℕ) (lasting : S → L) (s : S) (r : Reader) → IsFitting r → Going left faults lasting s s r r
-going-none left faults lasting s r fits = record { gives = Gives-nothing (outlook r (left s)); later = omega arith; lasts = refl; fits = fits }
+pub going-none : {S L : Type 0} (left : S → Option (List ℕ)) (faults : S → ℕ) (lasting : S → L) (s : S) (r : Reader) → IsFitting r → IsSpent r → Going left faults lasting s s r r
+going-none left faults lasting s r fits spent = record { gives = Gives-nothing (outlook r (left s)); later = omega arith; lasts = refl; fits = fits; spent = spent; source_faults = omega arith }
 
 -- a cause of the last step
 pub cause-going : {T : Type 0} (before middle now : ℕ) (result : Result T Failed) → before ≤ middle → HasCause middle now result → HasCause before now result

@@ -168,6 +168,10 @@ IsRefused Resolution = ⊥
 IsRefused Trailer = ⊥
 IsRefused (Refused fault met) = ⊤
 
+-- no byte waits in front of a refusal that a read has met
+abbrev pub IsSpent : Reader → Type 0
+IsSpent r = 0 < met_at r.stage → r.made ≡ []
+
 -- a reader goes on by what it holds alone: it gives the same, and no later
 pub record Goes (old new : Reader) : Type 0 where
   pub same : (left : List ℕ) → rest_of new left ≡ rest_of old left

@@ -1,11 +1,12 @@
 //! The source over a file of either form.
 
-ghost use Rattle.std.specs.Prelude.{◌≡◌, ◌+◌, ◌<◌, ◌≤◌, ℕ, List, [], length, option_map, IfOk, IfSome};
+ghost use Rattle.std.specs.Prelude.{◌≡◌, ◌+◌, ◌<◌, ◌≤◌, ℕ, List, [], length, option_map, IfOk};
+ghost use Rattle.std.proofs.Props.{props};
 ghost use Rattle.std.specs.Io.{ReadsAtMost};
 ghost use Rattle.std.specs.Io.KnownBytes.{ReadConsumes};
 ghost use Rattle.mos_bytes.specs.Causes.{HasCause};
 ghost use Rattle.mos_bytes.specs.Reads.{BeginsWith, HasAtLeast};
-ghost use Rattle.pcapng_source.specs.Reading.{IsFitting};
+ghost use Rattle.pcapng_source.specs.Reading.{IsFitting, IsSpent};
 ghost use Rattle.pcapng_source.specs.Outlooks.{IsLinked, IsLinked-prop};
 
 use crate::NgFault;
@@ -18,26 +19,43 @@ use std::snapshot::Snapshot;
 ///
 /// A block that is refused ends what it gives: a read that asks for more answers `Failed`, each time again, and `fault`
 /// tells why. Its count of faults is that of the source below, and one for each read that met the refusal.
-#[derive(Drop)]
 pub struct AnySource<'a, S: Source> {
     source: &'a mut S,
     reader: Reader,
     // The source as it was handed in.
     start: Snapshot<S>,
     ghost fits: { IsFitting reader },
+    ghost spent: { IsSpent reader } by { Prim.hlevel props },
+    ghost counts: { S.faults start.value ≤ S.faults source.now },
     ghost linked: { IsLinked (S.left start.value) (S.left source.now) reader } by { IsLinked-prop
         (S.left start.value) (S.left source.now) reader },
 }
 
+impl<'a, S: Source> Drop for AnySource<'a, S> {
+    ghost use Rattle.pcapng_source.specs.Sources.{any_source};
+
+    // The source below stays as it is.
+    fn drop(self)
+        ensures below { self.exit.0.now ≡ any_source self.entry }
+    {
+        let AnySource {
+            source: _,
+            reader: _,
+            start: _,
+        } = self;
+    }
+}
+
 impl<'a, S: Source> AnySource<'a, S> {
     ghost use Rattle.pcapng_source.specs.Blocks.{any};
-    ghost use Rattle.pcapng_source.specs.Sources.{IsRefusal, any_faults, any_left, any_start, met_fault};
+    ghost use Rattle.pcapng_source.specs.Sources.{Stands, any_faults, any_left, any_source, any_start, met_fault};
 
     /// A source over this one, from whose start the file is read. It takes no memory.
     pub fn new(source: &'a mut S) -> AnySource<'a, S>
         ensures left { any_left result ≡ option_map (λ file. (any file).bytes) (S.left source.old) }
         ensures faults { any_faults result ≡ S.faults source.old }
         ensures start { any_start result ≡ source.old }
+        ensures source { any_source result ≡ source.old }
         ensures fault { met_fault result ≡ None }
         ensures name { result.source.ghost_name ≡ source.entry.ghost_name }
     {
@@ -52,7 +70,7 @@ impl<'a, S: Source> AnySource<'a, S> {
     /// Why the file is refused, where a read has met that: it is the refusal of the whole file.
     pub fn fault(&self) -> Option<NgFault>
         ensures met { result ≡ met_fault self.now }
-        ensures refusal { IfSome result (λ fault. IsRefusal (S.left (any_start self.now)) fault) }
+        ensures stands { Stands self.now }
     {
         self.reader.fault()
     }

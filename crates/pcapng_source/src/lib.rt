@@ -27,4 +27,4 @@ mod turns;
 
 pub use any_source::AnySource;
 pub use fault::NgFault;
-pub use laws::other_files_are_given_as_they_are;
+pub use laws::{other_files_are_given_as_they_are, refused_files_begin_with_a_header};

@@ -259,6 +259,7 @@ impl Reader {
         ensures fits { IsFitting self.new }
         ensures met { met_at self.new.stage ≡ risen (met_at self.old.stage) }
         ensures grows { met_at self.old.stage ≤ met_at self.new.stage }
+        ensures made { self.new.made ≡ self.old.made }
     {
         if let Stage::Refused(fault, met) = self.stage {
             self.stage = Stage::Refused(fault, met.saturating_add(1));

@@ -14,7 +14,7 @@ const CLASSIC_HEADER: [u8; 24] = [
 ];
 
 impl Reader {
-    ghost use Rattle.pcapng_source.specs.Reading.{Goes, IsFitting, ready_at, settled_at};
+    ghost use Rattle.pcapng_source.specs.Reading.{Goes, IsFitting, IsRefused, ready_at, settled_at};
     ghost use Rattle.pcapng_source.specs.Refusals.{refusal_of};
     ghost use Rattle.pcapng_source.specs.declared.reader.Stage.TheVariants.{Start, Head, Body, Trailer};
 
@@ -23,6 +23,7 @@ impl Reader {
         requires { IsFitting self.old }
         ensures goes { Goes self.old self.new }
         ensures settled { self.new.made ≡ [] → settled_at self.new.stage self.new }
+        ensures stays { IsRefused self.old.stage → self.new ≡ self.old }
     {
         if self.made() == 0 {
             self.take_held();
@@ -35,6 +36,7 @@ impl Reader {
         requires fits { IsFitting self.old }
         ensures goes { Goes self.old self.new }
         ensures ready { ready_at self.new.stage self.new }
+        ensures stays { IsRefused self.old.stage → self.new ≡ self.old }
     {
         match self.stage {
             Stage::Start if self.word.as_slice().len() == WORD => self.begin(),
@@ -92,6 +94,7 @@ impl Reader {
         requires fits { IsFitting self.old }
         ensures goes { Goes self.old self.new }
         ensures settled { settled_at self.new.stage self.new }
+        ensures stays { IsRefused self.old.stage → self.new ≡ self.old }
     {
         if let Stage::Body = self.stage
             && self.owed == 0

@@ -6,7 +6,7 @@ ghost use Rattle.std.specs.Io.{ReadsAtMost};
 ghost use Rattle.std.specs.Io.KnownBytes.{IsAtEnd};
 ghost use Rattle.mos_bytes.specs.Causes.{HasCause};
 ghost use Rattle.pcapng_source.specs.Outlooks.{Gives, IsOver, ReadGives, StepEnds, StepFalls, StepFits, StepGives, faults_with, outlook};
-ghost use Rattle.pcapng_source.specs.Reading.{IsFitting, IsOpen, direct_at, settled_at, skipped_at, wanted_at, weight_of};
+ghost use Rattle.pcapng_source.specs.Reading.{IsFitting, IsOpen, IsSpent, direct_at, settled_at, skipped_at, wanted_at, weight_of};
 
 use crate::reader::{Next, Reader};
 use mos_bytes::{Failed, Source};
@@ -37,6 +37,8 @@ fn give<S: Source>(
         (faults_with reader.new (S.faults source.new)) result }
     ensures lasts { S.lasting source.new ≡ S.lasting source.old }
     ensures fits { IsFitting reader.new }
+    ensures spent { IsSpent reader.new }
+    ensures source_faults { S.faults source.old ≤ S.faults source.new }
 {
     let count = source.read(buf)?;
     reader.gave(count);
@@ -63,6 +65,8 @@ fn skip<S: Source>(
         (faults_with reader.new (S.faults source.new)) result }
     ensures lasts { S.lasting source.new ≡ S.lasting source.old }
     ensures fits { IsFitting reader.new }
+    ensures spent { IsSpent reader.new }
+    ensures source_faults { S.faults source.old ≤ S.faults source.new }
 {
     let mut bytes = [0; SKIPPED];
     let count = source.read(&mut bytes[..SKIPPED.min(most)])?;
@@ -93,6 +97,8 @@ fn hold<S: Source>(
         (faults_with reader.new (S.faults source.new)) result }
     ensures lasts { S.lasting source.new ≡ S.lasting source.old }
     ensures fits { IsFitting reader.new }
+    ensures spent { IsSpent reader.new }
+    ensures source_faults { S.faults source.old ≤ S.faults source.new }
 {
     let mut bytes = [0; HELD];
     let most = most.min(HELD);
@@ -113,6 +119,7 @@ fn step<S: Source>(
 ) -> Result<Option<usize>, Failed>
     requires room { 0 < length buf.old }
     requires fits { IsFitting reader.old }
+    requires spent { IsSpent reader.old }
     ensures gives { StepGives (outlook reader.old (S.left source.old))
         (outlook reader.new (S.left source.new)) result buf.new }
     ensures room { StepFits result buf.new }
@@ -122,6 +129,8 @@ fn step<S: Source>(
         (faults_with reader.new (S.faults source.new)) result }
     ensures lasts { S.lasting source.new ≡ S.lasting source.old }
     ensures fits { IsFitting reader.new }
+    ensures spent { IsSpent reader.new }
+    ensures source_faults { S.faults source.old ≤ S.faults source.new }
 {
     reader.take();
     if reader.made() > 0 {
@@ -146,6 +155,7 @@ pub(crate) fn read_on<S: Source>(
 ) -> Result<usize, Failed>
     requires room { 0 < length buf.old }
     requires fits { IsFitting reader.old }
+    requires spent { IsSpent reader.old }
     ensures bound { ReadsAtMost result buf.new }
     ensures gives { ReadGives (outlook reader.old (S.left source.old))
         (outlook reader.new (S.left source.new)) result buf.new }
@@ -155,6 +165,8 @@ pub(crate) fn read_on<S: Source>(
         (faults_with reader.new (S.faults source.new)) result }
     ensures lasts { S.lasting source.new ≡ S.lasting source.old }
     ensures fits { IsFitting reader.new }
+    ensures spent { IsSpent reader.new }
+    ensures source_faults { S.faults source.old ≤ S.faults source.new }
 {
     loop {
         if let Some(count) = step(source, reader, buf)? {
@@ -166,12 +178,15 @@ pub(crate) fn read_on<S: Source>(
 // Goes on by bytes that are at hand alone, and answers whether there may be more to do. A fault that is met here is
 // counted and not told: the next read asks again.
 fn step_ahead<S: Source>(source: &mut S, reader: &mut Reader) -> bool
-    requires { IsFitting reader.old }
+    requires fits { IsFitting reader.old }
+    requires spent { IsSpent reader.old }
     ensures gives { Gives (outlook reader.old (S.left source.old)) (outlook reader.new (S.left source.new)) [] }
     ensures later { faults_with reader.old (S.faults source.old) ≤ faults_with reader.new (S.faults source.new) }
     ensures falls { OnTrue result (weight_of reader.new < weight_of reader.old) }
     ensures lasts { S.lasting source.new ≡ S.lasting source.old }
     ensures fits { IsFitting reader.new }
+    ensures spent { IsSpent reader.new }
+    ensures source_faults { S.faults source.old ≤ S.faults source.new }
 {
     reader.take();
     if reader.made() > 0 || source.count_at_hand() == 0 {
@@ -186,11 +201,14 @@ fn step_ahead<S: Source>(source: &mut S, reader: &mut Reader) -> bool
 
 // Goes on by bytes that are at hand, until bytes are made or stand next in the file: so that these can be shown.
 pub(crate) fn look_ahead<S: Source>(source: &mut S, reader: &mut Reader)
-    requires { IsFitting reader.old }
+    requires fits { IsFitting reader.old }
+    requires spent { IsSpent reader.old }
     ensures gives { Gives (outlook reader.old (S.left source.old)) (outlook reader.new (S.left source.new)) [] }
     ensures later { faults_with reader.old (S.faults source.old) ≤ faults_with reader.new (S.faults source.new) }
     ensures lasts { S.lasting source.new ≡ S.lasting source.old }
     ensures fits { IsFitting reader.new }
+    ensures spent { IsSpent reader.new }
+    ensures source_faults { S.faults source.old ≤ S.faults source.new }
 {
     while step_ahead(source, reader) {}
 }

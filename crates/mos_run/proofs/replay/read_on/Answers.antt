@@ -8,10 +8,11 @@ use Rattle.pcap_source.specs.Reading.{NextGives}
 use Rattle.mos_run.specs.declared.refusal.RunError.TheVariants as Run
 use Rattle.mos_run.specs.Refusal.{record_refusal}
 use Rattle.mos_run.specs.Records.{packets_of}
-use Rattle.mos_run.specs.Outcome.{is_forward, outcome, streamed}
+use Rattle.mos_run.specs.Outcome.{is_forward, streamed, outcome_over}
 use Rattle.mos_run.specs.Run.{RunsAs}
 use Rattle.mos_run.proofs.Refusals.{is_read_fault, no_write_fault, is_late, same_error, rose_since, late_by, no_read_fault}
 use Rattle.mos_run.proofs.Reading.{fails_forward}
+use Rattle.mos_run.proofs.Ends.{cut_record, err_same, no_heavy_packet, no_heavy_record, no_read_end, no_write_packet, reads_refused, reads_whole}
 use Rattle.mos_run.proofs.Replaying.{stopped_writing, step_told, replayed, streamed_last, refused_record, front_so_far, front_of_frame, stopped_by, ended_at}
 use Rattle.mos_run.proofs.replay.read_on.Goals as goal
 
@@ -43,11 +44,19 @@ returns-in_err-hand_on-clause-runs g c = λ bytes before r written.
     let forward = fails_forward (is_forward plan.output) c.hand_on.result c.in_err-hand_on.field-0.0 c.in_err-hand_on.was (λ is. (c.hand_on.ensures.silent is).0) in
     let p = err_from_is_err_and c.from_residual.result c.from_residual.ensures.1 in
     rw (p.1, p.2)
-    (subst (λ a. RunsAs (outcome a plan.script.now (packets_of plan.script.now) plan.output bytes) before (g.O.Sink.taken c.hand_on.new.out) (Err Run.WriteFault)) inv.app (
+    (subst (λ a. RunsAs (outcome_over a plan.script.now (packets_of plan.script.now) plan.output bytes) before (g.O.Sink.taken c.hand_on.new.out) (Err Run.WriteFault)) inv.app (
       stopped_writing app plan.script.now plan.output bytes _ at.capture read.0 rep forward inv.header,
       front_so_far app plan.script.now plan.output bytes _ at.capture read.0 before (g.O.Sink.taken c.hand_on.new.out) rep
           (Appends-kept before (g.O.Sink.taken at.out) (g.O.Sink.taken c.hand_on.new.out) _ (read.3 before written) c.hand_on.ensures.bytes),
     ))
+
+pub returns-in_err-hand_on-clause-reads : goal.returns-in_err-hand_on-clause-reads
+returns-in_err-hand_on-clause-reads g c =
+    let plan = c.args.plan.now in
+    let forward = fails_forward (is_forward plan.output) c.hand_on.result c.in_err-hand_on.field-0.0 c.in_err-hand_on.was (λ is. (c.hand_on.ensures.silent is).0) in
+    let p = err_from_is_err_and c.from_residual.result c.from_residual.ensures.1 in
+    rw (p.1, p.2)
+    (reads_refused g.S.Source plan.output _ _ _ Run.WriteFault (λ is. cc) (λ kept. absurd (let both = sym forward ∙ kept in cc)) (λ is. absurd (cc)))
 
 pub returns-in_err-hand_on-clause-from : goal.returns-in_err-hand_on-clause-from
 returns-in_err-hand_on-clause-from g c = record {
@@ -83,10 +92,24 @@ returns-in_err-next-clause-runs g c = λ bytes before r written.
     let step = step_told at.capture c.next.new.self _ _ rep.rest c.next.new.frame (Err c.in_err-next.field-0.0) c.in_err-next.ensures.gives rep.told in
     let p = err_from_is_err_and c.from_residual-in_err-next.result c.from_residual-in_err-next.ensures.1 in
     rw (p.1, p.2)
-    (subst (λ a. RunsAs (outcome a plan.script.now (packets_of plan.script.now) plan.output bytes) before (g.O.Sink.taken c.hand_on.new.out) (Err (record_refusal c.in_err-next.field-0.0))) inv.app (
+    (subst (λ a. RunsAs (outcome_over a plan.script.now (packets_of plan.script.now) plan.output bytes) before (g.O.Sink.taken c.hand_on.new.out) (Err (record_refusal c.in_err-next.field-0.0))) inv.app (
       refused_record app plan.script.now plan.output bytes _ _ at.capture c.next.new.self read.0 c.next.new.frame c.in_err-next.field-0.0 rep step,
       front_so_far app plan.script.now plan.output bytes _ at.capture read.0 before (g.O.Sink.taken c.hand_on.new.out) rep (Appends-kept before (g.O.Sink.taken at.out) (g.O.Sink.taken c.hand_on.new.out) _ (read.3 before written) c.hand_on.ensures.bytes),
     ))
+
+pub returns-in_err-next-clause-reads : goal.returns-in_err-next-clause-reads
+returns-in_err-next-clause-reads g c =
+    let at = c.loop-frame in
+    let inv = at.invariant in
+    let e = c.in_err-next.field-0.0 in
+    let p = err_from_is_err_and c.from_residual-in_err-next.result c.from_residual-in_err-next.ensures.1 in
+    rw (p.1, p.2)
+    (reads_refused g.S.Source c.args.plan.now.output _ _ _ (record_refusal e) (no_heavy_record e)
+    (λ kept. ((c.hand_on.ensures.silent kept).1 ∙ inv.silent kept, λ fault. no_write_fault e (err_same (record_refusal e) Run.WriteFault fault)))
+    (λ is bytes r none.
+    let rep = inv.read.4 bytes r in
+    let step = step_told at.capture c.next.new.self _ _ rep.rest c.next.new.frame (Err e) c.in_err-next.ensures.gives rep.told in
+    cut_record bytes _ _ at.capture c.next.new.self inv.read.0 c.next.new.frame e rep step is none))
 
 pub returns-in_err-next-clause-late : goal.returns-in_err-next-clause-late
 returns-in_err-next-clause-late g c =
@@ -132,11 +155,23 @@ returns-in_err-take-in-Frame-clause-runs g c = λ bytes before r written.
     let e = c.in_err-take-in-Frame.field-0.0 in
     let p = err_from_is_err_and c.from_residual-in_err-take-in-Frame.result c.from_residual-in_err-take-in-Frame.ensures.1 in
     rw (p.1, p.2)
-    (subst (λ a. RunsAs (outcome a plan.script.now (packets_of plan.script.now) plan.output bytes) before (g.O.Sink.taken c.take.new.out) (Err e)) inv.app (
+    (subst (λ a. RunsAs (outcome_over a plan.script.now (packets_of plan.script.now) plan.output bytes) before (g.O.Sink.taken c.take.new.out) (Err e)) inv.app (
       stopped_by app plan.script.now plan.output bytes _ at.capture read.0 e rep inv.header c.in_err-take-in-Frame.ensures.only,
       front_of_frame app plan.script.now plan.output bytes _ _ at.capture c.next.new.self read.0 c.next.new.frame before (g.O.Sink.taken c.hand_on.new.out) (g.O.Sink.taken c.take.new.out) rep step (Appends-kept before (g.O.Sink.taken at.out) (g.O.Sink.taken c.hand_on.new.out) _ (read.3 before written) c.hand_on.ensures.bytes)
           (c.in_err-take-in-Frame.ensures.writes read.0 read.1 read.2),
     ))
+
+pub returns-in_err-take-in-Frame-clause-reads : goal.returns-in_err-take-in-Frame-clause-reads
+returns-in_err-take-in-Frame-clause-reads g c =
+    let inv = c.loop-frame.invariant in
+    let output = c.args.plan.now.output in
+    let e = c.in_err-take-in-Frame.field-0.0 in
+    let only = c.in_err-take-in-Frame.ensures.only in
+    let p = err_from_is_err_and c.from_residual-in_err-take-in-Frame.result c.from_residual-in_err-take-in-Frame.ensures.1 in
+    rw (p.1, p.2)
+    (reads_refused g.S.Source output _ _ _ e (no_heavy_packet e only)
+    (λ kept. (c.take.ensures.silent kept ∙ (c.hand_on.ensures.silent kept).1 ∙ inv.silent kept, λ fault. no_write_packet (is_forward output) e only kept (err_same e Run.WriteFault fault)))
+    (λ is. absurd (no_read_fault e only is)))
 
 pub returns-in_err-take-in-Frame-clause-late : goal.returns-in_err-take-in-Frame-clause-late
 returns-in_err-take-in-Frame-clause-late g c =
@@ -227,7 +262,7 @@ returns-in-Tail-clause-runs g c = λ bytes before r written.
     let rep = read.4 bytes r in
     let gives = subst (λ s. NextGives at.capture c.next.new.self (g.S.Source.left at.source) (g.S.Source.left c.next.new.source) c.next.new.frame (Ok s)) c.in-Tail.is c.in_ok-next.ensures.gives in
     let step = step_told at.capture c.next.new.self _ _ rep.rest c.next.new.frame _ gives rep.told in
-    subst (λ a. RunsAs (outcome a plan.script.now (packets_of plan.script.now) plan.output bytes) before (g.O.Sink.taken c.close.new.out) c.close.result) inv.app
+    subst (λ a. RunsAs (outcome_over a plan.script.now (packets_of plan.script.now) plan.output bytes) before (g.O.Sink.taken c.close.new.out) c.close.result) inv.app
     (subst (λ o. RunsAs o before (g.O.Sink.taken c.close.new.out) c.close.result) (sym (ended_at app plan.script.now plan.output bytes _ at.capture read.0 c.in-Tail.bytes rep step.steps.0))
     (c.close.ensures.ends at.capture.header read.0 before read.1 read.2 (Appends-kept before (g.O.Sink.taken at.out) (g.O.Sink.taken c.hand_on.new.out) _ (read.3 before written) c.hand_on.ensures.bytes)))
 
@@ -238,6 +273,10 @@ returns-in-Tail-clause-read g c = λ ok bytes r.
     let gives = subst (λ s. NextGives at.capture c.next.new.self (g.S.Source.left at.source) (g.S.Source.left c.next.new.source) c.next.new.frame (Ok s)) c.in-Tail.is c.in_ok-next.ensures.gives in
     let step = step_told at.capture c.next.new.self _ _ rep.rest c.next.new.frame _ gives rep.told in
     step.told ∙ ap (λ l. Some l) step.steps.2
+
+pub returns-in-Tail-clause-reads : goal.returns-in-Tail-clause-reads
+returns-in-Tail-clause-reads g c =
+    reads_whole g.S.Source c.args.plan.now.output _ _ _ c.close.result (c.in_ok-next.ensures.ended (λ frame. let is = c.in-Tail.is in cc)) (no_read_end c.close.result c.close.ensures.only)
 
 pub returns-in-Tail-clause-silent : goal.returns-in-Tail-clause-silent
 returns-in-Tail-clause-silent g c = λ is. IfErr-weaker c.close.result _ _ (λ e same write memory. same write memory ∙ (c.hand_on.ensures.silent is).1 ∙ c.loop-frame.invariant.silent is) c.close.ensures.silent
@@ -252,7 +291,7 @@ returns-in-End-clause-runs g c = λ bytes before r written.
     let rep = read.4 bytes r in
     let gives = subst (λ s. NextGives at.capture c.next.new.self (g.S.Source.left at.source) (g.S.Source.left c.next.new.source) c.next.new.frame (Ok s)) c.in-End.is c.in_ok-next.ensures.gives in
     let step = step_told at.capture c.next.new.self _ _ rep.rest c.next.new.frame _ gives rep.told in
-    subst (λ a. RunsAs (outcome a plan.script.now (packets_of plan.script.now) plan.output bytes) before (g.O.Sink.taken c.close-in-End.new.out) c.close-in-End.result) inv.app
+    subst (λ a. RunsAs (outcome_over a plan.script.now (packets_of plan.script.now) plan.output bytes) before (g.O.Sink.taken c.close-in-End.new.out) c.close-in-End.result) inv.app
     (subst (λ o. RunsAs o before (g.O.Sink.taken c.close-in-End.new.out) c.close-in-End.result) (sym (ended_at app plan.script.now plan.output bytes _ at.capture read.0 0 rep step.steps.0))
     (c.close-in-End.ensures.ends at.capture.header read.0 before read.1 read.2 (Appends-kept before (g.O.Sink.taken at.out) (g.O.Sink.taken c.hand_on.new.out) _ (read.3 before written) c.hand_on.ensures.bytes)))
 
@@ -263,6 +302,10 @@ returns-in-End-clause-read g c = λ ok bytes r.
     let gives = subst (λ s. NextGives at.capture c.next.new.self (g.S.Source.left at.source) (g.S.Source.left c.next.new.source) c.next.new.frame (Ok s)) c.in-End.is c.in_ok-next.ensures.gives in
     let step = step_told at.capture c.next.new.self _ _ rep.rest c.next.new.frame _ gives rep.told in
     step.told ∙ ap (λ l. Some l) step.steps.1
+
+pub returns-in-End-clause-reads : goal.returns-in-End-clause-reads
+returns-in-End-clause-reads g c =
+    reads_whole g.S.Source c.args.plan.now.output _ _ _ c.close-in-End.result (c.in_ok-next.ensures.ended (λ frame. let is = c.in-End.is in cc)) (no_read_end c.close-in-End.result c.close-in-End.ensures.only)
 
 pub returns-in-End-clause-silent : goal.returns-in-End-clause-silent
 returns-in-End-clause-silent g c = λ is. IfErr-weaker c.close-in-End.result _ _ (λ e same write memory. same write memory ∙ (c.hand_on.ensures.silent is).1 ∙ c.loop-frame.invariant.silent is) c.close-in-End.ensures.silent

@@ -2,7 +2,7 @@ use Rattle.std.proofs.Common.{map, subst}
 use Rattle.std.proofs.lemmas.Result.{err_from_is_err_and}
 use Rattle.std.specs.Prelude.{string_bytes}
 use Rattle.mos_run.specs.Run.{RunsUnder}
-use Rattle.mos_run.proofs.Outcomes.{has_some, refused_words, under_text, refused_script, over_bytes}
+use Rattle.mos_run.proofs.Outcomes.{has_some, refused_words, under_text, refused_script, over_file}
 use Rattle.mos_run.proofs.run.run.Goals as goal
 
 pub returns-in_err-settings-clause-runs : goal.returns-in_err-settings-clause-runs
@@ -30,6 +30,6 @@ returns-clause-runs g c = λ t is.
     let left = g.S.Source.left c.args.capture.now in
     let s = c.in_ok-settings.settings in
     let u = under_text (map string_bytes c.args.words.now) content left t s c.in_ok-settings.ensures.ok is in
-    let over = over_bytes s content left t c.in_ok-script.script u (c.in_ok-script.ensures.ok u.text u.told_so) in
-    subst (λ x. RunsUnder x (g.O.Sink.taken c.args.out.now) (g.O.Sink.taken c.run_asked.new.out) c.run_asked.result) over.comes_to
-    (c.run_asked.ensures.ran.comes_to over.bytes over.told_so)
+    let over = over_file s content left t c.in_ok-script.script u (c.in_ok-script.ensures.ok u.text u.told_so) in
+    subst (λ x. RunsUnder x (g.O.Sink.taken c.args.out.now) (g.O.Sink.taken c.run_file.new.out) c.run_file.result) over.comes_to
+    (c.run_file.ensures.ran.comes_to over.file over.told_so)

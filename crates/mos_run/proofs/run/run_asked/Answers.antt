@@ -14,6 +14,7 @@ returns-then-settings-eq1 g c =
         made = one.made;
         silent = one.silent;
         late = one.late;
+        reads = one.reads;
         from = one.from;
         to = one.to;
       };

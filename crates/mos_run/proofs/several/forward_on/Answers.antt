@@ -1,4 +1,4 @@
-use Rattle.std.proofs.Common.{rules}
+use Rattle.std.proofs.Common.{Ok, Err, refl, sym, ap, ◌∙◌, rules}
 use Rattle.std.proofs.lemmas.Result.{err_from_is_err_and}
 use Rattle.pcap_source.specs.Reading.{frames_at}
 use Rattle.mos_run.specs.Apps.{meaning_of}
@@ -6,6 +6,9 @@ use Rattle.mos_run.specs.Records.{packets_with}
 use Rattle.mos_run.proofs.Replaying.{opened_replay, refused_header}
 use Rattle.mos_run.proofs.Joined.{stopped_any}
 use Rattle.mos_run.proofs.Forwarding.{forward_is, no_header, cut_short, all_left}
+use Rattle.mos_run.specs.declared.refusal.RunError.TheVariants as Run
+use Rattle.mos_run.specs.Refusal.{header_refusal, pool_refusal}
+use Rattle.mos_run.proofs.Ends.{cut_header, cut_lanes, err_same, heavy_of, no_heavy_header, no_write_header, pool_heavy, pool_read_fault, reads_refused, reads_whole}
 use Rattle.mos_run.proofs.several.forward_on.Goals as goal
 
 pub returns-in_err-capture : goal.returns-in_err-capture
@@ -21,6 +24,13 @@ returns-in_err-capture g c = record {
     read = search rules;
     silent = search rules;
     late = search rules;
+    reads =
+        let e = c.in_err-capture.field-0.0 in
+        let p = err_from_is_err_and c.from_residual.result c.from_residual.ensures.1 in
+        rw (p.1, p.2)
+        (reads_refused g.S.Source c.args.plan.now.output _ _ _ (header_refusal e) (no_heavy_header e)
+        (λ kept. (refl, λ fault. no_write_header e (err_same (header_refusal e) Run.WriteFault fault)))
+        (λ is bytes told none. cut_header (g.S.Source.left c.args.source.now) (g.S.Source.left c.open.new.source) bytes e c.in_err-capture.ensures.gives is told none));
     from = search rules;
     to = search rules;
   };
@@ -44,6 +54,10 @@ returns-in_err-write_header g c = record {
     read = search rules;
     silent = search rules;
     late = search rules;
+    reads =
+        let p = err_from_is_err_and c.from_residual-in_err-write_header.result c.from_residual-in_err-write_header.ensures.1 in
+        rw (p.1, p.2)
+        (reads_refused g.S.Source c.args.plan.now.output _ _ _ Run.WriteFault (λ is. cc) (λ kept. absurd (let both = sym c.requires.forwards ∙ kept in cc)) (λ is. absurd (cc)));
     from = search rules;
     to = search rules;
   };
@@ -66,6 +80,16 @@ returns-in_err-versions g c = record {
     read = search rules;
     silent = search rules;
     late = search rules;
+    reads =
+        let e = c.in_err-versions.field-0.0 in
+        let p = err_from_is_err_and c.from_residual-in_err-versions.result c.from_residual-in_err-versions.ensures.1 in
+        rw (p.1, p.2) (record {
+          ended = λ which. absurd (c.in_err-versions.ensures.never_heavy (pool_heavy e (heavy_of _ (pool_refusal e) which)));
+          begun = λ kept. absurd (let both = sym c.requires.forwards ∙ kept in cc);
+          cut = λ fault bytes told none.
+              let rep = opened_replay (g.S.Source.left c.args.source.now) (g.S.Source.left c.open.new.source) c.in_ok-capture.capture bytes c.in_ok-capture.ensures.gives c.in_ok-capture.ensures.start.count c.in_ok-capture.ensures.start.offset told in
+              cut_lanes bytes _ c.in_ok-capture.capture rep (c.in_err-versions.ensures.reads.cut (ap (λ x. Err x) (pool_read_fault e (err_same (pool_refusal e) Run.ReadFault fault))) rep.rest rep.told none);
+        });
     from = search rules;
     to = search rules;
   };
@@ -87,6 +111,7 @@ returns g c = record {
     read = search rules;
     silent = search rules;
     late = search rules;
+    reads = reads_whole g.S.Source c.args.plan.now.output _ _ _ (Ok _) (c.in_ok-versions.ensures.reads.ended refl) (λ fault. cc);
     from = search rules;
     to = search rules;
   };

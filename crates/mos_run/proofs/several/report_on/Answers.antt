@@ -1,4 +1,4 @@
-use Rattle.std.proofs.Common.{◌≡◌, ◌≤◌, true, false, sym, subst, arith, rules}
+use Rattle.std.proofs.Common.{◌≡◌, ◌≤◌, true, false, Ok, Err, refl, sym, ap, subst, arith, inl, inr, rules}
 use Rattle.std.specs.Prelude.{◌⊎◌}
 use Rattle.std.specs.Io.KnownBytes.{Appends}
 use Rattle.std.proofs.lemmas.Result.{err_from_is_err_and}
@@ -11,6 +11,9 @@ use Rattle.mos_run.specs.Records.{packets_with}
 use Rattle.mos_run.specs.Outcome.{closing, is_forward}
 use Rattle.mos_run.proofs.Replaying.{opened_replay, refused_header}
 use Rattle.mos_run.proofs.Joined.{no_write_told, whole_is_tidy, stopped_any, stopped, finished, broke_off}
+use Rattle.mos_run.specs.Refusal.{header_refusal, pool_refusal}
+use Rattle.mos_run.proofs.Refusals.{no_read_fault}
+use Rattle.mos_run.proofs.Ends.{cut_header, cut_lanes, err_same, heavy_of, no_heavy_header, no_write_header, pool_heavy, pool_read_fault, reads_refused, reads_whole}
 use Rattle.mos_run.proofs.several.report_on.Goals as goal
 
 pub returns-in_err-capture : goal.returns-in_err-capture
@@ -26,6 +29,13 @@ returns-in_err-capture g c = record {
     read = search rules;
     silent = search rules;
     late = search rules;
+    reads =
+        let e = c.in_err-capture.field-0.0 in
+        let p = err_from_is_err_and c.from_residual.result c.from_residual.ensures.1 in
+        rw (p.1, p.2)
+        (reads_refused g.S.Source c.args.plan.now.output _ _ _ (header_refusal e) (no_heavy_header e)
+        (λ kept. (refl, λ fault. no_write_header e (err_same (header_refusal e) Run.WriteFault fault)))
+        (λ is bytes told none. cut_header (g.S.Source.left c.args.source.now) (g.S.Source.left c.open.new.source) bytes e c.in_err-capture.ensures.gives is told none));
     from = search rules;
     to = search rules;
   };
@@ -47,6 +57,16 @@ returns-in_err-end g c = record {
     read = search rules;
     silent = search rules;
     late = search rules;
+    reads =
+        let e = c.in_err-end.field-0.0 in
+        let p = err_from_is_err_and c.from_residual-in_err-end.result c.from_residual-in_err-end.ensures.1 in
+        rw (p.1, p.2) (record {
+          ended = λ which. c.in_err-end.ensures.reads.ended (inr (ap (λ x. Err x) (pool_heavy e (heavy_of _ (pool_refusal e) which))));
+          begun = λ kept. inl (refl, no_write_told e c.in_err-end.ensures.no_write);
+          cut = λ fault bytes told none.
+              let rep = opened_replay (g.S.Source.left c.args.source.now) (g.S.Source.left c.open.new.source) c.in_ok-capture.capture bytes c.in_ok-capture.ensures.gives c.in_ok-capture.ensures.start.count c.in_ok-capture.ensures.start.offset told in
+              cut_lanes bytes _ c.in_ok-capture.capture rep (c.in_err-end.ensures.reads.cut (ap (λ x. Err x) (pool_read_fault e (err_same (pool_refusal e) Run.ReadFault fault))) rep.rest rep.told none);
+        });
     from = search rules;
     to = record {
       cause =
@@ -89,6 +109,11 @@ returns-in_err-write_end g c = record {
     read = search rules;
     silent = search rules;
     late = search rules;
+    reads =
+        let p = err_from_is_err_and c.from_residual-in_err-write_end.result c.from_residual-in_err-write_end.ensures.1 in
+        let which = subst (λ e. ((e ≡ Run.WriteFault) × (is_forward c.args.plan.now.output ≡ false)) ⊎ (e ≡ Run.NoMemory)) (sym p.2) c.in_err-write_end.ensures.only in
+        rw (p.1)
+        (reads_whole g.S.Source c.args.plan.now.output _ _ _ (Err p.0) (c.in_ok-end.ensures.reads.ended (inl refl)) (λ fault. no_read_fault p.0 which (err_same p.0 Run.ReadFault fault)));
     from = search rules;
     to = search rules;
   };
@@ -110,6 +135,7 @@ returns g c = record {
     read = search rules;
     silent = search rules;
     late = search rules;
+    reads = reads_whole g.S.Source c.args.plan.now.output _ _ _ (Ok _) (c.in_ok-end.ensures.reads.ended (inl refl)) (λ fault. cc);
     from = search rules;
     to = search rules;
   };

@@ -1,0 +1,315 @@
+-- A run over a file of either form: from what it comes to over the bytes that the file gives, and what its source met behind them.
+use Rattle.std.proofs.Common.{◌≡◌, ◌≢◌, ℕ, ◌<◌, ◌≤◌, Bool, true, false, Option, Some, None, List, [], ◌++◌, length, take, Result, Ok, Err, refl, sym, ap, subst, ◌∙◌, arith, append-nil, inl, inr, ⊎_elim}
+use Rattle.std.proofs.lemmas.List.{length-take}
+use Rattle.std.specs.Prelude.{◌⊎◌, IsOk, IfErr, IsErrOf, min, option_map, if◌then◌else◌}
+use Rattle.mos_bytes.specs.declared.source.Source.{Ghosts as Source}
+use Rattle.mos_bytes.specs.Causes.{Rose}
+use Rattle.mos_bytes.specs.Writes.{AppendsFront}
+use Rattle.mos_bytes.proofs.Writes.{AppendsFront-nil}
+use Rattle.capture_maker.specs.Made.{made as made_bytes}
+use Rattle.app_api.specs.App.{Meaning}
+use Rattle.pcap_source.specs.Captured.{Captured}
+use Rattle.pcap_source.specs.Capture.{Frames, Ending, tail, too_long, too_many, capture_of}
+use Rattle.pcap_source.specs.declared.errors.OpenError.{OpenError}
+use Rattle.pcapng_source.specs.Given.{Given, whole}
+use Rattle.pcapng_source.specs.Blocks.{any, classic_header}
+use Rattle.pcapng_source.specs.Laws.{HasHeader}
+use Rattle.pcapng_source.specs.Sources.{IsReadWhole, MeetsRefusal, Stands, any_ended, any_faults, any_lasting, any_left, any_source, any_start, met_fault}
+use Rattle.pcapng_source.specs.declared.any_source.AnySource.{AnySource}
+use Rattle.pcapng_source.specs.declared.fault.NgFault.{NgFault}
+use Rattle.pcapng_source.specs.declared.fault.NgFault.TheVariants as Ng
+use Rattle.control_script.specs.declared.stamped.Stamped.{Stamped}
+use Rattle.words.specs.declared.settings.Settings.{Settings}
+use Rattle.lane_core.specs.Records.{VersionedPacket}
+use Rattle.worker_pool.specs.Source.{EndsInTail}
+use Rattle.mos_run.specs.declared.output.Output.{Output}
+use Rattle.mos_run.specs.declared.output.Output.TheVariants.{Report, Forward, Summary}
+use Rattle.mos_run.specs.declared.refusal.RunError.{RunError}
+use Rattle.mos_run.specs.declared.refusal.RunError.TheVariants as Run
+use Rattle.mos_run.specs.Apps.{meaning_of}
+use Rattle.mos_run.specs.Records.{packets_with}
+use Rattle.mos_run.specs.Outcome.{Outcome, cut_off, ended, followed, is_forward, is_heavy, outcome, outcome_by, outcome_over, output_of, refused, streamed, weighed}
+use Rattle.mos_run.specs.Refusal.{explained, file_refusal, met_in, status_of}
+use Rattle.mos_run.specs.Told.{Asked, bytes_under, given_under}
+use Rattle.mos_run.specs.Run.{RunsUnder, StopsAs}
+use Rattle.mos_run.specs.Runs.{AreUnrefused, IsIdle}
+use Rattle.mos_run.proofs.Ends.{err_same}
+
+-- ---- what is told in place of a fault
+
+pub not_a_fault : (fault : NgFault) → file_refusal fault ≢ Run.ReadFault
+not_a_fault (Ng.TooManyBlocks offset) is = cc
+not_a_fault (Ng.BadBlock offset) is = cc
+not_a_fault (Ng.BadVersion offset) is = cc
+not_a_fault (Ng.TooManyInterfaces offset) is = cc
+not_a_fault (Ng.BadLink offset) is = cc
+not_a_fault (Ng.TooLong offset) is = cc
+
+-- what isn't a fault of the source stays, and so does one where no refusal was met
+pub unmet : (fault : Option NgFault) (e : RunError) → (e ≡ Run.ReadFault → fault ≢ None → ⊥) → met_in fault e ≡ e
+unmet None e never = refl
+unmet (Some fault) Run.Usage never = refl
+unmet (Some fault) Run.ScriptTooLong never = refl
+unmet (Some fault) (Run.Script kind line) never = refl
+unmet (Some fault) (Run.Capture kind offset) never = refl
+unmet (Some fault) (Run.BadBlock offset) never = refl
+unmet (Some fault) (Run.TooMany offset) never = refl
+unmet (Some fault) (Run.TooManyBlocks offset) never = refl
+unmet (Some fault) (Run.TooManyInterfaces offset) never = refl
+unmet (Some fault) Run.Heavy never = refl
+unmet (Some fault) Run.ReadFault never = absurd (never refl (λ is. cc))
+unmet (Some fault) Run.WriteFault never = refl
+unmet (Some fault) Run.NoMemory never = refl
+
+-- ---- one outcome
+
+module _ (app : Meaning) (script : List Stamped) (given : List Captured → List VersionedPacket) where
+  forward-text : (output : Output) (header : List ℕ) (frames : List Captured) (n : ℕ) → is_forward output ≡ true
+      → (weighed app script given output header frames n).text ≡ streamed app script given output header frames
+  forward-text Report header frames n is = absurd (cc)
+  forward-text Forward header frames n is = append-nil _
+  forward-text (Summary k) header frames n is = absurd (cc)
+
+  weighed-ends : (output : Output) (header : List ℕ) (frames : List Captured) (n : ℕ) (heavy : Bool) (e : RunError)
+      → (if heavy then refused Run.Heavy else ended app script given output header frames n).ends ≡ Err e → e ≡ Run.Heavy
+  weighed-ends output header frames n true e is = cc
+  weighed-ends output header frames n false e is = absurd (cc)
+
+  module _ (output : Output) (header : List ℕ) (old new : Option (List ℕ)) (refusal : NgFault) (fault : Option NgFault) (e : RunError)
+      (met : (f : NgFault) → fault ≡ Some f → refusal ≡ f) (light : e ≢ Run.Heavy) (begun : is_forward output ≡ false → (new ≡ old) × (e ≢ Run.WriteFault)) where
+    same : (o : Outcome) → (e ≡ Run.ReadFault → fault ≢ None → ⊥) → StopsAs o e × AppendsFront old new o.text → StopsAs o (met_in fault e) × AppendsFront old new o.text
+    same o never stops = subst (λ x. StopsAs o x × AppendsFront old new o.text) (sym (unmet fault e never)) stops
+
+    -- at the refusal of the file, behind whole records and a tail
+    told : (o : Outcome) (f : Option NgFault) → fault ≡ f → e ≡ Run.ReadFault → o.ends ≡ Err (file_refusal refusal) → StopsAs o (met_in fault e)
+    told o None none is ends = inr (inl (ap (λ x. met_in x e) none ∙ is))
+    told o (Some f) some is ends = inl (ends ∙ ap (λ x. Err (file_refusal x)) (met f some) ∙ sym (ap (λ x. Err (met_in x e)) some ∙ ap (λ x. Err (met_in (Some f) x)) is))
+
+    stays : (x : RunError) → e ≡ x → x ≢ Run.ReadFault → met_in fault e ≡ x
+    stays x is other = unmet fault e (λ bad some. other (sym is ∙ bad)) ∙ is
+
+    front-by : (b : Bool) → is_forward output ≡ b → (frames : List Captured) (n : ℕ) → AppendsFront old new (weighed app script given output header frames n).text → AppendsFront old new (streamed app script given output header frames)
+    front-by true is frames n part = subst (AppendsFront old new) (forward-text output header frames n is) part
+    front-by false is frames n part = subst (λ x. AppendsFront old x (streamed app script given output header frames)) (sym (begun is).0) (AppendsFront-nil old _)
+
+    some-by : (b : Bool) → is_forward output ≡ b → (frames : List Captured) (n : ℕ) → e ≡ Run.WriteFault → (weighed app script given output header frames n).text ≢ [] → streamed app script given output header frames ≢ []
+    some-by true is frames n write some none = some (forward-text output header frames n is ∙ none)
+    some-by false is frames n write some none = (begun is).1 write
+
+    at-tail : (frames : List Captured) (n : ℕ) → StopsAs (weighed app script given output header frames n) e → StopsAs (cut_off app script given output header frames (file_refusal refusal)) (met_in fault e)
+    at-tail frames n (inl ends) = absurd (light (weighed-ends output header frames n (is_heavy app script given output frames) e ends))
+    at-tail frames n (inr (inl is)) = told (cut_off app script given output header frames (file_refusal refusal)) fault refl is refl
+    at-tail frames n (inr (inr (inl memory))) = inr (inr (inl (stays Run.NoMemory memory (λ is. cc))))
+    at-tail frames n (inr (inr (inr write))) = inr (inr (inr (stays Run.WriteFault write.0 (λ is. cc), some-by (is_forward output) refl frames n write.0 write.1)))
+
+    at-ending : (frames : List Captured) (ending : Ending) → (e ≡ Run.ReadFault → fault ≢ None → (n : ℕ) × (ending ≡ tail n))
+        → StopsAs (followed app script given output header frames ending None) e × AppendsFront old new (followed app script given output header frames ending None).text
+        → StopsAs (followed app script given output header frames ending (Some refusal)) (met_in fault e) × AppendsFront old new (followed app script given output header frames ending (Some refusal)).text
+    at-ending frames (tail n) cut stops = (at-tail frames n stops.0, front-by (is_forward output) refl frames n stops.1)
+    at-ending frames (too_long offset) cut stops = same _ (λ is some. let bad = (cut is some).1 in cc) stops
+    at-ending frames (too_many offset) cut stops = same _ (λ is some. let bad = (cut is some).1 in cc) stops
+
+    at-capture : (capture : Result Frames OpenError) → (e ≡ Run.ReadFault → fault ≢ None → (f : Frames) × (capture ≡ Ok f) × EndsInTail f)
+        → StopsAs (outcome_by app script given output header capture None) e × AppendsFront old new (outcome_by app script given output header capture None).text
+        → StopsAs (outcome_by app script given output header capture (Some refusal)) (met_in fault e) × AppendsFront old new (outcome_by app script given output header capture (Some refusal)).text
+    at-capture (Ok f) cut stops = at-ending f.frames f.ending (λ is some. let c = cut is some in let eq = c.1 in let one : f ≡ c.0 = cc in let t = c.2 in (t.0, ap (λ x. x.ending) one ∙ t.1)) stops
+    at-capture (Err x) cut stops = same _ (λ is some. let bad = (cut is some).1 in cc) stops
+
+-- ---- what the run comes to
+
+long-enough : (bytes : List ℕ) → take 24 bytes ≡ classic_header → 24 ≤ length bytes
+unfolding classic_header
+long-enough bytes is =
+    let same : min 24 (length bytes) ≡ 24 = sym (length-take 24 bytes) ∙ ap length is in
+    omega (arith, same)
+
+module _ (s : Settings) (commands : List Stamped) (bytes : List ℕ) (old new : Option (List ℕ)) where
+  -- where a run comes to this over the bytes alone
+  pub over_given : (refusal fault : Option NgFault) (result : Result (List ℕ) RunError)
+      → ((f : NgFault) → fault ≡ Some f → refusal ≡ Some f)
+      → (refusal ≢ None → 24 ≤ length bytes)
+      → (IsOk result ⊎ IsErrOf result Run.Heavy → refusal ≡ None)
+      → (is_forward (output_of s) ≡ false → ((new ≡ old) × (IsErrOf result Run.WriteFault → ⊥)) ⊎ (refusal ≡ None))
+      → (IsErrOf result Run.ReadFault → fault ≢ None → AreUnrefused bytes)
+      → RunsUnder (Asked s commands (whole bytes)) old new result
+      → RunsUnder (Asked s commands (record { bytes = bytes; refusal = refusal })) old new (explained fault result)
+  unfolding outcome
+  over_given None None (Ok versions) met long all begun cut runs = runs
+  over_given None None (Err e) met long all begun cut runs = runs
+  over_given None (Some f) result met long all begun cut runs = absurd (let bad = met f refl in cc)
+  over_given (Some f) fault (Ok versions) met long all begun cut runs = absurd (let bad = all (inl refl) in cc)
+  over_given (Some f) fault (Err e) met long all begun cut runs =
+      let app = meaning_of s.app in
+      record {
+        versions = runs.versions;
+        allowed = runs.allowed;
+        holds = at-capture app commands (packets_with app commands runs.versions) (output_of s) (take 24 bytes) old new f fault e
+            (λ g is. let same = met g is in cc)
+            (λ heavy. let bad = all (inr (ap (λ x. Err x) heavy)) in cc)
+            (λ kept. idle (begun kept))
+            (capture_of bytes) (λ is some. unrefused (cut (ap (λ x. Err x) is) some)) runs.holds;
+      }
+    where
+      idle : ((new ≡ old) × (IsErrOf {T = List ℕ} (Err e) Run.WriteFault → ⊥)) ⊎ (Some f ≡ None) → (new ≡ old) × (e ≢ Run.WriteFault)
+      idle (inl still) = (still.0, λ is. still.1 (ap (λ x. Err x) is))
+      idle (inr none) = absurd (cc)
+
+      unrefused : AreUnrefused bytes → (g : Frames) × (capture_of bytes ≡ Ok g) × EndsInTail g
+      unrefused (inl short) = let most = long (λ none. cc) in absurd (omega (arith, short, most))
+      unrefused (inr it) = it
+
+-- ---- what stands of a result that is explained
+
+unchanged : (fault : Option NgFault) (e x : RunError) → e ≡ x → x ≢ Run.ReadFault → met_in fault e ≡ x
+unchanged fault e x is other = unmet fault e (λ bad some. other (sym is ∙ bad)) ∙ is
+
+pub ok_before : (fault : Option NgFault) (result : Result (List ℕ) RunError) → IsOk (explained fault result) → IsOk result
+ok_before fault (Ok versions) ok = refl
+ok_before fault (Err e) ok = ok
+
+pub silent_after : (P : Type 0) (fault : Option NgFault) (result : Result (List ℕ) RunError) → IfErr result (λ e. e ≢ Run.WriteFault → e ≢ Run.NoMemory → P)
+    → IfErr (explained fault result) (λ e. e ≢ Run.WriteFault → e ≢ Run.NoMemory → P)
+silent_after P fault (Ok versions) silent = tt
+silent_after P fault (Err e) silent = λ write memory.
+    silent (λ is. write (unchanged fault e Run.WriteFault is (λ bad. cc))) (λ is. memory (unchanged fault e Run.NoMemory is (λ bad. cc)))
+
+file-late : (fault : NgFault) → 2 < status_of (file_refusal fault)
+file-late (Ng.TooManyBlocks offset) = omega arith
+file-late (Ng.BadBlock offset) = omega arith
+file-late (Ng.BadVersion offset) = omega arith
+file-late (Ng.TooManyInterfaces offset) = omega arith
+file-late (Ng.BadLink offset) = omega arith
+file-late (Ng.TooLong offset) = omega arith
+
+met-late : (fault : Option NgFault) (e : RunError) → 2 < status_of e → 2 < status_of (met_in fault e)
+met-late None e late = late
+met-late (Some fault) Run.Usage late = late
+met-late (Some fault) Run.ScriptTooLong late = late
+met-late (Some fault) (Run.Script kind line) late = late
+met-late (Some fault) (Run.Capture kind offset) late = late
+met-late (Some fault) (Run.BadBlock offset) late = late
+met-late (Some fault) (Run.TooMany offset) late = late
+met-late (Some fault) (Run.TooManyBlocks offset) late = late
+met-late (Some fault) (Run.TooManyInterfaces offset) late = late
+met-late (Some fault) Run.Heavy late = late
+met-late (Some fault) Run.ReadFault late = file-late fault
+met-late (Some fault) Run.WriteFault late = late
+met-late (Some fault) Run.NoMemory late = late
+
+pub late_after : (fault : Option NgFault) (result : Result (List ℕ) RunError) → IfErr result (λ e. 2 < status_of e) → IfErr (explained fault result) (λ e. 2 < status_of e)
+late_after fault (Ok versions) late = tt
+late_after fault (Err e) late = met-late fault e late
+
+-- a fault of the source is told only where it was told, and no refusal was met
+fault-by : (fault : Option NgFault) (e : RunError) → met_in fault e ≡ Run.ReadFault → (e ≡ Run.ReadFault) × (fault ≡ None)
+fault-by None e is = (is, refl)
+fault-by (Some fault) Run.Usage is = absurd (cc)
+fault-by (Some fault) Run.ScriptTooLong is = absurd (cc)
+fault-by (Some fault) (Run.Script kind line) is = absurd (cc)
+fault-by (Some fault) (Run.Capture kind offset) is = absurd (cc)
+fault-by (Some fault) (Run.BadBlock offset) is = absurd (cc)
+fault-by (Some fault) (Run.TooMany offset) is = absurd (cc)
+fault-by (Some fault) (Run.TooManyBlocks offset) is = absurd (cc)
+fault-by (Some fault) (Run.TooManyInterfaces offset) is = absurd (cc)
+fault-by (Some fault) Run.Heavy is = absurd (cc)
+fault-by (Some fault) Run.ReadFault is = absurd (not_a_fault fault is)
+fault-by (Some fault) Run.WriteFault is = absurd (cc)
+fault-by (Some fault) Run.NoMemory is = absurd (cc)
+
+pub fault_before : (fault : Option NgFault) (result : Result (List ℕ) RunError) → IsErrOf (explained fault result) Run.ReadFault → IsErrOf result Run.ReadFault × (fault ≡ None)
+fault_before fault (Ok versions) is = absurd (cc)
+fault_before fault (Err e) is = let both = fault-by fault e (err_same (met_in fault e) Run.ReadFault is) in (ap (λ x. Err x) both.0, both.1)
+
+-- and so is a fault of writing
+no-write : (fault : NgFault) → file_refusal fault ≢ Run.WriteFault
+no-write (Ng.TooManyBlocks offset) is = cc
+no-write (Ng.BadBlock offset) is = cc
+no-write (Ng.BadVersion offset) is = cc
+no-write (Ng.TooManyInterfaces offset) is = cc
+no-write (Ng.BadLink offset) is = cc
+no-write (Ng.TooLong offset) is = cc
+
+write-by : (fault : Option NgFault) (e : RunError) → met_in fault e ≡ Run.WriteFault → e ≡ Run.WriteFault
+write-by None e is = is
+write-by (Some fault) Run.Usage is = absurd (cc)
+write-by (Some fault) Run.ScriptTooLong is = absurd (cc)
+write-by (Some fault) (Run.Script kind line) is = absurd (cc)
+write-by (Some fault) (Run.Capture kind offset) is = absurd (cc)
+write-by (Some fault) (Run.BadBlock offset) is = absurd (cc)
+write-by (Some fault) (Run.TooMany offset) is = absurd (cc)
+write-by (Some fault) (Run.TooManyBlocks offset) is = absurd (cc)
+write-by (Some fault) (Run.TooManyInterfaces offset) is = absurd (cc)
+write-by (Some fault) Run.Heavy is = absurd (cc)
+write-by (Some fault) Run.ReadFault is = absurd (no-write fault is)
+write-by (Some fault) Run.WriteFault is = refl
+write-by (Some fault) Run.NoMemory is = absurd (cc)
+
+pub write_before : (fault : Option NgFault) (result : Result (List ℕ) RunError) → IsErrOf (explained fault result) Run.WriteFault → IsErrOf result Run.WriteFault
+write_before fault (Ok versions) is = absurd (cc)
+write_before fault (Err e) is = ap (λ x. Err x) (write-by fault e (err_same (met_in fault e) Run.WriteFault is))
+
+-- ---- the source over the file
+
+given-by : (left : Option (List ℕ)) (file : Given) → option_map any left ≡ Some file → option_map (λ bytes. (any bytes).bytes) left ≡ Some file.bytes
+given-by None file is = absurd (cc)
+given-by (Some bytes) file is = let same : any bytes ≡ file = cc in ap (λ g. Some g.bytes) same
+
+met-by : (left given : Option (List ℕ)) (file : Given) (f : NgFault) → option_map any left ≡ Some file → MeetsRefusal left given f → (file.refusal ≡ Some f) × (given ≡ Some [])
+met-by None given file f is met = absurd (cc)
+met-by (Some bytes) given file f is met = let same : any bytes ≡ file = cc in (ap (λ g. g.refusal) (sym same) ∙ met.0, met.1)
+
+whole-by : (left now : Option (List ℕ)) (file : Given) → option_map any left ≡ Some file → IsReadWhole left now → file.refusal ≡ None
+whole-by None now file is whole = absurd (cc)
+whole-by (Some bytes) now file is whole = let same : any bytes ≡ file = cc in ap (λ g. g.refusal) (sym same) ∙ whole.0
+
+pub read_by : (left now : Option (List ℕ)) (bytes : List ℕ) → left ≡ Some bytes → IsReadWhole left now → now ≡ Some []
+read_by None now bytes is whole = absurd (cc)
+read_by (Some b) now bytes is whole = whole.1
+
+long-by : ((bytes : List ℕ) → HasHeader bytes) → (left : Option (List ℕ)) (file : Given) → option_map any left ≡ Some file → file.refusal ≢ None → 24 ≤ length file.bytes
+long-by law None file is some = absurd (cc)
+long-by law (Some bytes) file is some =
+    let same : any bytes ≡ file = cc in
+    subst (λ g. 24 ≤ length g.bytes) same (long-enough (any bytes).bytes (law bytes (λ none. some (ap (λ g. g.refusal) (sym same) ∙ none))))
+
+module _ {S : Type 0} (source : Source S) (a b : AnySource S source) (s0 : S) (start : any_start a ≡ s0) (left0 : any_left a ≡ option_map (λ file. (any file).bytes) (source.left s0))
+    (lasts : any_lasting b ≡ any_lasting a) (stands : Stands b) where
+  pub start_is : any_start b ≡ s0
+  start_is = ap (λ l. l.1) lasts ∙ start
+
+  pub whole_is : any_ended b → IsReadWhole (source.left s0) (source.left (any_source b))
+  whole_is ended = subst (λ x. IsReadWhole (source.left x) (source.left (any_source b))) start_is (stands.ends ended).1
+
+  met-is : (f : NgFault) → met_fault b ≡ Some f → MeetsRefusal (source.left s0) (any_left b) f
+  met-is f is = subst (λ x. MeetsRefusal (source.left x) (any_left b) f) start_is (stands.met f is)
+
+  module _ (s : Settings) (commands : List Stamped) (old new : Option (List ℕ)) (result : Result (List ℕ) RunError) (law : (bytes : List ℕ) → HasHeader bytes) (none0 : met_fault a ≡ None)
+      (comes : (bytes : List ℕ) → bytes_under s.make (any_left a) ≡ Some bytes → RunsUnder (Asked s commands (whole bytes)) old new result)
+      (made : s.make ≢ None → b ≡ a)
+      (ended : s.make ≡ None → IsOk result ⊎ IsErrOf result Run.Heavy → any_ended b)
+      (begun : s.make ≡ None → is_forward (output_of s) ≡ false → ((new ≡ old) × (IsErrOf result Run.WriteFault → ⊥)) ⊎ any_ended b)
+      (cut : s.make ≡ None → IsErrOf result Run.ReadFault → (bytes : List ℕ) → any_left a ≡ Some bytes → any_left b ≡ Some [] → AreUnrefused bytes) where
+    some-fault : (o : Option NgFault) → o ≢ None → (f : NgFault) × (o ≡ Some f)
+    some-fault None some = absurd (some refl)
+    some-fault (Some f) some = (f, refl)
+
+    comes-by : (make : Option ℕ) → s.make ≡ make → (file : Given) → given_under make (source.left s0) ≡ Some file → RunsUnder (Asked s commands file) old new (explained (met_fault b) result)
+    comes-by None is file told =
+        let bytes_are : any_left a ≡ Some file.bytes = left0 ∙ given-by (source.left s0) file told in
+        over_given s commands file.bytes old new file.refusal (met_fault b) result
+        (λ f met. (met-by (source.left s0) (any_left b) file f told (met-is f met)).0)
+        (long-by law (source.left s0) file told)
+        (λ which. whole-by (source.left s0) (source.left (any_source b)) file told (whole_is (ended is which)))
+        (λ kept. ⊎_elim (λ idle. inl idle) (λ end. inr (whole-by (source.left s0) (source.left (any_source b)) file told (whole_is end))) (begun is kept))
+        (λ fault some. let f = some-fault (met_fault b) some in cut is fault file.bytes bytes_are (met-by (source.left s0) (any_left b) file f.0 told (met-is f.0 f.1)).1)
+        (comes file.bytes (ap (λ m. bytes_under m (any_left a)) is ∙ bytes_are))
+    comes-by (Some n) is file told =
+        let same : whole (made_bytes n) ≡ file = cc in
+        let none : met_fault b ≡ None = ap (λ x. met_fault x) (made (λ bad. let both = sym is ∙ bad in cc)) ∙ none0 in
+        subst (λ g. RunsUnder (Asked s commands g) old new (explained (met_fault b) result)) same
+        (over_given s commands (made_bytes n) old new None (met_fault b) result
+        (λ f met. absurd (let both = sym none ∙ met in cc)) (λ some. absurd (some refl)) (λ which. refl) (λ kept. inr refl) (λ fault some. absurd (some none))
+        (comes (made_bytes n) (ap (λ m. bytes_under m (any_left a)) is)))
+
+    pub file_comes : (file : Given) → given_under s.make (source.left s0) ≡ Some file → RunsUnder (Asked s commands file) old new (explained (met_fault b) result)
+    file_comes file told = comes-by s.make refl file told
