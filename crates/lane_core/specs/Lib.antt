@@ -9,4 +9,5 @@ pub mod Trees
 pub mod Steps
 pub mod Silences
 pub mod Kept
+pub mod Closing
 pub mod Lane
