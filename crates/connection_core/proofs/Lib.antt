@@ -9,3 +9,4 @@ pub mod Phases
 pub mod FirstTrees
 pub mod Firing
 pub mod Unheard
+pub mod Silenced

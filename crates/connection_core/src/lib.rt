@@ -13,6 +13,7 @@ mod ledger;
 mod look;
 mod moment;
 mod orphan;
+mod silent;
 mod terms;
 
 pub use flow::{Flow, Step};
@@ -20,4 +21,5 @@ pub use in_force::InForce;
 pub use ledger::{Counts, Ledger, Notes};
 pub use moment::Arrived;
 pub use orphan::lone;
+pub use silent::silence;
 pub use terms::Terms;
