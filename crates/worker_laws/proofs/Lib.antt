@@ -1,3 +1,4 @@
+mod Silence
 mod Restricted
 mod Naming
 mod Joining

@@ -44,13 +44,13 @@ module _ (app : Meaning) (commands : List Command) (packets : List Arrival) (vs 
   members = records_under (over_under app commands) vs packets
 
   pub run_is : run_under app commands vs packets ≡ map (with_history app (in_force app commands)) members
-  run_is = same_records app (in_force app commands) [] (packets_under app commands vs packets)
+  run_is = same_records app (in_force app commands) (packets_under app commands vs packets)
 
   pub part_is : (lane : EndpointPair → ℕ) (l : ℕ) → filter (λ r. lane_of lane r.first.sight == l) (run_under app commands vs packets) ≡ map (with_history app (in_force app commands)) (part lane l members)
   part_is lane l = ap (filter (λ r. lane_of lane r.first.sight == l)) run_is ∙ same_part app (in_force app commands) (λ sight. lane_of lane sight == l) members
 
   pub verdicts_by : verdicts_under app commands vs packets ≡ judged (over_under app commands) (judge_by app (in_force app commands)) (packets_under app commands vs packets)
-  verdicts_by = same_judged app (in_force app commands) [] (packets_under app commands vs packets)
+  verdicts_by = same_judged app (in_force app commands) (packets_under app commands vs packets)
 
   pub versions_by : (least most : ℕ → ℕ) (lane : EndpointPair → ℕ) → IsAllowedRun app commands least most lane packets vs → map (λ r. r.version) (run_under app commands vs packets) ≡ vs
   versions_by least most lane allowed =
@@ -62,7 +62,7 @@ module _ (app : Meaning) (commands : List Command) (packets : List Arrival) (vs 
     pub records_by_ceilings : run_under app commands vs packets ≡ records app (in_force app commands) (versioned most packets)
     records_by_ceilings =
         run_is ∙ ap (map (with_history app (in_force app commands))) (records_of_allowed least most (over_under app commands) lane packets vs same allowed)
-        ∙ sym (same_records app (in_force app commands) [] (versioned most packets))
+        ∙ sym (same_records app (in_force app commands) (versioned most packets))
 
     list_by_ceilings : vs ≡ versions_of (members_of (over_under app commands) (versioned most packets))
     list_by_ceilings =
@@ -74,7 +74,7 @@ module _ (app : Meaning) (commands : List Command) (packets : List Arrival) (vs 
         verdicts_by
         ∙ ap (λ ps. judged (over_under app commands) (judge_by app (in_force app commands)) (packets_under app commands vs ps)) (sym (arrivals_versioned most packets))
         ∙ judged_again (over_under app commands) (judge_by app (in_force app commands)) vs [] (versioned most packets) list_by_ceilings
-        ∙ sym (same_judged app (in_force app commands) [] (versioned most packets))
+        ∙ sym (same_judged app (in_force app commands) (versioned most packets))
 
 -- ---- verdicts in the order of the packets
 
@@ -103,12 +103,12 @@ module _ (app : Meaning) (commands : List Command) (vs : List ℕ) where
 
   pub verdicts_front : (packets more : List Arrival) → IsPrefix (verdicts_under app commands vs packets) (verdicts_under app commands vs (packets ++ more))
   verdicts_front packets more =
-      let over = over_under app commands in
+      let endings = over_under app commands in
       let judge = judge_by app (in_force app commands) in (
-        judged_from over judge (records_under over vs packets) (named_from over vs (records_under over vs packets) more),
-        ap (λ js. js ++ judged_from over judge (records_under over vs packets) (named_from over vs (records_under over vs packets) more)) (verdicts_by app commands packets vs)
-            ∙ judged_more over judge [] (named over vs packets) (named_from over vs (records_under over vs packets) more)
-            ∙ ap (judged over judge) (named_more over vs [] packets more)
+        judged_from endings judge (records_under endings vs packets) (named_from endings vs (records_under endings vs packets) more),
+        ap (λ js. js ++ judged_from endings judge (records_under endings vs packets) (named_from endings vs (records_under endings vs packets) more)) (verdicts_by app commands packets vs)
+            ∙ judged_more endings judge [] (named endings vs packets) (named_from endings vs (records_under endings vs packets) more)
+            ∙ ap (judged endings judge) (named_more endings vs [] packets more)
             ∙ sym (verdicts_by app commands (packets ++ more) vs),
       )
 
@@ -137,12 +137,12 @@ part_weighs q (r ∷ rs) = some_weigh q r rs (q r) (part_weighs q rs)
 module _ (later : LaterCommandsChangeNone) (one : OneEventMore) (last : LastPacketIsAdded) (app : Meaning) (commands : List Command) (lane : EndpointPair → ℕ) (packets : List Arrival) (lanes : List (List LaneEvent))
     (front : (l : ℕ) → IsPrefix (commands_of (events_at lanes l)) commands) where
   judged_events : (l : ℕ) → verdicts_in app (events_at lanes l) ≡ judged (over_under app commands) (judge_by app (in_force app commands)) (packets_at lanes l)
-  judged_events l = verdicts_of_events later app commands one last (events_at lanes l) (front l) ∙ same_judged app (in_force app commands) [] (packets_at lanes l)
+  judged_events l = verdicts_of_events later app commands one last (events_at lanes l) (front l) ∙ same_judged app (in_force app commands) (packets_at lanes l)
 
   whole_is : (vs : List ℕ) → AreRuns (over_under app commands) lane packets (packets_at lanes) vs → AreOneRun app commands lane packets lanes vs
   whole_is vs runs = record {
     records = λ l.
-        run_of_events later app commands (events_at lanes l) (front l) ∙ same_records app (in_force app commands) [] (packets_at lanes l)
+        run_of_events later app commands (events_at lanes l) (front l) ∙ same_records app (in_force app commands) (packets_at lanes l)
         ∙ ap (map (with_history app (in_force app commands))) (sym (runs.parts_are l)) ∙ sym (part_is app commands packets vs lane l);
     verdicts = λ l.
         judged_events l ∙ sym (runs.verdicts_are (judge_by app (in_force app commands)) l) ∙ ap (judged_part lane l) (sym (verdicts_by app commands packets vs));
@@ -153,7 +153,7 @@ module _ (later : LaterCommandsChangeNone) (one : OneEventMore) (last : LastPack
     weights_are l =
         let own = ap weight (run_of_events later app commands (events_at lanes l) (front l)) in
         let grows = more_weigh last never app (in_force app commands) (packets_at lanes l) (more l) in
-        let its_part = ap weight (same_records app (in_force app commands) [] (packets_at lanes l ++ more l) ∙ ap (map (with_history app (in_force app commands))) (sym (runs.parts_are l)) ∙ sym (part_is app commands packets vs lane l)) in
+        let its_part = ap weight (same_records app (in_force app commands) (packets_at lanes l ++ more l) ∙ ap (map (with_history app (in_force app commands))) (sym (runs.parts_are l)) ∙ sym (part_is app commands packets vs lane l)) in
         let all = part_weighs (λ r. lane_of lane r.first.sight == l) (run_under app commands vs packets) in omega arith
 
     fronts_are : AreFrontsOfRun app commands lane packets lanes vs

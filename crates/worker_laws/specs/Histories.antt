@@ -6,7 +6,7 @@ use Rattle.forest_versions.specs.State.{ControlState}
 use Rattle.connection_core.specs.History.{History, is_over}
 use Rattle.lane_core.specs.Sight.{Sight, Arrival}
 use Rattle.lane_core.specs.Records.{RecordSoFar, history_after, first_history, verdict_after, first_verdict}
-use Rattle.worker_laws.specs.Members.{Members}
+use Rattle.worker_laws.specs.Members.{Endings, Members}
 
 -- a history with later packets, one after the other
 unfoldable pub history_through : Meaning → ControlState → Sight → History → List Arrival → History
@@ -18,9 +18,14 @@ abbrev pub history_of : Meaning → ControlState → Arrival → List Arrival �
 history_of app control first later = history_through app control first.sight (first_history app control first) later
 
 -- whether a connection is over after these packets
-abbrev pub over_by : Meaning → (ℕ → ControlState) → ℕ → List Arrival → Bool
-over_by app control_at version [] = false
-over_by app control_at version (first ∷ later) = is_over (history_of app (control_at version) first later)
+abbrev pub is_over_after : Meaning → (ℕ → ControlState) → ℕ → List Arrival → Bool
+is_over_after app control_at version [] = false
+is_over_after app control_at version (first ∷ later) = is_over (history_of app (control_at version) first later)
+
+-- how connections end: after a packet, and never by silence
+abbrev pub over_by : Meaning → (ℕ → ControlState) → Endings
+over_by app control_at =
+    record { is_over = is_over_after app control_at; is_silent = λ version packets now. false }
 
 -- what becomes of a packet after these
 abbrev pub judge_by : Meaning → (ℕ → ControlState) → ℕ → List Arrival → Arrival → Verdict
