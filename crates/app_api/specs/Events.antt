@@ -28,6 +28,9 @@ END = 262
 abbrev pub ORPHAN : ℕ
 ORPHAN = 263
 
+abbrev pub TIMER : ℕ
+TIMER = 264
+
 -- whether the hook is the sender's
 abbrev pub is_snd : Hook → Bool
 is_snd Snd = true
@@ -43,5 +46,5 @@ unfoldable pub allows_hook : ℕ → Hook → Bool
 allows_hook event hook =
     if event == PKT_IN || event == STATE then true else
     if event == START || event == ORPHAN then is_snd hook else
-    if event == REXMIT || event == NEW_DATA || event == ERROR || event == END then is_rcv hook else
+    if event == REXMIT || event == NEW_DATA || event == ERROR || event == END || event == TIMER then is_rcv hook else
     false

@@ -21,6 +21,8 @@ pub const STATE: u16 = 261;
 pub const END: u16 = 262;
 /// A packet that belongs to no connection.
 pub const ORPHAN: u16 = 263;
+/// A connection ended by idleness.
+pub const TIMER: u16 = 264;
 
 /// Whether a built-in event is raised at a side. No other number is.
 #[tactic(auto, unfolding(crate::specs::Events::allows_hook))]
@@ -30,7 +32,7 @@ pub fn allows_hook(event: u16, hook: Hook) -> bool
     match event {
         PKT_IN | STATE => true,
         START | ORPHAN => hook == Hook::Snd,
-        REXMIT | NEW_DATA | ERROR | END => hook == Hook::Rcv,
+        REXMIT | NEW_DATA | ERROR | END | TIMER => hook == Hook::Rcv,
         _ => false,
     }
 }

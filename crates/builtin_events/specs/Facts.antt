@@ -1,4 +1,4 @@
--- The facts of one phase, and of an orphan.
+-- The facts of one phase, of an orphan, and of a connection that ended by idleness.
 use Rattle.std.specs.Prelude.{ℕ, Option, Some, if◌then◌else◌}
 use Rattle.native_filters.specs.declared.facts.Facts.{Facts}
 use Rattle.native_filters.specs.Facts.{no_facts}
@@ -9,6 +9,9 @@ use Rattle.packet_views.specs.Flags.{has_rst}
 use Rattle.tcp_emulation.specs.States.{number_of}
 use Rattle.tcp_emulation.specs.declared.segment.Side.{Side}
 use Rattle.tcp_emulation.specs.declared.segment.Side.TheVariants.{Client, Server}
+use Rattle.flow_table.specs.declared.endpoint.Endpoint.{Endpoint}
+use Rattle.flow_table.specs.declared.endpoint.Endpoint.TheVariants.{V4, V6}
+use Rattle.flow_table.specs.Endpoint.{port_of}
 use Rattle.flow_socket.specs.declared.answers.Sent.{Sent}
 use Rattle.flow_socket.specs.declared.answers.Got.{Got}
 
@@ -76,3 +79,18 @@ known_facts class h = no_facts
 -- the facts of an orphan
 unfoldable pub orphan_facts : Class → Option Head → Facts
 orphan_facts class h = record (known_facts class h) { class = class_number class }
+
+-- an endpoint's address as a fact: one of IPv6 has more than 64 bits, and none is told
+abbrev pub fact_of_address : Endpoint → ℕ
+fact_of_address (V4 addr port) = addr
+fact_of_address (V6 addr port) = 0
+
+-- the facts of a connection that ended by idleness: from its client to its server, and of how many packets it was
+unfoldable pub timer_facts : Endpoint → Endpoint → ℕ → Facts
+timer_facts client server members = record no_facts {
+  nth = members;
+  src = fact_of_address client;
+  dst = fact_of_address server;
+  sport = port_of client;
+  dport = port_of server;
+}

@@ -5,11 +5,12 @@ use Rattle.native_filters.specs.declared.facts.Hook.TheVariants.{Snd, Rcv}
 use Rattle.packet_views.specs.declared.packet.Class.{Class}
 use Rattle.packet_views.specs.declared.packet.Head.{Head}
 use Rattle.tcp_emulation.specs.declared.segment.Side.{Side}
-use Rattle.app_api.specs.Events.{START, PKT_IN, REXMIT, NEW_DATA, ERROR, STATE, END, ORPHAN}
+use Rattle.flow_table.specs.declared.endpoint.Endpoint.{Endpoint}
+use Rattle.app_api.specs.Events.{START, PKT_IN, REXMIT, NEW_DATA, ERROR, STATE, END, ORPHAN, TIMER}
 use Rattle.flow_socket.specs.declared.answers.Sent.{Sent}
 use Rattle.flow_socket.specs.declared.answers.Got.{Got}
 use Rattle.builtin_events.specs.declared.raise.Raise.{Raise}
-use Rattle.builtin_events.specs.Facts.{sender_facts, receiver_facts, orphan_facts}
+use Rattle.builtin_events.specs.Facts.{sender_facts, receiver_facts, orphan_facts, timer_facts}
 
 -- a raise where a condition holds
 abbrev pub raise_if : Bool → Raise → List Raise
@@ -41,3 +42,7 @@ receiver_raises h from nth g =
 -- of a packet that belongs to no connection
 unfoldable pub orphan_raises : Class → Option Head → List Raise
 orphan_raises class h = record { hook = Snd; event = ORPHAN; facts = orphan_facts class h } ∷ []
+
+-- of a connection that ended by idleness, which had so many packets
+unfoldable pub timer_raise : Endpoint → Endpoint → ℕ → Raise
+timer_raise client server members = record { hook = Rcv; event = TIMER; facts = timer_facts client server members }

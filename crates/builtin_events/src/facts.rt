@@ -1,10 +1,12 @@
-//! The facts of one phase, and of an orphan.
+//! The facts of one phase, of an orphan, and of a connection that ended by idleness.
 
 ghost use Rattle.std.specs.Prelude.{◌≡◌};
 ghost use Rattle.std.specs.Option.{option_copied};
-ghost use Rattle.builtin_events.specs.Facts.{side_number, class_number, head_facts, sender_facts, receiver_facts, known_facts, orphan_facts, read_bytes};
+ghost use Rattle.builtin_events.specs.Facts.{side_number, class_number, head_facts, sender_facts, receiver_facts, known_facts, orphan_facts, fact_of_address, timer_facts, read_bytes};
+ghost use Rattle.flow_table.specs.Endpoint.{port_of};
 
 use flow_socket::{Got, Sent};
+use flow_table::Endpoint;
 use native_filters::Facts;
 use packet_views::{Class, Head};
 use tcp_emulation::Side;
@@ -51,6 +53,39 @@ pub(crate) fn orphan_facts(class: Class, h: Option<&Head>) -> Facts
     Facts {
         class: class_number(class),
         ..known_facts(class, h)
+    }
+}
+
+/// The facts of a connection that ended by idleness: the client's direction, and the number of its packets.
+#[tactic(auto, unfolding(crate::specs::Facts::timer_facts))]
+pub(crate) fn timer_facts(client: Endpoint, server: Endpoint, members: u64) -> Facts
+    ensures { result ≡ timer_facts client server members }
+{
+    Facts {
+        nth: members,
+        src: fact_of_address(client),
+        dst: fact_of_address(server),
+        sport: fact_of_port(client),
+        dport: fact_of_port(server),
+        ..Facts::none()
+    }
+}
+
+// An IPv4 address as a fact. An IPv6 address has more than 64 bits.
+fn fact_of_address(end: Endpoint) -> u64
+    ensures { result ≡ fact_of_address end }
+{
+    match end {
+        Endpoint::V4 { addr, .. } => u64::from(addr),
+        Endpoint::V6 { .. } => 0,
+    }
+}
+
+fn fact_of_port(end: Endpoint) -> u64
+    ensures { result ≡ port_of end }
+{
+    match end {
+        Endpoint::V4 { port, .. } | Endpoint::V6 { port, .. } => u64::from(port),
     }
 }
 

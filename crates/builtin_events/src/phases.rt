@@ -1,16 +1,17 @@
-//! What is raised in both phases of a packet, and by an orphan.
+//! What is raised in both phases of a packet, by an orphan, and where a connection ended by idleness.
 
-ghost use Rattle.std.specs.Prelude.{◌≡◌};
+ghost use Rattle.std.specs.Prelude.{◌≡◌, [], ◌∷◌};
 ghost use Rattle.std.specs.Option.{option_copied};
-ghost use Rattle.builtin_events.specs.Facts.{sender_facts, receiver_facts, orphan_facts};
+ghost use Rattle.builtin_events.specs.Facts.{sender_facts, receiver_facts, orphan_facts, timer_facts};
 ghost use Rattle.builtin_events.specs.Raised.{raises_of};
-ghost use Rattle.builtin_events.specs.Raises.{sender_raises, receiver_raises, orphan_raises};
+ghost use Rattle.builtin_events.specs.Raises.{sender_raises, receiver_raises, orphan_raises, timer_raise};
 
-use crate::facts::{orphan_facts, receiver_facts, sender_facts};
+use crate::facts::{orphan_facts, receiver_facts, sender_facts, timer_facts};
 use crate::raise::RaiseList;
 use crate::raised::{EventList, Raised};
-use app_api::{END, ERROR, NEW_DATA, ORPHAN, PKT_IN, REXMIT, START, STATE};
+use app_api::{END, ERROR, NEW_DATA, ORPHAN, PKT_IN, REXMIT, START, STATE, TIMER};
 use flow_socket::{Got, Sent};
+use flow_table::Endpoint;
 use native_filters::Hook;
 use packet_views::{Class, Head};
 use tcp_emulation::Side;
@@ -73,6 +74,23 @@ pub fn raised_by_orphan(class: Class, h: Option<&Head>) -> Raised
     Raised {
         hook: Hook::Snd,
         facts: orphan_facts(class, h),
+        events,
+    }
+}
+
+/// What a connection raises that ended by idleness, after the packets that it had: `timer` alone, at the receiver's
+/// hook, with the addresses and ports of the client's direction. An IPv6 address counts as 0. Takes no memory.
+#[tactic(auto, unfolding(crate::specs::Raises::timer_raise))]
+pub fn raised_by_silence(client: Endpoint, server: Endpoint, members: u64) -> Raised
+    ensures raises { raises_of result ≡ timer_raise client server members ∷ [] }
+    ensures hook { result.hook ≡ Hook.Rcv }
+    ensures facts { result.facts ≡ timer_facts client server members }
+{
+    let mut events = EventList::new();
+    events.add_if(true, TIMER);
+    Raised {
+        hook: Hook::Rcv,
+        facts: timer_facts(client, server, members),
         events,
     }
 }

@@ -2,6 +2,7 @@ pub mod Registered
 pub mod InForce
 pub mod Course
 pub mod History
+pub mod Silence
 pub mod Trees
 pub mod Numbers
 pub mod Reach

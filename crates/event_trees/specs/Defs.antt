@@ -7,7 +7,7 @@ use Rattle.event_trees.specs.declared.defs.EventDef.{EventDef}
 abbrev pub found : List EventDef → ℕ → Option EventDef
 found defs event = find (λ d. d.number == event) defs
 
--- the numbers of built-in events: 256 to 263, and 264, which is kept for a later one
+-- the numbers of built-in events
 abbrev pub is_root : ℕ → Bool
 is_root event = nat_le 256 event && nat_le event 264
 

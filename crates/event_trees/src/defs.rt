@@ -13,7 +13,7 @@ use std::marker::Model;
 /// The first built-in event.
 const FIRST_ROOT: u16 = 256;
 
-/// The last number of a built-in event. The events are 256 to 263, and 264 is kept for a later one.
+/// The last built-in event.
 const LAST_ROOT: u16 = 264;
 
 /// The numbers of user-defined events are below this.
@@ -24,7 +24,7 @@ const NUMBERS: usize = 256;
 pub struct EventDef {
     /// Its number, 1 to 255.
     pub number: u16,
-    /// The number of the event above it: a built-in event, 256 to 263, a later one, 264, or a user-defined one.
+    /// The number of the event above it: a built-in event, 256 to 264, or a user-defined one.
     pub parent: u16,
     /// What has to be true of the facts of a raise.
     pub filter: Expr,

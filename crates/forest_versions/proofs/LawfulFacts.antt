@@ -9,7 +9,7 @@ use Rattle.app_api.specs.Reg.{peek_fits, reg_of}
 use Rattle.event_trees.specs.declared.defs.EventDef.{EventDef}
 use Rattle.event_trees.specs.Defs.{found, is_event, path, IsAddable}
 use Rattle.forest_versions.specs.declared.command.Command.{Command}
-use Rattle.forest_versions.specs.declared.command.Command.TheVariants.{Event, Register, Unregister, Buffer, Overlap, AddRule, RemoveRule}
+use Rattle.forest_versions.specs.declared.command.Command.TheVariants.{Event, Register, Unregister, Buffer, Overlap, AddRule, RemoveRule, Idle}
 use Rattle.forest_versions.specs.declared.refusal.Refusal.{Refusal}
 use Rattle.forest_versions.specs.declared.refusal.Refusal.TheVariants.{Duplicate, NoSuchNumber, TooDeep, WrongHook}
 use Rattle.forest_versions.specs.Rules.{rule_of}

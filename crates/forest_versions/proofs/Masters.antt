@@ -12,7 +12,7 @@ use Rattle.app_api.specs.Reg.{reg_of, are_presets}
 use Rattle.event_trees.specs.declared.defs.EventDef.{EventDef}
 use Rattle.event_trees.specs.Later.{IsEarlier}
 use Rattle.forest_versions.specs.declared.command.Command.{Command}
-use Rattle.forest_versions.specs.declared.command.Command.TheVariants.{Event, Register, Unregister, Buffer, Overlap, AddRule, RemoveRule}
+use Rattle.forest_versions.specs.declared.command.Command.TheVariants.{Event, Register, Unregister, Buffer, Overlap, AddRule, RemoveRule, Idle}
 use Rattle.forest_versions.specs.State.{ControlState, start, after, control, master}
 use Rattle.forest_versions.specs.Lawful.{is_lawful, are_lawful}
 use Rattle.forest_versions.specs.Sound.{IsSound}

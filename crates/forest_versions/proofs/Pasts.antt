@@ -10,7 +10,7 @@ use Rattle.app_api.specs.declared.registration.Reg.{Reg}
 use Rattle.app_api.specs.declared.rule.Rule.{Rule}
 use Rattle.app_api.specs.Reg.{reg_of}
 use Rattle.forest_versions.specs.declared.command.Command.{Command}
-use Rattle.forest_versions.specs.declared.command.Command.TheVariants.{Event, Register, Unregister, Buffer, Overlap, AddRule, RemoveRule}
+use Rattle.forest_versions.specs.declared.command.Command.TheVariants.{Event, Register, Unregister, Buffer, Overlap, AddRule, RemoveRule, Idle}
 use Rattle.forest_versions.specs.State.{ControlState, after}
 use Rattle.forest_versions.specs.Lawful.{is_lawful, is_within, refusal, may_be_number}
 use Rattle.forest_versions.specs.Timeline.{Line, as_of, stepped, IsBefore}

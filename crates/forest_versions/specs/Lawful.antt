@@ -8,15 +8,15 @@ use Rattle.app_api.specs.Reg.{peek_fits, reg_of}
 use Rattle.event_trees.specs.declared.defs.EventDef.{EventDef}
 use Rattle.event_trees.specs.Defs.{found, is_event, path}
 use Rattle.forest_versions.specs.declared.command.Command.{Command}
-use Rattle.forest_versions.specs.declared.command.Command.TheVariants.{Event, Register, Unregister, Buffer, Overlap, AddRule, RemoveRule}
+use Rattle.forest_versions.specs.declared.command.Command.TheVariants.{Event, Register, Unregister, Buffer, Overlap, AddRule, RemoveRule, Idle}
 use Rattle.forest_versions.specs.declared.refusal.Refusal.{Refusal}
 use Rattle.forest_versions.specs.declared.refusal.Refusal.TheVariants.{Duplicate, NoSuchNumber, TooDeep, WrongHook}
 use Rattle.forest_versions.specs.Rules.{rule_of}
 use Rattle.forest_versions.specs.State.{ControlState, after}
 
--- whether a number may name an event: 1 to 255 for user-defined ones, 256 to 263 for built-in ones
+-- whether a number may name an event: 1 to 255 for user-defined ones, 256 to 264 for built-in ones
 abbrev pub may_be_event : ℕ → Bool
-may_be_event event = nat_le 1 event && nat_le event 263
+may_be_event event = nat_le 1 event && nat_le event 264
 
 -- whether a number may name a registration or a rule
 abbrev pub may_be_number : ℕ → Bool
@@ -42,6 +42,7 @@ is_within (Buffer bytes) = nat_le 1 bytes && nat_le bytes 1048576
 is_within (Overlap policy) = true
 is_within (AddRule r) = is_rule_within r
 is_within (RemoveRule number) = may_be_number number
+is_within (Idle seconds) = nat_le 1 seconds && nat_le seconds 4294967295
 
 -- the built-in event above an event
 abbrev pub root : List EventDef → ℕ → ℕ
@@ -83,6 +84,7 @@ refusal s (Buffer bytes) = None
 refusal s (Overlap policy) = None
 refusal s (AddRule r) = taken (is_some (rule_of s.rules r.number))
 refusal s (RemoveRule number) = missing (is_some (rule_of s.rules number))
+refusal s (Idle seconds) = None
 
 -- whether a command may be given in a state
 unfoldable pub is_lawful : ControlState → Command → Bool
@@ -110,3 +112,4 @@ is_setting (Buffer bytes) = true
 is_setting (Overlap policy) = true
 is_setting (AddRule r) = true
 is_setting (RemoveRule number) = true
+is_setting (Idle seconds) = true

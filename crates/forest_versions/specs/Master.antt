@@ -34,6 +34,7 @@ pub record Tells (m : Versions) (v : ℕ) (s : ControlState) : Type 0 where
   pub policy : as_of m.past.policy v ≡ s.policy
   pub rbuf : as_of m.past.rbuf v ≡ s.rbuf
   pub rules : as_of m.past.rules v ≡ s.rules
+  pub idle : as_of m.past.idle v ≡ s.idle
   pub sound : IsSound s
 
 -- a master with these presets and after these commands

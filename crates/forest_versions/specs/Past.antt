@@ -4,7 +4,7 @@ use Rattle.reassembly.specs.declared.answers.Policy.{Policy}
 use Rattle.app_api.specs.declared.registration.Reg.{Reg}
 use Rattle.app_api.specs.declared.rule.Rule.{Rule}
 use Rattle.forest_versions.specs.declared.command.Command.{Command}
-use Rattle.forest_versions.specs.declared.command.Command.TheVariants.{Event, Register, Unregister, Buffer, Overlap, AddRule, RemoveRule}
+use Rattle.forest_versions.specs.declared.command.Command.TheVariants.{Event, Register, Unregister, Buffer, Overlap, AddRule, RemoveRule, Idle}
 use Rattle.app_api.specs.Reg.{reg_of}
 use Rattle.forest_versions.specs.State.{ControlState}
 use Rattle.forest_versions.specs.Rules.{put_rule, without_rule}
@@ -16,6 +16,7 @@ pub record PastLines : Type 0 where
   pub policy : Line Policy
   pub rbuf : Line ℕ
   pub rules : Line (List Rule)
+  pub idle : Line (Option ℕ)
 
 -- a number that was never registered
 abbrev pub never : Line (Option Reg)
@@ -37,6 +38,7 @@ noted from rules (Buffer bytes) past = record past { rbuf = stepped past.rbuf fr
 noted from rules (Overlap policy) past = record past { policy = stepped past.policy from policy }
 noted from rules (AddRule r) past = record past { rules = stepped past.rules from (put_rule r rules) }
 noted from rules (RemoveRule number) past = record past { rules = stepped past.rules from (without_rule number rules) }
+noted from rules (Idle seconds) past = record past { idle = stepped past.idle from (Some seconds) }
 
 -- each change is before a version
 pub record AreBefore (past : PastLines) (v : ℕ) : Type 0 where
@@ -44,6 +46,7 @@ pub record AreBefore (past : PastLines) (v : ℕ) : Type 0 where
   pub policy : IsBefore past.policy v
   pub rbuf : IsBefore past.rbuf v
   pub rules : IsBefore past.rules v
+  pub idle : IsBefore past.idle v
 
 -- no change yet: at each version it is what this state has
 pub record IsPastOf (s : ControlState) (past : PastLines) : Type 0 where
@@ -52,3 +55,4 @@ pub record IsPastOf (s : ControlState) (past : PastLines) : Type 0 where
   pub policy : past.policy ≡ record { first = s.policy; steps = [] }
   pub rbuf : past.rbuf ≡ record { first = s.rbuf; steps = [] }
   pub rules : past.rules ≡ record { first = s.rules; steps = [] }
+  pub idle : past.idle ≡ record { first = s.idle; steps = [] }

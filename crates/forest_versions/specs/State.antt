@@ -1,5 +1,5 @@
 -- What is in force after a number of commands.
-use Rattle.std.specs.Prelude.{ℕ, List, [], ◌∷◌, ◌++◌, take}
+use Rattle.std.specs.Prelude.{ℕ, Bool, true, false, Option, Some, None, List, [], ◌∷◌, ◌++◌, take}
 use Rattle.std.specs.List.{filter, fold}
 use Rattle.reassembly.specs.declared.answers.Policy.{Policy}
 use Rattle.reassembly.specs.declared.answers.Policy.TheVariants.{First}
@@ -8,7 +8,7 @@ use Rattle.app_api.specs.declared.rule.Rule.{Rule}
 use Rattle.event_trees.specs.declared.defs.EventDef.{EventDef}
 use Rattle.event_trees.specs.Private.{put_reg, without}
 use Rattle.forest_versions.specs.declared.command.Command.{Command}
-use Rattle.forest_versions.specs.declared.command.Command.TheVariants.{Event, Register, Unregister, Buffer, Overlap, AddRule, RemoveRule}
+use Rattle.forest_versions.specs.declared.command.Command.TheVariants.{Event, Register, Unregister, Buffer, Overlap, AddRule, RemoveRule, Idle}
 use Rattle.forest_versions.specs.Rules.{put_rule, without_rule}
 
 -- the control state: what a connection that begins now lives under
@@ -23,6 +23,8 @@ pub record ControlState : Type 0 where
   pub rbuf : ℕ
   -- the rules for the application, by number
   pub rules : List Rule
+  -- a connection that was silent for more seconds than these has ended; none where no command said so
+  pub idle : Option ℕ
 
 -- the presets, each at its place
 abbrev pub presets_in : List Reg → List Reg
@@ -30,7 +32,7 @@ presets_in presets = fold (λ regs r. put_reg [] r regs) [] presets
 
 -- before the first command
 unfoldable pub start : List Reg → ControlState
-start presets = record { defs = []; regs = presets_in presets; policy = First; rbuf = 65536; rules = [] }
+start presets = record { defs = []; regs = presets_in presets; policy = First; rbuf = 65536; rules = []; idle = None }
 
 -- after one command more. Events are never removed
 unfoldable pub after : ControlState → Command → ControlState
@@ -41,6 +43,7 @@ after s (Buffer bytes) = record s { rbuf = bytes }
 after s (Overlap policy) = record s { policy = policy }
 after s (AddRule r) = record s { rules = put_rule r s.rules }
 after s (RemoveRule number) = record s { rules = without_rule number s.rules }
+after s (Idle seconds) = record s { idle = Some seconds }
 
 -- what is in force after these commands
 unfoldable pub control : List Reg → List Command → ControlState
@@ -53,3 +56,8 @@ master presets commands v = control presets (take v commands)
 -- the private list with which a connection starts: the registrations that are on
 abbrev pub active : ControlState → List Reg
 active s = filter (λ r. r.on) s.regs
+
+-- whether a command sets how long a connection may be silent
+abbrev pub is_idle_limit : Command → Bool
+is_idle_limit (Idle seconds) = true
+is_idle_limit other = false

@@ -30,4 +30,7 @@ pub enum Command {
     AddRule(Rule),
     /// Removes the rule with this number (1 to 255).
     RemoveRule(u8),
+    /// Sets for how many seconds, 1 to 4,294,967,295, a connection may be silent. One that was silent for longer has
+    /// ended.
+    Idle(u32),
 }

@@ -1,6 +1,6 @@
 //! What is in force for the connections that begin now.
 
-ghost use Rattle.std.specs.Prelude.{◌≡◌, ◌≤◌, ◌++◌, [], ◌∷◌, List, IsTrue, IfOk, OnOk, OnErr, None};
+ghost use Rattle.std.specs.Prelude.{◌≡◌, ◌≤◌, ◌++◌, [], ◌∷◌, List, IsTrue, IfOk, OnOk, OnErr, Some, None};
 ghost use Rattle.std.specs.Option.{option_copied};
 ghost use Rattle.std.specs.List.{All};
 ghost use Rattle.app_api.specs.Reg.{are_presets, reg_of, peek_fits};
@@ -28,7 +28,7 @@ use std::marker::Model;
 /// The receive buffer before a command sets it, in bytes.
 const FIRST_BUFFER: u32 = 65_536;
 
-/// The definitions, registrations, policy, receive buffer and rules that are in force.
+/// The definitions, registrations, policy, receive buffer, rules and limit of idleness that are in force.
 #[derive(Drop)]
 pub struct Control {
     defs: Defs,
@@ -36,6 +36,7 @@ pub struct Control {
     policy: Policy,
     rbuf: u32,
     rules: RuleList,
+    idle: Option<u32>,
 }
 
 impl Model for Control {
@@ -48,9 +49,9 @@ impl Model for Control {
 
     ghost use Rattle.forest_versions.specs.Sound.{IsSound};
 
-    ghost view = { λ c. record { defs = c.defs; regs = c.regs; policy = c.policy; rbuf = c.rbuf; rules = c.rules } };
+    ghost view = { λ c. record { defs = c.defs; regs = c.regs; policy = c.policy; rbuf = c.rbuf; rules = c.rules; idle = c.idle } };
 
-    ghost invariant = { λ c. IsSound (record { defs = c.defs; regs = c.regs; policy = c.policy; rbuf = c.rbuf; rules = c.rules }) };
+    ghost invariant = { λ c. IsSound (record { defs = c.defs; regs = c.regs; policy = c.policy; rbuf = c.rbuf; rules = c.rules; idle = c.idle }) };
 }
 
 impl Control {
@@ -68,6 +69,7 @@ impl Control {
             policy: Policy::First,
             rbuf: FIRST_BUFFER,
             rules: RuleList::new(alloc),
+            idle: None,
         })
     }
 
@@ -84,6 +86,7 @@ impl Control {
             Command::Overlap(_) => None,
             Command::AddRule(r) => taken(self.rule(r.number).is_some()),
             Command::RemoveRule(number) => missing(self.rule(*number).is_some()),
+            Command::Idle(_) => None,
         }
     }
 
@@ -112,6 +115,7 @@ impl Control {
             Command::Overlap(_) => self.set(c),
             Command::AddRule(_) => self.set(c),
             Command::RemoveRule(_) => self.set(c),
+            Command::Idle(_) => self.set(c),
         }
     }
 
@@ -155,6 +159,13 @@ impl Control {
         ensures { result.now ≡ self.now.rules }
     {
         &self.rules
+    }
+
+    /// For how many seconds a connection may be silent. None where no command said so.
+    pub fn idle(&self) -> Option<u32>
+        ensures { result ≡ self.now.idle }
+    {
+        self.idle
     }
 
     /// The registration of a number.
@@ -230,6 +241,10 @@ impl Control {
                 self.remove_rule(*number);
                 Ok(())
             }
+            Command::Idle(seconds) => {
+                self.set_idle(*seconds);
+                Ok(())
+            }
             _ => Ok(()),
         }
     }
@@ -261,6 +276,12 @@ impl Control {
         ensures { self.new ≡ record self.old { rules = without_rule number self.old.rules } }
     {
         self.rules.remove(number);
+    }
+
+    fn set_idle(&mut self, seconds: u32)
+        ensures { self.new ≡ record self.old { idle = Some seconds } }
+    {
+        self.idle = Some(seconds);
     }
 }
 

@@ -1,6 +1,7 @@
 //! Presets and commands as they are in force: now, and at each version before.
 
-ghost use Rattle.std.specs.Prelude.{◌≡◌, ◌+◌, ◌≤◌, ◌<◌, ℕ, List, [], ◌∷◌, ◌++◌, length, IsTrue, IfSome, IfOk, OnOk, OnErr};
+ghost use Rattle.std.specs.Prelude.{◌≡◌, ◌+◌, ◌≤◌, ◌<◌, ℕ, List, [], ◌∷◌, ◌++◌, length, take, not, is_none, IsTrue, IfSome, IfOk, OnOk, OnErr};
+ghost use Rattle.std.specs.List.{list_any};
 ghost use Rattle.std.specs.Option.{option_copied};
 ghost use Rattle.app_api.specs.declared.registration.Reg.{Reg as RegOf};
 ghost use Rattle.app_api.specs.App.{are_rules};
@@ -10,7 +11,7 @@ ghost use Rattle.shared_forest.specs.Store.{Keeps, CountsAtMost};
 ghost use Rattle.event_trees.specs.Defs.{is_event};
 ghost use Rattle.event_trees.specs.Edit.{IsForestOf};
 ghost use Rattle.forest_versions.specs.declared.command.Command.{Command as CommandOf};
-ghost use Rattle.forest_versions.specs.State.{ControlState, active, after};
+ghost use Rattle.forest_versions.specs.State.{ControlState, active, after, is_idle_limit};
 ghost use Rattle.forest_versions.specs.Lawful.{is_lawful};
 ghost use Rattle.forest_versions.specs.Past.{line_of, noted, AreBefore};
 ghost use Rattle.forest_versions.specs.Timeline.{as_of};
@@ -30,8 +31,8 @@ use std::marker::Model;
 /// What is in force after each command of a script.
 ///
 /// The version is the number of commands that were given. Each look-up answers for a version up to the present one,
-/// and takes no memory: a registration, the policy and the receive buffer are found in time by the logarithm of the
-/// number of their changes. The tree of the registrations that are on now is kept in a store, which is lent to `new`
+/// and takes no memory: a registration, the policy, the receive buffer and the limit of idleness are found in time by the
+/// logarithm of the number of their changes. The tree of the registrations that are on now is kept in a store, which is lent to `new`
 /// and to each `apply`.
 #[derive(Drop)]
 pub struct Master {
@@ -193,6 +194,16 @@ impl Master {
         ensures rise { IsTrue (are_rules result.now) }
     {
         self.past.rules(version)
+    }
+
+    /// For how many seconds a connection may be silent that began at a version: what the last `idle` among as many
+    /// commands says. None exactly where none of them is one.
+    pub fn idle_at(&self, version: u32) -> Option<u32>
+        ensures idle { (s : ControlState) → Tells self.now version s → result ≡ s.idle }
+        ensures none { (presets : List RegOf) (commands : List CommandOf) → StandsFor self.now presets commands
+            → is_none result ≡ not (list_any is_idle_limit (take version commands)) }
+    {
+        self.past.idle(version)
     }
 }
 

@@ -1,5 +1,5 @@
-//! What was in force at each version: the changes of each registration, of the policy, the receive buffer and the
-//! rules. A command adds one change, so the past takes memory by the number of commands; but rules are kept as whole
+//! What was in force at each version: the changes of each registration, of the policy, the receive buffer, the
+//! rules and the limit of idleness. A command adds one change, so the past takes memory by the number of commands; but rules are kept as whole
 //! lists, since they are lent as such.
 
 ghost use Rattle.std.specs.Prelude.{◌≡◌, ◌≤◌, ℕ, [], List, Option, length, slice_index_or, IfOk, OnOk, OnErr};
@@ -29,6 +29,7 @@ pub(crate) struct Past {
     policy: Timeline<Policy>,
     rbuf: Timeline<u32>,
     rules: Timeline<RuleList>,
+    idle: Timeline<Option<u32>>,
 }
 
 impl Model for Past {
@@ -40,7 +41,7 @@ impl Model for Past {
 
     ghost coded = { past_code };
 
-    ghost view = { λ p. record { regs = p.regs.items; policy = p.policy; rbuf = p.rbuf; rules = p.rules } };
+    ghost view = { λ p. record { regs = p.regs.items; policy = p.policy; rbuf = p.rbuf; rules = p.rules; idle = p.idle } };
 
     ghost invariant = { λ p. length p.regs.items ≡ 256 };
 }
@@ -57,6 +58,7 @@ impl Past {
             policy: Timeline::new(alloc, control.policy()),
             rbuf: Timeline::new(alloc, control.rbuf()),
             rules: Timeline::new(alloc, rules),
+            idle: Timeline::new(alloc, control.idle()),
         })
     }
 
@@ -95,6 +97,13 @@ impl Past {
         self.rules.at(version).as_slice()
     }
 
+    /// For how many seconds a connection may be silent at a version, if a command said so.
+    pub(crate) fn idle(&self, version: u32) -> Option<u32>
+        ensures { result ≡ as_of self.now.idle version }
+    {
+        *self.idle.at(version)
+    }
+
     /// Notes that a command is in force from a version on, which is later than all changes so far. The rules before
     /// it are given. An error is want of memory, and changes nothing.
     #[tactic(auto, unfolding(crate::specs::Past::noted))]
@@ -125,6 +134,7 @@ impl Past {
                 next.remove(*number);
                 self.rules.step(from, next)
             }
+            Command::Idle(seconds) => self.idle.step(from, Some(*seconds)),
         }
     }
 
@@ -141,6 +151,7 @@ impl Past {
             Command::Overlap(_) => self.policy.step_back(),
             Command::AddRule(_) => self.rules.step_back(),
             Command::RemoveRule(_) => self.rules.step_back(),
+            Command::Idle(_) => self.idle.step_back(),
         }
     }
 

@@ -9,7 +9,7 @@ use crate::command::Command;
 use app_api::{Change1, PeekSpec, Reg, Rule};
 
 /// The last built-in event that commands may name.
-const LAST_EVENT: u16 = 263;
+const LAST_EVENT: u16 = 264;
 
 /// The least number of a registration of a script; those below are presets.
 const FIRST_OWN: u8 = 16;
@@ -36,6 +36,7 @@ pub(crate) fn is_within(c: &Command) -> bool
         Command::Overlap(_) => true,
         Command::AddRule(rule) => is_rule_within(rule),
         Command::RemoveRule(number) => may_be_number(*number),
+        Command::Idle(seconds) => *seconds >= 1,
     }
 }
 

@@ -64,6 +64,7 @@ pub(crate) fn change<F: Forests>(
         Command::Overlap(_) => control.set(c),
         Command::AddRule(_) => control.set(c),
         Command::RemoveRule(_) => control.set(c),
+        Command::Idle(_) => control.set(c),
     }
 }
 

@@ -13,9 +13,9 @@ use Rattle.connection_core.specs.InForce.{told_at}
 use Rattle.lane_core.specs.declared.errors.LaneError.{LaneError}
 use Rattle.lane_core.specs.declared.errors.LaneError.TheVariants.{Heavy}
 use Rattle.lane_core.specs.declared.kept.Kept.{Kept}
-use Rattle.lane_core.specs.Sight.{Arrival}
+use Rattle.lane_core.specs.Sight.{Moment, Arrival}
 use Rattle.lane_core.specs.Records.{RecordSoFar, verdict_on}
-use Rattle.lane_core.specs.Run.{LaneEvent, commands_of, control_of, lane_run, newest_of}
+use Rattle.lane_core.specs.Run.{LaneEvent, commands_of, control_of, lane_run, ended_run, newest_of}
 use Rattle.lane_core.specs.Shown.{record_of, callbacks_of, drops_of, weight}
 use Rattle.lane_core.specs.Kept.{Keeps}
 
@@ -31,6 +31,10 @@ next_verdict app events a =
 -- the records of a run weigh more than a lane may keep
 abbrev pub IsHeavy : Meaning → List LaneEvent → Type 0
 IsHeavy app events = 134217728 < weight (lane_run app events)
+
+-- the records of a run that goes on no more weigh so much
+abbrev pub IsHeavyAtEnd : Meaning → List LaneEvent → Option Moment → Type 0
+IsHeavyAtEnd app events last = 134217728 < weight (ended_run app events last)
 
 -- the number of the last packet, from one more than it
 abbrev pub newest_by : ℕ → Option ℕ

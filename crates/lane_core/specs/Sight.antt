@@ -1,14 +1,10 @@
 -- A packet of the capture as a lane takes it: its number, its time, and what is seen of its frame, over IPv4 or IPv6.
 use Rattle.std.specs.Prelude.{ℕ, ◌+◌, List, [], ◌∷◌}
 use Rattle.pcap_source.specs.Captured.{Captured}
+pub use Rattle.flow_timers.specs.declared.moment.Moment.{Moment}
 pub use Rattle.ip6_views.specs.Sight.{Segment, Sight, Tcp, Other, sight_of, key_of_segment}
 
--- the time of a record of the capture, as it stands there
-pub record Moment : Type 0 where
-  pub seconds : ℕ
-  pub fraction : ℕ
-
--- a packet of the capture, with its number from 0
+-- a packet of the capture, with its number from 0, and its time as it stands in its record
 pub record Arrival : Type 0 where
   pub number : ℕ
   pub moment : Moment
