@@ -1,5 +1,5 @@
 -- The laws on shares, put together.
-use Rattle.std.proofs.Common.{◌≡◌, ◌<◌, ◌≤◌, ◌≢◌, ℕ, Bool, true, false, cond, List, [], ◌∷◌, ◌++◌, refl, sym, ap, ◌∙◌, subst, map, arith}
+use Rattle.std.proofs.Common.{◌≡◌, ◌<◌, ◌≤◌, ◌≢◌, ℕ, Bool, true, false, cond, Option, List, [], ◌∷◌, ◌++◌, refl, sym, ap, ◌∙◌, subst, map, arith}
 use Rattle.std.specs.Prelude.{◌==◌, filter}
 use Rattle.std.specs.List.{All}
 use Rattle.std.proofs.lemmas.List.{map-append}
@@ -10,8 +10,8 @@ use Rattle.flow_table.specs.Key.{EndpointPair}
 use Rattle.app_api.specs.declared.reaction.Verdict.{Verdict}
 use Rattle.forest_versions.specs.State.{ControlState}
 use Rattle.app_api.specs.App.{Meaning}
-use Rattle.lane_core.specs.Sight.{Arrival}
-use Rattle.lane_core.specs.Records.{VersionedPacket, versioned, records as lane_records}
+use Rattle.lane_core.specs.Sight.{Moment, Arrival}
+use Rattle.lane_core.specs.Records.{VersionedPacket, versioned, records as lane_records, ended_at}
 use Rattle.worker_laws.specs.Members.{Endings, Members, name_of, joined_by, ended_by_silence, records}
 use Rattle.worker_laws.specs.Lanes.{lane_of, share, part}
 use Rattle.worker_laws.specs.Named.{named, records_under}
@@ -27,7 +27,7 @@ use Rattle.worker_laws.proofs.Rising.{names_of, numbers_of}
 use Rattle.worker_laws.proofs.Allowing.{lanes_are_runs, joined_allowed, continued_stamped}
 use Rattle.worker_laws.proofs.Counting.{more_packets, part_at_most}
 use Rattle.worker_laws.proofs.Judging.{judged_more}
-use Rattle.worker_laws.proofs.Histories.{same_records, same_part}
+use Rattle.worker_laws.proofs.Histories.{same_records, same_part, shown_first, final, final_first, ended_records}
 
 -- two maps of versions that agree on some packets
 same_versions : (u v : ℕ → ℕ) (ps : List Arrival) → All (λ a. u a.number ≡ v a.number) ps → versioned u ps ≡ versioned v ps
@@ -70,10 +70,19 @@ module _ (lane : EndpointPair → ℕ) (l : ℕ) (u v : ℕ → ℕ) (ps : List 
   pub share_histories : (app : Meaning) (control_at : ℕ → ControlState)
       → lane_records app control_at (versioned u (share lane l ps)) ≡ filter (λ r. lane_of lane r.first.sight == l) (lane_records app control_at (versioned v ps))
   share_histories app control_at =
-      same_records app control_at (versioned u (share lane l ps))
+      same_records app control_at [] (versioned u (share lane l ps))
       ∙ ap (map (with_history app control_at)) (share_records (over_by app control_at))
-      ∙ sym (same_part app control_at (λ sight. lane_of lane sight == l) (records (over_by app control_at) (versioned v ps)))
-      ∙ ap (filter (λ r. lane_of lane r.first.sight == l)) (sym (same_records app control_at (versioned v ps)))
+      ∙ sym (same_part (with_history app control_at) (shown_first app control_at) (λ sight. lane_of lane sight == l) (records (over_by app control_at) (versioned v ps)))
+      ∙ ap (filter (λ r. lane_of lane r.first.sight == l)) (sym (same_records app control_at [] (versioned v ps)))
+
+  pub share_at_end : (app : Meaning) (control_at : ℕ → ControlState) (last : Option Moment)
+      → map (ended_at app control_at last) (lane_records app control_at (versioned u (share lane l ps)))
+      ≡ filter (λ r. lane_of lane r.first.sight == l) (map (ended_at app control_at last) (lane_records app control_at (versioned v ps)))
+  share_at_end app control_at last =
+      ended_records app control_at last (versioned u (share lane l ps))
+      ∙ ap (map (final app control_at last)) (share_records (over_by app control_at))
+      ∙ sym (same_part (final app control_at last) (final_first app control_at last) (λ sight. lane_of lane sight == l) (records (over_by app control_at) (versioned v ps)))
+      ∙ ap (filter (λ r. lane_of lane r.first.sight == l)) (sym (ended_records app control_at last (versioned v ps)))
 
 pub one_list : (endings : Endings) (lane : EndpointPair → ℕ) (packets : List Arrival) (parts : ℕ → List VersionedPacket)
     → ((l : ℕ) → arrivals_of (parts l) ≡ share lane l packets) → (vs : List ℕ) × AreRuns endings lane packets parts vs

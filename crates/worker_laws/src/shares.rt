@@ -1,14 +1,14 @@
 //! Laws on the shares of lanes. These functions do nothing: who joins lanes calls them for what they say.
 
-ghost use Rattle.std.specs.Prelude.{◌≡◌, ◌≢◌, ◌==◌, ℕ, false, List, map, filter};
+ghost use Rattle.std.specs.Prelude.{◌≡◌, ◌≢◌, ◌==◌, ℕ, Option, List, map, filter};
 ghost use Rattle.std.specs.List.{All};
 ghost use Rattle.flow_table.specs.Key.{EndpointPair};
 ghost use Rattle.app_api.specs.App.{Meaning};
 ghost use Rattle.app_api.specs.declared.reaction.Verdict.{Verdict};
 ghost use Rattle.forest_versions.specs.State.{ControlState};
 ghost use Rattle.report_text.specs.declared.record.Record.{Record};
-ghost use Rattle.lane_core.specs.Sight.{Arrival};
-ghost use Rattle.lane_core.specs.Records.{VersionedPacket, verdict_on, versioned, records as lane_records};
+ghost use Rattle.lane_core.specs.Sight.{Moment, Arrival};
+ghost use Rattle.lane_core.specs.Records.{VersionedPacket, verdict_on, versioned, records as lane_records, ended_at};
 ghost use Rattle.worker_laws.specs.Members.{Endings, Members, name_of, records};
 ghost use Rattle.worker_laws.specs.Lanes.{lane_of, share, part};
 ghost use Rattle.worker_laws.specs.Named.{records_under};
@@ -25,13 +25,14 @@ pub fn records_are_their_packets()
     ensures records { (app : Meaning) (control_at : ℕ → ControlState) (ps : List VersionedPacket)
         → lane_records app control_at ps ≡ map (with_history app control_at) (records (over_by app control_at) ps) }
     ensures verdicts { (app : Meaning) (control_at : ℕ → ControlState) (p : VersionedPacket) (ms : List Members)
-        → All (λ m. m.ended ≡ false) ms
         → verdict_on app control_at p (map (with_history app control_at) ms)
         ≡ verdict_of (over_by app control_at) (judge_by app control_at) p ms }
 {}
 
 /// Where two ways to give versions agree on the packets of a lane's share, what the share alone makes under the one is
-/// its part of what all packets make under the other: its records, and the verdicts of its packets.
+/// its part of what all packets make under the other: its records, and the verdicts of its packets. So it is at the end,
+/// where `last` is the greatest moment of all packets on both sides: a connection is silent by the packets of its key and
+/// that one moment alone.
 pub fn a_share_makes_its_part()
     ensures records { (endings : Endings) (lane : EndpointPair → ℕ) (l : ℕ) (u v : ℕ → ℕ)
         (ps : List Arrival)
@@ -46,6 +47,12 @@ pub fn a_share_makes_its_part()
         → All (λ a. u a.number ≡ v a.number) (share lane l ps)
         → lane_records app control_at (versioned u (share lane l ps))
         ≡ filter (λ r. lane_of lane r.first.sight == l) (lane_records app control_at (versioned v ps)) }
+    ensures at_end { (app : Meaning) (control_at : ℕ → ControlState) (last : Option Moment) (lane : EndpointPair → ℕ)
+        (l : ℕ) (u v : ℕ → ℕ) (ps : List Arrival)
+        → All (λ a. u a.number ≡ v a.number) (share lane l ps)
+        → map (ended_at app control_at last) (lane_records app control_at (versioned u (share lane l ps)))
+        ≡ filter (λ r. lane_of lane r.first.sight == l)
+        (map (ended_at app control_at last) (lane_records app control_at (versioned v ps))) }
 {}
 
 /// Whatever versions lanes have for the packets of their shares, there is one list of versions under which the part of
