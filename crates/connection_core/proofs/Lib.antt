@@ -8,3 +8,4 @@ pub mod Settling
 pub mod Phases
 pub mod FirstTrees
 pub mod Firing
+pub mod Silenced

@@ -12,6 +12,7 @@ mod ledger;
 mod look;
 mod moment;
 mod orphan;
+mod silence;
 mod terms;
 
 pub use flow::{Flow, Step};
@@ -19,4 +20,5 @@ pub use in_force::InForce;
 pub use ledger::{Counts, Ledger, Notes};
 pub use moment::Arrived;
 pub use orphan::lone;
+pub use silence::silence;
 pub use terms::Terms;

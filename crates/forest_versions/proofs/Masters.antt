@@ -1,7 +1,7 @@
 -- What a master stands for after one command more, and before the first.
-use Rattle.std.proofs.Common.{◌≡◌, ℕ, suc, ◌+◌, ◌<◌, ◌≤◌, Bool, true, List, [], ◌∷◌, ◌++◌, length, take, refl, sym, ap, subst, ◌∙◌, arith, ⊎_elim, append-nil, append_assoc, length-append}
-use Rattle.std.specs.Prelude.{◌&&◌, IsTrue, Option}
-use Rattle.std.specs.List.{fold}
+use Rattle.std.proofs.Common.{◌≡◌, ℕ, suc, ◌+◌, ◌<◌, ◌≤◌, Bool, true, false, List, [], ◌∷◌, ◌++◌, length, take, refl, sym, ap, subst, ◌∙◌, arith, ⊎_elim, append-nil, append_assoc, length-append}
+use Rattle.std.specs.Prelude.{◌&&◌, ◌||◌, not, IsTrue, Option, Some, is_none}
+use Rattle.std.specs.List.{fold, list_any}
 use Rattle.std.proofs.lemmas.Bool.{and_parts, and_from, cases_lt}
 use Rattle.std.proofs.lemmas.List.{take_all, take-append-le}
 use Rattle.std.proofs.lemmas.List.Sums.{fold-append}
@@ -13,7 +13,7 @@ use Rattle.event_trees.specs.declared.defs.EventDef.{EventDef}
 use Rattle.event_trees.specs.Later.{IsEarlier}
 use Rattle.forest_versions.specs.declared.command.Command.{Command}
 use Rattle.forest_versions.specs.declared.command.Command.TheVariants.{Event, Register, Unregister, Buffer, Overlap, AddRule, RemoveRule, Idle}
-use Rattle.forest_versions.specs.State.{ControlState, start, after, control, master}
+use Rattle.forest_versions.specs.State.{ControlState, start, after, control, master, is_idle_limit}
 use Rattle.forest_versions.specs.Lawful.{is_lawful, are_lawful}
 use Rattle.forest_versions.specs.Sound.{IsSound}
 use Rattle.forest_versions.specs.Timeline.{Line, as_of, IsBefore}
@@ -31,6 +31,7 @@ earlier-after s (Buffer bytes) earlier h = h
 earlier-after s (Overlap policy) earlier h = h
 earlier-after s (AddRule r) earlier h = h
 earlier-after s (RemoveRule number) earlier h = h
+earlier-after s (Idle seconds) earlier h = h
 
 same-defs : (defs : List EventDef) → IsEarlier defs defs
 same-defs defs = ([], append-nil defs)
@@ -48,6 +49,36 @@ control-push presets commands c = fold-append after (start presets) commands (c 
 control-fold : (presets : List Reg) (commands : List Command) → control presets commands ≡ fold after (start presets) commands
 unfolding control
 control-fold presets commands = refl
+
+idle-after : (s : ControlState) (c : Command) → is_none (after s c).idle ≡ (not (is_idle_limit c) && is_none s.idle)
+unfolding after
+idle-after s (Event d) = refl
+idle-after s (Register r) = refl
+idle-after s (Unregister number) = refl
+idle-after s (Buffer bytes) = refl
+idle-after s (Overlap policy) = refl
+idle-after s (AddRule r) = refl
+idle-after s (RemoveRule number) = refl
+idle-after s (Idle seconds) = refl
+
+neither : (a b n : Bool) → (not b && (not a && n)) ≡ (not (a || b) && n)
+neither true true n = refl
+neither true false n = refl
+neither false b n = refl
+
+idle-since : (s : ControlState) (commands : List Command) → is_none (fold after s commands).idle ≡ (not (list_any is_idle_limit commands) && is_none s.idle)
+idle-since s [] = refl
+idle-since s (c ∷ commands) =
+    idle-since (after s c) commands ∙ (ap (λ b. not (list_any is_idle_limit commands) && b) (idle-after s c) ∙ neither (is_idle_limit c) (list_any is_idle_limit commands) (is_none s.idle))
+
+and-true : (b : Bool) → (b && true) ≡ b
+and-true true = refl
+and-true false = refl
+
+-- there is a limit exactly where a command set one
+pub idle-given : (presets : List Reg) (commands : List Command) → is_none (control presets commands).idle ≡ not (list_any is_idle_limit commands)
+unfolding control start
+idle-given presets commands = idle-since (start presets) commands ∙ and-true (not (list_any is_idle_limit commands))
 
 -- one command more
 pub record IsNext (old new : Versions) (c : Command) : Type 0 where
@@ -68,19 +99,21 @@ tells-still old new c v s next le told =
       policy = ap (λ (p : PastLines). as_of p.policy v) next.past ∙ (same.policy ∙ told.policy);
       rbuf = ap (λ (p : PastLines). as_of p.rbuf v) next.past ∙ (same.rbuf ∙ told.rbuf);
       rules = ap (λ (p : PastLines). as_of p.rules v) next.past ∙ (same.rules ∙ told.rules);
+      idle = ap (λ (p : PastLines). as_of p.idle v) next.past ∙ (same.idle ∙ told.idle);
       sound = told.sound;
     }
 
 -- from the command on the state after it is told
 tells-next : (old new : Versions) (c : Command) (v : ℕ) → IsNext old new c → old.version + 1 ≤ v → Tells old v old.now → Tells new v (after old.now c)
 tells-next old new c v next since told =
-    let later = tells-later old.now old.past (old.version + 1) v c next.lawful next.whole since (record { regs = told.regs; policy = told.policy; rbuf = told.rbuf; rules = told.rules }) in
+    let later = tells-later old.now old.past (old.version + 1) v c next.lawful next.whole since (record { regs = told.regs; policy = told.policy; rbuf = told.rbuf; rules = told.rules; idle = told.idle }) in
     record {
       defs = subst (λ (t : ControlState). IsEarlier (after old.now c).defs t.defs) (sym next.now) (same-defs (after old.now c).defs);
       regs = λ n high. ap (λ (p : PastLines). as_of (line_of p n) v) next.past ∙ later.regs n high;
       policy = ap (λ (p : PastLines). as_of p.policy v) next.past ∙ later.policy;
       rbuf = ap (λ (p : PastLines). as_of p.rbuf v) next.past ∙ later.rbuf;
       rules = ap (λ (p : PastLines). as_of p.rules v) next.past ∙ later.rules;
+      idle = ap (λ (p : PastLines). as_of p.idle v) next.past ∙ later.idle;
       sound = next.sound;
     }
 
@@ -124,6 +157,7 @@ tells-first m presets v first = record {
   policy = ap (λ l. as_of l v) first.past.policy ∙ as_of-unchanged m.now.policy v;
   rbuf = ap (λ (l : Line ℕ). as_of l v) first.past.rbuf ∙ as_of-unchanged m.now.rbuf v;
   rules = ap (λ (l : Line (List Rule)). as_of l v) first.past.rules ∙ as_of-unchanged m.now.rules v;
+  idle = ap (λ (l : Line (Option ℕ)). as_of l v) first.past.idle ∙ as_of-unchanged m.now.idle v;
   sound = first.sound;
 }
 
@@ -152,6 +186,7 @@ master-first m presets first = record {
     policy = unchanged-before m.past.policy _ (m.version + 1) first.past.policy;
     rbuf = unchanged-before m.past.rbuf _ (m.version + 1) first.past.rbuf;
     rules = unchanged-before m.past.rules _ (m.version + 1) first.past.rules;
+    idle = unchanged-before m.past.idle _ (m.version + 1) first.past.idle;
   };
   history = (presets, ([], stands-first m presets first));
 }

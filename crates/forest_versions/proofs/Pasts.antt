@@ -56,21 +56,23 @@ pub record TellTheSame (old new : PastLines) (v : ℕ) : Type 0 where
   pub policy : as_of new.policy v ≡ as_of old.policy v
   pub rbuf : as_of new.rbuf v ≡ as_of old.rbuf v
   pub rules : as_of new.rules v ≡ as_of old.rules v
+  pub idle : as_of new.idle v ≡ as_of old.idle v
 
 -- a command changes nothing before it
 pub same-earlier : (s : ControlState) (past : PastLines) (from v : ℕ) (rules : List Rule) (c : Command) → IsTrue (is_lawful s c) → length past.regs ≡ 256 → v < from → TellTheSame past (noted from rules c past) v
 unfolding noted
-same-earlier s past from v rules (Event d) lawful whole before = record { regs = λ n. refl; policy = refl; rbuf = refl; rules = refl }
+same-earlier s past from v rules (Event d) lawful whole before = record { regs = λ n. refl; policy = refl; rbuf = refl; rules = refl; idle = refl }
 same-earlier s past from v rules (Register r) lawful whole before =
     let fits = lawful-register s r lawful in
-    record { regs = λ k. earlier-reg past r.number from v (Some r) k (omega (arith, fits.high)) before; policy = refl; rbuf = refl; rules = refl }
+    record { regs = λ k. earlier-reg past r.number from v (Some r) k (omega (arith, fits.high)) before; policy = refl; rbuf = refl; rules = refl; idle = refl }
 same-earlier s past from v rules (Unregister number) lawful whole before =
     let high = lawful-withdraw s number lawful in
-    record { regs = λ k. earlier-reg past number from v None k (omega (arith, high)) before; policy = refl; rbuf = refl; rules = refl }
-same-earlier s past from v rules (Buffer bytes) lawful whole before = record { regs = λ n. refl; policy = refl; rbuf = as_of-earlier past.rbuf from v bytes before; rules = refl }
-same-earlier s past from v rules (Overlap policy) lawful whole before = record { regs = λ n. refl; policy = as_of-earlier past.policy from v policy before; rbuf = refl; rules = refl }
-same-earlier s past from v rules (AddRule r) lawful whole before = record { regs = λ n. refl; policy = refl; rbuf = refl; rules = as_of-earlier past.rules from v _ before }
-same-earlier s past from v rules (RemoveRule number) lawful whole before = record { regs = λ n. refl; policy = refl; rbuf = refl; rules = as_of-earlier past.rules from v _ before }
+    record { regs = λ k. earlier-reg past number from v None k (omega (arith, high)) before; policy = refl; rbuf = refl; rules = refl; idle = refl }
+same-earlier s past from v rules (Buffer bytes) lawful whole before = record { regs = λ n. refl; policy = refl; rbuf = as_of-earlier past.rbuf from v bytes before; rules = refl; idle = refl }
+same-earlier s past from v rules (Overlap policy) lawful whole before = record { regs = λ n. refl; policy = as_of-earlier past.policy from v policy before; rbuf = refl; rules = refl; idle = refl }
+same-earlier s past from v rules (AddRule r) lawful whole before = record { regs = λ n. refl; policy = refl; rbuf = refl; rules = as_of-earlier past.rules from v _ before; idle = refl }
+same-earlier s past from v rules (RemoveRule number) lawful whole before = record { regs = λ n. refl; policy = refl; rbuf = refl; rules = as_of-earlier past.rules from v _ before; idle = refl }
+same-earlier s past from v rules (Idle seconds) lawful whole before = record { regs = λ n. refl; policy = refl; rbuf = refl; rules = refl; idle = as_of-earlier past.idle from v (Some seconds) before }
 
 -- what a past tells is what a state has
 pub record TellsOf (past : PastLines) (v : ℕ) (s : ControlState) : Type 0 where
@@ -78,11 +80,12 @@ pub record TellsOf (past : PastLines) (v : ℕ) (s : ControlState) : Type 0 wher
   pub policy : as_of past.policy v ≡ s.policy
   pub rbuf : as_of past.rbuf v ≡ s.rbuf
   pub rules : as_of past.rules v ≡ s.rules
+  pub idle : as_of past.idle v ≡ s.idle
 
 -- from a command on, the past tells the state after it
 pub tells-later : (s : ControlState) (past : PastLines) (from v : ℕ) (c : Command) → IsTrue (is_lawful s c) → length past.regs ≡ 256 → from ≤ v → TellsOf past v s → TellsOf (noted from s.rules c past) v (after s c)
 unfolding noted after
-tells-later s past from v (Event d) lawful whole since told = record { regs = told.regs; policy = told.policy; rbuf = told.rbuf; rules = told.rules }
+tells-later s past from v (Event d) lawful whole since told = record { regs = told.regs; policy = told.policy; rbuf = told.rbuf; rules = told.rules; idle = told.idle }
 tells-later s past from v (Register r) lawful whole since told =
     let fits = lawful-register s r lawful in
     record {
@@ -90,6 +93,7 @@ tells-later s past from v (Register r) lawful whole since told =
       policy = told.policy;
       rbuf = told.rbuf;
       rules = told.rules;
+      idle = told.idle;
     }
 tells-later s past from v (Unregister number) lawful whole since told =
     let within = lawful-withdraw s number lawful in
@@ -98,11 +102,13 @@ tells-later s past from v (Unregister number) lawful whole since told =
       policy = told.policy;
       rbuf = told.rbuf;
       rules = told.rules;
+      idle = told.idle;
     }
-tells-later s past from v (Buffer bytes) lawful whole since told = record { regs = told.regs; policy = told.policy; rbuf = as_of-from past.rbuf from v bytes since; rules = told.rules }
-tells-later s past from v (Overlap policy) lawful whole since told = record { regs = told.regs; policy = as_of-from past.policy from v policy since; rbuf = told.rbuf; rules = told.rules }
-tells-later s past from v (AddRule r) lawful whole since told = record { regs = told.regs; policy = told.policy; rbuf = told.rbuf; rules = as_of-from past.rules from v _ since }
-tells-later s past from v (RemoveRule number) lawful whole since told = record { regs = told.regs; policy = told.policy; rbuf = told.rbuf; rules = as_of-from past.rules from v _ since }
+tells-later s past from v (Buffer bytes) lawful whole since told = record { regs = told.regs; policy = told.policy; rbuf = as_of-from past.rbuf from v bytes since; rules = told.rules; idle = told.idle }
+tells-later s past from v (Overlap policy) lawful whole since told = record { regs = told.regs; policy = as_of-from past.policy from v policy since; rbuf = told.rbuf; rules = told.rules; idle = told.idle }
+tells-later s past from v (AddRule r) lawful whole since told = record { regs = told.regs; policy = told.policy; rbuf = told.rbuf; rules = as_of-from past.rules from v _ since; idle = told.idle }
+tells-later s past from v (RemoveRule number) lawful whole since told = record { regs = told.regs; policy = told.policy; rbuf = told.rbuf; rules = as_of-from past.rules from v _ since; idle = told.idle }
+tells-later s past from v (Idle seconds) lawful whole since told = record { regs = told.regs; policy = told.policy; rbuf = told.rbuf; rules = told.rules; idle = as_of-from past.idle from v (Some seconds) since }
 
 before-more : {T : Type 0} (line : Line T) (v : ℕ) → IsBefore line v → IsBefore line (v + 1)
 before-more {T} line v h = All-weaker (λ (s : ℕ × T). s.0 < v) (λ (s : ℕ × T). s.0 < v + 1) (λ s below. omega arith) line.steps h
@@ -117,17 +123,18 @@ before-reg past n v reg k within h =
 -- after a note each change is before the version after it
 pub before-noted : (s : ControlState) (past : PastLines) (v : ℕ) (rules : List Rule) (c : Command) → IsTrue (is_lawful s c) → length past.regs ≡ 256 → AreBefore past v → AreBefore (noted v rules c past) (v + 1)
 unfolding noted
-before-noted s past v rules (Event d) lawful whole h = record { regs = λ k. before-more (line_of past k) v (h.regs k); policy = before-more past.policy v h.policy; rbuf = before-more past.rbuf v h.rbuf; rules = before-more past.rules v h.rules }
+before-noted s past v rules (Event d) lawful whole h = record { regs = λ k. before-more (line_of past k) v (h.regs k); policy = before-more past.policy v h.policy; rbuf = before-more past.rbuf v h.rbuf; rules = before-more past.rules v h.rules; idle = before-more past.idle v h.idle }
 before-noted s past v rules (Register r) lawful whole h =
     let fits = lawful-register s r lawful in
-    record { regs = λ k. before-reg past r.number v (Some r) k (omega (arith, fits.high)) h.regs; policy = before-more past.policy v h.policy; rbuf = before-more past.rbuf v h.rbuf; rules = before-more past.rules v h.rules }
+    record { regs = λ k. before-reg past r.number v (Some r) k (omega (arith, fits.high)) h.regs; policy = before-more past.policy v h.policy; rbuf = before-more past.rbuf v h.rbuf; rules = before-more past.rules v h.rules; idle = before-more past.idle v h.idle }
 before-noted s past v rules (Unregister number) lawful whole h =
     let high = lawful-withdraw s number lawful in
-    record { regs = λ k. before-reg past number v None k (omega (arith, high)) h.regs; policy = before-more past.policy v h.policy; rbuf = before-more past.rbuf v h.rbuf; rules = before-more past.rules v h.rules }
-before-noted s past v rules (Buffer bytes) lawful whole h = record { regs = λ k. before-more (line_of past k) v (h.regs k); policy = before-more past.policy v h.policy; rbuf = before-stepped past.rbuf v bytes h.rbuf; rules = before-more past.rules v h.rules }
-before-noted s past v rules (Overlap policy) lawful whole h = record { regs = λ k. before-more (line_of past k) v (h.regs k); policy = before-stepped past.policy v policy h.policy; rbuf = before-more past.rbuf v h.rbuf; rules = before-more past.rules v h.rules }
-before-noted s past v rules (AddRule r) lawful whole h = record { regs = λ k. before-more (line_of past k) v (h.regs k); policy = before-more past.policy v h.policy; rbuf = before-more past.rbuf v h.rbuf; rules = before-stepped past.rules v _ h.rules }
-before-noted s past v rules (RemoveRule number) lawful whole h = record { regs = λ k. before-more (line_of past k) v (h.regs k); policy = before-more past.policy v h.policy; rbuf = before-more past.rbuf v h.rbuf; rules = before-stepped past.rules v _ h.rules }
+    record { regs = λ k. before-reg past number v None k (omega (arith, high)) h.regs; policy = before-more past.policy v h.policy; rbuf = before-more past.rbuf v h.rbuf; rules = before-more past.rules v h.rules; idle = before-more past.idle v h.idle }
+before-noted s past v rules (Buffer bytes) lawful whole h = record { regs = λ k. before-more (line_of past k) v (h.regs k); policy = before-more past.policy v h.policy; rbuf = before-stepped past.rbuf v bytes h.rbuf; rules = before-more past.rules v h.rules; idle = before-more past.idle v h.idle }
+before-noted s past v rules (Overlap policy) lawful whole h = record { regs = λ k. before-more (line_of past k) v (h.regs k); policy = before-stepped past.policy v policy h.policy; rbuf = before-more past.rbuf v h.rbuf; rules = before-more past.rules v h.rules; idle = before-more past.idle v h.idle }
+before-noted s past v rules (AddRule r) lawful whole h = record { regs = λ k. before-more (line_of past k) v (h.regs k); policy = before-more past.policy v h.policy; rbuf = before-more past.rbuf v h.rbuf; rules = before-stepped past.rules v _ h.rules; idle = before-more past.idle v h.idle }
+before-noted s past v rules (RemoveRule number) lawful whole h = record { regs = λ k. before-more (line_of past k) v (h.regs k); policy = before-more past.policy v h.policy; rbuf = before-more past.rbuf v h.rbuf; rules = before-stepped past.rules v _ h.rules; idle = before-more past.idle v h.idle }
+before-noted s past v rules (Idle seconds) lawful whole h = record { regs = λ k. before-more (line_of past k) v (h.regs k); policy = before-more past.policy v h.policy; rbuf = before-more past.rbuf v h.rbuf; rules = before-more past.rules v h.rules; idle = before-stepped past.idle v (Some seconds) h.idle }
 
 -- a note that is taken back leaves the past as it was
 pub take-back : (old past : PastLines) (n from : ℕ) (reg : Option Reg) (back : Line (Option Reg)) → n < length old.regs → old ≡ with_reg past n from reg → ((line : Line (Option Reg)) (v : ℕ) (x : Option Reg) → line_of old n ≡ stepped line v x → back ≡ line) → record old { regs = set old.regs n back } ≡ past

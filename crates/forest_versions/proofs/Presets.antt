@@ -76,10 +76,10 @@ at-root event k low high e =
     let same : event ≡ k = eqb-true event k e in
     and_from (leb 256 event) (leb event 264) (le-leb 256 event (omega arith)) (le-leb event 264 (omega arith))
 
-one-side : (event : ℕ) (hook : Hook) → cond (eqb event 258 || eqb event 259 || eqb event 260 || eqb event 262) (is_rcv hook) false ≡ true → is_root event ≡ true
+one-side : (event : ℕ) (hook : Hook) → cond (eqb event 258 || eqb event 259 || eqb event 260 || eqb event 262 || eqb event 264) (is_rcv hook) false ≡ true → is_root event ≡ true
 one-side event hook h =
-    elim (eqb event 258 || eqb event 259 || eqb event 260 || eqb event 262) as (λ b. (eqb event 258 || eqb event 259 || eqb event 260 || eqb event 262) ≡ b → cond b (is_rcv hook) false ≡ true → is_root event ≡ true) [
-      | true ↦ λ e h. ⊎_elim (λ d. ⊎_elim (λ k. ⊎_elim (at-root event 258 (omega arith) (omega arith)) (at-root event 259 (omega arith) (omega arith)) (or_cases (eqb event 258) (eqb event 259) k)) (at-root event 260 (omega arith) (omega arith)) (or_cases (eqb event 258 || eqb event 259) (eqb event 260) d)) (at-root event 262 (omega arith) (omega arith)) (or_cases (eqb event 258 || eqb event 259 || eqb event 260) (eqb event 262) e)
+    elim (eqb event 258 || eqb event 259 || eqb event 260 || eqb event 262 || eqb event 264) as (λ b. (eqb event 258 || eqb event 259 || eqb event 260 || eqb event 262 || eqb event 264) ≡ b → cond b (is_rcv hook) false ≡ true → is_root event ≡ true) [
+      | true ↦ λ e h. ⊎_elim (λ c. ⊎_elim (λ d. ⊎_elim (λ k. ⊎_elim (at-root event 258 (omega arith) (omega arith)) (at-root event 259 (omega arith) (omega arith)) (or_cases (eqb event 258) (eqb event 259) k)) (at-root event 260 (omega arith) (omega arith)) (or_cases (eqb event 258 || eqb event 259) (eqb event 260) d)) (at-root event 262 (omega arith) (omega arith)) (or_cases (eqb event 258 || eqb event 259 || eqb event 260) (eqb event 262) c)) (at-root event 264 (omega arith) (omega arith)) (or_cases (eqb event 258 || eqb event 259 || eqb event 260 || eqb event 262) (eqb event 264) e)
       | false ↦ λ e h. cc
     ] refl h
 
@@ -87,7 +87,7 @@ one-side event hook h =
 pub allowed-root : (event : ℕ) (hook : Hook) → allows_hook event hook ≡ true → is_root event ≡ true
 unfolding allows_hook
 allowed-root event hook h =
-    let rest : Bool = cond (eqb event 258 || eqb event 259 || eqb event 260 || eqb event 262) (is_rcv hook) false in
+    let rest : Bool = cond (eqb event 258 || eqb event 259 || eqb event 260 || eqb event 262 || eqb event 264) (is_rcv hook) false in
     elim (eqb event 257 || eqb event 261) as (λ b. (eqb event 257 || eqb event 261) ≡ b → cond b true (cond (eqb event 256 || eqb event 263) (is_snd hook) rest) ≡ true → is_root event ≡ true) [
       | true ↦ λ e h. ⊎_elim (at-root event 257 (omega arith) (omega arith)) (at-root event 261 (omega arith) (omega arith)) (or_cases (eqb event 257) (eqb event 261) e)
       | false ↦ λ e h. elim (eqb event 256 || eqb event 263) as (λ b. (eqb event 256 || eqb event 263) ≡ b → cond b (is_snd hook) rest ≡ true → is_root event ≡ true) [

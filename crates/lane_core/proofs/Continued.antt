@@ -1,7 +1,7 @@
--- A packet that an open connection takes: the lane stands for the records with the packet added.
+-- A packet that an open connection takes: the lane stands for the records with the packet placed among them.
 use Rattle.std.proofs.Common.{◌≡◌, ℕ, ◌+◌, ◌<◌, Bool, true, false, Option, Some, None, List, [], ◌++◌, length, get_or, set, refl, sym, ap, subst, ◌∙◌, arith}
 use Rattle.std.proofs.lemmas.List.{length-append, map-set, get_or-map}
-use Rattle.std.specs.Prelude.{if◌then◌else◌, ◌&&◌, not}
+use Rattle.std.specs.Prelude.{if◌then◌else◌, ◌&&◌, ◌||◌, not}
 use Rattle.flow_table.specs.Key.{EndpointPair, same_key}
 use Rattle.flow_table.specs.Table.{Flows, found}
 use Rattle.flow_table.proofs.Keys.{same_key-equal}
@@ -20,17 +20,17 @@ use Rattle.connection_core.specs.Trees.{InternsWithin}
 use Rattle.lane_core.specs.declared.connection.Connection.{Connection}
 use Rattle.lane_core.specs.declared.slot.Slot.{Slot}
 use Rattle.lane_core.specs.Sight.{Segment, Tcp, Moment, key_of_segment}
-use Rattle.lane_core.specs.Records.{RecordSoFar, VersionedPacket, is_open_at, side_of, side_in, history_after, verdict_after, verdict_on, started_by, continued_by, added}
+use Rattle.lane_core.specs.Records.{RecordSoFar, VersionedPacket, is_open_at, side_of, side_in, history_after, verdict_after, verdict_among, started_by, continued_by, placed}
 use Rattle.lane_core.specs.Shown.{alterations, drops_of as drops_in}
 use Rattle.lane_core.specs.Places.{place_of, IsSingle}
 use Rattle.lane_core.specs.Steps.{stepped, Stepping, IsStep, Follows, Failed}
 use Rattle.lane_core.specs.Kept.{IsOpen, IsOpenAt, AreKept, slot_of, arrived}
 use Rattle.lane_core.proofs.Places.{place_by-within, place_by-passes, joins, IsSingle-set}
-use Rattle.lane_core.proofs.Holding.{left_of_and, holds_before, holds_after}
+use Rattle.lane_core.proofs.Holding.{left_of_and, holds_before, holds_after, unended}
 use Rattle.lane_core.proofs.Totals.{others_of, others_and, others_with, InternsWithin-others}
 use Rattle.lane_core.proofs.OpenFlows.{kept_flow, stepped_flow, over_flow}
 use Rattle.lane_core.proofs.Stored.{IsOpenAt-stored}
-use Rattle.lane_core.proofs.Verdicts.{verdict_on-some}
+use Rattle.lane_core.proofs.Verdicts.{verdict_among-some}
 
 -- what the table has for a key, after a step of one connection
 continued_at : (told : ℕ → ℕ → Option Reg) (content : Shared → TreeLists) (flows after : Flows Connection) (pasts : List RecordSoFar) (i : ℕ) (past d : RecordSoFar) (conn : Connection) (own key : EndpointPair) (same over : Bool)
@@ -90,9 +90,9 @@ module _ (app : Meaning) (control_at : ℕ → ControlState) (keep : Bool) (m : 
 
   -- what one record's alterations cost, all of them cost
   altered_in : (interns interns' : Option ℕ) (p : VersionedPacket) (pasts : List RecordSoFar) (i : ℕ) (d : RecordSoFar) → i < length pasts
-      → added app control_at p pasts ≡ set pasts i (continued_by app control_at p.arrival (get_or pasts i d))
+      → placed app control_at p pasts ≡ set pasts i (continued_by app control_at p.arrival (get_or pasts i d))
       → InternsWithin interns interns' (get_or pasts i d).history.altered (continued_by app control_at p.arrival (get_or pasts i d)).history.altered
-      → InternsWithin interns interns' (alterations pasts) (alterations (added app control_at p pasts))
+      → InternsWithin interns interns' (alterations pasts) (alterations (placed app control_at p pasts))
   altered_in interns interns' p pasts i d within new costs =
       let past = get_or pasts i d in
       let next = continued_by app control_at p.arrival past in
@@ -108,7 +108,7 @@ module _ (app : Meaning) (control_at : ℕ → ControlState) (keep : Bool) (m : 
     Went = Stepping app keep (told conn.version) (control_at conn.version) rest (content conn.flow.forest) (content' after.flow.forest) interns interns' conn after slot slot' counts counts' number segment step past.history
 
     abbrev Stepped : Type 0
-    Stepped = IsStep app keep (told conn.version) (control_at conn.version) (content conn.flow.forest) (content' after.flow.forest) interns interns' conn after slot slot' counts counts' number segment step
+    Stepped = IsStep app keep (told conn.version) (control_at conn.version) (content conn.flow.forest) (content' after.flow.forest) interns interns' conn after slot slot' counts counts' number moment segment step
 
     next_is : IsOpen told content conn past → stepped app (control_at conn.version) conn number segment past.history ≡ next.history
     next_is is = next_history content number moment segment p is_p conn past is
@@ -117,6 +117,8 @@ module _ (app : Meaning) (control_at : ℕ → ControlState) (keep : Bool) (m : 
     open_is is st went = record {
       sides = λ h. ap (λ c. side_of c h) st.client ∙ is.sides h;
       version = st.version ∙ is.version;
+      last = st.last ∙ ap (λ (q : VersionedPacket). q.arrival.number) (sym is_p);
+      heard = st.heard ∙ ap (λ (q : VersionedPacket). q.arrival.moment) (sym is_p);
       kept = subst (λ v. IsFlow (told v) (content' after.flow.forest) after.flow next.history) (sym st.version)
           (subst (λ h. IsFlow (told conn.version) (content' after.flow.forest) after.flow h) (next_is is) went.stands.kept);
     }
@@ -147,15 +149,15 @@ module _ (app : Meaning) (control_at : ℕ → ControlState) (keep : Bool) (m : 
 
   -- the lane after a packet that an open connection takes
   pub record Continued (content' : Shared → TreeLists) (interns interns' : Option ℕ) (after : Flows Connection) (slots' : List Slot) (counts' : Counts) (p : VersionedPacket) (step : Step) (pasts : List RecordSoFar) : Type 0 where
-    pub stands : AreKept keep told content' after slots' counts' (added app control_at p pasts)
-    pub interned : InternsWithin interns interns' (alterations pasts) (alterations (added app control_at p pasts))
-    pub verdict_is : step.verdict ≡ verdict_on app control_at p pasts
-    pub dropped : drops_in (added app control_at p pasts) ≡ drops_in pasts + length (drops_of step.verdict p.arrival.number)
+    pub stands : AreKept keep told content' after slots' counts' (placed app control_at p pasts)
+    pub interned : InternsWithin interns interns' (alterations pasts) (alterations (placed app control_at p pasts))
+    pub verdict_is : step.verdict ≡ verdict_among app control_at p pasts
+    pub dropped : drops_in (placed app control_at p pasts) ≡ drops_in pasts + length (drops_of step.verdict p.arrival.number)
 
   pub continued : (content content' : Shared → TreeLists) (interns interns' : Option ℕ) (flows after : Flows Connection) (slots slots' : List Slot) (counts counts' : Counts) (key : EndpointPair) (version number : ℕ) (moment : Moment) (segment : Segment) (step : Step) (pasts : List RecordSoFar)
       → ((v : ℕ) → Tells m v (control_at v)) → ((k : EndpointPair) (x : Connection) → found flows k ≡ Some x → content' x.flow.forest ≡ content x.flow.forest)
       → AreKept keep told content flows slots counts pasts → key ≡ key_of_segment segment
-      → Follows app keep m content content' interns interns' flows after slots slots' counts counts' key number segment step
+      → Follows app keep m content content' interns interns' flows after slots slots' counts counts' key number moment segment step
       → Continued content' interns interns' after slots' counts' (arrived version number moment (Tcp segment)) step pasts
   continued content content' interns interns' flows after slots slots' counts counts' key version number moment segment step pasts tells stored stands key_is f =
       let p = arrived version number moment (Tcp segment) in
@@ -178,7 +180,8 @@ module _ (app : Meaning) (control_at : ℕ → ControlState) (keep : Bool) (m : 
       let shown = slot_is content content' interns interns' number moment segment p refl f.conn f.conn_after f.slot f.slot_after counts counts' step past (others pasts i) is slot_was st went in
       let same = next_is content content' interns interns' number moment segment p refl f.conn f.conn_after f.slot f.slot_after counts counts' step past (others pasts i) is in
       let before = λ (k : EndpointPair). holds_before past own k passes in
-      let afterwards = λ (k : EndpointPair). holds_after past next own k step.over passes refl over in
+      let shut = ap (λ b. b || is_over next.history) (unended past own passes) ∙ over in
+      let afterwards = λ (k : EndpointPair). holds_after past next own k step.over passes refl shut in
       let noted = went.stands.noted in
       let new = (joins app control_at p pasts i there).changed d in
       record {
@@ -197,7 +200,7 @@ module _ (app : Meaning) (control_at : ℕ → ControlState) (keep : Bool) (m : 
         });
         interned = altered_in interns interns' p pasts i d within new (subst (λ (h : History). InternsWithin interns interns' past.history.altered h.altered) same went.interned);
         verdict_is = verdict_in content content' interns interns' number moment segment p refl f.conn f.conn_after f.slot f.slot_after counts counts' step past (others pasts i) is went
-            ∙ sym (verdict_on-some app control_at p pasts i d there);
+            ∙ sym (verdict_among-some app control_at p pasts i d there);
         dropped =
             let longer : length next.history.drops ≡ length past.history.drops + length (drops_of step.verdict number) =
             ap (λ (h : History). length h.drops) (sym same) ∙ ap length went.drops ∙ length-append past.history.drops (drops_of step.verdict number) in
@@ -209,7 +212,7 @@ module _ (app : Meaning) (control_at : ℕ → ControlState) (keep : Bool) (m : 
   pub continued_costs : (content : Shared → TreeLists) (interns interns' : Option ℕ) (flows : Flows Connection) (slots : List Slot) (counts : Counts) (key : EndpointPair) (version number : ℕ) (moment : Moment) (segment : Segment) (pasts : List RecordSoFar)
       → ((v : ℕ) → Tells m v (control_at v)) → AreKept keep told content flows slots counts pasts → key ≡ key_of_segment segment
       → Failed app keep m content interns interns' flows slots counts key number segment
-      → InternsWithin interns interns' (alterations pasts) (alterations (added app control_at (arrived version number moment (Tcp segment)) pasts))
+      → InternsWithin interns interns' (alterations pasts) (alterations (placed app control_at (arrived version number moment (Tcp segment)) pasts))
   continued_costs content interns interns' flows slots counts key version number moment segment pasts tells stands key_is f =
       let p = arrived version number moment (Tcp segment) in
       let own = key_of_segment segment in

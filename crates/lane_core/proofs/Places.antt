@@ -3,7 +3,7 @@ use Rattle.std.proofs.Common.{◌≡◌, ℕ, zero, suc, ◌<◌, Bool, true, fa
 use Rattle.std.specs.Prelude.{if◌then◌else◌, MatchBool}
 use Rattle.app_api.specs.App.{Meaning}
 use Rattle.forest_versions.specs.State.{ControlState}
-use Rattle.lane_core.specs.Records.{VersionedPacket, RecordSoFar, belongs_to, started_by, continued_by, added}
+use Rattle.lane_core.specs.Records.{VersionedPacket, RecordSoFar, belongs_to, started_by, continued_by, placed}
 use Rattle.lane_core.specs.Places.{further, place_by, IsSingle}
 
 -- no record passes where there is no place
@@ -14,21 +14,21 @@ none_here false (Some i) e = absurd (cc)
 
 module _ (app : Meaning) (control_at : ℕ → ControlState) where
   -- a packet that no record takes begins one
-  pub added-new : (s : VersionedPacket) (pasts : List RecordSoFar) → place_by (belongs_to s.arrival.sight) pasts ≡ None → added app control_at s pasts ≡ pasts ++ started_by app control_at s ∷ []
-  unfolding added place_by
-  added-new s [] none = refl
-  added-new s (past ∷ pasts) none =
+  pub placed-new : (s : VersionedPacket) (pasts : List RecordSoFar) → place_by (belongs_to s.arrival.sight) pasts ≡ None → placed app control_at s pasts ≡ pasts ++ started_by app control_at s ∷ []
+  unfolding placed place_by
+  placed-new s [] none = refl
+  placed-new s (past ∷ pasts) none =
       let here = none_here (belongs_to s.arrival.sight past) (place_by (belongs_to s.arrival.sight) pasts) none in
-      rw here.0 (ap (λ l. past ∷ l) (added-new s pasts here.1))
+      rw here.0 (ap (λ l. past ∷ l) (placed-new s pasts here.1))
 
   -- a packet that a record takes changes that record alone
   pub record Joins (s : VersionedPacket) (pasts : List RecordSoFar) (i : ℕ) : Type 0 where
     pub within : i < length pasts
-    pub changed : (d : RecordSoFar) → added app control_at s pasts ≡ set pasts i (continued_by app control_at s.arrival (get_or pasts i d))
+    pub changed : (d : RecordSoFar) → placed app control_at s pasts ≡ set pasts i (continued_by app control_at s.arrival (get_or pasts i d))
 
   joins_here : (s : VersionedPacket) (past : RecordSoFar) (pasts : List RecordSoFar) (b : Bool) (o : Option ℕ) (i : ℕ) → belongs_to s.arrival.sight past ≡ b → place_by (belongs_to s.arrival.sight) pasts ≡ o
       → ((k : ℕ) → o ≡ Some k → Joins s pasts k) → (if b then Some 0 else further o) ≡ Some i → Joins s (past ∷ pasts) i
-  unfolding added
+  unfolding placed
   joins_here s past pasts true o zero is there later e = record { within = omega arith; changed = λ d. rw is refl }
   joins_here s past pasts true o (suc i) is there later e = absurd (cc)
   joins_here s past pasts false None i is there later e = absurd (cc)

@@ -1,16 +1,18 @@
 -- One event more at the end of a run.
-use Rattle.std.proofs.Common.{◌≡◌, ◌↔◌, ℕ, zero, suc, ◌+◌, ◌<◌, ◌≤◌, true, false, Option, Some, None, List, [], ◌∷◌, ◌++◌, length, take, refl, sym, ap, subst, ◌∙◌, arith, add-zero, le_refl}
-use Rattle.std.specs.Prelude.{if◌then◌else◌}
+use Rattle.std.proofs.Common.{◌≡◌, ◌↔◌, ℕ, zero, suc, ◌+◌, ◌<◌, ◌≤◌, Bool, true, false, Option, Some, None, List, [], ◌∷◌, ◌++◌, length, map, take, refl, sym, ap, subst, ◌∙◌, arith, add-zero, le_refl}
+use Rattle.std.specs.Prelude.{if◌then◌else◌, ◌&&◌, not}
 use Rattle.app_api.specs.App.{Meaning}
 use Rattle.forest_versions.specs.declared.command.Command.{Command}
 use Rattle.forest_versions.specs.State.{ControlState, control, master}
-use Rattle.lane_core.specs.Sight.{Arrival}
-use Rattle.lane_core.specs.Records.{VersionedPacket, RecordSoFar, belongs_to, first_history, history_after, continued_by, added, records_from, first_verdict, verdict_after, verdict_on}
-use Rattle.lane_core.specs.Run.{LaneEvent, Gave, Arrived, commands_of, versioned_from, packets_of, control_of, lane_run, last_number, newest_of}
+use Rattle.connection_core.specs.Silence.{silenced}
+use Rattle.lane_core.specs.Sight.{Moment, Arrival}
+use Rattle.lane_core.specs.Records.{VersionedPacket, RecordSoFar, opens, is_shut, belongs_to, timer_raise_of, is_past, first_history, history_after, continued_by, ended_before, ended_at, placed, added, records_from, first_verdict, verdict_after, verdict_among, verdict_on}
+use Rattle.lane_core.specs.Run.{LaneEvent, Gave, Arrived, commands_of, versioned_from, packets_of, control_of, lane_run, ended_run, last_number, newest_of}
 use Rattle.lane_core.specs.Shown.{weight}
-use Rattle.lane_core.specs.Lane.{IsHeavy, next_verdict, with_event}
-use Rattle.lane_core.specs.Laws.{OneEventMore, NewestIsTheLast, LaterCommandsChangeNone, LastPacketIsAdded}
-use Rattle.lane_core.proofs.Weighing.{weight_never_falls}
+use Rattle.lane_core.specs.Lane.{IsHeavy, IsHeavyAtEnd, next_verdict, with_event}
+use Rattle.lane_core.specs.Laws.{HeavyStays, OneEventMore, NewestIsTheLast, LaterCommandsChangeNone, LastPacketIsAdded}
+use Rattle.lane_core.proofs.Ended.{Ends, ends_before, ends_at, either}
+use Rattle.lane_core.proofs.Weighing.{packet_weighs, end_weighs}
 
 -- ---- the events, one more at the end
 
@@ -82,28 +84,68 @@ abbrev PacketsAtMost : ℕ → List VersionedPacket → Type 0
 PacketsAtMost most [] = Unit {0}
 PacketsAtMost most (p ∷ ps) = (p.version ≤ most) × PacketsAtMost most ps
 
+-- a record that ends, under what is in force for it
+abbrev ended_under : Meaning → ControlState → RecordSoFar → RecordSoFar
+ended_under app control r = record r {
+  ended = true;
+  history = silenced app control r.last.number (timer_raise_of r.first.sight r.history.count) r.history;
+}
+
 -- records depend on what is in force at the versions that are used alone
 module _ (app : Meaning) (most : ℕ) (one two : ℕ → ControlState) (agree : (v : ℕ) → v ≤ most → one v ≡ two v) where
-  added-agrees : (p : VersionedPacket) (rs : List RecordSoFar) → p.version ≤ most → AreAtMost most rs → added app one p rs ≡ added app two p rs
-  unfolding added
-  added-agrees p [] low all = ap (λ c. record { first = p.arrival; version = p.version; history = first_history app c p.arrival } ∷ []) (agree p.version low)
-  added-agrees p (r ∷ rs) low all =
-      let rest = added-agrees p rs low all.1 in
+  -- ---- records that end
+
+  before-agrees : (p : VersionedPacket) (rs : List RecordSoFar) → AreAtMost most rs → map (ended_before app one p) rs ≡ map (ended_before app two p) rs
+  before-agrees p [] all = refl
+  before-agrees p (r ∷ rs) all =
+      let same : ended_before app one p r ≡ ended_before app two p r =
+      ap (λ c. if belongs_to p.arrival.sight r && is_past c.idle r.last.moment p.arrival.moment then ended_under app c r else r) (agree r.version all.0) in
+      ap (λ q. q ∷ map (ended_before app one p) rs) same ∙ ap (λ l. ended_before app two p r ∷ l) (before-agrees p rs all.1)
+
+  at-agrees : (last : Option Moment) (rs : List RecordSoFar) → AreAtMost most rs → map (ended_at app one last) rs ≡ map (ended_at app two last) rs
+  at-agrees None rs all = refl
+  at-agrees (Some now) [] all = refl
+  at-agrees (Some now) (r ∷ rs) all =
+      let same : ended_at app one (Some now) r ≡ ended_at app two (Some now) r =
+      ap (λ c. if opens r.first.sight && not (is_shut r) && is_past c.idle r.last.moment now then ended_under app c r else r) (agree r.version all.0) in
+      ap (λ q. q ∷ map (ended_at app one (Some now)) rs) same ∙ ap (λ l. ended_at app two (Some now) r ∷ l) (at-agrees (Some now) rs all.1)
+
+  ended-at_most : (step : RecordSoFar → RecordSoFar) → Ends app one step → (rs : List RecordSoFar) → AreAtMost most rs → AreAtMost most (map step rs)
+  ended-at_most step ends [] all = tt
+  ended-at_most step ends (r ∷ rs) all = (either app one (λ q. q.version ≤ most) step ends r all.0 all.0, ended-at_most step ends rs all.1)
+
+  -- ---- one packet more
+
+  placed-agrees : (p : VersionedPacket) (rs : List RecordSoFar) → p.version ≤ most → AreAtMost most rs → placed app one p rs ≡ placed app two p rs
+  unfolding placed
+  placed-agrees p [] low all = ap (λ c. record { first = p.arrival; version = p.version; last = p.arrival; ended = false; history = first_history app c p.arrival } ∷ []) (agree p.version low)
+  placed-agrees p (r ∷ rs) low all =
+      let rest = placed-agrees p rs low all.1 in
       let same : continued_by app one p.arrival r ≡ continued_by app two p.arrival r =
-      ap (λ c. record { first = r.first; version = r.version; history = history_after app c r.first.sight p.arrival r.history }) (agree r.version all.0) in
-      elim (belongs_to p.arrival.sight r) as (λ b. (if b then continued_by app one p.arrival r ∷ rs else r ∷ added app one p rs) ≡ (if b then continued_by app two p.arrival r ∷ rs else r ∷ added app two p rs)) [
+      ap (λ c. record { first = r.first; version = r.version; last = p.arrival; ended = r.ended; history = history_after app c r.first.sight p.arrival r.history }) (agree r.version all.0) in
+      elim (belongs_to p.arrival.sight r) as (λ b. (if b then continued_by app one p.arrival r ∷ rs else r ∷ placed app one p rs) ≡ (if b then continued_by app two p.arrival r ∷ rs else r ∷ placed app two p rs)) [
         | true ↦ ap (λ x. x ∷ rs) same
         | false ↦ ap (λ l. r ∷ l) rest
       ]
 
-  added-at_most : (p : VersionedPacket) (rs : List RecordSoFar) → p.version ≤ most → AreAtMost most rs → AreAtMost most (added app one p rs)
-  unfolding added
-  added-at_most p [] low all = (low, tt)
-  added-at_most p (r ∷ rs) low all =
-      elim (belongs_to p.arrival.sight r) as (λ b. AreAtMost most (if b then continued_by app one p.arrival r ∷ rs else r ∷ added app one p rs)) [
+  placed-at_most : (p : VersionedPacket) (rs : List RecordSoFar) → p.version ≤ most → AreAtMost most rs → AreAtMost most (placed app one p rs)
+  unfolding placed
+  placed-at_most p [] low all = (low, tt)
+  placed-at_most p (r ∷ rs) low all =
+      elim (belongs_to p.arrival.sight r) as (λ b. AreAtMost most (if b then continued_by app one p.arrival r ∷ rs else r ∷ placed app one p rs)) [
         | true ↦ (all.0, all.1)
-        | false ↦ (all.0, added-at_most p rs low all.1)
+        | false ↦ (all.0, placed-at_most p rs low all.1)
       ]
+
+  before-at_most : (p : VersionedPacket) (rs : List RecordSoFar) → AreAtMost most rs → AreAtMost most (map (ended_before app one p) rs)
+  before-at_most p rs all = ended-at_most (ended_before app one p) (ends_before app one p) rs all
+
+  added-agrees : (p : VersionedPacket) (rs : List RecordSoFar) → p.version ≤ most → AreAtMost most rs → added app one p rs ≡ added app two p rs
+  added-agrees p rs low all =
+      placed-agrees p (map (ended_before app one p) rs) low (before-at_most p rs all) ∙ ap (placed app two p) (before-agrees p rs all)
+
+  added-at_most : (p : VersionedPacket) (rs : List RecordSoFar) → p.version ≤ most → AreAtMost most rs → AreAtMost most (added app one p rs)
+  added-at_most p rs low all = placed-at_most p (map (ended_before app one p) rs) low (before-at_most p rs all)
 
   records-agree : (ps : List VersionedPacket) (rs : List RecordSoFar) → PacketsAtMost most ps → AreAtMost most rs → records_from app one rs ps ≡ records_from app two rs ps
   unfolding records_from
@@ -116,18 +158,22 @@ module _ (app : Meaning) (most : ℕ) (one two : ℕ → ControlState) (agree : 
   records-at_most [] rs low all = all
   records-at_most (p ∷ ps) rs low all = records-at_most ps (added app one p rs) low.1 (added-at_most p rs low.0 all)
 
-  verdicts-agree : (p : VersionedPacket) (rs : List RecordSoFar) → p.version ≤ most → AreAtMost most rs → verdict_on app one p rs ≡ verdict_on app two p rs
-  unfolding verdict_on
-  verdicts-agree p [] low all = ap (λ c. first_verdict app c p.arrival) (agree p.version low)
-  verdicts-agree p (r ∷ rs) low all =
-      let rest = verdicts-agree p rs low all.1 in
+  among-agrees : (p : VersionedPacket) (rs : List RecordSoFar) → p.version ≤ most → AreAtMost most rs → verdict_among app one p rs ≡ verdict_among app two p rs
+  unfolding verdict_among
+  among-agrees p [] low all = ap (λ c. first_verdict app c p.arrival) (agree p.version low)
+  among-agrees p (r ∷ rs) low all =
+      let rest = among-agrees p rs low all.1 in
       let same : verdict_after app (one r.version) r.first.sight p.arrival r.history ≡ verdict_after app (two r.version) r.first.sight p.arrival r.history =
       ap (λ c. verdict_after app c r.first.sight p.arrival r.history) (agree r.version all.0) in
-      elim (belongs_to p.arrival.sight r) as (λ b. (if b then verdict_after app (one r.version) r.first.sight p.arrival r.history else verdict_on app one p rs)
-      ≡ (if b then verdict_after app (two r.version) r.first.sight p.arrival r.history else verdict_on app two p rs)) [
+      elim (belongs_to p.arrival.sight r) as (λ b. (if b then verdict_after app (one r.version) r.first.sight p.arrival r.history else verdict_among app one p rs)
+      ≡ (if b then verdict_after app (two r.version) r.first.sight p.arrival r.history else verdict_among app two p rs)) [
         | true ↦ same
         | false ↦ rest
       ]
+
+  verdicts-agree : (p : VersionedPacket) (rs : List RecordSoFar) → p.version ≤ most → AreAtMost most rs → verdict_on app one p rs ≡ verdict_on app two p rs
+  verdicts-agree p rs low all =
+      among-agrees p (map (ended_before app one p) rs) low (before-at_most p rs all) ∙ ap (verdict_among app two p) (before-agrees p rs all)
 
 packets_at_most : (v : ℕ) (es : List LaneEvent) → PacketsAtMost (v + length (commands_of es)) (versioned_from v es)
 packets_at_most v [] = tt
@@ -170,6 +216,16 @@ command_changes_none app es c =
     ∙ ap (records_from app (master app.presets (commands_of es ++ c ∷ [])) []) (versioned-gave 0 es c)
     ∙ sym (later_records app es (c ∷ []))
 
+pub later_end : (app : Meaning) (es : List LaneEvent) (last : Option Moment) (more : List Command)
+    → ended_run app es last ≡ map (ended_at app (master app.presets (commands_of es ++ more)) last) (records_from app (master app.presets (commands_of es ++ more)) [] (versioned_from 0 es))
+unfolding lane_run
+later_end app es last more =
+    let cs = commands_of es in
+    sym (at-agrees app (length cs) (master app.presets (cs ++ more)) (master app.presets cs) (λ v low. ap (control app.presets) (take-front cs more v low)) last
+    (records_from app (master app.presets (cs ++ more)) [] (versioned_from 0 es))
+    (records-at_most app (length cs) (master app.presets (cs ++ more)) (master app.presets (cs ++ more)) (λ v low. refl) (versioned_from 0 es) [] (packets-run es) tt)
+    ∙ ap (map (ended_at app (master app.presets cs) last)) (sym (later_records app es more)))
+
 pub later_verdict : (app : Meaning) (es : List LaneEvent) (a : Arrival) (more : List Command)
     → next_verdict app es a ≡ verdict_on app (master app.presets (commands_of es ++ more)) (record { version = length (commands_of es); arrival = a }) (lane_run app es)
 unfolding lane_run
@@ -179,11 +235,17 @@ later_verdict app es a more =
     (record { version = length cs; arrival = a }) (lane_run app es) (le_refl (length cs))
     (records-at_most app (length cs) (master app.presets cs) (master app.presets cs) (λ v low. refl) (versioned_from 0 es) [] (packets-run es) tt))
 
-pub heavy_stays : (app : Meaning) (es : List LaneEvent) (event : LaneEvent) → IsHeavy app es → IsHeavy app (with_event event es)
-heavy_stays app es (Gave c) heavy = subst (λ rs. 134217728 < weight rs) (sym (command_changes_none app es c)) heavy
-heavy_stays app es (Arrived a) heavy =
-    let more = weight_never_falls app (control_of app es) (record { version = length (commands_of es); arrival = a }) (lane_run app es) in
+one_more_heavy : (app : Meaning) (es : List LaneEvent) (event : LaneEvent) → IsHeavy app es → IsHeavy app (with_event event es)
+one_more_heavy app es (Gave c) heavy = subst (λ rs. 134217728 < weight rs) (sym (command_changes_none app es c)) heavy
+one_more_heavy app es (Arrived a) heavy =
+    let more = packet_weighs app (control_of app es) (record { version = length (commands_of es); arrival = a }) (lane_run app es) in
     subst (λ rs. 134217728 < weight rs) (sym (packet_is_added app es a)) (omega (arith, heavy, more))
+
+heavy_at_end : (app : Meaning) (es : List LaneEvent) (last : Option Moment) → IsHeavy app es → IsHeavyAtEnd app es last
+heavy_at_end app es last heavy = let more = end_weighs app (control_of app es) last (lane_run app es) in omega (arith, heavy, more)
+
+pub heavy_stays : HeavyStays
+heavy_stays = record { one_more = one_more_heavy; at_end = heavy_at_end }
 
 pub one_event_more : OneEventMore
 one_event_more = record {
@@ -195,7 +257,7 @@ pub newest_is_the_last : NewestIsTheLast
 newest_is_the_last = record { none = newest_none_is; packet = newest-arrived None; command = newest-gave None }
 
 pub later_commands_change_none : LaterCommandsChangeNone
-later_commands_change_none = record { records = later_records; verdicts = later_verdict }
+later_commands_change_none = record { records = later_records; at_end = later_end; verdicts = later_verdict }
 
 pub last_packet_is_added : LastPacketIsAdded
 last_packet_is_added app control_at ps p = records-last app control_at [] ps p

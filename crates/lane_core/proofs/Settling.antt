@@ -11,7 +11,7 @@ use Rattle.connection_core.specs.declared.flow.Step.{Step}
 use Rattle.connection_core.specs.declared.ledger.Counts.{Counts}
 use Rattle.lane_core.specs.declared.connection.Connection.{Connection}
 use Rattle.lane_core.specs.declared.slot.Slot.{Slot}
-use Rattle.lane_core.specs.Sight.{Segment}
+use Rattle.lane_core.specs.Sight.{Segment, Moment}
 use Rattle.lane_core.specs.Steps.{Steps, Follows}
 
 settled_at : (over same : Bool) (old mid : Option Connection) (after : Connection) → mid ≡ (if same then Some after else old)
@@ -22,11 +22,11 @@ settled_at false true old mid after is = is
 settled_at false false old mid after is = is
 
 pub settled : (app : Meaning) (keep : Bool) (m : Versions) (content content_after : Shared → TreeLists) (interns interns_after : Option ℕ)
-    (old mid new : Flows Connection) (slots slots_after : List Slot) (counts counts_after : Counts) (key : EndpointPair) (number : ℕ) (segment : Segment) (step : Step)
-    → Steps app keep m content content_after interns interns_after old mid slots slots_after counts counts_after key number segment step
+    (old mid new : Flows Connection) (slots slots_after : List Slot) (counts counts_after : Counts) (key : EndpointPair) (number : ℕ) (moment : Moment) (segment : Segment) (step : Step)
+    → Steps app keep m content content_after interns interns_after old mid slots slots_after counts counts_after key number moment segment step
     → ((other : EndpointPair) → found new other ≡ (if step.over && same_key key other then None else found mid other))
-    → Follows app keep m content content_after interns interns_after old new slots slots_after counts counts_after key number segment step
-settled app keep m content content_after interns interns_after old mid new slots slots_after counts counts_after key number segment step s left = record {
+    → Follows app keep m content content_after interns interns_after old new slots slots_after counts counts_after key number moment segment step
+settled app keep m content content_after interns interns_after old mid new slots slots_after counts counts_after key number moment segment step s left = record {
   conn = s.conn;
   conn_after = s.conn_after;
   slot = s.slot;

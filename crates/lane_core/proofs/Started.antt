@@ -28,17 +28,17 @@ use Rattle.connection_core.specs.Trees.{InternsWithin}
 use Rattle.lane_core.specs.declared.connection.Connection.{Connection}
 use Rattle.lane_core.specs.declared.slot.Slot.{Slot}
 use Rattle.lane_core.specs.Sight.{Segment, Sight, Tcp, Moment, key_of_segment}
-use Rattle.lane_core.specs.Records.{RecordSoFar, VersionedPacket, opens, is_between, is_open_at, belongs_to, side_of, history_after, verdict_after, verdict_on, orphan_raises_of, started_by, added}
+use Rattle.lane_core.specs.Records.{RecordSoFar, VersionedPacket, opens, is_between, is_open_at, belongs_to, side_of, history_after, verdict_after, verdict_among, orphan_raises_of, started_by, placed}
 use Rattle.lane_core.specs.Shown.{kind_of, alterations, drops_of as drops_in}
 use Rattle.lane_core.specs.Places.{place_by, place_of}
 use Rattle.lane_core.specs.Steps.{stepped, IsLone, Opens, opened_by}
 use Rattle.lane_core.specs.Kept.{IsOpen, IsOpenAt, AreKept, IsStray, slot_of, arrived}
-use Rattle.lane_core.proofs.Places.{place_with, place_by-append, added-new, IsSingle-append}
+use Rattle.lane_core.proofs.Places.{place_with, place_by-append, placed-new, IsSingle-append}
 use Rattle.lane_core.proofs.Holding.{and_true, and_false, left_of_and}
 use Rattle.lane_core.proofs.Totals.{total-append, InternsWithin-others, InternsWithin-none}
 use Rattle.lane_core.proofs.OpenFlows.{unopened, opened}
 use Rattle.lane_core.proofs.Stored.{IsOpenAt-stored}
-use Rattle.lane_core.proofs.Verdicts.{verdict_on-none}
+use Rattle.lane_core.proofs.Verdicts.{verdict_among-none}
 
 is_false_true : (b : Bool) → b ≡ false → b ≡ true → ⊥
 is_false_true true fails passes = cc
@@ -95,9 +95,9 @@ module _ (app : Meaning) (control_at : ℕ → ControlState) (keep : Bool) (m : 
       → counts'.callbacks ≡ counts.callbacks + length (started_by app control_at p).history.entries → counts'.weight ≡ counts.weight + weight_of (started_by app control_at p).history.entries
       → ((key : EndpointPair) → IsOpenAt told content (found after key) (place_with (place_of key pasts) (is_open_at key (started_by app control_at p)) (length pasts)) (pasts ++ started_by app control_at p ∷ []))
       → ((key : EndpointPair) → is_open_at key (started_by app control_at p) ≡ true → place_of key pasts ≡ None)
-      → AreKept keep told content after (slots ++ slot ∷ []) counts' (added app control_at p pasts)
+      → AreKept keep told content after (slots ++ slot ∷ []) counts' (placed app control_at p pasts)
   started content flows after slots slot counts counts' p pasts stands none is callbacks weight placed alone =
-      let new = added-new app control_at p pasts none in
+      let new = placed-new app control_at p pasts none in
       let r = started_by app control_at p in
       rw new (record {
         shown = rw is (ap (λ ss. ss ++ slot_of keep r ∷ []) stands.shown ∙ sym (map-append (slot_of keep) pasts (r ∷ [])));
@@ -109,24 +109,24 @@ module _ (app : Meaning) (control_at : ℕ → ControlState) (keep : Bool) (m : 
 
   -- the lane after a packet that starts a record
   pub record Started (content : Shared → TreeLists) (interns interns' : Option ℕ) (after : Flows Connection) (slots : List Slot) (counts : Counts) (p : VersionedPacket) (verdict : Verdict) (pasts : List RecordSoFar) : Type 0 where
-    pub stands : AreKept keep told content after slots counts (added app control_at p pasts)
-    pub interned : InternsWithin interns interns' (alterations pasts) (alterations (added app control_at p pasts))
-    pub verdict_is : verdict ≡ verdict_on app control_at p pasts
-    pub dropped : drops_in (added app control_at p pasts) ≡ drops_in pasts + length (drops_of verdict p.arrival.number)
+    pub stands : AreKept keep told content after slots counts (placed app control_at p pasts)
+    pub interned : InternsWithin interns interns' (alterations pasts) (alterations (placed app control_at p pasts))
+    pub verdict_is : verdict ≡ verdict_among app control_at p pasts
+    pub dropped : drops_in (placed app control_at p pasts) ≡ drops_in pasts + length (drops_of verdict p.arrival.number)
 
   -- what its record's alterations cost, all of them cost
   altered_by : (interns interns' : Option ℕ) (p : VersionedPacket) (pasts : List RecordSoFar) → place_by (belongs_to p.arrival.sight) pasts ≡ None
-      → InternsWithin interns interns' 0 (started_by app control_at p).history.altered → InternsWithin interns interns' (alterations pasts) (alterations (added app control_at p pasts))
+      → InternsWithin interns interns' 0 (started_by app control_at p).history.altered → InternsWithin interns interns' (alterations pasts) (alterations (placed app control_at p pasts))
   altered_by interns interns' p pasts none costs =
       let r = started_by app control_at p in
-      rw (added-new app control_at p pasts none)
+      rw (placed-new app control_at p pasts none)
       (InternsWithin-others interns interns' (alterations pasts) 0 r.history.altered (alterations pasts) (alterations (pasts ++ r ∷ [])) (omega arith) (total-append (λ q. q.history.altered) pasts r) costs)
 
   -- ---- a packet of no connection
 
   -- it costs no intern
   pub stray_costs : (interns : Option ℕ) (p : VersionedPacket) (pasts : List RecordSoFar) → place_by (belongs_to p.arrival.sight) pasts ≡ None
-      → InternsWithin interns interns (alterations pasts) (alterations (added app control_at p pasts))
+      → InternsWithin interns interns (alterations pasts) (alterations (placed app control_at p pasts))
   stray_costs interns p pasts none = altered_by interns interns p pasts none (InternsWithin-none interns 0 (started_by app control_at p).history.altered (omega arith))
 
   -- the record of a packet of no connection
@@ -173,8 +173,8 @@ module _ (app : Meaning) (control_at : ℕ → ControlState) (keep : Bool) (m : 
             (λ key passes. absurd (is_false_true (is_open_at key r) (shut_at key) passes));
         interned = stray_costs interns p pasts stray.untaken;
         verdict_is = lone.passes counts before ∙ ap (orphan_verdict app m.now number) (sym stray.raises) ∙ ap (λ c. orphan_verdict app c number (orphan_raises_of sight)) (sym now_is)
-            ∙ sym (verdict_on-none app control_at p pasts stray.untaken ∙ (rw stray.shut refl));
-        dropped = ap drops_in (added-new app control_at p pasts stray.untaken) ∙ total-append (λ q. length q.history.drops) pasts r
+            ∙ sym (verdict_among-none app control_at p pasts stray.untaken ∙ (rw stray.shut refl));
+        dropped = ap drops_in (placed-new app control_at p pasts stray.untaken) ∙ total-append (λ q. length q.history.drops) pasts r
             ∙ ap (λ ds. drops_in pasts + length ds) (ap (λ (g : History). g.drops) same ∙ dropped);
       }
 
@@ -183,7 +183,7 @@ module _ (app : Meaning) (control_at : ℕ → ControlState) (keep : Bool) (m : 
   pub opening_started : (content content' : Shared → TreeLists) (interns interns' : Option ℕ) (flows after : Flows Connection) (slots : List Slot) (conn' : Connection) (slot' : Slot) (counts counts' : Counts) (key : EndpointPair) (number : ℕ) (moment : Moment) (segment : Segment) (step : Step) (pasts : List RecordSoFar)
       → ((v : ℕ) → Tells m v (control_at v)) → control_at m.version ≡ m.now → ((k : EndpointPair) (x : Connection) → found flows k ≡ Some x → content' x.flow.forest ≡ content x.flow.forest)
       → AreKept keep told content flows slots counts pasts → key ≡ key_of_segment segment → found flows key ≡ None → opens (Tcp segment) ≡ true
-      → (o : Opens app keep m content' interns interns' counts counts' (length pasts) number segment conn' slot' step)
+      → (o : Opens app keep m content' interns interns' counts counts' (length pasts) number moment segment conn' slot' step)
       → ((other : EndpointPair) → found after other ≡ (if not step.over && same_key key other then Some conn' else found flows other))
       → Started content' interns interns' after (slots ++ slot' ∷ []) counts' (arrived m.version number moment (Tcp segment)) step.verdict pasts
   unfolding history_after verdict_after kind_of is_between
@@ -220,6 +220,8 @@ module _ (app : Meaning) (control_at : ℕ → ControlState) (keep : Bool) (m : 
       let open_is : IsOpen told content' stepped_open r = record {
         sides = λ t. ap (λ c. side_of c t) (st.client ∙ client);
         version = st.version ∙ version_is;
+        last = st.last;
+        heard = st.heard;
         kept = subst (λ v. IsFlow (told v) (content' stepped_open.flow.forest) stepped_open.flow r.history) (sym st.version)
             (subst (λ g. IsFlow (told conn.version) (content' stepped_open.flow.forest) stepped_open.flow g) same went.stands.kept);
       } in
@@ -242,8 +244,8 @@ module _ (app : Meaning) (control_at : ℕ → ControlState) (keep : Bool) (m : 
             (IsOpenAt-stored keep told content content' (found flows k) (place_of k pasts) pasts (stored k) (stands.placed k)))
             (λ k passes. subst (λ w. place_of w pasts ≡ None) (same_key-equal own k (left_of_and (same_key own k) (not step.over) (sym (own_key k) ∙ passes))) none);
         interned = altered_by interns interns' p pasts none (subst (λ (g : History). InternsWithin interns interns' 0 g.altered) same went.interned);
-        verdict_is = went.verdict_is ∙ ap (λ c. verdict app s number (side_of c segment) segment.head segment.scale h0) client ∙ sym (verdict_on-none app control_at p pasts none ∙ (rw opening refl));
-        dropped = ap drops_in (added-new app control_at p pasts none) ∙ total-append (λ q. length q.history.drops) pasts r
+        verdict_is = went.verdict_is ∙ ap (λ c. verdict app s number (side_of c segment) segment.head segment.scale h0) client ∙ sym (verdict_among-none app control_at p pasts none ∙ (rw opening refl));
+        dropped = ap drops_in (placed-new app control_at p pasts none) ∙ total-append (λ q. length q.history.drops) pasts r
             ∙ ap (λ ds. drops_in pasts + length ds) (ap (λ (g : History). g.drops) (sym same) ∙ went.drops);
       }
 
@@ -251,7 +253,7 @@ module _ (app : Meaning) (control_at : ℕ → ControlState) (keep : Bool) (m : 
   pub opening_costs : (content : Shared → TreeLists) (interns interns' : Option ℕ) (flows : Flows Connection) (slots : List Slot) (counts : Counts) (key : EndpointPair) (number : ℕ) (moment : Moment) (segment : Segment) (pasts : List RecordSoFar)
       → control_at m.version ≡ m.now → AreKept keep told content flows slots counts pasts → key ≡ key_of_segment segment → found flows key ≡ None → opens (Tcp segment) ≡ true
       → InternsWithin interns interns' 0 (opened_by app m.now number segment).altered
-      → InternsWithin interns interns' (alterations pasts) (alterations (added app control_at (arrived m.version number moment (Tcp segment)) pasts))
+      → InternsWithin interns interns' (alterations pasts) (alterations (placed app control_at (arrived m.version number moment (Tcp segment)) pasts))
   unfolding history_after
   opening_costs content interns interns' flows slots counts key number moment segment pasts now_is stands key_is absent opening costs =
       let p = arrived m.version number moment (Tcp segment) in

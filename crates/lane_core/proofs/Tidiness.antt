@@ -6,6 +6,7 @@ use Rattle.std.specs.Ordering.{is_lt}
 use Rattle.std.proofs.lemmas.List.Folds.{list_all-append}
 use Rattle.std.proofs.lemmas.Grind.{common_steps}
 use Rattle.tcp_emulation.specs.declared.segment.Side.{Side}
+use Rattle.tcp_emulation.specs.declared.segment.Side.TheVariants.{Client}
 use Rattle.packet_views.specs.declared.packet.Head.{Head}
 use Rattle.packet_views.specs.declared.packet.Class.TheVariants as Class
 use Rattle.flow_socket.specs.Emulation.{Emulation, sent, sent_answer, received, got_of}
@@ -29,10 +30,12 @@ use Rattle.report_text.specs.Tidy.{is_event, is_tidy_seen, is_tidy_entry, may_ha
 use Rattle.forest_versions.specs.State.{ControlState}
 use Rattle.connection_core.specs.Course.{Course, seen_by, is_on, is_so, altered_to, switched, changed, changed_all, settled, called, called_all, called_at, raised, raise_done, phase}
 use Rattle.connection_core.specs.History.{History, fresh, begin, go_on, sender_phase, receiver_phase, received_unless, followed, lone_course, orphaned, verdict_of, drops_of}
-use Rattle.lane_core.specs.Sight.{Sight, Tcp, Other, Arrival}
-use Rattle.lane_core.specs.Records.{RecordSoFar, VersionedPacket, opens, belongs_to, side_in, history_after, orphan_raises_of, continued_by, added, records_from}
+use Rattle.connection_core.specs.Silence.{silenced}
+use Rattle.lane_core.specs.Sight.{Sight, Tcp, Other, Moment, Arrival}
+use Rattle.lane_core.specs.Records.{RecordSoFar, VersionedPacket, opens, belongs_to, side_in, history_after, orphan_raises_of, timer_raise_of, continued_by, ended_before, ended_at, placed, added, records_from}
 use Rattle.lane_core.specs.Shown.{record_of, kind_of}
 use Rattle.lane_core.specs.Laws.{AreEvents, rise}
+use Rattle.lane_core.proofs.Ended.{Ends, ends_before, ends_at, either}
 use Rattle.lane_core.proofs.Pieces.{pieces_have_bytes}
 
 both : (a b : Bool) → a ≡ true → b ≡ true → (a && b) ≡ true
@@ -197,6 +200,12 @@ module _ (app : Meaning) (control : ControlState) (are : AreEvents control.regs)
       let t = raised_tidy app control are number _ raises _ (record { events = fresh_tidy.events; entries = refl }) in
       record { events = t.events; entries = t.entries; drops = drops_below number (verdict_of c.drop) }
 
+  silenced_tidy : (n number : ℕ) (raise : Raise) (h : History) → IsTidyHistory n h → IsTidyHistory n (silenced app control number raise h)
+  unfolding silenced
+  silenced_tidy n number raise h t =
+      let c = called_at_tidy app control are number Client raise (begin h.emulation h) (record { events = t.events; entries = t.entries }) in
+      record { events = c.events; entries = c.entries; drops = t.drops }
+
   first_tidy : (a : Arrival) (opening : Bool)
       → IsTidyHistory (a.number + 1) (if opening then history_after app control a.sight a (fresh app control) else orphaned app control a.number (orphan_raises_of a.sight))
   first_tidy a true = after_tidy 0 a.sight a (fresh app control) (omega arith) fresh_tidy
@@ -215,19 +224,32 @@ later_tidy low n m (one ∷ others) less t = (t.0, later_history n m one.history
 
 module _ (app : Meaning) (control_at : ℕ → ControlState) (are : (v : ℕ) → AreEvents (control_at v).regs) where
   -- one more packet
-  added_tidy : (low n : ℕ) (p : VersionedPacket) (so_far : List RecordSoFar) → n ≤ p.arrival.number → AreTidy low n so_far → AreTidy low (p.arrival.number + 1) (added app control_at p so_far)
-  unfolding added
-  added_tidy low n p [] less within =
+  placed_tidy : (low n : ℕ) (p : VersionedPacket) (so_far : List RecordSoFar) → n ≤ p.arrival.number → AreTidy low n so_far → AreTidy low (p.arrival.number + 1) (placed app control_at p so_far)
+  unfolding placed
+  placed_tidy low n p [] less within =
       (omega (arith, within), first_tidy app (control_at p.version) (are p.version) p.arrival (opens p.arrival.sight), le_refl (p.arrival.number + 1))
-  added_tidy low n p (one ∷ others) less t =
-      elim (belongs_to p.arrival.sight one) as (λ b. AreTidy low (p.arrival.number + 1) (if b then continued_by app control_at p.arrival one ∷ others else one ∷ added app control_at p others)) [
+  placed_tidy low n p (one ∷ others) less t =
+      elim (belongs_to p.arrival.sight one) as (λ b. AreTidy low (p.arrival.number + 1) (if b then continued_by app control_at p.arrival one ∷ others else one ∷ placed app control_at p others)) [
         | true ↦ (
           t.0,
           after_tidy app (control_at one.version) (are one.version) n one.first.sight p.arrival one.history less t.1,
           later_tidy (one.first.number + 1) n (p.arrival.number + 1) others (omega arith) t.2,
         )
-        | false ↦ (t.0, later_history n (p.arrival.number + 1) one.history (omega arith) t.1, added_tidy (one.first.number + 1) n p others less t.2)
+        | false ↦ (t.0, later_history n (p.arrival.number + 1) one.history (omega arith) t.1, placed_tidy (one.first.number + 1) n p others less t.2)
       ]
+
+  -- records that end
+  ended_tidy : (low n : ℕ) (step : RecordSoFar → RecordSoFar) → Ends app control_at step → (so_far : List RecordSoFar) → AreTidy low n so_far → AreTidy low n (map step so_far)
+  ended_tidy low n step ends [] t = t
+  ended_tidy low n step ends (one ∷ others) t =
+      let rest = ended_tidy (one.first.number + 1) n step ends others t.2 in
+      let silent = silenced_tidy app (control_at one.version) (are one.version) n one.last.number (timer_raise_of one.first.sight one.history.count) one.history t.1 in
+      either app control_at (λ q. (low ≤ q.first.number) × IsTidyHistory n q.history × AreTidy (q.first.number + 1) n (map step others)) step ends one
+      (t.0, silent, rest) (t.0, t.1, rest)
+
+  added_tidy : (n : ℕ) (p : VersionedPacket) (so_far : List RecordSoFar) → n ≤ p.arrival.number → AreTidy 0 n so_far → AreTidy 0 (p.arrival.number + 1) (added app control_at p so_far)
+  added_tidy n p so_far less t =
+      placed_tidy 0 n p (map (ended_before app control_at p) so_far) less (ended_tidy 0 n (ended_before app control_at p) (ends_before app control_at p) so_far t)
 
   records_tidy : (n : ℕ) (ps : List VersionedPacket) (so_far : List RecordSoFar) → rise n ps ≡ true → AreTidy 0 n so_far → (m : ℕ) × AreTidy 0 m (records_from app control_at so_far ps)
   unfolding records_from
@@ -235,7 +257,7 @@ module _ (app : Meaning) (control_at : ℕ → ControlState) (are : (v : ℕ) �
   records_tidy n (p ∷ ps) so_far rising t =
       let here = first_of (nat_le n p.arrival.number) _ rising in
       let less : n ≤ p.arrival.number = grind (arith, common_steps) in
-      records_tidy (p.arrival.number + 1) ps (added app control_at p so_far) (rest_of (nat_le n p.arrival.number) _ rising) (added_tidy 0 n p so_far less t)
+      records_tidy (p.arrival.number + 1) ps (added app control_at p so_far) (rest_of (nat_le n p.arrival.number) _ rising) (added_tidy n p so_far less t)
 
 names_rise : (app : Meaning) (low n : ℕ) (so_far : List RecordSoFar) → AreTidy low n so_far → rise_from low (map (λ r. r.name) (map (record_of app) so_far)) ≡ true
 names_rise app low n [] t = refl
@@ -260,9 +282,11 @@ all_records_tidy : (app : Meaning) (low n : ℕ) (so_far : List RecordSoFar) →
 all_records_tidy app low n [] lawful t = refl
 all_records_tidy app low n (one ∷ others) lawful t = both _ _ (record_tidy app n one lawful t.1) (all_records_tidy app (one.first.number + 1) n others lawful t.2)
 
-pub records_are_tidy : (app : Meaning) (control_at : ℕ → ControlState) (ps : List VersionedPacket) → IsLawful app → ((v : ℕ) → AreEvents (control_at v).regs) → rise 0 ps ≡ true
-    → tidy (map (record_of app) (records_from app control_at [] ps)) ≡ true
+pub records_are_tidy : (app : Meaning) (control_at : ℕ → ControlState) (last : Option Moment) (ps : List VersionedPacket) → IsLawful app → ((v : ℕ) → AreEvents (control_at v).regs) → rise 0 ps ≡ true
+    → tidy (map (record_of app) (map (ended_at app control_at last) (records_from app control_at [] ps))) ≡ true
 unfolding tidy
-records_are_tidy app control_at ps lawful are rising =
+records_are_tidy app control_at last ps lawful are rising =
     let all = records_tidy app control_at are 0 ps [] rising (omega arith) in
-    both _ _ (names_rise app 0 all.0 (records_from app control_at [] ps) all.1) (all_records_tidy app 0 all.0 (records_from app control_at [] ps) lawful all.1)
+    let so_far = map (ended_at app control_at last) (records_from app control_at [] ps) in
+    let t = ended_tidy app control_at are 0 all.0 (ended_at app control_at last) (ends_at app control_at last) (records_from app control_at [] ps) all.1 in
+    both _ _ (names_rise app 0 all.0 so_far t) (all_records_tidy app 0 all.0 so_far lawful t)

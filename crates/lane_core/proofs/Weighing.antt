@@ -1,7 +1,8 @@
--- One more packet never makes records weigh less: callbacks are added, and none is taken back.
-use Rattle.std.proofs.Common.{◌≡◌, ℕ, ◌+◌, ◌≤◌, Bool, true, false, Option, Some, None, List, [], ◌∷◌, ◌++◌, refl, sym, ap, subst, ◌∙◌, arith, append_assoc, append-nil}
+-- Neither one more packet nor the end makes records weigh less: callbacks are added, and none is taken back.
+use Rattle.std.proofs.Common.{◌≡◌, ℕ, ◌+◌, ◌≤◌, Bool, true, false, Option, Some, None, List, [], ◌∷◌, ◌++◌, refl, sym, ap, subst, ◌∙◌, map, arith, append_assoc, append-nil, le_refl}
 use Rattle.std.specs.Prelude.{if◌then◌else◌}
 use Rattle.tcp_emulation.specs.declared.segment.Side.{Side}
+use Rattle.tcp_emulation.specs.declared.segment.Side.TheVariants.{Client}
 use Rattle.packet_views.specs.declared.packet.Head.{Head}
 use Rattle.app_api.specs.App.{Meaning}
 use Rattle.app_api.specs.declared.changes.Change1.{Change1}
@@ -14,10 +15,13 @@ use Rattle.event_trees.specs.Fires.{fires}
 use Rattle.event_trees.specs.Private.{edited}
 use Rattle.forest_versions.specs.State.{ControlState}
 use Rattle.connection_core.specs.Course.{Course, is_on, is_so, altered_to, switched, changed, changed_all, settled, called, called_all, called_at, raise_done, phase}
-use Rattle.connection_core.specs.History.{History, sender_phase, receiver_phase, received_unless, followed, weight_of}
-use Rattle.lane_core.specs.Sight.{Sight, Tcp, Other, Arrival}
-use Rattle.lane_core.specs.Records.{VersionedPacket, RecordSoFar, belongs_to, side_in, history_after, continued_by, added}
+use Rattle.connection_core.specs.History.{History, begin, sender_phase, receiver_phase, received_unless, followed, weight_of}
+use Rattle.connection_core.specs.Silence.{silenced}
+use Rattle.lane_core.specs.Sight.{Sight, Tcp, Other, Moment, Arrival}
+use Rattle.lane_core.specs.Records.{VersionedPacket, RecordSoFar, belongs_to, side_in, history_after, timer_raise_of, continued_by, ended_by_silence, ended_before, ended_at, placed, added}
 use Rattle.lane_core.specs.Shown.{total, weight}
+use Rattle.lane_core.specs.Laws.{WeightNeverFalls}
+use Rattle.lane_core.proofs.Ended.{Ends, ends_before, ends_at, either}
 
 weight_of-append : (es fs : List Entry) → weight_of (es ++ fs) ≡ weight_of es + weight_of fs
 weight_of-append [] fs = omega arith
@@ -94,19 +98,46 @@ after_heavier : (app : Meaning) (control : ControlState) (opener : Sight) (a : A
 after_heavier app control opener a (Tcp segment) h = heavier _ _ (followed_more app control a.number (side_in opener segment) segment.head segment.scale segment.payload h)
 after_heavier app control opener a (Other class) h = omega arith
 
-added_here : (b : Bool) (past next : RecordSoFar) (pasts after : List RecordSoFar) → weight_of past.history.entries ≤ weight_of next.history.entries → weight pasts ≤ weight after
+placed_here : (b : Bool) (past next : RecordSoFar) (pasts after : List RecordSoFar) → weight_of past.history.entries ≤ weight_of next.history.entries → weight pasts ≤ weight after
     → weight (past ∷ pasts) ≤ weight (if b then next ∷ pasts else past ∷ after)
 unfolding total
-added_here true past next pasts after here later = omega (arith, here)
-added_here false past next pasts after here later = omega (arith, later)
+placed_here true past next pasts after here later = omega (arith, here)
+placed_here false past next pasts after here later = omega (arith, later)
 
 none_weighs_least : (pasts : List RecordSoFar) → weight [] ≤ weight pasts
 unfolding total
 none_weighs_least pasts = omega arith
 
-pub weight_never_falls : (app : Meaning) (control_at : ℕ → ControlState) (p : VersionedPacket) (pasts : List RecordSoFar) → weight pasts ≤ weight (added app control_at p pasts)
-unfolding added history_after
-weight_never_falls app control_at p [] = none_weighs_least (added app control_at p [])
-weight_never_falls app control_at p (past ∷ pasts) =
-    added_here (belongs_to p.arrival.sight past) past (continued_by app control_at p.arrival past) pasts (added app control_at p pasts)
-    (after_heavier app (control_at past.version) past.first.sight p.arrival p.arrival.sight past.history) (weight_never_falls app control_at p pasts)
+placed_weighs : (app : Meaning) (control_at : ℕ → ControlState) (p : VersionedPacket) (pasts : List RecordSoFar) → weight pasts ≤ weight (placed app control_at p pasts)
+unfolding placed history_after
+placed_weighs app control_at p [] = none_weighs_least (placed app control_at p [])
+placed_weighs app control_at p (past ∷ pasts) =
+    placed_here (belongs_to p.arrival.sight past) past (continued_by app control_at p.arrival past) pasts (placed app control_at p pasts)
+    (after_heavier app (control_at past.version) past.first.sight p.arrival p.arrival.sight past.history) (placed_weighs app control_at p pasts)
+
+-- ---- ends by idleness
+
+silenced_more : (app : Meaning) (control : ControlState) (number : ℕ) (raise : Raise) (h : History) → Extends h.entries (silenced app control number raise h).entries
+unfolding silenced called_at
+silenced_more app control number raise h = all_more app control number Client raise (fires control.defs raise.facts raise.hook raise.event h.active) (begin h.emulation h)
+
+ended_weighs : (app : Meaning) (control_at : ℕ → ControlState) (step : RecordSoFar → RecordSoFar) → Ends app control_at step → (pasts : List RecordSoFar) → weight pasts ≤ weight (map step pasts)
+unfolding total
+ended_weighs app control_at step ends [] = none_weighs_least []
+ended_weighs app control_at step ends (past ∷ pasts) =
+    let silent = heavier _ _ (silenced_more app (control_at past.version) past.last.number (timer_raise_of past.first.sight past.history.count) past.history) in
+    let here = either app control_at (λ q. weight_of past.history.entries ≤ weight_of q.history.entries) step ends past silent (le_refl (weight_of past.history.entries)) in
+    let rest = ended_weighs app control_at step ends pasts in
+    omega (arith, here, rest)
+
+pub packet_weighs : (app : Meaning) (control_at : ℕ → ControlState) (p : VersionedPacket) (pasts : List RecordSoFar) → weight pasts ≤ weight (added app control_at p pasts)
+packet_weighs app control_at p pasts =
+    let ends = ended_weighs app control_at (ended_before app control_at p) (ends_before app control_at p) pasts in
+    let one = placed_weighs app control_at p (map (ended_before app control_at p) pasts) in
+    omega (arith, ends, one)
+
+pub end_weighs : (app : Meaning) (control_at : ℕ → ControlState) (last : Option Moment) (pasts : List RecordSoFar) → weight pasts ≤ weight (map (ended_at app control_at last) pasts)
+end_weighs app control_at last pasts = ended_weighs app control_at (ended_at app control_at last) (ends_at app control_at last) pasts
+
+pub weight_never_falls : WeightNeverFalls
+weight_never_falls = record { packet = packet_weighs; at_end = end_weighs }

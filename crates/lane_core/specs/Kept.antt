@@ -22,7 +22,7 @@ use Rattle.lane_core.specs.declared.connection.Connection.{Connection}
 use Rattle.lane_core.specs.declared.slot.Slot.{Slot}
 use Rattle.lane_core.specs.declared.kept.Kept.{Kept}
 use Rattle.lane_core.specs.Sight.{Segment, Sight, Moment}
-use Rattle.lane_core.specs.Records.{RecordSoFar, VersionedPacket, opens, belongs_to, is_open_at, side_of, side_in, orphan_raises_of, added, verdict_on}
+use Rattle.lane_core.specs.Records.{RecordSoFar, VersionedPacket, opens, belongs_to, is_open_at, side_of, side_in, orphan_raises_of, placed, verdict_among, added, verdict_on}
 use Rattle.lane_core.specs.Shown.{kind_of, callbacks_of, weight, alterations, drops_of as drops_in}
 use Rattle.lane_core.specs.Places.{place_by, place_of, IsSingle}
 
@@ -36,11 +36,13 @@ slot_of keep so_far = record {
   drops = so_far.history.drops;
 }
 
--- What is kept of an open connection: it stands for its history, and its client tells the side of each segment. `told` looks up the
--- registrations of a version, and `content` is the tree of what a store answered.
+-- What is kept of an open connection: it stands for its history, its client tells the side of each segment, and its last packet is
+-- known. `told` looks up the registrations of a version, and `content` is the tree of what a store answered.
 pub record IsOpen (told : ℕ → ℕ → Option Reg) (content : Shared → TreeLists) (conn : Connection) (so_far : RecordSoFar) : Type 0 where
   pub sides : (segment : Segment) → side_of conn.client segment ≡ side_in so_far.first.sight segment
   pub version : conn.version ≡ so_far.version
+  pub last : conn.last ≡ so_far.last.number
+  pub heard : conn.moment ≡ so_far.last.moment
   pub kept : IsFlow (told conn.version) (content conn.flow.forest) conn.flow so_far.history
 
 -- what the table has for a key: nothing where no connection of it is open, else the one that is
@@ -61,14 +63,22 @@ pub record AreKept (keep : Bool) (told : ℕ → ℕ → Option Reg) (content : 
 abbrev pub Keeps : Bool → (ℕ → ℕ → Option Reg) → (Shared → TreeLists) → Kept → List RecordSoFar → Type 0
 Keeps keep told content kept so_far = AreKept keep told content kept.flows kept.slots.items kept.ledger.counts so_far
 
--- A packet was added: whatever records were kept before, those with the packet added are kept after; its verdict is that of the
--- definition, and each alteration of a private list cost at most one intern.
-pub record Adds (app : Meaning) (control_at : ℕ → ControlState) (p : VersionedPacket) (so_far : List RecordSoFar)
+-- A packet of a number made other records of those that were kept: these are kept after it, its verdict is the one that is due, it is
+-- counted where it was dropped, and each alteration of a private list cost at most one intern.
+pub record Makes (number : ℕ) (so_far after : List RecordSoFar) (due : Verdict)
     (keep : Bool) (told : ℕ → ℕ → Option Reg) (content : Shared → TreeLists) (kept : Kept) (interns interns_before : Option ℕ) (verdict : Verdict) : Type 0 where
-  pub stands : Keeps keep told content kept (added app control_at p so_far)
-  pub interned : InternsWithin interns_before interns (alterations so_far) (alterations (added app control_at p so_far))
-  pub verdict_is : verdict ≡ verdict_on app control_at p so_far
-  pub dropped : drops_in (added app control_at p so_far) ≡ drops_in so_far + length (drops_of verdict p.arrival.number)
+  pub stands : Keeps keep told content kept after
+  pub interned : InternsWithin interns_before interns (alterations so_far) (alterations after)
+  pub verdict_is : verdict ≡ due
+  pub dropped : drops_in after ≡ drops_in so_far + length (drops_of verdict number)
+
+-- a packet was added to records
+abbrev pub Adds : Meaning → (ℕ → ControlState) → VersionedPacket → List RecordSoFar → Bool → (ℕ → ℕ → Option Reg) → (Shared → TreeLists) → Kept → Option ℕ → Option ℕ → Verdict → Type 0
+Adds app control_at p so_far = Makes p.arrival.number so_far (added app control_at p so_far) (verdict_on app control_at p so_far)
+
+-- it was placed among records of which each had ended that was silent for too long
+abbrev pub Sets : Meaning → (ℕ → ControlState) → VersionedPacket → List RecordSoFar → Bool → (ℕ → ℕ → Option Reg) → (Shared → TreeLists) → Kept → Option ℕ → Option ℕ → Verdict → Type 0
+Sets app control_at p so_far = Makes p.arrival.number so_far (placed app control_at p so_far) (verdict_among app control_at p so_far)
 
 -- the same of every list of records that was kept, and of whatever the master tells of each version
 abbrev pub AddsTo : Meaning → Bool → Versions → VersionedPacket → (Shared → TreeLists) → Option ℕ → Kept → (Shared → TreeLists) → Option ℕ → Kept → Verdict → Type 0
@@ -76,11 +86,21 @@ AddsTo app keep m p content interns kept content_after interns_after kept_after 
     (control_at : ℕ → ControlState) (so_far : List RecordSoFar) → ((v : ℕ) → Tells m v (control_at v)) → control_at m.version ≡ m.now → Keeps keep (told_at m) content kept so_far
     → Adds app control_at p so_far keep (told_at m) content_after kept_after interns_after interns verdict
 
+abbrev pub SetsAmong : Meaning → Bool → Versions → VersionedPacket → (Shared → TreeLists) → Option ℕ → Kept → (Shared → TreeLists) → Option ℕ → Kept → Verdict → Type 0
+SetsAmong app keep m p content interns kept content_after interns_after kept_after verdict =
+    (control_at : ℕ → ControlState) (so_far : List RecordSoFar) → ((v : ℕ) → Tells m v (control_at v)) → control_at m.version ≡ m.now → Keeps keep (told_at m) content kept so_far
+    → Sets app control_at p so_far keep (told_at m) content_after kept_after interns_after interns verdict
+
 -- A packet at which the lane failed: it cost at most one intern for each alteration of a private list that it makes.
 abbrev pub CostsAtMost : Meaning → Bool → Versions → VersionedPacket → (Shared → TreeLists) → Kept → Option ℕ → Option ℕ → Type 0
 CostsAtMost app keep m p content kept interns interns_after =
     (control_at : ℕ → ControlState) (so_far : List RecordSoFar) → ((v : ℕ) → Tells m v (control_at v)) → control_at m.version ≡ m.now → Keeps keep (told_at m) content kept so_far
     → InternsWithin interns interns_after (alterations so_far) (alterations (added app control_at p so_far))
+
+abbrev pub CostsAmong : Meaning → Bool → Versions → VersionedPacket → (Shared → TreeLists) → Kept → Option ℕ → Option ℕ → Type 0
+CostsAmong app keep m p content kept interns interns_after =
+    (control_at : ℕ → ControlState) (so_far : List RecordSoFar) → ((v : ℕ) → Tells m v (control_at v)) → control_at m.version ≡ m.now → Keeps keep (told_at m) content kept so_far
+    → InternsWithin interns interns_after (alterations so_far) (alterations (placed app control_at p so_far))
 
 -- a packet of this version, with its number, its time and what is seen of it
 abbrev pub arrived : ℕ → ℕ → Moment → Sight → VersionedPacket
@@ -93,9 +113,9 @@ pub record IsStray (sight : Sight) (class : Class) (head : Option Head) (so_far 
   pub shut : opens sight ≡ false
   pub untaken : place_by (belongs_to sight) so_far ≡ None
 
--- the same of a packet of no connection, of this class and with this head
-abbrev pub AddsStray : Meaning → Bool → Versions → ℕ → Class → Option Head → (Shared → TreeLists) → Option ℕ → Kept → (Shared → TreeLists) → Option ℕ → Kept → Verdict → Type 0
-AddsStray app keep m number class head content interns kept content_after interns_after kept_after verdict =
+-- a packet of no connection, of this class and with this head, was placed
+abbrev pub SetsStray : Meaning → Bool → Versions → ℕ → Class → Option Head → (Shared → TreeLists) → Option ℕ → Kept → (Shared → TreeLists) → Option ℕ → Kept → Verdict → Type 0
+SetsStray app keep m number class head content interns kept content_after interns_after kept_after verdict =
     (control_at : ℕ → ControlState) (so_far : List RecordSoFar) (moment : Moment) (sight : Sight) → IsStray sight class head so_far
     → ((v : ℕ) → Tells m v (control_at v)) → control_at m.version ≡ m.now → Keeps keep (told_at m) content kept so_far
-    → Adds app control_at (arrived m.version number moment sight) so_far keep (told_at m) content_after kept_after interns_after interns verdict
+    → Sets app control_at (arrived m.version number moment sight) so_far keep (told_at m) content_after kept_after interns_after interns verdict

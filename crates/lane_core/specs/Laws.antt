@@ -15,28 +15,33 @@ use Rattle.flow_table.specs.Key.{EndpointPair}
 use Rattle.forest_versions.specs.State.{ControlState, start, master, active as first_active}
 use Rattle.connection_core.specs.History.{History, followed, orphaned}
 use Rattle.forest_versions.specs.declared.command.Command.{Command}
-use Rattle.lane_core.specs.Sight.{Segment, Sight, Tcp, Other, Arrival, key_of_segment}
-use Rattle.lane_core.specs.Run.{LaneEvent, Gave, Arrived, commands_of, packets_of, versioned_from, control_of, lane_run, newest_of}
-use Rattle.lane_core.specs.Lane.{IsHeavy, next_verdict, with_event}
+use Rattle.lane_core.specs.Sight.{Segment, Sight, Tcp, Other, Moment, Arrival, key_of_segment}
+use Rattle.lane_core.specs.Run.{LaneEvent, Gave, Arrived, commands_of, packets_of, versioned_from, control_of, lane_run, ended_run, newest_of}
+use Rattle.lane_core.specs.Lane.{IsHeavy, IsHeavyAtEnd, next_verdict, with_event}
 use Rattle.lane_core.specs.Shown.{record_of, weight}
-use Rattle.lane_core.specs.Records.{VersionedPacket, RecordSoFar, belongs_to, started_by, continued_by, added, verdict_on, records, orphan_raises_of}
+use Rattle.lane_core.specs.Records.{VersionedPacket, RecordSoFar, belongs_to, started_by, continued_by, ended_before, ended_at, added, verdict_on, records, orphan_raises_of}
 
 module _ (app : Meaning) (control_at : ℕ → ControlState) where
+  -- whether a record takes a packet: it belongs to it, and the record hasn't ended before it
+  abbrev pub takes : VersionedPacket → RecordSoFar → Bool
+  takes p so_far = belongs_to p.arrival.sight (ended_before app control_at p so_far)
+
   -- a record after later packets: it takes those that belong to it while it is open
   unfoldable pub continued_through : RecordSoFar → List VersionedPacket → RecordSoFar
   continued_through so_far [] = so_far
   continued_through so_far (p ∷ ps) =
-      if belongs_to p.arrival.sight so_far then continued_through (continued_by app control_at p.arrival so_far) ps
-      else continued_through so_far ps
+      let now = ended_before app control_at p so_far in
+      if takes p so_far then continued_through (continued_by app control_at p.arrival now) ps else continued_through now ps
 
   -- the records that packets start: each one that belongs to no record so far starts one
   unfoldable pub started_after : List RecordSoFar → List VersionedPacket → List RecordSoFar
   started_after so_far [] = []
   started_after so_far (p ∷ ps) =
-      if list_any (belongs_to p.arrival.sight) so_far then started_after (added app control_at p so_far) ps
+      if list_any (takes p) so_far then started_after (added app control_at p so_far) ps
       else continued_through (started_by app control_at p) ps ∷ started_after (added app control_at p so_far) ps
 
--- each first packet starts a record, which takes the later packets of its key while it is open
+-- Each first packet starts a record, which takes the later packets of its key while it is open. A packet of its key that comes after
+-- too long a silence ends it.
 abbrev pub RecordsGrow : Type 0
 RecordsGrow = (app : Meaning) (control_at : ℕ → ControlState) (ps : List VersionedPacket)
     → records app control_at ps ≡ started_after app control_at [] ps
@@ -46,11 +51,15 @@ abbrev pub has_key : (EndpointPair → Bool) → Bool → Sight → Bool
 has_key keys others (Tcp segment) = keys (key_of_segment segment)
 has_key keys others (Other class) = others
 
--- the records of the packets of a set of keys are the records whose first packet has such a key
-abbrev pub RecordsByKey : Type 0
-RecordsByKey = (app : Meaning) (control_at : ℕ → ControlState) (keys : EndpointPair → Bool) (others : Bool) (ps : List VersionedPacket)
-    → records app control_at (filter (λ p. has_key keys others p.arrival.sight) ps)
-    ≡ filter (λ so_far. has_key keys others so_far.first.sight) (records app control_at ps)
+-- The records of the packets of a set of keys are the records whose first packet has such a key, while packets come and at the end.
+-- `last` is the greatest moment of all packets, also of those of other keys.
+pub record RecordsByKey : Type 0 where
+  pub so_far : (app : Meaning) (control_at : ℕ → ControlState) (keys : EndpointPair → Bool) (others : Bool) (ps : List VersionedPacket)
+      → records app control_at (filter (λ p. has_key keys others p.arrival.sight) ps)
+      ≡ filter (λ r. has_key keys others r.first.sight) (records app control_at ps)
+  pub at_end : (app : Meaning) (control_at : ℕ → ControlState) (keys : EndpointPair → Bool) (others : Bool) (last : Option Moment) (ps : List VersionedPacket)
+      → map (ended_at app control_at last) (records app control_at (filter (λ p. has_key keys others p.arrival.sight) ps))
+      ≡ filter (λ r. has_key keys others r.first.sight) (map (ended_at app control_at last) (records app control_at ps))
 
 -- the callbacks of the log application's presets: 1 at a packet's sender, 2 at its receiver, 3 for an orphan
 abbrev pub at_sender : ℕ → Entry
@@ -85,13 +94,16 @@ rise least ps = rise_from least (map (λ p. p.arrival.number) ps)
 
 -- packets whose numbers rise make records that a report may have
 abbrev pub RecordsAreTidy : Type 0
-RecordsAreTidy = (app : Meaning) (control_at : ℕ → ControlState) (ps : List VersionedPacket) → IsLawful app → ((v : ℕ) → AreEvents (control_at v).regs)
-    → IsTrue (rise 0 ps) → IsTrue (tidy (map (record_of app) (records app control_at ps)))
+RecordsAreTidy = (app : Meaning) (control_at : ℕ → ControlState) (last : Option Moment) (ps : List VersionedPacket) → IsLawful app
+    → ((v : ℕ) → AreEvents (control_at v).regs) → IsTrue (rise 0 ps)
+    → IsTrue (tidy (map (record_of app) (map (ended_at app control_at last) (records app control_at ps))))
 
--- one more packet never makes the records weigh less
-abbrev pub WeightNeverFalls : Type 0
-WeightNeverFalls = (app : Meaning) (control_at : ℕ → ControlState) (p : VersionedPacket) (so_far : List RecordSoFar)
-    → weight so_far ≤ weight (added app control_at p so_far)
+-- neither one more packet nor the end makes the records weigh less
+pub record WeightNeverFalls : Type 0 where
+  pub packet : (app : Meaning) (control_at : ℕ → ControlState) (p : VersionedPacket) (so_far : List RecordSoFar)
+      → weight so_far ≤ weight (added app control_at p so_far)
+  pub at_end : (app : Meaning) (control_at : ℕ → ControlState) (last : Option Moment) (so_far : List RecordSoFar)
+      → weight so_far ≤ weight (map (ended_at app control_at last) so_far)
 
 -- ---- runs
 
@@ -105,8 +117,9 @@ abbrev pub CommandChangesNone : Type 0
 CommandChangesNone = (app : Meaning) (events : List LaneEvent) (c : Command) → lane_run app (with_event (Gave c) events) ≡ lane_run app events
 
 -- a run that weighs too much stays so
-abbrev pub HeavyStays : Type 0
-HeavyStays = (app : Meaning) (events : List LaneEvent) (event : LaneEvent) → IsHeavy app events → IsHeavy app (with_event event events)
+pub record HeavyStays : Type 0 where
+  pub one_more : (app : Meaning) (events : List LaneEvent) (event : LaneEvent) → IsHeavy app events → IsHeavy app (with_event event events)
+  pub at_end : (app : Meaning) (events : List LaneEvent) (last : Option Moment) → IsHeavy app events → IsHeavyAtEnd app events last
 
 -- One event more: a command stands behind the commands of the run, a packet behind its packets, with the version of the
 -- commands before it.
@@ -123,10 +136,13 @@ pub record NewestIsTheLast : Type 0 where
   pub packet : (events : List LaneEvent) (a : Arrival) → newest_of (with_event (Arrived a) events) ≡ Some a.number
   pub command : (events : List LaneEvent) (c : Command) → newest_of (with_event (Gave c) events) ≡ newest_of events
 
--- Commands behind those of a run change neither its records nor what becomes of one more packet.
+-- Commands behind those of a run change neither its records, while it goes on and at its end, nor what becomes of one more packet.
 pub record LaterCommandsChangeNone : Type 0 where
   pub records : (app : Meaning) (events : List LaneEvent) (more : List Command)
       → lane_run app events ≡ records app (master app.presets (commands_of events ++ more)) (versioned_from 0 events)
+  pub at_end : (app : Meaning) (events : List LaneEvent) (last : Option Moment) (more : List Command)
+      → ended_run app events last
+      ≡ map (ended_at app (master app.presets (commands_of events ++ more)) last) (records app (master app.presets (commands_of events ++ more)) (versioned_from 0 events))
   pub verdicts : (app : Meaning) (events : List LaneEvent) (a : Arrival) (more : List Command)
       → next_verdict app events a
       ≡ verdict_on app (master app.presets (commands_of events ++ more)) (record { version = length (commands_of events); arrival = a }) (lane_run app events)

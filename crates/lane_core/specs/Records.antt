@@ -49,7 +49,7 @@ is_between key (Other class) = false
 
 -- a connection that takes no packet any more
 abbrev pub is_shut : RecordSoFar → Bool
-is_shut so_far = is_over so_far.history || so_far.ended
+is_shut so_far = so_far.ended || is_over so_far.history
 
 -- an open connection of this key
 abbrev pub is_open_at : EndpointPair → RecordSoFar → Bool

@@ -19,7 +19,7 @@ use Rattle.connection_core.specs.Standing.{IsFlow, IsConnection, IsNoted}
 use Rattle.connection_core.specs.Trees.{InternsWithin}
 use Rattle.lane_core.specs.declared.connection.Connection.{Connection}
 use Rattle.lane_core.specs.declared.slot.Slot.{Slot}
-use Rattle.lane_core.specs.Sight.{Segment}
+use Rattle.lane_core.specs.Sight.{Segment, Moment}
 use Rattle.lane_core.specs.Records.{side_of}
 
 -- a history after one more packet of its connection
@@ -44,10 +44,12 @@ noted_in slot after step number = record slot { notes = after.notes; drops = slo
 -- an open connection and its record under way after one more packet
 pub record IsStep (app : Meaning) (keep : Bool) (at : ℕ → Option Reg) (control : ControlState)
     (tree tree_after : TreeLists) (interns interns_after : Option ℕ) (conn conn_after : Connection) (slot slot_after : Slot) (counts counts_after : Counts)
-    (number : ℕ) (segment : Segment) (step : Step) : Type 0 where
+    (number : ℕ) (moment : Moment) (segment : Segment) (step : Step) : Type 0 where
   pub place : conn_after.place ≡ conn.place
   pub client : conn_after.client ≡ conn.client
   pub version : conn_after.version ≡ conn.version
+  pub last : conn_after.last ≡ number
+  pub heard : conn_after.moment ≡ moment
   pub noted : slot_after ≡ noted_in slot slot_after step number
   pub stands : (others : Counts) (h : History) → IsConnection keep others at tree conn.flow slot.notes counts h
       → Stepping app keep at control others tree tree_after interns interns_after conn conn_after slot slot_after counts counts_after number segment step h
@@ -77,7 +79,7 @@ pub record IsLone (app : Meaning) (keep : Bool) (control : ControlState) (slot s
 
 -- the open connection of a key made a step, and all else is as it was
 pub record Steps (app : Meaning) (keep : Bool) (m : Versions) (content content_after : Shared → TreeLists) (interns interns_after : Option ℕ)
-    (old new : Flows Connection) (slots slots_after : List Slot) (counts counts_after : Counts) (key : EndpointPair) (number : ℕ) (segment : Segment) (step : Step) : Type 0 where
+    (old new : Flows Connection) (slots slots_after : List Slot) (counts counts_after : Counts) (key : EndpointPair) (number : ℕ) (moment : Moment) (segment : Segment) (step : Step) : Type 0 where
   pub conn : Connection
   pub conn_after : Connection
   pub slot : Slot
@@ -86,7 +88,7 @@ pub record Steps (app : Meaning) (keep : Bool) (m : Versions) (content content_a
   pub slot_is : slot ≡ get_or slots conn.place slot
   pub step_is : (control : ControlState) → Tells m conn.version control
       → IsStep app keep (told_at m conn.version) control (content conn.flow.forest) (content_after conn_after.flow.forest) interns interns_after
-      conn conn_after slot slot_after counts counts_after number segment step
+      conn conn_after slot slot_after counts counts_after number moment segment step
   pub left : (other : EndpointPair) → found new other ≡ (if same_key key other then Some conn_after else found old other)
   pub noted : slots_after ≡ slice_set slots conn.place slot_after
 
@@ -102,7 +104,7 @@ pub record Failed (app : Meaning) (keep : Bool) (m : Versions) (content : Shared
 
 -- the open connection of a key made a step, and it was closed where it is over
 pub record Follows (app : Meaning) (keep : Bool) (m : Versions) (content content_after : Shared → TreeLists) (interns interns_after : Option ℕ)
-    (old new : Flows Connection) (slots slots_after : List Slot) (counts counts_after : Counts) (key : EndpointPair) (number : ℕ) (segment : Segment) (step : Step) : Type 0 where
+    (old new : Flows Connection) (slots slots_after : List Slot) (counts counts_after : Counts) (key : EndpointPair) (number : ℕ) (moment : Moment) (segment : Segment) (step : Step) : Type 0 where
   pub conn : Connection
   pub conn_after : Connection
   pub slot : Slot
@@ -111,13 +113,13 @@ pub record Follows (app : Meaning) (keep : Bool) (m : Versions) (content content
   pub slot_is : slot ≡ get_or slots conn.place slot
   pub step_is : (control : ControlState) → Tells m conn.version control
       → IsStep app keep (told_at m conn.version) control (content conn.flow.forest) (content_after conn_after.flow.forest) interns interns_after
-      conn conn_after slot slot_after counts counts_after number segment step
+      conn conn_after slot slot_after counts counts_after number moment segment step
   pub left : (other : EndpointPair) → found new other ≡ (if same_key key other then (if step.over then None else Some conn_after) else found old other)
   pub noted : slots_after ≡ slice_set slots conn.place slot_after
 
 -- a connection that a segment opened, after this segment; `conn` and `slot` are as they were before it
 pub record Opens (app : Meaning) (keep : Bool) (m : Versions) (content_after : Shared → TreeLists) (interns interns_after : Option ℕ) (counts counts_after : Counts)
-    (place number : ℕ) (segment : Segment) (conn_after : Connection) (slot_after : Slot) (step : Step) : Type 0 where
+    (place number : ℕ) (moment : Moment) (segment : Segment) (conn_after : Connection) (slot_after : Slot) (step : Step) : Type 0 where
   pub conn : Connection
   pub slot : Slot
   pub tree : TreeLists
@@ -127,4 +129,4 @@ pub record Opens (app : Meaning) (keep : Bool) (m : Versions) (content_after : S
   pub place_is : conn.place ≡ place
   pub new : IsFlow (told_at m conn.version) tree conn.flow (fresh app m.now)
   pub step_is : (control : ControlState) → Tells m conn.version control
-      → IsStep app keep (told_at m conn.version) control tree (content_after conn_after.flow.forest) interns interns_after conn conn_after slot slot_after counts counts_after number segment step
+      → IsStep app keep (told_at m conn.version) control tree (content_after conn_after.flow.forest) interns interns_after conn conn_after slot slot_after counts counts_after number moment segment step

@@ -16,6 +16,7 @@ use crate::world::World;
 use app_api::App;
 use connection_core::{Ledger, Step};
 use flow_table::{FlowTable, Key};
+use flow_timers::Moment;
 use ip6_views::SightTcp;
 use native_filters::NativeBook;
 use shared_forest::Forests;
@@ -32,6 +33,7 @@ fn step_flow<A: App, F: Forests>(
     ledger: &mut Ledger,
     key: &Key,
     number: u64,
+    moment: Moment,
     segment: &SightTcp<'_>,
 ) -> Result<Option<Step>, AllocError>
     requires placed { ArePlaced (length slots.old) flows.old }
@@ -43,7 +45,7 @@ fn step_flow<A: App, F: Forests>(
     ensures none { result ≡ Ok None → (found flows.old key.now ≡ None) × (flows.new ≡ flows.old) × (slots.new ≡ slots.old) × (forests.new ≡ forests.old) × (ledger.new.counts ≡ ledger.old.counts) }
     ensures some { IfOk result (λ step. IfSome step (λ s. Steps (A.meaning world.now.app) world.now.keep world.now.master
         (F.content forests.old) (F.content forests.new) (F.interns forests.old) (F.interns forests.new)
-        flows.old flows.new slots.old slots.new ledger.old.counts ledger.new.counts key.now number (seen segment.now) s)) }
+        flows.old flows.new slots.old slots.new ledger.old.counts ledger.new.counts key.now number moment (seen segment.now) s)) }
     ensures failed { OnErr result (Failed (A.meaning world.now.app) world.now.keep world.now.master (F.content forests.old) (F.interns forests.old) (F.interns forests.new)
         flows.old slots.old ledger.old.counts key.now number (seen segment.now)) }
     ensures placed { ArePlaced (length slots.new) flows.new }
@@ -60,7 +62,7 @@ fn step_flow<A: App, F: Forests>(
             let place = conn.place;
             let slot = &mut slots[place];
             let step = step_one(
-                alloc, world, natives, forests, conn, slot, ledger, number, segment,
+                alloc, world, natives, forests, conn, slot, ledger, number, moment, segment,
             )?;
             Ok(Some(step))
         }
@@ -88,6 +90,7 @@ pub(crate) fn follow<A: App, F: Forests>(
     ledger: &mut Ledger,
     key: &Key,
     number: u64,
+    moment: Moment,
     segment: &SightTcp<'_>,
 ) -> Result<Option<Step>, AllocError>
     requires placed { ArePlaced (length slots.old) flows.old }
@@ -99,7 +102,7 @@ pub(crate) fn follow<A: App, F: Forests>(
     ensures none { result ≡ Ok None → (found flows.old key.now ≡ None) × (flows.new ≡ flows.old) × (slots.new ≡ slots.old) × (forests.new ≡ forests.old) × (ledger.new.counts ≡ ledger.old.counts) }
     ensures some { IfOk result (λ step. IfSome step (λ s. Follows (A.meaning world.now.app) world.now.keep world.now.master
         (F.content forests.old) (F.content forests.new) (F.interns forests.old) (F.interns forests.new)
-        flows.old flows.new slots.old slots.new ledger.old.counts ledger.new.counts key.now number (seen segment.now) s)) }
+        flows.old flows.new slots.old slots.new ledger.old.counts ledger.new.counts key.now number moment (seen segment.now) s)) }
     ensures failed { OnErr result (Failed (A.meaning world.now.app) world.now.keep world.now.master (F.content forests.old) (F.interns forests.old) (F.interns forests.new)
         flows.old slots.old ledger.old.counts key.now number (seen segment.now)) }
     ensures placed { ArePlaced (length slots.new) flows.new }
@@ -112,7 +115,7 @@ pub(crate) fn follow<A: App, F: Forests>(
     ensures len { length slots.new ≡ length slots.old }
 {
     let stepped = step_flow(
-        alloc, world, natives, forests, flows, slots, ledger, key, number, segment,
+        alloc, world, natives, forests, flows, slots, ledger, key, number, moment, segment,
     )?;
     if let Some(step) = stepped {
         settle(flows, key, step.over);

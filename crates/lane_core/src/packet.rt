@@ -22,6 +22,7 @@ use app_api::{App, Verdict};
 use builtin_events::Raised;
 use connection_core::laws::first_tree_names_the_first_list;
 use connection_core::{Arrived, Flow, InForce, Ledger, Step, Terms, lone};
+use flow_timers::Moment;
 use ip6_views::SightTcp;
 use native_filters::NativeBook;
 use report_text::RecordKind;
@@ -53,6 +54,7 @@ pub(crate) fn step_one<A: App, F: Forests>(
     slot: &mut Slot,
     ledger: &mut Ledger,
     number: u64,
+    moment: Moment,
     segment: &SightTcp<'_>,
 ) -> Result<Step, AllocError>
     requires count { conn.old.flow.count < 2 ^ 30 }
@@ -70,7 +72,7 @@ pub(crate) fn step_one<A: App, F: Forests>(
     ensures stands { IfOk result (λ step. (control : ControlState) → Tells world.now.master conn.old.version control
         → IsStep (A.meaning world.now.app) world.now.keep (told_at world.now.master conn.old.version) control
         (F.content forests.old conn.old.flow.forest) (F.content forests.new conn.new.flow.forest) (F.interns forests.old) (F.interns forests.new)
-        conn.old conn.new slot.old slot.new ledger.old.counts ledger.new.counts number (seen segment.now) step) }
+        conn.old conn.new slot.old slot.new ledger.old.counts ledger.new.counts number moment (seen segment.now) step) }
     ensures costs { OnErr result ((control : ControlState) → Tells world.now.master conn.old.version control
         → StepCosts (A.meaning world.now.app) world.now.keep (told_at world.now.master conn.old.version) control
         (F.content forests.old conn.old.flow.forest) (F.interns forests.old) (F.interns forests.new) conn.old slot.old ledger.old.counts number (seen segment.now)) }
@@ -95,6 +97,8 @@ pub(crate) fn step_one<A: App, F: Forests>(
         .flow
         .step(alloc, &terms, forests, &arrived, &mut slot.notes, ledger)?;
     slot.note(number, step.verdict)?;
+    conn.last = number;
+    conn.moment = moment;
     Ok(step)
 }
 
@@ -107,6 +111,7 @@ pub(crate) fn start_one<A: App, F: Forests>(
     ledger: &mut Ledger,
     place: usize,
     number: u64,
+    moment: Moment,
     segment: &SightTcp<'_>,
 ) -> Result<Opened, AllocError>
     requires answered { F.answered forests.old world.now.master.forest }
@@ -121,7 +126,7 @@ pub(crate) fn start_one<A: App, F: Forests>(
     ensures answered { IfOk result (λ opened. F.answered forests.new opened.conn.flow.forest) }
     ensures tree { IfOk result (λ opened. IsTree world.now.master opened.conn.version (F.content forests.new opened.conn.flow.forest)) }
     ensures stands { IfOk result (λ opened. Opens (A.meaning world.now.app) world.now.keep world.now.master (F.content forests.new) (F.interns forests.old) (F.interns forests.new)
-        ledger.old.counts ledger.new.counts place number (seen segment.now) opened.conn opened.slot opened.step) }
+        ledger.old.counts ledger.new.counts place number moment (seen segment.now) opened.conn opened.slot opened.step) }
     ensures interned { InternsWithin (F.interns forests.old) (F.interns forests.new) 0 (opened_by (A.meaning world.now.app) world.now.master.now number (seen segment.now)).altered }
 {
     let version = world.master.version();
@@ -141,10 +146,12 @@ pub(crate) fn start_one<A: App, F: Forests>(
         place,
         client: segment.from,
         version,
+        last: number,
+        moment,
         flow: Flow::new(alloc, &in_force, forest),
     };
     let step = step_one(
-        alloc, world, natives, forests, &mut conn, &mut slot, ledger, number, segment,
+        alloc, world, natives, forests, &mut conn, &mut slot, ledger, number, moment, segment,
     )?;
     Ok(Opened { conn, slot, step })
 }

@@ -15,10 +15,10 @@ returns-in-Some-clause-some g c =
     let before = c.args.forests.now in
     let after = c.step_flow.new.forests in
     let stepped = subst (λ o. IfSome o (λ (s : Step). Steps (g.A.App.meaning c.args.world.now.app) c.args.world.now.keep c.args.world.now.master (content before) (content after) (interns before) (interns after)
-    c.args.flows.now c.step_flow.new.flows c.args.slots.now c.step_flow.new.slots c.args.ledger.now.counts c.step_flow.new.ledger.counts c.args.key.now c.args.number (seen c.args.segment.now) s))
+    c.args.flows.now c.step_flow.new.flows c.args.slots.now c.step_flow.new.slots c.args.ledger.now.counts c.step_flow.new.ledger.counts c.args.key.now c.args.number c.args.moment (seen c.args.segment.now) s))
     c.in-Some.is c.in_ok-stepped.ensures.some in
     settled (g.A.App.meaning c.args.world.now.app) c.args.world.now.keep c.args.world.now.master (content before) (content after) (interns before) (interns after)
-    c.args.flows.now c.step_flow.new.flows c.settle.new.flows c.args.slots.now c.step_flow.new.slots c.args.ledger.now.counts c.step_flow.new.ledger.counts c.args.key.now c.args.number
+    c.args.flows.now c.step_flow.new.flows c.settle.new.flows c.args.slots.now c.step_flow.new.slots c.args.ledger.now.counts c.step_flow.new.ledger.counts c.args.key.now c.args.number c.args.moment
     (seen c.args.segment.now) c.in-Some.step stepped c.settle.ensures
 
 pub returns-in-Some-clause-trees : goal.returns-in-Some-clause-trees

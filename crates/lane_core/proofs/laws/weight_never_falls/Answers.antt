@@ -2,4 +2,4 @@ use Rattle.lane_core.proofs.Weighing.{weight_never_falls}
 use Rattle.lane_core.proofs.laws.weight_never_falls.Goals as goal
 
 pub returns : goal.returns
-returns c = λ app control_at p so_far. weight_never_falls app control_at p so_far
+returns c = weight_never_falls

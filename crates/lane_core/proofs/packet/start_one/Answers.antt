@@ -33,7 +33,7 @@ returns-clause-stands g c =
     let shown : IsForestOf m.now.defs (active m.now) (listing c.tree_of.result.now) = subst (λ t. IsForestOf m.now.defs (active m.now) (listing t)) (sym same) c.requires.tree in
     let first : active_in (told_at m c.version-version.result) tree ≡ active m.now =
     subst (λ (t : TreeLists). active_in (told_at m c.version-version.result) t ≡ active m.now) c.tree_of.ensures (c.first_tree_names_the_first_list.ensures.list m.now tells shown) in
-    let conn : Connection = record { place = c.args.place; client = segment.sender; version = c.version-version.result; flow = c.new.result } in
+    let conn : Connection = record { place = c.args.place; client = segment.sender; version = c.version-version.result; last = c.args.number; moment = c.args.moment; flow = c.new.result } in
     record {
       conn = conn;
       slot = c.new-slot.result;
@@ -47,9 +47,9 @@ returns-clause-stands g c =
       new = c.new.ensures.opened m.now tree tells first app;
       step_is = λ control told.
           subst (λ n. IsStep app c.args.world.now.keep (told_at m conn.version) control tree (g.F.ForestView.content c.step_one.new.forests c.step_one.new.conn.flow.forest) n (g.F.ForestView.interns c.step_one.new.forests)
-          conn c.step_one.new.conn c.new-slot.result c.step_one.new.slot c.args.ledger.now.counts c.step_one.new.ledger.counts c.args.number segment c.in_ok-step.step) c.again.ensures.uncounted
+          conn c.step_one.new.conn c.new-slot.result c.step_one.new.slot c.args.ledger.now.counts c.step_one.new.ledger.counts c.args.number c.args.moment segment c.in_ok-step.step) c.again.ensures.uncounted
           (subst (λ s. IsStep app c.args.world.now.keep (told_at m conn.version) control (content s) (g.F.ForestView.content c.step_one.new.forests c.step_one.new.conn.flow.forest) (g.F.ForestView.interns store) (g.F.ForestView.interns c.step_one.new.forests)
-          conn c.step_one.new.conn c.new-slot.result c.step_one.new.slot c.args.ledger.now.counts c.step_one.new.ledger.counts c.args.number segment c.in_ok-step.step) c.new.ensures.forest (c.in_ok-step.ensures.stands control told));
+          conn c.step_one.new.conn c.new-slot.result c.step_one.new.slot c.args.ledger.now.counts c.step_one.new.ledger.counts c.args.number c.args.moment segment c.in_ok-step.step) c.new.ensures.forest (c.in_ok-step.ensures.stands control told));
     }
 
 pub returns-in_err-forest-clause-interned : goal.returns-in_err-forest-clause-interned

@@ -10,7 +10,7 @@ use Rattle.forest_versions.proofs.past.Past.take_back_reg.Goals as goal
 pub returns : goal.returns
 returns c = λ past from reg is.
     let items : List (Line (Option Reg)) = c.self.inside.regs.items in
-    let old : PastLines = record { regs = items; policy = c.self.inside.policy; rbuf = c.self.inside.rbuf; rules = c.self.inside.rules } in
+    let old : PastLines = record { regs = items; policy = c.self.inside.policy; rbuf = c.self.inside.rbuf; rules = c.self.inside.rules; idle = c.self.inside.idle } in
     let back : Line (Option Reg) = c.step_back.new.self in
     let within : c.args.number < length items = omega arith in
     let at : c.from.result < length items = omega arith in

@@ -1,0 +1,61 @@
+//! The end of a connection that was silent for too long.
+
+ghost use Rattle.std.specs.Prelude.{◌≡◌, ◌<◌, ◌^◌, OnOk};
+ghost use Rattle.app_api.specs.Events.{TIMER as EVENT};
+ghost use Rattle.native_filters.specs.declared.facts.Hook.TheVariants.{Rcv};
+ghost use Rattle.forest_versions.specs.State.{ControlState};
+ghost use Rattle.connection_core.specs.declared.ledger.Counts.{Counts};
+ghost use Rattle.connection_core.specs.InForce.{told, defs_at, IsInForce};
+ghost use Rattle.connection_core.specs.Trees.{IsForestIn};
+ghost use Rattle.connection_core.specs.History.{History};
+ghost use Rattle.connection_core.specs.Silence.{silenced};
+ghost use Rattle.connection_core.specs.Standing.{IsConnection, IsNoted, RiseBy};
+
+use crate::flow::Flow;
+use crate::ledger::{Ledger, Notes};
+use crate::moment::Moment;
+use crate::terms::Terms;
+use app_api::{App, TIMER};
+use native_filters::{Facts, Hook};
+use shared_forest::ForestView;
+use std::alloc::{AllocError, Global};
+use tcp_emulation::Side;
+
+/// The callbacks of a connection that ended by idleness: those of one raise of `timer`, at the receiver's hook, with the
+/// number of the connection's last packet. They peek at the client's stream. The changes and drops that are asked come
+/// to nothing. Only what is noted of the record goes on.
+pub fn silence<A: App, F: ForestView>(
+    alloc: Global,
+    terms: &Terms<A>,
+    forests: &F,
+    flow: Flow,
+    number: u64,
+    facts: &Facts,
+    notes: &mut Notes,
+    ledger: &mut Ledger,
+) -> Result<(), AllocError>
+    requires answered { F.answered forests.now flow.forest }
+    requires forest { IsForestIn (defs_at terms.now.in_force) (told terms.now.in_force) (F.content forests.now flow.forest) }
+    requires callbacks { ledger.old.counts.callbacks < 2 ^ 60 }
+    requires weight { ledger.old.counts.weight < 2 ^ 60 }
+    ensures stands { OnOk result ((s : ControlState) (others : Counts) (h : History) → IsInForce terms.now.in_force s
+        → IsConnection terms.now.keep others (told terms.now.in_force) (F.content forests.now flow.forest) flow notes.old ledger.old.counts h
+        → IsNoted terms.now.keep others
+        (silenced (A.meaning terms.now.app.now) s number (record { hook = Rcv; event = EVENT; facts = facts.now }) h).tally
+        (silenced (A.meaning terms.now.app.now) s number (record { hook = Rcv; event = EVENT; facts = facts.now }) h).entries
+        notes.new ledger.new.counts) }
+    ensures rise { RiseBy 255 ledger.old.counts ledger.new.counts }
+{
+    ledger.begin();
+    let Flow { socket, forest, .. } = flow;
+    let mut socket = socket;
+    let moment = Moment {
+        number,
+        from: Side::Client,
+        hook: Hook::Rcv,
+        event: TIMER,
+        facts,
+    };
+    let tree = forests.tree_of(&forest);
+    terms.call_at(alloc, tree, &moment, &mut socket, notes, ledger)
+}
