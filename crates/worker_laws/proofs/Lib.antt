@@ -21,5 +21,6 @@ mod Ended
 mod Fitting
 mod Weighing
 mod Dealt
+mod Latest
 mod Answered
 mod Scripts

@@ -13,7 +13,7 @@ use Rattle.lane_core.specs.Sight.{Arrival, arrivals}
 use Rattle.lane_core.specs.Records.{VersionedPacket, RecordSoFar, added, records, versioned, ended_at}
 use Rattle.lane_core.specs.Run.{LaneEvent, commands_of, lane_run, ended_run}
 use Rattle.lane_core.specs.Shown.{total, weight}
-use Rattle.lane_core.specs.Laws.{OneEventMore, LaterCommandsChangeNone, LastPacketIsAdded, WeightNeverFalls, WeightNeverFallsAtEnd}
+use Rattle.lane_core.specs.Laws.{OneEventMore, LaterCommandsChangeNone, LastPacketIsAdded, WeightNeverFalls}
 use Rattle.worker_laws.specs.Members.{Members, records as members_of}
 use Rattle.worker_laws.specs.Greatest.{greatest}
 use Rattle.worker_laws.specs.Lanes.{lane_of, share, part}
@@ -122,7 +122,7 @@ module _ (last : LastPacketIsAdded) (never : WeightNeverFalls) (app : Meaning) (
   more_weigh ps [] = let e = ap (λ qs. weight (records app control_at qs)) (append-nil ps) in omega arith
   more_weigh ps (p ∷ more) =
       let one = ap weight (last app control_at ps p) in
-      let grows = never app control_at p (records app control_at ps) in
+      let grows = never.packet app control_at p (records app control_at ps) in
       let rest = more_weigh (ps ++ p ∷ []) more in
       let same = ap (λ qs. weight (records app control_at qs)) (append_assoc ps (p ∷ []) more) in omega arith
 
@@ -166,7 +166,7 @@ module _ (later : LaterCommandsChangeNone) (one : OneEventMore) (last : LastPack
         judged_events l ∙ sym (runs.verdicts_are (judge_by app (in_force app commands)) l) ∙ ap (judged_part lane l) (sym (verdicts_by app commands packets vs));
   }
 
-  module _ (never : WeightNeverFalls) (at_last : WeightNeverFallsAtEnd) (more : ℕ → List VersionedPacket) (vs : List ℕ) (runs : AreRuns (over_under app commands) lane packets (λ l. packets_at lanes l ++ more l) vs) where
+  module _ (never : WeightNeverFalls) (more : ℕ → List VersionedPacket) (vs : List ℕ) (runs : AreRuns (over_under app commands) lane packets (λ l. packets_at lanes l ++ more l) vs) where
     part_at_most : (l : ℕ) → weight (ended (records_at (packets_at lanes l ++ more l))) ≤ weight (run_under app commands vs packets)
     part_at_most l =
         let part = ap weight (its_part (λ k. packets_at lanes k ++ more k) vs runs l) in
@@ -176,7 +176,7 @@ module _ (later : LaterCommandsChangeNone) (one : OneEventMore) (last : LastPack
     weights_are l =
         let own = ap weight (run_of_events later app commands (events_at lanes l) (front l)) in
         let grows = more_weigh last never app (in_force app commands) (packets_at lanes l) (more l) in
-        let ends = at_last app (in_force app commands) (greatest packets) (records_at (packets_at lanes l ++ more l)) in
+        let ends = never.at_end app (in_force app commands) (greatest packets) (records_at (packets_at lanes l ++ more l)) in
         let most = part_at_most l in omega arith
 
     ends_are : (l : ℕ) → more l ≡ [] → weight (ended_run app (events_at lanes l) (greatest packets)) ≤ weight (run_under app commands vs packets)
@@ -201,10 +201,10 @@ module _ (later : LaterCommandsChangeNone) (one : OneEventMore) (last : LastPack
       let made = one_allowed least most (over_under app commands) lane packets (packets_at lanes) (packets_whole least most commands lane packets lanes have whole) (stamped_at least most commands lane packets lanes have) in
       (made.0, made.1, whole_is later one last app commands lane packets lanes (commands_front least most commands lane packets lanes have) made.0 made.2)
 
-  pub fronts_run : WeightNeverFalls → WeightNeverFallsAtEnd → ((n : ℕ) → least n ≤ most n) → ((n m : ℕ) → n ≤ m → most n ≤ most m) → Rises (map (λ a. a.number) packets)
+  pub fronts_run : WeightNeverFalls → ((n : ℕ) → least n ≤ most n) → ((n m : ℕ) → n ≤ m → most n ≤ most m) → Rises (map (λ a. a.number) packets)
       → (vs : List ℕ) × IsAllowedRun app commands least most lane packets vs × AreFrontsOfRun app commands lane packets lanes vs
-  fronts_run never at_last between rises numbered =
+  fronts_run never between rises numbered =
       let rest = packets_front least most commands lane packets lanes have in
       let made = continued least most between rises (over_under app commands) lane packets numbered (packets_at lanes) (λ l. (rest l).0) (λ l. (rest l).1) (stamped_at least most commands lane packets lanes have) in
-      (made.0, made.1, fronts_are later one last app commands lane packets lanes (commands_front least most commands lane packets lanes have) never at_last (λ l. versioned most ((rest l).0)) made.0 made.2
+      (made.0, made.1, fronts_are later one last app commands lane packets lanes (commands_front least most commands lane packets lanes have) never (λ l. versioned most ((rest l).0)) made.0 made.2
       (λ l whole. ap (versioned most) (nothing_behind (arrivals_of (packets_at lanes l)) (rest l).0 ((rest l).1 ∙ sym whole))))

@@ -8,6 +8,7 @@
 pub mod counts;
 mod ends;
 mod merging;
+pub mod moments;
 pub mod packets;
 pub mod runs;
 pub mod shares;
