@@ -29,18 +29,13 @@ unfolding last_of
 last_is first [] a = refl
 last_is first (b ∷ later) a = last_is b later a
 
-or_true : (b : Bool) → (b || true) ≡ true
-or_true true = refl
-or_true false = refl
-
-neither : (a b : Bool) → not (a || b) ≡ true → b ≡ false
+neither : (a b : Bool) → not (a || b) ≡ true → a ≡ false
 neither true b e = absurd (cc)
-neither false true e = absurd (cc)
-neither false false e = refl
+neither false b e = refl
 
 -- a record that takes a packet hasn't ended
 pub taken_open : (endings : Endings) (sight : Sight) (m : Members) → takes endings sight m ≡ true → m.ended ≡ false
-taken_open endings (Tcp segment) m taken = neither (endings.is_over m.version (packets_of m)) m.ended (and_parts _ _ taken).1
+taken_open endings (Tcp segment) m taken = neither m.ended (endings.is_over m.version (packets_of m)) (and_parts _ _ taken).1
 taken_open endings (Other class) m taken = absurd (cc)
 
 module _ (app : Meaning) (control_at : ℕ → ControlState) where
@@ -72,8 +67,8 @@ module _ (app : Meaning) (control_at : ℕ → ControlState) where
   shown_open : (m : Members) → m.ended ≡ false → shown m ≡ open_with m
   shown_open m e = ap (λ b. if b then lane_ended_by_silence app control_at (open_with m) else open_with m) e
 
-  shut_by : (b : Bool) (m : Members) → lane_is_shut (if b then lane_ended_by_silence app control_at (open_with m) else open_with m) ≡ (is_over (open_with m).history || b)
-  shut_by true m = or_true (is_over (lane_ended_by_silence app control_at (open_with m)).history) ∙ sym (or_true (is_over (open_with m).history))
+  shut_by : (b : Bool) (m : Members) → lane_is_shut (if b then lane_ended_by_silence app control_at (open_with m) else open_with m) ≡ (b || is_over (open_with m).history)
+  shut_by true m = refl
   shut_by false m = refl
 
   same_takes : (sight : Sight) (m : Members) → belongs_to sight (shown m) ≡ takes ends sight m

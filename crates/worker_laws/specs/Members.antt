@@ -39,7 +39,7 @@ ended_by_silence m = record m { ended = true }
 
 module _ (endings : Endings) where
   abbrev pub is_shut : Members → Bool
-  is_shut m = endings.is_over m.version (packets_of m) || m.ended
+  is_shut m = m.ended || endings.is_over m.version (packets_of m)
 
   -- an open connection of this key
   abbrev pub is_open_at : EndpointPair → Members → Bool
