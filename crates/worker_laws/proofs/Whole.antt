@@ -205,6 +205,9 @@ module _ (later : LaterCommandsChangeNone) (one : OneEventMore) (last : LastPack
       → (vs : List ℕ) × IsAllowedRun app commands least most lane packets vs × AreFrontsOfRun app commands lane packets lanes vs
   fronts_run never between rises numbered =
       let rest = packets_front least most commands lane packets lanes have in
-      let made = continued least most between rises (over_under app commands) lane packets numbered (packets_at lanes) (λ l. (rest l).0) (λ l. (rest l).1) (stamped_at least most commands lane packets lanes have) in
-      (made.0, made.1, fronts_are later one last app commands lane packets lanes (commands_front least most commands lane packets lanes have) never (λ l. versioned most ((rest l).0)) made.0 made.2
-      (λ l whole. ap (versioned most) (nothing_behind (arrivals_of (packets_at lanes l)) (rest l).0 ((rest l).1 ∙ sym whole))))
+      let made = continued least most between rises (over_under app commands) lane packets numbered (packets_at lanes) (λ l. (rest l).0) (λ l. (rest l).1) (stamped_at least most commands lane packets lanes have) in (
+        made.0,
+        made.1,
+        fronts_are later one last app commands lane packets lanes (commands_front least most commands lane packets lanes have) never (λ l. versioned most ((rest l).0)) made.0 made.2
+            (λ l whole. ap (versioned most) (nothing_behind (arrivals_of (packets_at lanes l)) (rest l).0 ((rest l).1 ∙ sym whole))),
+      )

@@ -11,8 +11,7 @@ pub returns-clause-ran : goal.returns-clause-ran
 returns-clause-ran g c =
     let s = c.in_ok-read.ensures.served in
     let whole = subst (λ r. ReadsWhole s.frames c.args.capture.now (g.S.Source.left c.args.source.now) (g.S.Source.left c.run_team.new.dealer.source.now) r) c.in_ok-whole.was s.done.0 in
-    let same : c.source-1.given.0 ≡ c.run_team.new.dealer.source.now = c.source-1.given.1 (sym s.done.3) in
-    (
+    let same : c.source-1.given.0 ≡ c.run_team.new.dealer.source.now = c.source-1.given.1 (sym s.done.3) in (
       s.frames,
       s.few,
       record {
