@@ -54,7 +54,8 @@ verdicts_in app events = verdicts_behind app [] events
 module _ (app : Meaning) (commands : List Command) (lane : EndpointPair → ℕ) (packets : List Arrival) (lanes : List (List LaneEvent)) (vs : List ℕ) where
   -- lanes that have run all: what each made is its part of the run under this list
   pub record AreOneRun : Type 0 where
-    pub records : (l : ℕ) → ended_run app (events_at lanes l) (greatest packets) ≡ filter (λ r. lane_of lane r.first.sight == l) (run_under app commands vs packets)
+    pub records : (l : ℕ) → ended_run app (events_at lanes l) (greatest packets)
+        ≡ filter (λ r. lane_of lane r.first.sight == l) (run_under app commands vs packets)
     pub verdicts : (l : ℕ) → verdicts_in app (events_at lanes l) ≡ judged_part lane l (verdicts_under app commands vs packets)
 
   -- Lanes that have run fronts of their shares: none weighs more than the run, also at the end where it has run its whole share; and

@@ -47,7 +47,8 @@ module _ {L : Type 0} (g : Ghosts L) (last : Option Moment) where
   pub record HasEnded (worker : Worker L) (end : LaneEnd) : Type 0 where
     pub good : g.failed worker.lane ≡ None
     pub end_is : (events : List LaneEvent) → g.stands worker.lane events
-        → IsEnd (g.keeps worker.lane) (g.app worker.lane) (ended_run (g.app worker.lane) events last) end.records end.versions end.callbacks end.drops
+        → IsEnd (g.keeps worker.lane) (g.app worker.lane) (ended_run (g.app worker.lane) events last)
+        end.records end.versions end.callbacks end.drops
 
   -- a worker's lane that hasn't failed keeps entries, and its records weigh too much at the end
   pub record EndsHeavy (worker : Worker L) : Type 0 where

@@ -46,7 +46,8 @@ module _ {L : Type 0} where
 pub record HasRead (frames : List Captured) (capture : CaptureState) (old new : Option (List ℕ)) (whole : Whole) : Type 0 where
   pub count : length frames ≡ whole.packets
   pub last : whole.last ≡ greatest (arrivals 0 frames)
-  pub holds : (rest : List ℕ) → old ≡ Some rest → (frames_at capture rest ≡ record { frames = frames; ending = tail whole.tail }) × (new ≡ Some [])
+  pub holds : (rest : List ℕ) → old ≡ Some rest
+      → (frames_at capture rest ≡ record { frames = frames; ending = tail whole.tail }) × (new ≡ Some [])
 
 -- what was read: these frames are the whole capture, before a tail; or the capture is refused behind them
 abbrev pub ReadsAs : List Captured → CaptureState → Option (List ℕ) → Option (List ℕ) → Result Whole NextError → Type 0
