@@ -12,7 +12,7 @@ mod ledger;
 mod look;
 mod moment;
 mod orphan;
-mod silence;
+mod silent;
 mod terms;
 
 pub use flow::{Flow, Step};
@@ -20,5 +20,5 @@ pub use in_force::InForce;
 pub use ledger::{Counts, Ledger, Notes};
 pub use moment::Arrived;
 pub use orphan::lone;
-pub use silence::silence;
+pub use silent::silence;
 pub use terms::Terms;

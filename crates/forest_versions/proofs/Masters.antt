@@ -1,6 +1,6 @@
 -- What a master stands for after one command more, and before the first.
-use Rattle.std.proofs.Common.{◌≡◌, ℕ, suc, ◌+◌, ◌<◌, ◌≤◌, Bool, true, false, List, [], ◌∷◌, ◌++◌, length, take, refl, sym, ap, subst, ◌∙◌, arith, ⊎_elim, append-nil, append_assoc, length-append}
-use Rattle.std.specs.Prelude.{◌&&◌, ◌||◌, not, IsTrue, Option, Some, is_none}
+use Rattle.std.proofs.Common.{◌≡◌, ℕ, zero, suc, ◌+◌, ◌<◌, ◌≤◌, Bool, true, false, List, [], ◌∷◌, ◌++◌, length, take, refl, sym, ap, subst, ◌∙◌, arith, ⊎_elim, append-nil, append_assoc, length-append}
+use Rattle.std.specs.Prelude.{◌&&◌, ◌||◌, not, IsTrue, Option, Some, None, is_none, is_some}
 use Rattle.std.specs.List.{fold, list_any}
 use Rattle.std.proofs.lemmas.Bool.{and_parts, and_from, cases_lt}
 use Rattle.std.proofs.lemmas.List.{take_all, take-append-le}
@@ -79,6 +79,34 @@ and-true false = refl
 pub idle-given : (presets : List Reg) (commands : List Command) → is_none (control presets commands).idle ≡ not (list_any is_idle_limit commands)
 unfolding control start
 idle-given presets commands = idle-since (start presets) commands ∙ and-true (not (list_any is_idle_limit commands))
+
+any_front : (a b rest : Bool) → (a || b) ≡ false → (b ≡ false → rest ≡ false) → (a || rest) ≡ false
+any_front true b rest none later = none
+any_front false b rest none later = later none
+
+idle-front : (v : ℕ) (commands : List Command) → list_any is_idle_limit commands ≡ false → list_any is_idle_limit (take v commands) ≡ false
+idle-front zero commands none = refl
+idle-front (suc v) [] none = refl
+idle-front (suc v) (c ∷ commands) none =
+    any_front (is_idle_limit c) (list_any is_idle_limit commands) (list_any is_idle_limit (take v commands)) none (idle-front v commands)
+
+not-true : (b : Bool) → not b ≡ true → b ≡ false
+not-true true e = sym e
+not-true false e = refl
+
+no_limit : (o : Option ℕ) → is_none o ≡ true → o ≡ None
+no_limit None none = refl
+no_limit (Some limit) none = absurd (cc)
+
+pub without : (o : Option ℕ) → is_some o ≡ false → o ≡ None
+without None none = refl
+without (Some limit) none = absurd (cc)
+
+-- where there is no limit after all commands, there was none before
+pub idle-never : (presets : List Reg) (commands : List Command) (v : ℕ) → (control presets commands).idle ≡ None → (master presets commands v).idle ≡ None
+idle-never presets commands v none =
+    let unset = not-true (list_any is_idle_limit commands) (sym (idle-given presets commands) ∙ ap is_none none) in
+    no_limit (master presets commands v).idle (idle-given presets (take v commands) ∙ ap not (idle-front v commands unset))
 
 -- one command more
 pub record IsNext (old new : Versions) (c : Command) : Type 0 where

@@ -1,6 +1,6 @@
 //! Presets and commands as they are in force: now, and at each version before.
 
-ghost use Rattle.std.specs.Prelude.{◌≡◌, ◌+◌, ◌≤◌, ◌<◌, ℕ, List, [], ◌∷◌, ◌++◌, length, take, not, is_none, IsTrue, IfSome, IfOk, OnOk, OnErr};
+ghost use Rattle.std.specs.Prelude.{◌≡◌, ◌+◌, ◌≤◌, ◌<◌, ℕ, List, [], ◌∷◌, ◌++◌, length, take, not, is_none, IsTrue, IfSome, IfOk, OnOk, OnErr, false, None, is_some};
 ghost use Rattle.std.specs.List.{list_any};
 ghost use Rattle.std.specs.Option.{option_copied};
 ghost use Rattle.app_api.specs.declared.registration.Reg.{Reg as RegOf};
@@ -204,6 +204,15 @@ impl Master {
             → is_none result ≡ not (list_any is_idle_limit (take version commands)) }
     {
         self.past.idle(version)
+    }
+
+    /// Whether a connection that begins now may be silent for so many seconds only. Where it may be silent for ever, so
+    /// may each that began earlier.
+    pub fn is_timed(&self) -> bool
+        ensures now { result ≡ is_some self.now.now.idle }
+        ensures never { result ≡ false → (v : ℕ) (s : ControlState) → Tells self.now v s → s.idle ≡ None }
+    {
+        self.control.idle().is_some()
     }
 }
 

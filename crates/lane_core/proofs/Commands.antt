@@ -32,6 +32,8 @@ module _ (m after : Versions) (content content' : Shared → TreeLists) (flows :
     λ d. let is = at.1 d in record {
       sides = is.sides;
       version = is.version;
+      last = is.last;
+      heard = is.heard;
       kept = record {
         socket = is.kept.socket;
         count = is.kept.count;

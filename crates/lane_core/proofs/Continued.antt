@@ -59,14 +59,14 @@ module _ (app : Meaning) (control_at : ℕ → ControlState) (keep : Bool) (m : 
   told = told_at m
 
   -- the counts of all other records
-  abbrev others : List RecordSoFar → ℕ → Counts
+  abbrev pub others : List RecordSoFar → ℕ → Counts
   others pasts i = record {
     callbacks = others_of (λ r. length r.history.entries) pasts i;
     weight = others_of (λ r. weight_of r.history.entries) pasts i;
   }
 
   -- what stands for one record stands for its history
-  connection_in : (content : Shared → TreeLists) (flows : Flows Connection) (slots : List Slot) (counts : Counts) (pasts : List RecordSoFar) (i : ℕ) (d : RecordSoFar) (conn : Connection) (slot : Slot)
+  pub connection_in : (content : Shared → TreeLists) (flows : Flows Connection) (slots : List Slot) (counts : Counts) (pasts : List RecordSoFar) (i : ℕ) (d : RecordSoFar) (conn : Connection) (slot : Slot)
       → AreKept keep told content flows slots counts pasts → i < length pasts → IsOpen told content conn (get_or pasts i d) → slot ≡ slot_of keep (get_or pasts i d)
       → IsConnection keep (others pasts i) (told conn.version) (content conn.flow.forest) conn.flow slot.notes counts (get_or pasts i d).history
   connection_in content flows slots counts pasts i d conn slot stands within is slot_is = record {

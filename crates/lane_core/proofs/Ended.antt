@@ -82,7 +82,7 @@ module _ (app : Meaning) (control_at : ℕ → ControlState) where
   -- ---- which connections are open
 
   pub ended_shut : (key : EndpointPair) (past : RecordSoFar) → is_open_at key (ended past) ≡ false
-  ended_shut key past = ap (λ b. opens past.first.sight && b) (and_false (is_between key past.first.sight)) ∙ and_false (opens past.first.sight)
+  ended_shut key past = and_false (opens past.first.sight && is_between key past.first.sight)
 
   false_is_true : false ≡ true → ⊥
   false_is_true e = cc

@@ -1,6 +1,7 @@
 pub mod Places
 pub mod OpenTrees
 pub mod Holding
+pub mod Ended
 pub mod Restricted
 pub mod Growing
 pub mod Handed
@@ -11,6 +12,7 @@ pub mod Verdicts
 pub mod Stored
 pub mod Continued
 pub mod Started
+pub mod Silencing
 pub mod Presets
 pub mod Pieces
 pub mod Weighing
@@ -21,3 +23,4 @@ pub mod Settling
 pub mod Commands
 pub mod Standing
 pub mod Ending
+pub mod EndOfRun

@@ -30,6 +30,8 @@ module _ (keep : Bool) (told : ℕ → ℕ → Option Reg) where
   IsOpen-stored content content' conn past same is = record {
     sides = is.sides;
     version = is.version;
+    last = is.last;
+    heard = is.heard;
     kept = subst (λ t. IsFlow (told conn.version) t conn.flow past.history) (sym same) is.kept;
   }
 

@@ -21,8 +21,8 @@ use Rattle.connection_core.specs.Trees.{InternsWithin}
 use Rattle.lane_core.specs.declared.connection.Connection.{Connection}
 use Rattle.lane_core.specs.declared.slot.Slot.{Slot}
 use Rattle.lane_core.specs.declared.kept.Kept.{Kept}
-use Rattle.lane_core.specs.Sight.{Segment, Sight, Moment}
-use Rattle.lane_core.specs.Records.{RecordSoFar, VersionedPacket, opens, belongs_to, is_open_at, side_of, side_in, orphan_raises_of, placed, verdict_among, added, verdict_on}
+use Rattle.lane_core.specs.Sight.{Segment, Sight, Tcp, Moment, key_of_segment}
+use Rattle.lane_core.specs.Records.{RecordSoFar, VersionedPacket, opens, belongs_to, is_open_at, side_of, side_in, orphan_raises_of, ended_before, placed, verdict_among, added, verdict_on}
 use Rattle.lane_core.specs.Shown.{kind_of, callbacks_of, weight, alterations, drops_of as drops_in}
 use Rattle.lane_core.specs.Places.{place_by, place_of, IsSingle}
 
@@ -119,3 +119,17 @@ SetsStray app keep m number class head content interns kept content_after intern
     (control_at : ℕ → ControlState) (so_far : List RecordSoFar) (moment : Moment) (sight : Sight) → IsStray sight class head so_far
     → ((v : ℕ) → Tells m v (control_at v)) → control_at m.version ≡ m.now → Keeps keep (told_at m) content kept so_far
     → Sets app control_at (arrived m.version number moment sight) so_far keep (told_at m) content_after kept_after interns_after interns verdict
+
+-- before a segment of this key: the open connection of the key ended where it was silent for too long
+abbrev pub EndsSilent : Meaning → Bool → Versions → EndpointPair → Moment → (Shared → TreeLists) → Kept → Kept → Type 0
+EndsSilent app keep m key moment content kept kept_after =
+    (control_at : ℕ → ControlState) (so_far : List RecordSoFar) (version number : ℕ) (segment : Segment) → ((v : ℕ) → Tells m v (control_at v))
+    → key ≡ key_of_segment segment → Keeps keep (told_at m) content kept so_far
+    → Keeps keep (told_at m) content kept_after (map (ended_before app control_at (arrived version number moment (Tcp segment))) so_far)
+
+-- memory was refused for its end, after which no connection of the key is open
+abbrev pub LeavesNone : Meaning → Bool → Versions → EndpointPair → Moment → (Shared → TreeLists) → Kept → Type 0
+LeavesNone app keep m key moment content kept =
+    (control_at : ℕ → ControlState) (so_far : List RecordSoFar) (version number : ℕ) (segment : Segment) → ((v : ℕ) → Tells m v (control_at v))
+    → key ≡ key_of_segment segment → Keeps keep (told_at m) content kept so_far
+    → place_of key (map (ended_before app control_at (arrived version number moment (Tcp segment))) so_far) ≡ None

@@ -1,5 +1,5 @@
 -- Laws on the records of packets, in the subject's own words.
-use Rattle.std.specs.Prelude.{◌≡◌, ◌≤◌, ◌↔◌, ℕ, Bool, IsTrue, if◌then◌else◌, Some, None, List, [], ◌∷◌, ◌++◌, filter, length, map}
+use Rattle.std.specs.Prelude.{◌≡◌, ◌≤◌, ◌↔◌, ℕ, Bool, IsTrue, if◌then◌else◌, Option, Some, None, List, [], ◌∷◌, ◌++◌, filter, length, map}
 use Rattle.std.specs.List.{list_any, list_all}
 use Rattle.tcp_emulation.specs.declared.segment.Side.{Side}
 use Rattle.native_filters.specs.declared.facts.Hook.TheVariants.{Snd, Rcv}
@@ -138,11 +138,11 @@ pub record NewestIsTheLast : Type 0 where
 
 -- Commands behind those of a run change neither its records, while it goes on and at its end, nor what becomes of one more packet.
 pub record LaterCommandsChangeNone : Type 0 where
-  pub records : (app : Meaning) (events : List LaneEvent) (more : List Command)
-      → lane_run app events ≡ records app (master app.presets (commands_of events ++ more)) (versioned_from 0 events)
   pub at_end : (app : Meaning) (events : List LaneEvent) (last : Option Moment) (more : List Command)
       → ended_run app events last
       ≡ map (ended_at app (master app.presets (commands_of events ++ more)) last) (records app (master app.presets (commands_of events ++ more)) (versioned_from 0 events))
+  pub records : (app : Meaning) (events : List LaneEvent) (more : List Command)
+      → lane_run app events ≡ records app (master app.presets (commands_of events ++ more)) (versioned_from 0 events)
   pub verdicts : (app : Meaning) (events : List LaneEvent) (a : Arrival) (more : List Command)
       → next_verdict app events a
       ≡ verdict_on app (master app.presets (commands_of events ++ more)) (record { version = length (commands_of events); arrival = a }) (lane_run app events)

@@ -7,5 +7,7 @@ pub mod Places
 pub mod End
 pub mod Trees
 pub mod Steps
+pub mod Silences
 pub mod Kept
+pub mod Closing
 pub mod Lane

@@ -1,6 +1,7 @@
 //! One lane: the records of its packets, with their callbacks, as connections open, go on and end.
 #![tactic(auto)]
 
+mod closing;
 mod command;
 mod connection;
 pub mod end;
@@ -13,6 +14,7 @@ pub mod limits;
 mod packet;
 pub mod recorder;
 mod sides;
+mod silent;
 mod slot;
 mod world;
 

@@ -6,13 +6,14 @@ ghost use Rattle.forest_versions.specs.State.{after};
 ghost use Rattle.connection_core.specs.Trees.{InternsWithin};
 ghost use Rattle.shared_forest.specs.Store.{CountsAtMost};
 ghost use Rattle.lane_core.specs.Sight.{arrival_of};
-ghost use Rattle.lane_core.specs.Run.{Gave, Arrived, lane_run, newest_of, packets_of};
+ghost use Rattle.lane_core.specs.Run.{Gave, Arrived, lane_run, ended_run, newest_of, packets_of};
 ghost use Rattle.lane_core.specs.Shown.{alterations};
-ghost use Rattle.lane_core.specs.Lane.{IsEnd, IsHeavy, IsAfter, next_verdict, with_event};
+ghost use Rattle.lane_core.specs.Lane.{IsEnd, IsHeavy, IsHeavyAtEnd, IsAfter, next_verdict, with_event};
 
 use crate::end::LaneEnd;
 use crate::errors::LaneError;
 use app_api::Verdict;
+use flow_timers::Moment;
 use forest_versions::{Command, Control};
 use native_filters::NativeBook;
 use pcap_source::Frame;
@@ -125,10 +126,22 @@ pub trait Recorder {
     fn has_failed(&self) -> bool
         ensures { IsTrue result ↔ (Self.failed self.now ≢ None) };
 
-    /// The records, their versions, and what is counted over them. A lane that failed answers why.
-    fn finish(self, alloc: Global) -> Result<LaneEnd, LaneError>
+    /// The records, their versions, and what is counted over them. `last` is the greatest moment of all packets of the
+    /// capture, also of those that other lanes took; `None` where there is no packet. A connection that was silent for too
+    /// long by then has ended, with its callbacks for the event `timer`.
+    ///
+    /// An error is want of memory; that the lane keeps entries and its callbacks, with those of these ends, weigh more than
+    /// 134,217,728; or that for which the lane failed before.
+    fn finish(
+        self,
+        alloc: Global,
+        last: Option<Moment>,
+        natives: &NativeBook,
+    ) -> Result<LaneEnd, LaneError>
         ensures failed { (e : Error) → Self.failed self ≡ Some e → result ≡ Err e }
         ensures ended { Self.failed self ≡ None → IfOk result (λ end. (events : List LaneEvent) → Self.stands self events
-            → IsEnd (Self.keeps self) (Self.app self) (lane_run (Self.app self) events) end.records end.versions end.callbacks end.drops) }
-        ensures no_memory { Self.failed self ≡ None → IfErr result (λ e. e ≡ Error.NoMemory) };
+            → IsEnd (Self.keeps self) (Self.app self) (ended_run (Self.app self) events last) end.records end.versions end.callbacks end.drops) }
+        ensures light { OnOk result (Self.keeps self ≡ true → (events : List LaneEvent) → Self.stands self events → IsHeavyAtEnd (Self.app self) events last → ⊥) }
+        ensures heavy { Self.failed self ≡ None → result ≡ Err Error.Heavy → (Self.keeps self ≡ true)
+            × ((events : List LaneEvent) → Self.stands self events → IsHeavyAtEnd (Self.app self) events last) };
 }

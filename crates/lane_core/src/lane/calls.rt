@@ -8,6 +8,7 @@ ghost use Rattle.lane_core.specs.Lane.{IsTreeFound};
 ghost use Rattle.lane_core.specs.Records.{open_at};
 ghost use Rattle.lane_core.specs.Run.{LaneEvent, lane_run};
 
+use crate::closing::close;
 use crate::end::{LaneEnd, records_of, versions_of};
 use crate::errors::LaneError;
 use crate::kept::Kept;
@@ -16,6 +17,7 @@ use crate::recorder::Recorder;
 use crate::world::World;
 use app_api::{App, Verdict, presets_of};
 use flow_table::Key;
+use flow_timers::Moment;
 use forest_versions::{Command, Control, Master};
 use native_filters::NativeBook;
 use pcap_source::Frame;
@@ -129,9 +131,15 @@ impl<A: App + Drop, F: Forests + Drop> Recorder for Lane<A, F> {
         self.failed.is_some()
     }
 
-    fn finish(self, alloc: Global) -> Result<LaneEnd, LaneError> {
+    fn finish(
+        self,
+        alloc: Global,
+        last: Option<Moment>,
+        natives: &NativeBook,
+    ) -> Result<LaneEnd, LaneError> {
         let Lane {
             world,
+            forests,
             kept,
             failed,
             ..
@@ -139,6 +147,8 @@ impl<A: App + Drop, F: Forests + Drop> Recorder for Lane<A, F> {
         if let Some(error) = failed {
             return Err(error);
         }
+        let mut kept = kept;
+        close(alloc, &world, natives, &forests, &mut kept, last)?;
         let Kept {
             slots,
             ledger,

@@ -1,6 +1,6 @@
 //! What a packet or a command does to a lane that hasn't failed.
 
-ghost use Rattle.std.specs.Prelude.{◌≡◌, ◌+◌, ◌*◌, ◌<◌, ◌≤◌, ◌&&◌, nat_lt, ℕ, List, [], ◌∷◌, ◌++◌, length, OnOk, OnErr, IfOk, IsTrue, None, Some, true};
+ghost use Rattle.std.specs.Prelude.{◌≡◌, ◌+◌, ◌*◌, ◌<◌, ◌≤◌, ◌&&◌, nat_lt, vec_len, ℕ, List, [], ◌∷◌, ◌++◌, length, OnOk, OnErr, IfOk, IsTrue, None, Some, true};
 ghost use Rattle.std.specs.Option.{option_copied};
 ghost use Rattle.flow_table.specs.Table.{found};
 ghost use Rattle.app_api.specs.declared.registration.Reg.{Reg as RegOf};
@@ -11,23 +11,26 @@ ghost use Rattle.forest_versions.specs.State.{after};
 ghost use Rattle.forest_versions.specs.declared.command.Command.{Command as CommandOf};
 ghost use Rattle.connection_core.specs.History.{drops_of};
 ghost use Rattle.connection_core.specs.InForce.{told_at};
-ghost use Rattle.lane_core.specs.Sight.{Tcp, Other, Moment, arrival_of, key_of_segment};
+ghost use Rattle.lane_core.specs.Sight.{Tcp, Other, arrival_of, key_of_segment};
 ghost use Rattle.ip6_views.specs.Seen.{seen};
 ghost use Rattle.lane_core.specs.Records.{RecordSoFar, opens};
-ghost use Rattle.lane_core.specs.Kept.{Keeps, AddsTo, AddsStray, CostsAtMost, arrived};
+ghost use Rattle.lane_core.specs.Kept.{Keeps, AddsTo, SetsAmong, SetsStray, CostsAtMost, CostsAmong, EndsSilent, LeavesNone, arrived};
+ghost use Rattle.lane_core.specs.Trees.{AreShort};
 
 use crate::command::give_to;
 use crate::errors::LaneError;
 use crate::flows::{follow, keep};
 use crate::kept::Kept;
 use crate::lane::Lane;
-use crate::limits::WEIGHT;
+use crate::limits::weighs_too_much;
 use crate::packet::{Opened, lone_at, start_one};
 use crate::sides::is_opening;
+use crate::silent::end_silent;
 use crate::slot::Slot;
 use app_api::{App, Verdict};
 use builtin_events::raised_by_orphan;
 use flow_table::{FlowTable, Key, seed_of};
+use flow_timers::Moment;
 use forest_versions::Command;
 use ip6_views::{Sight, SightTcp, key_between, sight_of};
 use native_filters::NativeBook;
@@ -45,19 +48,19 @@ impl<A: App + Drop, F: Forests + Drop> Lane<A, F> {
         natives: &NativeBook,
         key: Key,
         number: u64,
+        moment: Moment,
         segment: &SightTcp<'_>,
     ) -> Result<Verdict, AllocError>
         requires key { key ≡ key_of_segment (seen segment.now) }
         requires absent { found self.old.kept.flows key ≡ None }
         requires opens { opens (Tcp (seen segment.now)) ≡ true }
         requires next { 0 < self.old.next }
-        requires callbacks { self.old.kept.ledger.counts.callbacks + 3060 ≤ 3060 * self.old.next }
-        requires weight { self.old.kept.ledger.counts.weight + 881280 ≤ 881280 * self.old.next }
-        ensures stands { IfOk result (λ verdict. (moment : Moment)
-            → AddsTo (A.meaning self.old.world.app) self.old.world.keep self.old.world.master (arrived self.old.world.master.version number moment (Tcp (seen segment.now)))
+        requires callbacks { self.old.kept.ledger.counts.callbacks + 3060 ≤ 3315 * self.old.next }
+        requires weight { self.old.kept.ledger.counts.weight + 881280 ≤ 954720 * self.old.next }
+        requires room { vec_len self.old.kept.slots < self.old.next }
+        ensures stands { IfOk result (λ verdict. SetsAmong (A.meaning self.old.world.app) self.old.world.keep self.old.world.master (arrived self.old.world.master.version number moment (Tcp (seen segment.now)))
             (F.content self.old.forests) (F.interns self.old.forests) self.old.kept (F.content self.new.forests) (F.interns self.new.forests) self.new.kept verdict) }
-        ensures costs { OnErr result ((moment : Moment)
-            → CostsAtMost (A.meaning self.old.world.app) self.old.world.keep self.old.world.master (arrived self.old.world.master.version number moment (Tcp (seen segment.now)))
+        ensures costs { OnErr result (CostsAmong (A.meaning self.old.world.app) self.old.world.keep self.old.world.master (arrived self.old.world.master.version number moment (Tcp (seen segment.now)))
             (F.content self.old.forests) self.old.kept (F.interns self.old.forests) (F.interns self.new.forests)) }
         ensures world { self.new.world ≡ self.old.world }
         ensures next { self.new.next ≡ self.old.next }
@@ -72,6 +75,7 @@ impl<A: App + Drop, F: Forests + Drop> Lane<A, F> {
             &mut self.kept.ledger,
             self.kept.slots.len(),
             number,
+            moment,
             segment,
         )?;
         let Opened { conn, slot, step } = opened;
@@ -89,9 +93,10 @@ impl<A: App + Drop, F: Forests + Drop> Lane<A, F> {
         class: Class,
         head: Option<&Head>,
     ) -> Result<Verdict, AllocError>
-        requires callbacks { self.old.kept.ledger.counts.callbacks + 3060 ≤ 3060 * self.old.next }
-        requires weight { self.old.kept.ledger.counts.weight + 881280 ≤ 881280 * self.old.next }
-        ensures stands { IfOk result (λ verdict. AddsStray (A.meaning self.old.world.app) self.old.world.keep self.old.world.master number class (option_copied head.entry)
+        requires callbacks { self.old.kept.ledger.counts.callbacks + 3060 ≤ 3315 * self.old.next }
+        requires weight { self.old.kept.ledger.counts.weight + 881280 ≤ 954720 * self.old.next }
+        requires room { vec_len self.old.kept.slots < self.old.next }
+        ensures stands { IfOk result (λ verdict. SetsStray (A.meaning self.old.world.app) self.old.world.keep self.old.world.master number class (option_copied head.entry)
             (F.content self.old.forests) (F.interns self.old.forests) self.old.kept (F.content self.new.forests) (F.interns self.new.forests) self.new.kept verdict) }
         ensures forests { self.new.forests ≡ self.old.forests }
         ensures world { self.new.world ≡ self.old.world }
@@ -116,29 +121,70 @@ impl<A: App + Drop, F: Forests + Drop> Lane<A, F> {
         Ok(verdict)
     }
 
-    // A packet that is a segment.
-    fn segment(
+    // Ends the open connection of a key, where it was silent for too long.
+    fn end_silent(
         &mut self,
         alloc: Global,
         natives: &NativeBook,
-        number: u64,
-        segment: &SightTcp<'_>,
-    ) -> Result<Verdict, AllocError>
-        requires rising { self.old.next ≤ number }
-        requires bound { number < 1048576 }
-        ensures stands { IfOk result (λ verdict. (moment : Moment)
-            → AddsTo (A.meaning self.old.world.app) self.old.world.keep self.old.world.master (arrived self.old.world.master.version number moment (Tcp (seen segment.now)))
-            (F.content self.old.forests) (F.interns self.old.forests) self.old.kept (F.content self.new.forests) (F.interns self.new.forests) self.new.kept verdict) }
-        ensures costs { OnErr result ((moment : Moment)
-            → CostsAtMost (A.meaning self.old.world.app) self.old.world.keep self.old.world.master (arrived self.old.world.master.version number moment (Tcp (seen segment.now)))
-            (F.content self.old.forests) self.old.kept (F.interns self.old.forests) (F.interns self.new.forests)) }
+        key: &Key,
+        moment: Moment,
+    ) -> Result<(), AllocError>
+        requires callbacks { self.old.kept.ledger.counts.callbacks + 3315 ≤ 3315 * self.old.next }
+        requires weight { self.old.kept.ledger.counts.weight + 954720 ≤ 954720 * self.old.next }
+        ensures ends { OnOk result (EndsSilent (A.meaning self.old.world.app) self.old.world.keep self.old.world.master key.now moment (F.content self.old.forests) self.old.kept self.new.kept) }
+        ensures fails { OnErr result (LeavesNone (A.meaning self.old.world.app) self.old.world.keep self.old.world.master key.now moment (F.content self.old.forests) self.old.kept) }
+        ensures short { (packets : ℕ) → AreShort packets self.old.kept.flows → AreShort packets self.new.kept.flows }
+        ensures callbacks { self.new.kept.ledger.counts.callbacks + 3060 ≤ 3315 * self.old.next }
+        ensures weight { self.new.kept.ledger.counts.weight + 881280 ≤ 954720 * self.old.next }
+        ensures records { vec_len self.new.kept.slots ≡ vec_len self.old.kept.slots }
+        ensures forests { self.new.forests ≡ self.old.forests }
         ensures world { self.new.world ≡ self.old.world }
-        ensures next { self.new.next ≡ number + 1 }
+        ensures next { self.new.next ≡ self.old.next }
         ensures failed { self.new.failed ≡ self.old.failed }
         ensures dropped { self.new.kept.dropped ≡ self.old.kept.dropped }
     {
-        self.next = number + 1;
-        let key = key_between(segment.from, segment.to);
+        if !self.world.master.is_timed() {
+            return Ok(());
+        }
+        let _ended = end_silent(
+            alloc,
+            &self.world,
+            natives,
+            &self.forests,
+            &mut self.kept.flows,
+            &mut self.kept.slots,
+            &mut self.kept.ledger,
+            key,
+            moment,
+        )?;
+        Ok(())
+    }
+
+    // A segment, of whose key no open connection was silent for too long.
+    fn place(
+        &mut self,
+        alloc: Global,
+        natives: &NativeBook,
+        key: Key,
+        number: u64,
+        moment: Moment,
+        segment: &SightTcp<'_>,
+    ) -> Result<Verdict, AllocError>
+        requires key { key ≡ key_of_segment (seen segment.now) }
+        requires next { self.old.next ≡ number + 1 }
+        requires short { AreShort number self.old.kept.flows }
+        requires callbacks { self.old.kept.ledger.counts.callbacks + 3060 ≤ 3315 * self.old.next }
+        requires weight { self.old.kept.ledger.counts.weight + 881280 ≤ 954720 * self.old.next }
+        requires room { vec_len self.old.kept.slots < self.old.next }
+        ensures stands { IfOk result (λ verdict. SetsAmong (A.meaning self.old.world.app) self.old.world.keep self.old.world.master (arrived self.old.world.master.version number moment (Tcp (seen segment.now)))
+            (F.content self.old.forests) (F.interns self.old.forests) self.old.kept (F.content self.new.forests) (F.interns self.new.forests) self.new.kept verdict) }
+        ensures costs { OnErr result (CostsAmong (A.meaning self.old.world.app) self.old.world.keep self.old.world.master (arrived self.old.world.master.version number moment (Tcp (seen segment.now)))
+            (F.content self.old.forests) self.old.kept (F.interns self.old.forests) (F.interns self.new.forests)) }
+        ensures world { self.new.world ≡ self.old.world }
+        ensures next { self.new.next ≡ self.old.next }
+        ensures failed { self.new.failed ≡ self.old.failed }
+        ensures dropped { self.new.kept.dropped ≡ self.old.kept.dropped }
+    {
         let followed = follow(
             alloc,
             &self.world,
@@ -149,18 +195,45 @@ impl<A: App + Drop, F: Forests + Drop> Lane<A, F> {
             &mut self.kept.ledger,
             &key,
             number,
+            moment,
             segment,
         )?;
         match followed {
             Some(step) => Ok(step.verdict),
             None => {
                 if is_opening(segment) {
-                    self.begin(alloc, natives, key, number, segment)
+                    self.begin(alloc, natives, key, number, moment, segment)
                 } else {
                     self.stray(alloc, natives, number, Class::Tcp, Some(&segment.head))
                 }
             }
         }
+    }
+
+    // A packet that is a segment.
+    fn segment(
+        &mut self,
+        alloc: Global,
+        natives: &NativeBook,
+        number: u64,
+        moment: Moment,
+        segment: &SightTcp<'_>,
+    ) -> Result<Verdict, AllocError>
+        requires rising { self.old.next ≤ number }
+        requires bound { number < 1048576 }
+        ensures stands { IfOk result (λ verdict. AddsTo (A.meaning self.old.world.app) self.old.world.keep self.old.world.master (arrived self.old.world.master.version number moment (Tcp (seen segment.now)))
+            (F.content self.old.forests) (F.interns self.old.forests) self.old.kept (F.content self.new.forests) (F.interns self.new.forests) self.new.kept verdict) }
+        ensures costs { OnErr result (CostsAtMost (A.meaning self.old.world.app) self.old.world.keep self.old.world.master (arrived self.old.world.master.version number moment (Tcp (seen segment.now)))
+            (F.content self.old.forests) self.old.kept (F.interns self.old.forests) (F.interns self.new.forests)) }
+        ensures world { self.new.world ≡ self.old.world }
+        ensures next { self.new.next ≡ number + 1 }
+        ensures failed { self.new.failed ≡ self.old.failed }
+        ensures dropped { self.new.kept.dropped ≡ self.old.kept.dropped }
+    {
+        self.next = number + 1;
+        let key = key_between(segment.from, segment.to);
+        self.end_silent(alloc, natives, &key, moment)?;
+        self.place(alloc, natives, key, number, moment, segment)
     }
 
     // A packet that is no segment.
@@ -169,15 +242,14 @@ impl<A: App + Drop, F: Forests + Drop> Lane<A, F> {
         alloc: Global,
         natives: &NativeBook,
         number: u64,
+        moment: Moment,
         class: Class,
     ) -> Result<Verdict, AllocError>
         requires rising { self.old.next ≤ number }
         requires bound { number < 1048576 }
-        ensures stands { IfOk result (λ verdict. (moment : Moment)
-            → AddsTo (A.meaning self.old.world.app) self.old.world.keep self.old.world.master (arrived self.old.world.master.version number moment (Other class))
+        ensures stands { IfOk result (λ verdict. AddsTo (A.meaning self.old.world.app) self.old.world.keep self.old.world.master (arrived self.old.world.master.version number moment (Other class))
             (F.content self.old.forests) (F.interns self.old.forests) self.old.kept (F.content self.new.forests) (F.interns self.new.forests) self.new.kept verdict) }
-        ensures costs { OnErr result ((moment : Moment)
-            → CostsAtMost (A.meaning self.old.world.app) self.old.world.keep self.old.world.master (arrived self.old.world.master.version number moment (Other class))
+        ensures costs { OnErr result (CostsAtMost (A.meaning self.old.world.app) self.old.world.keep self.old.world.master (arrived self.old.world.master.version number moment (Other class))
             (F.content self.old.forests) self.old.kept (F.interns self.old.forests) (F.interns self.new.forests)) }
         ensures world { self.new.world ≡ self.old.world }
         ensures next { self.new.next ≡ number + 1 }
@@ -240,9 +312,13 @@ impl<A: App + Drop, F: Forests + Drop> Lane<A, F> {
         ensures failed { self.new.failed ≡ self.old.failed }
         ensures dropped { self.new.kept.dropped ≡ self.old.kept.dropped }
     {
+        let moment = Moment {
+            seconds: frame.seconds,
+            fraction: frame.fraction,
+        };
         match sight_of(frame.bytes.as_slice()) {
-            Sight::Tcp(segment) => self.segment(alloc, natives, number, &segment),
-            Sight::Other(class) => self.other(alloc, natives, number, class),
+            Sight::Tcp(segment) => self.segment(alloc, natives, number, moment, &segment),
+            Sight::Other(class) => self.other(alloc, natives, number, moment, class),
         }
     }
 
@@ -292,8 +368,7 @@ impl<A: App + Drop, F: Forests + Drop> Lane<A, F> {
     pub(crate) fn is_heavy(&self) -> bool
         ensures { result ≡ (self.now.world.keep && nat_lt 134217728 self.now.kept.ledger.counts.weight) }
     {
-        let weight = self.kept.ledger.counts.weight;
-        self.world.keep && weight > WEIGHT
+        weighs_too_much(&self.world, &self.kept)
     }
 
     /// Fails for good, and answers why. What was kept is asked for no more, so its memory goes back at once.

@@ -3,7 +3,7 @@ use Rattle.native_filters.specs.declared.facts.Hook.TheVariants.{Rcv}
 use Rattle.app_api.specs.Events.{TIMER}
 use Rattle.connection_core.specs.InForce.{told}
 use Rattle.connection_core.proofs.Silenced.{silenced_noted}
-use Rattle.connection_core.proofs.silence.silence.Goals as goal
+use Rattle.connection_core.proofs.silent.silence.Goals as goal
 
 pub returns-clause-stands : goal.returns-clause-stands
 returns-clause-stands g c =
