@@ -25,11 +25,11 @@ use Rattle.lane_core.specs.Records.{RecordSoFar, opens, is_between, is_shut, is_
 use Rattle.lane_core.specs.Shown.{kind_of, total, weight}
 use Rattle.lane_core.specs.Places.{further, place_by, place_of, IsSingle}
 use Rattle.lane_core.specs.Kept.{IsOpenAt, AreKept}
-use Rattle.lane_core.specs.Silences.{IsHeard}
+use Rattle.lane_core.specs.Silences.{IsHeard, Silences, Goes}
 use Rattle.lane_core.specs.Closing.{is_at}
 use Rattle.lane_core.proofs.Ended.{ended}
-use Rattle.lane_core.proofs.Places.{place_by-fails}
-use Rattle.lane_core.proofs.Silencing.{silent_as}
+use Rattle.lane_core.proofs.Places.{place_by-fails, place_by-passes}
+use Rattle.lane_core.proofs.Silencing.{silent_as, silenced_kept, kept_same}
 use Rattle.lane_core.proofs.Weighing.{end_weighs}
 
 -- ---- one record
@@ -163,8 +163,8 @@ either_so : (b : Bool) (P : Type 0) → (b ≡ true → P) → (b ≡ false → 
 either_so true P yes no = yes refl
 either_so false P yes no = no refl
 
-module _ (app : Meaning) (control_at : ℕ → ControlState) (keep : Bool) (now : Moment) (told : ℕ → ℕ → Option Reg) (content : Shared → TreeLists)
-    (flows : Flows Connection) (slots : List Slot) (counts : Counts) (pasts : List RecordSoFar) (stands : AreKept keep told content flows slots counts pasts)
+module _ (app : Meaning) (control_at : ℕ → ControlState) (keep : Bool) (m : Versions) (tells : (v : ℕ) → Tells m v (control_at v)) (now : Moment) (content : Shared → TreeLists)
+    (flows : Flows Connection) (slots : List Slot) (counts : Counts) (pasts : List RecordSoFar) (stands : AreKept keep (told_at m) content flows slots counts pasts)
     (i : ℕ) (d : RecordSoFar) (within : i < length pasts) where
   abbrev here : RecordSoFar
   here = get_or pasts i d
@@ -186,7 +186,7 @@ module _ (app : Meaning) (control_at : ℕ → ControlState) (keep : Bool) (now 
         place_by-there (is_open_at key) pasts i d (stands.single key) within
         (all_three (opens here.first.sight) (is_between key here.first.sight) (not (is_shut here)) is (conn_between here.first.sight client server kind))
 
-    at_place : (o : Option Connection) → IsOpenAt told content o (place_of key pasts) pasts → place_of key pasts ≡ Some i → is_at i o ≡ true
+    at_place : (o : Option Connection) → IsOpenAt (told_at m) content o (place_of key pasts) pasts → place_of key pasts ≡ Some i → is_at i o ≡ true
     at_place None none there = absurd (let e = sym none ∙ there in cc)
     at_place (Some conn) at there =
         let e = sym at.0 ∙ there in let same : conn.place ≡ i = cc in rw same (eq-eqb i i refl)
@@ -198,11 +198,26 @@ module _ (app : Meaning) (control_at : ℕ → ControlState) (keep : Bool) (now 
         (λ is. absurd (false_is_true (is_at i (found flows key)) other (at_place (found flows key) (stands.placed key) (open_there is))))
         (λ shut. shut_stays app control_at now here shut))
 
-    heard_at : (m : Versions) → ((v : ℕ) → Tells m v (control_at v)) → (o : Option Connection) → is_at i o ≡ true → IsHeard m now o → IsOpenAt (told_at m) content o (place_of key pasts) pasts
-        → at_end app control_at now here ≡ here
-    heard_at m tells None is heard at = absurd (cc)
-    heard_at m tells (Some conn) is heard at =
+    heard_at : (o : Option Connection) → is_at i o ≡ true → IsHeard m now o → IsOpenAt (told_at m) content o (place_of key pasts) pasts → at_end app control_at now here ≡ here
+    heard_at None is heard at = absurd (cc)
+    heard_at (Some conn) is heard at =
         let same : conn.place ≡ i = eqb-true conn.place i is in
         heard_stays app control_at now here
         (subst (λ j. is_silent app control_at now (get_or pasts j d) ≡ false) same
         (silent_as app control_at keep m tells now content conn (get_or pasts conn.place d) false (at.1 d) heard))
+
+    -- the one that has its key's open connection, whether that was silent for too long or not
+    pub one_kept : (new : Flows Connection) (slots' : List Slot) (counts' : Counts) (ended : Bool) → is_at i (found flows key) ≡ true
+        → (ended ≡ true → Silences app keep m content flows new slots slots' counts counts' key now) → (ended ≡ false → Goes m flows new slots slots' counts counts' key now)
+        → AreKept keep (told_at m) content new slots' counts' (set pasts i (at_end app control_at now here))
+    one_kept new slots' counts' true is silences goes =
+        let s = silences refl in
+        let k = silenced_kept app control_at keep m tells now content flows slots counts key pasts stands new slots' counts' d s in
+        let same : s.conn.place ≡ i = eqb-true s.conn.place i (subst (λ o. is_at i o ≡ true) s.was is) in
+        let passes = place_by-passes (is_open_at key) pasts s.conn.place d k.there in
+        subst (λ j. AreKept keep (told_at m) content new slots' counts' (set pasts j (at_end app control_at now (get_or pasts j d)))) same
+        (subst (λ q. AreKept keep (told_at m) content new slots' counts' (set pasts s.conn.place q)) (sym (silent_ends app control_at now (get_or pasts s.conn.place d) key passes k.silent)) k.stands)
+    one_kept new slots' counts' false is silences goes =
+        let n = goes refl in
+        subst (λ l. AreKept keep (told_at m) content new slots' counts' l) (sym (stays (heard_at (found flows key) is n.heard (stands.placed key))))
+        (kept_same app control_at keep m tells now content flows slots counts key pasts stands new slots' counts' n)

@@ -13,6 +13,7 @@ pub mod Stored
 pub mod Continued
 pub mod Started
 pub mod Silencing
+pub mod Joining
 pub mod Presets
 pub mod Pieces
 pub mod Weighing

@@ -6,7 +6,13 @@ use Rattle.flow_table.specs.Key.{EndpointPair, same_key}
 use Rattle.flow_table.specs.Table.{Flows, found}
 use Rattle.flow_table.proofs.Keys.{same_key-equal}
 use Rattle.app_api.specs.App.{Meaning}
+use Rattle.native_filters.specs.declared.facts.Facts.{Facts}
+use Rattle.native_filters.specs.declared.facts.Hook.TheVariants.{Rcv}
+use Rattle.app_api.specs.Events.{TIMER}
 use Rattle.app_api.specs.declared.registration.Reg.{Reg}
+use Rattle.builtin_events.specs.Raises.{timer_raise}
+use Rattle.report_text.specs.declared.record.RecordKind.{RecordKind}
+use Rattle.report_text.specs.declared.record.RecordKind.TheVariants.{Conn, Orphan}
 use Rattle.shared_forest.specs.declared.store.Shared.{Shared}
 use Rattle.shared_forest.specs.Lists.{TreeLists}
 use Rattle.forest_versions.specs.State.{ControlState}
@@ -18,10 +24,10 @@ use Rattle.connection_core.specs.InForce.{told_at}
 use Rattle.lane_core.specs.declared.connection.Connection.{Connection}
 use Rattle.lane_core.specs.declared.slot.Slot.{Slot}
 use Rattle.lane_core.specs.Sight.{Segment, Sight, Tcp, Other, Moment, key_of_segment}
-use Rattle.lane_core.specs.Records.{RecordSoFar, VersionedPacket, opens, is_open_at, belongs_to, timer_raise_of, is_past, is_silent, ended_before}
+use Rattle.lane_core.specs.Records.{RecordSoFar, VersionedPacket, opens, is_open_at, belongs_to, timer_raise_of, is_past, is_silent, started_by, ended_before}
 use Rattle.lane_core.specs.Shown.{kind_of}
 use Rattle.lane_core.specs.Places.{place_of, IsSingle}
-use Rattle.lane_core.specs.Silences.{raise_in, IsSilent, IsHeard, silent_history, Silences}
+use Rattle.lane_core.specs.Silences.{raise_in, IsSilent, IsHeard, silent_history, Silences, Goes}
 use Rattle.lane_core.specs.Kept.{IsOpen, IsOpenAt, AreKept, slot_of, arrived}
 use Rattle.lane_core.proofs.Places.{place_by-within, place_by-passes, place_by-cleared, IsSingle-set}
 use Rattle.lane_core.proofs.Holding.{left_of_and, holds_before}
@@ -35,6 +41,11 @@ raise_by_kind : (sight : Sight) (count : ℕ) → opens sight ≡ true → raise
 unfolding kind_of
 raise_by_kind (Tcp opener) count opening = rw opening refl
 raise_by_kind (Other class) count opening = refl
+
+pub raise_by_facts : (kind : RecordKind) (count : ℕ) (facts : Facts) → facts ≡ (raise_in kind count).facts → record { hook = Rcv; event = TIMER; facts = facts } ≡ raise_in kind count
+unfolding timer_raise
+raise_by_facts (Conn client server) count facts is = ap (λ (f : Facts). record { hook = Rcv; event = TIMER; facts = f }) is
+raise_by_facts (Orphan class) count facts is = ap (λ (f : Facts). record { hook = Rcv; event = TIMER; facts = f }) is
 
 false_is_true : false ≡ true → ⊥
 false_is_true e = cc
@@ -167,6 +178,27 @@ module _ (app : Meaning) (control_at : ℕ → ControlState) (keep : Bool) (m : 
           let past = get_or pasts conn.place d in
           subst (λ l. place_of key l ≡ None) (sym (ends_before_is conn.place d at.0 (silent_as content conn past true (at.1 d) silent)))
           (place_by-cleared (is_open_at key) pasts conn.place (over past) (stands.single key) at.0 (ended_shut app control_at key past))
+
+    pub kept_same : (new : Flows Connection) (slots' : List Slot) (counts' : Counts) → Goes m old new slots slots' counts counts' key now → AreKept keep told content new slots' counts' pasts
+    kept_same new slots' counts' n =
+        subst (λ (c : Counts). AreKept keep told content new slots' c pasts) (sym n.counts_are)
+        (subst (λ ss. AreKept keep told content new ss counts pasts) (sym n.slots_are)
+        (subst (λ (f : Flows Connection). AreKept keep told content f slots counts pasts) (sym n.flows_are) stands))
+
+    -- before a packet of the key, whether one ended or not
+    pub before_kept : (new : Flows Connection) (slots' : List Slot) (counts' : Counts) (ended : Bool)
+        → (ended ≡ true → Silences app keep m content old new slots slots' counts counts' key now) → (ended ≡ false → Goes m old new slots slots' counts counts' key now)
+        → (version number : ℕ) (segment : Segment) → key ≡ key_of_segment segment
+        → AreKept keep told content new slots' counts' (map (ended_before app control_at (arrived version number now (Tcp segment))) pasts)
+    before_kept new slots' counts' true silences goes version number segment key_is =
+        let d = started_by app control_at (arrived version number now (Tcp segment)) in
+        let s = silences refl in
+        let k = silenced_kept new slots' counts' d s in
+        subst (λ l. AreKept keep told content new slots' counts' l) (sym (ends_before_is version number segment key_is s.conn.place d k.there k.silent)) k.stands
+    before_kept new slots' counts' false silences goes version number segment key_is =
+        let d = started_by app control_at (arrived version number now (Tcp segment)) in
+        let n = goes refl in
+        subst (λ l. AreKept keep told content new slots' counts' l) (sym (heard_before_is version number segment key_is n.heard d)) (kept_same new slots' counts' n)
 
   -- ---- where nothing is limited
 

@@ -59,6 +59,12 @@ never_failed (Some e) none = absurd (none e refl)
 none_is_heavy : {T : Type 0} → None ≡ Some Heavy → T
 none_is_heavy e = absurd (cc)
 
+-- entries that are kept at the end don't weigh too much
+pub is_light_at_end : (keep : Bool) (n m : ℕ) → (keep && nat_lt 134217728 n) ≡ false → keep ≡ true → n ≡ m → 134217728 < m → ⊥
+is_light_at_end true n m under keeps same over =
+    let over_limit : 134217728 < n = omega (arith, same, over) in grind (arith, common_steps)
+is_light_at_end false n m under keeps same over = absurd (cc)
+
 module _ (app : Meaning) (keep : Bool) (m : Versions) where
   -- what is in force now
   now_is : (cs : List Command) → StandsFor m app.presets cs → master app.presets cs m.version ≡ m.now

@@ -126,7 +126,7 @@ pub trait Recorder {
     fn has_failed(&self) -> bool
         ensures { IsTrue result ↔ (Self.failed self.now ≢ None) };
 
-    /// The records, their versions, and what is counted over them. `last` is the greatest moment of all packets of the
+    /// The records, their versions, and what is counted over them. `greatest` is the greatest moment of all packets of the
     /// capture, also of those that other lanes took; `None` where there is no packet. A connection that was silent for too
     /// long by then has ended, with its callbacks for the event `timer`.
     ///
@@ -135,13 +135,13 @@ pub trait Recorder {
     fn finish(
         self,
         alloc: Global,
-        last: Option<Moment>,
+        greatest: Option<Moment>,
         natives: &NativeBook,
     ) -> Result<LaneEnd, LaneError>
         ensures failed { (e : Error) → Self.failed self ≡ Some e → result ≡ Err e }
         ensures ended { Self.failed self ≡ None → IfOk result (λ end. (events : List LaneEvent) → Self.stands self events
-            → IsEnd (Self.keeps self) (Self.app self) (ended_run (Self.app self) events last) end.records end.versions end.callbacks end.drops) }
-        ensures light { OnOk result (Self.keeps self ≡ true → (events : List LaneEvent) → Self.stands self events → IsHeavyAtEnd (Self.app self) events last → ⊥) }
+            → IsEnd (Self.keeps self) (Self.app self) (ended_run (Self.app self) events greatest) end.records end.versions end.callbacks end.drops) }
+        ensures light { OnOk result (Self.keeps self ≡ true → (events : List LaneEvent) → Self.stands self events → IsHeavyAtEnd (Self.app self) events greatest → ⊥) }
         ensures heavy { Self.failed self ≡ None → result ≡ Err Error.Heavy → (Self.keeps self ≡ true)
-            × ((events : List LaneEvent) → Self.stands self events → IsHeavyAtEnd (Self.app self) events last) };
+            × ((events : List LaneEvent) → Self.stands self events → IsHeavyAtEnd (Self.app self) events greatest) };
 }

@@ -134,7 +134,7 @@ impl<A: App + Drop, F: Forests + Drop> Recorder for Lane<A, F> {
     fn finish(
         self,
         alloc: Global,
-        last: Option<Moment>,
+        greatest: Option<Moment>,
         natives: &NativeBook,
     ) -> Result<LaneEnd, LaneError> {
         let Lane {
@@ -148,7 +148,7 @@ impl<A: App + Drop, F: Forests + Drop> Recorder for Lane<A, F> {
             return Err(error);
         }
         let mut kept = kept;
-        close(alloc, &world, natives, &forests, &mut kept, last)?;
+        close(alloc, &world, natives, &forests, &mut kept, greatest)?;
         let Kept {
             slots,
             ledger,

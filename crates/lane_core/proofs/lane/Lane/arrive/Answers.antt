@@ -16,7 +16,7 @@ returns-in-Tcp-clause-stands g c =
     IfOk-weaker c.segment.result _ _ (λ verdict all.
     subst (λ (sight : Sight). AddsTo (g.A.App.meaning self.world.app) self.world.keep self.world.master
     (arrived self.world.master.version c.args.number (record { seconds = c.args.frame.now.seconds; fraction = c.args.frame.now.fraction }) sight)
-    (g.F.ForestView.content self.forests) (g.F.ForestView.interns self.forests) self.kept (g.F.ForestView.content new.forests) (g.F.ForestView.interns new.forests) new.kept verdict) is (all _))
+    (g.F.ForestView.content self.forests) (g.F.ForestView.interns self.forests) self.kept (g.F.ForestView.content new.forests) (g.F.ForestView.interns new.forests) new.kept verdict) is all)
     c.segment.ensures.stands
 
 pub returns-in-Other-clause-stands : goal.returns-in-Other-clause-stands
@@ -29,7 +29,7 @@ returns-in-Other-clause-stands g c =
     IfOk-weaker c.other.result _ _ (λ verdict all.
     subst (λ (sight : Sight). AddsTo (g.A.App.meaning self.world.app) self.world.keep self.world.master
     (arrived self.world.master.version c.args.number (record { seconds = c.args.frame.now.seconds; fraction = c.args.frame.now.fraction }) sight)
-    (g.F.ForestView.content self.forests) (g.F.ForestView.interns self.forests) self.kept (g.F.ForestView.content new.forests) (g.F.ForestView.interns new.forests) new.kept verdict) is (all _))
+    (g.F.ForestView.content self.forests) (g.F.ForestView.interns self.forests) self.kept (g.F.ForestView.content new.forests) (g.F.ForestView.interns new.forests) new.kept verdict) is all)
     c.other.ensures.stands
 
 pub returns-in-Tcp-clause-costs : goal.returns-in-Tcp-clause-costs
@@ -42,7 +42,7 @@ returns-in-Tcp-clause-costs g c =
     on_err_weaker c.segment.result (λ all.
     subst (λ (sight : Sight). CostsAtMost (g.A.App.meaning self.world.app) self.world.keep self.world.master
     (arrived self.world.master.version c.args.number (record { seconds = c.args.frame.now.seconds; fraction = c.args.frame.now.fraction }) sight)
-    (g.F.ForestView.content self.forests) self.kept (g.F.ForestView.interns self.forests) (g.F.ForestView.interns new.forests)) is (all _))
+    (g.F.ForestView.content self.forests) self.kept (g.F.ForestView.interns self.forests) (g.F.ForestView.interns new.forests)) is all)
     c.segment.ensures.costs
 
 pub returns-in-Other-clause-costs : goal.returns-in-Other-clause-costs
@@ -55,5 +55,5 @@ returns-in-Other-clause-costs g c =
     on_err_weaker c.other.result (λ all.
     subst (λ (sight : Sight). CostsAtMost (g.A.App.meaning self.world.app) self.world.keep self.world.master
     (arrived self.world.master.version c.args.number (record { seconds = c.args.frame.now.seconds; fraction = c.args.frame.now.fraction }) sight)
-    (g.F.ForestView.content self.forests) self.kept (g.F.ForestView.interns self.forests) (g.F.ForestView.interns new.forests)) is (all _))
+    (g.F.ForestView.content self.forests) self.kept (g.F.ForestView.interns self.forests) (g.F.ForestView.interns new.forests)) is all)
     c.other.ensures.costs

@@ -6,7 +6,7 @@ use Rattle.event_trees.specs.Edit.{IsForestOf}
 use Rattle.forest_versions.specs.State.{active}
 use Rattle.connection_core.specs.InForce.{told_at}
 use Rattle.lane_core.specs.declared.connection.Connection.{Connection}
-use Rattle.lane_core.specs.Records.{added}
+use Rattle.lane_core.specs.Records.{placed}
 use Rattle.lane_core.specs.Sight.{Tcp}
 use Rattle.ip6_views.specs.Seen.{seen}
 use Rattle.lane_core.specs.Kept.{AreKept, slot_of, arrived}
@@ -30,6 +30,7 @@ invariant_of-self g c =
       short = self.short;
       callbacks = omega (arith, c.requires.callbacks, c.start_one.ensures.rise.callbacks);
       weight = omega (arith, c.requires.weight, c.start_one.ensures.rise.weight);
+      few = self.few;
       dropped = self.dropped;
       numbered = self.numbered;
       first = c.start_one.ensures.kept.still_answered self.world.master.forest self.first;
@@ -49,6 +50,7 @@ invariant_of-self-in-Break-branch-2 g c =
       short = self.short;
       callbacks = omega (arith, c.requires.callbacks, c.start_one.ensures.rise.callbacks);
       weight = omega (arith, c.requires.weight, c.start_one.ensures.rise.weight);
+      few = omega (arith, c.requires.room, c.in_err-push.ensures.len);
       dropped = self.dropped;
       numbered = self.numbered;
       first = c.start_one.ensures.kept.still_answered self.world.master.forest self.first;
@@ -78,6 +80,7 @@ invariant_of-self-2 g c =
       short = all_kept (λ (x : Connection). x.flow.count ≤ self.next) c.keep.result self.kept.flows c.keep.new.flows c.args.key conn over c.keep.ensures.left c.keep.ensures.err count self.short;
       callbacks = omega (arith, c.requires.callbacks, c.start_one.ensures.rise.callbacks);
       weight = omega (arith, c.requires.weight, c.start_one.ensures.rise.weight);
+      few = omega (arith, c.requires.room, c.in_ok-push.ensures.len);
       dropped = self.dropped;
       numbered = self.numbered;
       first = c.start_one.ensures.kept.still_answered m.forest self.first;
@@ -85,7 +88,7 @@ invariant_of-self-2 g c =
     }
 
 pub returns-clause-stands : goal.returns-clause-stands
-returns-clause-stands g c = λ moment control_at pasts tells now stands.
+returns-clause-stands g c = λ control_at pasts tells now stands.
     let self = c.args.self.now in
     let old = self.forests in
     let new = c.start_one.new.forests in
@@ -97,36 +100,36 @@ returns-clause-stands g c = λ moment control_at pasts tells now stands.
     let kept = self.kept in
     let counts = c.start_one.new.ledger.counts in
     let place = c.len.ensures ∙ kept.slots.ok.0 ∙ ap length stands.shown ∙ length-map pasts (slot_of keep) in
-    let opens = subst (λ n. Opens app keep m (g.F.ForestView.content new) (g.F.ForestView.interns old) (g.F.ForestView.interns new) kept.ledger.counts counts n c.args.number segment opened.conn opened.slot opened.step)
+    let opens = subst (λ n. Opens app keep m (g.F.ForestView.content new) (g.F.ForestView.interns old) (g.F.ForestView.interns new) kept.ledger.counts counts n c.args.number c.args.moment segment opened.conn opened.slot opened.step)
     place c.in_ok-opened.ensures.stands in
     let s = opening_started app control_at keep m (g.F.ForestView.content old) (g.F.ForestView.content new) (g.F.ForestView.interns old) (g.F.ForestView.interns new) kept.flows c.keep.new.flows kept.slots.items
-    opened.conn opened.slot kept.ledger.counts counts c.args.key c.args.number moment segment opened.step pasts tells now
+    opened.conn opened.slot kept.ledger.counts counts c.args.key c.args.number c.args.moment segment opened.step pasts tells now
     (contents_kept g.F.ForestView.answered g.F.ForestView.content old new kept.flows c.start_one.ensures.kept self.answered) stands c.requires.key c.requires.absent c.requires.opens opens c.in_ok-keep.ensures.left in
-    let p = arrived m.version c.args.number moment (Tcp segment) in
+    let p = arrived m.version c.args.number c.args.moment (Tcp segment) in
     record {
-      stands = subst (λ ss. AreKept keep (told_at m) (g.F.ForestView.content new) c.keep.new.flows ss counts (added app control_at p pasts)) (sym c.in_ok-push.ensures.items) s.stands;
+      stands = subst (λ ss. AreKept keep (told_at m) (g.F.ForestView.content new) c.keep.new.flows ss counts (placed app control_at p pasts)) (sym c.in_ok-push.ensures.items) s.stands;
       interned = s.interned;
       verdict_is = s.verdict_is;
       dropped = s.dropped;
     }
 
 pub returns-in_err-opened-clause-costs : goal.returns-in_err-opened-clause-costs
-returns-in_err-opened-clause-costs g c = on_err_always c.from_residual.result (λ moment control_at pasts tells now stands.
+returns-in_err-opened-clause-costs g c = on_err_always c.from_residual.result (λ control_at pasts tells now stands.
     let self = c.args.self.now in
     let kept = self.kept in
     opening_costs (g.A.App.meaning self.world.app) control_at self.world.keep self.world.master (g.F.ForestView.content self.forests) (g.F.ForestView.interns self.forests) (g.F.ForestView.interns c.start_one.new.forests)
-    kept.flows kept.slots.items kept.ledger.counts c.args.key c.args.number moment (seen c.args.segment.now) pasts now stands c.requires.key c.requires.absent c.requires.opens c.start_one.ensures.interned)
+    kept.flows kept.slots.items kept.ledger.counts c.args.key c.args.number c.args.moment (seen c.args.segment.now) pasts now stands c.requires.key c.requires.absent c.requires.opens c.start_one.ensures.interned)
 
 pub returns-in_err-push-clause-costs : goal.returns-in_err-push-clause-costs
-returns-in_err-push-clause-costs g c = on_err_always c.from_residual-in_err-push.result (λ moment control_at pasts tells now stands.
+returns-in_err-push-clause-costs g c = on_err_always c.from_residual-in_err-push.result (λ control_at pasts tells now stands.
     let self = c.args.self.now in
     let kept = self.kept in
     opening_costs (g.A.App.meaning self.world.app) control_at self.world.keep self.world.master (g.F.ForestView.content self.forests) (g.F.ForestView.interns self.forests) (g.F.ForestView.interns c.start_one.new.forests)
-    kept.flows kept.slots.items kept.ledger.counts c.args.key c.args.number moment (seen c.args.segment.now) pasts now stands c.requires.key c.requires.absent c.requires.opens c.start_one.ensures.interned)
+    kept.flows kept.slots.items kept.ledger.counts c.args.key c.args.number c.args.moment (seen c.args.segment.now) pasts now stands c.requires.key c.requires.absent c.requires.opens c.start_one.ensures.interned)
 
 pub returns-in_err-keep-clause-costs : goal.returns-in_err-keep-clause-costs
-returns-in_err-keep-clause-costs g c = on_err_always c.from_residual-in_err-keep.result (λ moment control_at pasts tells now stands.
+returns-in_err-keep-clause-costs g c = on_err_always c.from_residual-in_err-keep.result (λ control_at pasts tells now stands.
     let self = c.args.self.now in
     let kept = self.kept in
     opening_costs (g.A.App.meaning self.world.app) control_at self.world.keep self.world.master (g.F.ForestView.content self.forests) (g.F.ForestView.interns self.forests) (g.F.ForestView.interns c.start_one.new.forests)
-    kept.flows kept.slots.items kept.ledger.counts c.args.key c.args.number moment (seen c.args.segment.now) pasts now stands c.requires.key c.requires.absent c.requires.opens c.start_one.ensures.interned)
+    kept.flows kept.slots.items kept.ledger.counts c.args.key c.args.number c.args.moment (seen c.args.segment.now) pasts now stands c.requires.key c.requires.absent c.requires.opens c.start_one.ensures.interned)

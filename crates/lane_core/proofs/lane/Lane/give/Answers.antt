@@ -20,6 +20,7 @@ invariant_of-self g c =
       short = self.short;
       callbacks = self.callbacks;
       weight = self.weight;
+      few = self.few;
       dropped = self.dropped;
       numbered = self.numbered;
       first = c.give_to.ensures.answered;

@@ -1,7 +1,7 @@
 use Rattle.std.proofs.Common.{[], sym, ap, subst, ◌∙◌, arith}
 use Rattle.std.specs.Option.{option_copied}
 use Rattle.connection_core.specs.InForce.{told_at}
-use Rattle.lane_core.specs.Records.{added}
+use Rattle.lane_core.specs.Records.{placed}
 use Rattle.lane_core.specs.Kept.{AreKept, arrived}
 use Rattle.lane_core.specs.Steps.{IsLone}
 use Rattle.report_text.specs.declared.record.RecordKind.TheVariants.{Orphan}
@@ -19,6 +19,7 @@ invariant_of-self-2 g c =
       short = self.short;
       callbacks = omega (arith, c.requires.callbacks, c.lone_at.ensures.rise.callbacks);
       weight = omega (arith, c.requires.weight, c.lone_at.ensures.rise.weight);
+      few = let len = c.push.ensures.len in omega (arith, c.requires.room, len);
       dropped = self.dropped;
       numbered = self.numbered;
       first = self.first;
@@ -43,7 +44,7 @@ returns-clause-stands g c = λ control_at pasts moment sight stray tells now sta
     c.lone_at.new.ledger.counts c.args.number moment sight class head c.in_ok-verdict.verdict pasts now stray stands slot lone in
     let p = arrived m.version c.args.number moment sight in
     record {
-      stands = subst (λ ss. AreKept keep (told_at m) (g.F.ForestView.content self.forests) kept.flows ss c.lone_at.new.ledger.counts (added app control_at p pasts)) (sym c.in_ok-push.ensures.items) s.stands;
+      stands = subst (λ ss. AreKept keep (told_at m) (g.F.ForestView.content self.forests) kept.flows ss c.lone_at.new.ledger.counts (placed app control_at p pasts)) (sym c.in_ok-push.ensures.items) s.stands;
       interned = s.interned;
       verdict_is = s.verdict_is;
       dropped = s.dropped;

@@ -1,19 +1,24 @@
-use Rattle.std.proofs.Common.{◌∙◌, ℕ, List, map, ap}
+use Rattle.std.proofs.Common.{◌∙◌, ℕ, List, map, sym, ap}
 use Rattle.lane_core.specs.declared.slot.Slot.{Slot}
 use Rattle.lane_core.specs.End.{ended}
-use Rattle.lane_core.specs.Run.{lane_run}
+use Rattle.lane_core.specs.Records.{ended_at}
+use Rattle.lane_core.specs.Run.{control_of, lane_run, ended_run}
+use Rattle.lane_core.proofs.Ended.{ends_at, drops-kept}
 use Rattle.lane_core.proofs.Ending.{all_ended, versions_named}
+use Rattle.lane_core.proofs.Standing.{is_light_at_end}
 use Rattle.lane_core.proofs.lane.calls.LaneRecorder.finish.Goals as goal
 
 pub returns-clause-ended : goal.returns-clause-ended
 returns-clause-ended g c = λ good events r.
     let app = g.A.App.meaning c.args.self.world.app in
     let keep = c.args.self.world.keep in
-    let kept = r.records good in
-    let so_far = lane_run app events in
+    let last = c.args.greatest in
+    let stands = c.in_ok-close.ensures.ends (control_of app events) (lane_run app events) (r.commands good).told (r.records good) in
+    let so_far = ended_run app events last in
     record {
-      records_are = c.in_ok-records.ensures ∙ ap (map (ended app)) kept.shown ∙ all_ended keep app so_far;
-      versions_are = c.in_ok-versions.ensures ∙ ap (λ (ss : List Slot). map {B = ℕ × ℕ} (λ s. (s.name, s.version)) ss) (c.deref.ensures.value ∙ kept.shown) ∙ versions_named keep so_far;
-      callbacks_are = kept.counted;
-      drops_are = r.dropped good;
+      records_are = c.in_ok-records.ensures ∙ ap (map (ended app)) stands.shown ∙ all_ended keep app so_far;
+      versions_are = c.in_ok-versions.ensures ∙ ap (λ (ss : List Slot). map {B = ℕ × ℕ} (λ s. (s.name, s.version)) ss) (c.deref.ensures.value ∙ stands.shown) ∙ versions_named keep so_far;
+      callbacks_are = stands.counted;
+      drops_are = c.close.ensures.dropped ∙ r.dropped good
+          ∙ sym (drops-kept app (control_of app events) (ended_at app (control_of app events) last) (ends_at app (control_of app events) last) (lane_run app events));
     }
