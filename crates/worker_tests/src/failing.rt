@@ -80,13 +80,13 @@ impl<L: Recorder + Drop> Recorder for Failing<L> {
     fn finish(
         self,
         alloc: Global,
-        last: Option<Moment>,
+        greatest: Option<Moment>,
         natives: &NativeBook,
     ) -> Result<LaneEnd, LaneError> {
         if self.has_failed {
             return Err(LaneError::NoMemory);
         }
         let Failing { inner, .. } = self;
-        inner.finish(alloc, last, natives)
+        inner.finish(alloc, greatest, natives)
     }
 }
