@@ -18,7 +18,7 @@ use Rattle.control_script.specs.Versions.{floor, ceil}
 use Rattle.lane_core.specs.Sight.{Arrival, arrivals}
 use Rattle.lane_core.specs.Records.{VersionedPacket, RecordSoFar, records, versioned}
 use Rattle.lane_core.specs.Shown.{record_of, weight}
-use Rattle.worker_laws.specs.Members.{records as members}
+use Rattle.worker_laws.specs.Members.{Endings, records as members}
 use Rattle.worker_laws.specs.Allowed.{IsAllowed, versions_of as versions_in}
 use Rattle.worker_laws.specs.Rising.{Rises}
 use Rattle.worker_laws.specs.Whole.{in_force, over_under, run_under, verdicts_under, verdicts_from, IsAllowedRun}
@@ -35,8 +35,8 @@ use Rattle.mos_run.specs.Laws.{ceilings_of}
 -- ---- what is said of all lists
 
 abbrev pub CeilingsAllowed : Type 0
-CeilingsAllowed = (least most : ℕ → ℕ) (over : ℕ → List Arrival → Bool) (lane : EndpointPair → ℕ) (packets : List Arrival) → ((n : ℕ) → least n ≤ most n)
-    → ((n m : ℕ) → n ≤ m → most n ≤ most m) → Rises (map (λ a. a.number) packets) → IsAllowed least most over lane packets (versions_in (members over (versioned most packets)))
+CeilingsAllowed = (least most : ℕ → ℕ) (endings : Endings) (lane : EndpointPair → ℕ) (packets : List Arrival) → ((n : ℕ) → least n ≤ most n)
+    → ((n m : ℕ) → n ≤ m → most n ≤ most m) → Rises (map (λ a. a.number) packets) → IsAllowed least most endings lane packets (versions_in (members endings (versioned most packets)))
 
 abbrev pub CeilingsRise : Type 0
 CeilingsRise = (script : List Stamped) (n m : ℕ) → n ≤ m → ceil script n ≤ ceil script m

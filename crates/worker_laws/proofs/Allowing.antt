@@ -8,7 +8,7 @@ use Rattle.std.proofs.lemmas.List.Elements.{All-nil, All-cons, All-head, All-tai
 use Rattle.flow_table.specs.Key.{EndpointPair}
 use Rattle.lane_core.specs.Sight.{Arrival}
 use Rattle.lane_core.specs.Records.{VersionedPacket, versioned}
-use Rattle.worker_laws.specs.Members.{name_of, records_from, records}
+use Rattle.worker_laws.specs.Members.{Endings, name_of, records_from, records}
 use Rattle.worker_laws.specs.Lanes.{lane_of, part}
 use Rattle.worker_laws.specs.Named.{named_from, records_under}
 use Rattle.worker_laws.specs.Judged.{judged_from}
@@ -38,32 +38,32 @@ all_of_parts lane P (p ∷ ps) each =
     All-cons P p ps (All-head P p (filter (of_lane lane (lane_of lane p.arrival.sight)) ps) here)
     (all_of_parts lane P ps (λ l. all_behind P p (filter (of_lane lane l) ps) (lane_of lane p.arrival.sight == l) (each l)))
 
-module _ (over : ℕ → List Arrival → Bool) (lane : EndpointPair → ℕ) (packets : List Arrival) (parts : ℕ → List VersionedPacket) (j : IsJoined lane packets parts) where
-  listed_same : records_under over (versions_of (records over j.stamped)) packets ≡ records over j.stamped
+module _ (endings : Endings) (lane : EndpointPair → ℕ) (packets : List Arrival) (parts : ℕ → List VersionedPacket) (j : IsJoined lane packets parts) where
+  listed_same : records_under endings (versions_of (records endings j.stamped)) packets ≡ records endings j.stamped
   listed_same =
-      let vs = versions_of (records over j.stamped) in
-      ap (λ rest. records_from over [] (named_from over vs [] rest)) (sym j.packets) ∙ named_again over vs [] j.stamped refl
+      let vs = versions_of (records endings j.stamped) in
+      ap (λ rest. records_from endings [] (named_from endings vs [] rest)) (sym j.packets) ∙ named_again endings vs [] j.stamped refl
 
-  lane_records : (l : ℕ) → part lane l (records over j.stamped) ≡ records over (parts l)
-  lane_records l = sym (restricted over lane (λ k. k == l) [] j.stamped) ∙ ap (λ ps. records over ps) (j.of_lanes l)
+  lane_records : (l : ℕ) → part lane l (records endings j.stamped) ≡ records endings (parts l)
+  lane_records l = sym (restricted endings lane (λ k. k == l) [] j.stamped) ∙ ap (λ ps. records endings ps) (j.of_lanes l)
 
-  pub lanes_are_runs : AreRuns over lane packets parts (versions_of (records over j.stamped))
+  pub lanes_are_runs : AreRuns endings lane packets parts (versions_of (records endings j.stamped))
   lanes_are_runs = record {
     parts_are = λ l. ap (part lane l) listed_same ∙ lane_records l;
     verdicts_are = λ judge l.
-        let vs = versions_of (records over j.stamped) in
-        ap (λ rest. judged_part lane l (judged_from over judge [] (named_from over vs [] rest))) (sym j.packets)
-        ∙ ap (judged_part lane l) (judged_again over judge vs [] j.stamped refl)
-        ∙ sym (judged_restricted over lane (λ k. k == l) judge [] j.stamped) ∙ ap (λ ps. judged_from over judge [] ps) (j.of_lanes l);
+        let vs = versions_of (records endings j.stamped) in
+        ap (λ rest. judged_part lane l (judged_from endings judge [] (named_from endings vs [] rest))) (sym j.packets)
+        ∙ ap (judged_part lane l) (judged_again endings judge vs [] j.stamped refl)
+        ∙ sym (judged_restricted endings lane (λ k. k == l) judge [] j.stamped) ∙ ap (λ ps. judged_from endings judge [] ps) (j.of_lanes l);
   }
 
-  pub joined_allowed : (floor ceil : ℕ → ℕ) → ((l : ℕ) → AreStamped floor ceil (parts l)) → IsAllowed floor ceil over lane packets (versions_of (records over j.stamped))
+  pub joined_allowed : (floor ceil : ℕ → ℕ) → ((l : ℕ) → AreStamped floor ceil (parts l)) → IsAllowed floor ceil endings lane packets (versions_of (records endings j.stamped))
   joined_allowed floor ceil stamped = record {
-    count = length-map (records over j.stamped) (λ m. m.version) ∙ ap length (sym listed_same);
+    count = length-map (records endings j.stamped) (λ m. m.version) ∙ ap length (sym listed_same);
     within = subst (λ ms. All (λ m. IsWithin floor ceil m.version (name_of m)) ms) (sym listed_same)
-        (all_of_records over (IsWithin floor ceil) j.stamped
+        (all_of_records endings (IsWithin floor ceil) j.stamped
         (all_of_parts lane (λ p. IsWithin floor ceil p.version p.arrival.number) j.stamped (λ l. subst (All (λ p. IsWithin floor ceil p.version p.arrival.number)) (sym (j.of_lanes l)) (stamped l).within)));
-    along = λ l. subst (λ ms. NeverFalls (versions_of ms)) (sym (ap (part lane l) listed_same ∙ lane_records l)) (versions_along over (parts l) (stamped l).along);
+    along = λ l. subst (λ ms. NeverFalls (versions_of ms)) (sym (ap (part lane l) listed_same ∙ lane_records l)) (versions_along endings (parts l) (stamped l).along);
   }
 
 -- a lane's front, and then its other packets each with its ceiling

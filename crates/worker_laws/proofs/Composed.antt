@@ -1,5 +1,5 @@
 -- The laws on shares, put together.
-use Rattle.std.proofs.Common.{◌≡◌, ◌<◌, ◌≤◌, ◌≢◌, ℕ, Bool, true, false, cond, List, [], ◌∷◌, ◌++◌, refl, sym, ap, ◌∙◌, subst, map, arith}
+use Rattle.std.proofs.Common.{◌≡◌, ◌<◌, ◌≤◌, ◌≢◌, ℕ, Bool, true, false, cond, Option, List, [], ◌∷◌, ◌++◌, refl, sym, ap, ◌∙◌, subst, map, arith}
 use Rattle.std.specs.Prelude.{◌==◌, filter}
 use Rattle.std.specs.List.{All}
 use Rattle.std.proofs.lemmas.List.{map-append}
@@ -10,9 +10,9 @@ use Rattle.flow_table.specs.Key.{EndpointPair}
 use Rattle.app_api.specs.declared.reaction.Verdict.{Verdict}
 use Rattle.forest_versions.specs.State.{ControlState}
 use Rattle.app_api.specs.App.{Meaning}
-use Rattle.lane_core.specs.Sight.{Arrival}
-use Rattle.lane_core.specs.Records.{VersionedPacket, versioned, records as lane_records}
-use Rattle.worker_laws.specs.Members.{Members, name_of, joined_by, records}
+use Rattle.lane_core.specs.Sight.{Moment, Arrival}
+use Rattle.lane_core.specs.Records.{VersionedPacket, versioned, records as lane_records, ended_at}
+use Rattle.worker_laws.specs.Members.{Endings, Members, name_of, joined_by, ended_by_silence, records}
 use Rattle.worker_laws.specs.Lanes.{lane_of, share, part}
 use Rattle.worker_laws.specs.Named.{named, records_under}
 use Rattle.worker_laws.specs.Judged.{judged}
@@ -27,7 +27,7 @@ use Rattle.worker_laws.proofs.Rising.{names_of, numbers_of}
 use Rattle.worker_laws.proofs.Allowing.{lanes_are_runs, joined_allowed, continued_stamped}
 use Rattle.worker_laws.proofs.Counting.{more_packets, part_at_most}
 use Rattle.worker_laws.proofs.Judging.{judged_more}
-use Rattle.worker_laws.proofs.Histories.{same_records, same_part}
+use Rattle.worker_laws.proofs.Histories.{same_records, same_part, shown_first, final, final_first, ended_records}
 
 -- two maps of versions that agree on some packets
 same_versions : (u v : ℕ → ℕ) (ps : List Arrival) → All (λ a. u a.number ≡ v a.number) ps → versioned u ps ≡ versioned v ps
@@ -60,31 +60,40 @@ module _ (lane : EndpointPair → ℕ) (l : ℕ) (u v : ℕ → ℕ) (ps : List 
   same_share : versioned u (share lane l ps) ≡ filter (of_lane lane l) (versioned v ps)
   same_share = same_versions u v (share lane l ps) agree ∙ versioned_share lane l v ps
 
-  pub share_records : (over : ℕ → List Arrival → Bool) → records over (versioned u (share lane l ps)) ≡ part lane l (records over (versioned v ps))
-  share_records over = ap (λ qs. records over qs) same_share ∙ restricted over lane (λ k. k == l) [] (versioned v ps)
+  pub share_records : (endings : Endings) → records endings (versioned u (share lane l ps)) ≡ part lane l (records endings (versioned v ps))
+  share_records endings = ap (λ qs. records endings qs) same_share ∙ restricted endings lane (λ k. k == l) [] (versioned v ps)
 
-  pub share_verdicts : (over : ℕ → List Arrival → Bool) (judge : ℕ → List Arrival → Arrival → Verdict)
-      → judged over judge (versioned u (share lane l ps)) ≡ judged_part lane l (judged over judge (versioned v ps))
-  share_verdicts over judge = ap (λ qs. judged over judge qs) same_share ∙ judged_restricted over lane (λ k. k == l) judge [] (versioned v ps)
+  pub share_verdicts : (endings : Endings) (judge : ℕ → List Arrival → Arrival → Verdict)
+      → judged endings judge (versioned u (share lane l ps)) ≡ judged_part lane l (judged endings judge (versioned v ps))
+  share_verdicts endings judge = ap (λ qs. judged endings judge qs) same_share ∙ judged_restricted endings lane (λ k. k == l) judge [] (versioned v ps)
 
   pub share_histories : (app : Meaning) (control_at : ℕ → ControlState)
       → lane_records app control_at (versioned u (share lane l ps)) ≡ filter (λ r. lane_of lane r.first.sight == l) (lane_records app control_at (versioned v ps))
   share_histories app control_at =
       same_records app control_at [] (versioned u (share lane l ps))
       ∙ ap (map (with_history app control_at)) (share_records (over_by app control_at))
-      ∙ sym (same_part app control_at (λ sight. lane_of lane sight == l) (records (over_by app control_at) (versioned v ps)))
+      ∙ sym (same_part (with_history app control_at) (shown_first app control_at) (λ sight. lane_of lane sight == l) (records (over_by app control_at) (versioned v ps)))
       ∙ ap (filter (λ r. lane_of lane r.first.sight == l)) (sym (same_records app control_at [] (versioned v ps)))
 
-pub one_list : (over : ℕ → List Arrival → Bool) (lane : EndpointPair → ℕ) (packets : List Arrival) (parts : ℕ → List VersionedPacket)
-    → ((l : ℕ) → arrivals_of (parts l) ≡ share lane l packets) → (vs : List ℕ) × AreRuns over lane packets parts vs
-one_list over lane packets parts are = let j = lanes_join lane packets parts are in (versions_of (records over j.stamped), lanes_are_runs over lane packets parts j)
+  pub share_at_end : (app : Meaning) (control_at : ℕ → ControlState) (last : Option Moment)
+      → map (ended_at app control_at last) (lane_records app control_at (versioned u (share lane l ps)))
+      ≡ filter (λ r. lane_of lane r.first.sight == l) (map (ended_at app control_at last) (lane_records app control_at (versioned v ps)))
+  share_at_end app control_at last =
+      ended_records app control_at last (versioned u (share lane l ps))
+      ∙ ap (map (final app control_at last)) (share_records (over_by app control_at))
+      ∙ sym (same_part (final app control_at last) (final_first app control_at last) (λ sight. lane_of lane sight == l) (records (over_by app control_at) (versioned v ps)))
+      ∙ ap (filter (λ r. lane_of lane r.first.sight == l)) (sym (ended_records app control_at last (versioned v ps)))
 
-pub one_allowed : (floor ceil : ℕ → ℕ) (over : ℕ → List Arrival → Bool) (lane : EndpointPair → ℕ) (packets : List Arrival) (parts : ℕ → List VersionedPacket)
+pub one_list : (endings : Endings) (lane : EndpointPair → ℕ) (packets : List Arrival) (parts : ℕ → List VersionedPacket)
+    → ((l : ℕ) → arrivals_of (parts l) ≡ share lane l packets) → (vs : List ℕ) × AreRuns endings lane packets parts vs
+one_list endings lane packets parts are = let j = lanes_join lane packets parts are in (versions_of (records endings j.stamped), lanes_are_runs endings lane packets parts j)
+
+pub one_allowed : (floor ceil : ℕ → ℕ) (endings : Endings) (lane : EndpointPair → ℕ) (packets : List Arrival) (parts : ℕ → List VersionedPacket)
     → ((l : ℕ) → arrivals_of (parts l) ≡ share lane l packets) → ((l : ℕ) → AreStamped floor ceil (parts l))
-    → (vs : List ℕ) × IsAllowed floor ceil over lane packets vs × AreRuns over lane packets parts vs
-one_allowed floor ceil over lane packets parts are stamped =
+    → (vs : List ℕ) × IsAllowed floor ceil endings lane packets vs × AreRuns endings lane packets parts vs
+one_allowed floor ceil endings lane packets parts are stamped =
     let j = lanes_join lane packets parts are in
-    (versions_of (records over j.stamped), joined_allowed over lane packets parts j floor ceil stamped, lanes_are_runs over lane packets parts j)
+    (versions_of (records endings j.stamped), joined_allowed endings lane packets parts j floor ceil stamped, lanes_are_runs endings lane packets parts j)
 
 -- the numbers of a share rise as those of all packets do
 share_above : (lane : EndpointPair → ℕ) (l n : ℕ) (ps : List Arrival) → All (λ k. n < k) (map (λ a. a.number) ps) → All (λ k. n < k) (map (λ a. a.number) (share lane l ps))
@@ -110,34 +119,34 @@ numbers_of_arrivals : (ps : List VersionedPacket) → map (λ a. a.number) (arri
 numbers_of_arrivals [] = refl
 numbers_of_arrivals (p ∷ ps) = ap (λ l. p.arrival.number ∷ l) (numbers_of_arrivals ps)
 
-module _ (floor ceil : ℕ → ℕ) (between : (n : ℕ) → floor n ≤ ceil n) (rises : (n m : ℕ) → n ≤ m → ceil n ≤ ceil m) (over : ℕ → List Arrival → Bool) (lane : EndpointPair → ℕ) (packets : List Arrival) (numbered : Rises (map (λ a. a.number) packets)) where
+module _ (floor ceil : ℕ → ℕ) (between : (n : ℕ) → floor n ≤ ceil n) (rises : (n m : ℕ) → n ≤ m → ceil n ≤ ceil m) (endings : Endings) (lane : EndpointPair → ℕ) (packets : List Arrival) (numbered : Rises (map (λ a. a.number) packets)) where
   -- lanes that ran fronts of their shares: the ceilings go on
   pub continued : (parts : ℕ → List VersionedPacket) (rest : ℕ → List Arrival) → ((l : ℕ) → arrivals_of (parts l) ++ rest l ≡ share lane l packets) → ((l : ℕ) → AreStamped floor ceil (parts l))
-      → (vs : List ℕ) × IsAllowed floor ceil over lane packets vs × AreRuns over lane packets (λ l. parts l ++ versioned ceil (rest l)) vs
+      → (vs : List ℕ) × IsAllowed floor ceil endings lane packets vs × AreRuns endings lane packets (λ l. parts l ++ versioned ceil (rest l)) vs
   continued parts rest are stamped =
-      one_allowed floor ceil over lane packets (λ l. parts l ++ versioned ceil (rest l))
+      one_allowed floor ceil endings lane packets (λ l. parts l ++ versioned ceil (rest l))
       (λ l. map-append (λ p. p.arrival) (parts l) (versioned ceil (rest l)) ∙ ap (λ x. arrivals_of (parts l) ++ x) (arrivals_versioned ceil (rest l)) ∙ are l)
       (λ l. continued_stamped floor ceil between rises (parts l) (rest l)
       (subst Rises (ap (map (λ a. a.number)) (sym (are l)) ∙ map-append (λ a. a.number) (arrivals_of (parts l)) (rest l) ∙ ap (λ x. x ++ map (λ a. a.number) (rest l)) (numbers_of_arrivals (parts l))) (share_rises lane l packets numbered))
       (stamped l))
 
   -- where none ran any packet, all versions are ceilings
-  pub ceilings_allowed : IsAllowed floor ceil over lane packets (versions_of (records over (versioned ceil packets)))
+  pub ceilings_allowed : IsAllowed floor ceil endings lane packets (versions_of (records endings (versioned ceil packets)))
   ceilings_allowed =
-      joined_allowed over lane packets (λ l. versioned ceil (share lane l packets))
+      joined_allowed endings lane packets (λ l. versioned ceil (share lane l packets))
       (record { stamped = versioned ceil packets; packets = arrivals_versioned ceil packets; of_lanes = λ l. sym (versioned_share lane l ceil packets) }) floor ceil
       (λ l. continued_stamped floor ceil between rises [] (share lane l packets) (share_rises lane l packets numbered) (record { within = All-nil (λ p. IsWithin floor ceil p.version p.arrival.number); along = nothing_falls }))
 
-module _ (over : ℕ → List Arrival → Bool) (lane : EndpointPair → ℕ) (packets : List Arrival) (parts more : ℕ → List VersionedPacket) (vs : List ℕ) (runs : AreRuns over lane packets (λ l. parts l ++ more l) vs) where
+module _ (endings : Endings) (lane : EndpointPair → ℕ) (packets : List Arrival) (parts more : ℕ → List VersionedPacket) (vs : List ℕ) (runs : AreRuns endings lane packets (λ l. parts l ++ more l) vs) where
   -- what a lane ran lies within what the list makes of all packets
-  pub front_weighs : (count : Members → ℕ) → ((a : Arrival) (m : Members) → count m ≤ count (joined_by a m)) → (l : ℕ) → total count (records over (parts l)) ≤ total count (records_under over vs packets)
-  front_weighs count grows l =
-      let most = more_packets over count grows [] (parts l) (more l) in
+  pub front_weighs : (count : Members → ℕ) → ((a : Arrival) (m : Members) → count m ≤ count (joined_by a m)) → ((m : Members) → count m ≤ count (ended_by_silence m)) → (l : ℕ) → total count (records endings (parts l)) ≤ total count (records_under endings vs packets)
+  front_weighs count grows ends l =
+      let most = more_packets endings count grows ends [] (parts l) (more l) in
       let is = ap (total count) (runs.parts_are l) in
-      let all = part_at_most lane count l (records_under over vs packets) in omega arith
+      let all = part_at_most lane count l (records_under endings vs packets) in omega arith
 
-  pub front_verdicts : (judge : ℕ → List Arrival → Arrival → Verdict) (l : ℕ) → IsPrefix (judged over judge (parts l)) (judged_part lane l (judged over judge (named over vs packets)))
-  front_verdicts judge l = (_, judged_more over judge [] (parts l) (more l) ∙ sym (runs.verdicts_are judge l))
+  pub front_verdicts : (judge : ℕ → List Arrival → Arrival → Verdict) (l : ℕ) → IsPrefix (judged endings judge (parts l)) (judged_part lane l (judged endings judge (named endings vs packets)))
+  front_verdicts judge l = (_, judged_more endings judge [] (parts l) (more l) ∙ sym (runs.verdicts_are judge l))
 
 -- records of different lanes have different names
 module _ (lane : EndpointPair → ℕ) where

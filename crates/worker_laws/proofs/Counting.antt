@@ -1,13 +1,13 @@
 -- Counts of records: by lanes, and with more packets.
 use Rattle.std.proofs.Common.{◌≡◌, ◌<◌, ◌≤◌, ◌+◌, ℕ, zero, suc, Bool, true, false, cond, List, [], ◌∷◌, ◌++◌, refl, ap, arith, ⊎_elim}
-use Rattle.std.specs.Prelude.{if◌then◌else◌}
+use Rattle.std.specs.Prelude.{if◌then◌else◌, ◌&&◌}
 use Rattle.std.specs.List.{All}
 use Rattle.std.proofs.lemmas.Bool.{cases_eq, eq-eqb, ne_eqb}
 use Rattle.std.proofs.lemmas.List.Elements.{All-head, All-tail}
 use Rattle.flow_table.specs.Key.{EndpointPair}
 use Rattle.lane_core.specs.Sight.{Arrival}
 use Rattle.lane_core.specs.Records.{VersionedPacket}
-use Rattle.worker_laws.specs.Members.{Members, joined_by, takes, added, records_from}
+use Rattle.worker_laws.specs.Members.{Endings, Members, packets_of, joined_by, ended_by_silence, takes, found, placed, added, records_from}
 use Rattle.worker_laws.specs.Lanes.{lane_of, part}
 use Rattle.worker_laws.specs.Counted.{total, total_of_lanes}
 
@@ -54,23 +54,37 @@ module _ (lane : EndpointPair → ℕ) (count : Members → ℕ) where
       let rest = part_at_most l ms in
       ⊎_elim (λ own. let e = part_here l m ms own in omega arith) (λ other. let e = part_there l m ms other in omega arith) (cases_eq (lane_of lane m.first.sight) l)
 
-module _ (over : ℕ → List Arrival → Bool) (count : Members → ℕ) (grows : (a : Arrival) (m : Members) → count m ≤ count (joined_by a m)) where
+module _ (endings : Endings) (count : Members → ℕ) (grows : (a : Arrival) (m : Members) → count m ≤ count (joined_by a m)) (ends : (m : Members) → count m ≤ count (ended_by_silence m)) where
+  ends_here : (b : Bool) (m : Members) → count m ≤ count (if b then ended_by_silence m else m)
+  ends_here true m = ends m
+  ends_here false m = omega arith
+
+  more_found : (a : Arrival) (ms : List Members) → total count ms ≤ total count (found endings a ms)
+  unfolding total
+  more_found a [] = omega arith
+  more_found a (m ∷ ms) =
+      let here = ends_here (takes endings a.sight m && endings.is_silent m.version (packets_of m) a.moment) m in
+      let rest = more_found a ms in omega arith
+
   more_here : (p : VersionedPacket) (m : Members) (ms after : List Members) (b : Bool) → total count ms ≤ total count after → total count (m ∷ ms) ≤ total count (if b then joined_by p.arrival m ∷ ms else m ∷ after)
   unfolding total
   more_here p m ms after true le = let g = grows p.arrival m in omega arith
   more_here p m ms after false le = omega arith
 
-  more_added : (p : VersionedPacket) (ms : List Members) → total count ms ≤ total count (added over p ms)
-  unfolding added total
-  more_added p [] = omega arith
-  more_added p (m ∷ ms) = more_here p m ms (added over p ms) (takes over p.arrival.sight m) (more_added p ms)
+  more_placed : (p : VersionedPacket) (ms : List Members) → total count ms ≤ total count (placed endings p ms)
+  unfolding placed total
+  more_placed p [] = omega arith
+  more_placed p (m ∷ ms) = more_here p m ms (placed endings p ms) (takes endings p.arrival.sight m) (more_placed p ms)
 
-  pub more_from : (ms : List Members) (ps : List VersionedPacket) → total count ms ≤ total count (records_from over ms ps)
+  more_added : (p : VersionedPacket) (ms : List Members) → total count ms ≤ total count (added endings p ms)
+  more_added p ms = let one = more_found p.arrival ms in let two = more_placed p (found endings p.arrival ms) in omega arith
+
+  pub more_from : (ms : List Members) (ps : List VersionedPacket) → total count ms ≤ total count (records_from endings ms ps)
   unfolding records_from
   more_from ms [] = omega arith
-  more_from ms (p ∷ ps) = let step = more_added p ms in let rest = more_from (added over p ms) ps in omega arith
+  more_from ms (p ∷ ps) = let step = more_added p ms in let rest = more_from (added endings p ms) ps in omega arith
 
-  pub more_packets : (ms : List Members) (ps more : List VersionedPacket) → total count (records_from over ms ps) ≤ total count (records_from over ms (ps ++ more))
+  pub more_packets : (ms : List Members) (ps more : List VersionedPacket) → total count (records_from endings ms ps) ≤ total count (records_from endings ms (ps ++ more))
   unfolding records_from
   more_packets ms [] more = more_from ms more
-  more_packets ms (p ∷ ps) more = more_packets (added over p ms) ps more
+  more_packets ms (p ∷ ps) more = more_packets (added endings p ms) ps more

@@ -1,5 +1,5 @@
 -- What lanes end with, joined.
-use Rattle.std.proofs.Common.{◌≡◌, ◌<◌, ◌≤◌, ◌+◌, ℕ, zero, suc, Bool, true, false, cond, List, [], ◌∷◌, ◌++◌, length, get_or, take, refl, sym, ap, ◌∙◌, map, arith, ⊎_elim}
+use Rattle.std.proofs.Common.{◌≡◌, ◌<◌, ◌≤◌, ◌+◌, ℕ, zero, suc, Bool, true, false, cond, Option, List, [], ◌∷◌, ◌++◌, length, get_or, take, refl, sym, ap, ◌∙◌, map, arith, ⊎_elim}
 use Rattle.std.specs.Prelude.{◌==◌, ◌-◌, ◌^◌, min}
 use Rattle.std.specs.List.{All}
 use Rattle.std.proofs.lemmas.List.{get_or_past, get_or-map, length-map, take_more, take_all}
@@ -10,24 +10,25 @@ use Rattle.app_api.specs.App.{Meaning}
 use Rattle.report_text.specs.declared.record.Record.{Record}
 use Rattle.forest_versions.specs.declared.command.Command.{Command}
 use Rattle.lane_core.specs.declared.end.LaneEnd.{LaneEnd}
-use Rattle.lane_core.specs.Sight.{Arrival}
-use Rattle.lane_core.specs.Records.{RecordSoFar, records_from}
-use Rattle.lane_core.specs.Run.{LaneEvent, lane_run}
+use Rattle.lane_core.specs.Sight.{Moment, Arrival}
+use Rattle.lane_core.specs.Records.{RecordSoFar, records_from, ended_at}
+use Rattle.lane_core.specs.Run.{LaneEvent, control_of, lane_run, ended_run}
 use Rattle.lane_core.specs.Shown.{total}
 use Rattle.lane_core.specs.Lane.{shown}
-use Rattle.worker_laws.specs.Members.{Members}
+use Rattle.worker_laws.specs.Members.{Members, name_of}
+use Rattle.worker_laws.specs.Greatest.{greatest}
 use Rattle.worker_laws.specs.Lanes.{lane_of, part}
 use Rattle.worker_laws.specs.Counted.{total as total_by, total_of_lanes}
 use Rattle.worker_laws.specs.Rising.{Rises}
 use Rattle.worker_laws.specs.Merge.{list_at, AreOfLanes, IsMerge, lane_at}
-use Rattle.worker_laws.specs.Histories.{with_history}
 use Rattle.worker_laws.specs.Whole.{in_force, over_under, run_under}
 use Rattle.worker_laws.specs.Taken.{events_at, AreOneRun}
 use Rattle.worker_laws.specs.Ends.{AreEnds, IsJoined, sum_of}
 use Rattle.worker_laws.proofs.Counting.{lanes_add_up}
 use Rattle.worker_laws.proofs.Reported.{lists_of_lanes, merged_is}
 use Rattle.worker_laws.proofs.Taken.{nothing_at}
-use Rattle.worker_laws.proofs.Whole.{maps, members, run_is, part_is}
+use Rattle.worker_laws.proofs.Histories.{maps, final_first}
+use Rattle.worker_laws.proofs.Whole.{members, at_end, run_is, part_is}
 
 -- ---- sums
 
@@ -41,11 +42,10 @@ sum_more count ends n d lt = ap (sum_of count) (take_more ends n d lt) ∙ sum_p
 pub sum_none : (count : LaneEnd → ℕ) → sum_of count [] ≡ 0
 sum_none count = refl
 
-total_shown : (app : Meaning) (commands : List Command) (of : RecordSoFar → ℕ) (ms : List Members)
-    → total of (map (with_history app (in_force app commands)) ms) ≡ total_by (λ m. of (with_history app (in_force app commands) m)) ms
+total_shown : (shows : Members → RecordSoFar) (of : RecordSoFar → ℕ) (ms : List Members) → total of (map shows ms) ≡ total_by (λ m. of (shows m)) ms
 unfolding total total_by
-total_shown app commands of [] = refl
-total_shown app commands of (m ∷ ms) = ap (λ n. of (with_history app (in_force app commands) m) + n) (total_shown app commands of ms)
+total_shown shows of [] = refl
+total_shown shows of (m ∷ ms) = ap (λ n. of (shows m) + n) (total_shown shows of ms)
 
 -- ---- records of lanes that aren't there
 
@@ -67,8 +67,11 @@ no_run : (app : Meaning) → lane_run app [] ≡ []
 unfolding lane_run records_from
 no_run app = refl
 
+no_end : (app : Meaning) (last : Option Moment) → ended_run app [] last ≡ []
+no_end app last = ap (map (ended_at app (control_of app []) last)) (no_run app)
+
 module _ (keep : Bool) (app : Meaning) (commands : List Command) (lane : EndpointPair → ℕ) (packets : List Arrival) (lanes : List (List LaneEvent)) (vs : List ℕ) (one : AreOneRun app commands lane packets lanes vs)
-    (numbered : Rises (map (λ a. a.number) packets)) (ends : List LaneEnd) (are : AreEnds keep app lanes ends) where
+    (numbered : Rises (map (λ a. a.number) packets)) (ends : List LaneEnd) (are : AreEnds keep app (greatest packets) lanes ends) where
   abbrev run : List RecordSoFar
   run = run_under app commands vs packets
 
@@ -76,7 +79,7 @@ module _ (keep : Bool) (app : Meaning) (commands : List Command) (lane : Endpoin
   firsts = members app commands packets vs
 
   abbrev history : Members → RecordSoFar
-  history m = with_history app (in_force app commands) m
+  history m = at_end app commands packets vs m
 
   abbrev show : Members → Record
   show m = shown keep app (history m)
@@ -87,10 +90,17 @@ module _ (keep : Bool) (app : Meaning) (commands : List Command) (lane : Endpoin
   abbrev none : LaneEnd
   none = record { records = []; versions = []; callbacks = 0; drops = 0 }
 
-  nothing_beyond : (l : ℕ) → length ends ≤ l → lane_run app (events_at lanes l) ≡ []
-  nothing_beyond l le = let count = are.count in ap (lane_run app) (nothing_at lanes l (omega arith)) ∙ no_run app
+  -- what lane l came to
+  abbrev end_at : ℕ → List RecordSoFar
+  end_at l = ended_run app (events_at lanes l) (greatest packets)
 
-  list_is : (l : ℕ) → list_at lists l ≡ map (shown keep app) (lane_run app (events_at lanes l))
+  show_name : (m : Members) → (show m).name ≡ name_of m
+  show_name m = ap (λ a. a.number) (final_first app (in_force app commands) (greatest packets) m)
+
+  nothing_beyond : (l : ℕ) → length ends ≤ l → end_at l ≡ []
+  nothing_beyond l le = let count = are.count in ap (λ es. ended_run app es (greatest packets)) (nothing_at lanes l (omega arith)) ∙ no_end app (greatest packets)
+
+  list_is : (l : ℕ) → list_at lists l ≡ map (shown keep app) (end_at l)
   list_is l = ⊎_elim
       (λ lt. get_or-map (λ (end : LaneEnd). end.records) ends l none [] lt ∙ (are.each l none lt).records_are)
       (λ le. let long = length-map ends (λ (end : LaneEnd). end.records) in get_or_past lists l [] (omega arith) ∙ sym (ap (map (shown keep app)) (nothing_beyond l le)))
@@ -100,11 +110,11 @@ module _ (keep : Bool) (app : Meaning) (commands : List Command) (lane : Endpoin
   lists_are l = list_is l ∙ ap (map (shown keep app)) (one.records l ∙ part_is app commands packets vs lane l) ∙ maps (shown keep app) history (part lane l firsts)
 
   pub lists_of : AreOfLanes (lane_at lane packets) lists
-  lists_of = lists_of_lanes show (λ m. refl) (over_under app commands) lane packets vs numbered lists lists_are
+  lists_of = lists_of_lanes show show_name (over_under app commands) lane packets vs numbered lists lists_are
 
   records_are : (merged : List Record) → IsMerge (lane_at lane packets) lists merged → merged ≡ map (shown keep app) run
   records_are merged is =
-      merged_is show (λ m. refl) (over_under app commands) lane packets vs numbered lists lists_are merged is
+      merged_is show show_name (over_under app commands) lane packets vs numbered lists lists_are merged is
       ∙ sym (ap (map (shown keep app)) (run_is app commands packets vs) ∙ maps (shown keep app) history firsts)
 
   all_below : All (λ m. lane_of lane m.first.sight < length ends) firsts
@@ -114,12 +124,12 @@ module _ (keep : Bool) (app : Meaning) (commands : List Command) (lane : Endpoin
       nothing_shown [] e = refl
       nothing_shown (m ∷ ms) e = absurd (cc)
 
-  module _ (of : RecordSoFar → ℕ) (count : LaneEnd → ℕ) (counts : (l : ℕ) → l < length ends → count (get_or ends l none) ≡ total of (lane_run app (events_at lanes l))) where
+  module _ (of : RecordSoFar → ℕ) (count : LaneEnd → ℕ) (counts : (l : ℕ) → l < length ends → count (get_or ends l none) ≡ total of (end_at l)) where
     abbrev by_first : Members → ℕ
     by_first m = of (history m)
 
-    own_total : (l : ℕ) → total of (lane_run app (events_at lanes l)) ≡ total_by by_first (part lane l firsts)
-    own_total l = ap (total of) (one.records l ∙ part_is app commands packets vs lane l) ∙ total_shown app commands of (part lane l firsts)
+    own_total : (l : ℕ) → total of (end_at l) ≡ total_by by_first (part lane l firsts)
+    own_total l = ap (total of) (one.records l ∙ part_is app commands packets vs lane l) ∙ total_shown history of (part lane l firsts)
 
     first_lanes : (n : ℕ) → n ≤ length ends → total_of_lanes lane by_first n firsts ≡ sum_of count (take n ends)
     unfolding total_of_lanes
@@ -134,7 +144,7 @@ module _ (keep : Bool) (app : Meaning) (commands : List Command) (lane : Endpoin
     pub sum_is : sum_of count ends ≡ total of run
     sum_is =
         sym (ap (sum_of count) (take_all (length ends) ends (omega arith))) ∙ sym (first_lanes (length ends) (omega arith))
-        ∙ lanes_add_up lane by_first (length ends) firsts all_below ∙ sym (total_shown app commands of firsts) ∙ sym (ap (total of) (run_is app commands packets vs))
+        ∙ lanes_add_up lane by_first (length ends) firsts all_below ∙ sym (total_shown history of firsts) ∙ sym (ap (total of) (run_is app commands packets vs))
 
   pub is_joined : (merged : List Record) (callbacks drops : ℕ) → IsMerge (lane_at lane packets) lists merged
       → callbacks ≡ min (sum_of (λ end. end.callbacks) ends) (2 ^ 64 - 1) → drops ≡ min (sum_of (λ end. end.drops) ends) (2 ^ 64 - 1)

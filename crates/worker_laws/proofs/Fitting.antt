@@ -1,6 +1,6 @@
 -- What is counted over a run fits into 64 bits.
-use Rattle.std.proofs.Common.{◌≤◌, ◌+◌, ℕ, Bool, true, false, Option, Some, None, List, [], ◌∷◌, length, ap, arith}
-use Rattle.std.specs.Prelude.{if◌then◌else◌, ◌*◌}
+use Rattle.std.proofs.Common.{◌≡◌, ◌≤◌, ◌+◌, ℕ, Bool, true, false, Option, Some, None, List, [], ◌∷◌, length, map, refl, ap, arith}
+use Rattle.std.specs.Prelude.{if◌then◌else◌, not, ◌&&◌, ◌*◌}
 use Rattle.std.proofs.lemmas.List.{length_push, length-map}
 use Rattle.app_api.specs.App.{Meaning}
 use Rattle.app_api.specs.declared.entry.Entry.{Entry}
@@ -10,11 +10,13 @@ use Rattle.app_api.specs.declared.reaction.Verdict.TheVariants.{Pass, Drop}
 use Rattle.builtin_events.specs.declared.raise.Raise.{Raise}
 use Rattle.forest_versions.specs.State.{ControlState}
 use Rattle.connection_core.specs.Course.{Course}
+use Rattle.connection_core.specs.Silence.{silenced}
 use Rattle.connection_core.specs.History.{History, fresh, followed, received_unless, orphaned, verdict_of, lone_course, drops_of as drops_by, weight_of}
-use Rattle.lane_core.specs.Sight.{Sight, Tcp, Other, Arrival}
-use Rattle.lane_core.specs.Records.{VersionedPacket, RecordSoFar, belongs_to, side_in, history_after, opens, orphan_raises_of, continued_by, added, records_from}
+use Rattle.lane_core.specs.Sight.{Sight, Tcp, Other, Moment, Arrival}
+use Rattle.lane_core.specs.Records.{VersionedPacket, RecordSoFar, belongs_to, side_in, history_after, opens, orphan_raises_of, timer_raise_of, is_shut, is_silent, ended_by_silence, ended_before, ended_at, continued_by, placed, added, records_from}
 use Rattle.lane_core.specs.Shown.{total, weight, callbacks_of, drops_of}
 use Rattle.forest_versions.specs.declared.command.Command.{Command}
+use Rattle.worker_laws.specs.Greatest.{greatest}
 use Rattle.worker_laws.specs.Whole.{in_force, over_under, packets_under, run_under}
 use Rattle.worker_laws.proofs.Reported.{named_packets}
 
@@ -65,25 +67,53 @@ unfolding total
 drops_here true r next rs after here later = omega arith
 drops_here false r next rs after here later = omega arith
 
+-- silence drops no packet
+silent_drops : (app : Meaning) (control : ControlState) (number : ℕ) (raise : Raise) (h : History) → (silenced app control number raise h).drops ≡ h.drops
+unfolding silenced
+silent_drops app control number raise h = refl
+
 module _ (app : Meaning) (control_at : ℕ → ControlState) where
+  drops_by_silence : (b : Bool) (r : RecordSoFar) → length (if b then ended_by_silence app control_at r else r).history.drops ≡ length r.history.drops
+  drops_by_silence true r = ap length (silent_drops app (control_at r.version) r.last.number (timer_raise_of r.first.sight r.history.count) r.history)
+  drops_by_silence false r = refl
+
+  drops_before : (p : VersionedPacket) (rs : List RecordSoFar) → drops_of (map (ended_before app control_at p) rs) ≡ drops_of rs
+  unfolding total
+  drops_before p [] = refl
+  drops_before p (r ∷ rs) =
+      let here = drops_by_silence (belongs_to p.arrival.sight r && is_silent app control_at p.arrival.moment r) r in
+      let rest = drops_before p rs in omega arith
+
+  drops_of_end : (last : Option Moment) (r : RecordSoFar) → length (ended_at app control_at last r).history.drops ≡ length r.history.drops
+  drops_of_end None r = refl
+  drops_of_end (Some now) r = drops_by_silence (opens r.first.sight && not (is_shut r) && is_silent app control_at now r) r
+
+  drops_at_end : (last : Option Moment) (rs : List RecordSoFar) → drops_of (map (ended_at app control_at last) rs) ≡ drops_of rs
+  unfolding total
+  drops_at_end last [] = refl
+  drops_at_end last (r ∷ rs) = let here = drops_of_end last r in let rest = drops_at_end last rs in omega arith
+
+  drops_placed : (p : VersionedPacket) (rs : List RecordSoFar) → drops_of (placed app control_at p rs) ≤ drops_of rs + 1
+  unfolding placed total
+  drops_placed p [] = let here = first_drop app (control_at p.version) p.arrival (opens p.arrival.sight) in omega arith
+  drops_placed p (r ∷ rs) =
+      drops_here (belongs_to p.arrival.sight r) r (continued_by app control_at p.arrival r) rs (placed app control_at p rs)
+      (one_drop app (control_at r.version) r.first.sight p.arrival r.history) (drops_placed p rs)
+
   drops_added : (p : VersionedPacket) (rs : List RecordSoFar) → drops_of (added app control_at p rs) ≤ drops_of rs + 1
-  unfolding added total
-  drops_added p [] = let here = first_drop app (control_at p.version) p.arrival (opens p.arrival.sight) in omega arith
-  drops_added p (r ∷ rs) =
-      drops_here (belongs_to p.arrival.sight r) r (continued_by app control_at p.arrival r) rs (added app control_at p rs)
-      (one_drop app (control_at r.version) r.first.sight p.arrival r.history) (drops_added p rs)
+  drops_added p rs = let same = drops_before p rs in let more = drops_placed p (map (ended_before app control_at p) rs) in omega arith
 
   drops_from : (rs : List RecordSoFar) (ps : List VersionedPacket) → drops_of (records_from app control_at rs ps) ≤ drops_of rs + length ps
   unfolding records_from
   drops_from rs [] = omega arith
   drops_from rs (p ∷ ps) = let step = drops_added p rs in let rest = drops_from (added app control_at p rs) ps in omega arith
 
-  pub drops_few : (ps : List VersionedPacket) → drops_of (records_from app control_at [] ps) ≤ length ps
+  pub drops_few : (last : Option Moment) (ps : List VersionedPacket) → drops_of (map (ended_at app control_at last) (records_from app control_at [] ps)) ≤ length ps
   unfolding total
-  drops_few ps = let all = drops_from [] ps in omega arith
+  drops_few last ps = let all = drops_from [] ps in let same = drops_at_end last (records_from app control_at [] ps) in omega arith
 
 pub run_drops_few : (app : Meaning) (commands : List Command) (packets : List Arrival) (vs : List ℕ) → drops_of (run_under app commands vs packets) ≤ length packets
 run_drops_few app commands packets vs =
-    let few = drops_few app (in_force app commands) (packets_under app commands vs packets) in
+    let few = drops_few app (in_force app commands) (greatest packets) (packets_under app commands vs packets) in
     let long = length-map (packets_under app commands vs packets) (λ p. p.arrival) in
     let same = ap length (named_packets (over_under app commands) vs [] packets) in omega arith

@@ -4,21 +4,21 @@ use mathlib.Core.List.{IsPrefix}
 use Rattle.app_api.specs.declared.reaction.Verdict.{Verdict}
 use Rattle.lane_core.specs.Sight.{Arrival}
 use Rattle.lane_core.specs.Records.{VersionedPacket}
-use Rattle.worker_laws.specs.Members.{Members, added, records_from}
+use Rattle.worker_laws.specs.Members.{Endings, Members, added, records_from}
 use Rattle.worker_laws.specs.Named.{named_by, named_from}
 use Rattle.worker_laws.specs.Judged.{verdict_of, judged_from, bytes_under, forwarded}
 
-module _ (over : ℕ → List Arrival → Bool) where
+module _ (endings : Endings) where
   pub judged_more : (judge : ℕ → List Arrival → Arrival → Verdict) (ms : List Members) (ps more : List VersionedPacket)
-      → judged_from over judge ms ps ++ judged_from over judge (records_from over ms ps) more ≡ judged_from over judge ms (ps ++ more)
+      → judged_from endings judge ms ps ++ judged_from endings judge (records_from endings ms ps) more ≡ judged_from endings judge ms (ps ++ more)
   unfolding judged_from records_from
   judged_more judge ms [] more = refl
-  judged_more judge ms (p ∷ ps) more = ap (λ l. (p.arrival, verdict_of over judge p ms) ∷ l) (judged_more judge (added over p ms) ps more)
+  judged_more judge ms (p ∷ ps) more = ap (λ l. (p.arrival, verdict_of endings judge p ms) ∷ l) (judged_more judge (added endings p ms) ps more)
 
-  pub named_more : (vs : List ℕ) (ms : List Members) (ps more : List Arrival) → named_from over vs ms ps ++ named_from over vs (records_from over ms (named_from over vs ms ps)) more ≡ named_from over vs ms (ps ++ more)
+  pub named_more : (vs : List ℕ) (ms : List Members) (ps more : List Arrival) → named_from endings vs ms ps ++ named_from endings vs (records_from endings ms (named_from endings vs ms ps)) more ≡ named_from endings vs ms (ps ++ more)
   unfolding named_from records_from
   named_more vs ms [] more = refl
-  named_more vs ms (a ∷ ps) more = ap (λ l. named_by vs ms a ∷ l) (named_more vs (added over (named_by vs ms a) ms) ps more)
+  named_more vs ms (a ∷ ps) more = ap (λ l. named_by vs ms a ∷ l) (named_more vs (added endings (named_by vs ms a) ms) ps more)
 
 pub forwarded_append : (bytes : Arrival → List ℕ) (js more : List (Arrival × Verdict)) → forwarded bytes js ++ forwarded bytes more ≡ forwarded bytes (js ++ more)
 forwarded_append bytes [] more = refl

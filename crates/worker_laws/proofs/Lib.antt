@@ -1,3 +1,4 @@
+mod Silence
 mod Restricted
 mod Naming
 mod Joining
@@ -20,5 +21,6 @@ mod Ended
 mod Fitting
 mod Weighing
 mod Dealt
+mod Latest
 mod Answered
 mod Scripts

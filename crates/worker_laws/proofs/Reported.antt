@@ -8,7 +8,7 @@ use Rattle.flow_table.specs.Key.{EndpointPair}
 use Rattle.report_text.specs.declared.record.Record.{Record}
 use Rattle.lane_core.specs.Sight.{Arrival}
 use Rattle.lane_core.specs.Records.{VersionedPacket}
-use Rattle.worker_laws.specs.Members.{Members, name_of, added}
+use Rattle.worker_laws.specs.Members.{Endings, Members, name_of, added}
 use Rattle.worker_laws.specs.Lanes.{lane_of, part}
 use Rattle.worker_laws.specs.Named.{named_by, named_from, named, records_under}
 use Rattle.worker_laws.specs.Rising.{Rises}
@@ -18,21 +18,21 @@ use Rattle.worker_laws.proofs.Parts.{same_parts}
 use Rattle.worker_laws.proofs.Rising.{All-without, All-unmap, holds_of_records, names_of, numbers_of, names_rise}
 
 -- a list of versions leaves the packets as they are
-pub named_packets : (over : ℕ → List Arrival → Bool) (vs : List ℕ) (ms : List Members) (ps : List Arrival) → arrivals_of (named_from over vs ms ps) ≡ ps
+pub named_packets : (endings : Endings) (vs : List ℕ) (ms : List Members) (ps : List Arrival) → arrivals_of (named_from endings vs ms ps) ≡ ps
 unfolding named_from
-named_packets over vs ms [] = refl
-named_packets over vs ms (a ∷ ps) = ap (λ l. a ∷ l) (named_packets over vs (added over (named_by vs ms a) ms) ps)
+named_packets endings vs ms [] = refl
+named_packets endings vs ms (a ∷ ps) = ap (λ l. a ∷ l) (named_packets endings vs (added endings (named_by vs ms a) ms) ps)
 
 pub named_numbers : (ps : List VersionedPacket) → numbers_of ps ≡ map (λ a. a.number) (arrivals_of ps)
 named_numbers [] = refl
 named_numbers (p ∷ ps) = ap (λ l. p.arrival.number ∷ l) (named_numbers ps)
 
 -- what holds of each packet holds of each first packet
-all_of_firsts : (P : Arrival → Type 0) (over : ℕ → List Arrival → Bool) (vs : List ℕ) (ps : List Arrival) → All P ps → All (λ m. P m.first) (records_under over vs ps)
-all_of_firsts P over vs ps all =
-    All-unmap P (λ m. m.first) (records_under over vs ps)
-    (holds_of_records over (λ m. m.first) (λ p. p.arrival) (λ p. refl) (λ a m. refl) (All P) (All-without P) [] (named over vs ps)
-    (subst (All P) (sym (named_packets over vs [] ps)) all))
+all_of_firsts : (P : Arrival → Type 0) (endings : Endings) (vs : List ℕ) (ps : List Arrival) → All P ps → All (λ m. P m.first) (records_under endings vs ps)
+all_of_firsts P endings vs ps all =
+    All-unmap P (λ m. m.first) (records_under endings vs ps)
+    (holds_of_records endings (λ m. m.first) (λ p. p.arrival) (λ p. refl) (λ a m. refl) (λ m. refl) (All P) (All-without P) [] (named endings vs ps)
+    (subst (All P) (sym (named_packets endings vs [] ps)) all))
 
 -- the lane of a packet by its number
 lane_here : (lane : EndpointPair → ℕ) (a : Arrival) (ps : List Arrival) → lane_at lane (a ∷ ps) a.number ≡ lane_of lane a.sight
@@ -109,16 +109,16 @@ module _ (shown : Members → Record) (same : (m : Members) → (shown m).name �
     part_rises : (ms : List Members) → Rises (names_of ms) → Rises (names_in (map shown (part lane l ms)))
     part_rises ms rises = subst Rises (sym (shown_names (part lane l ms))) (rises_part ms rises)
 
-  module _ (over : ℕ → List Arrival → Bool) (lane : EndpointPair → ℕ) (packets : List Arrival) (vs : List ℕ) (numbered : Rises (map (λ a. a.number) packets))
-      (lists : List (List Record)) (lists_are : (l : ℕ) → list_at lists l ≡ map shown (part lane l (records_under over vs packets))) where
+  module _ (endings : Endings) (lane : EndpointPair → ℕ) (packets : List Arrival) (vs : List ℕ) (numbered : Rises (map (λ a. a.number) packets))
+      (lists : List (List Record)) (lists_are : (l : ℕ) → list_at lists l ≡ map shown (part lane l (records_under endings vs packets))) where
     abbrev all_records : List Members
-    all_records = records_under over vs packets
+    all_records = records_under endings vs packets
 
     known : All (λ m. lane_at lane packets (name_of m) ≡ lane_of lane m.first.sight) all_records
-    known = all_of_firsts (λ a. lane_at lane packets a.number ≡ lane_of lane a.sight) over vs packets (lanes_known lane packets numbered)
+    known = all_of_firsts (λ a. lane_at lane packets a.number ≡ lane_of lane a.sight) endings vs packets (lanes_known lane packets numbered)
 
     rise : Rises (names_of all_records)
-    rise = names_rise over (named over vs packets) (subst Rises (sym (named_numbers (named over vs packets) ∙ ap (map (λ a. a.number)) (named_packets over vs [] packets))) numbered)
+    rise = names_rise endings (named endings vs packets) (subst Rises (sym (named_numbers (named endings vs packets) ∙ ap (map (λ a. a.number)) (named_packets endings vs [] packets))) numbered)
 
     pub lists_of_lanes : AreOfLanes (lane_at lane packets) lists
     lists_of_lanes = record {

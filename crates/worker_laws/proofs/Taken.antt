@@ -1,5 +1,5 @@
 -- What lanes come to, by their events.
-use Rattle.std.proofs.Common.{◌≡◌, ◌<◌, ◌≤◌, ◌+◌, ℕ, cond, List, [], ◌∷◌, ◌++◌, length, refl, sym, ap, ◌∙◌, subst, map, arith, ⊎_elim, append_assoc, append-nil}
+use Rattle.std.proofs.Common.{◌≡◌, ◌<◌, ◌≤◌, ◌+◌, ℕ, cond, Option, List, [], ◌∷◌, ◌++◌, length, refl, sym, ap, ◌∙◌, subst, map, arith, ⊎_elim, append_assoc, append-nil}
 use Rattle.std.specs.List.{All}
 use Rattle.std.proofs.lemmas.List.{get_or_past, length_push}
 use Rattle.std.proofs.lemmas.Bool.{cases_lt, ne_eqb}
@@ -9,9 +9,9 @@ use Rattle.flow_table.specs.Key.{EndpointPair}
 use Rattle.app_api.specs.App.{Meaning}
 use Rattle.forest_versions.specs.declared.command.Command.{Command}
 use Rattle.forest_versions.specs.State.{master}
-use Rattle.lane_core.specs.Sight.{Sight, Arrival}
-use Rattle.lane_core.specs.Records.{VersionedPacket, RecordSoFar, added, verdict_on, records, records_from}
-use Rattle.lane_core.specs.Run.{LaneEvent, Gave, Arrived, commands_of, versioned_from, lane_run}
+use Rattle.lane_core.specs.Sight.{Sight, Moment, Arrival}
+use Rattle.lane_core.specs.Records.{VersionedPacket, RecordSoFar, added, verdict_on, records, records_from, ended_at}
+use Rattle.lane_core.specs.Run.{LaneEvent, Gave, Arrived, commands_of, versioned_from, lane_run, ended_run}
 use Rattle.lane_core.specs.Lane.{with_event, next_verdict}
 use Rattle.lane_core.specs.Laws.{OneEventMore, LaterCommandsChangeNone, LastPacketIsAdded}
 use Rattle.worker_laws.specs.Lanes.{lane_of, share}
@@ -108,6 +108,11 @@ module _ (later : LaterCommandsChangeNone) (app : Meaning) (commands : List Comm
 
   pub run_of_events : (es : List LaneEvent) → IsPrefix (commands_of es) commands → lane_run app es ≡ records app (in_force app commands) (versioned_from 0 es)
   run_of_events es front = later.records app es front.0 ∙ ap (λ cs. records app (master app.presets cs) (versioned_from 0 es)) front.1
+
+  pub end_of_events : (es : List LaneEvent) (last : Option Moment) → IsPrefix (commands_of es) commands → ended_run app es last ≡ map (ended_at app (in_force app commands) last) (so_far es)
+  end_of_events es last front =
+      later.at_end app es last front.0
+      ∙ ap (λ cs. map (ended_at app (master app.presets cs) last) (records app (master app.presets cs) (versioned_from 0 es))) front.1
 
   module _ (one : OneEventMore) (last : LastPacketIsAdded) where
     next_is : (before : List LaneEvent) (a : Arrival) → IsPrefix (commands_of before) commands

@@ -10,32 +10,29 @@ use Rattle.app_api.specs.declared.reaction.Verdict.{Verdict}
 use Rattle.forest_versions.specs.declared.command.Command.{Command}
 use Rattle.forest_versions.specs.State.{ControlState}
 use Rattle.lane_core.specs.Sight.{Arrival, arrivals}
-use Rattle.lane_core.specs.Records.{VersionedPacket, RecordSoFar, added, records, versioned}
-use Rattle.lane_core.specs.Run.{LaneEvent, commands_of, lane_run}
+use Rattle.lane_core.specs.Records.{VersionedPacket, RecordSoFar, added, records, versioned, ended_at}
+use Rattle.lane_core.specs.Run.{LaneEvent, commands_of, lane_run, ended_run}
 use Rattle.lane_core.specs.Shown.{total, weight}
 use Rattle.lane_core.specs.Laws.{OneEventMore, LaterCommandsChangeNone, LastPacketIsAdded, WeightNeverFalls}
 use Rattle.worker_laws.specs.Members.{Members, records as members_of}
-use Rattle.worker_laws.specs.Lanes.{lane_of, part}
+use Rattle.worker_laws.specs.Greatest.{greatest}
+use Rattle.worker_laws.specs.Lanes.{lane_of, share, part}
 use Rattle.worker_laws.specs.Named.{named_from, named, records_under}
 use Rattle.worker_laws.specs.Judged.{judged_from, judged}
 use Rattle.worker_laws.specs.Rising.{Rises}
 use Rattle.worker_laws.specs.Allowed.{versions_of, arrivals_of}
 use Rattle.worker_laws.specs.Runs.{judged_part, AreRuns}
-use Rattle.worker_laws.specs.Histories.{judge_by, with_history}
+use Rattle.worker_laws.specs.Histories.{judge_by}
 use Rattle.worker_laws.specs.Streamed.{AreNumbered}
 use Rattle.worker_laws.specs.Whole.{in_force, over_under, packets_under, run_under, verdicts_from, verdicts_under, IsAllowedRun}
 use Rattle.worker_laws.specs.Taken.{events_at, packets_at, verdicts_in, HaveRun, HaveRunAll, AreOneRun, AreFrontsOfRun}
-use Rattle.worker_laws.proofs.Histories.{same_records, same_judged, same_part}
+use Rattle.worker_laws.proofs.Histories.{same_judged, same_part, final, final_first, final_versions, ended_records}
 use Rattle.worker_laws.proofs.Naming.{judged_again}
 use Rattle.worker_laws.proofs.Judging.{judged_more, named_more}
 use Rattle.worker_laws.proofs.Reported.{named_packets}
 use Rattle.worker_laws.proofs.Single.{list_of_allowed, records_of_allowed}
 use Rattle.worker_laws.proofs.Composed.{one_allowed, continued, front_verdicts, arrivals_versioned}
-use Rattle.worker_laws.proofs.Taken.{commands_front, packets_front, packets_whole, stamped_at, run_of_events, verdicts_of_events}
-
-pub maps : {A B C : Type 0} (g : B → C) (f : A → B) (xs : List A) → map g (map f xs) ≡ map (λ x. g (f x)) xs
-maps g f [] = refl
-maps g f (x ∷ xs) = ap (λ l. g (f x) ∷ l) (maps g f xs)
+use Rattle.worker_laws.proofs.Taken.{commands_front, packets_front, packets_whole, stamped_at, run_of_events, end_of_events, verdicts_of_events}
 
 -- ---- the run, by the packets of its records
 
@@ -43,26 +40,32 @@ module _ (app : Meaning) (commands : List Command) (packets : List Arrival) (vs 
   abbrev pub members : List Members
   members = records_under (over_under app commands) vs packets
 
-  pub run_is : run_under app commands vs packets ≡ map (with_history app (in_force app commands)) members
-  run_is = same_records app (in_force app commands) [] (packets_under app commands vs packets)
+  -- what the run comes to for each
+  abbrev pub at_end : Members → RecordSoFar
+  at_end m = final app (in_force app commands) (greatest packets) m
 
-  pub part_is : (lane : EndpointPair → ℕ) (l : ℕ) → filter (λ r. lane_of lane r.first.sight == l) (run_under app commands vs packets) ≡ map (with_history app (in_force app commands)) (part lane l members)
-  part_is lane l = ap (filter (λ r. lane_of lane r.first.sight == l)) run_is ∙ same_part app (in_force app commands) (λ sight. lane_of lane sight == l) members
+  pub run_is : run_under app commands vs packets ≡ map at_end members
+  run_is = ended_records app (in_force app commands) (greatest packets) (packets_under app commands vs packets)
+
+  pub part_is : (lane : EndpointPair → ℕ) (l : ℕ) → filter (λ r. lane_of lane r.first.sight == l) (run_under app commands vs packets) ≡ map at_end (part lane l members)
+  part_is lane l =
+      ap (filter (λ r. lane_of lane r.first.sight == l)) run_is
+      ∙ same_part at_end (final_first app (in_force app commands) (greatest packets)) (λ sight. lane_of lane sight == l) members
 
   pub verdicts_by : verdicts_under app commands vs packets ≡ judged (over_under app commands) (judge_by app (in_force app commands)) (packets_under app commands vs packets)
   verdicts_by = same_judged app (in_force app commands) [] (packets_under app commands vs packets)
 
   pub versions_by : (least most : ℕ → ℕ) (lane : EndpointPair → ℕ) → IsAllowedRun app commands least most lane packets vs → map (λ r. r.version) (run_under app commands vs packets) ≡ vs
   versions_by least most lane allowed =
-      ap (map (λ r. r.version)) run_is ∙ maps (λ r. r.version) (with_history app (in_force app commands)) members
+      ap (map (λ r. r.version)) run_is ∙ final_versions app (in_force app commands) (greatest packets) members
       ∙ list_of_allowed least most (over_under app commands) lane packets vs allowed
 
   -- where only ceilings are allowed
   module _ (least most : ℕ → ℕ) (lane : EndpointPair → ℕ) (same : (n : ℕ) → least n ≡ most n) (allowed : IsAllowedRun app commands least most lane packets vs) where
-    pub records_by_ceilings : run_under app commands vs packets ≡ records app (in_force app commands) (versioned most packets)
+    pub records_by_ceilings : run_under app commands vs packets ≡ map (ended_at app (in_force app commands) (greatest packets)) (records app (in_force app commands) (versioned most packets))
     records_by_ceilings =
-        run_is ∙ ap (map (with_history app (in_force app commands))) (records_of_allowed least most (over_under app commands) lane packets vs same allowed)
-        ∙ sym (same_records app (in_force app commands) [] (versioned most packets))
+        run_is ∙ ap (map at_end) (records_of_allowed least most (over_under app commands) lane packets vs same allowed)
+        ∙ sym (ended_records app (in_force app commands) (greatest packets) (versioned most packets))
 
     list_by_ceilings : vs ≡ versions_of (members_of (over_under app commands) (versioned most packets))
     list_by_ceilings =
@@ -103,12 +106,12 @@ module _ (app : Meaning) (commands : List Command) (vs : List ℕ) where
 
   pub verdicts_front : (packets more : List Arrival) → IsPrefix (verdicts_under app commands vs packets) (verdicts_under app commands vs (packets ++ more))
   verdicts_front packets more =
-      let over = over_under app commands in
+      let endings = over_under app commands in
       let judge = judge_by app (in_force app commands) in (
-        judged_from over judge (records_under over vs packets) (named_from over vs (records_under over vs packets) more),
-        ap (λ js. js ++ judged_from over judge (records_under over vs packets) (named_from over vs (records_under over vs packets) more)) (verdicts_by app commands packets vs)
-            ∙ judged_more over judge [] (named over vs packets) (named_from over vs (records_under over vs packets) more)
-            ∙ ap (judged over judge) (named_more over vs [] packets more)
+        judged_from endings judge (records_under endings vs packets) (named_from endings vs (records_under endings vs packets) more),
+        ap (λ js. js ++ judged_from endings judge (records_under endings vs packets) (named_from endings vs (records_under endings vs packets) more)) (verdicts_by app commands packets vs)
+            ∙ judged_more endings judge [] (named endings vs packets) (named_from endings vs (records_under endings vs packets) more)
+            ∙ ap (judged endings judge) (named_more endings vs [] packets more)
             ∙ sym (verdicts_by app commands (packets ++ more) vs),
       )
 
@@ -119,7 +122,7 @@ module _ (last : LastPacketIsAdded) (never : WeightNeverFalls) (app : Meaning) (
   more_weigh ps [] = let e = ap (λ qs. weight (records app control_at qs)) (append-nil ps) in omega arith
   more_weigh ps (p ∷ more) =
       let one = ap weight (last app control_at ps p) in
-      let grows = never app control_at p (records app control_at ps) in
+      let grows = never.packet app control_at p (records app control_at ps) in
       let rest = more_weigh (ps ++ p ∷ []) more in
       let same = ap (λ qs. weight (records app control_at qs)) (append_assoc ps (p ∷ []) more) in omega arith
 
@@ -132,33 +135,60 @@ part_weighs : (q : RecordSoFar → Bool) (rs : List RecordSoFar) → weight (fil
 part_weighs q [] = omega arith
 part_weighs q (r ∷ rs) = some_weigh q r rs (q r) (part_weighs q rs)
 
+nothing_behind : (xs ys : List Arrival) → xs ++ ys ≡ xs → ys ≡ []
+nothing_behind [] ys e = e
+nothing_behind (x ∷ xs) ys e = nothing_behind xs ys (cc)
+
 -- ---- lanes of which each has run its share, or a front of it
 
 module _ (later : LaterCommandsChangeNone) (one : OneEventMore) (last : LastPacketIsAdded) (app : Meaning) (commands : List Command) (lane : EndpointPair → ℕ) (packets : List Arrival) (lanes : List (List LaneEvent))
     (front : (l : ℕ) → IsPrefix (commands_of (events_at lanes l)) commands) where
+  abbrev records_at : List VersionedPacket → List RecordSoFar
+  records_at ps = records app (in_force app commands) ps
+
+  abbrev ended : List RecordSoFar → List RecordSoFar
+  ended rs = map (ended_at app (in_force app commands) (greatest packets)) rs
+
   judged_events : (l : ℕ) → verdicts_in app (events_at lanes l) ≡ judged (over_under app commands) (judge_by app (in_force app commands)) (packets_at lanes l)
   judged_events l = verdicts_of_events later app commands one last (events_at lanes l) (front l) ∙ same_judged app (in_force app commands) [] (packets_at lanes l)
 
+  -- a lane's part of the run is what its packets come to at the end
+  its_part : (parts : ℕ → List VersionedPacket) (vs : List ℕ) → AreRuns (over_under app commands) lane packets parts vs
+      → (l : ℕ) → ended (records_at (parts l)) ≡ filter (λ r. lane_of lane r.first.sight == l) (run_under app commands vs packets)
+  its_part parts vs runs l =
+      ended_records app (in_force app commands) (greatest packets) (parts l)
+      ∙ ap (map (at_end app commands packets vs)) (sym (runs.parts_are l)) ∙ sym (part_is app commands packets vs lane l)
+
   whole_is : (vs : List ℕ) → AreRuns (over_under app commands) lane packets (packets_at lanes) vs → AreOneRun app commands lane packets lanes vs
   whole_is vs runs = record {
-    records = λ l.
-        run_of_events later app commands (events_at lanes l) (front l) ∙ same_records app (in_force app commands) [] (packets_at lanes l)
-        ∙ ap (map (with_history app (in_force app commands))) (sym (runs.parts_are l)) ∙ sym (part_is app commands packets vs lane l);
+    records = λ l. end_of_events later app commands (events_at lanes l) (greatest packets) (front l) ∙ its_part (packets_at lanes) vs runs l;
     verdicts = λ l.
         judged_events l ∙ sym (runs.verdicts_are (judge_by app (in_force app commands)) l) ∙ ap (judged_part lane l) (sym (verdicts_by app commands packets vs));
   }
 
   module _ (never : WeightNeverFalls) (more : ℕ → List VersionedPacket) (vs : List ℕ) (runs : AreRuns (over_under app commands) lane packets (λ l. packets_at lanes l ++ more l) vs) where
+    part_at_most : (l : ℕ) → weight (ended (records_at (packets_at lanes l ++ more l))) ≤ weight (run_under app commands vs packets)
+    part_at_most l =
+        let part = ap weight (its_part (λ k. packets_at lanes k ++ more k) vs runs l) in
+        let all = part_weighs (λ r. lane_of lane r.first.sight == l) (run_under app commands vs packets) in omega arith
+
     weights_are : (l : ℕ) → weight (lane_run app (events_at lanes l)) ≤ weight (run_under app commands vs packets)
     weights_are l =
         let own = ap weight (run_of_events later app commands (events_at lanes l) (front l)) in
         let grows = more_weigh last never app (in_force app commands) (packets_at lanes l) (more l) in
-        let its_part = ap weight (same_records app (in_force app commands) [] (packets_at lanes l ++ more l) ∙ ap (map (with_history app (in_force app commands))) (sym (runs.parts_are l)) ∙ sym (part_is app commands packets vs lane l)) in
-        let all = part_weighs (λ r. lane_of lane r.first.sight == l) (run_under app commands vs packets) in omega arith
+        let ends = never.at_end app (in_force app commands) (greatest packets) (records_at (packets_at lanes l ++ more l)) in
+        let most = part_at_most l in omega arith
 
-    fronts_are : AreFrontsOfRun app commands lane packets lanes vs
-    fronts_are = record {
+    ends_are : (l : ℕ) → more l ≡ [] → weight (ended_run app (events_at lanes l) (greatest packets)) ≤ weight (run_under app commands vs packets)
+    ends_are l none =
+        let own = ap weight (end_of_events later app commands (events_at lanes l) (greatest packets) (front l)) in
+        let same = ap (λ ps. weight (ended (records_at ps))) (ap (λ ps. packets_at lanes l ++ ps) none ∙ append-nil (packets_at lanes l)) in
+        let most = part_at_most l in omega arith
+
+    fronts_are : ((l : ℕ) → arrivals_of (packets_at lanes l) ≡ share lane l packets → more l ≡ []) → AreFrontsOfRun app commands lane packets lanes vs
+    fronts_are none = record {
       weights = weights_are;
+      weights_at_end = λ l whole. ends_are l (none l whole);
       verdicts = λ l.
           subst (λ js. IsPrefix js (judged_part lane l (verdicts_under app commands vs packets))) (sym (judged_events l))
           (subst (λ js. IsPrefix (judged (over_under app commands) (judge_by app (in_force app commands)) (packets_at lanes l)) (judged_part lane l js)) (sym (verdicts_by app commands packets vs))
@@ -175,5 +205,9 @@ module _ (later : LaterCommandsChangeNone) (one : OneEventMore) (last : LastPack
       → (vs : List ℕ) × IsAllowedRun app commands least most lane packets vs × AreFrontsOfRun app commands lane packets lanes vs
   fronts_run never between rises numbered =
       let rest = packets_front least most commands lane packets lanes have in
-      let made = continued least most between rises (over_under app commands) lane packets numbered (packets_at lanes) (λ l. (rest l).0) (λ l. (rest l).1) (stamped_at least most commands lane packets lanes have) in
-      (made.0, made.1, fronts_are later one last app commands lane packets lanes (commands_front least most commands lane packets lanes have) never (λ l. versioned most ((rest l).0)) made.0 made.2)
+      let made = continued least most between rises (over_under app commands) lane packets numbered (packets_at lanes) (λ l. (rest l).0) (λ l. (rest l).1) (stamped_at least most commands lane packets lanes have) in (
+        made.0,
+        made.1,
+        fronts_are later one last app commands lane packets lanes (commands_front least most commands lane packets lanes have) never (λ l. versioned most ((rest l).0)) made.0 made.2
+            (λ l whole. ap (versioned most) (nothing_behind (arrivals_of (packets_at lanes l)) (rest l).0 ((rest l).1 ∙ sym whole))),
+      )

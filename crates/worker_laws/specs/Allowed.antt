@@ -1,11 +1,11 @@
 -- Which lists of versions are allowed: each record's version lies between the floor and the ceiling of its first packet, and
 -- versions never fall along the records of one lane. Floor and ceiling are any functions of a packet's number.
-use Rattle.std.specs.Prelude.{◌≡◌, ◌≤◌, ℕ, Bool, List, length, map}
+use Rattle.std.specs.Prelude.{◌≡◌, ◌≤◌, ℕ, List, length, map}
 use Rattle.std.specs.List.{All}
 use Rattle.flow_table.specs.Key.{EndpointPair}
 use Rattle.lane_core.specs.Sight.{Arrival}
 use Rattle.lane_core.specs.Records.{VersionedPacket}
-use Rattle.worker_laws.specs.Members.{Members, name_of}
+use Rattle.worker_laws.specs.Members.{Endings, Members, name_of}
 use Rattle.worker_laws.specs.Lanes.{part}
 use Rattle.worker_laws.specs.Named.{records_under}
 use Rattle.worker_laws.specs.Rising.{NeverFalls}
@@ -21,10 +21,10 @@ module _ (floor ceil : ℕ → ℕ) where
   abbrev pub IsWithin : ℕ → ℕ → Type 0
   IsWithin version number = (floor number ≤ version) × (version ≤ ceil number)
 
-  pub record IsAllowed (over : ℕ → List Arrival → Bool) (lane : EndpointPair → ℕ) (packets : List Arrival) (vs : List ℕ) : Type 0 where
-    pub count : length vs ≡ length (records_under over vs packets)
-    pub within : All (λ m. IsWithin m.version (name_of m)) (records_under over vs packets)
-    pub along : (l : ℕ) → NeverFalls (versions_of (part lane l (records_under over vs packets)))
+  pub record IsAllowed (endings : Endings) (lane : EndpointPair → ℕ) (packets : List Arrival) (vs : List ℕ) : Type 0 where
+    pub count : length vs ≡ length (records_under endings vs packets)
+    pub within : All (λ m. IsWithin m.version (name_of m)) (records_under endings vs packets)
+    pub along : (l : ℕ) → NeverFalls (versions_of (part lane l (records_under endings vs packets)))
 
   -- what a lane has for the packets of a share or of its front: versions that they may have, which never fall
   pub record AreStamped (stamped : List VersionedPacket) : Type 0 where

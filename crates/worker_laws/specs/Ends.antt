@@ -1,19 +1,20 @@
 -- What lanes end with, one after the other, and what their ends come to.
-use Rattle.std.specs.Prelude.{◌≡◌, ◌<◌, ℕ, ◌+◌, ◌-◌, ◌^◌, min, Bool, List, [], ◌∷◌, length, get_or, map}
+use Rattle.std.specs.Prelude.{◌≡◌, ◌<◌, ℕ, ◌+◌, ◌-◌, ◌^◌, min, Bool, Option, List, [], ◌∷◌, length, get_or, map}
 use Rattle.app_api.specs.App.{Meaning}
 use Rattle.report_text.specs.declared.record.Record.{Record}
 use Rattle.lane_core.specs.declared.end.LaneEnd.{LaneEnd}
 use Rattle.lane_core.specs.Records.{RecordSoFar}
-use Rattle.lane_core.specs.Run.{LaneEvent, lane_run}
+use Rattle.lane_core.specs.Sight.{Moment}
+use Rattle.lane_core.specs.Run.{LaneEvent, ended_run}
 use Rattle.lane_core.specs.Shown.{callbacks_of, drops_of}
 use Rattle.lane_core.specs.Lane.{IsEnd, shown}
 use Rattle.worker_laws.specs.Taken.{events_at}
 
--- each lane's end is that of the lane's run
-pub record AreEnds (keep : Bool) (app : Meaning) (lanes : List (List LaneEvent)) (ends : List LaneEnd) : Type 0 where
+-- each lane's end is that of the lane's run, where `last` is the greatest moment of all packets
+pub record AreEnds (keep : Bool) (app : Meaning) (last : Option Moment) (lanes : List (List LaneEvent)) (ends : List LaneEnd) : Type 0 where
   pub count : length lanes ≡ length ends
   pub each : (l : ℕ) (d : LaneEnd) → l < length ends
-      → IsEnd keep app (lane_run app (events_at lanes l)) (get_or ends l d).records (get_or ends l d).versions (get_or ends l d).callbacks (get_or ends l d).drops
+      → IsEnd keep app (ended_run app (events_at lanes l) last) (get_or ends l d).records (get_or ends l d).versions (get_or ends l d).callbacks (get_or ends l d).drops
 
 -- what is counted at each end, added up
 abbrev pub sum_of : (LaneEnd → ℕ) → List LaneEnd → ℕ

@@ -1,4 +1,5 @@
 pub mod Members
+pub mod Greatest
 pub mod Lanes
 pub mod Named
 pub mod Judged

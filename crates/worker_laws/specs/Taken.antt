@@ -9,9 +9,10 @@ use Rattle.app_api.specs.declared.reaction.Verdict.{Verdict}
 use Rattle.forest_versions.specs.declared.command.Command.{Command}
 use Rattle.lane_core.specs.Sight.{Sight, Arrival}
 use Rattle.lane_core.specs.Records.{VersionedPacket}
-use Rattle.lane_core.specs.Run.{LaneEvent, Gave, Arrived, commands_of, versioned_from, lane_run}
+use Rattle.lane_core.specs.Run.{LaneEvent, Gave, Arrived, commands_of, versioned_from, lane_run, ended_run}
 use Rattle.lane_core.specs.Lane.{with_event, next_verdict}
 use Rattle.lane_core.specs.Shown.{weight}
+use Rattle.worker_laws.specs.Greatest.{greatest}
 use Rattle.worker_laws.specs.Lanes.{lane_of, share}
 use Rattle.worker_laws.specs.Runs.{judged_part}
 use Rattle.worker_laws.specs.Allowed.{arrivals_of, IsWithin}
@@ -53,10 +54,14 @@ verdicts_in app events = verdicts_behind app [] events
 module _ (app : Meaning) (commands : List Command) (lane : EndpointPair → ℕ) (packets : List Arrival) (lanes : List (List LaneEvent)) (vs : List ℕ) where
   -- lanes that have run all: what each made is its part of the run under this list
   pub record AreOneRun : Type 0 where
-    pub records : (l : ℕ) → lane_run app (events_at lanes l) ≡ filter (λ r. lane_of lane r.first.sight == l) (run_under app commands vs packets)
+    pub records : (l : ℕ) → ended_run app (events_at lanes l) (greatest packets)
+        ≡ filter (λ r. lane_of lane r.first.sight == l) (run_under app commands vs packets)
     pub verdicts : (l : ℕ) → verdicts_in app (events_at lanes l) ≡ judged_part lane l (verdicts_under app commands vs packets)
 
-  -- lanes that have run fronts of their shares: none weighs more than the run, and each lane's verdicts are the first ones of its part
+  -- Lanes that have run fronts of their shares: none weighs more than the run, also at the end where it has run its whole share; and
+  -- each lane's verdicts are the first ones of its part.
   pub record AreFrontsOfRun : Type 0 where
     pub weights : (l : ℕ) → weight (lane_run app (events_at lanes l)) ≤ weight (run_under app commands vs packets)
+    pub weights_at_end : (l : ℕ) → arrivals_of (packets_at lanes l) ≡ share lane l packets
+        → weight (ended_run app (events_at lanes l) (greatest packets)) ≤ weight (run_under app commands vs packets)
     pub verdicts : (l : ℕ) → IsPrefix (verdicts_in app (events_at lanes l)) (judged_part lane l (verdicts_under app commands vs packets))

@@ -1,13 +1,15 @@
 -- One run over all packets, under the commands of a script and a list of versions: the j-th record lives under the j-th version. It
 -- is the definition of a run, and knows of no lanes.
-use Rattle.std.specs.Prelude.{ℕ, Bool, List, [], ◌∷◌}
+use Rattle.std.specs.Prelude.{ℕ, List, [], ◌∷◌, map}
 use Rattle.flow_table.specs.Key.{EndpointPair}
 use Rattle.app_api.specs.App.{Meaning}
 use Rattle.app_api.specs.declared.reaction.Verdict.{Verdict}
 use Rattle.forest_versions.specs.declared.command.Command.{Command}
 use Rattle.forest_versions.specs.State.{ControlState, master}
 use Rattle.lane_core.specs.Sight.{Arrival}
-use Rattle.lane_core.specs.Records.{VersionedPacket, RecordSoFar, added, verdict_on, records}
+use Rattle.lane_core.specs.Records.{VersionedPacket, RecordSoFar, added, verdict_on, records, ended_at}
+use Rattle.worker_laws.specs.Members.{Endings}
+use Rattle.worker_laws.specs.Greatest.{greatest}
 use Rattle.worker_laws.specs.Named.{named}
 use Rattle.worker_laws.specs.Allowed.{IsAllowed}
 use Rattle.worker_laws.specs.Histories.{over_by}
@@ -23,17 +25,17 @@ module _ (app : Meaning) (commands : List Command) where
   abbrev pub in_force : ℕ → ControlState
   in_force = master app.presets commands
 
-  -- whether a connection is over, by its version and its packets
-  abbrev pub over_under : ℕ → List Arrival → Bool
+  -- how connections end, by their version and their packets
+  abbrev pub over_under : Endings
   over_under = over_by app in_force
 
   -- each packet with the version of the record that it would begin
   abbrev pub packets_under : List ℕ → List Arrival → List VersionedPacket
   packets_under vs packets = named over_under vs packets
 
-  -- the records of the run
+  -- the records of the run; those that are open at its end may end by idleness then
   abbrev pub run_under : List ℕ → List Arrival → List RecordSoFar
-  run_under vs packets = records app in_force (packets_under vs packets)
+  run_under vs packets = map (ended_at app in_force (greatest packets)) (records app in_force (packets_under vs packets))
 
   -- its packets, each with what becomes of it
   abbrev pub verdicts_under : List ℕ → List Arrival → List (Arrival × Verdict)

@@ -7,6 +7,7 @@ ghost use Rattle.forest_versions.specs.declared.command.Command.{Command};
 ghost use Rattle.lane_core.specs.Sight.{Arrival};
 ghost use Rattle.lane_core.specs.Run.{LaneEvent};
 ghost use Rattle.worker_laws.specs.Rising.{Rises};
+ghost use Rattle.worker_laws.specs.Greatest.{greatest};
 ghost use Rattle.worker_laws.specs.Whole.{run_under};
 ghost use Rattle.worker_laws.specs.Taken.{AreOneRun};
 ghost use Rattle.worker_laws.specs.Ends.{AreEnds, IsJoined, sum_of};
@@ -66,7 +67,7 @@ pub fn join(alloc: Global, ends: Vec<LaneEnd>) -> Result<Joined, AllocError>
     ensures joined { IfOk result (λ joined. (keep : Bool) (app : Meaning) (commands : List Command)
         (lane : EndpointPair → ℕ) (packets : List Arrival) (lanes : List (List LaneEvent)) (vs : List ℕ)
         → AreOneRun app commands lane packets lanes vs → Rises (map (λ a. a.number) packets)
-        → AreEnds keep app lanes ends.items
+        → AreEnds keep app (greatest packets) lanes ends.items
         → IsJoined keep app (run_under app commands vs packets) joined.records joined.callbacks joined.drops) }
 {
     let callbacks = callbacks_in(ends.as_slice());

@@ -8,16 +8,18 @@ ghost use Rattle.flow_table.specs.Key.{EndpointPair};
 ghost use Rattle.app_api.specs.App.{Meaning};
 ghost use Rattle.forest_versions.specs.declared.command.Command.{Command};
 ghost use Rattle.lane_core.specs.Sight.{Arrival, arrivals};
-ghost use Rattle.lane_core.specs.Records.{RecordSoFar, VersionedPacket, records, versioned};
+ghost use Rattle.lane_core.specs.Records.{RecordSoFar, VersionedPacket, records, versioned, ended_at};
 ghost use Rattle.lane_core.specs.Run.{LaneEvent, commands_of, versioned_from};
 ghost use Rattle.lane_core.specs.Shown.{weight, callbacks_of, drops_of};
-ghost use Rattle.lane_core.specs.Lane.{IsHeavy, shown};
+ghost use Rattle.lane_core.specs.Lane.{IsHeavy, IsHeavyAtEnd, shown};
 ghost use Rattle.worker_laws.specs.Rising.{Rises};
+ghost use Rattle.worker_laws.specs.Greatest.{greatest};
+ghost use Rattle.worker_laws.specs.Lanes.{share};
 ghost use Rattle.worker_laws.specs.Allowed.{arrivals_of};
 ghost use Rattle.worker_laws.specs.Judged.{judged};
 ghost use Rattle.worker_laws.specs.Histories.{judge_by};
 ghost use Rattle.worker_laws.specs.Whole.{in_force, over_under, packets_under, run_under, verdicts_from, verdicts_under, IsAllowedRun};
-ghost use Rattle.worker_laws.specs.Taken.{events_at, verdicts_behind, HaveRun, HaveRunAll, AreOneRun, AreFrontsOfRun};
+ghost use Rattle.worker_laws.specs.Taken.{events_at, packets_at, verdicts_behind, HaveRun, HaveRunAll, AreOneRun, AreFrontsOfRun};
 ghost use Rattle.worker_laws.specs.Streamed.{AreNumbered};
 ghost use Rattle.worker_laws.specs.Weight.{weight_in};
 
@@ -53,7 +55,8 @@ pub fn lanes_are_one_run()
 }
 
 /// Lanes of which some have run only fronts of their shares: under one list of versions, which is allowed, no lane
-/// weighs more than one run over all packets, and each lane's verdicts are the first ones of its part.
+/// weighs more than one run over all packets, also not at the end where it has run its whole share, and each lane's
+/// verdicts are the first ones of its part.
 pub fn fronts_are_of_one_run()
     ensures run { (app : Meaning) (commands : List Command) (least most : ℕ → ℕ) (lane : EndpointPair → ℕ)
         (packets : List Arrival) (lanes : List (List LaneEvent))
@@ -69,12 +72,19 @@ pub fn fronts_are_of_one_run()
 }
 
 /// Where the records of one lane weigh too much, so do those of a run over all packets under an allowed list of
-/// versions.
+/// versions: those of the packets that it has run, and where it has run its whole share, those at the end.
 pub fn a_heavy_lane_makes_a_heavy_run()
     ensures run { (app : Meaning) (commands : List Command) (least most : ℕ → ℕ) (lane : EndpointPair → ℕ)
         (packets : List Arrival) (lanes : List (List LaneEvent)) (l : ℕ)
         → ((n : ℕ) → least n ≤ most n) → ((n m : ℕ) → n ≤ m → most n ≤ most m) → Rises (map (λ a. a.number) packets)
         → HaveRun least most commands lane packets lanes → IsHeavy app (events_at lanes l)
+        → (vs : List ℕ) × IsAllowedRun app commands least most lane packets vs
+        × (134217728 < weight (run_under app commands vs packets)) }
+    ensures at_end { (app : Meaning) (commands : List Command) (least most : ℕ → ℕ) (lane : EndpointPair → ℕ)
+        (packets : List Arrival) (lanes : List (List LaneEvent)) (l : ℕ)
+        → ((n : ℕ) → least n ≤ most n) → ((n m : ℕ) → n ≤ m → most n ≤ most m) → Rises (map (λ a. a.number) packets)
+        → HaveRun least most commands lane packets lanes → arrivals_of (packets_at lanes l) ≡ share lane l packets
+        → IsHeavyAtEnd app (events_at lanes l) (greatest packets)
         → (vs : List ℕ) × IsAllowedRun app commands least most lane packets vs
         × (134217728 < weight (run_under app commands vs packets)) }
 {
@@ -97,7 +107,9 @@ pub fn without_live_commands_there_is_one_run()
     ensures records { (app : Meaning) (commands : List Command) (least most : ℕ → ℕ) (lane : EndpointPair → ℕ)
         (packets : List Arrival) (vs : List ℕ)
         → ((n : ℕ) → least n ≡ most n) → IsAllowedRun app commands least most lane packets vs
-        → run_under app commands vs packets ≡ records app (in_force app commands) (versioned most packets) }
+        → run_under app commands vs packets
+        ≡ map (ended_at app (in_force app commands) (greatest packets))
+        (records app (in_force app commands) (versioned most packets)) }
     ensures verdicts { (app : Meaning) (commands : List Command) (least most : ℕ → ℕ) (lane : EndpointPair → ℕ)
         (packets : List Arrival) (vs : List ℕ)
         → ((n : ℕ) → least n ≡ most n) → IsAllowedRun app commands least most lane packets vs

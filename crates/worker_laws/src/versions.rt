@@ -1,6 +1,6 @@
 //! Laws on the versions of records. These functions do nothing: who joins lanes calls them for what they say.
 
-ghost use Rattle.std.specs.Prelude.{◌≡◌, ◌≤◌, ◌++◌, ℕ, Bool, List, length, map, false, not, IsTrue};
+ghost use Rattle.std.specs.Prelude.{◌≡◌, ◌≤◌, ◌++◌, ℕ, List, length, map, false, not, IsTrue};
 ghost use Rattle.std.specs.List.{All, list_all};
 ghost use Rattle.flow_table.specs.Key.{EndpointPair};
 ghost use Rattle.app_api.specs.declared.reaction.Verdict.{Verdict};
@@ -10,7 +10,7 @@ ghost use Rattle.control_script.specs.Order.{are_in_order};
 ghost use Rattle.control_script.specs.Versions.{floor as script_floor, ceil as script_ceil, is_live as is_live_in};
 ghost use Rattle.lane_core.specs.Sight.{Arrival};
 ghost use Rattle.lane_core.specs.Records.{VersionedPacket, versioned};
-ghost use Rattle.worker_laws.specs.Members.{records};
+ghost use Rattle.worker_laws.specs.Members.{Endings, records};
 ghost use Rattle.worker_laws.specs.Lanes.{share};
 ghost use Rattle.worker_laws.specs.Named.{named, records_under};
 ghost use Rattle.worker_laws.specs.Judged.{judged};
@@ -21,50 +21,50 @@ ghost use Rattle.worker_laws.specs.Stamps.{floor, ceil, named_packets, is_live};
 
 /// The versions of records, listed in the order of their names, give the records again, and the verdicts.
 pub fn versions_name_the_records()
-    ensures records { (over : ℕ → List Arrival → Bool) (ps : List VersionedPacket)
-        → records_under over (versions_of (records over ps)) (arrivals_of ps) ≡ records over ps }
-    ensures verdicts { (over : ℕ → List Arrival → Bool) (judge : ℕ → List Arrival → Arrival → Verdict)
+    ensures records { (endings : Endings) (ps : List VersionedPacket)
+        → records_under endings (versions_of (records endings ps)) (arrivals_of ps) ≡ records endings ps }
+    ensures verdicts { (endings : Endings) (judge : ℕ → List Arrival → Arrival → Verdict)
         (ps : List VersionedPacket)
-        → judged over judge (named over (versions_of (records over ps)) (arrivals_of ps)) ≡ judged over judge ps }
+        → judged endings judge (named endings (versions_of (records endings ps)) (arrivals_of ps)) ≡ judged endings judge ps }
 {}
 
 /// Where each lane has, for each packet of its share, a version from the packet's floor to its ceiling, and these never
 /// fall along the lane, the list of all records' versions is allowed.
 pub fn lanes_give_an_allowed_list()
-    ensures list { (least most : ℕ → ℕ) (over : ℕ → List Arrival → Bool) (lane : EndpointPair → ℕ)
+    ensures list { (least most : ℕ → ℕ) (endings : Endings) (lane : EndpointPair → ℕ)
         (packets : List Arrival)
         (parts : ℕ → List VersionedPacket) → ((l : ℕ) → arrivals_of (parts l) ≡ share lane l packets)
         → ((l : ℕ) → AreStamped least most (parts l))
-        → (vs : List ℕ) × IsAllowed least most over lane packets vs × AreRuns over lane packets parts vs }
+        → (vs : List ℕ) × IsAllowed least most endings lane packets vs × AreRuns endings lane packets parts vs }
 {}
 
 /// Lanes that ran only fronts of their shares: with the ceiling for each packet that no lane has run, the versions so
 /// far go on to an allowed list.
 pub fn fronts_go_on_to_an_allowed_list()
-    ensures list { (least most : ℕ → ℕ) (over : ℕ → List Arrival → Bool) (lane : EndpointPair → ℕ)
+    ensures list { (least most : ℕ → ℕ) (endings : Endings) (lane : EndpointPair → ℕ)
         (packets : List Arrival)
         (parts : ℕ → List VersionedPacket) (rest : ℕ → List Arrival)
         → ((n : ℕ) → least n ≤ most n) → ((n m : ℕ) → n ≤ m → most n ≤ most m) → Rises (map (λ a. a.number) packets)
         → ((l : ℕ) → arrivals_of (parts l) ++ rest l ≡ share lane l packets)
         → ((l : ℕ) → AreStamped least most (parts l))
-        → (vs : List ℕ) × IsAllowed least most over lane packets vs
-        × AreRuns over lane packets (λ l. parts l ++ versioned most (rest l)) vs }
-    ensures ceilings { (least most : ℕ → ℕ) (over : ℕ → List Arrival → Bool) (lane : EndpointPair → ℕ)
+        → (vs : List ℕ) × IsAllowed least most endings lane packets vs
+        × AreRuns endings lane packets (λ l. parts l ++ versioned most (rest l)) vs }
+    ensures ceilings { (least most : ℕ → ℕ) (endings : Endings) (lane : EndpointPair → ℕ)
         (packets : List Arrival)
         → ((n : ℕ) → least n ≤ most n) → ((n m : ℕ) → n ≤ m → most n ≤ most m) → Rises (map (λ a. a.number) packets)
-        → IsAllowed least most over lane packets (versions_of (records over (versioned most packets))) }
+        → IsAllowed least most endings lane packets (versions_of (records endings (versioned most packets))) }
 {}
 
 /// Where each packet's floor is its ceiling, one list of versions is allowed, whatever the lanes: that of the ceilings.
 pub fn one_list_is_allowed()
-    ensures records { (least most : ℕ → ℕ) (over : ℕ → List Arrival → Bool) (lane : EndpointPair → ℕ)
+    ensures records { (least most : ℕ → ℕ) (endings : Endings) (lane : EndpointPair → ℕ)
         (packets : List Arrival) (vs : List ℕ)
-        → ((n : ℕ) → least n ≡ most n) → IsAllowed least most over lane packets vs
-        → records_under over vs packets ≡ records over (versioned most packets) }
-    ensures list { (least most : ℕ → ℕ) (over : ℕ → List Arrival → Bool) (lane : EndpointPair → ℕ)
+        → ((n : ℕ) → least n ≡ most n) → IsAllowed least most endings lane packets vs
+        → records_under endings vs packets ≡ records endings (versioned most packets) }
+    ensures list { (least most : ℕ → ℕ) (endings : Endings) (lane : EndpointPair → ℕ)
         (packets : List Arrival) (vs : List ℕ)
-        → ((n : ℕ) → least n ≡ most n) → IsAllowed least most over lane packets vs
-        → vs ≡ versions_of (records over (versioned most packets)) }
+        → ((n : ℕ) → least n ≡ most n) → IsAllowed least most endings lane packets vs
+        → vs ≡ versions_of (records endings (versioned most packets)) }
 {}
 
 /// Floors and ceilings of stamped commands, where the packets that stamps name never fall: no floor lies above its

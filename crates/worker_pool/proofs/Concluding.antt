@@ -1,5 +1,5 @@
 -- The end of a run, from the ends of its lanes.
-use Rattle.std.proofs.Common.{◌≡◌, ◌≤◌, ◌<◌, ℕ, suc, ◌+◌, Bool, true, false, List, [], ◌∷◌, length, get_or, map, refl, sym, ap, subst, ◌∙◌, ◌⊎◌, ⊎_elim, arith}
+use Rattle.std.proofs.Common.{◌≡◌, ◌≤◌, ◌<◌, ℕ, suc, ◌+◌, Bool, true, false, Option, List, [], ◌∷◌, length, get_or, map, refl, sym, ap, subst, ◌∙◌, ◌⊎◌, ⊎_elim, arith}
 use Rattle.std.specs.Prelude.{◌^◌, ◌-◌, min, Result, Ok, Err, IsErrOf, IfOk}
 use Rattle.std.proofs.lemmas.Bool.{ltb-true, ltb-false}
 use Rattle.std.proofs.lemmas.List.{length-map}
@@ -10,16 +10,19 @@ use Rattle.control_script.specs.declared.stamped.Stamped.{Stamped}
 use Rattle.report_text.specs.declared.record.Record.{Record}
 use Rattle.lane_core.specs.declared.end.LaneEnd.{LaneEnd}
 use Rattle.lane_core.specs.declared.recorder.Recorder.{Ghosts}
-use Rattle.lane_core.specs.Sight.{arrivals}
+use Rattle.lane_core.specs.Sight.{Moment, arrivals}
 use Rattle.lane_core.specs.Records.{RecordSoFar}
-use Rattle.lane_core.specs.Run.{LaneEvent, lane_run}
+use Rattle.lane_core.specs.Run.{LaneEvent, ended_run}
 use Rattle.lane_core.specs.Shown.{record_of, weight, callbacks_of, drops_of}
-use Rattle.lane_core.specs.Lane.{IsEnd, IsHeavy, shown}
+use Rattle.lane_core.specs.Lane.{IsEnd, IsHeavy, IsHeavyAtEnd, shown}
 use Rattle.control_script.specs.Order.{commands_of}
 use Rattle.control_script.specs.Versions.{floor, ceil}
 use Rattle.worker_laws.specs.declared.ends.Joined.{Joined}
+use Rattle.worker_laws.specs.Allowed.{arrivals_of}
+use Rattle.worker_laws.specs.Greatest.{greatest}
+use Rattle.worker_laws.specs.Lanes.{share}
 use Rattle.worker_laws.specs.Ends.{AreEnds, IsJoined}
-use Rattle.worker_laws.specs.Taken.{events_at, HaveRunAll, AreOneRun}
+use Rattle.worker_laws.specs.Taken.{events_at, packets_at, HaveRunAll, AreOneRun}
 use Rattle.worker_laws.specs.Whole.{IsAllowedRun, run_under}
 use Rattle.worker_laws.specs.Weight.{weight_in, weighs_too_much}
 use Rattle.worker_pool.specs.declared.worker.Worker.{Worker}
@@ -27,7 +30,7 @@ use Rattle.worker_pool.specs.declared.job.LanesEnd.{LanesEnd}
 use Rattle.worker_pool.specs.Run.{MayHave, run_of, IsWhole, IsTooHeavy, EndsOver}
 use Rattle.worker_pool.specs.declared.job.PoolError.{PoolError}
 use Rattle.worker_pool.specs.declared.job.PoolError.TheVariants.{TooLong, TooMany, ReadFault, WriteFault, Heavy, NoMemory}
-use Rattle.worker_pool.specs.Ending.{by_key, CameTo, HasEnded, AreEnded, IsCause, IsJoinedRun, Concludes}
+use Rattle.worker_pool.specs.Ending.{by_key, CameTo, AreEnded, IsCause, IsJoinedRun, Concludes}
 
 any_of : {A : Type 0} (xs : List A) (k : ℕ) → k < length xs → A
 any_of [] k lt = absurd (omega arith)
@@ -36,22 +39,22 @@ any_of (x ∷ xs) k lt = x
 -- ---- the ends of lanes
 
 module _ {L : Type 0} (g : Ghosts L) (keep : Bool) (app : Meaning) (script : List Stamped) (frames : List Captured) (workers : List (Worker L)) (lanes : List (List LaneEvent)) (came : CameTo g keep app script frames workers lanes)
-    (ends : List LaneEnd) (ended : AreEnded g workers ends) where
-  at_end : (k : ℕ) (d : LaneEnd) → k < length workers → (w : Worker L) × HasEnded g (get_or workers k w) (get_or ends k d)
-  at_end k d lt = let w = any_of workers k lt in (w, ended.each k w d lt)
-
+    (last : Option Moment) (ends : List LaneEnd) (ended : AreEnded g last workers ends) where
   -- each is the end of the lane's run
-  pub lanes_end : AreEnds keep app lanes ends
-  lanes_end = record {
+  ends_at : AreEnds keep app last lanes ends
+  ends_at = record {
     count = came.count ∙ ended.count;
     each = λ k d lt.
         let below : k < length workers = (let e = ended.count in omega arith) in
         let w = any_of workers k below in
         let end = get_or ends k d in
         let ran = (ended.each k w d below).end_is (events_at lanes k) (came.stands k w below) in
-        subst (λ b. IsEnd b app (lane_run app (events_at lanes k)) end.records end.versions end.callbacks end.drops) (came.keeps k w below)
-        (subst (λ (m : Meaning). IsEnd (g.keeps (get_or workers k w).lane) m (lane_run m (events_at lanes k)) end.records end.versions end.callbacks end.drops) (came.app_is k w below) ran);
+        subst (λ b. IsEnd b app (ended_run app (events_at lanes k) last) end.records end.versions end.callbacks end.drops) (came.keeps k w below)
+        (subst (λ (m : Meaning). IsEnd (g.keeps (get_or workers k w).lane) m (ended_run m (events_at lanes k) last) end.records end.versions end.callbacks end.drops) (came.app_is k w below) ran);
   }
+
+  pub lanes_end : last ≡ greatest (arrivals 0 frames) → AreEnds keep app (greatest (arrivals 0 frames)) lanes ends
+  lanes_end is = subst (λ m. AreEnds keep app m lanes ends) is ends_at
 
   -- none of them failed, so each ran its whole share
   pub all_run : HaveRunAll (by_key (length workers)) (arrivals 0 frames) lanes
@@ -70,27 +73,40 @@ module _ {L : Type 0} (g : Ghosts L) (keep : Bool) (app : Meaning) (script : Lis
 
 -- ---- why there is no end
 
-module _ {L : Type 0} (g : Ghosts L) (keep : Bool) (app : Meaning) (script : List Stamped) (frames : List Captured) (workers : List (Worker L)) (lanes : List (List LaneEvent)) (came : CameTo g keep app script frames workers lanes) where
-  -- no memory was there, or a lane was heavy, and so the run is
-  pub refused : (n : ℕ) (e : PoolError) → n ≡ length workers → (e ≡ NoMemory) ⊎ ((k : ℕ) × (k < length workers) × ((w : Worker L) → IsCause g (get_or workers k w) e))
-      → ((k : ℕ) → IsHeavy app (events_at lanes k)
-      → (vs : List ℕ) × IsAllowedRun app (commands_of script) (floor script) (ceil script) (by_key (length workers)) (arrivals 0 frames) vs × (134217728 < weight (run_under app (commands_of script) vs (arrivals 0 frames))))
+module _ {L : Type 0} (g : Ghosts L) (keep : Bool) (app : Meaning) (script : List Stamped) (frames : List Captured) (workers : List (Worker L)) (lanes : List (List LaneEvent)) (came : CameTo g keep app script frames workers lanes)
+    (last : Option Moment) (is_last : last ≡ greatest (arrivals 0 frames)) where
+  -- a run over all packets that weighs too much
+  abbrev HeavyRun : Type 0
+  HeavyRun = (vs : List ℕ) × IsAllowedRun app (commands_of script) (floor script) (ceil script) (by_key (length workers)) (arrivals 0 frames) vs × (134217728 < weight (run_under app (commands_of script) vs (arrivals 0 frames)))
+
+  heavy_run : (n : ℕ) → n ≡ length workers → HeavyRun → IsTooHeavy app script n frames
+  heavy_run n same run = record { versions = run.0; allowed = subst (λ m. MayHave app script m frames run.0) (sym same) run.1; heavy = run.2 }
+
+  -- no memory was there, or a lane was heavy, while it ran or at its end, and so the run is
+  pub refused : (n : ℕ) (e : PoolError) → n ≡ length workers → (e ≡ NoMemory) ⊎ ((k : ℕ) × (k < length workers) × ((w : Worker L) → IsCause g last (get_or workers k w) e))
+      → ((k : ℕ) → IsHeavy app (events_at lanes k) → HeavyRun)
+      → ((k : ℕ) → arrivals_of (packets_at lanes k) ≡ share (by_key (length workers)) k (arrivals 0 frames) → IsHeavyAtEnd app (events_at lanes k) (greatest (arrivals 0 frames)) → HeavyRun)
       → IsJoinedRun app script n frames keep (Err e)
-  refused n NoMemory same why heavy = tt
-  refused n Heavy same why heavy = ⊎_elim
+  refused n NoMemory same why heavy at_end = tt
+  refused n Heavy same why heavy at_end = ⊎_elim
       (λ none. absurd (cc))
       (λ one.
-      let w = any_of workers one.0 one.1 in
-      let is = came.heavy one.0 w one.1 (one.2 w) in
-      let run = heavy one.0 is.1 in (
-        is.0,
-        record { versions = run.0; allowed = subst (λ m. MayHave app script m frames run.0) (sym same) run.1; heavy = run.2 },
+      let k = one.0 in
+      let w = any_of workers k one.1 in
+      ⊎_elim
+      (λ failed. let is = came.heavy k w one.1 failed in (is.0, heavy_run n same (heavy k is.1)))
+      (λ ends.
+      let too_much = ends.heavy (events_at lanes k) (came.stands k w one.1) in
+      let its = subst (λ (m : Meaning). IsHeavyAtEnd m (events_at lanes k) last) (came.app_is k w one.1) too_much in (
+        sym (came.keeps k w one.1) ∙ ends.keeps,
+        heavy_run n same (at_end k (came.whole k w one.1 ends.good) (subst (λ m. IsHeavyAtEnd app (events_at lanes k) m) is_last its)),
       ))
+      (one.2 w))
       why
-  refused n ReadFault same why heavy = ⊎_elim (λ none. absurd (cc)) (λ one. absurd (one.2 (any_of workers one.0 one.1))) why
-  refused n WriteFault same why heavy = ⊎_elim (λ none. absurd (cc)) (λ one. absurd (one.2 (any_of workers one.0 one.1))) why
-  refused n (TooLong offset) same why heavy = ⊎_elim (λ none. absurd (cc)) (λ one. absurd (one.2 (any_of workers one.0 one.1))) why
-  refused n (TooMany offset) same why heavy = ⊎_elim (λ none. absurd (cc)) (λ one. absurd (one.2 (any_of workers one.0 one.1))) why
+  refused n ReadFault same why heavy at_end = ⊎_elim (λ none. absurd (cc)) (λ one. absurd (one.2 (any_of workers one.0 one.1))) why
+  refused n WriteFault same why heavy at_end = ⊎_elim (λ none. absurd (cc)) (λ one. absurd (one.2 (any_of workers one.0 one.1))) why
+  refused n (TooLong offset) same why heavy at_end = ⊎_elim (λ none. absurd (cc)) (λ one. absurd (one.2 (any_of workers one.0 one.1))) why
+  refused n (TooMany offset) same why heavy at_end = ⊎_elim (λ none. absurd (cc)) (λ one. absurd (one.2 (any_of workers one.0 one.1))) why
 
 -- ---- the end of the run
 

@@ -23,10 +23,11 @@ use Rattle.lane_rings.specs.Forward.{bytes_of_first}
 use Rattle.report_text.specs.declared.record.Record.{Record}
 use Rattle.lane_core.specs.declared.end.LaneEnd.{LaneEnd}
 use Rattle.lane_core.specs.declared.recorder.Recorder.{Ghosts}
-use Rattle.lane_core.specs.Sight.{arrivals}
+use Rattle.lane_core.specs.Sight.{Moment, arrivals}
 use Rattle.lane_core.specs.Records.{RecordSoFar}
 use Rattle.lane_core.specs.Run.{LaneEvent}
 use Rattle.lane_core.specs.Lane.{shown}
+use Rattle.worker_laws.specs.Greatest.{greatest}
 use Rattle.worker_laws.specs.Lanes.{share as share_of}
 use Rattle.worker_laws.specs.Ends.{IsJoined}
 use Rattle.worker_laws.specs.Taken.{events_at, HaveRun, AreOneRun}
@@ -62,27 +63,32 @@ pub versions_joined : (keep : Bool) (app : Meaning) (run : List RecordSoFar) (vs
 versions_joined keep app run vs versions records seen callbacks drops joined named same are =
     are ∙ ap (map (λ r. r.version)) (same ∙ joined.records_are) ∙ versions_shown keep app run ∙ named
 
-module _ {L : Type 0} (g : Ghosts L) where
+module _ {L : Type 0} (g : Ghosts L) (last : Option Moment) where
   -- lanes that ended have not failed
-  pub good_ended : (workers : List (Worker L)) (ends : List LaneEnd) → AreEnded g workers ends → AreGood g workers
+  pub good_ended : (workers : List (Worker L)) (ends : List LaneEnd) → AreEnded g last workers ends → AreGood g workers
   good_ended workers ends ended k w lt =
       let among : k < length ends = (let e = ended.count in omega (arith, e, lt)) in
       (ended.each k w (any_of ends k among) lt).good
 
   -- why lanes that keep no entries don't end
   pub not_heavy : (app : Meaning) (script : List Stamped) (frames : List Captured) (workers : List (Worker L)) (lanes : List (List LaneEvent)) (e : PoolError) → CameTo g false app script frames workers lanes
-      → (e ≡ NoMemory) ⊎ ((k : ℕ) × (k < length workers) × ((w : Worker L) → IsCause g (get_or workers k w) e)) → e ≡ NoMemory
+      → (e ≡ NoMemory) ⊎ ((k : ℕ) × (k < length workers) × ((w : Worker L) → IsCause g last (get_or workers k w) e)) → e ≡ NoMemory
   not_heavy app script frames workers lanes NoMemory came why = refl
   not_heavy app script frames workers lanes Heavy came why = ⊎_elim
       (λ is. is)
-      (λ one. let w = any_of workers one.0 one.1 in let kept = (came.heavy one.0 w one.1 (one.2 w)).0 in absurd (cc))
+      (λ one.
+      let w = any_of workers one.0 one.1 in
+      ⊎_elim
+      (λ failed. let kept = (came.heavy one.0 w one.1 failed).0 in absurd (cc))
+      (λ ends. let kept = sym (came.keeps one.0 w one.1) ∙ ends.keeps in absurd (cc))
+      (one.2 w))
       why
   not_heavy app script frames workers lanes ReadFault came why = ⊎_elim (λ is. is) (λ one. absurd (one.2 (any_of workers one.0 one.1))) why
   not_heavy app script frames workers lanes WriteFault came why = ⊎_elim (λ is. is) (λ one. absurd (one.2 (any_of workers one.0 one.1))) why
   not_heavy app script frames workers lanes (TooLong offset) came why = ⊎_elim (λ is. is) (λ one. absurd (one.2 (any_of workers one.0 one.1))) why
   not_heavy app script frames workers lanes (TooMany offset) came why = ⊎_elim (λ is. is) (λ one. absurd (one.2 (any_of workers one.0 one.1))) why
 
-  pub why_none : (workers : List (Worker L)) (e : PoolError) → (e ≡ NoMemory) ⊎ ((k : ℕ) × (k < length workers) × ((w : Worker L) → IsCause g (get_or workers k w) e)) → (e ≡ NoMemory) ⊎ (e ≡ Heavy)
+  pub why_none : (workers : List (Worker L)) (e : PoolError) → (e ≡ NoMemory) ⊎ ((k : ℕ) × (k < length workers) × ((w : Worker L) → IsCause g last (get_or workers k w) e)) → (e ≡ NoMemory) ⊎ (e ≡ Heavy)
   why_none workers NoMemory why = inl refl
   why_none workers Heavy why = inr refl
   why_none workers ReadFault why = ⊎_elim (λ is. inl is) (λ one. absurd (one.2 (any_of workers one.0 one.1))) why
@@ -90,8 +96,9 @@ module _ {L : Type 0} (g : Ghosts L) where
   why_none workers (TooLong offset) why = ⊎_elim (λ is. inl is) (λ one. absurd (one.2 (any_of workers one.0 one.1))) why
   why_none workers (TooMany offset) why = ⊎_elim (λ is. inl is) (λ one. absurd (one.2 (any_of workers one.0 one.1))) why
 
-  -- ---- workers with the same lanes
+-- ---- workers with the same lanes
 
+module _ {L : Type 0} (g : Ghosts L) where
   module _ (workers after : List (Worker L)) (same : map (λ w. w.lane) after ≡ map (λ w. w.lane) workers) where
     pub same_count : length after ≡ length workers
     same_count = sym (length-map after (λ w. w.lane)) ∙ ap length same ∙ length-map workers (λ w. w.lane)
@@ -269,19 +276,19 @@ module _ {L : Type 0} (g : Ghosts L) (app : Meaning) (script : List Stamped) (fr
 
       -- the capture was read whole
       pub over_at : (r : Result (List ℕ) PoolError) → (IsOk r → AreGood g ended)
-          → ((ls : List (List LaneEvent)) (vs : List ℕ) → CameTo g false app script frames ended ls → AreOneRun app (commands_of script) (by_key (length ended)) (arrivals 0 frames) ls vs
+          → ((ls : List (List LaneEvent)) (vs : List ℕ) → whole.last ≡ greatest (arrivals 0 frames) → CameTo g false app script frames ended ls → AreOneRun app (commands_of script) (by_key (length ended)) (arrivals 0 frames) ls vs
           → MayHave app script (length ended) frames vs → IfOk r (λ versions. versions ≡ vs))
           → ((ls : List (List LaneEvent)) → CameTo g false app script frames ended ls → IfErr r (λ e. e ≡ NoMemory))
           → ForwardsOver app script (length begins) (frames_at start rest) before later r
       over_at (Ok versions) good named no_memory =
           let law_all = whole_law.2 (good_before g workers ended same (good refl)) in
           let count = sym (same_count g workers ended same) in
-          subst (λ f. ForwardsOver app script (length begins) f before later (Ok versions)) (sym (stops.1 rest is).0) (
+          subst (λ f. ForwardsOver app script (length begins) f before later (Ok versions)) (sym (stops.holds rest is).0) (
             whole.tail,
             refl,
             exit_all app script frames frames workers (length begins) (length relays) served.count relays_count lanes law_all (taken_from after) w before later versions (are_sent workers relays after drained)
                 (all_taken workers relays after drained begins frames streamed.relays_are (sym relays_count)) leaves none
-                (named lanes law_all.versions came
+                (named lanes law_all.versions stops.last came
                 (subst (λ n. AreOneRun app (commands_of script) (by_key n) (arrivals 0 frames) lanes law_all.versions) count law_all.one)
                 (subst (λ n. MayHave app script n frames law_all.versions) count law_all.may_have)),
           )

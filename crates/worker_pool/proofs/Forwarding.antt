@@ -123,7 +123,7 @@ front_of_nothing before bytes = record { front = []; rest = bytes; added = appen
 -- the source of a run that was read to its end has nothing left
 pub read_all : (frames : List Captured) (capture : CaptureState) (old new : Option (List ℕ)) (read : Result Whole PoolError) → IsOk read → StopsAs frames capture old new read
     → (rest : List ℕ) → old ≡ Some rest → new ≡ Some []
-read_all frames capture old new (Ok whole) ok stops rest is = (stops.1 rest is).1
+read_all frames capture old new (Ok whole) ok stops rest is = (stops.holds rest is).1
 read_all frames capture old new (Err e) ok stops rest is = absurd (cc)
 
 -- a count that rose has risen also from an earlier moment, and to a later one

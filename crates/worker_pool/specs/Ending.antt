@@ -1,5 +1,5 @@
 -- Only for proofs: what the lanes of workers came to, from their packets to the end of the whole run.
-use Rattle.std.specs.Prelude.{◌≡◌, ℕ, ◌<◌, Bool, true, List, length, get_or, Some, None, Result, Ok, Err, ⊤}
+use Rattle.std.specs.Prelude.{◌≡◌, ◌⊎◌, ℕ, ◌<◌, Bool, true, List, length, get_or, Option, Some, None, Result, Ok, Err, ⊤}
 use Rattle.app_api.specs.App.{Meaning}
 use Rattle.pcap_source.specs.Captured.{Captured}
 use Rattle.flow_table.specs.Key.{EndpointPair}
@@ -10,9 +10,9 @@ use Rattle.control_script.specs.Versions.{floor, ceil}
 use Rattle.lane_core.specs.declared.end.LaneEnd.{LaneEnd}
 use Rattle.lane_core.specs.declared.errors.LaneError.TheVariants.{Heavy as TooHeavy}
 use Rattle.lane_core.specs.declared.recorder.Recorder.{Ghosts}
-use Rattle.lane_core.specs.Sight.{arrivals}
-use Rattle.lane_core.specs.Run.{LaneEvent, lane_run}
-use Rattle.lane_core.specs.Lane.{IsEnd, IsHeavy}
+use Rattle.lane_core.specs.Sight.{Moment, arrivals}
+use Rattle.lane_core.specs.Run.{LaneEvent, ended_run}
+use Rattle.lane_core.specs.Lane.{IsEnd, IsHeavy, IsHeavyAtEnd}
 use Rattle.worker_laws.specs.declared.ends.Joined.{Joined}
 use Rattle.worker_laws.specs.Allowed.{arrivals_of}
 use Rattle.worker_laws.specs.Ends.{IsJoined}
@@ -41,16 +41,24 @@ module _ {L : Type 0} (g : Ghosts L) (keep : Bool) (app : Meaning) where
         → arrivals_of (packets_at lanes k) ≡ share (by_key (length workers)) k (arrivals 0 frames)
     pub heavy : (k : ℕ) (w : Worker L) → k < length workers → g.failed (get_or workers k w).lane ≡ Some TooHeavy → (keep ≡ true) × IsHeavy app (events_at lanes k)
 
-module _ {L : Type 0} (g : Ghosts L) where
+-- `last` is the greatest moment of all packets
+module _ {L : Type 0} (g : Ghosts L) (last : Option Moment) where
   -- how a worker's lane ends: it hasn't failed, and its end is that of its run
   pub record HasEnded (worker : Worker L) (end : LaneEnd) : Type 0 where
     pub good : g.failed worker.lane ≡ None
     pub end_is : (events : List LaneEvent) → g.stands worker.lane events
-        → IsEnd (g.keeps worker.lane) (g.app worker.lane) (lane_run (g.app worker.lane) events) end.records end.versions end.callbacks end.drops
+        → IsEnd (g.keeps worker.lane) (g.app worker.lane) (ended_run (g.app worker.lane) events last)
+        end.records end.versions end.callbacks end.drops
 
-  -- why a worker's lane has no end: memory was refused, or it failed as heavy
+  -- a worker's lane that hasn't failed keeps entries, and its records weigh too much at the end
+  pub record EndsHeavy (worker : Worker L) : Type 0 where
+    pub good : g.failed worker.lane ≡ None
+    pub keeps : g.keeps worker.lane ≡ true
+    pub heavy : (events : List LaneEvent) → g.stands worker.lane events → IsHeavyAtEnd (g.app worker.lane) events last
+
+  -- why a worker's lane has no end: memory was refused, or it is heavy
   abbrev pub IsCause : Worker L → PoolError → Type 0
-  IsCause worker Heavy = g.failed worker.lane ≡ Some TooHeavy
+  IsCause worker Heavy = (g.failed worker.lane ≡ Some TooHeavy) ⊎ EndsHeavy worker
   IsCause worker NoMemory = ⊤
   IsCause worker ReadFault = ⊥
   IsCause worker WriteFault = ⊥

@@ -13,6 +13,8 @@ use Rattle.control_script.specs.Order.{commands_of}
 use Rattle.lane_rings.specs.declared.items.Packet.{Packet}
 use Rattle.lane_rings.specs.Ring.{sent, AreEnds}
 use Rattle.lane_core.specs.declared.recorder.Recorder.{Ghosts}
+use Rattle.lane_core.specs.Sight.{arrivals}
+use Rattle.worker_laws.specs.Greatest.{greatest}
 use Rattle.worker_pool.specs.declared.worker.Worker.{Worker}
 use Rattle.worker_pool.specs.declared.seat.Seat.{Seat}
 use Rattle.worker_pool.specs.declared.seat.Seat.TheVariants.{Away, Here}
@@ -40,10 +42,16 @@ module _ {L : Type 0} where
     pub each : (k : ℕ) (w : Worker L) (p : Post L) → k < length posts
         → IsPost g (commands_of script) (get_or begins k w) (dealt (length posts) k (packets_from script 0 frames)) (get_or posts k p)
 
+-- a capture was read to its end: these frames, before a tail
+pub record HasRead (frames : List Captured) (capture : CaptureState) (old new : Option (List ℕ)) (whole : Whole) : Type 0 where
+  pub count : length frames ≡ whole.packets
+  pub last : whole.last ≡ greatest (arrivals 0 frames)
+  pub holds : (rest : List ℕ) → old ≡ Some rest
+      → (frames_at capture rest ≡ record { frames = frames; ending = tail whole.tail }) × (new ≡ Some [])
+
 -- what was read: these frames are the whole capture, before a tail; or the capture is refused behind them
 abbrev pub ReadsAs : List Captured → CaptureState → Option (List ℕ) → Option (List ℕ) → Result Whole NextError → Type 0
-ReadsAs frames capture old new (Ok whole) = (length frames ≡ whole.packets)
-    × ((rest : List ℕ) → old ≡ Some rest → (frames_at capture rest ≡ record { frames = frames; ending = tail whole.tail }) × (new ≡ Some []))
+ReadsAs frames capture old new (Ok whole) = HasRead frames capture old new whole
 ReadsAs frames capture old new (Err (TooLong offset)) = (rest : List ℕ) → old ≡ Some rest → (frames_at capture rest).ending ≡ too_long offset
 ReadsAs frames capture old new (Err (TooMany offset)) = (rest : List ℕ) → old ≡ Some rest → (frames_at capture rest).ending ≡ too_many offset
 ReadsAs frames capture old new (Err ReadFault) = ⊤

@@ -3,7 +3,7 @@ use Rattle.std.specs.Prelude.{◌≡◌, ◌≢◌, ℕ, ◌<◌, ◌≤◌, Lis
 use Rattle.std.specs.Io.KnownBytes.{Appends}
 use mathlib.Core.List.{IsPrefix}
 use Rattle.pcap_source.specs.Captured.{Captured}
-use Rattle.pcap_source.specs.Capture.{tail, too_long, too_many}
+use Rattle.pcap_source.specs.Capture.{too_long, too_many}
 use Rattle.pcap_source.specs.Reading.{CaptureState, frames_at}
 use Rattle.ip6_views.specs.Sight.{sight_of, lane_of_sight}
 use Rattle.control_script.specs.declared.stamped.Stamped.{Stamped}
@@ -20,7 +20,7 @@ use Rattle.worker_pool.specs.declared.dispatch.Whole.{Whole}
 use Rattle.worker_pool.specs.declared.forward.relay.Relay.{Relay}
 use Rattle.worker_pool.specs.declared.job.PoolError.{PoolError}
 use Rattle.worker_pool.specs.declared.job.PoolError.TheVariants.{TooLong, TooMany, ReadFault, WriteFault, Heavy, NoMemory}
-use Rattle.worker_pool.specs.Posts.{ArePosts}
+use Rattle.worker_pool.specs.Posts.{ArePosts, HasRead}
 
 -- the lane of each packet by its number, among so many lanes; lane 0 past the end
 abbrev pub lane_at : ℕ → List Captured → ℕ → ℕ
@@ -70,8 +70,7 @@ module _ (lane : ℕ → ℕ) (n : ℕ) (taken_so_far : ℕ → List Answer) whe
 
 -- why the dispatcher stopped, where it read a capture that gives these frames
 abbrev pub StopsAs : List Captured → CaptureState → Option (List ℕ) → Option (List ℕ) → Result Whole PoolError → Type 0
-StopsAs frames capture old new (Ok whole) = (length frames ≡ whole.packets)
-    × ((rest : List ℕ) → old ≡ Some rest → (frames_at capture rest ≡ record { frames = frames; ending = tail whole.tail }) × (new ≡ Some []))
+StopsAs frames capture old new (Ok whole) = HasRead frames capture old new whole
 StopsAs frames capture old new (Err (TooLong offset)) = (rest : List ℕ) → old ≡ Some rest → (frames_at capture rest).ending ≡ too_long offset
 StopsAs frames capture old new (Err (TooMany offset)) = (rest : List ℕ) → old ≡ Some rest → (frames_at capture rest).ending ≡ too_many offset
 StopsAs frames capture old new (Err ReadFault) = ⊤

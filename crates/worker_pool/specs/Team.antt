@@ -1,7 +1,7 @@
 -- Workers that share a run, from their start to their end.
 use Rattle.std.specs.Prelude.{◌≡◌, ℕ, ◌<◌, ◌≤◌, Bool, List, [], length, get_or, Option, Some, None, Result, Ok, Err, ⊤}
 use Rattle.pcap_source.specs.Captured.{Captured}
-use Rattle.pcap_source.specs.Capture.{tail, too_long, too_many}
+use Rattle.pcap_source.specs.Capture.{too_long, too_many}
 use Rattle.pcap_source.specs.Reading.{CaptureState, frames_at}
 use Rattle.forest_versions.specs.declared.command.Command.{Command}
 use Rattle.forest_versions.specs.State.{start}
@@ -19,6 +19,7 @@ use Rattle.worker_pool.specs.declared.job.PoolError.{PoolError}
 use Rattle.worker_pool.specs.declared.job.PoolError.TheVariants.{TooLong, TooMany, ReadFault, WriteFault, Heavy, NoMemory}
 use Rattle.worker_pool.specs.Worked.{Worked}
 use Rattle.worker_pool.specs.Sent.{packets_from, dealt}
+use Rattle.worker_pool.specs.Posts.{HasRead}
 
 module _ {L : Type 0} where
   -- a worker that has taken nothing: its lane stands for no events, under the presets alone
@@ -57,8 +58,8 @@ module _ {L : Type 0} where
 
   -- what a team came to over a capture: its workers served all of it, or it is refused
   abbrev pub TeamRan : Ghosts L → List Stamped → List (Worker L) → CaptureState → Option (List ℕ) → Option (List ℕ) → Result (Ran L) PoolError → Type 0
-  TeamRan g script begins capture old new (Ok ran) = (frames : List Captured) × (length frames ≡ ran.packets) × (length frames ≤ 1048576)
-      × ((rest : List ℕ) → old ≡ Some rest → (frames_at capture rest ≡ record { frames = frames; ending = tail ran.tail }) × (new ≡ Some []))
+  TeamRan g script begins capture old new (Ok ran) = (frames : List Captured) × (length frames ≤ 1048576)
+      × HasRead frames capture old new ran.whole
       × HaveServed g script begins frames ran.workers.items
   TeamRan g script begins capture old new (Err (TooLong offset)) = (rest : List ℕ) → old ≡ Some rest → (frames_at capture rest).ending ≡ too_long offset
   TeamRan g script begins capture old new (Err (TooMany offset)) = (rest : List ℕ) → old ≡ Some rest → (frames_at capture rest).ending ≡ too_many offset
@@ -69,8 +70,7 @@ module _ {L : Type 0} where
 
 -- what was read for a report: these frames are the whole capture, before a tail; or the capture is refused behind them
 abbrev pub ReadsWhole : List Captured → CaptureState → Option (List ℕ) → Option (List ℕ) → Result Whole PoolError → Type 0
-ReadsWhole frames capture old new (Ok whole) = (length frames ≡ whole.packets)
-    × ((rest : List ℕ) → old ≡ Some rest → (frames_at capture rest ≡ record { frames = frames; ending = tail whole.tail }) × (new ≡ Some []))
+ReadsWhole frames capture old new (Ok whole) = HasRead frames capture old new whole
 ReadsWhole frames capture old new (Err (TooLong offset)) = (rest : List ℕ) → old ≡ Some rest → (frames_at capture rest).ending ≡ too_long offset
 ReadsWhole frames capture old new (Err (TooMany offset)) = (rest : List ℕ) → old ≡ Some rest → (frames_at capture rest).ending ≡ too_many offset
 ReadsWhole frames capture old new (Err ReadFault) = ⊤

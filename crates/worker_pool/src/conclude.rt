@@ -7,7 +7,9 @@ ghost use Rattle.control_script.specs.declared.stamped.Stamped.{Stamped};
 ghost use Rattle.control_script.specs.Versions.{floor, ceil};
 ghost use Rattle.lane_rings.specs.declared.items.Packet.{Packet};
 ghost use Rattle.lane_rings.specs.declared.ring.RingTx.{RingTx};
+ghost use Rattle.lane_core.specs.Sight.{arrivals};
 ghost use Rattle.lane_core.specs.Run.{LaneEvent};
+ghost use Rattle.worker_laws.specs.Greatest.{greatest};
 ghost use Rattle.worker_laws.specs.Ends.{IsJoined};
 ghost use Rattle.worker_pool.specs.declared.worker.Worker.{Worker as Begun};
 ghost use Rattle.worker_pool.specs.Run.{MayHave, run_of};
@@ -20,7 +22,9 @@ use crate::team::Ran;
 use crate::versions::versions_of;
 use crate::worker::Worker;
 use control_script::Script;
+use flow_timers::Moment;
 use lane_core::{LaneEnd, Recorder};
+use native_filters::NativeBook;
 use report_text::Totals;
 use std::alloc::Global;
 use worker_laws::packets::{packets_go_to_lanes, packets_of_a_capture_rise};
@@ -48,26 +52,33 @@ pub(crate) fn lanes_have_come<L: Recorder + Drop>(script: &Script, workers: &[Wo
 }
 
 // What the lane of a worker ends with.
-fn end_of<L: Recorder + Drop>(alloc: Global, worker: Worker<L>) -> Result<LaneEnd, PoolError>
-    ensures ended { IfOk result (λ end. HasEnded L.Recorder worker end) }
-    ensures failed { IfErr result (λ e. IsCause L.Recorder worker e) }
+fn end_of<L: Recorder + Drop>(
+    alloc: Global,
+    worker: Worker<L>,
+    last: Option<Moment>,
+    natives: &NativeBook,
+) -> Result<LaneEnd, PoolError>
+    ensures ended { IfOk result (λ end. HasEnded L.Recorder last worker end) }
+    ensures failed { IfErr result (λ e. IsCause L.Recorder last worker e) }
 {
     let Worker { lane, .. } = worker;
-    Ok(lane.finish(alloc)?)
+    Ok(lane.finish(alloc, last, natives)?)
 }
 
-/// What the lanes of workers end with.
+/// What the lanes of workers end with, where `last` is the greatest moment of all packets.
 pub(crate) fn ends_of<L: Recorder + Drop>(
     alloc: Global,
     workers: Vec<Worker<L>>,
+    last: Option<Moment>,
+    natives: &NativeBook,
 ) -> Result<Vec<LaneEnd>, PoolError>
-    ensures ended { IfOk result (λ ends. AreEnded L.Recorder workers.items ends.items) }
+    ensures ended { IfOk result (λ ends. AreEnded L.Recorder last workers.items ends.items) }
     ensures failed { IfErr result (λ e. (e ≡ PoolError.NoMemory) ⊎ ((k : ℕ) × (k < length workers.items)
-        × ((w : Begun L) → IsCause L.Recorder (get_or workers.items k w) e))) }
+        × ((w : Begun L) → IsCause L.Recorder last (get_or workers.items k w) e))) }
 {
     let mut ends = Vec::with_capacity(alloc, workers.len())?;
     for worker in workers {
-        ends.push(end_of(alloc, worker)?)?;
+        ends.push(end_of(alloc, worker, last, natives)?)?;
     }
     Ok(ends)
 }
@@ -77,9 +88,12 @@ fn joined_of<L: Recorder + Drop>(
     alloc: Global,
     script: &Script,
     workers: Vec<Worker<L>>,
+    last: Option<Moment>,
+    natives: &NativeBook,
 ) -> Result<Joined, PoolError>
     ensures joined { (keep : Bool) (app : Meaning) (frames : List Captured) (begins : List (Begun L)) (packets : List (RingTx Packet))
-        → length frames ≤ 1048576 → IsTeam L.Recorder app begins packets → AllKeep L.Recorder keep begins
+        → length frames ≤ 1048576 → last ≡ greatest (arrivals 0 frames)
+        → IsTeam L.Recorder app begins packets → AllKeep L.Recorder keep begins
         → HaveServed L.Recorder script.now begins frames workers.items
         → IsJoinedRun app script.now (length begins) frames keep result }
 {
@@ -87,7 +101,7 @@ fn joined_of<L: Recorder + Drop>(
     packets_of_a_capture_rise();
     lanes_are_one_run();
     a_heavy_lane_makes_a_heavy_run();
-    let ends = ends_of(alloc, workers)?;
+    let ends = ends_of(alloc, workers, last, natives)?;
     Ok(join(alloc, ends)?)
 }
 
@@ -126,13 +140,15 @@ pub(crate) fn conclude<L: Recorder + Drop>(
     alloc: Global,
     script: &Script,
     ran: Ran<L>,
+    natives: &NativeBook,
 ) -> Result<LanesEnd, PoolError>
     ensures ends { (app : Meaning) (frames : List Captured) (begins : List (Begun L)) (packets : List (RingTx Packet))
-        → length frames ≡ ran.packets → length frames ≤ 1048576
+        → length frames ≡ ran.whole.packets → length frames ≤ 1048576 → ran.whole.last ≡ greatest (arrivals 0 frames)
         → IsTeam L.Recorder app begins packets → AllKeep L.Recorder true begins
         → HaveServed L.Recorder script.now begins frames ran.workers.items
-        → Concludes app script.now (length begins) frames ran.tail result }
+        → Concludes app script.now (length begins) frames ran.whole.tail result }
 {
-    let joined = joined_of(alloc, script, ran.workers)?;
-    whole_of(alloc, joined, ran.packets, ran.tail)
+    let Ran { workers, whole } = ran;
+    let joined = joined_of(alloc, script, workers, whole.last, natives)?;
+    whole_of(alloc, joined, whole.packets, whole.tail)
 }

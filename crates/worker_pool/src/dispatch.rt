@@ -13,6 +13,7 @@ use crate::gate::Gate;
 use crate::post::{Post, send_to};
 use control_script::Script;
 use flow_table::{Key, mix};
+use flow_timers::Moment;
 use ip6_views::{Sight, key_between, sight_of};
 use lane_core::Recorder;
 use lane_rings::Packet;
@@ -22,6 +23,7 @@ use pcap_source::{Capture, Frame, NextError, Step};
 use std::alloc::Global;
 use std::sync::Wait;
 use std::sync::atomic::AtomicBool;
+use worker_laws::moments::greatest_with;
 
 /// A capture that was read to its end.
 #[derive(Clone, Copy, Debug, PartialEq, Eq)]
@@ -30,6 +32,8 @@ pub(crate) struct Whole {
     pub(crate) packets: u64,
     /// The bytes behind them that are no whole record.
     pub(crate) tail: u32,
+    /// The greatest moment of its packets, of whatever class; none where it has no packet.
+    pub(crate) last: Option<Moment>,
 }
 
 // The lane of a key. `flow_table::lane_of` says the same, but asks at most 16 lanes.
@@ -119,17 +123,31 @@ pub(crate) fn dispatch<R: Wait, L: Recorder + Drop, S: Source, G: Gate>(
     ensures stopped { capture.new.is_live ≡ false }
 {
     let mut packets = 0;
+    let mut last = None;
     loop {
         let mut frame = Frame::new(alloc);
         match capture.next(source, &mut frame)? {
             Step::Frame => {
+                last = greatest_with(last, &frame);
                 send_frame(
                     rt, alloc, posts, packets, frame, script, natives, gate, failed,
                 );
                 packets += 1;
             }
-            Step::Tail(tail) => return Ok(Whole { packets, tail }),
-            Step::End => return Ok(Whole { packets, tail: 0 }),
+            Step::Tail(tail) => {
+                return Ok(Whole {
+                    packets,
+                    tail,
+                    last,
+                });
+            }
+            Step::End => {
+                return Ok(Whole {
+                    packets,
+                    tail: 0,
+                    last,
+                });
+            }
         }
     }
 }

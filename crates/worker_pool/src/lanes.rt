@@ -64,5 +64,5 @@ pub fn run_lanes<
 {
     let team = make_team(rt, alloc, job)?;
     let ran = read_team(rt, alloc, team, job.script, natives, gate, capture, source)?;
-    conclude(alloc, job.script, ran)
+    conclude(alloc, job.script, ran, natives)
 }

@@ -113,9 +113,5 @@ pub(crate) fn read_team<
     };
     let (read, workers) = run_team(rt, alloc, team, script, natives, gate, &failed, &mut reader)?;
     let whole = read?;
-    Ok(Ran {
-        workers,
-        packets: whole.packets,
-        tail: whole.tail,
-    })
+    Ok(Ran { workers, whole })
 }

@@ -44,10 +44,8 @@ pub(crate) struct Team<L: Recorder + Drop> {
 #[derive(Drop)]
 pub(crate) struct Ran<L: Recorder + Drop> {
     pub(crate) workers: Vec<Worker<L>>,
-    /// How many packets the capture has.
-    pub(crate) packets: u64,
-    /// The bytes behind them that are no whole record.
-    pub(crate) tail: u32,
+    /// The capture.
+    pub(crate) whole: Whole,
 }
 
 // Flags that aren't raised.

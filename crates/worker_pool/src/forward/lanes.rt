@@ -172,6 +172,6 @@ pub fn forward_lanes<
         out,
     )?;
     leave(
-        alloc, job.script, workers, relays, waiting, read, capture, out,
+        alloc, job.script, workers, relays, waiting, read, natives, capture, out,
     )
 }

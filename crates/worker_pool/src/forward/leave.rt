@@ -11,6 +11,7 @@ ghost use Rattle.control_script.specs.declared.stamped.Stamped.{Stamped};
 ghost use Rattle.control_script.specs.Order.{commands_of};
 ghost use Rattle.lane_core.specs.Sight.{arrivals};
 ghost use Rattle.lane_core.specs.Run.{LaneEvent};
+ghost use Rattle.worker_laws.specs.Greatest.{greatest};
 ghost use Rattle.worker_laws.specs.Taken.{AreOneRun};
 ghost use Rattle.worker_pool.specs.declared.worker.Worker.{Worker as Begun};
 ghost use Rattle.worker_pool.specs.Team.{IsTeam, AllKeep, HaveServed};
@@ -30,9 +31,11 @@ use crate::job::PoolError;
 use crate::versions::{VersionList, versions_of};
 use crate::worker::Worker;
 use control_script::Script;
+use flow_timers::Moment;
 use lane_core::Recorder;
 use lane_rings::Resequencer;
 use mos_bytes::Sink;
+use native_filters::NativeBook;
 use pcap_source::Capture;
 use std::alloc::Global;
 use worker_laws::join;
@@ -43,9 +46,12 @@ use worker_laws::runs::a_run_has_its_versions;
 fn versions_in<L: Recorder + Drop>(
     alloc: Global,
     workers: Vec<Worker<L>>,
+    last: Option<Moment>,
+    natives: &NativeBook,
 ) -> Result<VersionList, PoolError>
     ensures good { IsOk result → AreGood L.Recorder workers.items }
     ensures versions { (app : Meaning) (script : List Stamped) (frames : List Captured) (lanes : List (List LaneEvent)) (vs : List ℕ)
+        → last ≡ greatest (arrivals 0 frames)
         → CameTo L.Recorder false app script frames workers.items lanes
         → AreOneRun app (commands_of script) (by_key (length workers.items)) (arrivals 0 frames) lanes vs
         → MayHave app script (length workers.items) frames vs → IfOk result (λ versions. versions ≡ vs) }
@@ -55,7 +61,7 @@ fn versions_in<L: Recorder + Drop>(
 {
     packets_of_a_capture_rise();
     a_run_has_its_versions();
-    let ends = ends_of(alloc, workers)?;
+    let ends = ends_of(alloc, workers, last, natives)?;
     let joined = join(alloc, ends)?;
     let versions = versions_of(alloc, joined.records.as_slice())?;
     Ok(versions)
@@ -84,6 +90,7 @@ pub(crate) fn leave<L: Recorder + Drop, O: Sink>(
     relays: Vec<Relay>,
     waiting: Resequencer,
     read: Result<Whole, PoolError>,
+    natives: &NativeBook,
     capture: &Capture,
     out: &mut O,
 ) -> Result<VersionList, PoolError>
@@ -119,7 +126,7 @@ pub(crate) fn leave<L: Recorder + Drop, O: Sink>(
     }
     write_ready(&mut waiting, capture, out, &mut spare)?;
     match read {
-        Ok(_) => versions_in(alloc, workers),
+        Ok(whole) => versions_in(alloc, workers, whole.last, natives),
         Err(error) => Err(error),
     }
 }

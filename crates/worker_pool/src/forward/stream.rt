@@ -28,6 +28,7 @@ use pcap_source::{Capture, Frame, Step};
 use std::alloc::Global;
 use std::sync::Wait;
 use std::sync::atomic::{AtomicBool, Ordering};
+use worker_laws::moments::greatest_with;
 
 // Whether the next packet may be read: its place is there, and where the source would ask the outside for it, no packet is
 // on its way any more. So what has come in is decided and written before more is waited for.
@@ -173,6 +174,7 @@ pub(crate) fn stream<R: Wait, L: Recorder + Drop, S: Source, O: Sink, G: Gate>(
     ensures stopped { IsTrue capture.new.is_live → ((result ≡ Err PoolError.WriteFault) ⊎ (result ≡ Err PoolError.NoMemory)) × GoesOn capture.old capture.new (S.left source.old) (S.left source.new) }
 {
     let mut packets = 0;
+    let mut last = None;
     let mut spare = Vec::new(alloc);
     loop {
         await_place(
@@ -182,14 +184,27 @@ pub(crate) fn stream<R: Wait, L: Recorder + Drop, S: Source, O: Sink, G: Gate>(
         let mut frame = next_frame(alloc, &mut spare);
         match capture.next(source, &mut frame)? {
             Step::Frame => {
+                last = greatest_with(last, &frame);
                 send_next(
                     rt, alloc, posts, relays, waiting, packets, frame, script, natives, gate,
                     failed,
                 );
                 packets += 1;
             }
-            Step::Tail(tail) => return Ok(Whole { packets, tail }),
-            Step::End => return Ok(Whole { packets, tail: 0 }),
+            Step::Tail(tail) => {
+                return Ok(Whole {
+                    packets,
+                    tail,
+                    last,
+                });
+            }
+            Step::End => {
+                return Ok(Whole {
+                    packets,
+                    tail: 0,
+                    last,
+                });
+            }
         }
     }
 }

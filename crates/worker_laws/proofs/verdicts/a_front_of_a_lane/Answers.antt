@@ -2,4 +2,4 @@ use Rattle.worker_laws.proofs.Composed.{front_verdicts}
 use Rattle.worker_laws.proofs.verdicts.a_front_of_a_lane.Goals as goal
 
 pub returns : goal.returns
-returns c = record { verdicts = λ over judge lane packets parts more vs l runs. front_verdicts over lane packets parts more vs runs judge l }
+returns c = record { verdicts = λ endings judge lane packets parts more vs l runs. front_verdicts endings lane packets parts more vs runs judge l }

@@ -5,7 +5,7 @@ use Rattle.worker_laws.proofs.Naming.{named_again, judged_again}
 use Rattle.worker_laws.proofs.versions.versions_name_the_records.Goals as goal
 
 pub returns-clause-records : goal.returns-clause-records
-returns-clause-records c = λ over ps. named_again over (versions_of (records over ps)) [] ps refl
+returns-clause-records c = λ endings ps. named_again endings (versions_of (records endings ps)) [] ps refl
 
 pub returns-clause-verdicts : goal.returns-clause-verdicts
-returns-clause-verdicts c = λ over judge ps. judged_again over judge (versions_of (records over ps)) [] ps refl
+returns-clause-verdicts c = λ endings judge ps. judged_again endings judge (versions_of (records endings ps)) [] ps refl

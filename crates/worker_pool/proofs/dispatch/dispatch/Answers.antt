@@ -1,13 +1,18 @@
-use Rattle.std.proofs.Common.{◌≡◌, ◌≢◌, ◌+◌, [], ◌∷◌, ◌++◌, Ok, Err, refl, sym, ap, subst, ◌∙◌, arith, le_refl}
+use Rattle.std.proofs.Common.{◌≡◌, ◌≢◌, ◌+◌, [], ◌∷◌, ◌++◌, None, Ok, Err, refl, sym, ap, subst, ◌∙◌, arith, le_refl}
 use Rattle.std.proofs.lemmas.List.{length-append}
 use Rattle.std.proofs.lemmas.Result.{err_from_is_err_and}
 use Rattle.std.specs.Prelude.{IsErrOf}
 use Rattle.pcap_source.specs.declared.capture.Step.TheVariants.{Frame}
 use Rattle.pcap_source.specs.Reading.{NextGives}
 use Rattle.pcap_source.specs.declared.errors.NextError.TheVariants.{ReadFault}
+use Rattle.worker_laws.specs.Greatest.{greatest_from, greatest}
 use Rattle.worker_pool.proofs.Reading.{same_error, read_none, read_more, read_tail, read_end, read_refused, read_cut}
 use Rattle.worker_pool.proofs.Source.{reads_well, reads_ill, no_value, no_error}
 use Rattle.worker_pool.proofs.dispatch.dispatch.Goals as goal
+
+none_yet : None ≡ greatest []
+unfolding greatest_from
+none_yet = refl
 
 pub loop-frame-init : goal.loop-frame-init
 loop-frame-init g c = record {
@@ -17,7 +22,7 @@ loop-frame-init g c = record {
   some = c.requires.some;
   faults = le_refl _;
   lasts = refl;
-  read = ([], refl, λ begins are. are, λ bytes told. read_none c.args.capture.now bytes (g.S.Source.left c.args.source.now) told);
+  read = ([], refl, λ begins are. are, λ bytes told. read_none c.args.capture.now bytes (g.S.Source.left c.args.source.now) told, none_yet);
 }
 
 pub returns-in_err-next-clause-dispatched : goal.returns-in_err-next-clause-dispatched
@@ -73,6 +78,7 @@ loop-frame-preserved g c =
         length-append read.0 (frame ∷ []) ∙ ap (λ n. n + 1) read.1,
         λ begins are. c.send_frame.ensures.sent begins read.0 read.1 (read.2 begins are),
         λ bytes told. read_more c.args.capture.now bytes read.0 at.capture c.next.new.self frame (g.S.Source.left at.source) (g.S.Source.left c.next.new.source) gives (read.3 bytes told),
+        c.greatest_with.ensures.greatest read.0 read.4,
       );
     }
 
@@ -86,10 +92,11 @@ returns-in-Tail-clause-dispatched g c = λ begins are.
       frames = read.0;
       few = let few = inv.few in let count = read.1 in omega (arith, few, count);
       posts_are = read.2 begins are;
-      read = (
-        read.1,
-        λ bytes told. read_tail c.args.capture.now bytes read.0 at.capture c.next.new.self c.next.new.frame c.in-Tail.tail (g.S.Source.left at.source) (g.S.Source.left c.next.new.source) gives (read.3 bytes told),
-      );
+      read = record {
+        count = read.1;
+        last = read.4;
+        holds = λ bytes told. read_tail c.args.capture.now bytes read.0 at.capture c.next.new.self c.next.new.frame c.in-Tail.tail (g.S.Source.left at.source) (g.S.Source.left c.next.new.source) gives (read.3 bytes told);
+      };
     }
 
 pub returns-in-Tail-clause-reads : goal.returns-in-Tail-clause-reads
@@ -111,10 +118,11 @@ returns-in-End-clause-dispatched g c = λ begins are.
       frames = read.0;
       few = let few = inv.few in let count = read.1 in omega (arith, few, count);
       posts_are = read.2 begins are;
-      read = (
-        read.1,
-        λ bytes told. read_end c.args.capture.now bytes read.0 at.capture c.next.new.self c.next.new.frame (g.S.Source.left at.source) (g.S.Source.left c.next.new.source) gives (read.3 bytes told),
-      );
+      read = record {
+        count = read.1;
+        last = read.4;
+        holds = λ bytes told. read_end c.args.capture.now bytes read.0 at.capture c.next.new.self c.next.new.frame (g.S.Source.left at.source) (g.S.Source.left c.next.new.source) gives (read.3 bytes told);
+      };
     }
 
 pub returns-in-End-clause-reads : goal.returns-in-End-clause-reads

@@ -25,21 +25,21 @@ returns-clause-ends g c rest is =
     let app = g.A.App.meaning c.args.job.now.app in
     let script = c.args.job.now.script.now in
     let ran = c.in_ok-ran.ensures.ran in
-    let end = c.conclude.ensures.ends app ran.0 c.in_ok-team.team.workers.items c.in_ok-team.team.packets.items ran.1 ran.2 c.in_ok-team.ensures.team c.in_ok-team.ensures.keep ran.4 in
-    let over = subst (λ n. Concludes app script n ran.0 c.in_ok-ran.ran.tail c.conclude.result) c.in_ok-team.ensures.count end in
-    subst (λ (f : Frames). EndsOver app script c.args.job.now.workers f c.conclude.result) (sym (ran.3 rest is).0)
-    (concluded app script c.args.job.now.workers ran.0 c.in_ok-ran.ran.tail c.conclude.result over)
+    let end = c.conclude.ensures.ends app ran.0 c.in_ok-team.team.workers.items c.in_ok-team.team.packets.items ran.2.count ran.1 ran.2.last c.in_ok-team.ensures.team c.in_ok-team.ensures.keep ran.3 in
+    let over = subst (λ n. Concludes app script n ran.0 c.in_ok-ran.ran.whole.tail c.conclude.result) c.in_ok-team.ensures.count end in
+    subst (λ (f : Frames). EndsOver app script c.args.job.now.workers f c.conclude.result) (sym (ran.2.holds rest is).0)
+    (concluded app script c.args.job.now.workers ran.0 c.in_ok-ran.ran.whole.tail c.conclude.result over)
 
 pub returns-clause-whole : goal.returns-clause-whole
 returns-clause-whole g c =
     let app = g.A.App.meaning c.args.job.now.app in
     let ran = c.in_ok-ran.ensures.ran in
-    let end = c.conclude.ensures.ends app ran.0 c.in_ok-team.team.workers.items c.in_ok-team.team.packets.items ran.1 ran.2 c.in_ok-team.ensures.team c.in_ok-team.ensures.keep ran.4 in
-    of_frames app c.args.job.now.script.now c.args.job.now.workers ran.0 c.in_ok-ran.ran.tail c.conclude.result
-    (subst (λ n. Concludes app c.args.job.now.script.now n ran.0 c.in_ok-ran.ran.tail c.conclude.result) c.in_ok-team.ensures.count end)
+    let end = c.conclude.ensures.ends app ran.0 c.in_ok-team.team.workers.items c.in_ok-team.team.packets.items ran.2.count ran.1 ran.2.last c.in_ok-team.ensures.team c.in_ok-team.ensures.keep ran.3 in
+    of_frames app c.args.job.now.script.now c.args.job.now.workers ran.0 c.in_ok-ran.ran.whole.tail c.conclude.result
+    (subst (λ n. Concludes app c.args.job.now.script.now n ran.0 c.in_ok-ran.ran.whole.tail c.conclude.result) c.in_ok-team.ensures.count end)
 
 pub returns-clause-read : goal.returns-clause-read
-returns-clause-read g c ok rest is = (c.in_ok-ran.ensures.ran.3 rest is).1
+returns-clause-read g c ok rest is = (c.in_ok-ran.ensures.ran.2.holds rest is).1
 
 pub returns-in_err-team-clause-reads : goal.returns-in_err-team-clause-reads
 returns-in_err-team-clause-reads g c =
@@ -61,16 +61,16 @@ returns-clause-reads g c =
     let app = g.A.App.meaning c.args.job.now.app in
     let ran = c.in_ok-ran.ensures.ran in
     reads_less g.S.Source c.args.capture.now c.args.source.now c.read_team.new.source (λ told. refl)
-    (λ fault. absurd (no_fault app c.args.job.now.script.now (length c.in_ok-team.team.workers.items) ran.0 c.in_ok-ran.ran.tail c.conclude.result
-    (c.conclude.ensures.ends app ran.0 c.in_ok-team.team.workers.items c.in_ok-team.team.packets.items ran.1 ran.2 c.in_ok-team.ensures.team c.in_ok-team.ensures.keep ran.4) fault))
+    (λ fault. absurd (no_fault app c.args.job.now.script.now (length c.in_ok-team.team.workers.items) ran.0 c.in_ok-ran.ran.whole.tail c.conclude.result
+    (c.conclude.ensures.ends app ran.0 c.in_ok-team.team.workers.items c.in_ok-team.team.packets.items ran.2.count ran.1 ran.2.last c.in_ok-team.ensures.team c.in_ok-team.ensures.keep ran.3) fault))
     c.in_ok-ran.ensures.reads
 
 pub returns-clause-no_write : goal.returns-clause-no_write
 returns-clause-no_write g c fault =
     let app = g.A.App.meaning c.args.job.now.app in
     let ran = c.in_ok-ran.ensures.ran in
-    no_write app c.args.job.now.script.now (length c.in_ok-team.team.workers.items) ran.0 c.in_ok-ran.ran.tail c.conclude.result
-    (c.conclude.ensures.ends app ran.0 c.in_ok-team.team.workers.items c.in_ok-team.team.packets.items ran.1 ran.2 c.in_ok-team.ensures.team c.in_ok-team.ensures.keep ran.4) fault
+    no_write app c.args.job.now.script.now (length c.in_ok-team.team.workers.items) ran.0 c.in_ok-ran.ran.whole.tail c.conclude.result
+    (c.conclude.ensures.ends app ran.0 c.in_ok-team.team.workers.items c.in_ok-team.team.packets.items ran.2.count ran.1 ran.2.last c.in_ok-team.ensures.team c.in_ok-team.ensures.keep ran.3) fault
 
 pub returns-clause-stopped : goal.returns-clause-stopped
 returns-clause-stopped g c = λ live. absurd (let read = (c.in_ok-ran.ensures.stopped live).0 in cc)

@@ -11,8 +11,16 @@ pub returns-clause-ran : goal.returns-clause-ran
 returns-clause-ran g c =
     let s = c.in_ok-read.ensures.served in
     let whole = subst (λ r. ReadsWhole s.frames c.args.capture.now (g.S.Source.left c.args.source.now) (g.S.Source.left c.run_team.new.dealer.source.now) r) c.in_ok-whole.was s.done.0 in
-    let same : c.source-1.given.0 ≡ c.run_team.new.dealer.source.now = c.source-1.given.1 (sym s.done.3) in
-    (s.frames, whole.0, s.few, (λ rest is. ((whole.1 rest is).0, subst (λ (x : g.row.S.Denot). g.S.Source.left x ≡ Some []) (sym same) (whole.1 rest is).1)), s.served)
+    let same : c.source-1.given.0 ≡ c.run_team.new.dealer.source.now = c.source-1.given.1 (sym s.done.3) in (
+      s.frames,
+      s.few,
+      record {
+        count = whole.count;
+        last = whole.last;
+        holds = λ rest is. ((whole.holds rest is).0, subst (λ (x : g.row.S.Denot). g.S.Source.left x ≡ Some []) (sym same) (whole.holds rest is).1);
+      },
+      s.served,
+    )
 
 pub returns-clause-reads : goal.returns-clause-reads
 returns-clause-reads g c =

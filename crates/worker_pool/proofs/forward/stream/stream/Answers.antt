@@ -1,15 +1,20 @@
-use Rattle.std.proofs.Common.{◌≡◌, ◌≢◌, ◌≤◌, ◌+◌, [], ◌∷◌, ◌++◌, length, Ok, Err, refl, sym, ap, subst, ◌∙◌, le_refl, arith}
+use Rattle.std.proofs.Common.{◌≡◌, ◌≢◌, ◌≤◌, ◌+◌, [], ◌∷◌, ◌++◌, length, None, Ok, Err, refl, sym, ap, subst, ◌∙◌, le_refl, arith}
 use Rattle.std.proofs.lemmas.List.{length-append}
 use Rattle.std.proofs.lemmas.Result.{err_from_is_err_and}
 use Rattle.std.specs.Prelude.{IsErrOf}
 use Rattle.pcap_source.specs.Reading.{NextGives}
 use Rattle.pcap_source.specs.declared.capture.Step.TheVariants.{Frame}
 use Rattle.pcap_source.specs.declared.errors.NextError.TheVariants.{ReadFault as NextFault}
+use Rattle.worker_laws.specs.Greatest.{greatest_from, greatest}
 use Rattle.worker_pool.proofs.Reading.{HasCause-since, same_error, read_none, read_more, read_tail, read_end, read_refused, read_cut}
 use Rattle.worker_pool.proofs.Source.{reads_well, reads_ill, no_value, no_error, none_read, none_written, fault_read}
 use Rattle.worker_pool.proofs.Leaving.{come_none, come_on, come_sent, stops_refused, same_refusal, told_whole, told_early}
 use Rattle.worker_pool.specs.declared.job.PoolError.TheVariants.{ReadFault, WriteFault}
 use Rattle.worker_pool.proofs.forward.stream.stream.Goals as goal
+
+none_yet : None ≡ greatest []
+unfolding greatest_from
+none_yet = refl
 
 pub loop-spare-init : goal.loop-spare-init
 loop-spare-init g c = record {
@@ -26,6 +31,7 @@ loop-spare-init g c = record {
     refl,
     come_none g.L.Recorder c.args.script.now c.args.posts.now.items c.args.relays.now.items c.args.waiting.now (g.O.Sink.taken c.args.out.now),
     λ bytes told. read_none c.args.capture.now bytes (g.S.Source.left c.args.source.now) told,
+    none_yet,
   );
 }
 
@@ -118,6 +124,7 @@ loop-spare-preserved g c =
             (λ begins fs count posts_are relays_are. c.send_next.ensures.sent begins fs count posts_are relays_are)
             (λ begins fs before count posts_are relays_are l. c.send_next.ensures.leaves begins fs before (g.O.Sink.taken new.out) count posts_are relays_are c.in_ok-await_place.ensures.place l),
         λ bytes told. read_more c.args.capture.now bytes read.0 at.capture c.next.new.self frame (g.S.Source.left at.source) (g.S.Source.left c.next.new.source) gives (read.3 bytes told),
+        c.greatest_with.ensures.greatest read.0 read.4,
       );
     }
 
@@ -135,7 +142,11 @@ returns-in-Tail-clause-streamed g c = λ begins before posts_are relays_are l.
     new.posts.items new.relays.items new.waiting (g.O.Sink.taken new.out) _
     (come_on g.L.Recorder c.args.script.now c.args.posts.now.items c.args.relays.now.items c.args.waiting.now (g.O.Sink.taken c.args.out.now) read.0 at.posts.items new.posts.items at.relays.items new.relays.items
     at.waiting new.waiting (g.O.Sink.taken at.out) (g.O.Sink.taken new.out) read.2 c.await_place.ensures.posts c.await_place.ensures.takes (c.in_ok-await_place.ensures.leaves (λ is. absurd (cc))))
-    (read.1, λ bytes told. read_tail c.args.capture.now bytes read.0 at.capture c.next.new.self c.next.new.frame c.in-Tail.tail (g.S.Source.left at.source) last gives (read.3 bytes told))
+    (record {
+      count = read.1;
+      last = read.4;
+      holds = λ bytes told. read_tail c.args.capture.now bytes read.0 at.capture c.next.new.self c.next.new.frame c.in-Tail.tail (g.S.Source.left at.source) last gives (read.3 bytes told);
+    })
 
 pub returns-in-End-clause-streamed : goal.returns-in-End-clause-streamed
 returns-in-End-clause-streamed g c = λ begins before posts_are relays_are l.
@@ -151,7 +162,11 @@ returns-in-End-clause-streamed g c = λ begins before posts_are relays_are l.
     new.posts.items new.relays.items new.waiting (g.O.Sink.taken new.out) _
     (come_on g.L.Recorder c.args.script.now c.args.posts.now.items c.args.relays.now.items c.args.waiting.now (g.O.Sink.taken c.args.out.now) read.0 at.posts.items new.posts.items at.relays.items new.relays.items
     at.waiting new.waiting (g.O.Sink.taken at.out) (g.O.Sink.taken new.out) read.2 c.await_place.ensures.posts c.await_place.ensures.takes (c.in_ok-await_place.ensures.leaves (λ is. absurd (cc))))
-    (read.1, λ bytes told. read_end c.args.capture.now bytes read.0 at.capture c.next.new.self c.next.new.frame (g.S.Source.left at.source) last gives (read.3 bytes told))
+    (record {
+      count = read.1;
+      last = read.4;
+      holds = λ bytes told. read_end c.args.capture.now bytes read.0 at.capture c.next.new.self c.next.new.frame (g.S.Source.left at.source) last gives (read.3 bytes told);
+    })
 
 pub returns-in_err-await_place-clause-reads : goal.returns-in_err-await_place-clause-reads
 returns-in_err-await_place-clause-reads g c =

@@ -1,10 +1,13 @@
 use Rattle.std.proofs.Common.{◌≡◌, ℕ, ◌-◌, ◌≤◌, List, Some, true, length}
 use Rattle.pcap_source.specs.Captured.{Captured}
+use Rattle.lane_core.specs.Sight.{arrivals}
+use Rattle.worker_laws.specs.Greatest.{greatest}
 use Rattle.worker_pool.specs.GoesOn.{IsReadTo}
 use Rattle.worker_pool.proofs.Leaving.{HasCome}
 use Rattle.worker_pool.proofs.forward.stream.stream.Given as goal
 
--- The capture is live and has given so many frames. Their packets were sent, and they and what is left are the capture.
+-- The capture is live and has given so many frames. Their packets were sent, they and what is left are the capture, and their greatest
+-- moment is known.
 abbrev pub invariant-loop-spare : goal.invariant-loop-spare
 invariant-loop-spare g l = record {
   live : l.capture.is_live ≡ true;
@@ -17,7 +20,8 @@ invariant-loop-spare g l = record {
   out_lasts : g.O.Sink.lasting l.out ≡ g.O.Sink.lasting l.fn.out;
   read : (frames : List Captured) × (length frames ≡ l.packets)
       × HasCome g.L.Recorder l.script l.fn.posts.items l.fn.relays.items l.fn.waiting (g.O.Sink.taken l.fn.out) frames l.posts.items l.relays.items l.waiting (g.O.Sink.taken l.out)
-      × ((bytes : List ℕ) → g.S.Source.left l.fn.source ≡ Some bytes → IsReadTo l.fn.capture bytes frames l.capture (g.S.Source.left l.source));
+      × ((bytes : List ℕ) → g.S.Source.left l.fn.source ≡ Some bytes → IsReadTo l.fn.capture bytes frames l.capture (g.S.Source.left l.source))
+      × (l.last ≡ greatest (arrivals 0 frames));
 }
 
 abbrev pub decreases-loop-spare : goal.decreases-loop-spare
