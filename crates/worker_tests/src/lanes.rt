@@ -67,7 +67,7 @@ const ROWS: [Row; 4] = [
 ];
 
 // Whether a packet of this number may come next.
-fn may_come<L: Recorder>(lane: &L, number: u64) -> bool
+pub fn may_come<L: Recorder>(lane: &L, number: u64) -> bool
     ensures { IsTrue result → IsAfter (L.last lane.now) number }
 {
     match lane.newest() {
