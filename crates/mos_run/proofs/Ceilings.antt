@@ -16,8 +16,9 @@ use Rattle.control_script.specs.declared.stamped.Stamped.{Stamped}
 use Rattle.control_script.specs.Order.{commands_of}
 use Rattle.control_script.specs.Versions.{floor, ceil}
 use Rattle.lane_core.specs.Sight.{Arrival, arrivals}
-use Rattle.lane_core.specs.Records.{VersionedPacket, RecordSoFar, records, versioned}
+use Rattle.lane_core.specs.Records.{VersionedPacket, RecordSoFar, ended_at, records, versioned}
 use Rattle.lane_core.specs.Shown.{record_of, weight}
+use Rattle.worker_laws.specs.Greatest.{greatest}
 use Rattle.worker_laws.specs.Members.{Endings, records as members}
 use Rattle.worker_laws.specs.Allowed.{IsAllowed, versions_of as versions_in}
 use Rattle.worker_laws.specs.Rising.{Rises}
@@ -50,7 +51,8 @@ HasVersions = (app : Meaning) (commands : List Command) (least most : ℕ → �
 
 abbrev pub OneRun : Type 0
 OneRun = (app : Meaning) (commands : List Command) (least most : ℕ → ℕ) (lane : EndpointPair → ℕ) (packets : List Arrival) (vs : List ℕ)
-    → ((n : ℕ) → least n ≡ most n) → IsAllowedRun app commands least most lane packets vs → run_under app commands vs packets ≡ records app (in_force app commands) (versioned most packets)
+    → ((n : ℕ) → least n ≡ most n) → IsAllowedRun app commands least most lane packets vs 
+    → run_under app commands vs packets ≡ map (ended_at app (in_force app commands) (greatest packets)) (records app (in_force app commands) (versioned most packets))
 
 abbrev pub OneJudged : Type 0
 OneJudged = (app : Meaning) (commands : List Command) (least most : ℕ → ℕ) (lane : EndpointPair → ℕ) (packets : List Arrival) (vs : List ℕ)

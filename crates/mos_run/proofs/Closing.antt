@@ -1,5 +1,5 @@
 -- The end of a run: what a lane ends with, and what is written of it.
-use Rattle.std.proofs.Common.{◌≡◌, ◌≢◌, ℕ, ◌+◌, Bool, true, false, Option, Some, None, List, [], ◌∷◌, ◌++◌, length, map, refl, sym, ap, subst, ◌∙◌, arith, inl, inr}
+use Rattle.std.proofs.Common.{◌≡◌, ◌≢◌, ℕ, ◌+◌, ◌<◌, Bool, true, false, Option, Some, None, List, [], ◌∷◌, ◌++◌, length, map, refl, sym, ap, subst, ◌∙◌, arith, inl, inr}
 use Rattle.std.proofs.lemmas.List.{length-map}
 use Rattle.std.proofs.lemmas.Grind.{common_steps}
 use Rattle.std.specs.Prelude.{◌⊎◌, not, if◌then◌else◌, Result, Ok, Err}
@@ -20,24 +20,28 @@ use Rattle.control_script.specs.declared.stamped.Stamped.{Stamped}
 use Rattle.control_script.specs.Order.{commands_of}
 use Rattle.control_script.specs.Versions.{ceil}
 use Rattle.lane_core.specs.declared.errors.LaneError.{LaneError}
-use Rattle.lane_core.specs.Sight.{arrivals}
-use Rattle.lane_core.specs.Records.{VersionedPacket, RecordSoFar, versioned}
-use Rattle.lane_core.specs.Run.{LaneEvent, lane_run}
-use Rattle.lane_core.specs.Shown.{record_of, callbacks_of}
-use Rattle.lane_core.specs.Lane.{IsEnd, shown}
-use Rattle.lane_core.specs.Laws.{LaterCommandsChangeNone, RecordsAreTidy, rise}
+use Rattle.lane_core.specs.declared.errors.LaneError.TheVariants as Lane
+use Rattle.lane_core.specs.Sight.{Moment, arrivals}
+use Rattle.lane_core.specs.Records.{VersionedPacket, RecordSoFar, ended_at, versioned}
+use Rattle.lane_core.specs.Run.{LaneEvent, ended_run}
+use Rattle.lane_core.specs.Shown.{record_of, callbacks_of, weight}
+use Rattle.lane_core.specs.Lane.{IsEnd, IsHeavyAtEnd, shown}
+use Rattle.lane_core.specs.Laws.{LaterCommandsChangeNone, RecordsAreTidy, WeightNeverFalls, rise}
+use Rattle.worker_laws.specs.Greatest.{greatest}
 use Rattle.mos_run.specs.declared.output.Output.{Output}
 use Rattle.mos_run.specs.declared.output.Output.TheVariants.{Report, Forward, Summary}
 use Rattle.mos_run.specs.declared.refusal.RunError.{RunError}
 use Rattle.mos_run.specs.declared.refusal.RunError.TheVariants as Run
 use Rattle.worker_pool.specs.Run.{totals_of}
-use Rattle.mos_run.specs.Records.{control_at, packets_of, records_of, versions_of}
+use Rattle.mos_run.specs.Records.{control_at, packets_of, records_of, records_so_far, versions_of}
 use Rattle.mos_run.specs.Outcome.{is_forward, is_heavy, streamed, closing, ended, weighed, refused}
 use Rattle.mos_run.specs.Summary.{summary_text, made_line}
-use Rattle.mos_run.specs.Reading.{IsRead}
+use Rattle.mos_run.specs.Reading.{Follows, IsRead}
+use Rattle.mos_run.specs.Refusal.{lane_refusal}
 use Rattle.mos_run.specs.Run.{StopsAs, RunsAs}
 use Rattle.mos_run.proofs.Events.{are_events}
-use Rattle.mos_run.proofs.Following.{records_are}
+use Rattle.mos_run.proofs.Following.{ended_are}
+use Rattle.mos_run.proofs.Reading.{heavy_at_end, over_at_end, under_at_end}
 
 -- a call that went well was made of a lane that hadn't failed
 pub was_good : {V : Type 0} (failed : Option LaneError) (result : Result V LaneError) (v : V) → ((e : LaneError) → failed ≡ Some e → result ≡ Err e) → result ≡ Ok v → failed ≡ None
@@ -48,13 +52,39 @@ module _ (app : Meaning) (script : List Stamped) (output : Output) (frames : Lis
   abbrev rs : List RecordSoFar
   rs = records_of app script (packets_of script) frames
 
-  -- what the lane ends with are these records
-  pub end_is : (given : ℕ) (failed : Option LaneError) (stands : List LaneEvent → Type 0) (keep : Bool) (items : List Record) (versions : List (ℕ × ℕ)) (callbacks drops : ℕ) → LaterCommandsChangeNone
-      → IsRead app script output given failed stands frames → failed ≡ None
-      → ((events : List LaneEvent) → stands events → IsEnd keep app (lane_run app events) items versions callbacks drops) → IsEnd keep app rs items versions callbacks drops
-  end_is given failed stands keep items versions callbacks drops law read good end =
-      let f = read.follows good in
-      subst (λ so_far. IsEnd keep app so_far items versions callbacks drops) (records_are app script given stands (packets_of script frames) f law) (end f.events f.stands_for)
+  module _ (given : ℕ) (failed : Option LaneError) (stands : List LaneEvent → Type 0) (keep : Bool) (last : Option Moment) (later : LaterCommandsChangeNone) (is_last : last ≡ greatest (arrivals 0 frames))
+      (read : IsRead app script output given failed stands frames) where
+    at-end : (f : Follows script given stands (packets_of script frames)) → ended_run app f.events last ≡ rs
+    at-end f =
+        ended_are app script given stands (packets_of script frames) f later last
+        ∙ ap (λ l. map (ended_at app (control_at app script) l) (records_so_far app script (packets_of script) frames)) is_last
+
+    -- what the lane ends with are these records
+    pub end_is : (items : List Record) (versions : List (ℕ × ℕ)) (callbacks drops : ℕ) → failed ≡ None
+        → ((events : List LaneEvent) → stands events → IsEnd keep app (ended_run app events last) items versions callbacks drops) → IsEnd keep app rs items versions callbacks drops
+    end_is items versions callbacks drops good end =
+        let f = read.follows good in
+        subst (λ so_far. IsEnd keep app so_far items versions callbacks drops) (at-end f) (end f.events f.stands_for)
+
+    -- they aren't too heavy
+    pub end_is_light : failed ≡ None → keep ≡ not (is_forward output)
+        → (keep ≡ true → (events : List LaneEvent) → stands events → IsHeavyAtEnd app events last → ⊥) → is_heavy app script (packets_of script) output frames ≡ false
+    end_is_light good keeps light =
+        let f = read.follows good in
+        under_at_end app script output frames
+        (λ kept over. light (keeps ∙ kept) f.events f.stands_for (subst (λ so_far. 134217728 < weight so_far) (sym (at-end f)) over))
+
+    -- or they are
+    pub end_is_heavy : WeightNeverFalls → keep ≡ not (is_forward output)
+        → (failed ≡ None → (keep ≡ true) × ((events : List LaneEvent) → stands events → IsHeavyAtEnd app events last)) → is_heavy app script (packets_of script) output frames ≡ true
+    end_is_heavy falls keeps heavy = by failed refl
+      where
+        by : (why : Option LaneError) → failed ≡ why → is_heavy app script (packets_of script) output frames ≡ true
+        by None good =
+            let is = heavy good in
+            let f = read.follows good in
+            over_at_end app script output frames (sym keeps ∙ is.0) (subst (λ so_far. 134217728 < weight so_far) (at-end f) (is.1 f.events f.stands_for))
+        by (Some e) bad = heavy_at_end app script falls output frames (read.heavy (λ good. let both = sym bad ∙ good in cc))
 
   rising : (n : ℕ) (fs : List Captured) → rise n (versioned (ceil script) (arrivals n fs)) ≡ true
   rising n [] = refl
@@ -65,7 +95,7 @@ module _ (app : Meaning) (script : List Stamped) (output : Output) (frames : Lis
   end_is_tidy keep items versions callbacks drops law lawful commands keeps end =
       let is = subst (λ b. IsEnd b app rs items versions callbacks drops) keeps end in
       subst (λ l. tidy l ≡ true) (sym is.records_are)
-      (law app (control_at app script) (packets_of script frames) lawful (λ v. are_events app (commands_of script) v lawful commands) (rising 0 frames))
+      (law app (control_at app script) (greatest (arrivals 0 frames)) (packets_of script frames) lawful (λ v. are_events app (commands_of script) v lawful commands) (rising 0 frames))
 
   versions-shown : (keep : Bool) (so_far : List RecordSoFar) → map (λ r. r.version) (map (shown keep app) so_far) ≡ versions_of so_far
   versions-shown keep [] = refl
@@ -141,3 +171,9 @@ module _ (app : Meaning) (script : List Stamped) (given : List Captured → List
       by : ((e ≡ Run.WriteFault) × (is_forward output ≡ false)) ⊎ (e ≡ Run.NoMemory) → StopsAs (ended app script given output header frames tail) e
       by (inl w) = inr (inr (inr (w.0, not-empty (streamed app script given output header frames) _ (some-closing output _ _ w.1))))
       by (inr m) = inr (inr (inl m))
+
+  -- the lane has no end: nothing is written
+  pub ends_not : (header : List ℕ) (tail : ℕ) (e : LaneError) (before now : Option (List ℕ)) → (e ≡ Lane.Heavy → is_heavy app script given output frames ≡ true)
+      → AppendsFront before now (weighed app script given output header frames tail).text → RunsAs (weighed app script given output header frames tail) before now (Err (lane_refusal e))
+  ends_not header tail Lane.Heavy before now heavy front = (inl (ap (λ b. (if b then refused Run.Heavy else ended app script given output header frames tail).ends) (heavy refl)), front)
+  ends_not header tail Lane.NoMemory before now heavy front = (inr (inr (inl refl)), front)

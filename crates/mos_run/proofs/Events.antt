@@ -14,7 +14,7 @@ use Rattle.event_trees.specs.declared.defs.EventDef.{EventDef}
 use Rattle.event_trees.specs.Private.{put_reg, reg_cmp}
 use Rattle.report_text.specs.Tidy.{is_event}
 use Rattle.forest_versions.specs.declared.command.Command.{Command}
-use Rattle.forest_versions.specs.declared.command.Command.TheVariants.{Event, Register, Unregister, Buffer, Overlap, AddRule, RemoveRule}
+use Rattle.forest_versions.specs.declared.command.Command.TheVariants.{Event, Register, Unregister, Buffer, Overlap, AddRule, RemoveRule, Idle}
 use Rattle.forest_versions.specs.Lawful.{are_lawful, is_lawful, is_within, is_reg_within, may_be_event, refusal}
 use Rattle.forest_versions.specs.State.{ControlState, start, after, control}
 use Rattle.lane_core.specs.Laws.{AreEvents}
@@ -26,7 +26,7 @@ join a b one two = rw (one, two) refl
 -- ---- numbers of events
 
 -- a built-in event has a name
-named : (k : ℕ) → k < 8 → is_event (256 + k) ≡ true
+named : (k : ℕ) → k < 9 → is_event (256 + k) ≡ true
 named zero less = refl
 named (suc zero) less = refl
 named (suc (suc zero)) less = refl
@@ -35,12 +35,13 @@ named (suc (suc (suc (suc zero)))) less = refl
 named (suc (suc (suc (suc (suc zero))))) less = refl
 named (suc (suc (suc (suc (suc (suc zero)))))) less = refl
 named (suc (suc (suc (suc (suc (suc (suc zero))))))) less = refl
-named (suc (suc (suc (suc (suc (suc (suc (suc k)))))))) less = absurd (omega (arith, less))
+named (suc (suc (suc (suc (suc (suc (suc (suc zero)))))))) less = refl
+named (suc (suc (suc (suc (suc (suc (suc (suc (suc k))))))))) less = absurd (omega (arith, less))
 
 small : (event : ℕ) → 1 ≤ event → event ≤ 255 → is_event event ≡ true
 small event low high = grind (arith, common_steps)
 
-numbered : (event : ℕ) → 1 ≤ event → event ≤ 263 → is_event event ≡ true
+numbered : (event : ℕ) → 1 ≤ event → event ≤ 264 → is_event event ≡ true
 numbered event low high = by (nat_le event 255) refl
   where
     by : (b : Bool) → nat_le event 255 ≡ b → is_event event ≡ true
@@ -52,29 +53,30 @@ numbered event low high = by (nat_le event 255) refl
 
 within_event : (event : ℕ) → may_be_event event ≡ true → is_event event ≡ true
 within_event event may =
-    let parts = both (nat_le 1 event) (nat_le event 263) may in
-    numbered event (leb-true 1 event parts.0) (leb-true event 263 parts.1)
+    let parts = both (nat_le 1 event) (nat_le event 264) may in
+    numbered event (leb-true 1 event parts.0) (leb-true event 264 parts.1)
 
-at : (event k : ℕ) → 1 ≤ k → k ≤ 263 → (event == k) ≡ true → is_event event ≡ true
+at : (event k : ℕ) → 1 ≤ k → k ≤ 264 → (event == k) ≡ true → is_event event ≡ true
 at event k low high same = numbered event (grind (arith, common_steps)) (grind (arith, common_steps))
 
 -- an event that is raised at a hook
 raised : (event : ℕ) (hook : Hook) → allows_hook event hook ≡ true → is_event event ≡ true
 unfolding allows_hook
 raised event hook allowed =
-    one (event == 257) (event == 261) (event == 256) (event == 263) (event == 258) (event == 259) (event == 260) (event == 262) refl refl refl refl refl refl refl refl
+    one (event == 257) (event == 261) (event == 256) (event == 263) (event == 258) (event == 259) (event == 260) (event == 262) (event == 264) refl refl refl refl refl refl refl refl refl
   where
-    one : (a b c d e f g h : Bool) → (event == 257) ≡ a → (event == 261) ≡ b → (event == 256) ≡ c → (event == 263) ≡ d → (event == 258) ≡ e → (event == 259) ≡ f → (event == 260) ≡ g → (event == 262) ≡ h
+    one : (a b c d e f g h i : Bool) → (event == 257) ≡ a → (event == 261) ≡ b → (event == 256) ≡ c → (event == 263) ≡ d → (event == 258) ≡ e → (event == 259) ≡ f → (event == 260) ≡ g → (event == 262) ≡ h → (event == 264) ≡ i
         → is_event event ≡ true
-    one true b c d e f g h ia ib ic id ie if_ ig ih = at event 257 (omega arith) (omega arith) ia
-    one false true c d e f g h ia ib ic id ie if_ ig ih = at event 261 (omega arith) (omega arith) ib
-    one false false true d e f g h ia ib ic id ie if_ ig ih = at event 256 (omega arith) (omega arith) ic
-    one false false false true e f g h ia ib ic id ie if_ ig ih = at event 263 (omega arith) (omega arith) id
-    one false false false false true f g h ia ib ic id ie if_ ig ih = at event 258 (omega arith) (omega arith) ie
-    one false false false false false true g h ia ib ic id ie if_ ig ih = at event 259 (omega arith) (omega arith) if_
-    one false false false false false false true h ia ib ic id ie if_ ig ih = at event 260 (omega arith) (omega arith) ig
-    one false false false false false false false true ia ib ic id ie if_ ig ih = at event 262 (omega arith) (omega arith) ih
-    one false false false false false false false false ia ib ic id ie if_ ig ih = absurd (let is = allowed in cc)
+    one true b c d e f g h i ia ib ic id ie if_ ig ih ii = at event 257 (omega arith) (omega arith) ia
+    one false true c d e f g h i ia ib ic id ie if_ ig ih ii = at event 261 (omega arith) (omega arith) ib
+    one false false true d e f g h i ia ib ic id ie if_ ig ih ii = at event 256 (omega arith) (omega arith) ic
+    one false false false true e f g h i ia ib ic id ie if_ ig ih ii = at event 263 (omega arith) (omega arith) id
+    one false false false false true f g h i ia ib ic id ie if_ ig ih ii = at event 258 (omega arith) (omega arith) ie
+    one false false false false false true g h i ia ib ic id ie if_ ig ih ii = at event 259 (omega arith) (omega arith) if_
+    one false false false false false false true h i ia ib ic id ie if_ ig ih ii = at event 260 (omega arith) (omega arith) ig
+    one false false false false false false false true i ia ib ic id ie if_ ig ih ii = at event 262 (omega arith) (omega arith) ih
+    one false false false false false false false false true ia ib ic id ie if_ ig ih ii = at event 264 (omega arith) (omega arith) ii
+    one false false false false false false false false false ia ib ic id ie if_ ig ih ii = absurd (let is = allowed in cc)
 
 -- ---- registrations
 
@@ -124,6 +126,7 @@ after_events s (Buffer bytes) is all = all
 after_events s (Overlap policy) is all = all
 after_events s (AddRule r) is all = all
 after_events s (RemoveRule number) is all = all
+after_events s (Idle seconds) is all = all
 
 lawful_within : (s : ControlState) (c : Command) → is_lawful s c ≡ true → is_within c ≡ true
 unfolding is_lawful

@@ -1,7 +1,7 @@
 -- A lane that takes commands of a script, and packets.
 use Rattle.std.proofs.Common.{◌≡◌, ℕ, zero, suc, ◌+◌, ◌<◌, ◌≤◌, Bool, true, false, Option, Some, None, List, [], ◌∷◌, ◌++◌, length, take, drop, refl, sym, ap, subst, ◌∙◌, arith}
 use Rattle.std.proofs.lemmas.List.{length-map}
-use Rattle.std.specs.Prelude.{◌&&◌, slice_get, nat_lt, if◌then◌else◌, Result, Ok, Err, IsOk, OnOk}
+use Rattle.std.specs.Prelude.{◌&&◌, map, slice_get, nat_lt, if◌then◌else◌, Result, Ok, Err, IsOk, OnOk}
 use Rattle.std.proofs.lemmas.Grind.{common_steps}
 use Rattle.std.specs.List.{fold}
 use Rattle.app_api.specs.App.{Meaning}
@@ -15,9 +15,9 @@ use Rattle.control_script.specs.Order.{commands_of}
 use Rattle.control_script.specs.Versions.{ceil, is_barred}
 use Rattle.forest_versions.specs.declared.command.Stamp.{Stamp}
 use Rattle.forest_versions.specs.declared.command.Stamp.TheVariants.{At, Live}
-use Rattle.lane_core.specs.Sight.{Arrival, arrival_of}
-use Rattle.lane_core.specs.Records.{VersionedPacket, records, verdict_on}
-use Rattle.lane_core.specs.Run.{LaneEvent, Gave, Arrived, versioned_from, lane_run, commands_of as given_in}
+use Rattle.lane_core.specs.Sight.{Moment, Arrival, arrival_of}
+use Rattle.lane_core.specs.Records.{VersionedPacket, records, verdict_on, ended_at}
+use Rattle.lane_core.specs.Run.{LaneEvent, Gave, Arrived, versioned_from, lane_run, ended_run, commands_of as given_in}
 use Rattle.lane_core.specs.Lane.{IsHeavy, IsAfter, next_verdict, with_event}
 use Rattle.lane_core.specs.Laws.{OneEventMore, LaterCommandsChangeNone}
 use Rattle.lane_core.specs.Shown.{weight}
@@ -108,6 +108,14 @@ module _ (app : Meaning) (script : List Stamped) (v : ℕ) (stands : List LaneEv
   records_are law =
       law.records app f.events (drop v (commands_of script)) ∙ ap (λ cs. records app (master app.presets cs) (versioned_from 0 f.events)) whole
       ∙ ap (records app (control_at app script)) f.packets
+
+  -- and so at its end
+  pub ended_are : LaterCommandsChangeNone → (last : Option Moment)
+      → ended_run app f.events last ≡ map (ended_at app (control_at app script) last) (records app (control_at app script) ps)
+  ended_are law last =
+      law.at_end app f.events last (drop v (commands_of script))
+      ∙ ap (λ cs. map (ended_at app (master app.presets cs) last) (records app (master app.presets cs) (versioned_from 0 f.events))) whole
+      ∙ ap (λ l. map (ended_at app (control_at app script) last) (records app (control_at app script) l)) f.packets
 
 module _ (app : Meaning) (script : List Stamped) (v : ℕ) (stands : List LaneEvent → Type 0) (ps : List VersionedPacket) (within : v ≤ length script) (f : Follows script v stands ps) where
   many : length (given_in f.events) ≡ v

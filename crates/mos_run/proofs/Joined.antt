@@ -19,6 +19,7 @@ use Rattle.lane_core.specs.Sight.{arrivals}
 use Rattle.lane_core.specs.Records.{VersionedPacket}
 use Rattle.lane_core.specs.Shown.{record_of, weight}
 use Rattle.lane_core.specs.Laws.{RecordsAreTidy, rise}
+use Rattle.worker_laws.specs.Greatest.{greatest}
 use Rattle.worker_laws.specs.Whole.{packets_under}
 use Rattle.worker_pool.specs.Run.{EndsOver, IsWhole, MayHave, totals_of}
 use Rattle.worker_pool.specs.declared.job.LanesEnd.{LanesEnd}
@@ -57,7 +58,7 @@ pub whole_is_tidy : RecordsAreTidy → NumbersOfRunRise → (app : Meaning) (scr
     → are_lawful (start app.presets) (commands_of script) ≡ true → IsWhole app script lanes frames rest end → tidy end.records ≡ true
 whole_is_tidy law rises app script lanes rest frames end lawful commands whole =
     subst (λ l. tidy l ≡ true) (sym whole.records_are)
-    (law app (control_at app script) (packets_with app script end.versions frames) lawful (λ v. are_events app (commands_of script) v lawful commands) (rises app (commands_of script) frames end.versions))
+    (law app (control_at app script) (greatest (arrivals 0 frames)) (packets_with app script end.versions frames) lawful (λ v. are_events app (commands_of script) v lawful commands) (rises app (commands_of script) frames end.versions))
 
 module _ (app : Meaning) (script : List Stamped) (lanes : ℕ) (output : Output) (bytes : List ℕ) where
   -- nothing could be said of the capture, or the run stopped before its end, whatever its versions

@@ -16,10 +16,11 @@ use Rattle.lane_core.specs.Run.{LaneEvent}
 use Rattle.lane_core.specs.Laws.{LastPacketIsAdded, WeightNeverFalls}
 use Rattle.lane_core.specs.Shown.{weight, total}
 use Rattle.mos_run.specs.declared.output.Output.{Output}
-use Rattle.mos_run.specs.Records.{control_at, packets_of, records_of}
+use Rattle.worker_laws.specs.Greatest.{greatest, greatest_from}
+use Rattle.mos_run.specs.Records.{control_at, packets_of, records_of, records_so_far}
 use Rattle.lane_rings.specs.Forwarded.{bytes_under as left_by}
 use Rattle.mos_run.specs.Outcome.{is_forward, is_heavy}
-use Rattle.mos_run.specs.Reading.{Follows, IsOver, IsRead, gained, packet_of}
+use Rattle.mos_run.specs.Reading.{Follows, IsOver, IsRead, gained, is_heavy_so_far, packet_of}
 use Rattle.mos_run.proofs.Following.{both}
 
 -- ---- one frame more
@@ -38,7 +39,7 @@ packets_last script frames frame number count =
 
 module _ (app : Meaning) (script : List Stamped) where
   pub records_last : LastPacketIsAdded → (frames : List Captured) (frame : Captured) (number : ℕ) → length frames ≡ number
-      → records_of app script (packets_of script) (frames ++ frame ∷ []) ≡ added app (control_at app script) (packet_of script number frame) (records_of app script (packets_of script) frames)
+      → records_so_far app script (packets_of script) (frames ++ frame ∷ []) ≡ added app (control_at app script) (packet_of script number frame) (records_so_far app script (packets_of script) frames)
   records_last law frames frame number count =
       ap (records app (control_at app script)) (packets_last script frames frame number count) ∙ law app (control_at app script) (packets_of script frames) (packet_of script number frame)
 
@@ -62,33 +63,58 @@ module _ (app : Meaning) (script : List Stamped) where
   pub heavy_is_kept : (output : Output) (frames : List Captured) → is_heavy app script (packets_of script) output frames ≡ true → is_forward output ≡ false
   heavy_is_kept output frames heavy = not-true (is_forward output) (both (not (is_forward output)) (nat_lt 134217728 (weight (records_of app script (packets_of script) frames))) heavy).0
 
+  -- whether it is too heavy at the end
+  pub over_at_end : (output : Output) (frames : List Captured) → not (is_forward output) ≡ true
+      → 134217728 < weight (records_of app script (packets_of script) frames) → is_heavy app script (packets_of script) output frames ≡ true
+  over_at_end output frames kept over =
+      ap (λ b. b && nat_lt 134217728 (weight (records_of app script (packets_of script) frames))) kept ∙ over-limit _ over
+
+  light-at-end : (b : Bool) (output : Output) (frames : List Captured) → not (is_forward output) ≡ b
+      → (b ≡ true → 134217728 < weight (records_of app script (packets_of script) frames) → ⊥) → is_heavy app script (packets_of script) output frames ≡ false
+  light-at-end true output frames kept under =
+      ap (λ b. b && nat_lt 134217728 (weight (records_of app script (packets_of script) frames))) kept ∙ under-limit _ (under refl)
+  light-at-end false output frames kept under =
+      ap (λ b. b && nat_lt 134217728 (weight (records_of app script (packets_of script) frames))) kept
+
+  pub under_at_end : (output : Output) (frames : List Captured)
+      → (not (is_forward output) ≡ true → 134217728 < weight (records_of app script (packets_of script) frames) → ⊥) → is_heavy app script (packets_of script) output frames ≡ false
+  under_at_end output frames under = light-at-end (not (is_forward output)) output frames refl under
+
+  -- what is too heavy before the end is so at the end
+  pub heavy_at_end : WeightNeverFalls → (output : Output) (frames : List Captured) → is_heavy_so_far app script output frames ≡ true → is_heavy app script (packets_of script) output frames ≡ true
+  heavy_at_end falls output frames heavy =
+      let parts = both (not (is_forward output)) (nat_lt 134217728 (weight (records_so_far app script (packets_of script) frames))) heavy in
+      let more = falls.at_end app (control_at app script) (greatest (arrivals 0 frames)) (records_so_far app script (packets_of script) frames) in
+      let was = is_over (weight (records_so_far app script (packets_of script) frames)) parts.1 in
+      over_at_end output frames parts.0 (omega (arith, was, more))
+
   -- what is too heavy stays so
-  pub still_heavy : LastPacketIsAdded → WeightNeverFalls → (output : Output) (frames : List Captured) (frame : Captured) → is_heavy app script (packets_of script) output frames ≡ true → is_heavy app script (packets_of script) output (frames ++ frame ∷ []) ≡ true
+  pub still_heavy : LastPacketIsAdded → WeightNeverFalls → (output : Output) (frames : List Captured) (frame : Captured) → is_heavy_so_far app script output frames ≡ true → is_heavy_so_far app script output (frames ++ frame ∷ []) ≡ true
   still_heavy law falls output frames frame heavy =
-      let parts = both (not (is_forward output)) (nat_lt 134217728 (weight (records_of app script (packets_of script) frames))) heavy in
-      let more = falls app (control_at app script) (packet_of script (length frames) frame) (records_of app script (packets_of script) frames) in
-      let was = is_over (weight (records_of app script (packets_of script) frames)) parts.1 in
-      let now : 134217728 < weight (added app (control_at app script) (packet_of script (length frames) frame) (records_of app script (packets_of script) frames)) = omega (arith, was, more) in
-      ap (λ b. b && nat_lt 134217728 (weight (records_of app script (packets_of script) (frames ++ frame ∷ [])))) parts.0
+      let parts = both (not (is_forward output)) (nat_lt 134217728 (weight (records_so_far app script (packets_of script) frames))) heavy in
+      let more = falls.packet app (control_at app script) (packet_of script (length frames) frame) (records_so_far app script (packets_of script) frames) in
+      let was = is_over (weight (records_so_far app script (packets_of script) frames)) parts.1 in
+      let now : 134217728 < weight (added app (control_at app script) (packet_of script (length frames) frame) (records_so_far app script (packets_of script) frames)) = omega (arith, was, more) in
+      ap (λ b. b && nat_lt 134217728 (weight (records_so_far app script (packets_of script) (frames ++ frame ∷ [])))) parts.0
       ∙ ap (λ rs. nat_lt 134217728 (weight rs)) (records_last law frames frame (length frames) refl) ∙ over-limit _ now
 
   -- whether it is too heavy with one frame more
   pub heavy_by : (output : Output) (frames : List Captured) (frame : Captured) (number : ℕ) → length frames ≡ number → not (is_forward output) ≡ true
-      → IsOver app script (packets_of script frames ++ packet_of script number frame ∷ []) → is_heavy app script (packets_of script) output (frames ++ frame ∷ []) ≡ true
+      → IsOver app script (packets_of script frames ++ packet_of script number frame ∷ []) → is_heavy_so_far app script output (frames ++ frame ∷ []) ≡ true
   heavy_by output frames frame number count kept over =
-      ap (λ b. b && nat_lt 134217728 (weight (records_of app script (packets_of script) (frames ++ frame ∷ [])))) kept
+      ap (λ b. b && nat_lt 134217728 (weight (records_so_far app script (packets_of script) (frames ++ frame ∷ [])))) kept
       ∙ ap (λ ps. nat_lt 134217728 (weight (records app (control_at app script) ps))) (packets_last script frames frame number count) ∙ over-limit _ over
 
   light-of : (b : Bool) (output : Output) (frames : List Captured) (frame : Captured) (number : ℕ) → length frames ≡ number → not (is_forward output) ≡ b
-      → (b ≡ true → IsOver app script (packets_of script frames ++ packet_of script number frame ∷ []) → ⊥) → is_heavy app script (packets_of script) output (frames ++ frame ∷ []) ≡ false
+      → (b ≡ true → IsOver app script (packets_of script frames ++ packet_of script number frame ∷ []) → ⊥) → is_heavy_so_far app script output (frames ++ frame ∷ []) ≡ false
   light-of true output frames frame number count kept under =
-      ap (λ b. b && nat_lt 134217728 (weight (records_of app script (packets_of script) (frames ++ frame ∷ [])))) kept
+      ap (λ b. b && nat_lt 134217728 (weight (records_so_far app script (packets_of script) (frames ++ frame ∷ [])))) kept
       ∙ ap (λ ps. nat_lt 134217728 (weight (records app (control_at app script) ps))) (packets_last script frames frame number count) ∙ under-limit _ (under refl)
   light-of false output frames frame number count kept under =
-      ap (λ b. b && nat_lt 134217728 (weight (records_of app script (packets_of script) (frames ++ frame ∷ [])))) kept
+      ap (λ b. b && nat_lt 134217728 (weight (records_so_far app script (packets_of script) (frames ++ frame ∷ [])))) kept
 
   pub light_by : (output : Output) (frames : List Captured) (frame : Captured) (number : ℕ) → length frames ≡ number
-      → (not (is_forward output) ≡ true → IsOver app script (packets_of script frames ++ packet_of script number frame ∷ []) → ⊥) → is_heavy app script (packets_of script) output (frames ++ frame ∷ []) ≡ false
+      → (not (is_forward output) ≡ true → IsOver app script (packets_of script frames ++ packet_of script number frame ∷ []) → ⊥) → is_heavy_so_far app script output (frames ++ frame ∷ []) ≡ false
   light_by output frames frame number count under = light-of (not (is_forward output)) output frames frame number count refl under
 
 -- ---- what a lane has come to
@@ -132,18 +158,18 @@ module _ (app : Meaning) (script : List Stamped) (output : Output) (frames : Lis
 
 module _ (app : Meaning) (script : List Stamped) (output : Output) (frames : List Captured) (frame : Captured) where
   pub gained_none : is_forward output ≡ false → gained app script output frames frame ≡ []
-  gained_none is = ap (λ b. if b then left_by (verdict_on app (control_at app script) (packet_of script (length frames) frame) (records_of app script (packets_of script) frames)) frame else []) is
+  gained_none is = ap (λ b. if b then left_by (verdict_on app (control_at app script) (packet_of script (length frames) frame) (records_so_far app script (packets_of script) frames)) frame else []) is
 
   pub gained_by : (number : ℕ) (verdict : Verdict) → length frames ≡ number
       → verdict ≡ verdict_on app (control_at app script) (packet_of script number frame) (records app (control_at app script) (packets_of script frames))
       → (if is_forward output then left_by verdict frame else []) ≡ gained app script output frames frame
   gained_by number verdict count is =
       ap (λ v. if is_forward output then left_by v frame else []) is
-      ∙ ap (λ n. if is_forward output then left_by (verdict_on app (control_at app script) (packet_of script n frame) (records_of app script (packets_of script) frames)) frame else []) (sym count)
+      ∙ ap (λ n. if is_forward output then left_by (verdict_on app (control_at app script) (packet_of script n frame) (records_so_far app script (packets_of script) frames)) frame else []) (sym count)
 
 -- ---- no frame yet
 
-light-at-first : (app : Meaning) (script : List Stamped) (b : Bool) → (b && nat_lt 134217728 (weight (records_of app script (packets_of script) []))) ≡ false
+light-at-first : (app : Meaning) (script : List Stamped) (b : Bool) → (b && nat_lt 134217728 (weight (records_so_far app script (packets_of script) []))) ≡ false
 unfolding records_from total
 light-at-first app script true = refl
 light-at-first app script false = refl
@@ -155,6 +181,11 @@ none_read app script output given failed stands good none first = record {
   light = λ any. light-at-first app script (not (is_forward output));
   heavy = λ bad. absurd (bad good);
 }
+
+-- no packet has no greatest moment
+pub none_greatest : None ≡ greatest []
+unfolding greatest_from
+none_greatest = refl
 
 -- what is an error isn't a success
 pub fails_forward : {T E : Type 0} (b : Bool) (r : Result T E) (e : E) → r ≡ Err e → (b ≡ false → IsOk r) → b ≡ true

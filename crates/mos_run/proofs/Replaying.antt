@@ -22,7 +22,7 @@ use Rattle.worker_laws.specs.Whole.{verdicts_from}
 use Rattle.mos_run.specs.declared.output.Output.{Output}
 use Rattle.mos_run.specs.declared.refusal.RunError.{RunError}
 use Rattle.mos_run.specs.declared.refusal.RunError.TheVariants as Run
-use Rattle.mos_run.specs.Records.{control_at, packets_of, records_of}
+use Rattle.mos_run.specs.Records.{control_at, packets_of, records_so_far}
 use Rattle.lane_rings.specs.Forwarded.{bytes_under as left_by}
 use Rattle.worker_pool.specs.Forward.{left_by_all}
 use Rattle.mos_run.specs.Forward.{forwarded}
@@ -138,10 +138,10 @@ module _ (app : Meaning) (script : List Stamped) where
   left-alone n so_far frame = append-nil _
 
   forwarded-last : (frames : List Captured) (frame : Captured)
-      → forwarded app script (packets_of script) (frames ++ frame ∷ []) ≡ forwarded app script (packets_of script) frames ++ left_by (verdict_on app (control_at app script) (packet_of script (length frames) frame) (records_of app script (packets_of script) frames)) frame
+      → forwarded app script (packets_of script) (frames ++ frame ∷ []) ≡ forwarded app script (packets_of script) frames ++ left_by (verdict_on app (control_at app script) (packet_of script (length frames) frame) (records_so_far app script (packets_of script) frames)) frame
   forwarded-last frames frame =
-      forwarded-more 0 [] frames (frame ∷ []) ∙ ap (λ l. forwarded app script (packets_of script) frames ++ l) (left-alone (0 + length frames) (records_of app script (packets_of script) frames) frame)
-      ∙ ap (λ n. forwarded app script (packets_of script) frames ++ left_by (verdict_on app (control_at app script) (packet_of script n frame) (records_of app script (packets_of script) frames)) frame) (let same : 0 + length frames ≡ length frames = omega arith in same)
+      forwarded-more 0 [] frames (frame ∷ []) ∙ ap (λ l. forwarded app script (packets_of script) frames ++ l) (left-alone (0 + length frames) (records_so_far app script (packets_of script) frames) frame)
+      ∙ ap (λ n. forwarded app script (packets_of script) frames ++ left_by (verdict_on app (control_at app script) (packet_of script n frame) (records_so_far app script (packets_of script) frames)) frame) (let same : 0 + length frames ≡ length frames = omega arith in same)
 
   none-forwarded : forwarded app script (packets_of script) [] ≡ []
   unfolding left_by_all verdicts_from
@@ -153,12 +153,12 @@ module _ (app : Meaning) (script : List Stamped) where
 
   written-more : (b : Bool) (header : List ℕ) (frames more : List Captured) → (rest : List ℕ) × (written_by b header (frames ++ more) ≡ written_by b header frames ++ rest)
   written-more true header frames more =
-      let others = forwarded_from (0 + length frames) (records_of app script (packets_of script) frames) more in
+      let others = forwarded_from (0 + length frames) (records_so_far app script (packets_of script) frames) more in
       (others, ap (λ l. header ++ l) (forwarded-more 0 [] frames more) ∙ sym (append_assoc header (forwarded app script (packets_of script) frames) others))
   written-more false header frames more = ([], refl)
 
   written-last : (b : Bool) (header : List ℕ) (frames : List Captured) (frame : Captured)
-      → written_by b header (frames ++ frame ∷ []) ≡ written_by b header frames ++ (if b then left_by (verdict_on app (control_at app script) (packet_of script (length frames) frame) (records_of app script (packets_of script) frames)) frame else [])
+      → written_by b header (frames ++ frame ∷ []) ≡ written_by b header frames ++ (if b then left_by (verdict_on app (control_at app script) (packet_of script (length frames) frame) (records_so_far app script (packets_of script) frames)) frame else [])
   written-last true header frames frame = ap (λ l. header ++ l) (forwarded-last frames frame) ∙ sym (append_assoc header (forwarded app script (packets_of script) frames) _)
   written-last false header frames frame = refl
 
@@ -197,6 +197,13 @@ module _ (app : Meaning) (script : List Stamped) where
         → AppendsFront old now (followed app script (packets_of script) output header (frames ++ more) ending None).text
     front_whole frames more ending old now written =
         let front = front-of frames more ending in
+        subst (AppendsFront old now) (sym front.1) (AppendsFront-whole old now (streamed app script (packets_of script) output header frames) front.0 written)
+
+    -- and of what is written at the end of the capture
+    pub front_at_end : (frames : List Captured) (n : ℕ) (old now : Option (List ℕ)) → Appends old now (streamed app script (packets_of script) output header frames)
+        → AppendsFront old now (weighed app script (packets_of script) output header frames n).text
+    front_at_end frames n old now written =
+        let front = weighed-text frames n (is_heavy app script (packets_of script) output frames) refl in
         subst (AppendsFront old now) (sym front.1) (AppendsFront-whole old now (streamed app script (packets_of script) output header frames) front.0 written)
 
     pub front_part : (frames more : List Captured) (frame : Captured) (ending : Ending) (old mid now : Option (List ℕ)) → Appends old mid (streamed app script (packets_of script) output header frames)

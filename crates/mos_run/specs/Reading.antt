@@ -1,5 +1,5 @@
 -- Only for proofs: what a run has come to after the frames of a capture, under a script.
-use Rattle.std.specs.Prelude.{◌≡◌, ◌≢◌, ℕ, ◌<◌, ◌≤◌, true, false, List, [], ◌++◌, length, take, if◌then◌else◌, Option, None, Some, Ok}
+use Rattle.std.specs.Prelude.{◌≡◌, ◌≢◌, ℕ, ◌<◌, ◌≤◌, Bool, true, false, not, ◌&&◌, List, [], ◌++◌, length, take, nat_lt, if◌then◌else◌, Option, None, Some, Ok}
 use Rattle.app_api.specs.App.{Meaning}
 use Rattle.pcap_source.specs.Captured.{Captured}
 use Rattle.pcap_source.specs.Capture.{Frames, capture_of}
@@ -16,9 +16,9 @@ use Rattle.lane_core.specs.Shown.{weight}
 use Rattle.lane_core.specs.Lane.{IsAfter}
 use Rattle.lane_core.specs.declared.recorder.Recorder.{Ghosts as Recorder}
 use Rattle.mos_run.specs.declared.output.Output.{Output}
-use Rattle.mos_run.specs.Records.{control_at, packets_of, records_of}
+use Rattle.mos_run.specs.Records.{control_at, packets_of, records_so_far}
 use Rattle.lane_rings.specs.Forwarded.{bytes_under as left_by}
-use Rattle.mos_run.specs.Outcome.{is_forward, is_heavy}
+use Rattle.mos_run.specs.Outcome.{is_forward}
 
 -- the packet of a number, under the commands up to its ceiling
 abbrev pub packet_of : List Stamped → ℕ → Captured → VersionedPacket
@@ -46,11 +46,16 @@ pub record Follows (script : List Stamped) (given : ℕ) (stands : List LaneEven
 abbrev pub IsOver : Meaning → List Stamped → List VersionedPacket → Type 0
 IsOver app script ps = 134217728 < weight (records app (control_at app script) ps)
 
--- a lane follows these frames, which aren't too heavy; or it failed, and they are
+-- whether the records of these frames weigh too much while the capture goes on
+abbrev pub is_heavy_so_far : Meaning → List Stamped → Output → List Captured → Bool
+is_heavy_so_far app script output frames =
+    not (is_forward output) && nat_lt 134217728 (weight (records_so_far app script (packets_of script) frames))
+
+-- a lane follows these frames, which aren't too heavy so far; or it failed, and they are
 pub record IsRead (app : Meaning) (script : List Stamped) (output : Output) (given : ℕ) (failed : Option LaneError) (stands : List LaneEvent → Type 0) (frames : List Captured) : Type 0 where
   pub follows : failed ≡ None → Follows script given stands (packets_of script frames)
-  pub light : failed ≡ None → is_heavy app script (packets_of script) output frames ≡ false
-  pub heavy : failed ≢ None → is_heavy app script (packets_of script) output frames ≡ true
+  pub light : failed ≡ None → is_heavy_so_far app script output frames ≡ false
+  pub heavy : failed ≢ None → is_heavy_so_far app script output frames ≡ true
 
 -- the same of a lane
 module _ {L : Type 0} (g : Recorder L) (script : List Stamped) where
@@ -70,7 +75,7 @@ module _ {L : Type 0} (g : Recorder L) (script : List Stamped) where
 abbrev pub gained : Meaning → List Stamped → Output → List Captured → Captured → List ℕ
 gained app script output frames frame =
     if is_forward output
-    then left_by (verdict_on app (control_at app script) (packet_of script (length frames) frame) (records_of app script (packets_of script) frames)) frame
+    then left_by (verdict_on app (control_at app script) (packet_of script (length frames) frame) (records_so_far app script (packets_of script) frames)) frame
     else []
 
 -- these frames, and then others

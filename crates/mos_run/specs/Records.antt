@@ -8,7 +8,8 @@ use Rattle.control_script.specs.declared.stamped.Stamped.{Stamped}
 use Rattle.control_script.specs.Order.{commands_of}
 use Rattle.control_script.specs.Versions.{ceil}
 use Rattle.lane_core.specs.Sight.{Arrival, arrivals}
-use Rattle.lane_core.specs.Records.{VersionedPacket, RecordSoFar, records, versioned}
+use Rattle.lane_core.specs.Records.{VersionedPacket, RecordSoFar, records, versioned, ended_at}
+use Rattle.worker_laws.specs.Greatest.{greatest}
 use Rattle.worker_laws.specs.Whole.{packets_under, verdicts_from}
 
 -- what is in force at each version: after the first so many commands of the script
@@ -28,9 +29,14 @@ packets_with app script vs frames = packets_under app (commands_of script) vs (a
 -- ---- a run, where `given` gives packets their versions
 
 module _ (app : Meaning) (script : List Stamped) (given : List Captured → List VersionedPacket) where
-  -- the records of a capture
+  -- the records while the capture goes on
+  abbrev pub records_so_far : List Captured → List RecordSoFar
+  records_so_far frames = records app (control_at app script) (given frames)
+
+  -- The records of a capture: at its end each open connection has ended that was silent for too long by the greatest moment of all
+  -- packets.
   abbrev pub records_of : List Captured → List RecordSoFar
-  records_of frames = records app (control_at app script) (given frames)
+  records_of frames = map (ended_at app (control_at app script) (greatest (arrivals 0 frames))) (records_so_far frames)
 
   -- its packets in order, each with what becomes of it
   abbrev pub verdicts_of : List Captured → List (Arrival × Verdict)

@@ -6,6 +6,8 @@ ghost use Rattle.mos_bytes.specs.Writes.{WriteAdds};
 ghost use Rattle.report_text.specs.Tidy.{tidy};
 ghost use Rattle.pcap_source.specs.Captured.{Captured};
 ghost use Rattle.app_api.specs.App.{IsLawful};
+ghost use Rattle.lane_core.specs.Sight.{arrivals};
+ghost use Rattle.worker_laws.specs.Greatest.{greatest};
 ghost use Rattle.mos_run.specs.Records.{packets_of};
 ghost use Rattle.mos_run.specs.Outcome.{is_forward, streamed, closing};
 ghost use Rattle.mos_bytes.specs.Outside.{Writes};
@@ -15,8 +17,9 @@ ghost use Rattle.mos_run.specs.Runs.{EndsAlone, MayRun};
 use crate::plan::Plan;
 use crate::summary::write_summary;
 use crate::{Output, RunError, VersionList};
+use flow_timers::Moment;
 use lane_core::Recorder;
-use lane_core::laws::{later_commands_change_none, records_are_tidy};
+use lane_core::laws::{later_commands_change_none, records_are_tidy, weight_never_falls};
 use mos_bytes::Sink;
 use report_text::{Record, Totals, write_report};
 use std::alloc::Global;
@@ -45,22 +48,25 @@ pub(crate) fn write_end<O: Sink>(
     Ok(())
 }
 
-/// Ends a run whose lane took so many packets, behind which the capture has a tail of so many bytes.
+/// Ends a run whose lane took so many packets, of which `last` is the greatest moment, and behind which the capture has a
+/// tail of so many bytes.
 pub(crate) fn close<L: Recorder + Drop, O: Sink>(
     alloc: Global,
     plan: &Plan<'_>,
     lane: L,
     packets: u64,
+    last: Option<Moment>,
     tail: u32,
     out: &mut O,
 ) -> Result<VersionList, RunError>
     requires app { IsLawful (L.app lane) }
     requires lawful { MayRun (L.app lane) plan.now.script.now }
     requires keeps { L.keeps lane ≡ not (is_forward plan.now.output) }
-    requires read { (frames : List Captured) × (length frames ≡ packets)
+    requires read { (frames : List Captured) × (length frames ≡ packets) × (last ≡ greatest (arrivals 0 frames))
         × LaneHasRead L.Recorder plan.now.script.now plan.now.output lane frames }
     ensures ends { (header : List ℕ) (frames : List Captured) (before : Option (List ℕ))
-        → length frames ≡ packets → LaneHasRead L.Recorder plan.now.script.now plan.now.output lane frames
+        → length frames ≡ packets → last ≡ greatest (arrivals 0 frames)
+        → LaneHasRead L.Recorder plan.now.script.now plan.now.output lane frames
         → Appends before (O.taken out.old)
         (streamed (L.app lane) plan.now.script.now (packets_of plan.now.script.now) plan.now.output header frames)
         → EndsAlone (L.app lane) plan.now.script.now plan.now.output header frames tail
@@ -72,8 +78,9 @@ pub(crate) fn close<L: Recorder + Drop, O: Sink>(
     ensures to { Writes O.Sink out.old out.new (IsErrOf result RunError.WriteFault) }
 {
     later_commands_change_none();
+    weight_never_falls();
     records_are_tidy();
-    let end = lane.finish(alloc)?;
+    let end = lane.finish(alloc, last, plan.natives)?;
     let records = end.records.as_slice();
     let totals = Totals {
         packets,

@@ -29,6 +29,7 @@ use mos_bytes::{Failed, Sink, Source};
 use pcap_source::{Capture, Frame, Step};
 use shared_forest::Table;
 use std::alloc::Global;
+use worker_laws::moments::greatest_with;
 
 // Hands the capture's header on, where packets are.
 fn write_front<O: Sink>(output: Output, capture: &Capture, out: &mut O) -> Result<(), Failed>
@@ -161,15 +162,17 @@ fn read_on<L: Recorder + Drop, S: Source, O: Sink>(
     let mut lane = lane;
     let mut frame = Frame::new(alloc);
     let mut packets = 0;
+    let mut last = None;
     loop {
         hand_on(plan.output, &capture, source, out)?;
         match capture.next(source, &mut frame)? {
             Step::Frame => {
+                last = greatest_with(last, &frame);
                 take(alloc, plan, &capture, &mut lane, packets, &frame, out)?;
                 packets += 1;
             }
-            Step::Tail(bytes) => return close(alloc, plan, lane, packets, bytes, out),
-            Step::End => return close(alloc, plan, lane, packets, 0, out),
+            Step::Tail(bytes) => return close(alloc, plan, lane, packets, last, bytes, out),
+            Step::End => return close(alloc, plan, lane, packets, last, 0, out),
         }
     }
 }

@@ -1,4 +1,4 @@
-use Rattle.std.proofs.Common.{◌≡◌, ◌∙◌, length, map, not, true, false, sym, ap, subst}
+use Rattle.std.proofs.Common.{◌≡◌, ◌∙◌, length, map, not, true, false, Err, sym, ap, subst}
 use Rattle.std.specs.Prelude.{◌⊎◌}
 use Rattle.std.proofs.lemmas.Result.{err_from_is_err_and}
 use Rattle.mos_bytes.specs.Writes.{AppendsFront}
@@ -7,7 +7,8 @@ use Rattle.report_text.specs.Tidy.{tidy}
 use Rattle.mos_run.specs.Records.{packets_of}
 use Rattle.mos_run.specs.Outcome.{closing, is_forward}
 use Rattle.mos_run.specs.declared.refusal.RunError.TheVariants as Run
-use Rattle.mos_run.proofs.Closing.{was_good, end_is, end_is_tidy, versions_are, closing_is, ends_well, ends_badly}
+use Rattle.mos_run.proofs.Closing.{was_good, end_is, end_is_heavy, end_is_light, end_is_tidy, versions_are, closing_is, ends_well, ends_badly, ends_not}
+use Rattle.mos_run.proofs.Replaying.{front_at_end}
 use Rattle.mos_run.proofs.close.close.Goals as goal
 
 pub write_end-requires : goal.write_end-requires
@@ -19,21 +20,36 @@ write_end-requires g c = record {
       let good = was_good (g.L.Recorder.failed lane) c.finish.result end c.finish.ensures.failed c.in_ok-end.was in
       let read = c.requires.read in
       let kept : g.L.Recorder.keeps lane ≡ true = c.requires.keeps ∙ ap (λ o. not (is_forward o)) report in
-      let is = end_is (g.L.Recorder.app lane) plan.script.now plan.output read.0 (g.L.Recorder.given lane) (g.L.Recorder.failed lane) (g.L.Recorder.stands lane) (g.L.Recorder.keeps lane) end.records end.versions end.callbacks end.drops
-      c.later_commands_change_none.ensures read.2 good (c.in_ok-end.ensures.ended good) in
+      let is = end_is (g.L.Recorder.app lane) plan.script.now plan.output read.0 (g.L.Recorder.given lane) (g.L.Recorder.failed lane) (g.L.Recorder.stands lane) (g.L.Recorder.keeps lane) c.args.last c.later_commands_change_none.ensures read.2 read.3
+      end.records end.versions end.callbacks end.drops good (c.in_ok-end.ensures.ended good) in
       subst (λ l. tidy l ≡ true) (sym c.as_slice-records.ensures)
       (end_is_tidy (g.L.Recorder.app lane) plan.script.now plan.output read.0 (g.L.Recorder.keeps lane) end.records end.versions end.callbacks end.drops c.records_are_tidy.ensures c.requires.app c.requires.lawful kept is);
 }
 
+pub returns-in_err-end-clause-ends : goal.returns-in_err-end-clause-ends
+returns-in_err-end-clause-ends g c = λ header frames before count is_last read first.
+    let lane = c.args.lane in
+    let plan = c.args.plan.now in
+    let app = g.L.Recorder.app lane in
+    let front = front_at_end app plan.script.now plan.output header frames c.args.tail before (g.O.Sink.taken c.args.out.now) first in
+    let error = err_from_is_err_and c.from_residual.result c.from_residual.ensures.1 in
+    rw (error.1, error.2)
+    (ends_not app plan.script.now (packets_of plan.script.now) plan.output frames header c.args.tail c.in_err-end.field-0.0 before (g.O.Sink.taken c.args.out.now)
+    (λ heavy. end_is_heavy app plan.script.now plan.output frames (g.L.Recorder.given lane) (g.L.Recorder.failed lane) (g.L.Recorder.stands lane) (g.L.Recorder.keeps lane) c.args.last c.later_commands_change_none.ensures is_last read
+    c.weight_never_falls.ensures c.requires.keeps (λ good. c.finish.ensures.heavy good (c.in_err-end.was ∙ ap (λ e. Err e) heavy)))
+    front)
+
 pub returns-in_err-write_end-clause-ends : goal.returns-in_err-write_end-clause-ends
-returns-in_err-write_end-clause-ends g c = λ header frames before count read first.
+returns-in_err-write_end-clause-ends g c = λ header frames before count is_last read first.
     let lane = c.args.lane in
     let plan = c.args.plan.now in
     let app = g.L.Recorder.app lane in
     let end = c.in_ok-end.end in
     let good = was_good (g.L.Recorder.failed lane) c.finish.result end c.finish.ensures.failed c.in_ok-end.was in
-    let is = end_is app plan.script.now plan.output frames (g.L.Recorder.given lane) (g.L.Recorder.failed lane) (g.L.Recorder.stands lane) (g.L.Recorder.keeps lane) end.records end.versions end.callbacks end.drops
-    c.later_commands_change_none.ensures read good (c.in_ok-end.ensures.ended good) in
+    let is = end_is app plan.script.now plan.output frames (g.L.Recorder.given lane) (g.L.Recorder.failed lane) (g.L.Recorder.stands lane) (g.L.Recorder.keeps lane) c.args.last c.later_commands_change_none.ensures is_last read
+    end.records end.versions end.callbacks end.drops good (c.in_ok-end.ensures.ended good) in
+    let light = end_is_light app plan.script.now plan.output frames (g.L.Recorder.given lane) (g.L.Recorder.failed lane) (g.L.Recorder.stands lane) (g.L.Recorder.keeps lane) c.args.last c.later_commands_change_none.ensures is_last read
+    good c.requires.keeps c.in_ok-end.ensures.light in
     let text = closing_is app plan.script.now plan.output frames (g.L.Recorder.keeps lane) end.records end.versions end.callbacks end.drops c.args.packets (length c.as_slice-records.result.now) c.args.tail c.requires.keeps is count (ap length c.as_slice-records.ensures) in
     let error = err_from_is_err_and c.from_residual-in_err-write_end.result c.from_residual-in_err-write_end.ensures.1 in
     let which = subst (λ e. ((e ≡ Run.WriteFault) × (is_forward plan.output ≡ false)) ⊎ (e ≡ Run.NoMemory)) (sym error.2) c.in_err-write_end.ensures.only in
@@ -45,17 +61,19 @@ returns-in_err-write_end-clause-ends g c = λ header frames before count read fi
       tail = c.args.tail;
     })) c.as_slice-records.ensures ∙ text) c.in_err-write_end.ensures.text in
     rw (error.1)
-    (ends_badly app plan.script.now (packets_of plan.script.now) plan.output frames header c.args.tail error.0 before (g.O.Sink.taken c.args.out.now) (g.O.Sink.taken c.write_end.new.out) (read.light good) which first last)
+    (ends_badly app plan.script.now (packets_of plan.script.now) plan.output frames header c.args.tail error.0 before (g.O.Sink.taken c.args.out.now) (g.O.Sink.taken c.write_end.new.out) light which first last)
 
 pub returns-clause-ends : goal.returns-clause-ends
-returns-clause-ends g c = λ header frames before count read first.
+returns-clause-ends g c = λ header frames before count is_last read first.
     let lane = c.args.lane in
     let plan = c.args.plan.now in
     let app = g.L.Recorder.app lane in
     let end = c.in_ok-end.end in
     let good = was_good (g.L.Recorder.failed lane) c.finish.result end c.finish.ensures.failed c.in_ok-end.was in
-    let is = end_is app plan.script.now plan.output frames (g.L.Recorder.given lane) (g.L.Recorder.failed lane) (g.L.Recorder.stands lane) (g.L.Recorder.keeps lane) end.records end.versions end.callbacks end.drops
-    c.later_commands_change_none.ensures read good (c.in_ok-end.ensures.ended good) in
+    let is = end_is app plan.script.now plan.output frames (g.L.Recorder.given lane) (g.L.Recorder.failed lane) (g.L.Recorder.stands lane) (g.L.Recorder.keeps lane) c.args.last c.later_commands_change_none.ensures is_last read
+    end.records end.versions end.callbacks end.drops good (c.in_ok-end.ensures.ended good) in
+    let light = end_is_light app plan.script.now plan.output frames (g.L.Recorder.given lane) (g.L.Recorder.failed lane) (g.L.Recorder.stands lane) (g.L.Recorder.keeps lane) c.args.last c.later_commands_change_none.ensures is_last read
+    good c.requires.keeps c.in_ok-end.ensures.light in
     let text = closing_is app plan.script.now plan.output frames (g.L.Recorder.keeps lane) end.records end.versions end.callbacks end.drops c.args.packets (length c.as_slice-records.result.now) c.args.tail c.requires.keeps is count (ap length c.as_slice-records.ensures) in
     let last = subst (Appends (g.O.Sink.taken c.args.out.now) (g.O.Sink.taken c.write_end.new.out)) (ap (λ l. closing plan.output l (record {
       packets = c.args.packets;
@@ -66,4 +84,4 @@ returns-clause-ends g c = λ header frames before count read first.
     })) c.as_slice-records.ensures ∙ text) c.in_ok-write_end.ensures.text in
     let versions = c.in_ok-versions.ensures ∙ ap (map (λ r. r.version)) c.as_slice-records.ensures
     ∙ versions_are app plan.script.now plan.output frames (g.L.Recorder.keeps lane) end.records end.versions end.callbacks end.drops is in
-    ends_well app plan.script.now (packets_of plan.script.now) plan.output frames header c.args.tail _ before (g.O.Sink.taken c.args.out.now) (g.O.Sink.taken c.write_end.new.out) (read.light good) versions first last
+    ends_well app plan.script.now (packets_of plan.script.now) plan.output frames header c.args.tail _ before (g.O.Sink.taken c.args.out.now) (g.O.Sink.taken c.write_end.new.out) light versions first last

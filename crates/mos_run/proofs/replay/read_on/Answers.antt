@@ -11,7 +11,7 @@ use Rattle.mos_run.specs.Records.{packets_of}
 use Rattle.mos_run.specs.Outcome.{is_forward, streamed, outcome_over}
 use Rattle.mos_run.specs.Run.{RunsAs}
 use Rattle.mos_run.proofs.Refusals.{is_read_fault, no_write_fault, is_late, same_error, rose_since, late_by, no_read_fault}
-use Rattle.mos_run.proofs.Reading.{fails_forward}
+use Rattle.mos_run.proofs.Reading.{fails_forward, none_greatest}
 use Rattle.mos_run.proofs.Ends.{cut_record, err_same, no_heavy_packet, no_heavy_record, no_read_end, no_write_packet, reads_refused, reads_whole}
 use Rattle.mos_run.proofs.Replaying.{stopped_writing, step_told, replayed, streamed_last, refused_record, front_so_far, front_of_frame, stopped_by, ended_at}
 use Rattle.mos_run.proofs.replay.read_on.Goals as goal
@@ -30,7 +30,7 @@ loop-frame-init g c = record {
   out_faults = le_refl _;
   source_lasts = refl;
   out_lasts = refl;
-  read = ([], refl, c.requires.read, λ before written. written, λ bytes r. r);
+  read = ([], refl, none_greatest, c.requires.read, λ before written. written, λ bytes r. r);
 }
 
 pub returns-in_err-hand_on-clause-runs : goal.returns-in_err-hand_on-clause-runs
@@ -40,14 +40,14 @@ returns-in_err-hand_on-clause-runs g c = λ bytes before r written.
     let read = inv.read in
     let plan = c.args.plan.now in
     let app = g.L.Recorder.app at.lane in
-    let rep = read.4 bytes r in
+    let rep = read.5 bytes r in
     let forward = fails_forward (is_forward plan.output) c.hand_on.result c.in_err-hand_on.field-0.0 c.in_err-hand_on.was (λ is. (c.hand_on.ensures.silent is).0) in
     let p = err_from_is_err_and c.from_residual.result c.from_residual.ensures.1 in
     rw (p.1, p.2)
     (subst (λ a. RunsAs (outcome_over a plan.script.now (packets_of plan.script.now) plan.output bytes) before (g.O.Sink.taken c.hand_on.new.out) (Err Run.WriteFault)) inv.app (
       stopped_writing app plan.script.now plan.output bytes _ at.capture read.0 rep forward inv.header,
       front_so_far app plan.script.now plan.output bytes _ at.capture read.0 before (g.O.Sink.taken c.hand_on.new.out) rep
-          (Appends-kept before (g.O.Sink.taken at.out) (g.O.Sink.taken c.hand_on.new.out) _ (read.3 before written) c.hand_on.ensures.bytes),
+          (Appends-kept before (g.O.Sink.taken at.out) (g.O.Sink.taken c.hand_on.new.out) _ (read.4 before written) c.hand_on.ensures.bytes),
     ))
 
 pub returns-in_err-hand_on-clause-reads : goal.returns-in_err-hand_on-clause-reads
@@ -88,13 +88,13 @@ returns-in_err-next-clause-runs g c = λ bytes before r written.
     let read = inv.read in
     let plan = c.args.plan.now in
     let app = g.L.Recorder.app at.lane in
-    let rep = read.4 bytes r in
+    let rep = read.5 bytes r in
     let step = step_told at.capture c.next.new.self _ _ rep.rest c.next.new.frame (Err c.in_err-next.field-0.0) c.in_err-next.ensures.gives rep.told in
     let p = err_from_is_err_and c.from_residual-in_err-next.result c.from_residual-in_err-next.ensures.1 in
     rw (p.1, p.2)
     (subst (λ a. RunsAs (outcome_over a plan.script.now (packets_of plan.script.now) plan.output bytes) before (g.O.Sink.taken c.hand_on.new.out) (Err (record_refusal c.in_err-next.field-0.0))) inv.app (
       refused_record app plan.script.now plan.output bytes _ _ at.capture c.next.new.self read.0 c.next.new.frame c.in_err-next.field-0.0 rep step,
-      front_so_far app plan.script.now plan.output bytes _ at.capture read.0 before (g.O.Sink.taken c.hand_on.new.out) rep (Appends-kept before (g.O.Sink.taken at.out) (g.O.Sink.taken c.hand_on.new.out) _ (read.3 before written) c.hand_on.ensures.bytes),
+      front_so_far app plan.script.now plan.output bytes _ at.capture read.0 before (g.O.Sink.taken c.hand_on.new.out) rep (Appends-kept before (g.O.Sink.taken at.out) (g.O.Sink.taken c.hand_on.new.out) _ (read.4 before written) c.hand_on.ensures.bytes),
     ))
 
 pub returns-in_err-next-clause-reads : goal.returns-in_err-next-clause-reads
@@ -107,7 +107,7 @@ returns-in_err-next-clause-reads g c =
     (reads_refused g.S.Source c.args.plan.now.output _ _ _ (record_refusal e) (no_heavy_record e)
     (λ kept. ((c.hand_on.ensures.silent kept).1 ∙ inv.silent kept, λ fault. no_write_fault e (err_same (record_refusal e) Run.WriteFault fault)))
     (λ is bytes r none.
-    let rep = inv.read.4 bytes r in
+    let rep = inv.read.5 bytes r in
     let step = step_told at.capture c.next.new.self _ _ rep.rest c.next.new.frame (Err e) c.in_err-next.ensures.gives rep.told in
     cut_record bytes _ _ at.capture c.next.new.self inv.read.0 c.next.new.frame e rep step is none))
 
@@ -149,7 +149,7 @@ returns-in_err-take-in-Frame-clause-runs g c = λ bytes before r written.
     let read = inv.read in
     let plan = c.args.plan.now in
     let app = g.L.Recorder.app at.lane in
-    let rep = read.4 bytes r in
+    let rep = read.5 bytes r in
     let gives = subst (λ s. NextGives at.capture c.next.new.self (g.S.Source.left at.source) (g.S.Source.left c.next.new.source) c.next.new.frame (Ok s)) c.in-Frame.is c.in_ok-next.ensures.gives in
     let step = step_told at.capture c.next.new.self _ _ rep.rest c.next.new.frame _ gives rep.told in
     let e = c.in_err-take-in-Frame.field-0.0 in
@@ -157,8 +157,8 @@ returns-in_err-take-in-Frame-clause-runs g c = λ bytes before r written.
     rw (p.1, p.2)
     (subst (λ a. RunsAs (outcome_over a plan.script.now (packets_of plan.script.now) plan.output bytes) before (g.O.Sink.taken c.take.new.out) (Err e)) inv.app (
       stopped_by app plan.script.now plan.output bytes _ at.capture read.0 e rep inv.header c.in_err-take-in-Frame.ensures.only,
-      front_of_frame app plan.script.now plan.output bytes _ _ at.capture c.next.new.self read.0 c.next.new.frame before (g.O.Sink.taken c.hand_on.new.out) (g.O.Sink.taken c.take.new.out) rep step (Appends-kept before (g.O.Sink.taken at.out) (g.O.Sink.taken c.hand_on.new.out) _ (read.3 before written) c.hand_on.ensures.bytes)
-          (c.in_err-take-in-Frame.ensures.writes read.0 read.1 read.2),
+      front_of_frame app plan.script.now plan.output bytes _ _ at.capture c.next.new.self read.0 c.next.new.frame before (g.O.Sink.taken c.hand_on.new.out) (g.O.Sink.taken c.take.new.out) rep step (Appends-kept before (g.O.Sink.taken at.out) (g.O.Sink.taken c.hand_on.new.out) _ (read.4 before written) c.hand_on.ensures.bytes)
+          (c.in_err-take-in-Frame.ensures.writes read.0 read.1 read.3),
     ))
 
 pub returns-in_err-take-in-Frame-clause-reads : goal.returns-in_err-take-in-Frame-clause-reads
@@ -232,14 +232,15 @@ loop-frame-preserved g c =
       read = (
         read.0 ++ frame ∷ [],
         length-append read.0 (frame ∷ []) ∙ ap (λ n. n + 1) read.1,
-        taken.reads refl read.0 read.1 read.2,
+        c.greatest_with.ensures.greatest read.0 read.2,
+        taken.reads refl read.0 read.1 read.3,
         λ before written.
             subst (λ a. Appends before (g.O.Sink.taken c.take.new.out) (streamed a plan.script.now (packets_of plan.script.now) plan.output c.next.new.self.header (read.0 ++ frame ∷ []))) (sym c.take.ensures.app)
             (subst (λ h. Appends before (g.O.Sink.taken c.take.new.out) (streamed app plan.script.now (packets_of plan.script.now) plan.output h (read.0 ++ frame ∷ []))) (sym moved.header)
             (subst (Appends before (g.O.Sink.taken c.take.new.out)) (sym (streamed_last app plan.script.now plan.output at.capture.header read.0 frame))
-            (Appends-trans before (g.O.Sink.taken c.hand_on.new.out) (g.O.Sink.taken c.take.new.out) _ _ (Appends-kept before (g.O.Sink.taken at.out) (g.O.Sink.taken c.hand_on.new.out) _ (read.3 before written) c.hand_on.ensures.bytes) (taken.writes read.0 read.1 read.2)))),
+            (Appends-trans before (g.O.Sink.taken c.hand_on.new.out) (g.O.Sink.taken c.take.new.out) _ _ (Appends-kept before (g.O.Sink.taken at.out) (g.O.Sink.taken c.hand_on.new.out) _ (read.4 before written) c.hand_on.ensures.bytes) (taken.writes read.0 read.1 read.3)))),
         λ bytes r.
-            let rep = read.4 bytes r in
+            let rep = read.5 bytes r in
             let gives = subst (λ s. NextGives at.capture c.next.new.self (g.S.Source.left at.source) (g.S.Source.left c.next.new.source) frame (Ok s)) c.in-Frame.is c.in_ok-next.ensures.gives in
             let step = step_told at.capture c.next.new.self _ _ rep.rest frame _ gives rep.told in
             replayed bytes _ _ at.capture c.next.new.self read.0 frame rep step moved.header,
@@ -247,10 +248,10 @@ loop-frame-preserved g c =
     }
 
 pub close-requires-clause-read : goal.close-requires-clause-read
-close-requires-clause-read g c = let read = c.loop-frame.invariant.read in (read.0, read.1, read.2)
+close-requires-clause-read g c = let read = c.loop-frame.invariant.read in (read.0, read.1, read.2, read.3)
 
 pub close-requires-in-End-clause-read : goal.close-requires-in-End-clause-read
-close-requires-in-End-clause-read g c = let read = c.loop-frame.invariant.read in (read.0, read.1, read.2)
+close-requires-in-End-clause-read g c = let read = c.loop-frame.invariant.read in (read.0, read.1, read.2, read.3)
 
 pub returns-in-Tail-clause-runs : goal.returns-in-Tail-clause-runs
 returns-in-Tail-clause-runs g c = λ bytes before r written.
@@ -259,17 +260,17 @@ returns-in-Tail-clause-runs g c = λ bytes before r written.
     let read = inv.read in
     let plan = c.args.plan.now in
     let app = g.L.Recorder.app at.lane in
-    let rep = read.4 bytes r in
+    let rep = read.5 bytes r in
     let gives = subst (λ s. NextGives at.capture c.next.new.self (g.S.Source.left at.source) (g.S.Source.left c.next.new.source) c.next.new.frame (Ok s)) c.in-Tail.is c.in_ok-next.ensures.gives in
     let step = step_told at.capture c.next.new.self _ _ rep.rest c.next.new.frame _ gives rep.told in
     subst (λ a. RunsAs (outcome_over a plan.script.now (packets_of plan.script.now) plan.output bytes) before (g.O.Sink.taken c.close.new.out) c.close.result) inv.app
     (subst (λ o. RunsAs o before (g.O.Sink.taken c.close.new.out) c.close.result) (sym (ended_at app plan.script.now plan.output bytes _ at.capture read.0 c.in-Tail.bytes rep step.steps.0))
-    (c.close.ensures.ends at.capture.header read.0 before read.1 read.2 (Appends-kept before (g.O.Sink.taken at.out) (g.O.Sink.taken c.hand_on.new.out) _ (read.3 before written) c.hand_on.ensures.bytes)))
+    (c.close.ensures.ends at.capture.header read.0 before read.1 read.2 read.3 (Appends-kept before (g.O.Sink.taken at.out) (g.O.Sink.taken c.hand_on.new.out) _ (read.4 before written) c.hand_on.ensures.bytes)))
 
 pub returns-in-Tail-clause-read : goal.returns-in-Tail-clause-read
 returns-in-Tail-clause-read g c = λ ok bytes r.
     let at = c.loop-frame in
-    let rep = at.invariant.read.4 bytes r in
+    let rep = at.invariant.read.5 bytes r in
     let gives = subst (λ s. NextGives at.capture c.next.new.self (g.S.Source.left at.source) (g.S.Source.left c.next.new.source) c.next.new.frame (Ok s)) c.in-Tail.is c.in_ok-next.ensures.gives in
     let step = step_told at.capture c.next.new.self _ _ rep.rest c.next.new.frame _ gives rep.told in
     step.told ∙ ap (λ l. Some l) step.steps.2
@@ -288,17 +289,17 @@ returns-in-End-clause-runs g c = λ bytes before r written.
     let read = inv.read in
     let plan = c.args.plan.now in
     let app = g.L.Recorder.app at.lane in
-    let rep = read.4 bytes r in
+    let rep = read.5 bytes r in
     let gives = subst (λ s. NextGives at.capture c.next.new.self (g.S.Source.left at.source) (g.S.Source.left c.next.new.source) c.next.new.frame (Ok s)) c.in-End.is c.in_ok-next.ensures.gives in
     let step = step_told at.capture c.next.new.self _ _ rep.rest c.next.new.frame _ gives rep.told in
     subst (λ a. RunsAs (outcome_over a plan.script.now (packets_of plan.script.now) plan.output bytes) before (g.O.Sink.taken c.close-in-End.new.out) c.close-in-End.result) inv.app
     (subst (λ o. RunsAs o before (g.O.Sink.taken c.close-in-End.new.out) c.close-in-End.result) (sym (ended_at app plan.script.now plan.output bytes _ at.capture read.0 0 rep step.steps.0))
-    (c.close-in-End.ensures.ends at.capture.header read.0 before read.1 read.2 (Appends-kept before (g.O.Sink.taken at.out) (g.O.Sink.taken c.hand_on.new.out) _ (read.3 before written) c.hand_on.ensures.bytes)))
+    (c.close-in-End.ensures.ends at.capture.header read.0 before read.1 read.2 read.3 (Appends-kept before (g.O.Sink.taken at.out) (g.O.Sink.taken c.hand_on.new.out) _ (read.4 before written) c.hand_on.ensures.bytes)))
 
 pub returns-in-End-clause-read : goal.returns-in-End-clause-read
 returns-in-End-clause-read g c = λ ok bytes r.
     let at = c.loop-frame in
-    let rep = at.invariant.read.4 bytes r in
+    let rep = at.invariant.read.5 bytes r in
     let gives = subst (λ s. NextGives at.capture c.next.new.self (g.S.Source.left at.source) (g.S.Source.left c.next.new.source) c.next.new.frame (Ok s)) c.in-End.is c.in_ok-next.ensures.gives in
     let step = step_told at.capture c.next.new.self _ _ rep.rest c.next.new.frame _ gives rep.told in
     step.told ∙ ap (λ l. Some l) step.steps.1

@@ -1,13 +1,15 @@
 use Rattle.std.proofs.Common.{◌≡◌, ℕ, ◌-◌, ◌≤◌, List, Option, true, false, not, length, []}
 use Rattle.std.specs.Io.KnownBytes.{Appends}
 use Rattle.pcap_source.specs.Captured.{Captured}
+use Rattle.lane_core.specs.Sight.{arrivals}
+use Rattle.worker_laws.specs.Greatest.{greatest}
 use Rattle.mos_run.specs.Records.{packets_of}
 use Rattle.mos_run.specs.Outcome.{is_forward, streamed}
 use Rattle.mos_run.specs.Reading.{IsReady, IsRead, Replaying}
 use Rattle.mos_run.proofs.replay.read_on.Given as goal
 
--- The capture is live and has given so many packets. The lane read the frames so far, what they leave was written, and they
--- and what is left are the capture.
+-- The capture is live and has given so many packets, whose greatest moment is known. The lane read the frames so far, what they
+-- leave was written, and they and what is left are the capture.
 abbrev pub invariant-loop-frame : goal.invariant-loop-frame
 invariant-loop-frame g l = record {
   live : l.capture.is_live ≡ true;
@@ -22,7 +24,7 @@ invariant-loop-frame g l = record {
   out_faults : g.O.Sink.faults l.fn.out ≤ g.O.Sink.faults l.out;
   source_lasts : g.S.Source.lasting l.source ≡ g.S.Source.lasting l.fn.source;
   out_lasts : g.O.Sink.lasting l.out ≡ g.O.Sink.lasting l.fn.out;
-  read : (frames : List Captured) × (length frames ≡ l.packets)
+  read : (frames : List Captured) × (length frames ≡ l.packets) × (l.last ≡ greatest (arrivals 0 frames))
       × IsRead (g.L.Recorder.app l.lane) l.plan.script.now l.plan.output (g.L.Recorder.given l.lane) (g.L.Recorder.failed l.lane) (g.L.Recorder.stands l.lane) frames
       × ((before : Option (List ℕ)) → Appends before (g.O.Sink.taken l.fn.out) (streamed (g.L.Recorder.app l.fn.lane) l.plan.script.now (packets_of l.plan.script.now) l.plan.output l.fn.capture.header [])
       → Appends before (g.O.Sink.taken l.out) (streamed (g.L.Recorder.app l.lane) l.plan.script.now (packets_of l.plan.script.now) l.plan.output l.capture.header frames))
