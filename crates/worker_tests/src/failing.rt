@@ -1,7 +1,6 @@
 //! A lane that fails for want of memory at a packet.
 
 use app_api::Verdict;
-use flow_timers::Moment;
 use forest_versions::{Command, Control};
 use lane_core::{LaneEnd, LaneError, Recorder};
 use native_filters::NativeBook;
@@ -77,16 +76,11 @@ impl<L: Recorder + Drop> Recorder for Failing<L> {
         self.has_failed || self.inner.has_failed()
     }
 
-    fn finish(
-        self,
-        alloc: Global,
-        greatest: Option<Moment>,
-        natives: &NativeBook,
-    ) -> Result<LaneEnd, LaneError> {
+    fn finish(self, alloc: Global) -> Result<LaneEnd, LaneError> {
         if self.has_failed {
             return Err(LaneError::NoMemory);
         }
         let Failing { inner, .. } = self;
-        inner.finish(alloc, greatest, natives)
+        inner.finish(alloc)
     }
 }
