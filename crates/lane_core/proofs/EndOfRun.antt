@@ -1,8 +1,9 @@
 -- The end of a run, record by record.
 use Rattle.std.proofs.Common.{◌≡◌, ℕ, zero, suc, ◌+◌, ◌<◌, ◌≤◌, Bool, true, false, Option, Some, None, List, [], ◌∷◌, length, get_or, set, refl, sym, ap, subst, ◌∙◌, map, arith, le_refl}
-use Rattle.std.proofs.lemmas.List.{set-get_or}
+use Rattle.std.proofs.lemmas.List.{set-get_or, get_or-map, length-map}
 use Rattle.std.proofs.lemmas.Bool.{eqb-true, eq-eqb}
-use Rattle.std.specs.Prelude.{if◌then◌else◌, ◌&&◌, not, MatchBool}
+use Rattle.std.proofs.lemmas.Grind.{common_steps}
+use Rattle.std.specs.Prelude.{if◌then◌else◌, ◌&&◌, not, nat_lt, MatchBool}
 use Rattle.flow_table.specs.Key.{EndpointPair, key_between, same_key}
 use Rattle.flow_table.specs.Table.{Flows, found}
 use Rattle.flow_table.proofs.Keys.{same_key-reflexive}
@@ -24,7 +25,7 @@ use Rattle.lane_core.specs.Sight.{Segment, Sight, Tcp, Other, Moment, key_of_seg
 use Rattle.lane_core.specs.Records.{RecordSoFar, opens, is_between, is_shut, is_open_at, is_silent, ended_at}
 use Rattle.lane_core.specs.Shown.{kind_of, total, weight}
 use Rattle.lane_core.specs.Places.{further, place_by, place_of, IsSingle}
-use Rattle.lane_core.specs.Kept.{IsOpenAt, AreKept}
+use Rattle.lane_core.specs.Kept.{IsOpenAt, AreKept, slot_of}
 use Rattle.lane_core.specs.Silences.{IsHeard, Silences, Goes}
 use Rattle.lane_core.specs.Closing.{is_at}
 use Rattle.lane_core.proofs.Ended.{ended}
@@ -35,7 +36,7 @@ use Rattle.lane_core.proofs.Weighing.{end_weighs}
 -- ---- one record
 
 module _ (app : Meaning) (control_at : ℕ → ControlState) (now : Moment) where
-  abbrev at_end : RecordSoFar → RecordSoFar
+  abbrev pub at_end : RecordSoFar → RecordSoFar
   at_end past = ended_at app control_at (Some now) past
 
   abbrev over : RecordSoFar → RecordSoFar
@@ -87,9 +88,20 @@ module _ (app : Meaning) (control_at : ℕ → ControlState) (now : Moment) wher
   front_next (suc i) (past ∷ pasts) d within =
       let below : i < length pasts = omega arith in ap (λ l. at_end past ∷ l) (front_next i pasts d below)
 
-  pub front_all : (pasts : List RecordSoFar) → front (length pasts) pasts ≡ map at_end pasts
-  front_all [] = refl
-  front_all (past ∷ pasts) = ap (λ l. at_end past ∷ l) (front_all pasts)
+  -- what is true once one more ended is true of one more
+  pub front_step : (P : List RecordSoFar → Type 0) (i : ℕ) (pasts : List RecordSoFar) → i < length pasts
+      → ((d : RecordSoFar) → P (set (front i pasts) i (at_end (get_or (front i pasts) i d)))) → P (front (i + 1) pasts)
+  front_step P i [] within each = absurd (omega arith)
+  front_step P i (past ∷ pasts) within each =
+      let next : i + 1 ≡ suc i = omega arith in
+      subst (λ n. P (front n (past ∷ pasts))) (sym next) (subst P (sym (front_next i (past ∷ pasts) past within)) (each past))
+
+  -- all of them did
+  pub front_all : (i : ℕ) (pasts : List RecordSoFar) → length pasts ≤ i → front i pasts ≡ map at_end pasts
+  front_all zero [] all = refl
+  front_all (suc i) [] all = refl
+  front_all zero (past ∷ pasts) all = absurd (omega arith)
+  front_all (suc i) (past ∷ pasts) all = let rest : length pasts ≤ i = omega arith in ap (λ l. at_end past ∷ l) (front_all i pasts rest)
 
   pub front_length : (i : ℕ) (pasts : List RecordSoFar) → length (front i pasts) ≡ length pasts
   front_length zero pasts = refl
@@ -105,6 +117,11 @@ module _ (app : Meaning) (control_at : ℕ → ControlState) (now : Moment) wher
   front_weighs zero pasts = end_weighs app control_at (Some now) pasts
   front_weighs (suc i) [] = le_refl (weight [])
   front_weighs (suc i) (past ∷ pasts) = head_weighs (at_end past) (front i pasts) (map at_end pasts) (front_weighs i pasts)
+
+-- entries that are kept weigh too much
+pub too_heavy : (keep : Bool) (n : ℕ) → (keep && nat_lt 134217728 n) ≡ true → 134217728 < n
+too_heavy true n over = grind (arith, common_steps)
+too_heavy false n over = absurd (cc)
 
 -- ---- the place of an open record
 
@@ -136,7 +153,7 @@ kind_here false segment class is = refl
 orphan_shut : (sight : Sight) (class : Class) → kind_of sight ≡ Orphan class → opens sight ≡ false
 unfolding kind_of opens
 orphan_shut (Tcp segment) class is = kind_here (opens (Tcp segment)) segment class is
-orphan_shut (Other other) class is = refl
+orphan_shut (Other kind) class is = refl
 
 same_here : (b : Bool) (segment : Segment) (client server : Endpoint) → (if b then Conn segment.sender segment.receiver else Orphan Class.Tcp) ≡ Conn client server
     → key_of_segment segment ≡ key_between client server
@@ -160,14 +177,22 @@ all_three true k false both key = absurd (cc)
 all_three false k b both key = absurd (cc)
 
 either_so : (b : Bool) (P : Type 0) → (b ≡ true → P) → (b ≡ false → P) → P
-either_so true P yes no = yes refl
-either_so false P yes no = no refl
+either_so true P so otherwise = so refl
+either_so false P so otherwise = otherwise refl
+
+pub within_by : (keep : Bool) (slots : List Slot) (pasts : List RecordSoFar) (i : ℕ) → slots ≡ map (slot_of keep) pasts → i < length slots → i < length pasts
+within_by keep slots pasts i shown within = subst (λ n. i < n) (ap length shown ∙ length-map pasts (slot_of keep)) within
 
 module _ (app : Meaning) (control_at : ℕ → ControlState) (keep : Bool) (m : Versions) (tells : (v : ℕ) → Tells m v (control_at v)) (now : Moment) (content : Shared → TreeLists)
     (flows : Flows Connection) (slots : List Slot) (counts : Counts) (pasts : List RecordSoFar) (stands : AreKept keep (told_at m) content flows slots counts pasts)
     (i : ℕ) (d : RecordSoFar) (within : i < length pasts) where
   abbrev here : RecordSoFar
   here = get_or pasts i d
+
+  -- its record under way has its kind
+  pub kind_there : (slot : Slot) → slot ≡ get_or slots i slot → slot.kind ≡ kind_of here.first.sight
+  kind_there slot at =
+      ap (λ (s : Slot). s.kind) (at ∙ ap (λ ss. get_or ss i slot) stands.shown ∙ get_or-map (slot_of keep) pasts i d slot within)
 
   stays : at_end app control_at now here ≡ here → set pasts i (at_end app control_at now here) ≡ pasts
   stays same = ap (set pasts i) same ∙ set-get_or pasts i d
@@ -216,7 +241,7 @@ module _ (app : Meaning) (control_at : ℕ → ControlState) (keep : Bool) (m : 
         let same : s.conn.place ≡ i = eqb-true s.conn.place i (subst (λ o. is_at i o ≡ true) s.was is) in
         let passes = place_by-passes (is_open_at key) pasts s.conn.place d k.there in
         subst (λ j. AreKept keep (told_at m) content new slots' counts' (set pasts j (at_end app control_at now (get_or pasts j d)))) same
-        (subst (λ q. AreKept keep (told_at m) content new slots' counts' (set pasts s.conn.place q)) (sym (silent_ends app control_at now (get_or pasts s.conn.place d) key passes k.silent)) k.stands)
+        (subst (λ q. AreKept keep (told_at m) content new slots' counts' (set pasts s.conn.place q)) (sym (silent_ends app control_at now (get_or pasts s.conn.place d) key passes k.silent)) k.kept)
     one_kept new slots' counts' false is silences goes =
         let n = goes refl in
         subst (λ l. AreKept keep (told_at m) content new slots' counts' l) (sym (stays (heard_at (found flows key) is n.heard (stands.placed key))))

@@ -91,7 +91,7 @@ module _ (app : Meaning) (control_at : ℕ → ControlState) (keep : Bool) (m : 
     pub record SilencedKept (new : Flows Connection) (slots' : List Slot) (counts' : Counts) (conn : Connection) (d : RecordSoFar) : Type 0 where
       pub there : place_of key pasts ≡ Some conn.place
       pub silent : is_silent app control_at now (get_or pasts conn.place d) ≡ true
-      pub stands : AreKept keep told content new slots' counts' (set pasts conn.place (over (get_or pasts conn.place d)))
+      pub kept : AreKept keep told content new slots' counts' (set pasts conn.place (over (get_or pasts conn.place d)))
 
     pub silenced_kept : (new : Flows Connection) (slots' : List Slot) (counts' : Counts) (d : RecordSoFar) → (s : Silences app keep m content old new slots slots' counts counts' key now)
         → SilencedKept new slots' counts' s.conn d
@@ -123,7 +123,7 @@ module _ (app : Meaning) (control_at : ℕ → ControlState) (keep : Bool) (m : 
         record {
           there = there;
           silent = silent_as content conn past true is s.silent;
-          stands = record {
+          kept = record {
             shown = s.slots_are ∙ ap (λ t. set slots i t) shown ∙ ap (λ ss. set ss i (slot_of keep after)) stands.shown ∙ sym (map-set (slot_of keep) pasts i after);
             placed = λ k. taken_at told content old new pasts i after d key k (same_key key k) refl (stands.single key) there (before k) (ended_shut app control_at k past) (s.left k) (stands.placed k);
             single = λ k. IsSingle-set (is_open_at k) pasts i after d (stands.single k) within (λ e. absurd (false_is_true (sym (ended_shut app control_at k past) ∙ e)));
@@ -194,17 +194,13 @@ module _ (app : Meaning) (control_at : ℕ → ControlState) (keep : Bool) (m : 
         let d = started_by app control_at (arrived version number now (Tcp segment)) in
         let s = silences refl in
         let k = silenced_kept new slots' counts' d s in
-        subst (λ l. AreKept keep told content new slots' counts' l) (sym (ends_before_is version number segment key_is s.conn.place d k.there k.silent)) k.stands
+        subst (λ l. AreKept keep told content new slots' counts' l) (sym (ends_before_is version number segment key_is s.conn.place d k.there k.silent)) k.kept
     before_kept new slots' counts' false silences goes version number segment key_is =
         let d = started_by app control_at (arrived version number now (Tcp segment)) in
         let n = goes refl in
         subst (λ l. AreKept keep told content new slots' counts' l) (sym (heard_before_is version number segment key_is n.heard d)) (kept_same new slots' counts' n)
 
   -- ---- where nothing is limited
-
-  pub all_same : (step : RecordSoFar → RecordSoFar) → ((past : RecordSoFar) → step past ≡ past) → (pasts : List RecordSoFar) → map step pasts ≡ pasts
-  all_same step same [] = refl
-  all_same step same (past ∷ pasts) = ap (λ q. q ∷ map step pasts) (same past) ∙ ap (λ l. past ∷ l) (all_same step same pasts)
 
   -- no record is silent for too long
   pub never_silent : ((v : ℕ) (s : ControlState) → Tells m v s → s.idle ≡ None) → (past : RecordSoFar) → is_silent app control_at now past ≡ false

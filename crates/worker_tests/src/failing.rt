@@ -1,6 +1,7 @@
 //! A lane that fails for want of memory at a packet.
 
 use app_api::Verdict;
+use flow_timers::Moment;
 use forest_versions::{Command, Control};
 use lane_core::{LaneEnd, LaneError, Recorder};
 use native_filters::NativeBook;
@@ -76,11 +77,16 @@ impl<L: Recorder + Drop> Recorder for Failing<L> {
         self.has_failed || self.inner.has_failed()
     }
 
-    fn finish(self, alloc: Global) -> Result<LaneEnd, LaneError> {
+    fn finish(
+        self,
+        alloc: Global,
+        greatest: Option<Moment>,
+        natives: &NativeBook,
+    ) -> Result<LaneEnd, LaneError> {
         if self.has_failed {
             return Err(LaneError::NoMemory);
         }
         let Failing { inner, .. } = self;
-        inner.finish(alloc)
+        inner.finish(alloc, greatest, natives)
     }
 }

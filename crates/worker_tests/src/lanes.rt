@@ -45,7 +45,7 @@ const ROWS: [Row; 2] = [
 ];
 
 // Whether a packet of this number may come next.
-fn may_come<L: Recorder>(lane: &L, number: u64) -> bool
+pub fn may_come<L: Recorder>(lane: &L, number: u64) -> bool
     ensures { IsTrue result → IsAfter (L.last lane.now) number }
 {
     match lane.newest() {
@@ -113,7 +113,7 @@ fn ends<L: Recorder + Drop>(
     versions: &[(u64, u32)],
     callbacks: u64,
 ) -> bool {
-    let Ok(end) = lane.finish(alloc) else {
+    let Ok(end) = lane.finish(alloc, None, &natives()) else {
         return false;
     };
     end.versions.as_slice() == versions
@@ -167,7 +167,7 @@ fn goes_over(alloc: Global) -> bool {
     };
     let mut lane = lane_is_handed(lane);
     follows(alloc, &mut lane, &script, ROWS[1].3)
-        && match lane.finish(alloc) {
+        && match lane.finish(alloc, None, &natives()) {
             Ok(end) => end_is_handed(end).callbacks == 6,
             Err(_) => false,
         }

@@ -8,6 +8,8 @@ mod failing;
 #[cfg(test)]
 mod frames;
 #[cfg(test)]
+mod idle;
+#[cfg(test)]
 mod lanes;
 #[cfg(test)]
 mod merging;

@@ -3,7 +3,7 @@
 use crate::counting::Counting;
 use crate::frames::{ACK, SYN, SYN_ACK};
 use crate::lanes::{Packet, follows};
-use crate::plain::script;
+use crate::plain::{natives, script};
 use app_api::LogApp;
 use control_script::Script;
 use flow_table::{Endpoint, Key};
@@ -48,7 +48,7 @@ fn share(alloc: Global, script: &Script) -> bool {
         }
     }
     lane.forests().rows() == rows
-        && match lane.finish(alloc) {
+        && match lane.finish(alloc, None, &natives()) {
             Ok(end) => (end.records.as_slice().len(), end.callbacks) == (100, 600),
             Err(_) => false,
         }

@@ -1,18 +1,16 @@
-use Rattle.std.proofs.Common.{true, false, None, length, drop, sym, ap, subst, ◌∙◌, map, arith}
+use Rattle.std.proofs.Common.{length, drop, sym, ap, subst, ◌∙◌, map, arith}
 use Rattle.std.proofs.lemmas.List.{take_at}
 use Rattle.connection_core.specs.InForce.{told_at}
 use Rattle.connection_core.proofs.Errors.{on_err_always}
-use Rattle.lane_core.specs.Sight.{Tcp, key_of_segment}
+use Rattle.lane_core.specs.Sight.{Tcp}
 use Rattle.lane_core.specs.Kept.{AreKept, arrived}
 use Rattle.lane_core.specs.Records.{started_by, ended_before}
-use Rattle.lane_core.specs.Places.{place_of}
-use Rattle.lane_core.proofs.Ended.{ended}
-use Rattle.lane_core.proofs.Silencing.{all_same, never_silent, before_kept, none_after}
-use Rattle.lane_core.proofs.Ended.{heard_before}
+use Rattle.lane_core.proofs.Ended.{all_same, heard_before}
+use Rattle.lane_core.proofs.Silencing.{never_silent, before_kept, none_after}
 use Rattle.lane_core.proofs.lane.Lane.end_silent.Goals as goal
 
-pub invariant_of-self : goal.invariant_of-self
-invariant_of-self g c =
+pub invariant_of-self-2 : goal.invariant_of-self-2
+invariant_of-self-2 g c =
     let self = c.args.self.now in
     let e = c.end_silent.ensures in
     record {
@@ -29,3 +27,45 @@ invariant_of-self g c =
       first = self.first;
       first_tree = self.first_tree;
     }
+
+pub returns-then-not-is_timed-clause-ends : goal.returns-then-not-is_timed-clause-ends
+returns-then-not-is_timed-clause-ends g c = λ control_at pasts version number segment tells key_is stands.
+    let self = c.args.self.now in
+    let m = self.world.master in
+    let app = g.A.App.meaning self.world.app in
+    let keep = self.world.keep in
+    let kept = self.kept in
+    let now = c.args.moment in
+    let p = arrived version number now (Tcp segment) in
+    let never = c.is_timed.ensures.never c.if-not-is_timed.true in
+    let same = all_same (ended_before app control_at p) (λ past. heard_before app control_at p past (never_silent app control_at keep m tells now never past)) pasts in
+    subst (λ l. AreKept keep (told_at m) (g.F.ForestView.content self.forests) kept.flows kept.slots.items kept.ledger.counts l) (sym same) stands
+
+pub returns-in_err-_ended-clause-fails : goal.returns-in_err-_ended-clause-fails
+returns-in_err-_ended-clause-fails g c = on_err_always c.from_residual.result (λ control_at pasts version number segment tells key_is stands.
+    let self = c.args.self.now in
+    let app = g.A.App.meaning self.world.app in
+    let kept = self.kept in
+    let now = c.args.moment in
+    let f = c.in_err-_ended.ensures.fails in
+    none_after app control_at self.world.keep self.world.master tells now (g.F.ForestView.content self.forests) kept.flows kept.slots.items kept.ledger.counts c.args.key.now pasts stands
+    version number segment key_is f.conn (started_by app control_at (arrived version number now (Tcp segment))) f.was f.silent)
+
+pub returns-clause-ends : goal.returns-clause-ends
+returns-clause-ends g c = λ control_at pasts version number segment tells key_is stands.
+    let self = c.args.self.now in
+    let m = self.world.master in
+    let app = g.A.App.meaning self.world.app in
+    let keep = self.world.keep in
+    let kept = self.kept in
+    let now = c.args.moment in
+    let content = g.F.ForestView.content self.forests in
+    let slots = c.deref_mut.result.now in
+    let same = c.deref_mut.ensures.value in
+    let met = c.end_silent.new in
+    let back = take_at met.slots (drop (length met.slots) kept.slots.items) kept.slots.len (c.end_silent.ensures.len ∙ ap length same ∙ sym kept.slots.ok.0) in
+    let e = c.in_ok-_ended.ensures in
+    subst (λ ss. AreKept keep (told_at m) content met.flows ss met.ledger.counts (map (ended_before app control_at (arrived version number now (Tcp segment))) pasts)) (sym back)
+    (before_kept app control_at keep m tells now content kept.flows slots kept.ledger.counts c.args.key.now pasts
+    (subst (λ ss. AreKept keep (told_at m) content kept.flows ss kept.ledger.counts pasts) (sym same) stands)
+    met.flows met.slots met.ledger.counts c.in_ok-_ended._ended e.silences e.goes version number segment key_is)
