@@ -2,7 +2,8 @@
 use Rattle.std.proofs.Common.{◌≡◌, ℕ, zero, suc, ◌+◌, ◌<◌, ◌≤◌, Bool, true, false, Option, Some, None, List, [], ◌∷◌, length, get_or, set, refl, sym, ap, subst, ◌∙◌, map, arith, le_refl}
 use Rattle.std.proofs.lemmas.List.{set-get_or, get_or-map, length-map}
 use Rattle.std.proofs.lemmas.Bool.{eqb-true, eq-eqb}
-use Rattle.std.specs.Prelude.{if◌then◌else◌, ◌&&◌, not, MatchBool}
+use Rattle.std.proofs.lemmas.Grind.{common_steps}
+use Rattle.std.specs.Prelude.{if◌then◌else◌, ◌&&◌, not, nat_lt, MatchBool}
 use Rattle.flow_table.specs.Key.{EndpointPair, key_between, same_key}
 use Rattle.flow_table.specs.Table.{Flows, found}
 use Rattle.flow_table.proofs.Keys.{same_key-reflexive}
@@ -87,9 +88,20 @@ module _ (app : Meaning) (control_at : ℕ → ControlState) (now : Moment) wher
   front_next (suc i) (past ∷ pasts) d within =
       let below : i < length pasts = omega arith in ap (λ l. at_end past ∷ l) (front_next i pasts d below)
 
-  pub front_all : (pasts : List RecordSoFar) → front (length pasts) pasts ≡ map at_end pasts
-  front_all [] = refl
-  front_all (past ∷ pasts) = ap (λ l. at_end past ∷ l) (front_all pasts)
+  -- what is true once one more ended is true of one more
+  pub front_step : (P : List RecordSoFar → Type 0) (i : ℕ) (pasts : List RecordSoFar) → i < length pasts
+      → ((d : RecordSoFar) → P (set (front i pasts) i (at_end (get_or (front i pasts) i d)))) → P (front (i + 1) pasts)
+  front_step P i [] within each = absurd (omega arith)
+  front_step P i (past ∷ pasts) within each =
+      let next : i + 1 ≡ suc i = omega arith in
+      subst (λ n. P (front n (past ∷ pasts))) (sym next) (subst P (sym (front_next i (past ∷ pasts) past within)) (each past))
+
+  -- all of them did
+  pub front_all : (i : ℕ) (pasts : List RecordSoFar) → length pasts ≤ i → front i pasts ≡ map at_end pasts
+  front_all zero [] all = refl
+  front_all (suc i) [] all = refl
+  front_all zero (past ∷ pasts) all = absurd (omega arith)
+  front_all (suc i) (past ∷ pasts) all = let rest : length pasts ≤ i = omega arith in ap (λ l. at_end past ∷ l) (front_all i pasts rest)
 
   pub front_length : (i : ℕ) (pasts : List RecordSoFar) → length (front i pasts) ≡ length pasts
   front_length zero pasts = refl
@@ -105,6 +117,11 @@ module _ (app : Meaning) (control_at : ℕ → ControlState) (now : Moment) wher
   front_weighs zero pasts = end_weighs app control_at (Some now) pasts
   front_weighs (suc i) [] = le_refl (weight [])
   front_weighs (suc i) (past ∷ pasts) = head_weighs (at_end past) (front i pasts) (map at_end pasts) (front_weighs i pasts)
+
+-- entries that are kept weigh too much
+pub too_heavy : (keep : Bool) (n : ℕ) → (keep && nat_lt 134217728 n) ≡ true → 134217728 < n
+too_heavy true n over = grind (arith, common_steps)
+too_heavy false n over = absurd (cc)
 
 -- ---- the place of an open record
 

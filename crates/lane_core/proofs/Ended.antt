@@ -154,6 +154,11 @@ module _ (test : RecordSoFar → Bool) (step : RecordSoFar → RecordSoFar) (sam
   moved (past ∷ pasts) i d single there =
       moved_here past pasts d (test past) (place_by test pasts) i refl refl single there (λ k s e. moved pasts k d s e)
 
+-- a step that changes no record
+pub all_same : (step : RecordSoFar → RecordSoFar) → ((past : RecordSoFar) → step past ≡ past) → (pasts : List RecordSoFar) → map step pasts ≡ pasts
+all_same step same [] = refl
+all_same step same (past ∷ pasts) = ap (λ q. q ∷ map step pasts) (same past) ∙ ap (λ l. past ∷ l) (all_same step same pasts)
+
 -- ---- before a packet
 
 module _ (app : Meaning) (control_at : ℕ → ControlState) where

@@ -202,10 +202,6 @@ module _ (app : Meaning) (control_at : ℕ → ControlState) (keep : Bool) (m : 
 
   -- ---- where nothing is limited
 
-  pub all_same : (step : RecordSoFar → RecordSoFar) → ((past : RecordSoFar) → step past ≡ past) → (pasts : List RecordSoFar) → map step pasts ≡ pasts
-  all_same step same [] = refl
-  all_same step same (past ∷ pasts) = ap (λ q. q ∷ map step pasts) (same past) ∙ ap (λ l. past ∷ l) (all_same step same pasts)
-
   -- no record is silent for too long
   pub never_silent : ((v : ℕ) (s : ControlState) → Tells m v s → s.idle ≡ None) → (past : RecordSoFar) → is_silent app control_at now past ≡ false
   never_silent never past = ap (λ o. is_past o past.last.moment now) (never past.version (control_at past.version) (tells past.version))

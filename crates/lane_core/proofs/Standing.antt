@@ -59,6 +59,14 @@ never_failed (Some e) none = absurd (none e refl)
 none_is_heavy : {T : Type 0} → None ≡ Some Heavy → T
 none_is_heavy e = absurd (cc)
 
+-- an error that is handed on
+err_same : {T : Type 0} (r : Result T LaneError) (e : LaneError) → r ≡ Err e → r ≡ Err Heavy → e ≡ Heavy
+err_same (Ok v) e is heavy = absurd (cc)
+err_same (Err f) e is heavy = let one : f ≡ e = cc in let two : f ≡ Heavy = cc in sym one ∙ two
+
+pub err_is_heavy : {T U : Type 0} (r : Result T LaneError) (s : Result U LaneError) (handed error : LaneError) → handed ≡ error → r ≡ Err handed → r ≡ Err Heavy → s ≡ Err error → s ≡ Err Heavy
+err_is_heavy r s handed error same is heavy was = was ∙ ap Err (sym same ∙ err_same r handed is heavy)
+
 -- entries that are kept at the end don't weigh too much
 pub is_light_at_end : (keep : Bool) (n m : ℕ) → (keep && nat_lt 134217728 n) ≡ false → keep ≡ true → n ≡ m → 134217728 < m → ⊥
 is_light_at_end true n m under keeps same over =

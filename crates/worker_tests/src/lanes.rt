@@ -7,7 +7,6 @@ use crate::frames::{ACK, ARP, SYN, SYN_ACK, captured, higher};
 use crate::plain::{natives, script};
 use app_api::{LogApp, Verdict};
 use control_script::Script;
-use flow_timers::Moment;
 use lane_core::{Lane, LaneEnd, Recorder};
 use shared_forest::Table;
 use std::alloc::Global;
@@ -15,25 +14,23 @@ use std::alloc::Global;
 // A packet: its number, its frame, and how much the client's port is higher.
 pub type Packet = (u64, &'static [u8; 54], u8);
 
-// A name, whether entries are kept, the script, packets, all of which come at second 0, the second at which the capture ends,
-// and then the versions of their records and how many callbacks these have.
+// A name, whether entries are kept, the script, packets, and then the versions of their records and how many callbacks these
+// have.
 type Row = (
     &'static str,
     bool,
     &'static str,
     &'static [Packet],
-    u32,
     &'static [(u64, u32)],
     u64,
 );
 
-const ROWS: [Row; 4] = [
+const ROWS: [Row; 2] = [
     (
         "a record lives under the commands before its first packet",
         true,
         "at 5 reg 16 start snd",
         &[(3, &ARP, 0), (4, &SYN, 0), (5, &SYN, 1), (6, &SYN_ACK, 0)],
-        0,
         &[(3, 0), (4, 0), (5, 1)],
         8,
     ),
@@ -42,26 +39,7 @@ const ROWS: [Row; 4] = [
         false,
         "",
         &[(0, &SYN, 0), (1, &SYN_ACK, 0), (2, &ACK, 0)],
-        0,
         &[(0, 0)],
-        6,
-    ),
-    (
-        "a connection that was silent for longer than the limit has ended",
-        true,
-        "idle 10\nreg 16 timer rcv",
-        &[(0, &SYN, 0), (1, &SYN_ACK, 0), (2, &ACK, 0)],
-        11,
-        &[(0, 2)],
-        7,
-    ),
-    (
-        "one that was silent for as long hasn't",
-        true,
-        "idle 10\nreg 16 timer rcv",
-        &[(0, &SYN, 0), (1, &SYN_ACK, 0), (2, &ACK, 0)],
-        10,
-        &[(0, 2)],
         6,
     ),
 ];
@@ -132,15 +110,10 @@ fn ends<L: Recorder + Drop>(
     alloc: Global,
     lane: L,
     keep: bool,
-    seconds: u32,
     versions: &[(u64, u32)],
     callbacks: u64,
 ) -> bool {
-    let last = Moment {
-        seconds,
-        fraction: 0,
-    };
-    let Ok(end) = lane.finish(alloc, Some(last), &natives()) else {
+    let Ok(end) = lane.finish(alloc, None, &natives()) else {
         return false;
     };
     end.versions.as_slice() == versions
@@ -164,7 +137,7 @@ fn end_is_handed(end: LaneEnd) -> LaneEnd {
 }
 
 fn leaves(alloc: Global, row: Row) -> bool {
-    let (_, keep, text, packets, seconds, versions, callbacks) = row;
+    let (_, keep, text, packets, versions, callbacks) = row;
     let Some(script) = script(alloc, text) else {
         return false;
     };
@@ -174,7 +147,7 @@ fn leaves(alloc: Global, row: Row) -> bool {
     follows(alloc, &mut lane, &script, packets)
         && lane.newest() == packets.last().map(|packet| packet.0)
         && lane.version() == script.len()
-        && ends(alloc, lane, keep, seconds, versions, callbacks)
+        && ends(alloc, lane, keep, versions, callbacks)
 }
 
 #[test]

@@ -5,8 +5,8 @@ use Rattle.connection_core.proofs.Errors.{on_err_always}
 use Rattle.lane_core.specs.Sight.{Tcp}
 use Rattle.lane_core.specs.Kept.{AreKept, arrived}
 use Rattle.lane_core.specs.Records.{started_by, ended_before}
-use Rattle.lane_core.proofs.Ended.{heard_before}
-use Rattle.lane_core.proofs.Silencing.{all_same, never_silent, before_kept, none_after}
+use Rattle.lane_core.proofs.Ended.{all_same, heard_before}
+use Rattle.lane_core.proofs.Silencing.{never_silent, before_kept, none_after}
 use Rattle.lane_core.proofs.lane.Lane.end_silent.Goals as goal
 
 pub invariant_of-self-2 : goal.invariant_of-self-2
@@ -38,7 +38,7 @@ returns-then-not-is_timed-clause-ends g c = λ control_at pasts version number s
     let now = c.args.moment in
     let p = arrived version number now (Tcp segment) in
     let never = c.is_timed.ensures.never c.if-not-is_timed.true in
-    let same = all_same app control_at keep m tells now (ended_before app control_at p) (λ past. heard_before app control_at p past (never_silent app control_at keep m tells now never past)) pasts in
+    let same = all_same (ended_before app control_at p) (λ past. heard_before app control_at p past (never_silent app control_at keep m tells now never past)) pasts in
     subst (λ l. AreKept keep (told_at m) (g.F.ForestView.content self.forests) kept.flows kept.slots.items kept.ledger.counts l) (sym same) stands
 
 pub returns-in_err-_ended-clause-fails : goal.returns-in_err-_ended-clause-fails
