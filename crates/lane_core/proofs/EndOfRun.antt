@@ -8,9 +8,7 @@ use Rattle.flow_table.specs.Key.{EndpointPair, key_between, same_key}
 use Rattle.flow_table.specs.Table.{Flows, found}
 use Rattle.flow_table.proofs.Keys.{same_key-reflexive}
 use Rattle.packet_views.specs.declared.packet.Class.{Class}
-use Rattle.packet_views.specs.declared.packet.Class.TheVariants as Class
 use Rattle.app_api.specs.App.{Meaning}
-use Rattle.app_api.specs.declared.registration.Reg.{Reg}
 use Rattle.report_text.specs.declared.record.RecordKind.TheVariants.{Conn, Orphan}
 use Rattle.shared_forest.specs.declared.store.Shared.{Shared}
 use Rattle.shared_forest.specs.Lists.{TreeLists}

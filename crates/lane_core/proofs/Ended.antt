@@ -1,7 +1,6 @@
 -- What an end by idleness changes in records: it adds callbacks, and opens nothing.
 use Rattle.std.proofs.Common.{◌≡◌, ℕ, zero, suc, ◌+◌, Bool, true, false, Option, Some, None, List, [], ◌∷◌, length, get_or, set, refl, sym, ap, subst, ◌∙◌, map}
 use Rattle.std.specs.Prelude.{if◌then◌else◌, ◌&&◌, not, MatchBool}
-use Rattle.tcp_emulation.specs.declared.segment.Side.{Side}
 use Rattle.tcp_emulation.specs.declared.segment.Side.TheVariants.{Client}
 use Rattle.flow_table.specs.Key.{EndpointPair}
 use Rattle.app_api.specs.App.{Meaning}
@@ -10,12 +9,12 @@ use Rattle.builtin_events.specs.declared.raise.Raise.{Raise}
 use Rattle.event_trees.specs.Fires.{fires}
 use Rattle.forest_versions.specs.State.{ControlState}
 use Rattle.connection_core.specs.Course.{Course, called, called_all, called_at}
-use Rattle.connection_core.specs.History.{History, begin, is_over}
+use Rattle.connection_core.specs.History.{History, begin}
 use Rattle.connection_core.specs.Silence.{silenced}
 use Rattle.lane_core.specs.Sight.{Sight, Tcp, Other, Moment, key_of_segment}
 use Rattle.lane_core.specs.Records.{VersionedPacket, RecordSoFar, opens, is_between, is_shut, is_open_at, belongs_to, timer_raise_of, is_silent, ended_by_silence, ended_before, ended_at}
 use Rattle.lane_core.specs.Shown.{total, drops_of, alterations}
-use Rattle.lane_core.specs.Places.{further, place_by, place_of, IsSingle}
+use Rattle.lane_core.specs.Places.{further, place_by, IsSingle}
 use Rattle.lane_core.proofs.Holding.{and_false}
 use Rattle.lane_core.proofs.Places.{none_here, IsSingle-none}
 

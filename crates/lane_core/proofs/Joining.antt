@@ -1,5 +1,5 @@
 -- A silent connection ends, and then the packet is placed: so the packet is added.
-use Rattle.std.proofs.Common.{◌≡◌, ℕ, ◌+◌, Bool, true, false, Option, None, List, [], ◌∷◌, length, refl, sym, ap, subst, ◌∙◌, map}
+use Rattle.std.proofs.Common.{◌≡◌, ℕ, ◌+◌, Bool, Option, None, List, [], ◌∷◌, length, refl, ap, subst, ◌∙◌, map}
 use Rattle.packet_views.specs.declared.packet.Class.{Class}
 use Rattle.flow_table.specs.Key.{EndpointPair}
 use Rattle.app_api.specs.App.{Meaning}

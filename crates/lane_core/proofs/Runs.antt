@@ -1,5 +1,5 @@
 -- One event more at the end of a run.
-use Rattle.std.proofs.Common.{◌≡◌, ◌↔◌, ℕ, zero, suc, ◌+◌, ◌<◌, ◌≤◌, Bool, true, false, Option, Some, None, List, [], ◌∷◌, ◌++◌, length, map, take, refl, sym, ap, subst, ◌∙◌, arith, add-zero, le_refl}
+use Rattle.std.proofs.Common.{◌≡◌, ◌↔◌, ℕ, zero, suc, ◌+◌, ◌<◌, ◌≤◌, true, false, Option, Some, None, List, [], ◌∷◌, ◌++◌, length, map, take, refl, sym, ap, subst, ◌∙◌, arith, add-zero, le_refl}
 use Rattle.std.specs.Prelude.{if◌then◌else◌, ◌&&◌, not}
 use Rattle.app_api.specs.App.{Meaning}
 use Rattle.forest_versions.specs.declared.command.Command.{Command}
@@ -11,7 +11,7 @@ use Rattle.lane_core.specs.Run.{LaneEvent, Gave, Arrived, commands_of, versioned
 use Rattle.lane_core.specs.Shown.{weight}
 use Rattle.lane_core.specs.Lane.{IsHeavy, IsHeavyAtEnd, next_verdict, with_event}
 use Rattle.lane_core.specs.Laws.{HeavyStays, OneEventMore, NewestIsTheLast, LaterCommandsChangeNone, LastPacketIsAdded}
-use Rattle.lane_core.proofs.Ended.{Ends, ends_before, ends_at, either}
+use Rattle.lane_core.proofs.Ended.{Ends, ends_before, either}
 use Rattle.lane_core.proofs.Weighing.{packet_weighs, end_weighs}
 
 -- ---- the events, one more at the end

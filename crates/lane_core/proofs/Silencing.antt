@@ -1,7 +1,7 @@
 -- Open connections that were silent for too long: the lane stands for the records of which they have ended.
-use Rattle.std.proofs.Common.{◌≡◌, ℕ, ◌+◌, ◌<◌, Bool, true, false, Option, Some, None, List, [], ◌∷◌, length, get_or, set, refl, sym, ap, subst, ◌∙◌, map}
+use Rattle.std.proofs.Common.{◌≡◌, ℕ, ◌+◌, Bool, true, false, Option, Some, None, List, [], length, get_or, set, refl, sym, ap, subst, ◌∙◌, map}
 use Rattle.std.proofs.lemmas.List.{map-set, get_or-map, set-get_or}
-use Rattle.std.specs.Prelude.{if◌then◌else◌, ◌&&◌, not, IfSome}
+use Rattle.std.specs.Prelude.{if◌then◌else◌, ◌&&◌}
 use Rattle.flow_table.specs.Key.{EndpointPair, same_key}
 use Rattle.flow_table.specs.Table.{Flows, found}
 use Rattle.flow_table.proofs.Keys.{same_key-equal}

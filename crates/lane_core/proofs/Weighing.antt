@@ -18,7 +18,7 @@ use Rattle.connection_core.specs.Course.{Course, is_on, is_so, altered_to, switc
 use Rattle.connection_core.specs.History.{History, begin, sender_phase, receiver_phase, received_unless, followed, weight_of}
 use Rattle.connection_core.specs.Silence.{silenced}
 use Rattle.lane_core.specs.Sight.{Sight, Tcp, Other, Moment, Arrival}
-use Rattle.lane_core.specs.Records.{VersionedPacket, RecordSoFar, belongs_to, side_in, history_after, timer_raise_of, continued_by, ended_by_silence, ended_before, ended_at, placed, added}
+use Rattle.lane_core.specs.Records.{VersionedPacket, RecordSoFar, belongs_to, side_in, history_after, timer_raise_of, continued_by, ended_before, ended_at, placed, added}
 use Rattle.lane_core.specs.Shown.{total, weight}
 use Rattle.lane_core.specs.Laws.{WeightNeverFalls}
 use Rattle.lane_core.proofs.Ended.{Ends, ends_before, ends_at, either}

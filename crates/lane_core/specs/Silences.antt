@@ -1,12 +1,11 @@
 -- Only for proofs: what silence does to an open connection, to its record under way and to the table of open connections.
-use Rattle.std.specs.Prelude.{◌≡◌, ◌↔◌, ℕ, Bool, true, false, Option, Some, None, List, if◌then◌else◌, slice_set, get_or, ⊤}
+use Rattle.std.specs.Prelude.{◌≡◌, ℕ, Bool, true, false, Option, Some, None, List, if◌then◌else◌, slice_set, get_or, ⊤}
 use Rattle.native_filters.specs.declared.facts.Hook.TheVariants.{Rcv}
 use Rattle.native_filters.specs.Facts.{no_facts}
 use Rattle.flow_table.specs.Key.{EndpointPair, same_key}
 use Rattle.flow_table.specs.Table.{Flows, found}
 use Rattle.app_api.specs.App.{Meaning}
 use Rattle.app_api.specs.Events.{TIMER}
-use Rattle.app_api.specs.declared.registration.Reg.{Reg}
 use Rattle.builtin_events.specs.declared.raise.Raise.{Raise}
 use Rattle.builtin_events.specs.Raises.{timer_raise}
 use Rattle.shared_forest.specs.declared.store.Shared.{Shared}

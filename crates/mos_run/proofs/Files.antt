@@ -1,9 +1,8 @@
 -- A run over a file of either form: from what it comes to over the bytes that the file gives, and what its source met behind them.
-use Rattle.std.proofs.Common.{◌≡◌, ◌≢◌, ℕ, ◌<◌, ◌≤◌, Bool, true, false, Option, Some, None, List, [], ◌++◌, length, take, Result, Ok, Err, refl, sym, ap, subst, ◌∙◌, arith, append-nil, inl, inr, ⊎_elim}
+use Rattle.std.proofs.Common.{◌≡◌, ◌≢◌, ℕ, ◌<◌, ◌≤◌, Bool, true, false, Option, Some, None, List, [], length, take, Result, Ok, Err, refl, sym, ap, subst, ◌∙◌, arith, append-nil, inl, inr, ⊎_elim}
 use Rattle.std.proofs.lemmas.List.{length-take}
 use Rattle.std.specs.Prelude.{◌⊎◌, IsOk, IfErr, IsErrOf, min, option_map, if◌then◌else◌}
 use Rattle.mos_bytes.specs.declared.source.Source.{Ghosts as Source}
-use Rattle.mos_bytes.specs.Causes.{Rose}
 use Rattle.mos_bytes.specs.Writes.{AppendsFront}
 use Rattle.mos_bytes.proofs.Writes.{AppendsFront-nil}
 use Rattle.capture_maker.specs.Made.{made as made_bytes}
@@ -14,7 +13,7 @@ use Rattle.pcap_source.specs.declared.errors.OpenError.{OpenError}
 use Rattle.pcapng_source.specs.Given.{Given, whole}
 use Rattle.pcapng_source.specs.Blocks.{any, classic_header}
 use Rattle.pcapng_source.specs.Laws.{HasHeader}
-use Rattle.pcapng_source.specs.Sources.{IsReadWhole, MeetsRefusal, Stands, any_ended, any_faults, any_lasting, any_left, any_source, any_start, met_fault}
+use Rattle.pcapng_source.specs.Sources.{IsReadWhole, MeetsRefusal, Stands, any_ended, any_lasting, any_left, any_source, any_start, met_fault}
 use Rattle.pcapng_source.specs.declared.any_source.AnySource.{AnySource}
 use Rattle.pcapng_source.specs.declared.fault.NgFault.{NgFault}
 use Rattle.pcapng_source.specs.declared.fault.NgFault.TheVariants as Ng
@@ -28,11 +27,11 @@ use Rattle.mos_run.specs.declared.refusal.RunError.{RunError}
 use Rattle.mos_run.specs.declared.refusal.RunError.TheVariants as Run
 use Rattle.mos_run.specs.Apps.{meaning_of}
 use Rattle.mos_run.specs.Records.{packets_with}
-use Rattle.mos_run.specs.Outcome.{Outcome, cut_off, ended, followed, is_forward, is_heavy, outcome, outcome_by, outcome_over, output_of, refused, streamed, weighed}
+use Rattle.mos_run.specs.Outcome.{Outcome, cut_off, ended, followed, is_forward, is_heavy, outcome, outcome_by, output_of, refused, streamed, weighed}
 use Rattle.mos_run.specs.Refusal.{explained, file_refusal, met_in, status_of}
 use Rattle.mos_run.specs.Told.{Asked, bytes_under, given_under}
 use Rattle.mos_run.specs.Run.{RunsUnder, StopsAs}
-use Rattle.mos_run.specs.Runs.{AreUnrefused, IsIdle}
+use Rattle.mos_run.specs.Runs.{AreUnrefused}
 use Rattle.mos_run.proofs.Ends.{err_same}
 
 -- ---- what is told in place of a fault

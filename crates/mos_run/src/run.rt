@@ -117,8 +117,7 @@ fn run<
 /// of the record's first packet. With several, 2 to 16, each version lies from the floor of that packet to its ceiling, and
 /// never falls along the records of one worker; and the text is what one thread would write under the versions that are
 /// answered, whatever the order of the threads' steps. The call may wait for its threads. A thread that can't be started is
-/// no refusal. `gate` is told what threads are about to do; it is there for
-/// tests.
+/// no refusal. `gate` is told what threads are about to do; it is there for tests.
 ///
 /// | Status | Where |
 /// |---|---|
@@ -129,7 +128,7 @@ fn run<
 /// | 4 | the capture's source failed, or the shelf |
 /// | 5 | `out` failed |
 /// | 6 | memory was refused |
-/// | 7 | the capture has too many packets (1,048,576), blocks (4,194,304) or interfaces (64); or the callbacks weigh too much |
+/// | 7 | more than 1,048,576 packets, 4,194,304 blocks or 64 interfaces of a section; or callbacks that weigh over 134,217,728 |
 ///
 /// Of causes that stand together the earlier one is told: the words, the fetch, the script, the capture from front to back,
 /// the weight, writing. A forwarded capture is written while it is read, so a fault of `out` may come before.

@@ -45,18 +45,20 @@ pub fn words_of(alloc: Global, line: &str) -> Result<Vec<String>, AllocError> {
     Ok(words)
 }
 
-/// The bytes of `FILE`, or those of `FILE + N x FILE`, which has the second file N times behind the first.
+/// The bytes of `FILE`, or those of `FILE + N x FILE ..`, which has the others so many times behind the first.
 pub fn bytes_of(rt: &(impl Files + AllocGlobal), recipe: &str) -> io::Result<Vec<u8>> {
-    let Some((file, again)) = recipe.split_once(" + ") else {
-        return fs::read(rt, recipe);
+    let mut pieces = recipe.split(" + ");
+    let mut bytes = match pieces.next() {
+        Some(file) => fs::read(rt, file)?,
+        None => Vec::new(rt.alloc()),
     };
-    let mut bytes = fs::read(rt, file)?;
-    let Some((times, file)) = again.split_once(" x ") else {
-        return Ok(bytes);
-    };
-    let piece = fs::read(rt, file)?;
-    for _ in 0..times.parse::<u32>().unwrap_or(0) {
-        bytes.extend_from_slice(&piece)?;
+    for piece in pieces {
+        if let Some((times, file)) = piece.split_once(" x ") {
+            let piece = fs::read(rt, file)?;
+            for _ in 0..times.parse::<u32>().unwrap_or(0) {
+                bytes.extend_from_slice(&piece)?;
+            }
+        }
     }
     Ok(bytes)
 }

@@ -1,10 +1,8 @@
-use Rattle.std.proofs.Common.{◌≡◌, ◌+◌, ◌<◌, ◌≤◌, ◌&&◌, nat_lt, true, length, sym, ap, subst, ◌∙◌, arith}
+use Rattle.std.proofs.Common.{◌+◌, ◌<◌, ◌≤◌, length, sym, ap, subst, ◌∙◌, arith}
 use Rattle.std.proofs.lemmas.Grind.{common_steps}
 use Rattle.std.proofs.lemmas.List.{length-map}
-use Rattle.std.specs.Prelude.{vec_len}
 use Rattle.connection_core.specs.InForce.{told_at}
 use Rattle.lane_core.specs.Kept.{Keeps, slot_of}
-use Rattle.lane_core.specs.Shown.{weight}
 use Rattle.lane_core.proofs.Holding.{left_of_and}
 use Rattle.lane_core.proofs.EndOfRun.{front, front_step, front_all, front_length, front_weighs, too_heavy, within_by}
 use Rattle.lane_core.proofs.closing.end_all.Goals as goal

@@ -1,4 +1,4 @@
-use Rattle.std.proofs.Common.{◌≡◌, ◌<◌, true, length, drop, set, get_or, sym, ap, subst, ◌∙◌}
+use Rattle.std.proofs.Common.{◌<◌, length, drop, set, get_or, sym, ap, subst, ◌∙◌}
 use Rattle.std.proofs.lemmas.List.{take_at}
 use Rattle.flow_table.specs.Table.{found}
 use Rattle.connection_core.specs.InForce.{told_at}

@@ -1,10 +1,10 @@
-use Rattle.std.proofs.Common.{subst, arith}
+use Rattle.std.proofs.Common.{subst}
 use Rattle.std.proofs.lemmas.Result.{IfOk-weaker, on_err_weaker}
 use Rattle.ip6_views.specs.Seen.{seen}
 use Rattle.connection_core.proofs.Errors.{on_err_always}
 use Rattle.lane_core.specs.declared.world.World.{World}
 use Rattle.lane_core.specs.Sight.{Tcp}
-use Rattle.lane_core.specs.Kept.{SetsAmong, CostsAtMost, CostsAmong, arrived}
+use Rattle.lane_core.specs.Kept.{SetsAmong, CostsAmong, arrived}
 use Rattle.lane_core.proofs.Joining.{ended_then_placed, ended_then_costs, none_left_costs}
 use Rattle.lane_core.proofs.Tables.{short_longer}
 use Rattle.lane_core.proofs.lane.Lane.segment.Goals as goal
