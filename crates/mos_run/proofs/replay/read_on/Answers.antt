@@ -232,7 +232,7 @@ loop-frame-preserved g c =
       read = (
         read.0 ++ frame ∷ [],
         length-append read.0 (frame ∷ []) ∙ ap (λ n. n + 1) read.1,
-        c.greatest_with.ensures.greatest read.0 read.2,
+        c.greatest_with-last.ensures.greatest read.0 read.2,
         taken.reads refl read.0 read.1 read.3,
         λ before written.
             subst (λ a. Appends before (g.O.Sink.taken c.take.new.out) (streamed a plan.script.now (packets_of plan.script.now) plan.output c.next.new.self.header (read.0 ++ frame ∷ []))) (sym c.take.ensures.app)
