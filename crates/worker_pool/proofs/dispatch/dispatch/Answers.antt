@@ -78,7 +78,7 @@ loop-frame-preserved g c =
         length-append read.0 (frame ∷ []) ∙ ap (λ n. n + 1) read.1,
         λ begins are. c.send_frame.ensures.sent begins read.0 read.1 (read.2 begins are),
         λ bytes told. read_more c.args.capture.now bytes read.0 at.capture c.next.new.self frame (g.S.Source.left at.source) (g.S.Source.left c.next.new.source) gives (read.3 bytes told),
-        c.greatest_with.ensures.greatest read.0 read.4,
+        c.greatest_with-last.ensures.greatest read.0 read.4,
       );
     }
 

@@ -72,7 +72,7 @@ returns-in-Ok-clause-ends g c app frames begins packets start old new before res
     over_at g.L.Recorder app script frames begins workers relays c.drain.new.relays.items c.args.waiting c.drain.new.waiting start old new before (g.O.Sink.taken c.args.out.now) rest c.args.read served streamed c.drain.ensures.drained c.drain.ensures.offered law (g.O.Sink.taken c.write_ready.new.out) c.drain.new.workers.items c.drain.ensures.lanes whole c.write_ready.new.waiting
     (c.in_ok-write_ready.ensures.leaves (lane_at (length relays) frames) (length frames) (taken_from c.drain.new.relays.items) before
     (leaves_now g.L.Recorder app script frames begins workers relays c.drain.new.relays.items c.args.waiting c.drain.new.waiting start old new before (g.O.Sink.taken c.args.out.now) rest c.args.read served streamed c.drain.ensures.drained c.drain.ensures.offered law (c.is_write_fault.ensures.other c.if-is_write_fault.false)))
-    c.in_ok-write_ready.ensures.none c.in-Ok.field-0 (subst (StopsAs frames start old new) c.in-Ok.is streamed.stops) is c.versions_in.result c.versions_in.ensures.good
+    c.in_ok-write_ready.ensures.none c.in-Ok.whole (subst (StopsAs frames start old new) c.in-Ok.is streamed.stops) is c.versions_in.result c.versions_in.ensures.good
     (λ lanes vs last came one may_have. c.versions_in.ensures.versions app script frames lanes vs last came one may_have)
     (λ lanes came. c.versions_in.ensures.no_memory app script frames lanes came)
 

@@ -124,7 +124,7 @@ loop-spare-preserved g c =
             (λ begins fs count posts_are relays_are. c.send_next.ensures.sent begins fs count posts_are relays_are)
             (λ begins fs before count posts_are relays_are l. c.send_next.ensures.leaves begins fs before (g.O.Sink.taken new.out) count posts_are relays_are c.in_ok-await_place.ensures.place l),
         λ bytes told. read_more c.args.capture.now bytes read.0 at.capture c.next.new.self frame (g.S.Source.left at.source) (g.S.Source.left c.next.new.source) gives (read.3 bytes told),
-        c.greatest_with.ensures.greatest read.0 read.4,
+        c.greatest_with-last.ensures.greatest read.0 read.4,
       );
     }
 
