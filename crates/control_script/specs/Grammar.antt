@@ -3,7 +3,7 @@
 --     line    = [ "at" number | "live" ] command
 --     command = "event" number "under" event filter | "reg" number event hook [ "off" ] [ peek ] [ "do" action .. ]
 --             | "unreg" number | "rbuf" number | "policy" ( "first" | "last" )
---             | "rule" number ( "allow" | "deny" ) net net ports | "unrule" number
+--             | "rule" number ( "allow" | "deny" ) net net ports | "unrule" number | "idle" number
 --     hook    = "snd" | "rcv"      peek = "peek" number | "peekat" number number
 --     action  = "drop" | "on" number | "off" number
 --
@@ -22,7 +22,7 @@ use Rattle.filter_lang.specs.declared.error.FilterError.TheVariants.{Syntax as B
 use Rattle.filter_lang.specs.Grammar.{filter}
 use Rattle.filter_lang.specs.Shape.{Shape}
 use Rattle.forest_versions.specs.declared.command.Command.{Command}
-use Rattle.forest_versions.specs.declared.command.Command.TheVariants.{Event, Register, Unregister, Buffer, Overlap, AddRule, RemoveRule}
+use Rattle.forest_versions.specs.declared.command.Command.TheVariants.{Event, Register, Unregister, Buffer, Overlap, AddRule, RemoveRule, Idle}
 use Rattle.forest_versions.specs.declared.command.Stamp.{Stamp}
 use Rattle.forest_versions.specs.declared.command.Stamp.TheVariants.{At, Live}
 use Rattle.control_script.specs.declared.error.ScriptError.{ScriptError}
@@ -188,6 +188,7 @@ next_setting st w =
     if bytes_eq w (codes "unreg") then go (number_place 1 255 (λ n. end_place (stamped st (Unregister n)))) else
     if bytes_eq w (codes "rbuf") then go (number_place 1 1048576 (λ n. end_place (stamped st (Buffer n)))) else
     if bytes_eq w (codes "unrule") then go (number_place 1 255 (λ n. end_place (stamped st (RemoveRule n)))) else
+    if bytes_eq w (codes "idle") then go (number_place 1 4294967295 (λ n. end_place (stamped st (Idle n)))) else
     if bytes_eq w (codes "policy") then go (policy_place st) else
     stop Syntax
 

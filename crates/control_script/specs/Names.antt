@@ -2,7 +2,7 @@
 use Rattle.std.specs.Prelude.{ℕ, Bool, if◌then◌else◌, List, Option, Some, None, codes, slice_index}
 use Rattle.std.specs.Char.{is_ascii_alphabetic}
 use Rattle.std.specs.Str.{bytes_eq}
-use Rattle.app_api.specs.Events.{START, PKT_IN, REXMIT, NEW_DATA, ERROR, STATE, END, ORPHAN}
+use Rattle.app_api.specs.Events.{START, PKT_IN, REXMIT, NEW_DATA, ERROR, STATE, END, ORPHAN, TIMER}
 
 -- the built-in event of a name
 abbrev pub event_of : List ℕ → Option ℕ
@@ -15,6 +15,7 @@ event_of name =
     if bytes_eq name (codes "state") then Some STATE else
     if bytes_eq name (codes "end") then Some END else
     if bytes_eq name (codes "orphan") then Some ORPHAN else
+    if bytes_eq name (codes "timer") then Some TIMER else
     None
 
 abbrev pub begins_with_letter : List ℕ → Bool

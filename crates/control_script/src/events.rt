@@ -14,7 +14,7 @@ use crate::numbers::number_in;
 use crate::settings::number;
 use crate::stamped::Stamped;
 use crate::words::Words;
-use app_api::{END, ERROR, NEW_DATA, ORPHAN, PKT_IN, REXMIT, START, STATE};
+use app_api::{END, ERROR, NEW_DATA, ORPHAN, PKT_IN, REXMIT, START, STATE, TIMER};
 use event_trees::EventDef;
 use filter_lang::{Expr, FilterError, parse};
 use forest_versions::{Command, Stamp};
@@ -25,7 +25,7 @@ use std::str::from_utf8;
 fn event_of(words: &Words<'_>) -> Option<u16>
     ensures event { result ≡ event_of words.now.word.now }
     ensures low { IfSome result (λ e. 256 ≤ e) }
-    ensures high { IfSome result (λ e. e ≤ 263) }
+    ensures high { IfSome result (λ e. e ≤ 264) }
     ensures some { IfSome result (λ e. 0 < length words.now.word.now) }
 {
     if words.is("start") {
@@ -51,6 +51,9 @@ fn event_of(words: &Words<'_>) -> Option<u16>
     }
     if words.is("orphan") {
         return Some(ORPHAN);
+    }
+    if words.is("timer") {
+        return Some(TIMER);
     }
     None
 }

@@ -1,4 +1,4 @@
-//! Commands of a few words: `unreg`, `rbuf`, `unrule`, `policy` and `rule`.
+//! Commands of a few words: `unreg`, `rbuf`, `unrule`, `idle`, `policy` and `rule`.
 
 ghost use Rattle.std.specs.Prelude.{◌≡◌, ◌≤◌, ◌<◌, Ok, Err, IfOk, IfErr, OnOk, IsTrue};
 ghost use Rattle.forest_versions.specs.Lawful.{is_within};
@@ -13,6 +13,9 @@ use crate::words::Words;
 use app_api::Rule;
 use forest_versions::{Command, Stamp};
 use reassembly::Policy;
+
+/// The greatest limit of idleness, in seconds.
+const MOST_SECONDS: u64 = 4_294_967_295;
 
 /// Reads a number in a range.
 pub(crate) fn number(words: &mut Words<'_>, low: u64, high: u64) -> Result<u64, ScriptError>
@@ -75,6 +78,11 @@ pub(crate) fn setting(words: &mut Words<'_>, stamp: Stamp) -> Result<Stamped, Sc
         words.advance();
         let number = number(words, 1, 255)?;
         return ended(words, stamp, Command::RemoveRule(number as u8));
+    }
+    if words.is("idle") {
+        words.advance();
+        let seconds = number(words, 1, MOST_SECONDS)?;
+        return ended(words, stamp, Command::Idle(seconds as u32));
     }
     if words.is("policy") {
         words.advance();

@@ -8,7 +8,7 @@ use native_filters::Hook;
 use std::alloc::Global;
 
 // Scripts of one line or two, each with its refusal.
-const REFUSED: [(&str, ScriptError); 45] = [
+const REFUSED: [(&str, ScriptError); 53] = [
     ("reg 15 pkt_in snd", ScriptError::Syntax(1)),
     ("reg 16 end snd", ScriptError::Syntax(1)),
     ("reg 16 new_data rcv do drop", ScriptError::Syntax(1)),
@@ -54,6 +54,17 @@ const REFUSED: [(&str, ScriptError); 45] = [
     ("rbuf 1048577", ScriptError::Syntax(1)),
     ("rbuf 01", ScriptError::Syntax(1)),
     ("rbuf 1 2", ScriptError::Syntax(1)),
+    ("idle 0", ScriptError::Syntax(1)),
+    ("idle 4294967296", ScriptError::Syntax(1)),
+    ("idle", ScriptError::Syntax(1)),
+    ("idle 10 s", ScriptError::Syntax(1)),
+    ("reg 16 timer snd", ScriptError::Syntax(1)),
+    ("reg 16 timer rcv do drop", ScriptError::Syntax(1)),
+    (
+        "event 1 under timer true\nreg 16 1 snd",
+        ScriptError::Syntax(2),
+    ),
+    ("reg 16 timers rcv", ScriptError::UnknownName(1)),
     ("policy middle", ScriptError::Syntax(1)),
     ("rule 1 allow 10.0.0.256/8 any any", ScriptError::Syntax(1)),
     ("rule 1 allow a.0.0.1/8 any any", ScriptError::Syntax(1)),
@@ -178,12 +189,19 @@ fn stamps_by_place(rt: HostRuntime) {
 }
 
 // A command that sets a number or a rule.
-const COMMANDS: [(&str, &str, u32, Said); 3] = [
+const COMMANDS: [(&str, &str, u32, Said); 5] = [
     (
         "last of four",
         "live rbuf 10\nat 5 rbuf 20\nlive rbuf 30\nat 9 rbuf 40",
         3,
         Said::Buffer(40),
+    ),
+    ("least limit of idleness", "idle 1", 0, Said::Idle(1)),
+    (
+        "greatest limit of idleness",
+        "rbuf 10\nlive idle 4294967295",
+        1,
+        Said::Idle(u32::MAX),
     ),
     ("net, any and a port", RULES, 0, Said::Rule(FIRST)),
     ("a whole net, a net and ports", RULES, 1, Said::Rule(SECOND)),
@@ -193,6 +211,7 @@ const COMMANDS: [(&str, &str, u32, Said); 3] = [
 #[derive(Clone, Copy, Debug)]
 enum Said {
     Buffer(u32),
+    Idle(u32),
     Rule(Rule),
 }
 
@@ -224,6 +243,7 @@ const SECOND: Rule = Rule {
 fn is_said(command: &Command, said: Said) -> bool {
     match (command, said) {
         (Command::Buffer(bytes), Said::Buffer(wanted)) => *bytes == wanted,
+        (Command::Idle(seconds), Said::Idle(wanted)) => *seconds == wanted,
         (Command::AddRule(rule), Said::Rule(wanted)) => *rule == wanted,
         _ => false,
     }

@@ -3,7 +3,7 @@
 ghost use Rattle.shared_forest.specs.Rows.{HasRow};
 
 use crate::masters::{Presets, master_after};
-use app_api::{END, PKT_IN, Reg, Rule};
+use app_api::{END, PKT_IN, Reg, Rule, TIMER};
 use event_trees::EventDef;
 use filter_lang::parse;
 use forest_versions::{Command, Master, Refusal};
@@ -37,9 +37,22 @@ const SETTINGS: &str = "policy last\n\
     unrule 200\n\
     policy last";
 
-// A script; what is in force at each version, from 0 on: registrations with their events, the receive buffer, the policy
-// and numbers of rules; the registrations of the last tree; how many rows the table has, and how many interns it counts.
-const SCRIPTS: [(&str, &str, [&str; 13], &[u8], usize, u64); 2] = [
+const LIMITS: &str = "idle 10\n\
+    event 1 under timer nth > 3\n\
+    reg 16 timer rcv\n\
+    reg 17 1 rcv peek 4\n\
+    idle 4294967295\n\
+    rbuf 1\n\
+    idle 1\n\
+    unreg 16\n\
+    idle 1\n\
+    policy last\n\
+    rule 7 allow any any any\n\
+    unreg 1";
+
+// A script; what is in force at each version, from 0 on: registrations with their events, the receive buffer, the policy,
+// numbers of rules and the limit of idleness; the registrations of the last tree; how many rows the table has, and how many interns it counts.
+const SCRIPTS: [(&str, &str, [&str; 13], &[u8], usize, u64); 3] = [
     (
         "registrations come and go",
         REGISTRATIONS,
@@ -84,6 +97,28 @@ const SCRIPTS: [(&str, &str, [&str; 13], &[u8], usize, u64); 2] = [
         1,
         1,
     ),
+    (
+        "limits of idleness",
+        LIMITS,
+        [
+            "1:257 2:257 3:263 65536 First",
+            "1:257 2:257 3:263 65536 First idle 10",
+            "1:257 2:257 3:263 65536 First idle 10",
+            "1:257 2:257 3:263 16:264 65536 First idle 10",
+            "1:257 2:257 3:263 16:264 17:1 65536 First idle 10",
+            "1:257 2:257 3:263 16:264 17:1 65536 First idle 4294967295",
+            "1:257 2:257 3:263 16:264 17:1 1 First idle 4294967295",
+            "1:257 2:257 3:263 16:264 17:1 1 First idle 1",
+            "1:257 2:257 3:263 17:1 1 First idle 1",
+            "1:257 2:257 3:263 17:1 1 First idle 1",
+            "1:257 2:257 3:263 17:1 1 Last idle 1",
+            "1:257 2:257 3:263 17:1 1 Last 7 idle 1",
+            "2:257 3:263 17:1 1 Last 7 idle 1",
+        ],
+        &[2, 3, 17],
+        5,
+        5,
+    ),
 ];
 
 // Adds the registrations that are in force at a version.
@@ -101,6 +136,14 @@ fn push_regs(
     Ok(())
 }
 
+// Adds the limit of idleness, if there is one.
+fn push_limit(alloc: Global, text: &mut String, limit: Option<u32>) -> Result<(), AllocError> {
+    match limit {
+        Some(seconds) => text.push_str(&format!(in alloc; " idle {seconds}")?),
+        None => Ok(()),
+    }
+}
+
 // What is in force at a version.
 fn told(alloc: Global, master: &Master, version: u32) -> Result<String, AllocError> {
     let mut text = String::new(alloc);
@@ -111,6 +154,7 @@ fn told(alloc: Global, master: &Master, version: u32) -> Result<String, AllocErr
     for rule in master.rules_at(version) {
         text.push_str(&format!(in alloc; " {}", rule.number)?)?;
     }
+    push_limit(alloc, &mut text, master.idle_at(version))?;
     Ok(text)
 }
 
@@ -177,6 +221,7 @@ enum Judged {
     Register(u8, u16, Hook),
     Unregister(u8),
     Buffer(u32),
+    Idle(u32),
     AddRule(u8),
     RemoveRule(u8),
 }
@@ -192,7 +237,7 @@ const BEFORE: &str = "event 1 under pkt_in true\n\
     rule 7 allow any any any";
 
 // A command, why it can't be given after those, and whether it may be given.
-const JUDGED: [(&str, Judged, Option<Refusal>, bool); 14] = [
+const JUDGED: [(&str, Judged, Option<Refusal>, bool); 20] = [
     (
         "event twice, parent missing",
         Judged::Event(1, 9),
@@ -256,6 +301,32 @@ const JUDGED: [(&str, Judged, Option<Refusal>, bool); 14] = [
     ("unregister a preset", Judged::Unregister(1), None, true),
     ("remove a rule", Judged::RemoveRule(7), None, true),
     ("no buffer", Judged::Buffer(0), None, false),
+    ("no limit of idleness", Judged::Idle(0), None, false),
+    (
+        "the greatest limit of idleness",
+        Judged::Idle(u32::MAX),
+        None,
+        true,
+    ),
+    (
+        "timer at the sender",
+        Judged::Register(17, TIMER, Snd),
+        Some(Refusal::WrongHook),
+        false,
+    ),
+    (
+        "timer at the receiver",
+        Judged::Register(17, TIMER, Rcv),
+        None,
+        true,
+    ),
+    ("event under timer", Judged::Event(8, TIMER), None, true),
+    (
+        "event under no built-in event",
+        Judged::Event(8, 265),
+        Some(Refusal::NoSuchNumber),
+        false,
+    ),
     (
         "number of a preset",
         Judged::Register(15, 7, Rcv),
@@ -297,6 +368,7 @@ fn command_of(alloc: Global, judged: Judged) -> Option<Command> {
         }
         Judged::Unregister(number) => Some(Command::Unregister(number)),
         Judged::Buffer(bytes) => Some(Command::Buffer(bytes)),
+        Judged::Idle(seconds) => Some(Command::Idle(seconds)),
         Judged::AddRule(number) => Some(Command::AddRule(rule(number))),
         Judged::RemoveRule(number) => Some(Command::RemoveRule(number)),
     }

@@ -1,5 +1,5 @@
 -- What a look-up that finds a registration gives.
-use Rattle.std.proofs.Common.{◌≡◌, ℕ, ◌≤◌, List, sym, Bor}
+use Rattle.std.proofs.Common.{◌≡◌, ℕ, ◌≤◌, sym, Bor}
 use Rattle.std.specs.Prelude.{IsTrue, Option, Some, None, IfSome}
 use Rattle.std.specs.Option.{option_copied}
 use Rattle.std.proofs.lemmas.List.Elements.{recursion_from_All}
@@ -7,7 +7,6 @@ use Rattle.app_api.specs.declared.registration.Reg.{Reg}
 use Rattle.app_api.specs.Reg.{reg_of, peek_fits}
 use Rattle.event_trees.specs.Defs.{is_event}
 use Rattle.forest_versions.specs.State.{ControlState}
-use Rattle.forest_versions.specs.Sound.{IsSound}
 use Rattle.forest_versions.specs.Master.{Versions, Tells}
 use Rattle.forest_versions.proofs.Regs.{found-holds}
 use Rattle.forest_versions.proofs.Forests.{event-later}

@@ -1,7 +1,7 @@
 -- The trees of control states: with one registration more or less, the list of those that are on is the edited one.
 use Rattle.std.proofs.Common.{◌≡◌, ℕ, Bool, true, false, cond, List, sym, ap, subst, ◌∙◌}
 use Rattle.std.specs.Prelude.{◌≢◌, IsTrue, Option, Some, None}
-use Rattle.std.specs.List.{All, Contains, filter, find}
+use Rattle.std.specs.List.{All}
 use Rattle.std.proofs.lemmas.Bool.{or_cases, or_left, or_right}
 use Rattle.std.proofs.Common.{⊎_elim, ◌++◌}
 use Rattle.std.specs.Prelude.{is_some, ◌==◌}
@@ -15,7 +15,7 @@ use Rattle.event_trees.specs.declared.defs.EventDef.{EventDef}
 use Rattle.event_trees.specs.Defs.{found, is_event, is_root}
 use Rattle.event_trees.specs.Later.{IsEarlier}
 use Rattle.event_trees.specs.Private.{IsPrivate, put_reg, without, edited}
-use Rattle.event_trees.specs.Edit.{IsForestOf, IsSwitchable}
+use Rattle.event_trees.specs.Edit.{IsForestOf}
 use Rattle.forest_versions.specs.State.{ControlState, active}
 use Rattle.forest_versions.proofs.Regs.{unlike, without-put, active-put, active-without, active-without_none}
 

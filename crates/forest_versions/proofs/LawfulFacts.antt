@@ -1,5 +1,5 @@
 -- What a lawful command is known to be.
-use Rattle.std.proofs.Common.{◌≡◌, ℕ, ◌≤◌, Bool, true, false, cond, leb, ltb, List, refl, sym, ◌∙◌, arith}
+use Rattle.std.proofs.Common.{◌≡◌, ℕ, ◌≤◌, Bool, true, false, cond, leb, ltb, refl, arith}
 use Rattle.std.specs.Prelude.{◌&&◌, IsTrue, not, Option, Some, None, is_some, is_none, length}
 use Rattle.std.specs.List.{list_all}
 use Rattle.std.proofs.lemmas.Bool.{and_parts, leb-true, ltb-false}
@@ -8,13 +8,12 @@ use Rattle.app_api.specs.declared.rule.Rule.{Rule}
 use Rattle.app_api.specs.Reg.{peek_fits, reg_of}
 use Rattle.event_trees.specs.declared.defs.EventDef.{EventDef}
 use Rattle.event_trees.specs.Defs.{found, is_event, path, IsAddable}
-use Rattle.forest_versions.specs.declared.command.Command.{Command}
-use Rattle.forest_versions.specs.declared.command.Command.TheVariants.{Event, Register, Unregister, Buffer, Overlap, AddRule, RemoveRule, Idle}
+use Rattle.forest_versions.specs.declared.command.Command.TheVariants.{Event, Register, Unregister, Buffer, AddRule}
 use Rattle.forest_versions.specs.declared.refusal.Refusal.{Refusal}
-use Rattle.forest_versions.specs.declared.refusal.Refusal.TheVariants.{Duplicate, NoSuchNumber, TooDeep, WrongHook}
+use Rattle.forest_versions.specs.declared.refusal.Refusal.TheVariants.{Duplicate, NoSuchNumber, TooDeep}
 use Rattle.forest_versions.specs.Rules.{rule_of}
 use Rattle.forest_versions.specs.State.{ControlState}
-use Rattle.forest_versions.specs.Lawful.{is_within, is_lawful, refusal, is_reg_within, is_rule_within, may_be_event, may_be_number, hook_may_be, root, event_refusal, reg_refusal, taken, missing, IsRegistrable}
+use Rattle.forest_versions.specs.Lawful.{is_within, is_lawful, refusal, may_be_event, may_be_number, event_refusal, reg_refusal, taken, missing, IsRegistrable}
 
 -- a test that would have refused
 passed : (b : Bool) (x : Refusal) (rest : Option Refusal) → is_none (cond b (Some x) rest) ≡ true → (b ≡ false) × (is_none rest ≡ true)

@@ -1,10 +1,9 @@
 -- Rules keep their order with one more and with one less.
-use Rattle.std.proofs.Common.{◌≡◌, ℕ, ◌+◌, ◌<◌, ◌≤◌, Bool, true, false, cond, eqb, ltb, leb, List, [], ◌∷◌, map, refl, sym, ◌∙◌, arith}
-use Rattle.std.specs.Prelude.{◌≢◌, ◌&&◌, IsTrue, not, Option, Some, None}
+use Rattle.std.proofs.Common.{◌≡◌, ℕ, ◌+◌, ◌<◌, ◌≤◌, true, false, cond, eqb, ltb, leb, List, [], ◌∷◌, map, refl, arith}
+use Rattle.std.specs.Prelude.{◌≢◌, ◌&&◌, not, Some, None}
 use Rattle.std.proofs.lemmas.Bool.{and_parts, and_from, leb-true, le-leb, ltb-true, ltb-false, eqb-false}
 use Rattle.app_api.specs.declared.rule.Rule.{Rule}
 use Rattle.app_api.specs.Numbers.{rise_from}
-use Rattle.app_api.specs.App.{are_rules}
 use Rattle.forest_versions.specs.Rules.{rule_of, put_rule, without_rule}
 
 abbrev numbers : List Rule → List ℕ

@@ -1,10 +1,10 @@
 -- The value of a timeline at a version, where a search has found the first later step.
-use Rattle.std.proofs.Common.{◌≡◌, ℕ, suc, ◌+◌, ◌-◌, ◌<◌, ◌≤◌, leb, true, false, cond, List, [], ◌∷◌, ◌++◌, length, get_or, take, drop, refl, sym, ap, ◌∙◌, arith}
+use Rattle.std.proofs.Common.{◌≡◌, ℕ, suc, ◌+◌, ◌<◌, ◌≤◌, leb, true, false, cond, List, [], ◌∷◌, length, get_or, take, drop, refl, sym, ap, ◌∙◌, arith}
 use Rattle.std.specs.List.{fold}
 use Rattle.std.specs.List.Sorted.{IsPartitionPoint}
 use Rattle.std.proofs.lemmas.List.{take_more, take-append-drop, length-drop, get_or-drop}
 use Rattle.std.proofs.lemmas.List.Sums.{fold-append}
-use Rattle.forest_versions.specs.Timeline.{Line, as_of, stepped}
+use Rattle.forest_versions.specs.Timeline.{Line, as_of}
 
 -- the value after one step more
 abbrev chosen : {T : Type 0} → ℕ → T → ℕ × T → T

@@ -3,13 +3,13 @@
 use app_api::{
     ActiveList, App, Call, Change1, Changes, DropList, END, ERROR, Entry, EntryList, FieldList,
     LogApp, NEW_DATA, ORPHAN, PKT_IN, PeekSpec, REXMIT, Reaction, Reg, Rule, START, STATE, Seen,
-    Tally, Verdict, allows_hook, fields_of, presets_of,
+    TIMER, Tally, Verdict, allows_hook, fields_of, presets_of,
 };
 use native_filters::{Facts, Hook};
 use std::alloc::Global;
 
 // An event's number, the number that it should have, and whether it is raised at the sender and at the receiver.
-const EVENTS: [(&str, u16, u16, bool, bool); 10] = [
+const EVENTS: [(&str, u16, u16, bool, bool); 11] = [
     ("before the first", 255, 255, false, false),
     ("start", START, 256, true, false),
     ("pkt_in", PKT_IN, 257, true, true),
@@ -19,7 +19,8 @@ const EVENTS: [(&str, u16, u16, bool, bool); 10] = [
     ("state", STATE, 261, true, true),
     ("end", END, 262, false, true),
     ("orphan", ORPHAN, 263, true, false),
-    ("after the last", 264, 264, false, false),
+    ("timer", TIMER, 264, false, true),
+    ("after the last", 265, 265, false, false),
 ];
 
 #[test]

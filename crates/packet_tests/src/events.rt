@@ -1,13 +1,14 @@
-//! Which events a packet raises at its sender and at its receiver, and their facts.
+//! Which events a packet raises at its sender and at its receiver, or the silence after it, and their facts.
 
 use Side::{Client, Server};
 use State::{Closed, Established, Listen, SynRcvd, SynSent};
 use app_api::{END, ERROR, NEW_DATA, ORPHAN, PKT_IN, REXMIT, START, STATE};
 use builtin_events::{
     Raise, RaiseList, Raised, orphan_raise, phase_r, phase_s, raised_at_receiver, raised_at_sender,
-    raised_by_orphan,
+    raised_by_orphan, raised_by_silence,
 };
 use flow_socket::{Got, Sent};
+use flow_table::Endpoint;
 use native_filters::{Facts, Hook};
 use packet_views::{Class, Head};
 use reassembly::Placed;
@@ -290,6 +291,59 @@ fn facts_are_kept_once(rt: HostRuntime) {
         has_events(&raised, Hook::Snd, &[263]) && raised.facts.class == 3,
         "orphan"
     );
+}
+
+// Both endpoints of a connection, the number of its packets, and the facts of its silence.
+const SILENCES: [(&str, Endpoint, Endpoint, u64, Facts); 2] = [
+    (
+        "over IPv4",
+        Endpoint::V4 {
+            addr: 0x0a00_0001,
+            port: 1000,
+        },
+        Endpoint::V4 {
+            addr: 0x0a00_0002,
+            port: 80,
+        },
+        3,
+        Facts {
+            nth: 3,
+            src: 0x0a00_0001,
+            dst: 0x0a00_0002,
+            sport: 1000,
+            dport: 80,
+            ..NONE
+        },
+    ),
+    (
+        "over IPv6",
+        Endpoint::V6 {
+            addr: 0x2001_0db8_0000_0000_0000_0000_0000_0001,
+            port: 1000,
+        },
+        Endpoint::V6 {
+            addr: 0x2001_0db8_0000_0000_0000_0000_0000_0002,
+            port: 80,
+        },
+        u64::MAX,
+        Facts {
+            nth: u64::MAX,
+            sport: 1000,
+            dport: 80,
+            ..NONE
+        },
+    ),
+];
+
+#[test]
+fn a_connection_that_ended_by_idleness(rt: HostRuntime) {
+    for (name, client, server, members, facts) in SILENCES {
+        let raised = raised_by_silence(client, server, members);
+        assert!(rt;
+            has_events(&raised, Hook::Rcv, &[264]) && raised.facts == facts,
+            "{name}"
+        );
+    }
 }
 
 const ORPHANS: [(&str, Class, Facts); 5] = [

@@ -1,6 +1,7 @@
 pub mod Writing
 pub mod Pieces
 pub mod Each
+pub mod HexDigits
 pub mod ReadLoops
 pub mod ReadNumbers
 pub mod ReadParts

@@ -78,7 +78,8 @@ event-numbered n t user m =
     let d5 : (n == 261) ≡ false = differs n 261 (omega arith) in
     let d6 : (n == 262) ≡ false = differs n 262 (omega arith) in
     let d7 : (n == 263) ≡ false = differs n 263 (omega arith) in
-    let text : name_or_number event_names n ≡ decimal n = rw (d0, d1, d2, d3, d4, d5, d6, d7) refl in
+    let d8 : (n == 264) ≡ false = differs n 264 (omega arith) in
+    let text : name_or_number event_names n ≡ decimal n = rw (d0, d1, d2, d3, d4, d5, d6, d7, d8) refl in
     let is = decimal_is_IsNumeral n wide in
     let low = digits-below (decimal n) t is.0.0 is.0.1 in
     let value = decimal_of-decimal n t wide m in
@@ -94,7 +95,7 @@ event-named n w t is p letter found m = record {
   is_plain = rw is p;
 }
 
-event-range : (n : ℕ) → is_event n ≡ true → n < 264
+event-range : (n : ℕ) → is_event n ≡ true → n < 265
 event-range n h = grind (arith, nat_tests)
 
 event-built : (n k : ℕ) (t : List ℕ) → EventRead k t → n ≡ k → EventRead n t
@@ -103,7 +104,7 @@ event-built n k t read is = subst (λ x. EventRead x t) (sym is) read
 pub event-read : (n : ℕ) (t : List ℕ) → is_event n ≡ true → marked t ≡ true → EventRead n t
 unfolding event_text
 event-read n t h m =
-    let top : n < 264 = event-range n h in
+    let top : n < 265 = event-range n h in
     elim (cases_lt n 256) [
       | inl user ↦ event-numbered n t user m
       | inr up ↦ elim (cases_lt n 257) [
@@ -120,7 +121,10 @@ event-read n t h m =
                   | inl g ↦ event-built n 261 t (event-named 261 (codes "state") t refl refl refl refl m) (omega arith)
                   | inr g ↦ elim (cases_lt n 263) [
                     | inl i ↦ event-built n 262 t (event-named 262 (codes "end") t refl refl refl refl m) (omega arith)
-                    | inr i ↦ event-built n 263 t (event-named 263 (codes "orphan") t refl refl refl refl m) (omega arith)
+                    | inr i ↦ elim (cases_lt n 264) [
+                      | inl j ↦ event-built n 263 t (event-named 263 (codes "orphan") t refl refl refl refl m) (omega arith)
+                      | inr j ↦ event-built n 264 t (event-named 264 (codes "timer") t refl refl refl refl m) (omega arith)
+                    ]
                   ]
                 ]
               ]

@@ -31,7 +31,8 @@ hook_text Rcv = codes "rcv"
 abbrev pub event_names : List (ℕ × List ℕ)
 event_names =
     (256, codes "start") ∷ (257, codes "pkt_in") ∷ (258, codes "rexmit") ∷ (259, codes "new_data")
-    ∷ (260, codes "error") ∷ (261, codes "state") ∷ (262, codes "end") ∷ (263, codes "orphan") ∷ []
+    ∷ (260, codes "error") ∷ (261, codes "state") ∷ (262, codes "end") ∷ (263, codes "orphan")
+    ∷ (264, codes "timer") ∷ []
 
 -- the name that a number has in a list, else the number
 abbrev pub name_or_number : List (ℕ × List ℕ) → ℕ → List ℕ

@@ -1,7 +1,7 @@
 //! The parts of a line: names of classes, hooks and events, endpoints, and what a callback saw.
 
-ghost use Rattle.std.specs.Prelude.{◌≡◌, ◌==◌, ◌++◌, codes, IfSome, IfNone, IsTrue, is_some, OnOk, string_bytes};
-ghost use Rattle.std.specs.Fmt.{decimal};
+ghost use Rattle.std.specs.Prelude.{◌≡◌, ◌==◌, ◌<◌, ◌++◌, [], ◌∷◌, false, codes, IfSome, IfNone, IsTrue, is_some, OnOk, string_bytes};
+ghost use Rattle.std.specs.Fmt.{decimal, digits, digit_glyph};
 ghost use Rattle.std.specs.Net.Text.{ipv4_text};
 ghost use Rattle.std.specs.List.{list_any};
 ghost use Rattle.report_text.specs.Words.{class_text, hook_text, event_names, event_text, groups_of, groups_text, v6_text, endpoint_text, bytes_text, piece_text, pieces_text, seen_text, reason_text};
@@ -13,7 +13,6 @@ use itoa::Buffer;
 use native_filters::Hook;
 use packet_views::Class;
 use std::alloc::{AllocError, Global};
-use std::fmt::Write;
 use std::net::{Ipv4Addr, Ipv6Addr};
 
 // A number in decimal. Most numbers of a line have one digit, which takes no buffer.
@@ -81,6 +80,7 @@ pub(crate) fn event_name(event: u16) -> Option<&'static str>
         app_api::STATE => Some("state"),
         app_api::END => Some("end"),
         app_api::ORPHAN => Some("orphan"),
+        app_api::TIMER => Some("timer"),
         _ => None,
     }
 }
@@ -102,12 +102,49 @@ fn groups(addr: u128) -> [u16; 8]
     Ipv6Addr::from_bits(addr).segments()
 }
 
+// A hexadecimal digit.
+#[inline(always)]
+fn push_digit(line: &mut String, n: u16) -> Result<(), AllocError>
+    requires { n < 16 }
+    ensures { OnOk result (string_bytes line.new ≡ string_bytes line.old ++ digit_glyph false n ∷ []) }
+{
+    let first = if n < 10 { b'0' } else { b'a' - 10 };
+    line.push(char::from(first + n as u8))
+}
+
+// One or two hexadecimal digits.
+#[tactic(auto, using(std::proofs::lemmas::Fmt::hex_one_digit))]
+#[inline(always)]
+fn push_short(line: &mut String, n: u16) -> Result<(), AllocError>
+    requires { n < 256 }
+    ensures { OnOk result (string_bytes line.new ≡ string_bytes line.old ++ digits 16 false n) }
+{
+    if n < 16 {
+        return push_digit(line, n);
+    }
+    push_digit(line, n / 16)?;
+    push_digit(line, n % 16)
+}
+
+// A number in hexadecimal, of one to four digits. An address has eight of them, so no formatter is asked.
+fn push_group(line: &mut String, group: u16) -> Result<(), AllocError>
+    ensures { OnOk result (string_bytes line.new ≡ string_bytes line.old ++ digits 16 false group) }
+{
+    if group < 256 {
+        return push_short(line, group);
+    }
+    push_short(line, group / 256)?;
+    push_digit(line, group / 16 % 16)?;
+    push_digit(line, group % 16)
+}
+
 // Each group behind a colon.
 fn push_groups(line: &mut String, groups: &[u16]) -> Result<(), AllocError>
     ensures { OnOk result (string_bytes line.new ≡ string_bytes line.old ++ groups_text groups.now) }
 {
     for group in groups {
-        write!(line, ":{group:x}")?;
+        line.push(':')?;
+        push_group(line, *group)?;
     }
     Ok(())
 }
@@ -119,9 +156,10 @@ fn push_v6(line: &mut String, addr: u128, port: u16) -> Result<(), AllocError>
 {
     let groups = groups(addr);
     let first = groups[0];
-    write!(line, "[{first:x}")?;
+    line.push('[')?;
+    push_group(line, first)?;
     push_groups(line, &groups[1..])?;
-    write!(line, "]:{port}")
+    push_labelled(line, "]:", u64::from(port))
 }
 
 // An IPv4 address as four numbers with dots.

@@ -3,6 +3,7 @@
 use crate::memory::sink;
 use crate::records::{OVER_IPV4, OVER_IPV6, QUIET, Row, Sight, are_rows, records};
 use app_api::{END, ERROR, NEW_DATA, PKT_IN, Reason};
+use flow_table::Endpoint;
 use native_filters::Hook;
 use packet_views::Class;
 use report_text::{
@@ -95,6 +96,24 @@ const REPORTS: &[(&str, &[Row], &[u8])] = &[
         end packets 3 records 1 callbacks 6 drops 0 tail 0\n",
     ),
     (
+        "groups of one to four digits",
+        &[Row {
+            kind: RecordKind::Conn {
+                client: Endpoint::V6 {
+                    addr: 0x0001_0010_0100_1000_000f_00ff_0fff_ffff,
+                    port: 65535,
+                },
+                server: Endpoint::V6 {
+                    addr: 0x0000_0009_000a_0099_00a0_09a9_abcd_f00f,
+                    port: 0,
+                },
+            },
+            ..QUIET
+        }],
+        b"conn 0 [1:10:100:1000:f:ff:fff:ffff]:65535 > [0:9:a:99:a0:9a9:abcd:f00f]:0 v 0\n\
+        end packets 3 records 1 callbacks 6 drops 0 tail 0\n",
+    ),
+    (
         "what callbacks saw",
         &[Row {
             version: 4,
@@ -139,6 +158,7 @@ const REPORTS: &[(&str, &[Row], &[u8])] = &[
                 (9, Hook::Snd, 261, 255, Sight::Nothing),
                 (9, Hook::Snd, 262, 255, Sight::Nothing),
                 (9, Hook::Snd, 263, 255, Sight::Nothing),
+                (9, Hook::Rcv, 264, 255, Sight::Nothing),
             ],
             ..QUIET
         }],
@@ -152,6 +172,7 @@ const REPORTS: &[(&str, &[Row], &[u8])] = &[
         cb 9 snd state 255\n\
         cb 9 snd end 255\n\
         cb 9 snd orphan 255\n\
+        cb 9 rcv timer 255\n\
         end packets 3 records 1 callbacks 6 drops 0 tail 0\n",
     ),
     (
@@ -231,6 +252,7 @@ const EACH_FORM: &[u8] = b"conn 3 10.0.0.1:1000 > 10.0.0.2:80 v 2\n\
     cb 4 rcv error 1 peek 18446744073709551615 0 -\n\
     cb 4 rcv state 1 at 0\n\
     cb 5 rcv end 1 at 7 0:4142 4:00ff\n\
+    cb 5 rcv timer 1 peek 0 2 4142\n\
     drop 3 reg 16\n\
     drop 12 rule 0\n\
     field up_pkts 5\n\
@@ -326,9 +348,9 @@ const UNTIDY: &[(&str, &[Row])] = &[
         }],
     ),
     (
-        "event 264",
+        "event 265",
         &[Row {
-            callbacks: &[(0, Hook::Snd, 264, 1, Sight::Nothing)],
+            callbacks: &[(0, Hook::Snd, 265, 1, Sight::Nothing)],
             ..QUIET
         }],
     ),

@@ -55,6 +55,8 @@ fn event_named(name: &[u8]) -> u16
         app_api::END
     } else if name == "orphan".as_bytes() {
         app_api::ORPHAN
+    } else if name == "timer".as_bytes() {
+        app_api::TIMER
     } else {
         0
     }

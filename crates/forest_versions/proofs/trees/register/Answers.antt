@@ -1,8 +1,7 @@
-use Rattle.std.proofs.Common.{◌≡◌, ◌∙◌, true, false, List, sym, ap, subst}
-use Rattle.app_api.specs.declared.registration.Reg.{Reg}
+use Rattle.std.proofs.Common.{◌≡◌, ◌∙◌, true, List, sym, ap, subst}
 use Rattle.shared_forest.specs.Listing.{Shown, listing}
 use Rattle.event_trees.specs.declared.defs.EventDef.{EventDef}
-use Rattle.event_trees.specs.Private.{put_reg, edited}
+use Rattle.event_trees.specs.Private.{edited}
 use Rattle.event_trees.specs.Edit.{IsForestOf}
 use Rattle.forest_versions.specs.State.{ControlState, active}
 use Rattle.forest_versions.proofs.Forests.{forest-off, forest-on, undone, absent-active}

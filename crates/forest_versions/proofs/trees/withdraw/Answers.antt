@@ -1,13 +1,12 @@
-use Rattle.std.proofs.Common.{◌≡◌, ◌∙◌, ℕ, ◌≤◌, true, false, List, sym, ap, subst}
-use Rattle.std.specs.Prelude.{IsTrue, Option, Some}
-use Rattle.std.specs.List.{Contains}
+use Rattle.std.proofs.Common.{◌≡◌, ℕ, ◌≤◌, List, sym, subst}
+use Rattle.std.specs.Prelude.{IsTrue, Some}
 use Rattle.std.proofs.lemmas.List.Elements.{recursion_from_All}
 use Rattle.app_api.specs.declared.registration.Reg.{Reg}
 use Rattle.app_api.specs.Reg.{reg_of}
 use Rattle.shared_forest.specs.Listing.{Shown, listing}
 use Rattle.event_trees.specs.declared.defs.EventDef.{EventDef}
 use Rattle.event_trees.specs.Defs.{is_event}
-use Rattle.event_trees.specs.Private.{without, edited}
+use Rattle.event_trees.specs.Private.{without}
 use Rattle.event_trees.specs.Edit.{IsForestOf}
 use Rattle.forest_versions.specs.State.{ControlState, active}
 use Rattle.forest_versions.proofs.Regs.{found-holds, on-contained}

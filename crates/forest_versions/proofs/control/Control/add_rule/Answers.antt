@@ -1,4 +1,4 @@
-use Rattle.std.proofs.Common.{◌≡◌, true, ◌∙◌, List, ap}
+use Rattle.std.proofs.Common.{◌∙◌, List, ap}
 use Rattle.std.specs.Prelude.{IsTrue}
 use Rattle.app_api.specs.declared.rule.Rule.{Rule}
 use Rattle.app_api.specs.App.{are_rules}

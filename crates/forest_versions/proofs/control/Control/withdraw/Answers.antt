@@ -1,4 +1,4 @@
-use Rattle.std.proofs.Common.{eqb, List, sym, subst}
+use Rattle.std.proofs.Common.{eqb, sym, subst}
 use Rattle.std.specs.Prelude.{IsTrue, not}
 use Rattle.std.specs.List.{All}
 use Rattle.std.proofs.lemmas.List.Elements.{All-filter}

@@ -1,8 +1,5 @@
-use Rattle.std.proofs.Common.{◌≡◌, ◌+◌, ◌∙◌, refl, sym, ap, subst, arith, List}
+use Rattle.std.proofs.Common.{◌+◌, refl, sym, ap, subst, arith}
 use Rattle.std.specs.Prelude.{IsTrue}
-use Rattle.app_api.specs.declared.registration.Reg.{Reg}
-use Rattle.forest_versions.specs.declared.command.Command.{Command}
-use Rattle.forest_versions.specs.State.{ControlState, after}
 use Rattle.forest_versions.specs.Lawful.{is_lawful}
 use Rattle.forest_versions.specs.Sound.{IsSound}
 use Rattle.forest_versions.specs.Master.{Versions, Tells, StandsFor}

@@ -1,4 +1,4 @@
-use Rattle.std.proofs.Common.{◌≡◌, ◌∙◌, ap, sym, subst}
+use Rattle.std.proofs.Common.{◌∙◌, ap, sym, subst}
 use Rattle.std.specs.Prelude.{is_none, take}
 use Rattle.forest_versions.specs.Master.{Versions, StandsFor}
 use Rattle.forest_versions.proofs.Masters.{idle-given}

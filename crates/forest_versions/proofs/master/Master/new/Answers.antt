@@ -1,5 +1,4 @@
-use Rattle.std.proofs.Common.{◌≡◌, refl, subst}
-use Rattle.forest_versions.specs.Sound.{IsSound}
+use Rattle.std.proofs.Common.{refl}
 use Rattle.forest_versions.specs.Master.{Versions}
 use Rattle.forest_versions.proofs.Masters.{IsFirst, master-first, stands-first}
 use Rattle.forest_versions.proofs.master.Master.new.Goals as goal

@@ -1,8 +1,7 @@
-use Rattle.std.proofs.Common.{◌≡◌, ◌∙◌, ℕ, ◌≤◌, Bor, sym, subst, arith}
-use Rattle.std.specs.Prelude.{IsTrue, Option, IfSome}
-use Rattle.std.specs.Option.{option_copied}
+use Rattle.std.proofs.Common.{◌≡◌, ◌∙◌, ◌≤◌, Bor, subst, arith}
+use Rattle.std.specs.Prelude.{IsTrue, IfSome}
 use Rattle.app_api.specs.declared.registration.Reg.{Reg}
-use Rattle.app_api.specs.Reg.{reg_of, peek_fits}
+use Rattle.app_api.specs.Reg.{peek_fits}
 use Rattle.event_trees.specs.Defs.{is_event}
 use Rattle.forest_versions.specs.State.{ControlState, master}
 use Rattle.forest_versions.specs.Master.{Versions, Tells}

@@ -1,4 +1,4 @@
-use Rattle.std.proofs.Common.{ℕ, subst}
+use Rattle.std.proofs.Common.{subst}
 use Rattle.forest_versions.specs.State.{ControlState, master}
 use Rattle.forest_versions.specs.Master.{Versions, Tells}
 use Rattle.forest_versions.proofs.master.Master.tells_each_version.Goals as goal

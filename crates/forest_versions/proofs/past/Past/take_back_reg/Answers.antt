@@ -1,9 +1,9 @@
-use Rattle.std.proofs.Common.{◌≡◌, ◌∙◌, ◌<◌, ℕ, List, length, set, get_or, ap, sym, subst, arith}
+use Rattle.std.proofs.Common.{◌≡◌, ◌∙◌, ◌<◌, ℕ, List, length, set, get_or, ap, arith}
 use Rattle.std.specs.Prelude.{Option}
 use Rattle.std.proofs.lemmas.List.{get_or_default}
 use Rattle.app_api.specs.declared.registration.Reg.{Reg}
-use Rattle.forest_versions.specs.Timeline.{Line, stepped}
-use Rattle.forest_versions.specs.Past.{PastLines, line_of, never, with_reg}
+use Rattle.forest_versions.specs.Timeline.{Line}
+use Rattle.forest_versions.specs.Past.{PastLines, never}
 use Rattle.forest_versions.proofs.Pasts.{take-back}
 use Rattle.forest_versions.proofs.past.Past.take_back_reg.Goals as goal
 
