@@ -17,9 +17,7 @@ pub use answers::{fields_of, presets_of};
 pub use app::{App, Call, Tally};
 pub use changes::{Change1, Changes};
 pub use entry::{Entry, Seen};
-pub use events::{
-    END, ERROR, NEW_DATA, ORPHAN, PKT_IN, REXMIT, START, STATE, TIMER, allows_hook,
-};
+pub use events::{END, ERROR, NEW_DATA, ORPHAN, PKT_IN, REXMIT, START, STATE, TIMER, allows_hook};
 pub use lists::{ActiveList, Bytes, DropList, EntryList, FieldList, PieceList, RegList};
 pub use log::LogApp;
 pub use reaction::{Reaction, Reason, Verdict};

@@ -51,7 +51,7 @@ HasVersions = (app : Meaning) (commands : List Command) (least most : ℕ → �
 
 abbrev pub OneRun : Type 0
 OneRun = (app : Meaning) (commands : List Command) (least most : ℕ → ℕ) (lane : EndpointPair → ℕ) (packets : List Arrival) (vs : List ℕ)
-    → ((n : ℕ) → least n ≡ most n) → IsAllowedRun app commands least most lane packets vs 
+    → ((n : ℕ) → least n ≡ most n) → IsAllowedRun app commands least most lane packets vs
     → run_under app commands vs packets ≡ map (ended_at app (in_force app commands) (greatest packets)) (records app (in_force app commands) (versioned most packets))
 
 abbrev pub OneJudged : Type 0
