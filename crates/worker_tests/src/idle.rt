@@ -112,10 +112,8 @@ fn leaves(alloc: Global, row: Row) -> bool {
     let limit = Command::Idle(10);
     let call = Command::Register(Reg::preset(16, TIMER, Hook::Rcv, true));
     let mut all = hears(alloc, &mut lane, &limit) && hears(alloc, &mut lane, &call);
-    let mut number = 0;
-    for packet in packets {
-        all = all && takes(alloc, &mut lane, number, *packet);
-        number += 1;
+    for (number, packet) in packets.iter().enumerate() {
+        all = all && takes(alloc, &mut lane, number as u64, *packet);
     }
     all && ends(alloc, lane, greatest, names, callbacks)
 }
