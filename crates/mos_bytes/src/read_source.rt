@@ -10,8 +10,8 @@ use crate::copy::copy_front;
 use crate::{Failed, Source};
 use std::io::Read;
 
-// One call of the system brings many small packets.
-const BUFFER: usize = 16384;
+// One call of the system brings many small packets, and as much as a pipe holds at once.
+const BUFFER: usize = 65536;
 
 /// A source over a reader. It tells what is left where the reader does: over files and standard streams it tells
 /// nothing. Its count of faults begins at 0. Each error of the reader is a fault, and so is a count longer than the buffer.
@@ -25,7 +25,7 @@ pub struct ReadSource<R> {
     end: usize,
     faults: u64,
     ghost ordered: { start ≤ end },
-    ghost within: { end ≤ 16384 },
+    ghost within: { end ≤ 65536 },
 }
 
 // One call of the reader. An error is a fault, and so is a count longer than the buffer.

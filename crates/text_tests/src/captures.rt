@@ -289,7 +289,7 @@ const AT_HAND: &[(&str, u32, usize, bool)] = &[
 // The captured length of a record that a reader gives, and whether it is read ahead with the header.
 const READ_AHEAD: &[(&str, u32, usize, bool)] = &[
     ("a short record", 9, 9, true),
-    ("a long record", 16_384, 16_384, false),
+    ("a long record", 65_536, 65_536, false),
 ];
 
 // Whether a capture is opened, and its next record at hand as wanted.
