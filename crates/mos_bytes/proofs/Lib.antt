@@ -3,3 +3,4 @@ pub mod Causes
 pub mod Moves
 pub mod Shelves
 pub mod Writes
+pub mod Writing

@@ -19,6 +19,19 @@ pub struct Ended {
     pub versions: VersionList,
 }
 
+impl Ended {
+    /// A run all of whose output was written, with the version of each record.
+    pub(crate) fn done(versions: VersionList) -> Ended
+        ensures status { result.status ≡ 0 }
+        ensures versions { result.versions ≡ versions }
+    {
+        Ended {
+            status: 0,
+            versions,
+        }
+    }
+}
+
 /// Ends a run: tells the refusal on `err`. Where memory for its line is refused, that is told instead.
 pub fn refuse<E: Sink>(alloc: Global, err: &mut E, error: RunError) -> Ended
     ensures status { (result.status ≡ status_of error) ⊎ (result.status ≡ 6) }

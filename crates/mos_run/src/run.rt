@@ -159,10 +159,7 @@ pub fn run_mos<
 {
     let crew = Crew { rt, gate };
     match run(&crew, alloc, words, capture, shelf, out, natives) {
-        Ok(versions) => Ended {
-            status: 0,
-            versions,
-        },
+        Ok(versions) => Ended::done(versions),
         Err(error) => refuse(alloc, err, error),
     }
 }

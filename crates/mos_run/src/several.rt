@@ -1,9 +1,12 @@
 //! The run of several workers.
 
-ghost use Rattle.std.specs.Prelude.{◌≡◌, ◌≤◌, true, false, IfSome};
+ghost use Rattle.std.specs.Prelude.{◌≡◌, ◌≤◌, ◌⊎◌, true, false, IfSome, IfErr, IsErrOf, IsTrue};
+ghost use Rattle.mos_bytes.specs.Outside.{Writes};
+ghost use Rattle.mos_bytes.specs.Writes.{WriteAdds};
+ghost use Rattle.report_text.specs.Tidy.{tidy};
 ghost use Rattle.mos_run.specs.Apps.{meaning_of};
 ghost use Rattle.mos_run.specs.Lanes.{RunsWith};
-ghost use Rattle.mos_run.specs.Outcome.{is_forward, output_of};
+ghost use Rattle.mos_run.specs.Outcome.{closing, is_forward, output_of};
 ghost use Rattle.mos_run.specs.Runs.{IsJob, Runs, RunsUnderSettings};
 
 use crate::chosen::Chosen;
@@ -11,13 +14,15 @@ use crate::close::write_end;
 use crate::laws::what_one_worker_has_is_allowed;
 use crate::output::output_of;
 use crate::plan::{Crew, Plan};
-use crate::{RunError, VersionList};
+use crate::{Output, RunError, VersionList};
 use capture_maker::Maker;
 use control_script::Script;
 use lane_core::laws::records_are_tidy;
 use mos_bytes::{Sink, Source};
 use native_filters::NativeBook;
 use pcap_source::Capture;
+use report_text::{Record, Totals};
+use shared_text::write_report_by;
 use std::alloc::Global;
 use std::sync::Wait;
 use std::thread::Threads;
@@ -25,6 +30,32 @@ use words::Settings;
 use worker_laws::packets::packets_of_a_capture_rise;
 use worker_laws::runs::a_run_has_its_versions;
 use worker_pool::{Gate, Job, forward_lanes, run_lanes};
+
+// Writes what is written at the end. As many threads as there were workers share the making of a report's text.
+fn write_end_by<R: Threads + Sync, G, O: Sink>(
+    crew: &Crew<'_, R, G>,
+    alloc: Global,
+    plan: &Plan<'_>,
+    records: &[Record],
+    totals: &Totals,
+    out: &mut O,
+) -> Result<(), RunError>
+    requires some { 1 ≤ plan.now.workers }
+    requires tidy { plan.now.output ≡ Output.Report → IsTrue (tidy records.now) }
+    ensures text { WriteAdds (O.taken out.old) (O.taken out.new) result (closing plan.now.output records.now totals.now) }
+    ensures silent { is_forward plan.now.output ≡ true → out.new ≡ out.old }
+    ensures only { IfErr result
+        (λ e. ((e ≡ RunError.WriteFault) × (is_forward plan.now.output ≡ false)) ⊎ (e ≡ RunError.NoMemory)) }
+    ensures to { Writes O.Sink out.old out.new (IsErrOf result RunError.WriteFault) }
+{
+    match plan.output {
+        Output::Report => {
+            write_report_by(crew.rt, alloc, plan.workers, out, records, totals)?;
+            Ok(())
+        }
+        output => write_end(alloc, output, records, totals, out),
+    }
+}
 
 // Runs over a capture on the plan's lanes, and then writes what is written at the end.
 fn report_on<
@@ -64,7 +95,14 @@ fn report_on<
         plan.natives,
         crew.gate,
     )?;
-    write_end(alloc, plan.output, end.records.as_slice(), &end.totals, out)?;
+    write_end_by(
+        crew,
+        alloc,
+        plan,
+        end.records.as_slice(),
+        &end.totals,
+        out,
+    )?;
     Ok(end.versions)
 }
 

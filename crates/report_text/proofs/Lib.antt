@@ -1,4 +1,4 @@
-pub mod Writing
+pub mod Rendering
 pub mod Pieces
 pub mod Each
 pub mod HexDigits

@@ -81,8 +81,9 @@ returns-in_err-end g c = record {
   };
 }
 
-pub write_end-requires : goal.write_end-requires
-write_end-requires g c = record {
+pub write_end_by-requires : goal.write_end_by-requires
+write_end_by-requires g c = record {
+  some = c.requires.job.some;
   tidy = λ report.
       let plan = c.args.plan.now in
       let app = meaning_of plan.app in
@@ -91,8 +92,8 @@ write_end-requires g c = record {
       (whole_is_tidy c.records_are_tidy.ensures c.packets_of_a_capture_rise.ensures.run app plan.script.now plan.workers whole.1 whole.0 c.in_ok-end.end (lawful_app plan.app) c.requires.job.lawful whole.2);
 }
 
-pub returns-in_err-write_end : goal.returns-in_err-write_end
-returns-in_err-write_end g c = record {
+pub returns-in_err-write_end_by : goal.returns-in_err-write_end_by
+returns-in_err-write_end_by g c = record {
   ran = record {
     comes_to = λ bytes told.
         let plan = c.args.plan.now in
@@ -100,18 +101,18 @@ returns-in_err-write_end g c = record {
         let start = c.in_ok-capture.ensures.start in
         let rep = opened_replay (g.S.Source.left c.args.source.now) (g.S.Source.left c.open.new.source) c.in_ok-capture.capture bytes c.in_ok-capture.ensures.gives start.count start.offset told in
         let ends = c.in_ok-end.ensures.ends rep.rest rep.told in
-        let p = err_from_is_err_and c.from_residual-in_err-write_end.result c.from_residual-in_err-write_end.ensures.1 in
-        let which = subst (λ e. ((e ≡ Run.WriteFault) × (is_forward plan.output ≡ false)) ⊎ (e ≡ Run.NoMemory)) (sym p.2) c.in_err-write_end.ensures.only in
+        let p = err_from_is_err_and c.from_residual-in_err-write_end_by.result c.from_residual-in_err-write_end_by.ensures.1 in
+        let which = subst (λ e. ((e ≡ Run.WriteFault) × (is_forward plan.output ≡ false)) ⊎ (e ≡ Run.NoMemory)) (sym p.2) c.in_err-write_end_by.ensures.only in
         rw (p.1)
         (broke_off app plan.script.now plan.workers plan.output bytes (frames_at c.in_ok-capture.capture rep.rest) rep.holds c.requires.kept ends.0 ends.1 c.in_ok-end.end ends.2
-        (g.O.Sink.taken c.args.out.now) (g.O.Sink.taken c.write_end.new.out) p.0 which
-        (subst (λ l. AppendsFront (g.O.Sink.taken c.args.out.now) (g.O.Sink.taken c.write_end.new.out) (closing plan.output l c.in_ok-end.end.totals)) c.as_slice.ensures c.in_err-write_end.ensures.text));
+        (g.O.Sink.taken c.args.out.now) (g.O.Sink.taken c.write_end_by.new.out) p.0 which
+        (subst (λ l. AppendsFront (g.O.Sink.taken c.args.out.now) (g.O.Sink.taken c.write_end_by.new.out) (closing plan.output l c.in_ok-end.end.totals)) c.as_slice.ensures c.in_err-write_end_by.ensures.text));
     read = search rules;
     silent = search rules;
     late = search rules;
     reads =
-        let p = err_from_is_err_and c.from_residual-in_err-write_end.result c.from_residual-in_err-write_end.ensures.1 in
-        let which = subst (λ e. ((e ≡ Run.WriteFault) × (is_forward c.args.plan.now.output ≡ false)) ⊎ (e ≡ Run.NoMemory)) (sym p.2) c.in_err-write_end.ensures.only in
+        let p = err_from_is_err_and c.from_residual-in_err-write_end_by.result c.from_residual-in_err-write_end_by.ensures.1 in
+        let which = subst (λ e. ((e ≡ Run.WriteFault) × (is_forward c.args.plan.now.output ≡ false)) ⊎ (e ≡ Run.NoMemory)) (sym p.2) c.in_err-write_end_by.ensures.only in
         rw (p.1)
         (reads_whole g.S.Source c.args.plan.now.output _ _ _ (Err p.0) (c.in_ok-end.ensures.reads.ended (inl refl)) (λ fault. no_read_fault p.0 which (err_same p.0 Run.ReadFault fault)));
     from = search rules;
@@ -130,8 +131,8 @@ returns g c = record {
         let ends = c.in_ok-end.ensures.ends rep.rest rep.told in
         let f = frames_at c.in_ok-capture.capture rep.rest in
         finished app plan.script.now plan.workers plan.output bytes f rep.holds c.requires.kept ends.0 ends.1 c.in_ok-end.end ends.2 c.a_run_has_its_versions.ensures.versions
-        (g.O.Sink.taken c.args.out.now) (g.O.Sink.taken c.write_end.new.out)
-        (subst (λ l. Appends (g.O.Sink.taken c.args.out.now) (g.O.Sink.taken c.write_end.new.out) (closing plan.output l c.in_ok-end.end.totals)) c.as_slice.ensures c.in_ok-write_end.ensures.text);
+        (g.O.Sink.taken c.args.out.now) (g.O.Sink.taken c.write_end_by.new.out)
+        (subst (λ l. Appends (g.O.Sink.taken c.args.out.now) (g.O.Sink.taken c.write_end_by.new.out) (closing plan.output l c.in_ok-end.end.totals)) c.as_slice.ensures c.in_ok-write_end_by.ensures.text);
     read = search rules;
     silent = search rules;
     late = search rules;

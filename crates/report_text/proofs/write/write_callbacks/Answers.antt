@@ -1,6 +1,6 @@
 use Rattle.std.proofs.Common.{◌∙◌}
 use Rattle.report_text.proofs.Pieces.{callbacks_text-drop}
-use Rattle.report_text.proofs.Writing.{Writing-more, Writing-failed, WriteAdds-err}
+use Rattle.mos_bytes.proofs.Writing.{Writing-more, Writing-failed, WriteAdds-err}
 use Rattle.report_text.proofs.write.write_callbacks.Goals as goal
 
 pub loop-entry-preserved : goal.loop-entry-preserved

@@ -1,7 +1,7 @@
 use Rattle.std.proofs.Common.{◌∙◌}
 use Rattle.app_api.specs.declared.reaction.Reason.TheVariants.{Reg}
 use Rattle.report_text.proofs.Pieces.{drops_text-drop}
-use Rattle.report_text.proofs.Writing.{Writing-more, Writing-failed, WriteAdds-err}
+use Rattle.mos_bytes.proofs.Writing.{Writing-more, Writing-failed, WriteAdds-err}
 use Rattle.report_text.proofs.write.write_drops.Goals as goal
 
 pub loop-index-preserved : goal.loop-index-preserved

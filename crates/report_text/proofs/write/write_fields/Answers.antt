@@ -4,7 +4,7 @@ use Rattle.report_text.specs.Lines.{field_line}
 use Rattle.report_text.specs.Report.{fields_text}
 use Rattle.report_text.proofs.Each.{passes-at}
 use Rattle.report_text.proofs.Pieces.{fields_text-drop}
-use Rattle.report_text.proofs.Writing.{Writing-more, Writing-failed, WriteAdds-err}
+use Rattle.mos_bytes.proofs.Writing.{Writing-more, Writing-failed, WriteAdds-err}
 use Rattle.report_text.proofs.write.write_fields.Goals as goal
 
 pub write_field-requires : goal.write_field-requires

@@ -1,6 +1,6 @@
 use Rattle.std.proofs.Common.{◌≡◌, drop}
 use Rattle.report_text.specs.Report.{fields_text}
-use Rattle.report_text.proofs.Writing.{Writing}
+use Rattle.mos_bytes.proofs.Writing.{Writing}
 use Rattle.report_text.proofs.write.write_fields.Given as goal
 
 abbrev pub invariant-loop-name : goal.invariant-loop-name

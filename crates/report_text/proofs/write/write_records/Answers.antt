@@ -2,7 +2,7 @@ use Rattle.std.proofs.Common.{◌∙◌}
 use Rattle.report_text.specs.Tidy.{is_tidy_record}
 use Rattle.report_text.proofs.Each.{passes-at}
 use Rattle.report_text.proofs.Pieces.{records_text-drop}
-use Rattle.report_text.proofs.Writing.{Writing-more, Writing-failed, WriteAdds-err}
+use Rattle.mos_bytes.proofs.Writing.{Writing-more, Writing-failed, WriteAdds-err}
 use Rattle.report_text.proofs.write.write_records.Goals as goal
 
 pub loop-of-preserved : goal.loop-of-preserved

@@ -2,7 +2,7 @@ use Rattle.std.proofs.Common.{arith}
 use Rattle.mos_bytes.proofs.Writes.{AppendsFront-more}
 use Rattle.report_text.specs.Report.{report_text}
 use Rattle.report_text.specs.Tidy.{tidy}
-use Rattle.report_text.proofs.Writing.{WriteAdds-err, WriteAdds-after}
+use Rattle.mos_bytes.proofs.Writing.{WriteAdds-err, WriteAdds-after}
 use Rattle.report_text.proofs.write.write_report.Goals as goal
 
 pub returns-in_err-write_records-clause-text : goal.returns-in_err-write_records-clause-text

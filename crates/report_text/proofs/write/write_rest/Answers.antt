@@ -1,5 +1,5 @@
 use Rattle.mos_bytes.proofs.Writes.{AppendsFront-more, AppendsFront-after}
-use Rattle.report_text.proofs.Writing.{WriteAdds-err, WriteAdds-after}
+use Rattle.mos_bytes.proofs.Writing.{WriteAdds-err, WriteAdds-after}
 use Rattle.report_text.proofs.write.write_rest.Goals as goal
 
 pub returns-in_err-write_callbacks-clause-text : goal.returns-in_err-write_callbacks-clause-text

@@ -1,0 +1,54 @@
+//! The whole report.
+
+ghost use Rattle.std.specs.Prelude.{◌≡◌, ◌<◌, ◌≤◌, IsTrue, IsErrOf};
+ghost use Rattle.mos_bytes.specs.Causes.{HasCauseOf};
+ghost use Rattle.mos_bytes.specs.Writes.{WriteAdds};
+ghost use Rattle.report_text.specs.Report.{report_text};
+ghost use Rattle.report_text.specs.Tidy.{tidy};
+
+use crate::round::write_round;
+use mos_bytes::Sink;
+use report_text::{Record, TextError, Totals, write_totals};
+use std::alloc::Global;
+use std::thread::Threads;
+
+// How many records a thread has at a time: the text of so many is held at once for each thread.
+const SHARE: usize = 1024;
+
+// How many of the records that are left each thread has next.
+fn share_of(left: usize, threads: usize) -> usize
+    requires some { 0 < left }
+    requires threads { 0 < threads }
+    ensures some { 0 < result }
+{
+    left.div_ceil(threads).min(SHARE)
+}
+
+/// Writes a report as `report_text::write_report` does, each line by one call. Its text is made by up to `threads` threads at a time,
+/// each of which has up to 1,024 records: what it takes beside the records is the text of so many for each thread.
+///
+/// It asks at least one thread, and records that a report may have. Where no thread can be started, this one makes the text. At an
+/// `Err` the sink holds a front of the report.
+pub fn write_report_by<R: Threads + Sync, O: Sink>(
+    rt: &R,
+    alloc: Global,
+    threads: usize,
+    out: &mut O,
+    records: &[Record],
+    totals: &Totals,
+) -> Result<(), TextError>
+    requires threads { 0 < threads }
+    requires tidy { IsTrue (tidy records.now) }
+    ensures text { WriteAdds (O.taken out.old) (O.taken out.new) result (report_text records.now totals.now) }
+    ensures cause { HasCauseOf (O.faults out.old) (O.faults out.new) (IsErrOf result TextError.WriteFault) }
+    ensures lasts { O.lasting out.new ≡ O.lasting out.old }
+{
+    let mut left = records;
+    while !left.is_empty() {
+        let share = share_of(left.len(), threads);
+        let (round, behind) = left.split_at(share.saturating_mul(threads).min(left.len()));
+        write_round(rt, alloc, out, round, share)?;
+        left = behind;
+    }
+    write_totals(alloc, out, totals)
+}
