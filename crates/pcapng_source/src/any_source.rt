@@ -101,6 +101,10 @@ impl<'a, S: Source> Source for AnySource<'a, S> {
         if buf.is_empty() {
             return Ok(0);
         }
+        // A classic capture takes no step of the reader.
+        if self.reader.is_plain() {
+            return self.source.read(buf);
+        }
         let count = read_on(self.source, &mut self.reader, buf)?;
         if count > 0 {
             look_ahead(self.source, &mut self.reader);
@@ -124,6 +128,9 @@ impl<'a, S: Source> Source for AnySource<'a, S> {
     fn count_at_hand(&self) -> usize
         ensures least { HasAtLeast (any_left self.now) result }
     {
+        if self.reader.is_plain() {
+            return self.source.count_at_hand();
+        }
         let made = self.reader.made();
         made.saturating_add(self.reader.direct(self.source.count_at_hand()))
     }
