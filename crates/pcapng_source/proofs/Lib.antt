@@ -9,3 +9,4 @@ pub mod Steps
 pub mod Bodies
 pub mod Opens
 pub mod Going
+pub mod Borders

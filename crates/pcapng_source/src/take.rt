@@ -25,7 +25,7 @@ impl Reader {
         ensures settled { self.new.made ≡ [] → settled_at self.new.stage self.new }
         ensures stays { IsRefused self.old.stage → self.new ≡ self.old }
     {
-        if self.made() == 0 {
+        if self.made() == 0 && self.direct(1) == 0 {
             self.take_held();
             self.leave_body();
         }

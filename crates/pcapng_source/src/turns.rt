@@ -17,6 +17,10 @@ const SKIPPED: usize = 512;
 // How many bytes are held at once: at most the head of a block.
 const HELD: usize = 28;
 
+// How many bytes lead from the data of a packet to the next block at most: three that pad the data, the second total
+// length, and the first fields.
+const BORDER: usize = 15;
+
 // Gives up to so many of the next bytes as they are.
 fn give<S: Source>(
     source: &mut S,
@@ -199,6 +203,52 @@ fn step_ahead<S: Source>(source: &mut S, reader: &mut Reader) -> bool
     }
 }
 
+// Goes from the data of a packet to the next block at once, where its first fields are at hand.
+fn cross<S: Source>(source: &mut S, reader: &mut Reader)
+    requires made { reader.old.made ≡ [] }
+    requires fits { IsFitting reader.old }
+    requires spent { IsSpent reader.old }
+    ensures gives { Gives (outlook reader.old (S.left source.old)) (outlook reader.new (S.left source.new)) [] }
+    ensures later { faults_with reader.old (S.faults source.old) ≤ faults_with reader.new (S.faults source.new) }
+    ensures lasts { S.lasting source.new ≡ S.lasting source.old }
+    ensures fits { IsFitting reader.new }
+    ensures spent { IsSpent reader.new }
+    ensures source_faults { S.faults source.old ≤ S.faults source.new }
+{
+    let border = reader.border();
+    if border == 0 || source.count_at_hand() < border {
+        return;
+    }
+    let mut bytes = [0; BORDER];
+    let Ok(count) = source.read(&mut bytes[..border]) else {
+        return;
+    };
+    reader.cross(&bytes[..count]);
+}
+
+// Holds what is wanted next, where it is at hand: so a whole head is judged once.
+fn hold_ahead<S: Source>(source: &mut S, reader: &mut Reader)
+    requires fits { IsFitting reader.old }
+    requires spent { IsSpent reader.old }
+    ensures gives { Gives (outlook reader.old (S.left source.old)) (outlook reader.new (S.left source.new)) [] }
+    ensures later { faults_with reader.old (S.faults source.old) ≤ faults_with reader.new (S.faults source.new) }
+    ensures lasts { S.lasting source.new ≡ S.lasting source.old }
+    ensures fits { IsFitting reader.new }
+    ensures spent { IsSpent reader.new }
+    ensures source_faults { S.faults source.old ≤ S.faults source.new }
+{
+    let wanted = reader.wanted();
+    if wanted == 0 || source.count_at_hand() < wanted {
+        return;
+    }
+    let mut bytes = [0; HELD];
+    let wanted = wanted.min(HELD);
+    let Ok(count) = source.read(&mut bytes[..wanted]) else {
+        return;
+    };
+    reader.keep(&bytes[..count]);
+}
+
 // Goes on by bytes that are at hand, until bytes are made or stand next in the file: so that these can be shown.
 pub(crate) fn look_ahead<S: Source>(source: &mut S, reader: &mut Reader)
     requires fits { IsFitting reader.old }
@@ -210,5 +260,10 @@ pub(crate) fn look_ahead<S: Source>(source: &mut S, reader: &mut Reader)
     ensures spent { IsSpent reader.new }
     ensures source_faults { S.faults source.old ≤ S.faults source.new }
 {
+    if reader.made() > 0 || reader.direct(1) > 0 {
+        return;
+    }
+    cross(source, reader);
+    hold_ahead(source, reader);
     while step_ahead(source, reader) {}
 }
