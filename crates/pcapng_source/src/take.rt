@@ -19,6 +19,7 @@ impl Reader {
     ghost use Rattle.pcapng_source.specs.declared.reader.Stage.TheVariants.{Start, Head, Body, Trailer};
 
     // Judges what is held, and goes on where that is enough.
+    #[inline]
     pub(crate) fn take(&mut self)
         requires { IsFitting self.old }
         ensures goes { Goes self.old self.new }
@@ -49,6 +50,7 @@ impl Reader {
     }
 
     // Tells by the first four bytes whether the file is a pcapng file.
+    #[inline(never)]
     fn begin(&mut self)
         requires stage { self.old.stage ≡ Start }
         requires word { length self.old.word ≡ 4 }
@@ -68,6 +70,7 @@ impl Reader {
         }
     }
 
+    #[inline(never)]
     fn take_head(&mut self)
         requires stage { self.old.stage ≡ Head }
         requires made { self.old.made ≡ [] }
