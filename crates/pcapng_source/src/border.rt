@@ -14,6 +14,7 @@ impl Reader {
 
     // How many bytes come next up to the fields of the next block that are judged first, and those: behind the data of
     // a packet what pads it, the second total length and those fields. 0 elsewhere.
+    #[inline]
     pub(crate) fn border(&self) -> usize
         ensures { result ≡ border_at self.now.stage self.now }
     {
@@ -26,6 +27,7 @@ impl Reader {
     }
 
     // Goes over these bytes, which come next behind the data of a packet.
+    #[inline]
     pub(crate) fn cross(&mut self, bytes: &[u8])
         requires some { 0 < border_at self.old.stage self.old }
         requires few { length bytes.now ≤ border_at self.old.stage self.old }

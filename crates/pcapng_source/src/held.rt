@@ -14,6 +14,7 @@ const WORD_ROOM: usize = 4;
 const MADE_ROOM: usize = 24;
 
 // Writes the bytes behind this place, and answers the place behind them.
+#[inline]
 fn put_behind(room: &mut [u8], place: usize, bytes: &[u8]) -> usize
     requires { place + length bytes.now ≤ length room.old }
     ensures place { result ≡ place + length bytes.now }
@@ -66,6 +67,7 @@ impl Head {
         &self.bytes[..self.len]
     }
 
+    #[inline]
     pub(crate) fn put(&mut self, bytes: &[u8])
         requires { length self.old + length bytes.now ≤ 28 }
         ensures { self.new ≡ self.old ++ bytes.now }
@@ -112,6 +114,7 @@ impl Word {
         &self.bytes[..self.len]
     }
 
+    #[inline]
     pub(crate) fn put(&mut self, bytes: &[u8])
         requires { length bytes.now ≤ 4 - length self.old }
         ensures { self.new ≡ self.old ++ bytes.now }

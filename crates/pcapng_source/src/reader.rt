@@ -150,6 +150,7 @@ impl Reader {
     }
 
     // What is done with the bytes that come next, where there is so much room for them.
+    #[inline]
     pub(crate) fn next(&self, room: usize) -> Next
         requires settled { settled_at self.now.stage self.now }
         requires room { 0 < room }
@@ -168,6 +169,7 @@ impl Reader {
     }
 
     // How many of the next bytes are to be held.
+    #[inline]
     pub(crate) fn wanted(&self) -> usize
         ensures { result ≡ wanted_at self.now.stage self.now }
     {
@@ -181,6 +183,7 @@ impl Reader {
     }
 
     // How many bytes more of a head are to be held before it is judged again.
+    #[inline]
     fn head_wanted(&self) -> usize
         ensures { result ≡ stop_of self.now.section.order self.now.head - length self.now.head }
     {
@@ -224,6 +227,7 @@ impl Reader {
     }
 
     // Holds these bytes, which come next.
+    #[inline]
     pub(crate) fn keep(&mut self, bytes: &[u8])
         requires few { length bytes.now ≤ wanted_at self.old.stage self.old }
         requires fits { IsFitting self.old }
