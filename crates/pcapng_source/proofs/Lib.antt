@@ -1,4 +1,5 @@
 pub mod Gives
+pub mod Middles
 pub mod Numbers
 pub mod Firm
 pub mod Accepted

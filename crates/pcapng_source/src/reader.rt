@@ -168,23 +168,9 @@ impl Reader {
         }
     }
 
-    // How many of the next bytes are to be held.
-    #[inline]
-    pub(crate) fn wanted(&self) -> usize
-        ensures { result ≡ wanted_at self.now.stage self.now }
-    {
-        match self.stage {
-            Stage::Head => self.head_wanted(),
-            Stage::Start | Stage::OptionHead | Stage::Resolution | Stage::Trailer => {
-                WORD - self.word.as_slice().len()
-            }
-            Stage::Plain | Stage::Body | Stage::Refused(_, _) => 0,
-        }
-    }
-
     // How many bytes more of a head are to be held before it is judged again.
     #[inline]
-    fn head_wanted(&self) -> usize
+    pub(crate) fn head_wanted(&self) -> usize
         ensures { result ≡ stop_of self.now.section.order self.now.head - length self.now.head }
     {
         let head = self.head.as_slice();

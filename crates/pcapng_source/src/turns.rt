@@ -8,7 +8,7 @@ ghost use Rattle.mos_bytes.specs.Causes.{HasCause};
 ghost use Rattle.pcapng_source.specs.Outlooks.{Gives, IsOver, ReadGives, StepEnds, StepFalls, StepFits, StepGives, faults_with, outlook};
 ghost use Rattle.pcapng_source.specs.Reading.{IsFitting, IsOpen, IsSpent, direct_at, settled_at, skipped_at, wanted_at, weight_of};
 
-use crate::reader::{Next, Reader};
+use crate::reader::{Next, Reader, Stage};
 use mos_bytes::{Failed, Source};
 
 // How many bytes are skipped at once.
@@ -226,8 +226,8 @@ fn cross<S: Source>(source: &mut S, reader: &mut Reader)
     reader.cross(&bytes[..count]);
 }
 
-// Holds what is wanted next, where it is at hand: so a whole head is judged once.
-fn hold_ahead<S: Source>(source: &mut S, reader: &mut Reader)
+// Holds what is left of a head, where it is at hand: so a whole head is judged once.
+fn hold_head<S: Source>(source: &mut S, reader: &mut Reader)
     requires fits { IsFitting reader.old }
     requires spent { IsSpent reader.old }
     ensures gives { Gives (outlook reader.old (S.left source.old)) (outlook reader.new (S.left source.new)) [] }
@@ -237,16 +237,12 @@ fn hold_ahead<S: Source>(source: &mut S, reader: &mut Reader)
     ensures spent { IsSpent reader.new }
     ensures source_faults { S.faults source.old ≤ S.faults source.new }
 {
-    let wanted = reader.wanted();
-    if wanted == 0 || source.count_at_hand() < wanted {
-        return;
+    if let Stage::Head = reader.stage {
+        let wanted = reader.head_wanted();
+        if wanted > 0 && source.count_at_hand() >= wanted {
+            reader.head.read_more(source, wanted);
+        }
     }
-    let mut bytes = [0; HELD];
-    let wanted = wanted.min(HELD);
-    let Ok(count) = source.read(&mut bytes[..wanted]) else {
-        return;
-    };
-    reader.keep(&bytes[..count]);
 }
 
 // Goes on by bytes that are at hand, until bytes are made or stand next in the file: so that these can be shown.
@@ -264,6 +260,6 @@ pub(crate) fn look_ahead<S: Source>(source: &mut S, reader: &mut Reader)
         return;
     }
     cross(source, reader);
-    hold_ahead(source, reader);
+    hold_head(source, reader);
     while step_ahead(source, reader) {}
 }
