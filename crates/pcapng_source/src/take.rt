@@ -19,7 +19,7 @@ impl Reader {
     ghost use Rattle.pcapng_source.specs.declared.reader.Stage.TheVariants.{Start, Head, Body, Trailer};
 
     // Judges what is held, and goes on where that is enough.
-    #[inline]
+    #[inline(always)]
     pub(crate) fn take(&mut self)
         requires { IsFitting self.old }
         ensures goes { Goes self.old self.new }
@@ -32,6 +32,7 @@ impl Reader {
         }
     }
 
+    #[inline(never)]
     fn take_held(&mut self)
         requires made { self.old.made ≡ [] }
         requires fits { IsFitting self.old }

@@ -1,5 +1,5 @@
 -- What was read stands behind what was held.
-use Rattle.std.proofs.Common.{◌≤◌, ◌++◌, [], length, take, min, ap, sym, ◌∙◌, arith, length-take}
+use Rattle.std.proofs.Common.{◌≤◌, ◌++◌, [], length, take, ap, sym, ◌∙◌, arith, length-take}
 use Rattle.std.proofs.lemmas.List.{append-nil}
 use Rattle.std.proofs.lemmas.Slice.{take-put_mid_below}
 use Rattle.pcapng_source.proofs.Middles.{keeps-none, take-middle}
