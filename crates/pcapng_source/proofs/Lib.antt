@@ -1,4 +1,5 @@
 pub mod Gives
+pub mod Middles
 pub mod Numbers
 pub mod Firm
 pub mod Accepted
@@ -9,3 +10,4 @@ pub mod Steps
 pub mod Bodies
 pub mod Opens
 pub mod Going
+pub mod Borders

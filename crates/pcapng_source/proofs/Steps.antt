@@ -111,7 +111,7 @@ gives-body r count front left is none few sized =
     ∙ ap (after front) (sym (rest-at new Body left is ∙ ap (λ l. after l (rest_at Body new left)) none))
 
 -- they are skipped
-skips-body : (r : Reader) (count : ℕ) (front left : List ℕ) → r.stage ≡ Body → r.owed ≡ 0 → count ≤ r.skip → length front ≡ count
+pub skips-body : (r : Reader) (count : ℕ) (front left : List ℕ) → r.stage ≡ Body → r.owed ≡ 0 → count ≤ r.skip → length front ≡ count
     → rest_of (record r { skip = r.skip - count }) left ≡ rest_of r (front ++ left)
 skips-body r count front left is owed few sized =
     let new : Reader = record r { skip = r.skip - count } in

@@ -1,4 +1,5 @@
 pub mod Given
+pub mod Held
 pub mod Order
 pub mod Fields
 pub mod Found

@@ -48,7 +48,7 @@ impl<'a, S: Source> Drop for AnySource<'a, S> {
 
 impl<'a, S: Source> AnySource<'a, S> {
     ghost use Rattle.pcapng_source.specs.Blocks.{any};
-    ghost use Rattle.pcapng_source.specs.Sources.{Stands, any_faults, any_left, any_source, any_start, met_fault};
+    ghost use Rattle.pcapng_source.specs.Sources.{Stands, any_ended, any_faults, any_lasting, any_left, any_source, any_start, met_fault};
 
     /// A source over this one, from whose start the file is read. It takes no memory.
     pub fn new(source: &'a mut S) -> AnySource<'a, S>
@@ -73,6 +73,24 @@ impl<'a, S: Source> AnySource<'a, S> {
         ensures stands { Stands self.now }
     {
         self.reader.fault()
+    }
+
+    // Reads on by steps of the reader, and shows what it can of the bytes behind. It stands apart, so that the read of a
+    // classic capture stays short.
+    #[inline(never)]
+    fn read_on(&mut self, buf: &mut [u8]) -> Result<usize, Failed>
+        requires room { 0 < length buf.old }
+        ensures bound { ReadsAtMost result buf.new }
+        ensures bytes { ReadConsumes (any_left self.old) (any_left self.new) result buf.new }
+        ensures ended { IfOk result (λ count. count ≡ 0 → any_ended self.new) }
+        ensures cause { HasCause (any_faults self.old) (any_faults self.new) result }
+        ensures lasts { any_lasting self.new ≡ any_lasting self.old }
+    {
+        let count = read_on(self.source, &mut self.reader, buf)?;
+        if count > 0 {
+            look_ahead(self.source, &mut self.reader);
+        }
+        Ok(count)
     }
 }
 
@@ -101,11 +119,11 @@ impl<'a, S: Source> Source for AnySource<'a, S> {
         if buf.is_empty() {
             return Ok(0);
         }
-        let count = read_on(self.source, &mut self.reader, buf)?;
-        if count > 0 {
-            look_ahead(self.source, &mut self.reader);
+        // A classic capture takes no step of the reader.
+        if self.reader.is_plain() {
+            return self.source.read(buf);
         }
-        Ok(count)
+        self.read_on(buf)
     }
 
     /// The bytes that were made; of a file that is no pcapng file, those that the source below has at hand.
@@ -124,6 +142,9 @@ impl<'a, S: Source> Source for AnySource<'a, S> {
     fn count_at_hand(&self) -> usize
         ensures least { HasAtLeast (any_left self.now) result }
     {
+        if self.reader.is_plain() {
+            return self.source.count_at_hand();
+        }
         let made = self.reader.made();
         made.saturating_add(self.reader.direct(self.source.count_at_hand()))
     }

@@ -2,6 +2,7 @@
 
 ghost use Rattle.std.specs.Prelude.{◌≡◌, ◌+◌, ◌-◌, ◌≤◌, List, ℕ, [], ◌++◌, length, take, drop, min, slice_range};
 
+use mos_bytes::{Failed, Source};
 use std::marker::Model;
 
 // How many bytes the longest head of a block has.
@@ -14,6 +15,7 @@ const WORD_ROOM: usize = 4;
 const MADE_ROOM: usize = 24;
 
 // Writes the bytes behind this place, and answers the place behind them.
+#[inline]
 fn put_behind(room: &mut [u8], place: usize, bytes: &[u8]) -> usize
     requires { place + length bytes.now ≤ length room.old }
     ensures place { result ≡ place + length bytes.now }
@@ -51,6 +53,8 @@ impl Model for Head {
 }
 
 impl Head {
+    ghost use Rattle.pcapng_source.specs.Held.{IsRead};
+
     pub(crate) fn new() -> Self
         ensures { result ≡ [] }
     {
@@ -66,11 +70,27 @@ impl Head {
         &self.bytes[..self.len]
     }
 
+    #[inline]
     pub(crate) fn put(&mut self, bytes: &[u8])
         requires { length self.old + length bytes.now ≤ 28 }
         ensures { self.new ≡ self.old ++ bytes.now }
     {
         self.len = put_behind(&mut self.bytes, self.len, bytes);
+    }
+
+    // Reads up to so many bytes more. A fault of the source is counted there, and not told.
+    #[inline]
+    pub(crate) fn read_more<S: Source>(&mut self, source: &mut S, most: usize)
+        requires { length self.old + most ≤ 28 }
+        ensures bytes { IsRead (S.left source.old) (S.left source.new) self.old self.new most }
+        ensures lasts { S.lasting source.new ≡ S.lasting source.old }
+        ensures source_faults { S.faults source.old ≤ S.faults source.new }
+    {
+        let end = self.len + most;
+        match source.read(&mut self.bytes[self.len..end]) {
+            Ok(count) => self.len += count,
+            Err(Failed) => {}
+        }
     }
 
     pub(crate) fn clear(&mut self)
@@ -112,6 +132,7 @@ impl Word {
         &self.bytes[..self.len]
     }
 
+    #[inline]
     pub(crate) fn put(&mut self, bytes: &[u8])
         requires { length bytes.now ≤ 4 - length self.old }
         ensures { self.new ≡ self.old ++ bytes.now }

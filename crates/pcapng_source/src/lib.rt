@@ -9,6 +9,7 @@
 #![tactic(auto)]
 
 mod any_source;
+mod border;
 mod fault;
 mod held;
 mod judge;

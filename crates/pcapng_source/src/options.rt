@@ -59,6 +59,7 @@ impl Reader {
     ghost use Rattle.pcapng_source.specs.declared.reader.Stage.TheVariants.{Body, OptionHead, Resolution};
 
     // Judges the head of an option.
+    #[inline(never)]
     pub(crate) fn take_option(&mut self)
         requires stage { self.old.stage ≡ OptionHead }
         requires word { length self.old.word ≡ 4 }
@@ -82,6 +83,7 @@ impl Reader {
         }
     }
 
+    #[inline(never)]
     pub(crate) fn take_resolution(&mut self)
         requires stage { self.old.stage ≡ Resolution }
         requires word { length self.old.word ≡ 4 }

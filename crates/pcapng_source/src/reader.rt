@@ -150,6 +150,7 @@ impl Reader {
     }
 
     // What is done with the bytes that come next, where there is so much room for them.
+    #[inline]
     pub(crate) fn next(&self, room: usize) -> Next
         requires settled { settled_at self.now.stage self.now }
         requires room { 0 < room }
@@ -168,7 +169,8 @@ impl Reader {
     }
 
     // How many bytes more of a head are to be held before it is judged again.
-    fn head_wanted(&self) -> usize
+    #[inline]
+    pub(crate) fn head_wanted(&self) -> usize
         ensures { result ≡ stop_of self.now.section.order self.now.head - length self.now.head }
     {
         let head = self.head.as_slice();
@@ -211,6 +213,7 @@ impl Reader {
     }
 
     // Holds these bytes, which come next.
+    #[inline]
     pub(crate) fn keep(&mut self, bytes: &[u8])
         requires few { length bytes.now ≤ wanted_at self.old.stage self.old }
         requires fits { IsFitting self.old }

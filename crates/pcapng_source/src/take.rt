@@ -19,18 +19,20 @@ impl Reader {
     ghost use Rattle.pcapng_source.specs.declared.reader.Stage.TheVariants.{Start, Head, Body, Trailer};
 
     // Judges what is held, and goes on where that is enough.
+    #[inline(always)]
     pub(crate) fn take(&mut self)
         requires { IsFitting self.old }
         ensures goes { Goes self.old self.new }
         ensures settled { self.new.made ≡ [] → settled_at self.new.stage self.new }
         ensures stays { IsRefused self.old.stage → self.new ≡ self.old }
     {
-        if self.made() == 0 {
+        if self.made() == 0 && self.direct(1) == 0 {
             self.take_held();
             self.leave_body();
         }
     }
 
+    #[inline(never)]
     fn take_held(&mut self)
         requires made { self.old.made ≡ [] }
         requires fits { IsFitting self.old }
@@ -49,6 +51,7 @@ impl Reader {
     }
 
     // Tells by the first four bytes whether the file is a pcapng file.
+    #[inline(never)]
     fn begin(&mut self)
         requires stage { self.old.stage ≡ Start }
         requires word { length self.old.word ≡ 4 }
@@ -68,6 +71,7 @@ impl Reader {
         }
     }
 
+    #[inline(never)]
     fn take_head(&mut self)
         requires stage { self.old.stage ≡ Head }
         requires made { self.old.made ≡ [] }

@@ -3,6 +3,8 @@
 ghost use Rattle.std.specs.Prelude.{◌≡◌, ◌^◌, ◌*◌, ◌<◌};
 ghost use Rattle.pcapng_source.specs.Packets.{micros_of};
 
+use crate::open::MICROSECONDS;
+
 // The largest power of ten that a number of 128 bits holds. A time has fewer microseconds.
 const LARGEST_POWER: u8 = 38;
 
@@ -10,6 +12,10 @@ const LARGEST_POWER: u8 = 38;
 pub(crate) fn micros_in(resolution: u8, time: u64) -> u128
     ensures { result ≡ micros_of resolution time }
 {
+    // Most interfaces tell microseconds.
+    if resolution == MICROSECONDS {
+        return u128::from(time);
+    }
     let scaled = u128::from(time) * 1_000_000;
     if resolution >= 128 {
         return scaled >> (resolution - 128);

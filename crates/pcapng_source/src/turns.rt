@@ -8,7 +8,7 @@ ghost use Rattle.mos_bytes.specs.Causes.{HasCause};
 ghost use Rattle.pcapng_source.specs.Outlooks.{Gives, IsOver, ReadGives, StepEnds, StepFalls, StepFits, StepGives, faults_with, outlook};
 ghost use Rattle.pcapng_source.specs.Reading.{IsFitting, IsOpen, IsSpent, direct_at, settled_at, skipped_at, wanted_at, weight_of};
 
-use crate::reader::{Next, Reader};
+use crate::reader::{Next, Reader, Stage};
 use mos_bytes::{Failed, Source};
 
 // How many bytes are skipped at once.
@@ -16,6 +16,10 @@ const SKIPPED: usize = 512;
 
 // How many bytes are held at once: at most the head of a block.
 const HELD: usize = 28;
+
+// How many bytes lead from the data of a packet to the next block at most: three that pad the data, the second total
+// length, and the first fields.
+const BORDER: usize = 15;
 
 // Gives up to so many of the next bytes as they are.
 fn give<S: Source>(
@@ -199,6 +203,48 @@ fn step_ahead<S: Source>(source: &mut S, reader: &mut Reader) -> bool
     }
 }
 
+// Goes from the data of a packet to the next block at once, where its first fields are at hand.
+fn cross<S: Source>(source: &mut S, reader: &mut Reader)
+    requires made { reader.old.made ≡ [] }
+    requires fits { IsFitting reader.old }
+    requires spent { IsSpent reader.old }
+    ensures gives { Gives (outlook reader.old (S.left source.old)) (outlook reader.new (S.left source.new)) [] }
+    ensures later { faults_with reader.old (S.faults source.old) ≤ faults_with reader.new (S.faults source.new) }
+    ensures lasts { S.lasting source.new ≡ S.lasting source.old }
+    ensures fits { IsFitting reader.new }
+    ensures spent { IsSpent reader.new }
+    ensures source_faults { S.faults source.old ≤ S.faults source.new }
+{
+    let border = reader.border();
+    if border == 0 || source.count_at_hand() < border {
+        return;
+    }
+    let mut bytes = [0; BORDER];
+    let Ok(count) = source.read(&mut bytes[..border]) else {
+        return;
+    };
+    reader.cross(&bytes[..count]);
+}
+
+// Holds what is left of a head, where it is at hand: so a whole head is judged once.
+fn hold_head<S: Source>(source: &mut S, reader: &mut Reader)
+    requires fits { IsFitting reader.old }
+    requires spent { IsSpent reader.old }
+    ensures gives { Gives (outlook reader.old (S.left source.old)) (outlook reader.new (S.left source.new)) [] }
+    ensures later { faults_with reader.old (S.faults source.old) ≤ faults_with reader.new (S.faults source.new) }
+    ensures lasts { S.lasting source.new ≡ S.lasting source.old }
+    ensures fits { IsFitting reader.new }
+    ensures spent { IsSpent reader.new }
+    ensures source_faults { S.faults source.old ≤ S.faults source.new }
+{
+    if let Stage::Head = reader.stage {
+        let wanted = reader.head_wanted();
+        if wanted > 0 && source.count_at_hand() >= wanted {
+            reader.head.read_more(source, wanted);
+        }
+    }
+}
+
 // Goes on by bytes that are at hand, until bytes are made or stand next in the file: so that these can be shown.
 pub(crate) fn look_ahead<S: Source>(source: &mut S, reader: &mut Reader)
     requires fits { IsFitting reader.old }
@@ -210,5 +256,10 @@ pub(crate) fn look_ahead<S: Source>(source: &mut S, reader: &mut Reader)
     ensures spent { IsSpent reader.new }
     ensures source_faults { S.faults source.old ≤ S.faults source.new }
 {
+    if reader.made() > 0 || reader.direct(1) > 0 {
+        return;
+    }
+    cross(source, reader);
+    hold_head(source, reader);
     while step_ahead(source, reader) {}
 }
