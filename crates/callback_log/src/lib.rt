@@ -6,5 +6,7 @@
 
 mod log;
 mod note;
+mod walk;
 
 pub use log::CallbackLog;
+pub use walk::{Callback, Callbacks};

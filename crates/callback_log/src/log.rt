@@ -5,6 +5,7 @@ ghost use Rattle.std.specs.Vec.Iter.{into_iter_items};
 ghost use Rattle.callback_log.specs.Entries.{seen_first, seen_later, seen_kept};
 
 use crate::note::{Note, has_seen};
+use crate::walk::Callbacks;
 use app_api::{Entry, EntryList, Seen};
 use std::alloc::{AllocError, Global};
 use std::marker::Model;
@@ -64,6 +65,13 @@ impl CallbackLog {
         keep_seen(&mut self.peeks, seen)?;
         self.notes.push_reserved(note);
         Ok(())
+    }
+
+    /// The callbacks in order.
+    pub fn callbacks(&self) -> Callbacks<'_>
+        ensures { result ≡ self.now }
+    {
+        Callbacks::new(self.notes.as_slice(), self.peeks.as_slice())
     }
 
     /// The callbacks as entries, in memory for just so many. An error is want of memory.
