@@ -1,5 +1,4 @@
-use Rattle.std.proofs.Common.{◌≡◌, ◌++◌, ◌∷◌, [], ap, ◌∙◌}
-use Rattle.callback_log.specs.declared.note.Note.{Note}
+use Rattle.std.proofs.Common.{◌++◌, ◌∷◌, [], ap, ◌∙◌}
 use Rattle.callback_log.proofs.Keeping.{Kept, entries_of-kept, peeks_in-kept}
 use Rattle.callback_log.proofs.log.CallbackLog.push.Goals as goal
 
