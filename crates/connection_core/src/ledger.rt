@@ -3,7 +3,8 @@
 ghost use Rattle.std.specs.Prelude.{◌≡◌, ◌+◌, ◌<◌, ◌≤◌, ◌^◌, ◌++◌, ◌∷◌, [], None, OnOk, if◌then◌else◌};
 ghost use Rattle.connection_core.specs.Course.{first_reason};
 
-use app_api::{Change1, Entry, EntryList, Reaction, Reason, Tally};
+use app_api::{Change1, Entry, Reaction, Reason, Tally};
+use callback_log::CallbackLog;
 use std::alloc::{AllocError, Global};
 
 /// What is kept of a record's callbacks.
@@ -12,7 +13,7 @@ pub struct Notes {
     /// What the application keeps.
     pub tally: Tally,
     /// The callbacks in order, where entries are kept.
-    pub entries: EntryList,
+    pub entries: CallbackLog,
 }
 
 /// What a run's callbacks amount to.
@@ -43,9 +44,7 @@ impl Notes {
     {
         Notes {
             tally,
-            entries: EntryList {
-                items: Vec::new(alloc),
-            },
+            entries: CallbackLog::new(alloc),
         }
     }
 
@@ -57,8 +56,7 @@ impl Notes {
         if !keep {
             return Ok(());
         }
-        self.entries.items.push(entry)?;
-        Ok(())
+        self.entries.push(entry)
     }
 }
 

@@ -386,11 +386,14 @@ fn is_told(
         drops: drops.items.len() as u64,
         tail: 0,
     };
+    let Ok(entries) = notes.entries.into_list(alloc) else {
+        return false;
+    };
     let record = Record {
         name: 0,
         kind,
         version,
-        entries: notes.entries,
+        entries,
         drops,
         fields: FieldList {
             items: Vec::new(alloc),

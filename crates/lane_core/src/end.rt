@@ -78,7 +78,7 @@ fn ended<A: App>(alloc: Global, app: &A, slot: Slot) -> Result<Record, AllocErro
         name,
         kind,
         version,
-        entries: notes.entries,
+        entries: notes.entries.into_list(alloc)?,
         drops,
         fields,
     })
