@@ -1,21 +1,20 @@
 //! Times of packets.
 
-ghost use Rattle.std.specs.Prelude.{◌≡◌, ◌^◌, ◌*◌, ◌<◌};
+ghost use Rattle.std.specs.Prelude.{◌≡◌, ◌^◌, ◌*◌, ◌/◌, ◌%◌, ◌<◌};
 ghost use Rattle.pcapng_source.specs.Packets.{micros_of};
 
 use crate::open::MICROSECONDS;
+
+// How many microseconds a second has.
+const SECOND: u64 = 1_000_000;
 
 // The largest power of ten that a number of 128 bits holds. A time has fewer microseconds.
 const LARGEST_POWER: u8 = 38;
 
 // A time of this resolution in microseconds, rounded down.
-pub(crate) fn micros_in(resolution: u8, time: u64) -> u128
+fn micros_in(resolution: u8, time: u64) -> u128
     ensures { result ≡ micros_of resolution time }
 {
-    // Most interfaces tell microseconds.
-    if resolution == MICROSECONDS {
-        return u128::from(time);
-    }
     let scaled = u128::from(time) * 1_000_000;
     if resolution >= 128 {
         return scaled >> (resolution - 128);
@@ -24,4 +23,21 @@ pub(crate) fn micros_in(resolution: u8, time: u64) -> u128
         return 0;
     }
     scaled / 10_u128.pow(u32::from(resolution))
+}
+
+// A time of this resolution as a record tells it: its seconds modulo 2^32, and its microseconds.
+pub(crate) fn seconds_and_micros(resolution: u8, time: u64) -> (u32, u32)
+    ensures seconds { result.0 ≡ micros_of resolution time / 1000000 % 2 ^ 32 }
+    ensures micros { result.1 ≡ micros_of resolution time % 1000000 }
+{
+    // Most interfaces tell microseconds, and these need no long division.
+    if resolution == MICROSECONDS {
+        return ((time / SECOND % (1 << 32)) as u32, (time % SECOND) as u32);
+    }
+    let micros = micros_in(resolution, time);
+    let second = u128::from(SECOND);
+    (
+        (micros / second % (1 << 32)) as u32,
+        (micros % second) as u32,
+    )
 }

@@ -13,8 +13,8 @@ returns-then-resolution-gt-LARGEST_POWER c =
 
 pub pow-requires : goal.pow-requires
 pow-requires c =
-    let bound : 10 ^ c.from-2.result ≤ 10 ^ 38 = pow-le-pow_right {n = 10} (lit< tt) {i = c.from-2.result} {j = 38} (omega arith) in
+    let bound : 10 ^ c.from.result ≤ 10 ^ 38 = pow-le-pow_right {n = 10} (lit< tt) {i = c.from.result} {j = 38} (omega arith) in
     omega (arith, bound)
 
 pub nonzero_div-result : goal.nonzero_div-result
-nonzero_div-result c = omega (arith, c.pow.ensures, one-le-pow c.from-2.result 10 (lit< tt))
+nonzero_div-result c = omega (arith, c.pow.ensures, one-le-pow c.from.result 10 (lit< tt))
