@@ -19,12 +19,13 @@ use Rattle.connection_core.specs.Standing.{IsFlow, IsConnection}
 use Rattle.connection_core.specs.Trees.{InternsWithin}
 use Rattle.lane_core.specs.declared.connection.Connection.{Connection}
 use Rattle.lane_core.specs.declared.slot.Slot.{Slot}
+use Rattle.lane_core.specs.declared.kept.Kept.{Kept}
 use Rattle.lane_core.specs.Sight.{Segment, Tcp, Moment, key_of_segment}
 use Rattle.lane_core.specs.Records.{RecordSoFar, VersionedPacket, is_open_at, side_of, side_in, history_after, verdict_after, verdict_among, started_by, continued_by, placed}
 use Rattle.lane_core.specs.Shown.{alterations, drops_of as drops_in}
 use Rattle.lane_core.specs.Places.{place_of, IsSingle}
 use Rattle.lane_core.specs.Steps.{stepped, Stepping, IsStep, Follows, Failed}
-use Rattle.lane_core.specs.Kept.{IsOpen, IsOpenAt, AreKept, slot_of, arrived}
+use Rattle.lane_core.specs.Kept.{IsOpen, IsOpenAt, AreKept, Keeps, slot_of, arrived}
 use Rattle.lane_core.proofs.Places.{place_by-within, place_by-passes, joins, IsSingle-set}
 use Rattle.lane_core.proofs.Holding.{left_of_and, holds_before, holds_after, unended}
 use Rattle.lane_core.proofs.Totals.{others_of, others_and, others_with, InternsWithin-others}
@@ -154,12 +155,17 @@ module _ (app : Meaning) (control_at : ℕ → ControlState) (keep : Bool) (m : 
     pub verdict_is : step.verdict ≡ verdict_among app control_at p pasts
     pub dropped : drops_in (placed app control_at p pasts) ≡ drops_in pasts + length (drops_of step.verdict p.arrival.number)
 
-  pub continued : (content content' : Shared → TreeLists) (interns interns' : Option ℕ) (flows after : Flows Connection) (slots slots' : List Slot) (counts counts' : Counts) (key : EndpointPair) (version number : ℕ) (moment : Moment) (segment : Segment) (step : Step) (pasts : List RecordSoFar)
-      → ((v : ℕ) → Tells m v (control_at v)) → ((k : EndpointPair) (x : Connection) → found flows k ≡ Some x → content' x.flow.forest ≡ content x.flow.forest)
-      → AreKept keep told content flows slots counts pasts → key ≡ key_of_segment segment
-      → Follows app keep m content content' interns interns' flows after slots slots' counts counts' key number moment segment step
-      → Continued content' interns interns' after slots' counts' (arrived version number moment (Tcp segment)) step pasts
-  continued content content' interns interns' flows after slots slots' counts counts' key version number moment segment step pasts tells stored stands key_is f =
+  pub continued : (content content' : Shared → TreeLists) (interns interns' : Option ℕ) (kept kept' : Kept) (key : EndpointPair) (version number : ℕ) (moment : Moment) (segment : Segment) (step : Step) (pasts : List RecordSoFar)
+      → ((v : ℕ) → Tells m v (control_at v)) → ((k : EndpointPair) (x : Connection) → found kept.flows k ≡ Some x → content' x.flow.forest ≡ content x.flow.forest)
+      → Keeps keep told content kept pasts → key ≡ key_of_segment segment
+      → Follows app keep m content content' interns interns' kept kept' key number moment segment step
+      → Continued content' interns interns' kept'.flows kept'.slots.items kept'.ledger.counts (arrived version number moment (Tcp segment)) step pasts
+  continued content content' interns interns' kept kept' key version number moment segment step pasts tells stored stands key_is f =
+      let flows = kept.flows in
+      let after = kept'.flows in
+      let slots = kept.slots.items in
+      let counts = kept.ledger.counts in
+      let counts' = kept'.ledger.counts in
       let p = arrived version number moment (Tcp segment) in
       let own = key_of_segment segment in
       let i = f.conn.place in
@@ -209,11 +215,14 @@ module _ (app : Meaning) (control_at : ℕ → ControlState) (keep : Bool) (m : 
       }
 
   -- the open connection failed to take it
-  pub continued_costs : (content : Shared → TreeLists) (interns interns' : Option ℕ) (flows : Flows Connection) (slots : List Slot) (counts : Counts) (key : EndpointPair) (version number : ℕ) (moment : Moment) (segment : Segment) (pasts : List RecordSoFar)
-      → ((v : ℕ) → Tells m v (control_at v)) → AreKept keep told content flows slots counts pasts → key ≡ key_of_segment segment
-      → Failed app keep m content interns interns' flows slots counts key number segment
+  pub continued_costs : (content : Shared → TreeLists) (interns interns' : Option ℕ) (kept : Kept) (key : EndpointPair) (version number : ℕ) (moment : Moment) (segment : Segment) (pasts : List RecordSoFar)
+      → ((v : ℕ) → Tells m v (control_at v)) → Keeps keep told content kept pasts → key ≡ key_of_segment segment
+      → Failed app keep m content interns interns' kept key number moment segment
       → InternsWithin interns interns' (alterations pasts) (alterations (placed app control_at (arrived version number moment (Tcp segment)) pasts))
-  continued_costs content interns interns' flows slots counts key version number moment segment pasts tells stands key_is f =
+  continued_costs content interns interns' kept key version number moment segment pasts tells stands key_is f =
+      let flows = kept.flows in
+      let slots = kept.slots.items in
+      let counts = kept.ledger.counts in
       let p = arrived version number moment (Tcp segment) in
       let own = key_of_segment segment in
       let i = f.conn.place in

@@ -1,21 +1,29 @@
--- A silent connection ends, and then the packet is placed: so the packet is added.
-use Rattle.std.proofs.Common.{◌≡◌, ℕ, ◌+◌, Bool, Option, None, List, [], ◌∷◌, length, refl, ap, subst, ◌∙◌, map}
+-- A silent connection ends, and then the packet is placed: so the packet is added. And where none was silent, it is placed at once.
+use Rattle.std.proofs.Common.{◌≡◌, ℕ, ◌+◌, Bool, false, Option, Some, None, List, [], ◌∷◌, length, refl, sym, ap, subst, ◌∙◌, map}
 use Rattle.packet_views.specs.declared.packet.Class.{Class}
 use Rattle.flow_table.specs.Key.{EndpointPair}
+use Rattle.flow_table.specs.Table.{found}
 use Rattle.app_api.specs.App.{Meaning}
 use Rattle.app_api.specs.declared.reaction.Verdict.{Verdict}
 use Rattle.shared_forest.specs.declared.store.Shared.{Shared}
 use Rattle.shared_forest.specs.Lists.{TreeLists}
 use Rattle.forest_versions.specs.State.{ControlState}
-use Rattle.forest_versions.specs.Master.{Versions}
+use Rattle.forest_versions.specs.Master.{Versions, Tells}
+use Rattle.connection_core.specs.declared.flow.Step.{Step}
 use Rattle.connection_core.specs.History.{drops_of}
+use Rattle.connection_core.specs.InForce.{told_at}
 use Rattle.connection_core.specs.Trees.{InternsWithin}
+use Rattle.lane_core.specs.declared.connection.Connection.{Connection}
 use Rattle.lane_core.specs.declared.kept.Kept.{Kept}
 use Rattle.lane_core.specs.Sight.{Segment, Tcp, Other, Moment, key_of_segment}
-use Rattle.lane_core.specs.Records.{RecordSoFar, VersionedPacket, ended_before, added}
+use Rattle.lane_core.specs.Records.{RecordSoFar, VersionedPacket, started_by, ended_before, placed, verdict_among, added}
 use Rattle.lane_core.specs.Shown.{alterations}
 use Rattle.lane_core.specs.Places.{place_of}
-use Rattle.lane_core.specs.Kept.{AddsTo, SetsAmong, CostsAtMost, CostsAmong, EndsSilent, LeavesNone, arrived}
+use Rattle.lane_core.specs.Silences.{IsSilent, IsHeard}
+use Rattle.lane_core.specs.Steps.{Follows, Failed}
+use Rattle.lane_core.specs.Kept.{Keeps, Makes, AddsTo, SetsAmong, CostsAtMost, CostsAmong, EndsSilent, LeavesNone, arrived}
+use Rattle.lane_core.proofs.Continued.{continued, continued_costs}
+use Rattle.lane_core.proofs.Silencing.{heard_before_is}
 use Rattle.lane_core.proofs.Ended.{ends_before, drops-kept, alterations-kept}
 use Rattle.lane_core.proofs.Started.{stray_costs}
 
@@ -61,3 +69,33 @@ module _ (app : Meaning) (keep : Bool) (m : Versions) (content content' : Shared
       altered_since control_at pasts interns interns
       (stray_costs app control_at keep m interns packet before
       (subst (λ k. place_of k before ≡ None) key_is (none control_at pasts version number segment tells key_is stands)))
+
+-- ---- a packet of an open connection that wasn't silent for too long
+
+module _ (app : Meaning) (keep : Bool) (m : Versions) (content content' : Shared → TreeLists) (interns interns' : Option ℕ) (kept : Kept) (key : EndpointPair)
+    (version number : ℕ) (moment : Moment) (segment : Segment) (key_is : key ≡ key_of_segment segment) where
+  abbrev heard_packet : VersionedPacket
+  heard_packet = arrived version number moment (Tcp segment)
+
+  -- no record ends before it
+  none_ends : (control_at : ℕ → ControlState) (pasts : List RecordSoFar) → ((v : ℕ) → Tells m v (control_at v)) → Keeps keep (told_at m) content kept pasts
+      → (conn : Connection) → found kept.flows key ≡ Some conn → IsSilent m conn moment false → map (ended_before app control_at heard_packet) pasts ≡ pasts
+  none_ends control_at pasts tells stands conn was heard =
+      heard_before_is app control_at keep m tells moment content kept.flows kept.slots.items kept.ledger.counts key pasts stands version number segment key_is
+      (subst (λ o. IsHeard m moment o) (sym was) heard) (started_by app control_at heard_packet)
+
+  pub followed_adds : (kept' : Kept) (step : Step)
+      → ((k : EndpointPair) (x : Connection) → found kept.flows k ≡ Some x → content' x.flow.forest ≡ content x.flow.forest)
+      → Follows app keep m content content' interns interns' kept kept' key number moment segment step
+      → AddsTo app keep m heard_packet content interns kept content' interns' kept' step.verdict
+  followed_adds kept' step stored f = λ control_at pasts tells now stands.
+      let s = continued app control_at keep m content content' interns interns' kept kept' key version number moment segment step pasts tells stored stands key_is f in
+      subst (λ l. Makes number pasts (placed app control_at heard_packet l) (verdict_among app control_at heard_packet l) keep (told_at m) content' kept' interns' interns step.verdict)
+      (sym (none_ends control_at pasts tells stands f.conn f.was f.heard))
+      (record { stands = s.stands; interned = s.interned; verdict_is = s.verdict_is; dropped = s.dropped })
+
+  pub failed_costs : Failed app keep m content interns interns' kept key number moment segment → CostsAtMost app keep m heard_packet content kept interns interns'
+  failed_costs f = λ control_at pasts tells now stands.
+      subst (λ l. InternsWithin interns interns' (alterations pasts) (alterations (placed app control_at heard_packet l)))
+      (sym (none_ends control_at pasts tells stands f.conn f.was f.heard))
+      (continued_costs app control_at keep m content interns interns' kept key version number moment segment pasts tells stands key_is f)

@@ -1,5 +1,5 @@
 -- An open connection that made a step is closed where it is over.
-use Rattle.std.proofs.Common.{◌≡◌, ℕ, Bool, true, false, Option, Some, None, List, refl, ◌∙◌}
+use Rattle.std.proofs.Common.{◌≡◌, ℕ, Bool, true, false, Option, Some, None, refl, ◌∙◌}
 use Rattle.std.specs.Prelude.{if◌then◌else◌, ◌&&◌}
 use Rattle.flow_table.specs.Key.{EndpointPair, same_key}
 use Rattle.flow_table.specs.Table.{Flows, found}
@@ -8,9 +8,8 @@ use Rattle.shared_forest.specs.declared.store.Shared.{Shared}
 use Rattle.shared_forest.specs.Lists.{TreeLists}
 use Rattle.forest_versions.specs.Master.{Versions}
 use Rattle.connection_core.specs.declared.flow.Step.{Step}
-use Rattle.connection_core.specs.declared.ledger.Counts.{Counts}
 use Rattle.lane_core.specs.declared.connection.Connection.{Connection}
-use Rattle.lane_core.specs.declared.slot.Slot.{Slot}
+use Rattle.lane_core.specs.declared.kept.Kept.{Kept}
 use Rattle.lane_core.specs.Sight.{Segment, Moment}
 use Rattle.lane_core.specs.Steps.{Steps, Follows}
 
@@ -22,18 +21,19 @@ settled_at false true old mid after is = is
 settled_at false false old mid after is = is
 
 pub settled : (app : Meaning) (keep : Bool) (m : Versions) (content content_after : Shared → TreeLists) (interns interns_after : Option ℕ)
-    (old mid new : Flows Connection) (slots slots_after : List Slot) (counts counts_after : Counts) (key : EndpointPair) (number : ℕ) (moment : Moment) (segment : Segment) (step : Step)
-    → Steps app keep m content content_after interns interns_after old mid slots slots_after counts counts_after key number moment segment step
-    → ((other : EndpointPair) → found new other ≡ (if step.over && same_key key other then None else found mid other))
-    → Follows app keep m content content_after interns interns_after old new slots slots_after counts counts_after key number moment segment step
-settled app keep m content content_after interns interns_after old mid new slots slots_after counts counts_after key number moment segment step s left = record {
+    (kept mid : Kept) (new : Flows Connection) (key : EndpointPair) (number : ℕ) (moment : Moment) (segment : Segment) (step : Step)
+    → Steps app keep m content content_after interns interns_after kept mid key number moment segment step
+    → ((other : EndpointPair) → found new other ≡ (if step.over && same_key key other then None else found mid.flows other))
+    → Follows app keep m content content_after interns interns_after kept (record mid { flows = new }) key number moment segment step
+settled app keep m content content_after interns interns_after kept mid new key number moment segment step s left = record {
   conn = s.conn;
   conn_after = s.conn_after;
   slot = s.slot;
   slot_after = s.slot_after;
   was = s.was;
+  heard = s.heard;
   slot_is = s.slot_is;
   step_is = s.step_is;
-  left = λ other. left other ∙ settled_at step.over (same_key key other) (found old other) (found mid other) s.conn_after (s.left other);
+  left = λ other. left other ∙ settled_at step.over (same_key key other) (found kept.flows other) (found mid.flows other) s.conn_after (s.left other);
   noted = s.noted;
 }

@@ -4,7 +4,7 @@ use Rattle.std.proofs.lemmas.List.{map-set, get_or-map, set-get_or}
 use Rattle.std.specs.Prelude.{if◌then◌else◌, ◌&&◌}
 use Rattle.flow_table.specs.Key.{EndpointPair, same_key}
 use Rattle.flow_table.specs.Table.{Flows, found}
-use Rattle.flow_table.proofs.Keys.{same_key-equal}
+use Rattle.flow_table.proofs.Keys.{same_key-equal, same_key-reflexive}
 use Rattle.app_api.specs.App.{Meaning}
 use Rattle.native_filters.specs.declared.facts.Facts.{Facts}
 use Rattle.native_filters.specs.declared.facts.Hook.TheVariants.{Rcv}
@@ -27,7 +27,7 @@ use Rattle.lane_core.specs.Sight.{Segment, Sight, Tcp, Other, Moment, key_of_seg
 use Rattle.lane_core.specs.Records.{RecordSoFar, VersionedPacket, opens, is_open_at, belongs_to, timer_raise_of, is_past, is_silent, started_by, ended_before}
 use Rattle.lane_core.specs.Shown.{kind_of}
 use Rattle.lane_core.specs.Places.{place_of, IsSingle}
-use Rattle.lane_core.specs.Silences.{raise_in, IsSilent, IsHeard, silent_history, Silences, Goes}
+use Rattle.lane_core.specs.Silences.{raise_in, IsSilent, IsHeard, IsGone, silent_history, Silences, Goes}
 use Rattle.lane_core.specs.Kept.{IsOpen, IsOpenAt, AreKept, slot_of, arrived}
 use Rattle.lane_core.proofs.Places.{place_by-within, place_by-passes, place_by-cleared, IsSingle-set}
 use Rattle.lane_core.proofs.Holding.{left_of_and, holds_before}
@@ -49,6 +49,18 @@ raise_by_facts (Orphan class) count facts is = ap (λ (f : Facts). record { hook
 
 false_is_true : false ≡ true → ⊥
 false_is_true e = cc
+
+-- what neither goes on nor was silent for too long isn't there
+pub unheard_gone : (m : Versions) (now : Moment) (o : Option Connection) → ((v : ℕ) → (s : ControlState) × Tells m v s) → IsGone m now o → IsHeard m now o → o ≡ None
+unheard_gone m now None told gone heard = refl
+unheard_gone m now (Some conn) told gone heard =
+    let t = told conn.version in
+    absurd (false_is_true (sym (heard t.0 t.1) ∙ gone t.0 t.1))
+
+-- where nothing is limited, nothing is silent for too long
+pub never_heard : (m : Versions) (now : Moment) (o : Option Connection) → ((v : ℕ) (s : ControlState) → Tells m v s → s.idle ≡ None) → IsHeard m now o
+never_heard m now None never = tt
+never_heard m now (Some conn) never = λ control tells. ap (λ l. is_past l conn.moment now) (never conn.version control tells)
 
 -- what the table has for a key, after a connection was taken from it
 taken_at : (told : ℕ → ℕ → Option Reg) (content : Shared → TreeLists) (flows after : Flows Connection) (pasts : List RecordSoFar) (i : ℕ) (past d : RecordSoFar) (own key : EndpointPair) (same : Bool)
@@ -199,6 +211,16 @@ module _ (app : Meaning) (control_at : ℕ → ControlState) (keep : Bool) (m : 
         let d = started_by app control_at (arrived version number now (Tcp segment)) in
         let n = goes refl in
         subst (λ l. AreKept keep told content new slots' counts' l) (sym (heard_before_is version number segment key_is n.heard d)) (kept_same new slots' counts' n)
+
+  -- none of the key is open after the end of what didn't go on
+  pub none_open : (content : Shared → TreeLists) (old new : Flows Connection) (slots slots' : List Slot) (counts counts' : Counts) (key : EndpointPair) (ended : Bool)
+      → (ended ≡ true → Silences app keep m content old new slots slots' counts counts' key now) → (ended ≡ false → Goes m old new slots slots' counts counts' key now)
+      → IsGone m now (found old key) → found new key ≡ None
+  none_open content old new slots slots' counts counts' key true silences goes gone =
+      (silences refl).left key ∙ ap (λ b. if b then None else found old key) (same_key-reflexive key)
+  none_open content old new slots slots' counts counts' key false silences goes gone =
+      let n = goes refl in
+      ap (λ (f : Flows Connection). found f key) n.flows_are ∙ unheard_gone m now (found old key) (λ v. (control_at v, tells v)) gone n.heard
 
   -- ---- where nothing is limited
 

@@ -1,9 +1,11 @@
 -- What holds of each open connection, as one of them makes a step, is closed, or is added.
-use Rattle.std.proofs.Common.{◌≡◌, ℕ, ◌+◌, ◌≤◌, Bool, true, false, Option, Some, None, sym, ap, subst, ◌∙◌, arith, Result, Ok, Err}
+use Rattle.std.proofs.Common.{◌≡◌, ℕ, ◌+◌, ◌≤◌, Bool, true, false, Option, Some, None, refl, sym, ap, subst, ◌∙◌, arith, Result, Ok, Err}
 use Rattle.std.proofs.lemmas.Option.{same_Some}
 use Rattle.std.specs.Prelude.{if◌then◌else◌, ◌&&◌, not, OnOk, OnErr}
 use Rattle.flow_table.specs.Key.{EndpointPair, same_key}
 use Rattle.flow_table.specs.Table.{Flows, found}
+use Rattle.flow_table.proofs.Keys.{keys_total, exact_keys, same_key-equal}
+use Rattle.std.specs.FinMap.{same_map}
 use Rattle.shared_forest.specs.declared.store.Shared.{Shared}
 use Rattle.shared_forest.specs.Lists.{TreeLists}
 use Rattle.shared_forest.specs.Store.{Keeps}
@@ -20,6 +22,17 @@ pub all_stepped : (P Q : Connection → Type 0) (old new : Flows Connection) (ke
     → Q after → ((key : EndpointPair) (x : Connection) → found old key ≡ Some x → P x → Q x) → AllOpen P old → AllOpen Q new
 all_stepped P Q old new key after left here others all q x is =
     stepped_case Q (same_key key q) (found old q) after x here (λ y there. others q y there (all q y there)) (sym (left q) ∙ is)
+
+as_before : (same : Bool) (flows : Flows Connection) (key other : EndpointPair) (conn : Connection) → same_key key other ≡ same → found flows key ≡ Some conn
+    → (if same then Some conn else found flows other) ≡ found flows other
+as_before true flows key other conn is was = sym was ∙ ap (λ k. found flows k) (same_key-equal key other is)
+as_before false flows key other conn is was = refl
+
+-- one was looked at, and stays as it was
+pub same_flows : (old new : Flows Connection) (key : EndpointPair) (conn : Connection)
+    → ((other : EndpointPair) → found new other ≡ (if same_key key other then Some conn else found old other)) → found old key ≡ Some conn → new ≡ old
+same_flows old new key conn left was =
+    same_map keys_total exact_keys new old (λ q. left q ∙ as_before (same_key key q) old key q conn refl was)
 
 there_before : (b : Bool) (o : Option Connection) (x : Connection) → (if b then None else o) ≡ Some x → o ≡ Some x
 there_before true o x is = absurd (cc)

@@ -38,6 +38,11 @@ abbrev pub IsHeard : Versions → Moment → Option Connection → Type 0
 IsHeard m now None = ⊤
 IsHeard m now (Some conn) = IsSilent m conn now false
 
+-- nothing that is open for a key goes on: there is none, or it was silent for too long
+abbrev pub IsGone : Versions → Moment → Option Connection → Type 0
+IsGone m now None = ⊤
+IsGone m now (Some conn) = IsSilent m conn now true
+
 -- a connection was taken from the table
 abbrev pub IsTaken : Flows Connection → Flows Connection → EndpointPair → Type 0
 IsTaken old new key = (other : EndpointPair) → found new other ≡ (if same_key key other then None else found old other)

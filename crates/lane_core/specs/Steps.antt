@@ -1,7 +1,7 @@
 -- Only for proofs: what a packet does to an open connection, to the record under way and to the table of open connections.
-use Rattle.std.specs.Prelude.{◌≡◌, ℕ, Bool, Option, Some, None, List, [], ◌++◌, if◌then◌else◌, slice_set, get_or}
+use Rattle.std.specs.Prelude.{◌≡◌, ℕ, Bool, false, Option, Some, None, List, [], ◌++◌, if◌then◌else◌, slice_set, get_or}
 use Rattle.flow_table.specs.Key.{EndpointPair, same_key}
-use Rattle.flow_table.specs.Table.{Flows, found}
+use Rattle.flow_table.specs.Table.{found}
 use Rattle.app_api.specs.App.{Meaning}
 use Rattle.app_api.specs.declared.registration.Reg.{Reg}
 use Rattle.builtin_events.specs.declared.raise.Raise.{Raise}
@@ -19,8 +19,10 @@ use Rattle.connection_core.specs.Standing.{IsFlow, IsConnection, IsNoted}
 use Rattle.connection_core.specs.Trees.{InternsWithin}
 use Rattle.lane_core.specs.declared.connection.Connection.{Connection}
 use Rattle.lane_core.specs.declared.slot.Slot.{Slot}
+use Rattle.lane_core.specs.declared.kept.Kept.{Kept}
 use Rattle.lane_core.specs.Sight.{Segment, Moment}
 use Rattle.lane_core.specs.Records.{side_of}
+use Rattle.lane_core.specs.Silences.{IsSilent}
 
 -- a history after one more packet of its connection
 abbrev pub stepped : Meaning → ControlState → Connection → ℕ → Segment → History → History
@@ -77,45 +79,48 @@ pub record IsLone (app : Meaning) (keep : Bool) (control : ControlState) (slot s
   pub passes : (others : Counts) → IsNoted keep others app.fresh [] slot.notes counts → verdict_is ≡ orphan_verdict app control number raises
   pub dropped : (others : Counts) → IsNoted keep others app.fresh [] slot.notes counts → (orphaned app control number raises).drops ≡ drops_of verdict_is number
 
--- the open connection of a key made a step, and all else is as it was
+-- the open connection of a key, which wasn't silent for too long, made a step, and all else is as it was
 pub record Steps (app : Meaning) (keep : Bool) (m : Versions) (content content_after : Shared → TreeLists) (interns interns_after : Option ℕ)
-    (old new : Flows Connection) (slots slots_after : List Slot) (counts counts_after : Counts) (key : EndpointPair) (number : ℕ) (moment : Moment) (segment : Segment) (step : Step) : Type 0 where
+    (kept kept_after : Kept) (key : EndpointPair) (number : ℕ) (moment : Moment) (segment : Segment) (step : Step) : Type 0 where
   pub conn : Connection
   pub conn_after : Connection
   pub slot : Slot
   pub slot_after : Slot
-  pub was : found old key ≡ Some conn
-  pub slot_is : slot ≡ get_or slots conn.place slot
+  pub was : found kept.flows key ≡ Some conn
+  pub heard : IsSilent m conn moment false
+  pub slot_is : slot ≡ get_or kept.slots.items conn.place slot
   pub step_is : (control : ControlState) → Tells m conn.version control
       → IsStep app keep (told_at m conn.version) control (content conn.flow.forest) (content_after conn_after.flow.forest) interns interns_after
-      conn conn_after slot slot_after counts counts_after number moment segment step
-  pub left : (other : EndpointPair) → found new other ≡ (if same_key key other then Some conn_after else found old other)
-  pub noted : slots_after ≡ slice_set slots conn.place slot_after
+      conn conn_after slot slot_after kept.ledger.counts kept_after.ledger.counts number moment segment step
+  pub left : (other : EndpointPair) → found kept_after.flows other ≡ (if same_key key other then Some conn_after else found kept.flows other)
+  pub noted : kept_after.slots.items ≡ slice_set kept.slots.items conn.place slot_after
 
--- the open connection of a key failed to make a step
+-- the open connection of a key, which wasn't silent for too long, failed to make a step
 pub record Failed (app : Meaning) (keep : Bool) (m : Versions) (content : Shared → TreeLists) (interns interns_after : Option ℕ)
-    (flows : Flows Connection) (slots : List Slot) (counts : Counts) (key : EndpointPair) (number : ℕ) (segment : Segment) : Type 0 where
+    (kept : Kept) (key : EndpointPair) (number : ℕ) (moment : Moment) (segment : Segment) : Type 0 where
   pub conn : Connection
   pub slot : Slot
-  pub was : found flows key ≡ Some conn
-  pub slot_is : slot ≡ get_or slots conn.place slot
+  pub was : found kept.flows key ≡ Some conn
+  pub heard : IsSilent m conn moment false
+  pub slot_is : slot ≡ get_or kept.slots.items conn.place slot
   pub costs : (control : ControlState) → Tells m conn.version control
-      → StepCosts app keep (told_at m conn.version) control (content conn.flow.forest) interns interns_after conn slot counts number segment
+      → StepCosts app keep (told_at m conn.version) control (content conn.flow.forest) interns interns_after conn slot kept.ledger.counts number segment
 
--- the open connection of a key made a step, and it was closed where it is over
+-- the open connection of a key, which wasn't silent for too long, made a step, and it was closed where it is over
 pub record Follows (app : Meaning) (keep : Bool) (m : Versions) (content content_after : Shared → TreeLists) (interns interns_after : Option ℕ)
-    (old new : Flows Connection) (slots slots_after : List Slot) (counts counts_after : Counts) (key : EndpointPair) (number : ℕ) (moment : Moment) (segment : Segment) (step : Step) : Type 0 where
+    (kept kept_after : Kept) (key : EndpointPair) (number : ℕ) (moment : Moment) (segment : Segment) (step : Step) : Type 0 where
   pub conn : Connection
   pub conn_after : Connection
   pub slot : Slot
   pub slot_after : Slot
-  pub was : found old key ≡ Some conn
-  pub slot_is : slot ≡ get_or slots conn.place slot
+  pub was : found kept.flows key ≡ Some conn
+  pub heard : IsSilent m conn moment false
+  pub slot_is : slot ≡ get_or kept.slots.items conn.place slot
   pub step_is : (control : ControlState) → Tells m conn.version control
       → IsStep app keep (told_at m conn.version) control (content conn.flow.forest) (content_after conn_after.flow.forest) interns interns_after
-      conn conn_after slot slot_after counts counts_after number moment segment step
-  pub left : (other : EndpointPair) → found new other ≡ (if same_key key other then (if step.over then None else Some conn_after) else found old other)
-  pub noted : slots_after ≡ slice_set slots conn.place slot_after
+      conn conn_after slot slot_after kept.ledger.counts kept_after.ledger.counts number moment segment step
+  pub left : (other : EndpointPair) → found kept_after.flows other ≡ (if same_key key other then (if step.over then None else Some conn_after) else found kept.flows other)
+  pub noted : kept_after.slots.items ≡ slice_set kept.slots.items conn.place slot_after
 
 -- a connection that a segment opened, after this segment; `conn` and `slot` are as they were before it
 pub record Opens (app : Meaning) (keep : Bool) (m : Versions) (content_after : Shared → TreeLists) (interns interns_after : Option ℕ) (counts counts_after : Counts)

@@ -1,20 +1,22 @@
 //! The table of open connections: which one takes a segment, and what becomes of it.
 
-ghost use Rattle.std.specs.Prelude.{◌≡◌, ◌+◌, ◌<◌, ◌≤◌, ◌^◌, ℕ, OnOk, OnErr, IfOk, IfSome, length, Some, None, Ok, not, ◌&&◌, if◌then◌else◌};
+ghost use Rattle.std.specs.Prelude.{◌≡◌, ◌+◌, ◌<◌, ◌≤◌, ◌^◌, ℕ, OnOk, OnErr, IfOk, IfSome, vec_len, Some, None, Ok, not, ◌&&◌, if◌then◌else◌};
 ghost use Rattle.flow_table.specs.Key.{EndpointPair, same_key};
 ghost use Rattle.flow_table.specs.Table.{found};
 ghost use Rattle.shared_forest.specs.Store.{Keeps};
 ghost use Rattle.connection_core.specs.Standing.{RiseBy};
 ghost use Rattle.ip6_views.specs.Seen.{seen};
 ghost use Rattle.lane_core.specs.Trees.{AreAnswered, AreTrees, ArePlaced, AreSince, AreShort};
+ghost use Rattle.lane_core.specs.Silences.{IsGone};
 ghost use Rattle.lane_core.specs.Steps.{Steps, Follows, Failed};
 
 use crate::connection::Connection;
+use crate::kept::Kept;
 use crate::packet::step_one;
-use crate::slot::Slot;
+use crate::silent::is_silent;
 use crate::world::World;
 use app_api::App;
-use connection_core::{Ledger, Step};
+use connection_core::Step;
 use flow_table::{FlowTable, Key};
 use flow_timers::Moment;
 use ip6_views::SightTcp;
@@ -22,52 +24,55 @@ use native_filters::NativeBook;
 use shared_forest::Forests;
 use std::alloc::{AllocError, Global};
 
-// Steps the open connection of a key, where there is one.
+// Steps the open connection of a key, where there is one that wasn't silent for too long.
 fn step_flow<A: App, F: Forests>(
     alloc: Global,
     world: &World<A>,
     natives: &NativeBook,
     forests: &mut F,
-    flows: &mut FlowTable<Connection>,
-    slots: &mut [Slot],
-    ledger: &mut Ledger,
+    kept: &mut Kept,
     key: &Key,
     number: u64,
     moment: Moment,
     segment: &SightTcp<'_>,
 ) -> Result<Option<Step>, AllocError>
-    requires placed { ArePlaced (length slots.old) flows.old }
-    requires answered { AreAnswered (F.answered forests.old) flows.old }
-    requires trees { AreTrees world.now.master (F.content forests.old) flows.old }
-    requires counts { AreShort 1048576 flows.old }
-    requires callbacks { ledger.old.counts.callbacks < 2 ^ 60 }
-    requires weight { ledger.old.counts.weight < 2 ^ 60 }
-    ensures none { result ≡ Ok None → (found flows.old key.now ≡ None) × (flows.new ≡ flows.old) × (slots.new ≡ slots.old) × (forests.new ≡ forests.old) × (ledger.new.counts ≡ ledger.old.counts) }
+    requires placed { ArePlaced (vec_len kept.old.slots) kept.old.flows }
+    requires answered { AreAnswered (F.answered forests.old) kept.old.flows }
+    requires trees { AreTrees world.now.master (F.content forests.old) kept.old.flows }
+    requires counts { AreShort 1048576 kept.old.flows }
+    requires callbacks { kept.old.ledger.counts.callbacks < 2 ^ 60 }
+    requires weight { kept.old.ledger.counts.weight < 2 ^ 60 }
+    ensures gone { result ≡ Ok None → IsGone world.now.master moment (found kept.old.flows key.now) }
+    ensures same { result ≡ Ok None → kept.new ≡ kept.old }
+    ensures same_forests { result ≡ Ok None → forests.new ≡ forests.old }
     ensures some { IfOk result (λ step. IfSome step (λ s. Steps (A.meaning world.now.app) world.now.keep world.now.master
         (F.content forests.old) (F.content forests.new) (F.interns forests.old) (F.interns forests.new)
-        flows.old flows.new slots.old slots.new ledger.old.counts ledger.new.counts key.now number moment (seen segment.now) s)) }
-    ensures failed { OnErr result (Failed (A.meaning world.now.app) world.now.keep world.now.master (F.content forests.old) (F.interns forests.old) (F.interns forests.new)
-        flows.old slots.old ledger.old.counts key.now number (seen segment.now)) }
-    ensures placed { ArePlaced (length slots.new) flows.new }
-    ensures answered { AreAnswered (F.answered forests.new) flows.new }
-    ensures trees { AreTrees world.now.master (F.content forests.new) flows.new }
-    ensures since { (version : ℕ) → AreSince version flows.old → AreSince version flows.new }
-    ensures counts { (packets : ℕ) → AreShort packets flows.old → AreShort (packets + 1) flows.new }
+        kept.old kept.new key.now number moment (seen segment.now) s)) }
+    ensures failed { OnErr result (Failed (A.meaning world.now.app) world.now.keep world.now.master
+        (F.content forests.old) (F.interns forests.old) (F.interns forests.new)
+        kept.old key.now number moment (seen segment.now)) }
+    ensures placed { ArePlaced (vec_len kept.new.slots) kept.new.flows }
+    ensures answered { AreAnswered (F.answered forests.new) kept.new.flows }
+    ensures trees { AreTrees world.now.master (F.content forests.new) kept.new.flows }
+    ensures since { (version : ℕ) → AreSince version kept.old.flows → AreSince version kept.new.flows }
+    ensures counts { (packets : ℕ) → AreShort packets kept.old.flows → AreShort (packets + 1) kept.new.flows }
     ensures kept { Keeps F.answered F.content forests.old forests.new }
-    ensures rise { RiseBy 3060 ledger.old.counts ledger.new.counts }
-    ensures len { length slots.new ≡ length slots.old }
+    ensures rise { RiseBy 3060 kept.old.ledger.counts kept.new.ledger.counts }
+    ensures len { vec_len kept.new.slots ≡ vec_len kept.old.slots }
+    ensures dropped { kept.new.dropped ≡ kept.old.dropped }
 {
-    match flows.get_mut(key) {
-        Some(conn) => {
-            let place = conn.place;
-            let slot = &mut slots[place];
-            let step = step_one(
-                alloc, world, natives, forests, conn, slot, ledger, number, moment, segment,
-            )?;
-            Ok(Some(step))
-        }
-        None => Ok(None),
+    let Some(conn) = kept.flows.get_mut(key) else {
+        return Ok(None);
+    };
+    if is_silent(world, conn, moment) {
+        return Ok(None);
     }
+    let slot = &mut kept.slots[conn.place];
+    let ledger = &mut kept.ledger;
+    let step = step_one(
+        alloc, world, natives, forests, conn, slot, ledger, number, moment, segment,
+    )?;
+    Ok(Some(step))
 }
 
 // Takes the connection of a key from the table where it is over.
@@ -79,46 +84,49 @@ fn settle(flows: &mut FlowTable<Connection>, key: &Key, over: bool)
     }
 }
 
-/// Steps the open connection of a key, where there is one, and closes it where it is over then.
+/// Steps the open connection of a key, where there is one that wasn't silent for too long, and closes it where it is over then.
+/// `None` leaves all as it was.
 pub(crate) fn follow<A: App, F: Forests>(
     alloc: Global,
     world: &World<A>,
     natives: &NativeBook,
     forests: &mut F,
-    flows: &mut FlowTable<Connection>,
-    slots: &mut [Slot],
-    ledger: &mut Ledger,
+    kept: &mut Kept,
     key: &Key,
     number: u64,
     moment: Moment,
     segment: &SightTcp<'_>,
 ) -> Result<Option<Step>, AllocError>
-    requires placed { ArePlaced (length slots.old) flows.old }
-    requires answered { AreAnswered (F.answered forests.old) flows.old }
-    requires trees { AreTrees world.now.master (F.content forests.old) flows.old }
-    requires counts { AreShort 1048576 flows.old }
-    requires callbacks { ledger.old.counts.callbacks < 2 ^ 60 }
-    requires weight { ledger.old.counts.weight < 2 ^ 60 }
-    ensures none { result ≡ Ok None → (found flows.old key.now ≡ None) × (flows.new ≡ flows.old) × (slots.new ≡ slots.old) × (forests.new ≡ forests.old) × (ledger.new.counts ≡ ledger.old.counts) }
+    requires placed { ArePlaced (vec_len kept.old.slots) kept.old.flows }
+    requires answered { AreAnswered (F.answered forests.old) kept.old.flows }
+    requires trees { AreTrees world.now.master (F.content forests.old) kept.old.flows }
+    requires counts { AreShort 1048576 kept.old.flows }
+    requires callbacks { kept.old.ledger.counts.callbacks < 2 ^ 60 }
+    requires weight { kept.old.ledger.counts.weight < 2 ^ 60 }
+    ensures gone { result ≡ Ok None → IsGone world.now.master moment (found kept.old.flows key.now) }
+    ensures same { result ≡ Ok None → kept.new ≡ kept.old }
+    ensures same_forests { result ≡ Ok None → forests.new ≡ forests.old }
     ensures some { IfOk result (λ step. IfSome step (λ s. Follows (A.meaning world.now.app) world.now.keep world.now.master
         (F.content forests.old) (F.content forests.new) (F.interns forests.old) (F.interns forests.new)
-        flows.old flows.new slots.old slots.new ledger.old.counts ledger.new.counts key.now number moment (seen segment.now) s)) }
-    ensures failed { OnErr result (Failed (A.meaning world.now.app) world.now.keep world.now.master (F.content forests.old) (F.interns forests.old) (F.interns forests.new)
-        flows.old slots.old ledger.old.counts key.now number (seen segment.now)) }
-    ensures placed { ArePlaced (length slots.new) flows.new }
-    ensures answered { AreAnswered (F.answered forests.new) flows.new }
-    ensures trees { AreTrees world.now.master (F.content forests.new) flows.new }
-    ensures since { (version : ℕ) → AreSince version flows.old → AreSince version flows.new }
-    ensures counts { (packets : ℕ) → AreShort packets flows.old → AreShort (packets + 1) flows.new }
+        kept.old kept.new key.now number moment (seen segment.now) s)) }
+    ensures failed { OnErr result (Failed (A.meaning world.now.app) world.now.keep world.now.master
+        (F.content forests.old) (F.interns forests.old) (F.interns forests.new)
+        kept.old key.now number moment (seen segment.now)) }
+    ensures placed { ArePlaced (vec_len kept.new.slots) kept.new.flows }
+    ensures answered { AreAnswered (F.answered forests.new) kept.new.flows }
+    ensures trees { AreTrees world.now.master (F.content forests.new) kept.new.flows }
+    ensures since { (version : ℕ) → AreSince version kept.old.flows → AreSince version kept.new.flows }
+    ensures counts { (packets : ℕ) → AreShort packets kept.old.flows → AreShort (packets + 1) kept.new.flows }
     ensures kept { Keeps F.answered F.content forests.old forests.new }
-    ensures rise { RiseBy 3060 ledger.old.counts ledger.new.counts }
-    ensures len { length slots.new ≡ length slots.old }
+    ensures rise { RiseBy 3060 kept.old.ledger.counts kept.new.ledger.counts }
+    ensures len { vec_len kept.new.slots ≡ vec_len kept.old.slots }
+    ensures dropped { kept.new.dropped ≡ kept.old.dropped }
 {
     let stepped = step_flow(
-        alloc, world, natives, forests, flows, slots, ledger, key, number, moment, segment,
+        alloc, world, natives, forests, kept, key, number, moment, segment,
     )?;
     if let Some(step) = stepped {
-        settle(flows, key, step.over);
+        settle(&mut kept.flows, key, step.over);
     }
     Ok(stepped)
 }

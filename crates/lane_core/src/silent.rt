@@ -20,10 +20,14 @@ use report_text::RecordKind;
 use shared_forest::Forests;
 use std::alloc::{AllocError, Global};
 
-// Whether an open connection was silent for longer than the limit of its version.
-fn is_silent<A>(world: &World<A>, conn: &Connection, now: Moment) -> bool
+/// Whether an open connection was silent for longer than the limit of its version. Where nothing is limited now, no version
+/// is looked up.
+pub(crate) fn is_silent<A>(world: &World<A>, conn: &Connection, now: Moment) -> bool
     ensures { IsSilent world.now.master conn.now now result }
 {
+    if !world.master.is_timed() {
+        return false;
+    }
     match world.master.idle_at(conn.version) {
         Some(limit) => is_idle(conn.moment, now, limit),
         None => false,

@@ -1,6 +1,6 @@
 //! What a packet or a command does to a lane that hasn't failed.
 
-ghost use Rattle.std.specs.Prelude.{◌≡◌, ◌+◌, ◌*◌, ◌<◌, ◌≤◌, ◌&&◌, nat_lt, vec_len, ℕ, List, [], ◌∷◌, ◌++◌, length, OnOk, OnErr, IfOk, IsTrue, None, Some, true};
+ghost use Rattle.std.specs.Prelude.{◌≡◌, ◌+◌, ◌*◌, ◌<◌, ◌≤◌, ◌&&◌, nat_lt, vec_len, ℕ, List, [], ◌∷◌, ◌++◌, length, OnOk, OnErr, IfOk, IfSome, IsTrue, None, Some, Ok, true};
 ghost use Rattle.std.specs.Option.{option_copied};
 ghost use Rattle.flow_table.specs.Table.{found};
 ghost use Rattle.app_api.specs.declared.registration.Reg.{Reg as RegOf};
@@ -15,6 +15,7 @@ ghost use Rattle.lane_core.specs.Sight.{Tcp, Other, arrival_of, key_of_segment};
 ghost use Rattle.ip6_views.specs.Seen.{seen};
 ghost use Rattle.lane_core.specs.Records.{RecordSoFar, opens};
 ghost use Rattle.lane_core.specs.Kept.{Keeps, AddsTo, SetsAmong, SetsStray, CostsAtMost, CostsAmong, EndsSilent, LeavesNone, arrived};
+ghost use Rattle.lane_core.specs.Silences.{IsGone};
 ghost use Rattle.lane_core.specs.Trees.{AreShort};
 
 use crate::command::give_to;
@@ -121,7 +122,7 @@ impl<A: App + Drop, F: Forests + Drop> Lane<A, F> {
         Ok(verdict)
     }
 
-    // Ends the open connection of a key, where it was silent for too long.
+    // Ends the open connection of a key, which was silent for too long, where there is one.
     fn end_silent(
         &mut self,
         alloc: Global,
@@ -129,11 +130,12 @@ impl<A: App + Drop, F: Forests + Drop> Lane<A, F> {
         key: &Key,
         moment: Moment,
     ) -> Result<(), AllocError>
+        requires gone { IsGone self.old.world.master moment (found self.old.kept.flows key.now) }
         requires callbacks { self.old.kept.ledger.counts.callbacks + 3315 ≤ 3315 * self.old.next }
         requires weight { self.old.kept.ledger.counts.weight + 954720 ≤ 954720 * self.old.next }
         ensures ends { OnOk result (EndsSilent (A.meaning self.old.world.app) self.old.world.keep self.old.world.master key.now moment (F.content self.old.forests) self.old.kept self.new.kept) }
         ensures fails { OnErr result (LeavesNone (A.meaning self.old.world.app) self.old.world.keep self.old.world.master key.now moment (F.content self.old.forests) self.old.kept) }
-        ensures short { (packets : ℕ) → AreShort packets self.old.kept.flows → AreShort packets self.new.kept.flows }
+        ensures absent { OnOk result (found self.new.kept.flows key.now ≡ None) }
         ensures callbacks { self.new.kept.ledger.counts.callbacks + 3060 ≤ 3315 * self.old.next }
         ensures weight { self.new.kept.ledger.counts.weight + 881280 ≤ 954720 * self.old.next }
         ensures records { vec_len self.new.kept.slots ≡ vec_len self.old.kept.slots }
@@ -143,6 +145,7 @@ impl<A: App + Drop, F: Forests + Drop> Lane<A, F> {
         ensures failed { self.new.failed ≡ self.old.failed }
         ensures dropped { self.new.kept.dropped ≡ self.old.kept.dropped }
     {
+        self.world.master.tells_each_version();
         if !self.world.master.is_timed() {
             return Ok(());
         }
@@ -160,7 +163,7 @@ impl<A: App + Drop, F: Forests + Drop> Lane<A, F> {
         Ok(())
     }
 
-    // A segment, of whose key no open connection was silent for too long.
+    // A segment of whose key no connection is open.
     fn place(
         &mut self,
         alloc: Global,
@@ -171,8 +174,8 @@ impl<A: App + Drop, F: Forests + Drop> Lane<A, F> {
         segment: &SightTcp<'_>,
     ) -> Result<Verdict, AllocError>
         requires key { key ≡ key_of_segment (seen segment.now) }
-        requires next { self.old.next ≡ number + 1 }
-        requires short { AreShort number self.old.kept.flows }
+        requires absent { found self.old.kept.flows key ≡ None }
+        requires next { 0 < self.old.next }
         requires callbacks { self.old.kept.ledger.counts.callbacks + 3060 ≤ 3315 * self.old.next }
         requires weight { self.old.kept.ledger.counts.weight + 881280 ≤ 954720 * self.old.next }
         requires room { vec_len self.old.kept.slots < self.old.next }
@@ -185,28 +188,83 @@ impl<A: App + Drop, F: Forests + Drop> Lane<A, F> {
         ensures failed { self.new.failed ≡ self.old.failed }
         ensures dropped { self.new.kept.dropped ≡ self.old.kept.dropped }
     {
+        if is_opening(segment) {
+            self.begin(alloc, natives, key, number, moment, segment)
+        } else {
+            self.stray(alloc, natives, number, Class::Tcp, Some(&segment.head))
+        }
+    }
+
+    // A segment that begins a record: the open connection of its key, where there is one, was silent for too long.
+    fn start(
+        &mut self,
+        alloc: Global,
+        natives: &NativeBook,
+        key: Key,
+        number: u64,
+        moment: Moment,
+        segment: &SightTcp<'_>,
+    ) -> Result<Verdict, AllocError>
+        requires key { key ≡ key_of_segment (seen segment.now) }
+        requires gone { IsGone self.old.world.master moment (found self.old.kept.flows key) }
+        requires next { 0 < self.old.next }
+        requires callbacks { self.old.kept.ledger.counts.callbacks + 3315 ≤ 3315 * self.old.next }
+        requires weight { self.old.kept.ledger.counts.weight + 954720 ≤ 954720 * self.old.next }
+        requires room { vec_len self.old.kept.slots < self.old.next }
+        ensures stands { IfOk result (λ verdict. AddsTo (A.meaning self.old.world.app) self.old.world.keep self.old.world.master (arrived self.old.world.master.version number moment (Tcp (seen segment.now)))
+            (F.content self.old.forests) (F.interns self.old.forests) self.old.kept (F.content self.new.forests) (F.interns self.new.forests) self.new.kept verdict) }
+        ensures costs { OnErr result (CostsAtMost (A.meaning self.old.world.app) self.old.world.keep self.old.world.master (arrived self.old.world.master.version number moment (Tcp (seen segment.now)))
+            (F.content self.old.forests) self.old.kept (F.interns self.old.forests) (F.interns self.new.forests)) }
+        ensures world { self.new.world ≡ self.old.world }
+        ensures next { self.new.next ≡ self.old.next }
+        ensures failed { self.new.failed ≡ self.old.failed }
+        ensures dropped { self.new.kept.dropped ≡ self.old.kept.dropped }
+    {
+        self.end_silent(alloc, natives, &key, moment)?;
+        self.place(alloc, natives, key, number, moment, segment)
+    }
+
+    // A segment of an open connection that wasn't silent for too long. `None` where there is none, and then all is as it was.
+    fn go_on(
+        &mut self,
+        alloc: Global,
+        natives: &NativeBook,
+        key: &Key,
+        number: u64,
+        moment: Moment,
+        segment: &SightTcp<'_>,
+    ) -> Result<Option<Verdict>, AllocError>
+        requires key { key.now ≡ key_of_segment (seen segment.now) }
+        requires next { self.old.next ≡ number + 1 }
+        requires short { AreShort number self.old.kept.flows }
+        requires callbacks { self.old.kept.ledger.counts.callbacks + 3315 ≤ 3315 * self.old.next }
+        requires weight { self.old.kept.ledger.counts.weight + 954720 ≤ 954720 * self.old.next }
+        ensures gone { result ≡ Ok None → IsGone self.old.world.master moment (found self.old.kept.flows key.now) }
+        ensures same { result ≡ Ok None → self.new.kept ≡ self.old.kept }
+        ensures same_forests { result ≡ Ok None → self.new.forests ≡ self.old.forests }
+        ensures stands { IfOk result (λ found. IfSome found (λ verdict. AddsTo (A.meaning self.old.world.app) self.old.world.keep self.old.world.master (arrived self.old.world.master.version number moment (Tcp (seen segment.now)))
+            (F.content self.old.forests) (F.interns self.old.forests) self.old.kept (F.content self.new.forests) (F.interns self.new.forests) self.new.kept verdict)) }
+        ensures costs { OnErr result (CostsAtMost (A.meaning self.old.world.app) self.old.world.keep self.old.world.master (arrived self.old.world.master.version number moment (Tcp (seen segment.now)))
+            (F.content self.old.forests) self.old.kept (F.interns self.old.forests) (F.interns self.new.forests)) }
+        ensures world { self.new.world ≡ self.old.world }
+        ensures next { self.new.next ≡ self.old.next }
+        ensures failed { self.new.failed ≡ self.old.failed }
+        ensures dropped { self.new.kept.dropped ≡ self.old.kept.dropped }
+    {
         let followed = follow(
             alloc,
             &self.world,
             natives,
             &mut self.forests,
-            &mut self.kept.flows,
-            &mut self.kept.slots,
-            &mut self.kept.ledger,
-            &key,
+            &mut self.kept,
+            key,
             number,
             moment,
             segment,
         )?;
         match followed {
-            Some(step) => Ok(step.verdict),
-            None => {
-                if is_opening(segment) {
-                    self.begin(alloc, natives, key, number, moment, segment)
-                } else {
-                    self.stray(alloc, natives, number, Class::Tcp, Some(&segment.head))
-                }
-            }
+            Some(step) => Ok(Some(step.verdict)),
+            None => Ok(None),
         }
     }
 
@@ -232,8 +290,11 @@ impl<A: App + Drop, F: Forests + Drop> Lane<A, F> {
     {
         self.next = number + 1;
         let key = key_between(segment.from, segment.to);
-        self.end_silent(alloc, natives, &key, moment)?;
-        self.place(alloc, natives, key, number, moment, segment)
+        let taken = self.go_on(alloc, natives, &key, number, moment, segment)?;
+        match taken {
+            Some(verdict) => Ok(verdict),
+            None => self.start(alloc, natives, key, number, moment, segment),
+        }
     }
 
     // A packet that is no segment.

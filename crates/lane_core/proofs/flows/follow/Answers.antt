@@ -15,21 +15,20 @@ returns-in-Some-clause-some g c =
     let before = c.args.forests.now in
     let after = c.step_flow.new.forests in
     let stepped = subst (λ o. IfSome o (λ (s : Step). Steps (g.A.App.meaning c.args.world.now.app) c.args.world.now.keep c.args.world.now.master (content before) (content after) (interns before) (interns after)
-    c.args.flows.now c.step_flow.new.flows c.args.slots.now c.step_flow.new.slots c.args.ledger.now.counts c.step_flow.new.ledger.counts c.args.key.now c.args.number c.args.moment (seen c.args.segment.now) s))
+    c.args.kept.now c.step_flow.new.kept c.args.key.now c.args.number c.args.moment (seen c.args.segment.now) s))
     c.in-Some.is c.in_ok-stepped.ensures.some in
     settled (g.A.App.meaning c.args.world.now.app) c.args.world.now.keep c.args.world.now.master (content before) (content after) (interns before) (interns after)
-    c.args.flows.now c.step_flow.new.flows c.settle.new.flows c.args.slots.now c.step_flow.new.slots c.args.ledger.now.counts c.step_flow.new.ledger.counts c.args.key.now c.args.number c.args.moment
-    (seen c.args.segment.now) c.in-Some.step stepped c.settle.ensures
+    c.args.kept.now c.step_flow.new.kept c.settle.new.flows c.args.key.now c.args.number c.args.moment (seen c.args.segment.now) c.in-Some.step stepped c.settle.ensures
 
 pub returns-in-Some-clause-trees : goal.returns-in-Some-clause-trees
 returns-in-Some-clause-trees g c =
-    all_settled (λ x. IsTree c.args.world.now.master x.version (g.F.ForestView.content c.step_flow.new.forests x.flow.forest)) c.step_flow.new.flows c.settle.new.flows c.args.key.now c.in-Some.step.over
+    all_settled (λ x. IsTree c.args.world.now.master x.version (g.F.ForestView.content c.step_flow.new.forests x.flow.forest)) c.step_flow.new.kept.flows c.settle.new.flows c.args.key.now c.in-Some.step.over
     c.settle.ensures c.in_ok-stepped.ensures.trees
 
 pub returns-in-Some-clause-since : goal.returns-in-Some-clause-since
 returns-in-Some-clause-since g c = λ version all.
-    all_settled (λ x. x.version ≤ version) c.step_flow.new.flows c.settle.new.flows c.args.key.now c.in-Some.step.over c.settle.ensures (c.in_ok-stepped.ensures.since version all)
+    all_settled (λ x. x.version ≤ version) c.step_flow.new.kept.flows c.settle.new.flows c.args.key.now c.in-Some.step.over c.settle.ensures (c.in_ok-stepped.ensures.since version all)
 
 pub returns-in-Some-clause-counts : goal.returns-in-Some-clause-counts
 returns-in-Some-clause-counts g c = λ packets all.
-    all_settled (λ x. x.flow.count ≤ packets + 1) c.step_flow.new.flows c.settle.new.flows c.args.key.now c.in-Some.step.over c.settle.ensures (c.in_ok-stepped.ensures.counts packets all)
+    all_settled (λ x. x.flow.count ≤ packets + 1) c.step_flow.new.kept.flows c.settle.new.flows c.args.key.now c.in-Some.step.over c.settle.ensures (c.in_ok-stepped.ensures.counts packets all)

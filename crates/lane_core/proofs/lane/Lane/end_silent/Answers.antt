@@ -1,12 +1,13 @@
 use Rattle.std.proofs.Common.{length, drop, sym, ap, subst, ◌∙◌, map, arith}
 use Rattle.std.proofs.lemmas.List.{take_at}
+use Rattle.flow_table.specs.Table.{found}
 use Rattle.connection_core.specs.InForce.{told_at}
 use Rattle.connection_core.proofs.Errors.{on_err_always}
 use Rattle.lane_core.specs.Sight.{Tcp}
 use Rattle.lane_core.specs.Kept.{AreKept, arrived}
 use Rattle.lane_core.specs.Records.{started_by, ended_before}
 use Rattle.lane_core.proofs.Ended.{all_same, heard_before}
-use Rattle.lane_core.proofs.Silencing.{never_silent, before_kept, none_after}
+use Rattle.lane_core.proofs.Silencing.{never_silent, before_kept, none_after, unheard_gone, never_heard, none_open}
 use Rattle.lane_core.proofs.lane.Lane.end_silent.Goals as goal
 
 pub invariant_of-self-2 : goal.invariant_of-self-2
@@ -69,3 +70,20 @@ returns-clause-ends g c = λ control_at pasts version number segment tells key_i
     (before_kept app control_at keep m tells now content kept.flows slots kept.ledger.counts c.args.key.now pasts
     (subst (λ ss. AreKept keep (told_at m) content kept.flows ss kept.ledger.counts pasts) (sym same) stands)
     met.flows met.slots met.ledger.counts c.in_ok-_ended._ended e.silences e.goes version number segment key_is)
+
+pub returns-then-not-is_timed-clause-absent : goal.returns-then-not-is_timed-clause-absent
+returns-then-not-is_timed-clause-absent g c =
+    let self = c.args.self.now in
+    let o = found self.kept.flows c.args.key.now in
+    let m = self.world.master in
+    unheard_gone m c.args.moment o c.tells_each_version.ensures c.requires.gone (never_heard m c.args.moment o (c.is_timed.ensures.never c.if-not-is_timed.true))
+
+pub returns-clause-absent : goal.returns-clause-absent
+returns-clause-absent g c =
+    let self = c.args.self.now in
+    let m = self.world.master in
+    let met = c.end_silent.new in
+    let told = c.tells_each_version.ensures in
+    let e = c.in_ok-_ended.ensures in
+    none_open (g.A.App.meaning self.world.app) (λ v. (told v).0) self.world.keep m (λ v. (told v).1) c.args.moment (g.F.ForestView.content self.forests) self.kept.flows met.flows c.deref_mut.result.now met.slots
+    self.kept.ledger.counts met.ledger.counts c.args.key.now c.in_ok-_ended._ended e.silences e.goes c.requires.gone

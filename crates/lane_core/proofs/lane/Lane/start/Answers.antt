@@ -6,13 +6,7 @@ use Rattle.lane_core.specs.declared.world.World.{World}
 use Rattle.lane_core.specs.Sight.{Tcp}
 use Rattle.lane_core.specs.Kept.{SetsAmong, CostsAmong, arrived}
 use Rattle.lane_core.proofs.Joining.{ended_then_placed, ended_then_costs, none_left_costs}
-use Rattle.lane_core.proofs.Tables.{short_longer}
-use Rattle.lane_core.proofs.lane.Lane.segment.Goals as goal
-
-pub place-requires-clause-short : goal.place-requires-clause-short
-place-requires-clause-short g c =
-    let self = c.args.self.now in
-    c.end_silent.ensures.short c.args.number (short_longer self.next c.args.number self.kept.flows c.requires.rising self.short)
+use Rattle.lane_core.proofs.lane.Lane.start.Goals as goal
 
 pub returns-clause-stands : goal.returns-clause-stands
 returns-clause-stands g c =
@@ -29,8 +23,8 @@ returns-clause-stands g c =
     let one = subst (λ (w : World _). SetsAmong (g.A.App.meaning w.app) w.keep w.master (arrived w.master.version c.args.number c.args.moment (Tcp segment))
     (content mid.forests) (interns mid.forests) mid.kept (content new.forests) (interns new.forests) new.kept verdict) c.end_silent.ensures.world sets in
     let two = subst (λ f. SetsAmong app self.world.keep m p (content f) (interns f) mid.kept (content new.forests) (interns new.forests) new.kept verdict) c.end_silent.ensures.forests one in
-    ended_then_placed app self.world.keep m (content self.forests) (content new.forests) (interns self.forests) (interns new.forests) self.kept mid.kept new.kept c.key_between-key.result
-    m.version c.args.number c.args.moment segment c.key_between-key.ensures.key verdict c.in_ok-end_silent.ensures.ends two)
+    ended_then_placed app self.world.keep m (content self.forests) (content new.forests) (interns self.forests) (interns new.forests) self.kept mid.kept new.kept c.args.key
+    m.version c.args.number c.args.moment segment c.requires.key verdict c.in_ok-end_silent.ensures.ends two)
     c.place.ensures.stands
 
 pub returns-clause-costs : goal.returns-clause-costs
@@ -48,8 +42,8 @@ returns-clause-costs g c =
     let one = subst (λ (w : World _). CostsAmong (g.A.App.meaning w.app) w.keep w.master (arrived w.master.version c.args.number c.args.moment (Tcp segment))
     (content mid.forests) mid.kept (interns mid.forests) (interns new.forests)) c.end_silent.ensures.world costs in
     let two = subst (λ f. CostsAmong app self.world.keep m p (content f) mid.kept (interns f) (interns new.forests)) c.end_silent.ensures.forests one in
-    ended_then_costs app self.world.keep m (content self.forests) (content new.forests) (interns self.forests) (interns new.forests) self.kept mid.kept new.kept c.key_between-key.result
-    m.version c.args.number c.args.moment segment c.key_between-key.ensures.key c.in_ok-end_silent.ensures.ends two)
+    ended_then_costs app self.world.keep m (content self.forests) (content new.forests) (interns self.forests) (interns new.forests) self.kept mid.kept new.kept c.args.key
+    m.version c.args.number c.args.moment segment c.requires.key c.in_ok-end_silent.ensures.ends two)
     c.place.ensures.costs
 
 pub returns-in_err-end_silent-clause-costs : goal.returns-in_err-end_silent-clause-costs
@@ -64,5 +58,5 @@ returns-in_err-end_silent-clause-costs g c =
     let p = arrived m.version c.args.number c.args.moment (Tcp segment) in
     on_err_always c.from_residual.result
     (rw c.end_silent.ensures.forests
-    (none_left_costs app self.world.keep m content content (interns self.forests) (interns self.forests) self.kept mid.kept mid.kept c.key_between-key.result
-    m.version c.args.number c.args.moment segment c.key_between-key.ensures.key c.in_err-end_silent.ensures.fails))
+    (none_left_costs app self.world.keep m content content (interns self.forests) (interns self.forests) self.kept mid.kept mid.kept c.args.key
+    m.version c.args.number c.args.moment segment c.requires.key c.in_err-end_silent.ensures.fails))
