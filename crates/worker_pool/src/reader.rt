@@ -39,7 +39,7 @@ pub(crate) struct Reader<'a, R, S, G> {
     capture: &'a mut Capture,
     source: &'a mut S,
     /// Through which each lane gives packets back.
-    used: Vec<PacketRx>,
+    used: &'a mut Vec<PacketRx>,
 }
 
 impl<'a, R: Wait, L: Recorder + Drop, S: Source, G: Gate> Dealer<L> for Reader<'a, R, S, G> {
@@ -70,7 +70,7 @@ impl<'a, R: Wait, L: Recorder + Drop, S: Source, G: Gate> Dealer<L> for Reader<'
             self.failed,
             self.capture,
             self.source,
-            &mut self.used,
+            self.used,
         )?;
         Ok(whole)
     }
@@ -110,6 +110,7 @@ pub(crate) fn read_team<
         × (source.new ≡ source.old) }
 {
     let failed = AtomicBool::new(false);
+    let mut used = used;
     let mut reader = Reader {
         rt,
         alloc,
@@ -119,7 +120,7 @@ pub(crate) fn read_team<
         failed: &failed,
         capture,
         source,
-        used,
+        used: &mut used,
     };
     let (read, workers) = run_team(rt, alloc, team, script, natives, gate, &failed, &mut reader)?;
     let whole = read?;
