@@ -1,7 +1,6 @@
 -- One more worker of a team.
 use Rattle.std.proofs.Common.{◌≡◌, ◌<◌, ◌≤◌, ◌+◌, List, [], ◌∷◌, ◌++◌, length, get_or, refl, sym, ap, subst, ◌∙◌, ⊎_elim, arith}
-use Rattle.std.specs.Prelude.{ℕ, Bool, Result, Ok, Err, Vec, IfOk}
-use Rattle.std.specs.Global.{Global}
+use Rattle.std.specs.Prelude.{ℕ, Bool, Result, Ok, Err, IfOk}
 use Rattle.std.proofs.lemmas.List.{length_push, get_or_append_left, get_or_push}
 use Rattle.std.proofs.lemmas.List.Elements.{All-push}
 use Rattle.std.proofs.lemmas.Bool.{cases_lt}
@@ -12,7 +11,6 @@ use Rattle.lane_rings.specs.Ring.{sent, AreEnds}
 use Rattle.lane_core.specs.declared.recorder.Recorder.{Ghosts}
 use Rattle.worker_pool.specs.declared.worker.Worker.{Worker}
 use Rattle.worker_pool.specs.declared.team.Team.{Team}
-use Rattle.worker_pool.specs.declared.forward.relay.Relay.{Relay}
 use Rattle.worker_pool.specs.Team.{IsNew, IsTeam, AllKeep}
 use Rattle.worker_pool.specs.Making.{AreBegun}
 
@@ -58,23 +56,13 @@ module _ {L : Type 0} (g : Ghosts L) (app : Meaning) (keep : Bool) where
     each_sent = begun.each_sent;
   }
 
-  -- a team that is made
-  pub team_made : {E : Type 0} (r : Result (Team L) E) (n : ℕ) → 1 ≤ n → IfOk r (λ t. AreBegun g app keep t.workers.items t.packets.items) → IfOk r (λ t. length t.workers.items ≡ n)
-      → IfOk r (λ t. IsTeam g app t.workers.items t.packets.items)
+  -- a team that is made, with the taking ends of its relays or of its frame rings
+  pub team_made : {X E : Type 0} (r : Result (Team L × X) E) (n : ℕ) → 1 ≤ n → IfOk r (λ t. AreBegun g app keep t.0.workers.items t.0.packets.items) → IfOk r (λ t. length t.0.workers.items ≡ n)
+      → IfOk r (λ t. IsTeam g app t.0.workers.items t.0.packets.items)
   team_made (Err e) n some begun count = tt
-  team_made (Ok t) n some begun count = team_begun t.workers.items t.packets.items (omega (arith, some, count)) begun
+  team_made (Ok t) n some begun count = team_begun t.0.workers.items t.0.packets.items (omega (arith, some, count)) begun
 
   -- all its lanes are of one kind
-  pub kind_made : {E : Type 0} (r : Result (Team L) E) → IfOk r (λ t. AreBegun g app keep t.workers.items t.packets.items) → IfOk r (λ t. AllKeep g keep t.workers.items)
+  pub kind_made : {X E : Type 0} (r : Result (Team L × X) E) → IfOk r (λ t. AreBegun g app keep t.0.workers.items t.0.packets.items) → IfOk r (λ t. AllKeep g keep t.0.workers.items)
   kind_made (Err e) begun = tt
   kind_made (Ok t) begun = begun.kept
-
-  -- the same of a team with its relays
-  pub forward_team_made : {E : Type 0} (r : Result (Team L × Vec Relay Global) E) (n : ℕ) → 1 ≤ n → IfOk r (λ t. AreBegun g app keep t.0.workers.items t.0.packets.items) → IfOk r (λ t. length t.0.workers.items ≡ n)
-      → IfOk r (λ t. IsTeam g app t.0.workers.items t.0.packets.items)
-  forward_team_made (Err e) n some begun count = tt
-  forward_team_made (Ok t) n some begun count = team_begun t.0.workers.items t.0.packets.items (omega (arith, some, count)) begun
-
-  pub forward_kind_made : {E : Type 0} (r : Result (Team L × Vec Relay Global) E) → IfOk r (λ t. AreBegun g app keep t.0.workers.items t.0.packets.items) → IfOk r (λ t. AllKeep g keep t.0.workers.items)
-  forward_kind_made (Err e) begun = tt
-  forward_kind_made (Ok t) begun = begun.kept

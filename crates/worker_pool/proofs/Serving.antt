@@ -115,9 +115,10 @@ module _ {L : Type 0} (g : Ghosts L) (script : List Command) where
 
     -- a packet that fits was handed over, and answered where the lane did
     module _ (lane : L) (ring : RingRx ℕ) (well : g.failed a.lane ≡ None) (app : g.app lane ≡ g.app a.lane) (keeps : g.keeps lane ≡ g.keeps a.lane) where
-      pub answered : (answers : Option (RingTx Answer)) (v : Verdict) → Turned g script a.lane lane a.commands ring p (Ok v) → Sends a.answers answers (answer_to p v ∷ [])
-          → TookUp g script a (record a { lane = lane; commands = ring; answers = answers }) p
-      answered answers v t sends = record {
+      pub answered : (answers : Option (RingTx Answer)) (used : Option (RingTx Packet)) (v : Verdict) → Turned g script a.lane lane a.commands ring p (Ok v)
+          → Sends a.answers answers (answer_to p v ∷ [])
+          → TookUp g script a (record a { lane = lane; commands = ring; answers = answers; used = used }) p
+      answered answers used v t sends = record {
         places = t.places;
         same = refl;
         number = refl;

@@ -93,7 +93,11 @@ module _ {L : Type 0} where
     pub silent : g.failed a.lane ≢ None → Sends a.answers b.answers []
     pub ran : g.failed a.lane ≡ None → Ran g script a b packets places
 
+  -- a worker whose lane has failed or is ready
+  abbrev pub MayWork : Ghosts L → List Command → Worker L → Type 0
+  MayWork g script worker = g.failed worker.lane ≡ None → IsReady g script worker.lane worker.commands
+
   -- the same, where a lane that had not failed was ready, and one that has not failed is
   pub record WorkedOn (g : Ghosts L) (script : List Command) (a b : Worker L) : Type 0 where
     pub worked : Worked g script a b
-    pub ready : g.failed b.lane ≡ None → IsReady g script b.lane b.commands
+    pub ready : MayWork g script b

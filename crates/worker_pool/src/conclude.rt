@@ -35,10 +35,11 @@ use worker_laws::runs::{
 use worker_laws::versions::a_script_gives_floors_and_ceilings;
 use worker_laws::{Joined, is_heavy, join};
 
-/// The lanes of workers that have served a capture share its packets, under the commands of the script, and have answered
-/// them. This function does nothing: who ends the lanes calls it for what it says.
+/// The lanes of workers that have served a capture share its packets, under the commands of the script, and have
+/// answered them. This function does nothing: who ends the lanes calls it for what it says.
 pub(crate) fn lanes_have_come<L: Recorder + Drop>(script: &Script, workers: &[Worker<L>])
-    ensures came { (keep : Bool) (app : Meaning) (frames : List Captured) (begins : List (Begun L)) (packets : List (RingTx Packet))
+    ensures came { (keep : Bool) (app : Meaning) (frames : List Captured) (begins : List (Begun L))
+        (packets : List (RingTx Packet))
         → length frames ≤ 1048576 → IsTeam L.Recorder app begins packets → AllKeep L.Recorder keep begins
         → HaveServed L.Recorder script.now begins frames workers.now
         → (lanes : List (List LaneEvent)) × CameTo L.Recorder keep app script.now frames workers.now lanes
@@ -91,7 +92,8 @@ fn joined_of<L: Recorder + Drop>(
     last: Option<Moment>,
     natives: &NativeBook,
 ) -> Result<Joined, PoolError>
-    ensures joined { (keep : Bool) (app : Meaning) (frames : List Captured) (begins : List (Begun L)) (packets : List (RingTx Packet))
+    ensures joined { (keep : Bool) (app : Meaning) (frames : List Captured) (begins : List (Begun L))
+        (packets : List (RingTx Packet))
         → length frames ≤ 1048576 → last ≡ greatest (arrivals 0 frames)
         → IsTeam L.Recorder app begins packets → AllKeep L.Recorder keep begins
         → HaveServed L.Recorder script.now begins frames workers.items

@@ -25,14 +25,18 @@ pub(crate) trait Dealer<L: Recorder + Drop> {
     /// Whether it may deal to workers that began so.
     ghost may: { Self → List (Begun L) → Type 0 };
 
-    /// What it comes to from a moment to a later one, with workers that began so: it dealt the packets of these frames, and
-    /// ended with this.
+    /// What it comes to from a moment to a later one, with workers that began so: it dealt the packets of these frames,
+    /// and ended with this.
     ghost did: { Self → Self → List (Begun L) → List Captured → Result Whole PoolError → Type 0 };
 
-    /// Sends the packets of the capture to the posts of their lanes. It ends with the capture, or with why it stopped before.
+    /// Sends the packets of the capture to the posts of their lanes. It ends with the capture, or with why it stopped
+    /// before.
     fn deal(&mut self, posts: &mut Vec<Post<L>>) -> Result<Whole, PoolError>
         requires some { 1 ≤ length posts.old.items }
-        requires begins { (begins : List (Begun L)) × ArePosts L.Recorder (Self.script self.old) begins [] posts.old.items × Self.may self.old begins }
-        ensures dealt { (begins : List (Begun L)) → ArePosts L.Recorder (Self.script self.old) begins [] posts.old.items → Self.may self.old begins
-            → Dealt L.Recorder (Self.script self.old) begins posts.new.items (λ frames. Self.did self.old self.new begins frames result) };
+        requires begins { (begins : List (Begun L))
+            × ArePosts L.Recorder (Self.script self.old) begins [] posts.old.items × Self.may self.old begins }
+        ensures dealt { (begins : List (Begun L))
+            → ArePosts L.Recorder (Self.script self.old) begins [] posts.old.items → Self.may self.old begins
+            → Dealt L.Recorder (Self.script self.old) begins posts.new.items
+            (λ frames. Self.did self.old self.new begins frames result) };
 }

@@ -16,7 +16,7 @@ use flow_table::{Key, mix};
 use flow_timers::Moment;
 use ip6_views::{Sight, key_between, sight_of};
 use lane_core::Recorder;
-use lane_rings::Packet;
+use lane_rings::{Packet, PacketRx};
 use mos_bytes::Source;
 use native_filters::NativeBook;
 use pcap_source::{Capture, Frame, NextError, Step};
@@ -72,7 +72,8 @@ pub(crate) fn send_frame<R: Wait, L: Recorder + Drop, G: Gate>(
     failed: &AtomicBool,
 ) -> usize
     requires some { 1 ≤ length posts.old.items }
-    requires posts { (begins : List (Begun L)) × (frames : List Captured) × ArePosts L.Recorder script.now begins frames posts.old.items }
+    requires posts { (begins : List (Begun L)) × (frames : List Captured)
+        × ArePosts L.Recorder script.now begins frames posts.old.items }
     ensures lane { result ≡ lane_of_sight (sight_of frame.bytes) (length posts.old.items) }
     ensures within { result < length posts.old.items }
     ensures count { length posts.new.items ≡ length posts.old.items }
@@ -100,8 +101,19 @@ pub(crate) fn send_frame<R: Wait, L: Recorder + Drop, G: Gate>(
     lane
 }
 
+// A frame to read into: that of a packet that a lane has given back, whose memory serves again, where there is one.
+fn next_frame(alloc: Global, used: &mut [PacketRx], lane: usize) -> Frame {
+    if lane < used.len() {
+        if let Some(packet) = used[lane].take() {
+            return packet.frame;
+        }
+    }
+    Frame::new(alloc)
+}
+
 /// Reads an opened capture to its end or its tail, or to where it is refused, and sends each packet to the post of its
-/// lane. It waits where the ring of a lane is full, and works on a lane whose worker is here.
+/// lane. It waits where the ring of a lane is full, and works on a lane whose worker is here. The frames of packets
+/// that come back through `used` serve again: for each packet that goes to a lane one is taken from it.
 pub(crate) fn dispatch<R: Wait, L: Recorder + Drop, S: Source, G: Gate>(
     rt: &R,
     alloc: Global,
@@ -112,24 +124,27 @@ pub(crate) fn dispatch<R: Wait, L: Recorder + Drop, S: Source, G: Gate>(
     failed: &AtomicBool,
     capture: &mut Capture,
     source: &mut S,
+    used: &mut Vec<PacketRx>,
 ) -> Result<Whole, NextError>
     requires opened { Opened capture.old }
     requires some { 1 ≤ length posts.old.items }
     requires posts { (begins : List (Begun L)) × ArePosts L.Recorder script.now begins [] posts.old.items }
     ensures dispatched { (begins : List (Begun L)) → ArePosts L.Recorder script.now begins [] posts.old.items
-        → Dispatched L.Recorder script.now begins posts.new.items capture.old (S.left source.old) (S.left source.new) result }
+        → Dispatched L.Recorder script.now begins posts.new.items capture.old (S.left source.old)
+        (S.left source.new) result }
     ensures reads { ReadsOn S.Source capture.old source.old source.new (IsOk result)
         (IsErrOf result NextError.ReadFault) }
     ensures stopped { capture.new.is_live ≡ false }
 {
     let mut packets = 0;
     let mut last = None;
+    let mut lane = 0;
     loop {
-        let mut frame = Frame::new(alloc);
+        let mut frame = next_frame(alloc, used.as_mut_slice(), lane);
         match capture.next(source, &mut frame)? {
             Step::Frame => {
                 last = greatest_with(last, &frame);
-                send_frame(
+                lane = send_frame(
                     rt, alloc, posts, packets, frame, script, natives, gate, failed,
                 );
                 packets += 1;

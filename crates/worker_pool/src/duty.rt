@@ -3,7 +3,7 @@
 ghost use Rattle.std.specs.Prelude.{◌≡◌, None, IsTrue};
 ghost use Rattle.forest_versions.specs.Lawful.{are_lawful};
 ghost use Rattle.forest_versions.specs.State.{start};
-ghost use Rattle.worker_pool.specs.Worked.{IsReady, WorkedOn};
+ghost use Rattle.worker_pool.specs.Worked.{MayWork, WorkedOn};
 
 use crate::gate::Gate;
 use crate::worker::{Worker, work};
@@ -14,8 +14,8 @@ use std::alloc::Global;
 use std::sync::Wait;
 use std::sync::atomic::AtomicBool;
 
-/// What all workers of a run do, each in its thread. It is shared by these, so that a thread takes one reference for all
-/// that it needs.
+/// What all workers of a run do, each in its thread. It is shared by these, so that a thread takes one reference for
+/// all that it needs.
 pub(crate) trait Duty<L: Recorder + Drop> {
     ghost use Rattle.std.specs.Prelude.{List};
     ghost use Rattle.forest_versions.specs.declared.command.Command.{Command};
@@ -25,7 +25,7 @@ pub(crate) trait Duty<L: Recorder + Drop> {
 
     /// Has a worker work until its flag is raised and its packet ring then shows no packet.
     fn serve(&self, worker: Worker<L>, stop: &AtomicBool) -> Worker<L>
-        requires ready { L.failed worker.lane ≡ None → IsReady L.Recorder (Self.commands self.now) worker.lane worker.commands }
+        requires ready { MayWork L.Recorder (Self.commands self.now) worker }
         requires lawful { IsTrue (are_lawful (start (L.app worker.lane).presets) (Self.commands self.now)) }
         ensures worked { WorkedOn L.Recorder (Self.commands self.now) worker result };
 }
@@ -48,7 +48,7 @@ impl<'a, R: Wait, L: Recorder + Drop, G: Gate> Duty<L> for Shift<'a, R, G> {
     ghost commands = { λ s. commands_of s.script.now };
 
     fn serve(&self, worker: Worker<L>, stop: &AtomicBool) -> Worker<L>
-        requires ready { L.failed worker.lane ≡ None → IsReady L.Recorder (commands_of self.now.script.now) worker.lane worker.commands }
+        requires ready { MayWork L.Recorder (commands_of self.now.script.now) worker }
         requires lawful { IsTrue (are_lawful (start (L.app worker.lane).presets) (commands_of self.now.script.now)) }
         ensures worked { WorkedOn L.Recorder (commands_of self.now.script.now) worker result }
     {

@@ -26,7 +26,8 @@ use std::thread::Threads;
 
 // The worker of a seat, once its thread has ended.
 fn worker_back<R: Threads + Wait, L: Recorder + Drop>(rt: &R, seat: Seat<L>) -> Worker<L>
-    ensures { (script : List Command) (begin : Begun L) → IsSeated L.Recorder script begin seat → WorkedOn L.Recorder script begin result }
+    ensures { (script : List Command) (begin : Begun L) → IsSeated L.Recorder script begin seat
+        → WorkedOn L.Recorder script begin result }
 {
     match seat {
         Seat::Away(handle) => handle.join(rt),

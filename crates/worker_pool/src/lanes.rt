@@ -28,9 +28,9 @@ use std::thread::Threads;
 ///
 /// Its end is that of one run over all packets under the versions that it answers, whatever the order of the threads'
 /// steps. It asks a script that is lawful with the application's presets, and 1 to 16 lanes. An error is that the
-/// capture is refused, that its source failed, that memory was refused, or that the callbacks weigh too much. A lane for
-/// which no thread can be started is run in this one, which is no error. It waits for its threads. Where memory is refused
-/// before the capture is read, capture and source are as they were; else the capture is no longer live.
+/// capture is refused, that its source failed, that memory was refused, or that the callbacks weigh too much. A lane
+/// for which no thread can be started is run in this one, which is no error. It waits for its threads. Where memory is
+/// refused before the capture is read, capture and source are as they were; else the capture is no longer live.
 pub fn run_lanes<
     R: Threads + Wait + Sync + Send + Copy + Drop + 'static,
     A: App + Copy + Send + Sync + Drop,
@@ -51,7 +51,8 @@ pub fn run_lanes<
     requires lawful { IsTrue (are_lawful (start (A.meaning job.now.app).presets) (commands_of job.now.script.now)) }
     ensures ends { (rest : List ℕ) → S.left source.old ≡ Some rest
         → EndsOver (A.meaning job.now.app) job.now.script.now job.now.workers (frames_at capture.old rest) result }
-    ensures whole { IfOk result (λ end. (frames : List Captured) × (tail : ℕ) × IsWhole (A.meaning job.now.app) job.now.script.now job.now.workers frames tail end) }
+    ensures whole { IfOk result (λ end. (frames : List Captured) × (tail : ℕ)
+        × IsWhole (A.meaning job.now.app) job.now.script.now job.now.workers frames tail end) }
     ensures read { IsOk result → (rest : List ℕ) → S.left source.old ≡ Some rest → S.left source.new ≡ Some [] }
     ensures no_write { IsErrOf result PoolError.WriteFault → ⊥ }
 
@@ -60,9 +61,12 @@ pub fn run_lanes<
         (IsOk result ⊎ IsErrOf result PoolError.Heavy) (IsErrOf result PoolError.ReadFault) }
 
     // The capture may be read on only where nothing of it was read.
-    ensures stopped { IsTrue capture.new.is_live → (result ≡ Err PoolError.NoMemory) × (capture.new ≡ capture.old) × (source.new ≡ source.old) }
+    ensures stopped { IsTrue capture.new.is_live → (result ≡ Err PoolError.NoMemory) × (capture.new ≡ capture.old)
+        × (source.new ≡ source.old) }
 {
-    let team = make_team(rt, alloc, job)?;
-    let ran = read_team(rt, alloc, team, job.script, natives, gate, capture, source)?;
+    let (team, used) = make_team(rt, alloc, job)?;
+    let ran = read_team(
+        rt, alloc, team, used, job.script, natives, gate, capture, source,
+    )?;
     conclude(alloc, job.script, ran, natives)
 }

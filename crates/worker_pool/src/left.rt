@@ -5,7 +5,7 @@ ghost use Rattle.forest_versions.specs.Lawful.{are_lawful};
 ghost use Rattle.forest_versions.specs.State.{start};
 ghost use Rattle.control_script.specs.Order.{commands_of};
 ghost use Rattle.lane_rings.specs.Ring.{sent, taken, AreEnds, SameTx};
-ghost use Rattle.worker_pool.specs.Worked.{IsReady, Worked};
+ghost use Rattle.worker_pool.specs.Worked.{MayWork, Worked};
 
 use crate::gate::Gate;
 use crate::worker::{Worker, work};
@@ -32,10 +32,10 @@ pub fn work_off<R: Wait, L: Recorder + Drop, G: Gate>(
     failed: &AtomicBool,
 ) -> Worker<L>
     requires ends { AreEnds packets.old w.packets }
-    requires ready { L.failed w.lane ≡ None → IsReady L.Recorder (commands_of script.now) w.lane w.commands }
+    requires ready { MayWork L.Recorder (commands_of script.now) w }
     requires lawful { IsTrue (are_lawful (start (L.app w.lane).presets) (commands_of script.now)) }
     ensures worked { Worked L.Recorder (commands_of script.now) w result }
-    ensures ready { L.failed result.lane ≡ None → IsReady L.Recorder (commands_of script.now) result.lane result.commands }
+    ensures ready { MayWork L.Recorder (commands_of script.now) result }
     ensures ends { AreEnds packets.new result.packets }
     ensures ring { SameTx packets.old packets.new }
     ensures sent { sent packets.new ≡ sent packets.old }

@@ -1,6 +1,7 @@
 //! Workers: each runs a lane in a thread of its own, fed by a ring of packets and a ring of places in the script.
 #![tactic(auto)]
 
+mod backoff;
 mod conclude;
 mod control;
 mod dealer;

@@ -7,13 +7,13 @@ ghost use Rattle.control_script.specs.Order.{commands_of};
 ghost use Rattle.lane_rings.specs.Ring.{known};
 ghost use Rattle.worker_pool.specs.Turning.{IsUnder, Advanced, TakesNext};
 
+use crate::backoff::Backoff;
 use crate::ends::take_from;
 use control_script::Script;
 use lane_core::{LaneError, Recorder};
 use lane_rings::CommandRx;
 use std::alloc::Global;
 use std::sync::Wait;
-use std::thread;
 
 // Gives the lane the script's next command.
 fn give_next<L: Recorder>(alloc: Global, lane: &mut L, script: &Script) -> Result<(), LaneError>
@@ -66,6 +66,7 @@ pub(crate) fn take_places<R: Wait, L: Recorder>(
     ensures known { OnOk result (min ceil (L.given lane.old + length (known commands.old)) ≤ L.given lane.new) }
     ensures fails { IfErr result (λ e. L.failed lane.new ≡ Some e) }
 {
+    let mut backoff = Backoff::new();
     for _ in rt.forever() {
         if has_all(lane, ceil) {
             return Ok(());
@@ -76,7 +77,7 @@ pub(crate) fn take_places<R: Wait, L: Recorder>(
                 if lane.version() >= floor {
                     return Ok(());
                 }
-                thread::yield_now();
+                backoff.pause(rt);
             }
         }
     }

@@ -7,6 +7,7 @@ ghost use Rattle.worker_pool.specs.declared.worker.Worker.{Worker as Begun};
 ghost use Rattle.pcap_source.specs.Captured.{Captured};
 ghost use Rattle.worker_pool.specs.Posts.{IsPost, ArePosts};
 
+use crate::backoff::Backoff;
 use crate::gate::Gate;
 use crate::seat::Seat;
 use crate::worker::take_turn;
@@ -17,7 +18,6 @@ use native_filters::NativeBook;
 use std::alloc::Global;
 use std::sync::Wait;
 use std::sync::atomic::AtomicBool;
-use std::thread;
 
 /// Where the dispatcher sends the packets of a lane, and where the lane's worker is.
 #[derive(Drop)]
@@ -26,7 +26,7 @@ pub(crate) struct Post<L: Recorder + Drop> {
     pub(crate) seat: Seat<L>,
 }
 
-// Has a worker that is here take one packet out of its ring, and leaves one that is away the time to do so.
+// Has a worker that is here take one packet out of its ring. Whether it did.
 fn make_room<R: Wait, L: Recorder + Drop, G: Gate>(
     rt: &R,
     alloc: Global,
@@ -35,20 +35,20 @@ fn make_room<R: Wait, L: Recorder + Drop, G: Gate>(
     natives: &NativeBook,
     gate: &G,
     failed: &AtomicBool,
-)
-    requires post { (begin : Begun L) × (packets : List Sent) × IsPost L.Recorder (commands_of script.now) begin packets post.old }
-    ensures { (begin : Begun L) (packets : List Sent) → IsPost L.Recorder (commands_of script.now) begin packets post.old
+) -> bool
+    requires post { (begin : Begun L) × (packets : List Sent)
+        × IsPost L.Recorder (commands_of script.now) begin packets post.old }
+    ensures { (begin : Begun L) (packets : List Sent)
+        → IsPost L.Recorder (commands_of script.now) begin packets post.old
         → IsPost L.Recorder (commands_of script.now) begin packets post.new }
 {
     match &mut post.seat {
-        Seat::Away(_) => thread::yield_now(),
-        Seat::Here(worker) => {
-            take_turn(rt, alloc, worker, script, natives, gate, failed);
-        }
+        Seat::Away(_) => false,
+        Seat::Here(worker) => take_turn(rt, alloc, worker, script, natives, gate, failed),
     }
 }
 
-/// Has each worker that is here take one packet out of its ring, and leaves those that are away the time to do so.
+/// Has each worker that is here take one packet out of its ring. Whether one did.
 pub(crate) fn take_turns<R: Wait, L: Recorder + Drop, G: Gate>(
     rt: &R,
     alloc: Global,
@@ -57,14 +57,18 @@ pub(crate) fn take_turns<R: Wait, L: Recorder + Drop, G: Gate>(
     natives: &NativeBook,
     gate: &G,
     failed: &AtomicBool,
-)
-    requires posts { (begins : List (Begun L)) × (frames : List Captured) × ArePosts L.Recorder script.now begins frames posts.old.items }
-    ensures { (begins : List (Begun L)) (frames : List Captured) → ArePosts L.Recorder script.now begins frames posts.old.items
+) -> bool
+    requires posts { (begins : List (Begun L)) × (frames : List Captured)
+        × ArePosts L.Recorder script.now begins frames posts.old.items }
+    ensures { (begins : List (Begun L)) (frames : List Captured)
+        → ArePosts L.Recorder script.now begins frames posts.old.items
         → ArePosts L.Recorder script.now begins frames posts.new.items }
 {
+    let mut took = false;
     for lane in 0..posts.len() {
-        make_room(rt, alloc, &mut posts[lane], script, natives, gate, failed);
+        took |= make_room(rt, alloc, &mut posts[lane], script, natives, gate, failed);
     }
+    took
 }
 
 /// Sends a packet to a lane. Where its ring has no room, a worker that is here works, and one that is away is waited
@@ -79,17 +83,21 @@ pub(crate) fn send_to<R: Wait, L: Recorder + Drop, G: Gate>(
     gate: &G,
     failed: &AtomicBool,
 )
-    requires post { (begin : Begun L) × (packets : List Sent) × IsPost L.Recorder (commands_of script.now) begin packets post.old }
-    ensures { (begin : Begun L) (packets : List Sent) → IsPost L.Recorder (commands_of script.now) begin packets post.old
+    requires post { (begin : Begun L) × (packets : List Sent)
+        × IsPost L.Recorder (commands_of script.now) begin packets post.old }
+    ensures { (begin : Begun L) (packets : List Sent)
+        → IsPost L.Recorder (commands_of script.now) begin packets post.old
         → IsPost L.Recorder (commands_of script.now) begin (packets ++ packet ∷ []) post.new }
 {
     let mut packet = packet;
+    let mut backoff = Backoff::new();
     for _ in rt.forever() {
         match post.packets.send(packet) {
             Ok(()) => return,
             Err(back) => packet = back,
         }
-        make_room(rt, alloc, post, script, natives, gate, failed);
+        let made = make_room(rt, alloc, post, script, natives, gate, failed);
+        backoff.looked(rt, made);
     }
     unreachable!()
 }

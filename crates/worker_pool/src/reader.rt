@@ -17,6 +17,7 @@ use crate::post::Post;
 use crate::team::{Ran, Team, run_team};
 use control_script::Script;
 use lane_core::Recorder;
+use lane_rings::PacketRx;
 use mos_bytes::Source;
 use native_filters::NativeBook;
 use pcap_source::Capture;
@@ -37,6 +38,8 @@ pub(crate) struct Reader<'a, R, S, G> {
     failed: &'a AtomicBool,
     capture: &'a mut Capture,
     source: &'a mut S,
+    /// Through which each lane gives packets back.
+    used: &'a mut Vec<PacketRx>,
 }
 
 impl<'a, R: Wait, L: Recorder + Drop, S: Source, G: Gate> Dealer<L> for Reader<'a, R, S, G> {
@@ -50,7 +53,8 @@ impl<'a, R: Wait, L: Recorder + Drop, S: Source, G: Gate> Dealer<L> for Reader<'
 
     ghost may = { λ d begins. Opened d.capture.now };
 
-    ghost did = { λ d e begins frames result. ReadsWhole frames d.capture.now (S.left d.source.now) (S.left e.source.now) result
+    ghost did = { λ d e begins frames result. ReadsWhole frames d.capture.now (S.left d.source.now)
+        (S.left e.source.now) result
         × ReadsOn S.Source d.capture.now d.source.now e.source.now (IsOk result) (IsErrOf result ReadFault)
         × (e.capture.ghost_name ≡ d.capture.ghost_name) × (e.source.ghost_name ≡ d.source.ghost_name)
         × (e.capture.now.is_live ≡ false) };
@@ -66,12 +70,14 @@ impl<'a, R: Wait, L: Recorder + Drop, S: Source, G: Gate> Dealer<L> for Reader<'
             self.failed,
             self.capture,
             self.source,
+            self.used,
         )?;
         Ok(whole)
     }
 }
 
-/// Runs a team over an opened capture, and reads that.
+/// Runs a team over an opened capture, and reads that. Through `used` each lane gives back the packets that it is done
+/// with.
 ///
 /// The capture is read to its end or its tail, also where a lane failed, or to where it is refused. An error is that
 /// refusal, a fault of the source, or want of memory. The capture may be read on only where memory was refused before
@@ -85,6 +91,7 @@ pub(crate) fn read_team<
     rt: &R,
     alloc: Global,
     team: Team<L>,
+    used: Vec<PacketRx>,
     script: &Script,
     natives: &NativeBook,
     gate: &G,
@@ -94,13 +101,16 @@ pub(crate) fn read_team<
     requires opened { Opened capture.old }
     requires team { (app : Meaning) × IsTeam L.Recorder app team.workers.items team.packets.items
         × IsTrue (are_lawful (start app.presets) (commands_of script.now)) }
-    ensures ran { TeamRan L.Recorder script.now team.workers.items capture.old (S.left source.old) (S.left source.new) result }
+    ensures ran { TeamRan L.Recorder script.now team.workers.items capture.old (S.left source.old)
+        (S.left source.new) result }
     ensures light { IfErr result (λ e. e ≢ PoolError.Heavy) }
     ensures reads { ReadsOn S.Source capture.old source.old source.new (IsOk result)
         (IsErrOf result PoolError.ReadFault) }
-    ensures stopped { IsTrue capture.new.is_live → (result ≡ Err PoolError.NoMemory) × (capture.new ≡ capture.old) × (source.new ≡ source.old) }
+    ensures stopped { IsTrue capture.new.is_live → (result ≡ Err PoolError.NoMemory) × (capture.new ≡ capture.old)
+        × (source.new ≡ source.old) }
 {
     let failed = AtomicBool::new(false);
+    let mut used = used;
     let mut reader = Reader {
         rt,
         alloc,
@@ -110,6 +120,7 @@ pub(crate) fn read_team<
         failed: &failed,
         capture,
         source,
+        used: &mut used,
     };
     let (read, workers) = run_team(rt, alloc, team, script, natives, gate, &failed, &mut reader)?;
     let whole = read?;

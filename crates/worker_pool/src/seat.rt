@@ -36,8 +36,8 @@ pub(crate) enum Seat<L: Recorder + Drop> {
     Here(Worker<L>),
 }
 
-/// Starts the thread of a worker. Where none can be started, its stop flag is raised, and it works here until its packet
-/// ring shows no packet.
+/// Starts the thread of a worker. Where none can be started, its stop flag is raised, and it works here until its
+/// packet ring shows no packet.
 pub(crate) fn start_worker<
     's,
     E: 's,
@@ -45,7 +45,8 @@ pub(crate) fn start_worker<
     F: FnOnce() -> Worker<L> + Send + 's,
 >(scope: &Scope<'s, E>, promise: Works<L>, stop: &AtomicBool, f: F) -> Seat<L>
     requires runs { F.pre f }
-    requires keeps { (w : _) → F.post f w → WorkedOn L.Recorder (commands_of promise.script.value) promise.start.value w }
+    requires keeps { (w : _) → F.post f w
+        → WorkedOn L.Recorder (commands_of promise.script.value) promise.start.value w }
     ensures { IsSeated L.Recorder (commands_of promise.script.value) promise.start.value result }
 {
     match scope.spawn_with(promise, f) {
@@ -66,7 +67,8 @@ pub(crate) fn start_work<
     F: FnOnce(Worker<L>) -> Worker<L> + Send + 's,
 >(scope: &Scope<'s, E>, promise: Works<L>, stop: &AtomicBool, worker: Worker<L>, f: F) -> Seat<L>
     requires runs { F.pre f worker }
-    requires keeps { (w : _) → F.post f worker w → WorkedOn L.Recorder (commands_of promise.script.value) promise.start.value w }
+    requires keeps { (w : _) → F.post f worker w
+        → WorkedOn L.Recorder (commands_of promise.script.value) promise.start.value w }
     ensures { IsSeated L.Recorder (commands_of promise.script.value) promise.start.value result }
 {
     let run = move || -> Worker<L>

@@ -6,7 +6,7 @@ ghost use Rattle.std.specs.Thread.{IsSync};
 ghost use Rattle.forest_versions.specs.Lawful.{are_lawful};
 ghost use Rattle.forest_versions.specs.State.{start};
 ghost use Rattle.control_script.specs.Order.{commands_of};
-ghost use Rattle.worker_pool.specs.Worked.{IsReady, WorkedOn};
+ghost use Rattle.worker_pool.specs.Worked.{MayWork, WorkedOn};
 ghost use Rattle.worker_pool.specs.Manned.{CanRun, MayStart, Served};
 
 use crate::control::publish;
@@ -120,9 +120,12 @@ fn run_threads<
     gate: &'c G,
     dealer: &'c mut E,
 ) -> (Result<Whole, PoolError>, Vec<Worker<L>>, &'c mut E)
-    requires starts { MayStart L.Recorder script.now (D.commands duty.now) (E.script dealer.old) team.workers.items team.packets.items posts.items (vec_capacity posts) back.items (vec_capacity back) (length stops.now) }
+    requires starts { MayStart L.Recorder script.now (D.commands duty.now)
+        (E.script dealer.old) team.workers.items team.packets.items posts.items (vec_capacity posts) back.items
+        (vec_capacity back) (length stops.now) }
     requires may { E.may dealer.old team.workers.items }
-    ensures served { Served L.Recorder script.now team.workers.items result.1.items (λ frames. E.did dealer.old result.2.now team.workers.items frames result.0) }
+    ensures served { Served L.Recorder script.now team.workers.items result.1.items
+        (λ frames. E.did dealer.old result.2.now team.workers.items frames result.0) }
     ensures same { result.2.ghost_name ≡ dealer.entry.ghost_name }
 {
     let Team {
@@ -137,9 +140,12 @@ fn run_threads<
         move |scope| -> (Result<Whole, PoolError>, Vec<Worker<L>>, &mut E)
             requires duty_shared { IsSync D.row }
             requires gate_shared { IsSync G.row }
-            requires starts { MayStart L.Recorder script.now (D.commands duty.now) (E.script dealer.now) workers.items packets.items posts.items (vec_capacity posts) back.items (vec_capacity back) (length stops.now) }
+            requires starts { MayStart L.Recorder script.now (D.commands duty.now)
+                (E.script dealer.now) workers.items packets.items posts.items (vec_capacity posts) back.items
+                (vec_capacity back) (length stops.now) }
             requires may { E.may dealer.now workers.items }
-            ensures served { Served L.Recorder script.entry.now workers.items result.1.items (λ frames. E.did dealer.entry.now result.2.now workers.items frames result.0) }
+            ensures served { Served L.Recorder script.entry.now workers.items result.1.items
+                (λ frames. E.did dealer.entry.now result.2.now workers.items frames result.0) }
             ensures same { result.2.ghost_name ≡ dealer.entry.ghost_name }
         {
             let control = start_control(scope, move || publish(commands, count, gate));
@@ -154,7 +160,7 @@ fn run_threads<
                     script: Snapshot::of(script),
                 };
                 let f = move |w: Worker<L>| -> Worker<L>
-                    requires ready { L.failed w.lane ≡ None → IsReady L.Recorder (D.commands duty.now) w.lane w.commands }
+                    requires ready { MayWork L.Recorder (D.commands duty.now) w }
                     requires lawful { IsTrue (are_lawful (start (L.app w.lane).presets) (D.commands duty.now)) }
                     ensures { WorkedOn L.Recorder (D.commands duty.entry.now) w result }
                 { duty.serve(w, stop) };
@@ -189,9 +195,12 @@ fn serve<
     failed: &AtomicBool,
     dealer: &mut E,
 ) -> (Result<Whole, PoolError>, Vec<Worker<L>>)
-    requires starts { MayStart L.Recorder script.now (commands_of script.now) (E.script dealer.old) team.workers.items team.packets.items posts.items (vec_capacity posts) back.items (vec_capacity back) (length stops.now) }
+    requires starts { MayStart L.Recorder script.now (commands_of script.now)
+        (E.script dealer.old) team.workers.items team.packets.items posts.items (vec_capacity posts) back.items
+        (vec_capacity back) (length stops.now) }
     requires may { E.may dealer.old team.workers.items }
-    ensures served { Served L.Recorder script.now team.workers.items result.1.items (λ frames. E.did dealer.old dealer.new team.workers.items frames result.0) }
+    ensures served { Served L.Recorder script.now team.workers.items result.1.items
+        (λ frames. E.did dealer.old dealer.new team.workers.items frames result.0) }
 {
     let shift = Shift {
         rt,
@@ -208,10 +217,11 @@ fn serve<
 }
 
 /// Runs a team over the packets that a dealer sends: each packet is taken by the worker of its lane, and each of the
-/// script's commands is told to all. Answers what the dealer ended with, and the workers. A lane for which no thread can be
-/// started is run in this one, and where the thread of the commands can't be started, they are told first.
+/// script's commands is told to all. Answers what the dealer ended with, and the workers. A lane for which no thread
+/// can be started is run in this one, and where the thread of the commands can't be started, they are told first.
 ///
-/// An error is want of memory, before the dealer has begun; it is as it was then. `failed` is raised where a lane fails.
+/// An error is want of memory, before the dealer has begun; it is as it was then. `failed` is raised where a lane
+/// fails.
 pub(crate) fn run_team<
     R: Threads + Wait + Sync + Send + Copy + Drop + 'static,
     L: Recorder + Drop + Send,
@@ -230,7 +240,8 @@ pub(crate) fn run_team<
     requires script { E.script dealer.old ≡ script.now }
     requires team { CanRun L.Recorder script.now team.workers.items team.packets.items }
     requires may { E.may dealer.old team.workers.items }
-    ensures served { IfOk result (λ r. Served L.Recorder script.now team.workers.items r.1.items (λ frames. E.did dealer.old dealer.new team.workers.items frames r.0)) }
+    ensures served { IfOk result (λ r. Served L.Recorder script.now team.workers.items r.1.items
+        (λ frames. E.did dealer.old dealer.new team.workers.items frames r.0)) }
     ensures unchanged { IfErr result (λ _. dealer.new ≡ dealer.old) }
 {
     let count = team.workers.len();

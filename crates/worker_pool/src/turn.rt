@@ -53,7 +53,8 @@ pub(crate) fn hand_over<R: Wait, L: Recorder>(
     requires under { IsUnder L.Recorder (commands_of script.now) lane.old }
     requires fits { fits (length (commands_of script.now)) (L.last lane.old) (L.given lane.old) packet.now ≡ true }
     requires few { packet.now.ceil ≤ 4096 }
-    ensures turned { Turned L.Recorder (commands_of script.now) lane.old lane.new commands.old commands.new packet.now result }
+    ensures turned { Turned L.Recorder
+        (commands_of script.now) lane.old lane.new commands.old commands.new packet.now result }
     ensures ok { OnOk result (L.failed lane.new ≡ None) }
     ensures under { OnOk result (IsUnder L.Recorder (commands_of script.now) lane.new) }
     ensures fails { IfErr result (λ e. L.failed lane.new ≡ Some e) }

@@ -6,20 +6,20 @@ ghost use Rattle.forest_versions.specs.State.{start};
 ghost use Rattle.control_script.specs.Order.{commands_of};
 ghost use Rattle.lane_rings.specs.Ring.{known};
 ghost use Rattle.worker_pool.specs.Steps.{fits};
-ghost use Rattle.worker_pool.specs.Worked.{IsReady, Worked};
+ghost use Rattle.worker_pool.specs.Worked.{MayWork, IsReady, Worked};
 ghost use Rattle.worker_pool.specs.Turning.{TookUp};
 
+use crate::backoff::Backoff;
 use crate::ends::{send_answer, take_from};
 use crate::gate::Gate;
 use crate::turn::{hand_over, is_fit};
 use control_script::Script;
 use lane_core::Recorder;
-use lane_rings::{Answer, AnswerTx, CommandRx, Packet, PacketRx};
+use lane_rings::{AnswerTx, CommandRx, Packet, PacketRx, PacketTx};
 use native_filters::NativeBook;
 use std::alloc::Global;
 use std::sync::Wait;
 use std::sync::atomic::{AtomicBool, Ordering};
-use std::thread;
 
 /// What one thread owns: a lane, and its ends of the rings.
 #[derive(Drop)]
@@ -33,15 +33,18 @@ pub struct Worker<L: Recorder + Drop> {
     pub commands: CommandRx,
     /// Where the lane's verdicts go; none where nobody waits for them.
     pub answers: Option<AnswerTx>,
+    /// Where packets go back that no answer takes along, so that the memory of their frames serves again; none where they
+    /// are let go.
+    pub used: Option<PacketTx>,
 }
 
 /// Works until `stop` is raised and the packet ring then shows no packet.
 ///
-/// It takes the packets of its ring. For one that fits it takes places from the command ring until the lane's version is
-/// at least the packet's floor, and then those that the ring shows, up to the packet's ceiling; the lane takes one
-/// command of the script for each. Then the lane takes the packet, and with an answer ring its verdict is sent. A packet
-/// that doesn't fit is let go. Where the lane fails, `failed` is raised, and from then on packets and places are taken
-/// unread and no answer is sent.
+/// It takes the packets of its ring. For one that fits it takes places from the command ring until the lane's version
+/// is at least the packet's floor, and then those that the ring shows, up to the packet's ceiling; the lane takes one
+/// command of the script for each. Then the lane takes the packet, and with an answer ring its verdict is sent. A
+/// packet that doesn't fit is let go. Where the lane fails, `failed` is raised, and from then on packets and places are
+/// taken unread and no answer is sent.
 ///
 /// It may be called again with the worker that it answers. It waits for packets, for places and for room in the answer
 /// ring.
@@ -55,21 +58,21 @@ pub fn work<R: Wait, L: Recorder + Drop, G: Gate>(
     stop: &AtomicBool,
     failed: &AtomicBool,
 ) -> Worker<L>
-    requires ready { L.failed w.lane ≡ None → IsReady L.Recorder (commands_of script.now) w.lane w.commands }
+    requires ready { MayWork L.Recorder (commands_of script.now) w }
     requires lawful { IsTrue (are_lawful (start (L.app w.lane).presets) (commands_of script.now)) }
     ensures worked { Worked L.Recorder (commands_of script.now) w result }
-    ensures ready { L.failed result.lane ≡ None → IsReady L.Recorder (commands_of script.now) result.lane result.commands }
+    ensures ready { MayWork L.Recorder (commands_of script.now) result }
     ensures emptied { known result.packets ≡ [] }
 {
     let mut w = w;
+    let mut backoff = Backoff::new();
     for _ in rt.forever() {
         let stopped = stop.load(Ordering::SeqCst);
-        if !take_turn(rt, alloc, &mut w, script, natives, gate, failed) {
-            if stopped {
-                return w;
-            }
-            thread::yield_now();
+        let found = take_turn(rt, alloc, &mut w, script, natives, gate, failed);
+        if stopped && !found {
+            return w;
         }
+        backoff.looked(rt, found);
     }
     unreachable!()
 }
@@ -84,10 +87,10 @@ pub(crate) fn take_turn<R: Wait, L: Recorder + Drop, G: Gate>(
     gate: &G,
     failed: &AtomicBool,
 ) -> bool
-    requires ready { L.failed w.old.lane ≡ None → IsReady L.Recorder (commands_of script.now) w.old.lane w.old.commands }
+    requires ready { MayWork L.Recorder (commands_of script.now) w.old }
     requires lawful { IsTrue (are_lawful (start (L.app w.old.lane).presets) (commands_of script.now)) }
     ensures worked { Worked L.Recorder (commands_of script.now) w.old w.new }
-    ensures ready { L.failed w.new.lane ≡ None → IsReady L.Recorder (commands_of script.now) w.new.lane w.new.commands }
+    ensures ready { MayWork L.Recorder (commands_of script.now) w.new }
     ensures none { result ≡ false → known w.new.packets ≡ [] }
 {
     match take_from(&mut w.packets) {
@@ -110,10 +113,10 @@ fn take_up<R: Wait, L: Recorder + Drop, G: Gate>(
     gate: &G,
     failed: &AtomicBool,
 )
-    requires ready { L.failed w.old.lane ≡ None → IsReady L.Recorder (commands_of script.now) w.old.lane w.old.commands }
+    requires ready { MayWork L.Recorder (commands_of script.now) w.old }
     requires lawful { IsTrue (are_lawful (start (L.app w.old.lane).presets) (commands_of script.now)) }
     ensures taken_up { TookUp L.Recorder (commands_of script.now) w.old w.new packet }
-    ensures ready { L.failed w.new.lane ≡ None → IsReady L.Recorder (commands_of script.now) w.new.lane w.new.commands }
+    ensures ready { MayWork L.Recorder (commands_of script.now) w.new }
 {
     if w.lane.has_failed() {
         take_from(&mut w.commands);
@@ -125,7 +128,7 @@ fn take_up<R: Wait, L: Recorder + Drop, G: Gate>(
     serve(rt, alloc, w, packet, script, natives, gate, failed);
 }
 
-// Hands a packet that fits to the lane, and sends the answer.
+// Hands a packet that fits to the lane, and sends the answer or gives the packet back.
 fn serve<R: Wait, L: Recorder + Drop, G: Gate>(
     rt: &R,
     alloc: Global,
@@ -142,7 +145,7 @@ fn serve<R: Wait, L: Recorder + Drop, G: Gate>(
     requires fits { fits (length (commands_of script.now)) (L.last w.old.lane) (L.given w.old.lane) packet ≡ true }
     requires few { packet.ceil ≤ 4096 }
     ensures taken_up { TookUp L.Recorder (commands_of script.now) w.old w.new packet }
-    ensures ready { L.failed w.new.lane ≡ None → IsReady L.Recorder (commands_of script.now) w.new.lane w.new.commands }
+    ensures ready { MayWork L.Recorder (commands_of script.now) w.new }
 {
     gate.pause(w.number, packet.index);
     match hand_over(
@@ -154,15 +157,7 @@ fn serve<R: Wait, L: Recorder + Drop, G: Gate>(
         script,
         natives,
     ) {
-        Ok(verdict) => send_answer(
-            rt,
-            &mut w.answers,
-            Answer {
-                index: packet.index,
-                verdict,
-                frame: packet.frame,
-            },
-        ),
+        Ok(verdict) => send_answer(rt, &mut w.answers, &mut w.used, packet, verdict),
         Err(_) => failed.store(true, Ordering::SeqCst),
     }
 }

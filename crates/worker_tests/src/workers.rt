@@ -68,6 +68,7 @@ fn worker<L: Recorder + Drop>(
         packets,
         commands,
         answers: Some(answer_tx),
+        used: None,
     };
     let ends = Ends {
         packets: packet_tx,
@@ -323,4 +324,46 @@ fn a_worker_answers_what_fits(rt: HostRuntime) {
             "{name}"
         );
     }
+}
+
+// How many packets a worker gives back that answers nobody, of three of which two fit.
+fn gives_back<R: Wait, L: Recorder + Drop>(
+    rt: &R,
+    alloc: Global,
+    lane: L,
+    script: &Script,
+) -> Option<usize>
+    requires stands { L.stands lane [] }
+    requires given { L.given lane ≡ 0 }
+    requires control { L.control lane ≡ start (L.app lane).presets }
+    requires lawful { IsTrue (are_lawful (start (L.app lane).presets) (commands_of script.now)) }
+{
+    let (mut w, mut ends) = worker(alloc, lane, script, 4).ok()?;
+    let (used_tx, mut used) = packet_ring(alloc, 4).ok()?;
+    w.answers = None;
+    w.used = Some(used_tx);
+    if !send_all(&mut ends, alloc, &[(1, 0, 0), (1, 0, 0), (2, 0, 0)]) {
+        return None;
+    }
+    let _done = work_plainly(rt, alloc, w, script, &new_flags(true));
+    let mut back = 0usize;
+    for _ in 0..3 {
+        if used.take().is_some() {
+            back = back.wrapping_add(1);
+        }
+    }
+    Some(back)
+}
+
+fn packets_come_back<R: Wait>(rt: &R, alloc: Global) -> Option<usize> {
+    let script = script(alloc, SCRIPT)?;
+    let Ok(lane) = Lane::new(alloc, LogApp, Table::new(alloc), true) else {
+        return None;
+    };
+    gives_back(rt, alloc, lane, &script)
+}
+
+#[test]
+fn packets_that_fit_come_back(rt: HostRuntime) {
+    assert!(rt; packets_come_back(&rt, rt.alloc()) == Some(2));
 }

@@ -46,8 +46,8 @@ fn drain_one(relay: &mut Relay, answers: &mut Option<AnswerTx>, waiting: &mut Re
     }
 }
 
-/// Takes what is left in the answer rings of workers whose threads have ended, and offers it to `waiting`. Nothing else of
-/// the workers changes.
+/// Takes what is left in the answer rings of workers whose threads have ended, and offers it to `waiting`. Nothing else
+/// of the workers changes.
 pub(crate) fn drain<L: Recorder + Drop>(
     workers: &mut Vec<Worker<L>>,
     relays: &mut Vec<Relay>,

@@ -36,7 +36,8 @@ fn write_first<O: Sink>(
     spare: &mut Vec<Frame>,
 ) -> Result<bool, Failed>
     ensures leaves { OnOk result ((lane : ℕ → ℕ) (n : ℕ) (taken : ℕ → List Answered) (before : Option (List ℕ))
-        → Leaves lane n taken waiting.old before (O.taken out.old) → Leaves lane n taken waiting.new before (O.taken out.new)) }
+        → Leaves lane n taken waiting.old before (O.taken out.old)
+        → Leaves lane n taken waiting.new before (O.taken out.new)) }
     ensures fewer { IfOk result (λ more. more ≡ true → held waiting.new.window < held waiting.old.window) }
     ensures none { IfOk result (λ more. more ≡ false → first_of waiting.new ≡ None) }
     ensures cut { IfErr result (λ _. (lane : ℕ → ℕ) (n : ℕ) (taken : ℕ → List Answered) (before : Option (List ℕ))
@@ -62,7 +63,8 @@ pub(crate) fn write_ready<O: Sink>(
     spare: &mut Vec<Frame>,
 ) -> Result<(), Failed>
     ensures leaves { OnOk result ((lane : ℕ → ℕ) (n : ℕ) (taken : ℕ → List Answered) (before : Option (List ℕ))
-        → Leaves lane n taken waiting.old before (O.taken out.old) → Leaves lane n taken waiting.new before (O.taken out.new)) }
+        → Leaves lane n taken waiting.old before (O.taken out.old)
+        → Leaves lane n taken waiting.new before (O.taken out.new)) }
     ensures none { OnOk result (first_of waiting.new ≡ None) }
     ensures cut { IfErr result (λ _. (lane : ℕ → ℕ) (n : ℕ) (taken : ℕ → List Answered) (before : Option (List ℕ))
         → Leaves lane n taken waiting.old before (O.taken out.old) → HasLeft lane n taken before (O.taken out.new)) }

@@ -26,14 +26,17 @@ use worker_laws::runs::{fronts_are_of_one_run, lanes_are_one_run, verdicts_of_a_
 use worker_laws::streaming::{a_lane_answers_its_part, lanes_answer_as_the_run};
 
 /// What leaves by the answers of workers that have served the packets of a capture is what their verdicts leave, under
-/// versions that the run may have: a front of it in any case, and all of it where all was taken and no lane failed. This
-/// function does nothing: who ends a forward run calls it for what it says.
+/// versions that the run may have: a front of it in any case, and all of it where all was taken and no lane failed.
+/// This function does nothing: who ends a forward run calls it for what it says.
 pub(crate) fn lanes_have_answered<L: Recorder + Drop>(script: &Script, workers: &[Worker<L>])
-    ensures front { (app : Meaning) (frames told : List Captured) (begins : List (Begun L)) (packets : List (RingTx Packet)) (relays : List Answers)
+    ensures front { (app : Meaning) (frames told : List Captured) (begins : List (Begun L))
+        (packets : List (RingTx Packet)) (relays : List Answers)
         → length frames ≤ 1048576 → IsTeam L.Recorder app begins packets → AllKeep L.Recorder false begins
-        → HaveServed L.Recorder script.now begins frames workers.now → AreRelays begins frames relays → IsPrefix frames told
+        → HaveServed L.Recorder script.now begins frames workers.now → AreRelays begins frames relays
+        → IsPrefix frames told
         → LeavesFront app script.now frames told workers.now }
-    ensures whole { (app : Meaning) (frames : List Captured) (begins : List (Begun L)) (packets : List (RingTx Packet)) (relays : List Answers)
+    ensures whole { (app : Meaning) (frames : List Captured) (begins : List (Begun L)) (packets : List (RingTx Packet))
+        (relays : List Answers)
         → length frames ≤ 1048576 → IsTeam L.Recorder app begins packets → AllKeep L.Recorder false begins
         → HaveServed L.Recorder script.now begins frames workers.now → AreRelays begins frames relays
         → (lanes : List (List LaneEvent)) × CameTo L.Recorder false app script.now frames workers.now lanes

@@ -42,7 +42,8 @@ use worker_laws::versions::{a_script_gives_floors_and_ceilings, fronts_go_on_to_
 // A run that has written nothing has written a front of what it may write. This function does nothing: who ends a run
 // before it has begun calls it for what it says.
 fn nothing_is_a_front(script: &Script)
-    ensures front { (app : Meaning) (lanes : ℕ) (frames : List Captured) (before : Option (List ℕ)) → ForwardsFront app script.now lanes frames before before }
+    ensures front { (app : Meaning) (lanes : ℕ) (frames : List Captured) (before : Option (List ℕ))
+        → ForwardsFront app script.now lanes frames before before }
 {
     let _commands = script.len();
     a_script_gives_floors_and_ceilings();
@@ -75,15 +76,19 @@ fn stream_team<
     requires opened { Opened capture.old }
     requires team { CanRun L.Recorder script.now team.workers.items team.packets.items }
     requires relays { AreRelays team.workers.items [] relays.old.items }
-    requires begins { Leaves (lane_at (length relays.old.items) []) 0 (taken_from relays.old.items) waiting.old (O.taken out.old) (O.taken out.old) }
-    ensures served { IfOk result (λ r. Served L.Recorder script.now team.workers.items r.1.items (λ frames. Streamed team.workers.items frames relays.new.items waiting.new
+    requires begins { Leaves (lane_at (length relays.old.items) []) 0 (taken_from relays.old.items) waiting.old
+        (O.taken out.old) (O.taken out.old) }
+    ensures served { IfOk result (λ r. Served L.Recorder script.now team.workers.items r.1.items
+        (λ frames. Streamed team.workers.items frames relays.new.items waiting.new
         capture.old (S.left source.old) (S.left source.new) (O.taken out.old) (O.taken out.new) r.0)) }
     ensures reads { IfOk result (λ r. ReadsOn S.Source capture.old source.old source.new (IsOk r.0)
         (IsErrOf r.0 PoolError.ReadFault)) }
     ensures writes { IfOk result (λ r. Writes O.Sink out.old out.new (IsErrOf r.0 PoolError.WriteFault)) }
-    ensures stopped { IfOk result (λ r. IsTrue capture.new.is_live → ((r.0 ≡ Err PoolError.WriteFault) ⊎ (r.0 ≡ Err PoolError.NoMemory))
+    ensures stopped { IfOk result (λ r. IsTrue capture.new.is_live
+        → ((r.0 ≡ Err PoolError.WriteFault) ⊎ (r.0 ≡ Err PoolError.NoMemory))
         × GoesOn capture.old capture.new (S.left source.old) (S.left source.new)) }
-    ensures unchanged { IfErr result (λ _. (capture.new ≡ capture.old) × (source.new ≡ source.old) × (out.new ≡ out.old)) }
+    ensures unchanged { IfErr result (λ _. (capture.new ≡ capture.old) × (source.new ≡ source.old)
+        × (out.new ≡ out.old)) }
 {
     let failed = AtomicBool::new(false);
     let mut streamer = Streamer {
@@ -113,13 +118,13 @@ fn stream_team<
 }
 
 /// Runs an application over the packets of an opened capture, on several lanes, as `run_lanes` does, and writes the
-/// records whose packets pass while the capture is read, in its order and each once. Answers the version of each record,
-/// in order of name.
+/// records whose packets pass while the capture is read, in its order and each once. Answers the version of each
+/// record, in order of name.
 ///
 /// At most 4,096 packets are on their way between the capture and the output. At an error a front of what was to be
-/// written was written; where that is a fault of writing or want of memory, the capture may still be live, and then goes on
-/// behind the records that were read. It asks a script that is lawful with the application's presets, and 1 to 16 lanes. It waits for
-/// its threads; a lane for which no thread can be started is run in this one, which is no error.
+/// written was written; where that is a fault of writing or want of memory, the capture may still be live, and then
+/// goes on behind the records that were read. It asks a script that is lawful with the application's presets, and 1 to
+/// 16 lanes. It waits for its threads; a lane for which no thread can be started is run in this one, which is no error.
 pub fn forward_lanes<
     R: Threads + Wait + Sync + Send + Copy + Drop + 'static,
     A: App + Copy + Send + Sync + Drop,
@@ -141,7 +146,8 @@ pub fn forward_lanes<
     requires most { job.now.workers ≤ 16 }
     requires lawful { IsTrue (are_lawful (start (A.meaning job.now.app).presets) (commands_of job.now.script.now)) }
     ensures forwards { (rest : List ℕ) → S.left source.old ≡ Some rest
-        → ForwardsOver (A.meaning job.now.app) job.now.script.now job.now.workers (frames_at capture.old rest) (O.taken out.old) (O.taken out.new) result }
+        → ForwardsOver (A.meaning job.now.app) job.now.script.now job.now.workers (frames_at capture.old rest)
+        (O.taken out.old) (O.taken out.new) result }
     ensures read { IsOk result → (rest : List ℕ) → S.left source.old ≡ Some rest → S.left source.new ≡ Some [] }
 
     // It keeps no entries, so they never weigh too much.
@@ -150,8 +156,10 @@ pub fn forward_lanes<
         (IsErrOf result PoolError.ReadFault) }
     ensures writes { Writes O.Sink out.old out.new (IsErrOf result PoolError.WriteFault) }
 
-    // The capture may be read on only where a write failed or memory was refused: then it goes on behind the records read.
-    ensures stopped { IsTrue capture.new.is_live → ((result ≡ Err PoolError.WriteFault) ⊎ (result ≡ Err PoolError.NoMemory))
+    // The capture may be read on only where a write failed or memory was refused: then it goes on behind the records
+    // read.
+    ensures stopped { IsTrue capture.new.is_live
+        → ((result ≡ Err PoolError.WriteFault) ⊎ (result ≡ Err PoolError.NoMemory))
         × GoesOn capture.old capture.new (S.left source.old) (S.left source.new) }
 {
     nothing_is_a_front(job.script);

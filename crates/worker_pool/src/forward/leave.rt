@@ -50,7 +50,8 @@ fn versions_in<L: Recorder + Drop>(
     natives: &NativeBook,
 ) -> Result<VersionList, PoolError>
     ensures good { IsOk result → AreGood L.Recorder workers.items }
-    ensures versions { (app : Meaning) (script : List Stamped) (frames : List Captured) (lanes : List (List LaneEvent)) (vs : List ℕ)
+    ensures versions { (app : Meaning) (script : List Stamped) (frames : List Captured) (lanes : List (List LaneEvent))
+        (vs : List ℕ)
         → last ≡ greatest (arrivals 0 frames)
         → CameTo L.Recorder false app script frames workers.items lanes
         → AreOneRun app (commands_of script) (by_key (length workers.items)) (arrivals 0 frames) lanes vs
@@ -78,11 +79,11 @@ fn is_write_fault(read: &Result<Whole, PoolError>) -> bool
     }
 }
 
-/// Ends a forward run whose workers have ended: writes what they have answered and what hasn't left yet, up to the first
-/// packet that no lane answered, and answers the versions of the records.
+/// Ends a forward run whose workers have ended: writes what they have answered and what hasn't left yet, up to the
+/// first packet that no lane answered, and answers the versions of the records.
 ///
-/// `read` is what the dispatcher ended with; its error is told. Nothing more is written where it is a fault of writing. Of
-/// other errors a fault of writing here comes first, then that of `read`, then that a lane failed.
+/// `read` is what the dispatcher ended with; its error is told. Nothing more is written where it is a fault of writing.
+/// Of other errors a fault of writing here comes first, then that of `read`, then that a lane failed.
 pub(crate) fn leave<L: Recorder + Drop, O: Sink>(
     alloc: Global,
     script: &Script,
@@ -94,15 +95,18 @@ pub(crate) fn leave<L: Recorder + Drop, O: Sink>(
     capture: &Capture,
     out: &mut O,
 ) -> Result<VersionList, PoolError>
-    requires served { (app : Meaning) × (frames : List Captured) × (begins : List (Begun L)) × (packets : List (RingTx Packet))
-        × IsTeam L.Recorder app begins packets × HaveServed L.Recorder script.now begins frames workers.items × AreRelays begins frames relays.items }
+    requires served { (app : Meaning) × (frames : List Captured) × (begins : List (Begun L))
+        × (packets : List (RingTx Packet))
+        × IsTeam L.Recorder app begins packets × HaveServed L.Recorder script.now begins frames workers.items
+        × AreRelays begins frames relays.items }
     ensures ends { (app : Meaning) (frames : List Captured) (begins : List (Begun L)) (packets : List (RingTx Packet))
         (start : CaptureState) (old new before : Option (List ℕ)) (rest : List ℕ)
         → length frames ≤ 1048576 → IsTeam L.Recorder app begins packets → AllKeep L.Recorder false begins
         → HaveServed L.Recorder script.now begins frames workers.items
         → Streamed begins frames relays.items waiting start old new before (O.taken out.old) read → old ≡ Some rest
         → ForwardsOver app script.now (length begins) (frames_at start rest) before (O.taken out.new) result }
-    ensures never_heavy { (app : Meaning) (frames : List Captured) (begins : List (Begun L)) (packets : List (RingTx Packet))
+    ensures never_heavy { (app : Meaning) (frames : List Captured) (begins : List (Begun L))
+        (packets : List (RingTx Packet))
         (start : CaptureState) (old new before : Option (List ℕ))
         → length frames ≤ 1048576 → IsTeam L.Recorder app begins packets → AllKeep L.Recorder false begins
         → HaveServed L.Recorder script.now begins frames workers.items
@@ -111,7 +115,8 @@ pub(crate) fn leave<L: Recorder + Drop, O: Sink>(
     ensures ok { IsOk result → IsOk read }
     ensures error { IfErr read (λ e. (result ≡ Err e) ⊎ (result ≡ Err PoolError.WriteFault)) }
     ensures read_fault { IsErrOf result PoolError.ReadFault → IsErrOf read PoolError.ReadFault }
-    ensures write_fault { IsErrOf result PoolError.WriteFault → IsErrOf read PoolError.WriteFault ⊎ Rose (O.faults out.old) (O.faults out.new) }
+    ensures write_fault { IsErrOf result PoolError.WriteFault → IsErrOf read PoolError.WriteFault
+        ⊎ Rose (O.faults out.old) (O.faults out.new) }
     ensures counts { O.faults out.old ≤ O.faults out.new }
     ensures lasts { O.lasting out.new ≡ O.lasting out.old }
 {

@@ -27,40 +27,45 @@ pub(crate) fn offer(waiting: &mut Resequencer, answer: Answer)
 }
 
 // Takes what the ring of a lane shows, at most one answer for each packet that was sent to the lane, and offers it.
-fn take_shown(relay: &mut Relay, waiting: &mut Resequencer)
+// Whether there was one.
+fn take_shown(relay: &mut Relay, waiting: &mut Resequencer) -> bool
     requires counted { IsCounted relay.old }
     ensures takes { HasTaken relay.old relay.new }
     ensures offers { Offers relay.old relay.new waiting.old waiting.new }
 {
     taking_stays_right();
+    let before = relay.taken;
     while relay.taken < relay.sent {
         let Some(answer) = relay.answers.take() else {
-            return;
+            return before < relay.taken;
         };
         relay.taken += 1;
         offer(waiting, answer);
     }
+    before < relay.taken
 }
 
-/// Takes what a lane has answered so far, and offers it to `waiting`.
-pub(crate) fn take_answers(relays: &mut Vec<Relay>, lane: usize, waiting: &mut Resequencer)
+/// Takes what a lane has answered so far, and offers it to `waiting`. Whether there was an answer.
+pub(crate) fn take_answers(relays: &mut Vec<Relay>, lane: usize, waiting: &mut Resequencer) -> bool
     requires within { lane < length relays.old.items }
     requires counted { AreCounted relays.old.items }
     ensures takes { HaveTaken relays.old.items relays.new.items }
     ensures offers { OfferAll relays.old.items relays.new.items waiting.old waiting.new }
 {
-    take_shown(&mut relays[lane], waiting);
+    take_shown(&mut relays[lane], waiting)
 }
 
-/// Takes what all lanes have answered so far, and offers it to `waiting`.
-pub(crate) fn take_all(relays: &mut Vec<Relay>, waiting: &mut Resequencer)
+/// Takes what all lanes have answered so far, and offers it to `waiting`. Whether there was an answer.
+pub(crate) fn take_all(relays: &mut Vec<Relay>, waiting: &mut Resequencer) -> bool
     requires counted { AreCounted relays.old.items }
     ensures takes { HaveTaken relays.old.items relays.new.items }
     ensures offers { OfferAll relays.old.items relays.new.items waiting.old waiting.new }
 {
+    let mut took = false;
     for lane in 0..relays.len() {
-        take_answers(relays, lane, waiting);
+        took |= take_answers(relays, lane, waiting);
     }
+    took
 }
 
 /// Counts one packet more that was sent to a lane.

@@ -12,6 +12,7 @@ ghost use Rattle.worker_pool.specs.Source.{ReadsOn};
 ghost use Rattle.worker_pool.specs.Streamed.{AreRelays, Leaves, Streamed, Dealt, lane_at, taken_from};
 ghost use Rattle.worker_pool.specs.Relayed.{HaveTaken, LeaveAll, CutAll};
 
+use crate::backoff::Backoff;
 use crate::dispatch::{Whole, send_frame};
 use crate::forward::exit::{hand_on, write_ready};
 use crate::forward::relay::{Relay, count_sent, have_answered, take_all, take_answers};
@@ -30,8 +31,8 @@ use std::sync::Wait;
 use std::sync::atomic::{AtomicBool, Ordering};
 use worker_laws::moments::greatest_with;
 
-// Whether the next packet may be read: its place is there, and where the source would ask the outside for it, no packet is
-// on its way any more. So what has come in is decided and written before more is waited for.
+// Whether the next packet may be read: its place is there, and where the source would ask the outside for it, no packet
+// is on its way any more. So what has come in is decided and written before more is waited for.
 fn may_read<S: Source>(
     relays: &[Relay],
     waiting: &Resequencer,
@@ -44,11 +45,12 @@ fn may_read<S: Source>(
     waiting.reaches(index) && (capture.is_at_hand(source) || have_answered(relays))
 }
 
-// Waits until the next packet may be read. Till then the records whose turn comes are written, workers that are here take up
-// packets, and answers are taken from all lanes. At `Ok` the output holds nothing back that the outside could wait for.
+// Waits until the next packet may be read. Till then the records whose turn comes are written, workers that are here
+// take up packets, and answers are taken from all lanes. At `Ok` the output holds nothing back that the outside could
+// wait for.
 //
-// An error is that a record can't be written, or that a lane has failed: then its packets have no answers, and the place
-// may never come.
+// An error is that a record can't be written, or that a lane has failed: then its packets have no answers, and the
+// place may never come.
 fn await_place<R: Wait, L: Recorder + Drop, S: Source, O: Sink, G: Gate>(
     rt: &R,
     alloc: Global,
@@ -65,9 +67,11 @@ fn await_place<R: Wait, L: Recorder + Drop, S: Source, O: Sink, G: Gate>(
     out: &mut O,
     spare: &mut Vec<Frame>,
 ) -> Result<(), PoolError>
-    requires begins { (begins : List (Begun L)) × (frames : List Captured) × ArePosts L.Recorder script.now begins frames posts.old.items
+    requires begins { (begins : List (Begun L)) × (frames : List Captured)
+        × ArePosts L.Recorder script.now begins frames posts.old.items
         × AreRelays begins frames relays.old.items }
-    ensures posts { (begins : List (Begun L)) (frames : List Captured) → ArePosts L.Recorder script.now begins frames posts.old.items
+    ensures posts { (begins : List (Begun L)) (frames : List Captured)
+        → ArePosts L.Recorder script.now begins frames posts.old.items
         → ArePosts L.Recorder script.now begins frames posts.new.items }
     ensures takes { HaveTaken relays.old.items relays.new.items }
     ensures place { OnOk result (nat_lt index (waiting.new.next + length waiting.new.window) ≡ true) }
@@ -78,6 +82,7 @@ fn await_place<R: Wait, L: Recorder + Drop, S: Source, O: Sink, G: Gate>(
     ensures cause { HasCauseOf (O.faults out.old) (O.faults out.new) (IsErrOf result PoolError.WriteFault) }
     ensures lasts { O.lasting out.new ≡ O.lasting out.old }
 {
+    let mut backoff = Backoff::new();
     for _ in rt.forever() {
         write_ready(waiting, capture, out, spare)?;
         if may_read(relays.as_slice(), waiting, index, capture, source) {
@@ -86,8 +91,9 @@ fn await_place<R: Wait, L: Recorder + Drop, S: Source, O: Sink, G: Gate>(
         if failed.load(Ordering::SeqCst) {
             return Err(PoolError::NoMemory);
         }
-        take_turns(rt, alloc, posts, script, natives, gate, failed);
-        take_all(relays, waiting);
+        let worked = take_turns(rt, alloc, posts, script, natives, gate, failed);
+        let answered = take_all(relays, waiting);
+        backoff.looked(rt, worked || answered);
     }
     unreachable!()
 }
@@ -113,12 +119,15 @@ fn send_next<R: Wait, L: Recorder + Drop, G: Gate>(
     ensures count { length posts.new.items ≡ length posts.old.items }
     ensures sent { (begins : List (Begun L)) (frames : List Captured) → length frames ≡ index
         → ArePosts L.Recorder script.now begins frames posts.old.items → AreRelays begins frames relays.old.items
-        → ArePosts L.Recorder script.now begins (frames ++ frame ∷ []) posts.new.items × AreRelays begins (frames ++ frame ∷ []) relays.new.items }
-    ensures leaves { (begins : List (Begun L)) (frames : List Captured) (before now : Option (List ℕ)) → length frames ≡ index
+        → ArePosts L.Recorder script.now begins (frames ++ frame ∷ []) posts.new.items
+        × AreRelays begins (frames ++ frame ∷ []) relays.new.items }
+    ensures leaves { (begins : List (Begun L)) (frames : List Captured) (before now : Option (List ℕ))
+        → length frames ≡ index
         → ArePosts L.Recorder script.now begins frames posts.old.items → AreRelays begins frames relays.old.items
         → nat_lt index (waiting.old.next + length waiting.old.window) ≡ true
         → Leaves (lane_at (length relays.old.items) frames) index (taken_from relays.old.items) waiting.old before now
-        → Leaves (lane_at (length relays.new.items) (frames ++ frame ∷ [])) (index + 1) (taken_from relays.new.items) waiting.new before now }
+        → Leaves (lane_at (length relays.new.items) (frames ++ frame ∷ [])) (index + 1)
+        (taken_from relays.new.items) waiting.new before now }
 {
     sending_stays_right();
     later_lanes_change_nothing();
@@ -137,15 +146,16 @@ fn next_frame(alloc: Global, spare: &mut Vec<Frame>) -> Frame {
     }
 }
 
-/// Reads an opened capture to its end or its tail, or to where it is refused, sends each packet to the post of its lane,
-/// and writes what the lanes let pass, in the order of the capture.
+/// Reads an opened capture to its end or its tail, or to where it is refused, sends each packet to the post of its
+/// lane, and writes what the lanes let pass, in the order of the capture.
 ///
-/// A packet is read where `waiting` reaches its number, so never are more packets on their way than it has places. Where the
-/// source would ask the outside for it, all packets before it have been decided and written. Till then answers are taken and
-/// written, and lanes whose workers are here are worked on. Where a lane raised `failed`, it ends with want of memory.
+/// A packet is read where `waiting` reaches its number, so never are more packets on their way than it has places.
+/// Where the source would ask the outside for it, all packets before it have been decided and written. Till then
+/// answers are taken and written, and lanes whose workers are here are worked on. Where a lane raised `failed`, it ends
+/// with want of memory.
 ///
-/// The answer ring of a lane has to have as many places as `waiting`. So a worker never waits for room to answer: one that
-/// is here would wait for good, since what it waits for is done by this thread.
+/// The answer ring of a lane has to have as many places as `waiting`. So a worker never waits for room to answer: one
+/// that is here would wait for good, since what it waits for is done by this thread.
 pub(crate) fn stream<R: Wait, L: Recorder + Drop, S: Source, O: Sink, G: Gate>(
     rt: &R,
     alloc: Global,
@@ -162,16 +172,22 @@ pub(crate) fn stream<R: Wait, L: Recorder + Drop, S: Source, O: Sink, G: Gate>(
 ) -> Result<Whole, PoolError>
     requires opened { Opened capture.old }
     requires some { 1 ≤ length posts.old.items }
-    requires begins { (begins : List (Begun L)) × ArePosts L.Recorder script.now begins [] posts.old.items × AreRelays begins [] relays.old.items }
-    ensures streamed { (begins : List (Begun L)) (before : Option (List ℕ)) → ArePosts L.Recorder script.now begins [] posts.old.items
+    requires begins { (begins : List (Begun L)) × ArePosts L.Recorder script.now begins [] posts.old.items
+        × AreRelays begins [] relays.old.items }
+    ensures streamed { (begins : List (Begun L)) (before : Option (List ℕ))
+        → ArePosts L.Recorder script.now begins [] posts.old.items
         → AreRelays begins [] relays.old.items
-        → Leaves (lane_at (length relays.old.items) []) 0 (taken_from relays.old.items) waiting.old before (O.taken out.old)
-        → Dealt L.Recorder script.now begins posts.new.items (λ frames. Streamed begins frames relays.new.items waiting.new
+        → Leaves (lane_at (length relays.old.items) []) 0 (taken_from relays.old.items) waiting.old before
+        (O.taken out.old)
+        → Dealt L.Recorder script.now begins posts.new.items
+        (λ frames. Streamed begins frames relays.new.items waiting.new
         capture.old (S.left source.old) (S.left source.new) before (O.taken out.new) result) }
     ensures reads { ReadsOn S.Source capture.old source.old source.new (IsOk result)
         (IsErrOf result PoolError.ReadFault) }
     ensures writes { Writes O.Sink out.old out.new (IsErrOf result PoolError.WriteFault) }
-    ensures stopped { IsTrue capture.new.is_live → ((result ≡ Err PoolError.WriteFault) ⊎ (result ≡ Err PoolError.NoMemory)) × GoesOn capture.old capture.new (S.left source.old) (S.left source.new) }
+    ensures stopped { IsTrue capture.new.is_live
+        → ((result ≡ Err PoolError.WriteFault) ⊎ (result ≡ Err PoolError.NoMemory))
+        × GoesOn capture.old capture.new (S.left source.old) (S.left source.new) }
 {
     let mut packets = 0;
     let mut last = None;

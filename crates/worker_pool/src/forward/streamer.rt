@@ -1,4 +1,5 @@
-//! A run that is forwarded: this thread reads the capture, sends its packets to the workers, and writes what they let pass.
+//! A run that is forwarded: this thread reads the capture, sends its packets to the workers, and writes what they let
+//! pass.
 
 use crate::dealer::Dealer;
 use crate::dispatch::Whole;
@@ -47,10 +48,12 @@ impl<'a, R: Wait, L: Recorder + Drop, S: Source, O: Sink, G: Gate> Dealer<L>
     ghost script = { λ d. d.script.now };
 
     ghost may = { λ d begins. Opened d.capture.now × AreRelays begins [] d.relays.now.items
-        × Leaves (lane_at (length d.relays.now.items) []) 0 (taken_from d.relays.now.items) d.waiting.now (O.taken d.out.now) (O.taken d.out.now) };
+        × Leaves (lane_at (length d.relays.now.items) []) 0 (taken_from d.relays.now.items) d.waiting.now
+        (O.taken d.out.now) (O.taken d.out.now) };
 
     ghost did = { λ d e begins frames result.
-        Streamed begins frames e.relays.now.items e.waiting.now d.capture.now (S.left d.source.now) (S.left e.source.now) (O.taken d.out.now) (O.taken e.out.now) result
+        Streamed begins frames e.relays.now.items e.waiting.now d.capture.now (S.left d.source.now)
+        (S.left e.source.now) (O.taken d.out.now) (O.taken e.out.now) result
         × ReadsOn S.Source d.capture.now d.source.now e.source.now (IsOk result) (IsErrOf result ReadFault)
         × Writes O.Sink d.out.now e.out.now (IsErrOf result WriteFault)
         × (e.relays.ghost_name ≡ d.relays.ghost_name) × (e.waiting.ghost_name ≡ d.waiting.ghost_name)

@@ -52,8 +52,8 @@ returns-in_err-next-clause-reads g c =
     (subst (λ e. NextGives at.capture new.self (g.S.Source.left at.source) (g.S.Source.left new.source) new.frame (Err e)) (is_fault fault) c.in_err-next.ensures.gives)
     (inv.read.3 bytes told))
 
-pub send_frame-requires-clause-posts : goal.send_frame-requires-clause-posts
-send_frame-requires-clause-posts g c =
+pub send_frame-lane-requires-clause-posts : goal.send_frame-lane-requires-clause-posts
+send_frame-lane-requires-clause-posts g c =
     let given = c.requires.posts in
     let read = c.loop-frame.invariant.read in
     (given.0, read.0, read.2 given.0 given.1)
@@ -70,13 +70,13 @@ loop-frame-preserved g c =
       live = c.in_ok-next.ensures.live.1 (ap (λ s. Ok s) c.in-Frame.is);
       count = moved.count ∙ ap (λ n. n + 1) inv.count;
       few = let within = moved.within in let count = moved.count in let before = inv.count in omega (arith, within, count, before);
-      some = let count = c.send_frame.ensures.count in let before = inv.some in omega (arith, count, before);
+      some = let count = c.send_frame-lane.ensures.count in let before = inv.some in omega (arith, count, before);
       faults = let before = inv.faults in let later = c.next.ensures.cause.later in omega (arith, before, later);
       lasts = c.next.ensures.lasts ∙ inv.lasts;
       read = (
         read.0 ++ frame ∷ [],
         length-append read.0 (frame ∷ []) ∙ ap (λ n. n + 1) read.1,
-        λ begins are. c.send_frame.ensures.sent begins read.0 read.1 (read.2 begins are),
+        λ begins are. c.send_frame-lane.ensures.sent begins read.0 read.1 (read.2 begins are),
         λ bytes told. read_more c.args.capture.now bytes read.0 at.capture c.next.new.self frame (g.S.Source.left at.source) (g.S.Source.left c.next.new.source) gives (read.3 bytes told),
         c.greatest_with-last.ensures.greatest read.0 read.4,
       );

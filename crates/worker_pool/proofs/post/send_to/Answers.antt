@@ -11,8 +11,8 @@ returns-in-Ok g c = λ begin packets p.
     subst (λ (q : Packet). IsPost g.L.Recorder script begin (packets ++ q ∷ []) (record { packets = c.send.new.self; seat = c.loop.post.seat })) c.loop.invariant.same
     (sent_on g.L.Recorder script begin packets c.loop.post c.send.new.self (c.loop.packet ∷ []) c.in-Ok.ensures.ring c.in-Ok.ensures.ok (c.loop.invariant.post begin packets p))
 
-pub make_room-requires : goal.make_room-requires
-make_room-requires g c =
+pub make_room-made-requires : goal.make_room-made-requires
+make_room-made-requires g c =
     let script = commands_of c.args.script.now in
     let post = c.requires.post in
     record {
@@ -28,6 +28,6 @@ loop-preserved g c =
     let script = commands_of c.args.script.now in
     record {
       same = c.in-Err.ensures.full.0 ∙ c.loop.invariant.same;
-      post = λ begin packets p. c.make_room.ensures begin packets
+      post = λ begin packets p. c.make_room-made.ensures begin packets
           (sent_none g.L.Recorder script begin packets c.loop.post c.send.new.self c.in-Err.ensures.ring c.in-Err.ensures.full.1 (c.loop.invariant.post begin packets p));
     }

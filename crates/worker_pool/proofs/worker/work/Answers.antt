@@ -9,22 +9,16 @@ use Rattle.worker_pool.proofs.worker.work.Goals as goal
 pub loop-init : goal.loop-init
 loop-init g c = record { worked = worked_none g.L.Recorder (commands_of c.args.script.now) c.args.w; ready = c.requires.ready }
 
-pub take_turn-requires-clause-lawful : goal.take_turn-requires-clause-lawful
-take_turn-requires-clause-lawful g c =
+pub take_turn-found-requires-clause-lawful : goal.take_turn-found-requires-clause-lawful
+take_turn-found-requires-clause-lawful g c =
     subst (λ (m : Meaning). are_lawful (start m.presets) (commands_of c.args.script.now) ≡ true) (sym c.loop.invariant.worked.app) c.requires.lawful
 
-pub returns-then-stopped-clause-worked : goal.returns-then-stopped-clause-worked
-returns-then-stopped-clause-worked g c =
-    worked_two g.L.Recorder (commands_of c.args.script.now) c.args.w c.loop.w c.take_turn.new.w c.loop.invariant.worked c.take_turn.ensures.worked
-
-pub loop-preserved-then-not-take_turn : goal.loop-preserved-then-not-take_turn
-loop-preserved-then-not-take_turn g c = record {
-  worked = worked_two g.L.Recorder (commands_of c.args.script.now) c.args.w c.loop.w c.take_turn.new.w c.loop.invariant.worked c.take_turn.ensures.worked;
-  ready = c.take_turn.ensures.ready;
-}
+pub returns-then-not-found-clause-worked : goal.returns-then-not-found-clause-worked
+returns-then-not-found-clause-worked g c =
+    worked_two g.L.Recorder (commands_of c.args.script.now) c.args.w c.loop.w c.take_turn-found.new.w c.loop.invariant.worked c.take_turn-found.ensures.worked
 
 pub loop-preserved : goal.loop-preserved
 loop-preserved g c = record {
-  worked = worked_two g.L.Recorder (commands_of c.args.script.now) c.args.w c.loop.w c.take_turn.new.w c.loop.invariant.worked c.take_turn.ensures.worked;
-  ready = c.take_turn.ensures.ready;
+  worked = worked_two g.L.Recorder (commands_of c.args.script.now) c.args.w c.loop.w c.take_turn-found.new.w c.loop.invariant.worked c.take_turn-found.ensures.worked;
+  ready = c.take_turn-found.ensures.ready;
 }

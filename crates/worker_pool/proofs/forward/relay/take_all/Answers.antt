@@ -11,9 +11,9 @@ pub loop-lane-preserved : goal.loop-lane-preserved
 loop-lane-preserved c =
     let first = c.args.relays.now.items in
     let old = c.loop-lane.relays.items in
-    let new = c.take_answers.new.relays.items in
+    let new = c.take_answers-took.new.relays.items in
     let inv = c.loop-lane.invariant in
     record {
-      takes = all_taken_then first old new inv.takes c.take_answers.ensures.takes;
-      offers = offers_then first old new c.args.waiting.now c.loop-lane.waiting c.take_answers.new.waiting inv.takes inv.offers c.take_answers.ensures.offers;
+      takes = all_taken_then first old new inv.takes c.take_answers-took.ensures.takes;
+      offers = offers_then first old new c.args.waiting.now c.loop-lane.waiting c.take_answers-took.new.waiting inv.takes inv.offers c.take_answers-took.ensures.offers;
     }

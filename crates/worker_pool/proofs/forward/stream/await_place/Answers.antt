@@ -45,8 +45,8 @@ returns-then-load-clause-cut g c =
     cut_nowhere first now c.args.waiting.now c.write_ready.new.waiting old new
     (written_then first now c.args.waiting.now c.loop.waiting old (g.O.Sink.taken c.loop.out) c.loop.invariant.leaves c.write_ready.new.waiting new c.in_ok-write_ready.ensures.leaves)
 
-pub take_turns-requires : goal.take_turns-requires
-take_turns-requires g c =
+pub take_turns-worked-requires : goal.take_turns-worked-requires
+take_turns-worked-requires g c =
     let given = c.requires.begins in
     record { posts = (given.0, given.1, c.loop.invariant.posts given.0 given.1 given.2) }
 
@@ -54,16 +54,16 @@ pub loop-preserved : goal.loop-preserved
 loop-preserved g c =
     let first = c.args.relays.now.items in
     let now = c.loop.relays.items in
-    let next = c.take_all.new.relays.items in
+    let next = c.take_all-answered.new.relays.items in
     let old = g.O.Sink.taken c.args.out.now in
     let new = g.O.Sink.taken c.write_ready.new.out in
     let inv = c.loop.invariant in
     record {
-      posts = λ begins frames are. c.take_turns.ensures begins frames (inv.posts begins frames are);
-      takes = all_taken_then first now next inv.takes c.take_all.ensures.takes;
+      posts = λ begins frames are. c.take_turns-worked.ensures begins frames (inv.posts begins frames are);
+      takes = all_taken_then first now next inv.takes c.take_all-answered.ensures.takes;
       leaves = offered_then first now c.args.waiting.now c.write_ready.new.waiting old new
           (written_then first now c.args.waiting.now c.loop.waiting old (g.O.Sink.taken c.loop.out) inv.leaves c.write_ready.new.waiting new c.in_ok-write_ready.ensures.leaves)
-          next c.take_all.new.waiting inv.takes c.take_all.ensures.offers;
+          next c.take_all-answered.new.waiting inv.takes c.take_all-answered.ensures.offers;
       faults = search rules;
       lasts = search rules;
     }

@@ -1,0 +1,59 @@
+//! Pauses of a thread that waits for another.
+
+use std::sync::Wait;
+use std::thread::Parker;
+use std::time::Duration;
+use std::{hint, thread};
+
+/// For so many looks in vain a thread spins: what it waits for is often there at once.
+const SPINS: u32 = 64;
+
+/// For so many more it leaves its processor to others, and then sleeps.
+const YIELDS: u32 = 128;
+
+/// The length of the first sleep in microseconds, by which each one is longer than the one before.
+const SLEEP: u64 = 50;
+
+/// How many sleeps grow: none is longer than a millisecond.
+const LONGER: u32 = 20;
+
+/// How often a thread has looked in vain for what it waits for. The oftener, the longer its next pause.
+#[derive(Drop)]
+pub(crate) struct Backoff {
+    looks: u32,
+}
+
+impl Backoff {
+    /// For a thread that has not looked yet.
+    pub(crate) fn new() -> Backoff {
+        Backoff { looks: 0 }
+    }
+
+    /// Has looked, and pauses where it found nothing.
+    pub(crate) fn looked<R: Wait>(&mut self, rt: &R, found: bool) {
+        if found {
+            self.looks = 0;
+        } else {
+            self.pause(rt);
+        }
+    }
+
+    /// Has looked in vain, and pauses.
+    pub(crate) fn pause<R: Wait>(&mut self, rt: &R) {
+        if self.looks < SPINS {
+            hint::spin_loop();
+        } else if self.looks < SPINS + YIELDS {
+            thread::yield_now();
+        } else {
+            sleep(rt, self.looks - SPINS - YIELDS);
+        }
+        if self.looks < SPINS + YIELDS + LONGER {
+            self.looks += 1;
+        }
+    }
+}
+
+// Sleeps behind so many sleeps. Nobody wakes the thread: a sleep by the clock would ask for a clock.
+fn sleep<R: Wait>(rt: &R, before: u32) {
+    Parker::new().park_timeout(rt, Duration::from_micros(SLEEP * (u64::from(before) + 1)));
+}
