@@ -95,14 +95,7 @@ fn report_on<
         plan.natives,
         crew.gate,
     )?;
-    write_end_by(
-        crew,
-        alloc,
-        plan,
-        end.records.as_slice(),
-        &end.totals,
-        out,
-    )?;
+    write_end_by(crew, alloc, plan, end.records.as_slice(), &end.totals, out)?;
     Ok(end.versions)
 }
 
