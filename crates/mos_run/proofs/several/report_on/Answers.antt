@@ -81,16 +81,13 @@ returns-in_err-end g c = record {
   };
 }
 
-pub write_end_by-requires : goal.write_end_by-requires
-write_end_by-requires g c = record {
-  some = c.requires.job.some;
-  tidy = λ report.
-      let plan = c.args.plan.now in
-      let app = meaning_of plan.app in
-      let whole = c.in_ok-end.ensures.whole in
-      subst (λ l. tidy l ≡ true) (sym c.as_slice.ensures)
-      (whole_is_tidy c.records_are_tidy.ensures c.packets_of_a_capture_rise.ensures.run app plan.script.now plan.workers whole.1 whole.0 c.in_ok-end.end (lawful_app plan.app) c.requires.job.lawful whole.2);
-}
+pub write_end_by-requires-clause-tidy : goal.write_end_by-requires-clause-tidy
+write_end_by-requires-clause-tidy g c κs within report =
+    let plan = c.args.plan.now in
+    let app = meaning_of plan.app in
+    let whole = c.in_ok-end.ensures.whole in
+    subst (λ l. tidy l ≡ true) (sym c.as_slice.ensures)
+    (whole_is_tidy c.records_are_tidy.ensures c.packets_of_a_capture_rise.ensures.run app plan.script.now plan.workers whole.1 whole.0 c.in_ok-end.end (lawful_app plan.app) c.requires.job.lawful whole.2)
 
 pub returns-in_err-write_end_by : goal.returns-in_err-write_end_by
 returns-in_err-write_end_by g c = record {
