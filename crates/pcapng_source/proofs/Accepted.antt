@@ -1,5 +1,5 @@
 -- What is known of a head that isn't refused.
-use Rattle.std.proofs.Common.{◌≡◌, ℕ, ◌+◌, ◌%◌, ◌≤◌, List, length, Bool, true, false, nat_le, nat_lt, ◌&&◌, ◌==◌, not, cond, Option, None, Some, refl, sym, subst, ◌∙◌, arith}
+use Rattle.std.proofs.Common.{◌≡◌, ℕ, ◌+◌, ◌%◌, ◌≤◌, List, length, Bool, true, false, nat_le, nat_lt, ◌&&◌, ◌==◌, not, cond, Option, None, Some, refl, sym, ap, subst, ◌∙◌, arith}
 use Rattle.std.proofs.lemmas.Bool.{cond-false, cond-true, leb-true, ltb-false, eqb-true, and_parts, not-false}
 use Rattle.pcapng_source.specs.Order.{number_in}
 use Rattle.pcapng_source.specs.Fields.{SectionState, has, is_section, is_total, kind_by, kind_of, least_total, order_told, section_in, total_of}
@@ -39,14 +39,18 @@ pub kind_in : (before : SectionState) (bytes : List ℕ) (section : Bool) → is
 kind_in before bytes true is = rw is refl
 kind_in before bytes false is = rw is refl
 
+-- the refusal of a block of this kind that is no section header
+pub refusal-plain : (before : SectionState) (offset : ℕ) (head : List ℕ) (kind : Kind) → is_section head ≡ false → 8 ≤ length head
+    → kind_of before.order head ≡ kind → refusal_of before offset head ≡ block_by kind before offset head
+refusal-plain before offset head kind other long is =
+    cond-true (has 8 head) _ None (has-there 8 head long) ∙ cond-false (is_section head) _ _ other ∙ ap (λ k. block_by k before offset head) is
+
 -- a block that is no section header
 pub block_accepted : (before : SectionState) (offset : ℕ) (head : List ℕ) (kind : Kind) → is_section head ≡ false → 8 ≤ length head
     → kind_of before.order head ≡ kind → refusal_of before offset head ≡ None
     → (is_total kind (total_of before.order head) ≡ true) × (kind_refusal kind before offset head ≡ None)
 block_accepted before offset head kind other long is accepted =
-    let body : refusal_of before offset head ≡ block_by (kind_of before.order head) before offset head =
-    cond-true (has 8 head) _ None (has-there 8 head long) ∙ cond-false (is_section head) _ _ other in
-    none_then _ _ (BadBlock offset) (subst (λ k. block_by k before offset head ≡ None) is (sym body ∙ accepted))
+    none_then _ _ (BadBlock offset) (sym (refusal-plain before offset head kind other long is) ∙ accepted)
 
 -- a section header: its magic number tells an order
 header_accepted : (order : Option Order) (offset : ℕ) (head : List ℕ) → header_by order offset head ≡ None

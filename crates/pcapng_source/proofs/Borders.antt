@@ -1,44 +1,26 @@
--- From the data of a packet to the next block.
-use Rattle.std.proofs.Common.{◌≡◌, ℕ, ◌+◌, ◌-◌, ◌<◌, ◌≤◌, List, [], ◌++◌, length, take, drop, Bool, true, false, ◌&&◌, ◌==◌, cond, refl, sym, ap, ◌∙◌, arith, append_assoc, length-drop, length-take-le}
-use Rattle.std.proofs.lemmas.Bool.{eq-eqb, eqb-true, ne_eqb}
-use Rattle.std.proofs.lemmas.List.{drop-drop, take-append-drop}
+-- From the data of a packet into the next block.
+use Rattle.std.proofs.Common.{◌≡◌, ℕ, ◌+◌, ◌-◌, ◌≤◌, List, [], ◌++◌, length, take, drop, min, Option, None, Some, refl, sym, ap, subst, ◌∙◌, arith, append_assoc, length-drop, length-take-le, ⊎_elim}
+use Rattle.std.proofs.lemmas.Bool.{cases_lt, cond-false, cond-true, eq-eqb, ne_eqb}
+use Rattle.std.proofs.lemmas.List.{drop-drop, drop-take, take-append-drop, take-take}
+use Rattle.std.proofs.Math.Seq.{take-append_seam}
+use Rattle.std.specs.Io.{StartsWith}
+use Rattle.std.specs.Io.KnownBytes.{Consumes}
+use Rattle.mos_bytes.specs.Reads.{BeginsWith}
 use Rattle.pcapng_source.specs.Given.{after}
 use Rattle.pcapng_source.specs.Order.{number_in}
+use Rattle.pcapng_source.specs.Fields.{has, head_length, kind_of}
 use Rattle.pcapng_source.specs.Blocks.{blocks_from}
-use Rattle.pcapng_source.specs.Reading.{IsFitting, border_at, rest_of}
+use Rattle.pcapng_source.specs.Outlooks.{Gives, outlook}
+use Rattle.pcapng_source.specs.Reading.{EndsInHead, IsBehindData, IsBorder, IsFitting, rest_of, stop_of}
+use Rattle.pcapng_source.specs.declared.order.Order.{Order}
 use Rattle.pcapng_source.specs.declared.reader.Reader.{Reader}
-use Rattle.pcapng_source.specs.declared.reader.Stage.{Stage}
-use Rattle.pcapng_source.specs.declared.reader.Stage.TheVariants.{Start, Plain, Head, Body, OptionHead, Resolution, Trailer, Refused}
+use Rattle.pcapng_source.specs.declared.reader.Stage.TheVariants.{Head, Trailer, Refused}
 use Rattle.pcapng_source.specs.declared.fault.NgFault.TheVariants.{BadBlock}
-use Rattle.pcapng_source.proofs.Numbers.{number_in-front}
+use Rattle.pcapng_source.proofs.Numbers.{has-there, number_in-front}
+use Rattle.pcapng_source.proofs.Firm.{kind_of-front}
+use Rattle.pcapng_source.proofs.Blocks.{has-short}
 use Rattle.pcapng_source.proofs.Bodies.{closes, closes-badly, leaves-body}
 use Rattle.pcapng_source.proofs.Steps.{skips-body}
-
--- behind the data of a packet
-pub record IsBehindData (r : Reader) : Type 0 where
-  pub stage : r.stage ≡ Body
-  pub owed : r.owed ≡ 0
-  pub options : r.options ≡ 0
-
-border-by : (owed options few : Bool) (n : ℕ) → 0 < cond (owed && (options && few)) n 0 → (owed ≡ true) × (options ≡ true)
-border-by true true few n some = (refl, refl)
-border-by true false few n some = absurd (omega arith)
-border-by false options few n some = absurd (omega arith)
-
-border-at : (stage : Stage) (r : Reader) → r.stage ≡ stage → 0 < border_at stage r → IsBehindData r
-border-at Start r is some = absurd (omega arith)
-border-at Plain r is some = absurd (omega arith)
-border-at Head r is some = absurd (omega arith)
-border-at Body r is some =
-    let both = border-by (r.owed == 0) (r.options == 0) _ _ some in
-    record { stage = is; owed = eqb-true r.owed 0 both.0; options = eqb-true r.options 0 both.1 }
-border-at OptionHead r is some = absurd (omega arith)
-border-at Resolution r is some = absurd (omega arith)
-border-at Trailer r is some = absurd (omega arith)
-border-at (Refused fault met) r is some = absurd (omega arith)
-
-pub behind-data : (r : Reader) → 0 < border_at r.stage r → IsBehindData r
-behind-data r some = border-at r.stage r refl some
 
 -- the second total length is held, behind what pads the data
 abbrev held : Reader → List ℕ → Reader
@@ -89,3 +71,60 @@ crosses-badly r bytes left it fits long other =
     let differs = ne_eqb _ _ (λ same. other (read r bytes long ∙ same)) in
     (closes-badly (held r bytes) refl (whole r bytes long) fits differs).same (drop 4 (drop r.skip bytes) ++ left)
     ∙ holds r bytes left it fits long
+
+-- ---- the head of the next block
+
+-- a front of a head that is no longer than is judged next
+pub stop-front : (order : Order) (n : ℕ) (bytes : List ℕ) → n ≤ stop_of order bytes → n ≤ length bytes → n ≤ stop_of order (take n bytes)
+stop-front order n bytes few there =
+    let front = take n bytes in
+    let sized : length front ≡ n = length-take-le n bytes there in
+    ⊎_elim
+    (λ short.
+    let stop : stop_of order front ≡ 8 = cond-false (has 8 front) _ 8 (has-short 8 front (omega (arith, sized))) in
+    omega (arith, stop))
+    (λ long.
+    let one : stop_of order bytes ≡ head_length (kind_of order bytes) = cond-true (has 8 bytes) _ 8 (has-there 8 bytes (omega arith)) in
+    let two : stop_of order front ≡ head_length (kind_of order front) = cond-true (has 8 front) _ 8 (has-there 8 front (omega (arith, sized))) in
+    let same : kind_of order bytes ≡ kind_of order front =
+    ap (kind_of order) (sym (take-append-drop n bytes)) ∙ kind_of-front order front (drop n bytes) (omega (arith, sized)) in
+    omega (arith, one, two, ap head_length same))
+    (cases_lt n 8)
+
+-- no more of them is held than that
+pub held-fits : (order : Order) (head : List ℕ) → length (take (min (stop_of order head) (length head)) head) ≤ stop_of order (take (min (stop_of order head) (length head)) head)
+held-fits order head =
+    let n = min (stop_of order head) (length head) in
+    let fits = stop-front order n head (omega arith) (omega arith) in
+    omega (arith, fits, length-take-le n head (omega arith))
+
+-- what is read of a border ends in the head behind it
+pub ends-in-head : (r : Reader) (front left bytes behind : List ℕ) (count : ℕ) → IsBorder r front count → StartsWith left front
+    → left ≡ bytes ++ behind → length bytes ≤ count → EndsInHead r bytes
+ends-in-head r front left bytes behind count border starts parts few =
+    let start = r.skip + 4 in
+    let n = length bytes - start in
+    let there = border.there in
+    let head = border.head in
+    let read : bytes ≡ take (length bytes) front =
+    sym (take-append_seam bytes behind) ∙ ap (take (length bytes)) (sym parts)
+    ∙ sym (take-take (length bytes) (length front) left (omega (arith, there))) ∙ ap (take (length bytes)) starts in
+    ⊎_elim
+    (λ short. omega arith)
+    (λ long.
+    let same : drop start bytes ≡ take n (drop start front) =
+    ap (drop start) read ∙ ap (λ k. drop start (take k front)) (let it : length bytes ≡ start + n = omega arith in it) ∙ drop-take start n front in
+    let stop = stop-front r.section.order n (drop start front) (omega (arith, head)) (omega (arith, there, length-drop start front)) in
+    let all : n ≤ stop_of r.section.order (drop start bytes) = subst (λ l. n ≤ stop_of r.section.order l) (sym same) stop in
+    omega (arith, all))
+    (cases_lt (length bytes) start)
+
+-- a reader that went over them gives the same
+pub crosses-told : (r s : Reader) (left now : Option (List ℕ)) (front read room : List ℕ) (count border : ℕ) → IsBorder r front border
+    → length (take count read) ≤ border → BeginsWith left front → Consumes left now (take count read) → take count room ≡ take count read
+    → (EndsInHead r (take count room) → (l : List ℕ) → rest_of s l ≡ rest_of r (take count room ++ l)) → Gives (outlook r left) (outlook s now) []
+crosses-told r s None now front read room count border it few begins consumed same rest = tt
+crosses-told r s (Some left) None front read room count border it few begins consumed same rest = absurd consumed
+crosses-told r s (Some left) (Some now) front read room count border it few begins consumed same rest =
+    let ends = ends-in-head r front left (take count read) now border it begins consumed few in
+    ap (rest_of r) (consumed ∙ ap (λ l. l ++ now) (sym same)) ∙ sym (rest (subst (EndsInHead r) (sym same) ends) now)

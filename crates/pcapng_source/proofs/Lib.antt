@@ -1,5 +1,4 @@
 pub mod Gives
-pub mod Middles
 pub mod Numbers
 pub mod Firm
 pub mod Accepted

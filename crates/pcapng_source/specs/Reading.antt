@@ -1,5 +1,5 @@
 -- What a reader stands for, between the bytes that it has read and those that come next.
-use Rattle.std.specs.Prelude.{◌≡◌, ℕ, zero, suc, ◌+◌, ◌-◌, ◌*◌, ◌<◌, ◌≤◌, ⊤, List, [], ◌++◌, length, take, drop, Bool, false, ◌&&◌, ◌==◌, min, nat_le, slice_index, if◌then◌else◌, Option, None, Some}
+use Rattle.std.specs.Prelude.{◌≡◌, ℕ, zero, suc, ◌+◌, ◌-◌, ◌*◌, ◌<◌, ◌≤◌, ⊤, List, [], ◌++◌, length, take, drop, Bool, false, ◌==◌, min, slice_index, if◌then◌else◌, Option, None, Some}
 use Rattle.pcapng_source.specs.Given.{Given, after, nothing, refused, whole}
 use Rattle.pcapng_source.specs.Fields.{SectionState, has, head_length, kind_of, resolution_in, with_resolution}
 use Rattle.pcapng_source.specs.Refusals.{refusal_of}
@@ -94,17 +94,22 @@ skipped_at Resolution r = 0
 skipped_at Trailer r = 0
 skipped_at (Refused fault met) r = 0
 
--- How many of the next bytes lead from the data of a packet to the next block: what pads the data, the second total length
--- and the fields of the next block that are judged first.
-abbrev pub border_at : Stage → Reader → ℕ
-border_at Start r = 0
-border_at Plain r = 0
-border_at Head r = 0
-border_at Body r = if r.owed == 0 && (r.options == 0 && nat_le r.skip 3) then r.skip + 12 else 0
-border_at OptionHead r = 0
-border_at Resolution r = 0
-border_at Trailer r = 0
-border_at (Refused fault met) r = 0
+-- behind the data of a packet, but for what pads it
+pub record IsBehindData (r : Reader) : Type 0 where
+  pub stage : r.stage ≡ Body
+  pub owed : r.owed ≡ 0
+  pub options : r.options ≡ 0
+  pub padding : r.skip ≤ 3
+
+-- behind the data of a packet so many of these bytes come before the body of the next block, whose head is whole among them
+pub record IsBorder (r : Reader) (front : List ℕ) (count : ℕ) : Type 0 where
+  pub behind : IsBehindData r
+  pub there : count ≤ length front
+  pub head : count ≡ r.skip + 4 + stop_of r.section.order (drop (r.skip + 4) front)
+
+-- these bytes, which come behind the data of a packet, end in the head of the next block or before it
+abbrev pub EndsInHead : Reader → List ℕ → Type 0
+EndsInHead r bytes = length bytes ≤ r.skip + 4 + stop_of r.section.order (drop (r.skip + 4) bytes)
 
 -- no byte would be given if none came any more, and no refusal
 abbrev pub IsOpen : Reader → Type 0

@@ -11,7 +11,7 @@ ghost use Rattle.pcapng_source.specs.Outlooks.{IsLinked, IsLinked-prop};
 
 use crate::NgFault;
 use crate::reader::Reader;
-use crate::turns::{look_ahead, read_on};
+use crate::turns::{give, look_ahead, read_on};
 use mos_bytes::{Failed, Source};
 use std::snapshot::Snapshot;
 
@@ -75,8 +75,26 @@ impl<'a, S: Source> AnySource<'a, S> {
         self.reader.fault()
     }
 
-    // Reads on by steps of the reader, and shows what it can of the bytes behind. It stands apart, so that the read of a
-    // classic capture stays short.
+    // Gives what comes next, by steps of the reader where neither bytes that were made nor those of the file do.
+    fn read_next(&mut self, buf: &mut [u8]) -> Result<usize, Failed>
+        requires room { 0 < length buf.old }
+        ensures bound { ReadsAtMost result buf.new }
+        ensures bytes { ReadConsumes (any_left self.old) (any_left self.new) result buf.new }
+        ensures ended { IfOk result (λ count. count ≡ 0 → any_ended self.new) }
+        ensures cause { HasCause (any_faults self.old) (any_faults self.new) result }
+        ensures lasts { any_lasting self.new ≡ any_lasting self.old }
+    {
+        if self.reader.made() > 0 {
+            return Ok(self.reader.give(buf));
+        }
+        let most = self.reader.direct(buf.len());
+        if most > 0 {
+            return give(self.source, &mut self.reader, &mut buf[..most]);
+        }
+        read_on(self.source, &mut self.reader, buf)
+    }
+
+    // Reads, and shows what it can of the bytes behind. It stands apart, so that the read of a classic capture stays short.
     #[inline(never)]
     fn read_on(&mut self, buf: &mut [u8]) -> Result<usize, Failed>
         requires room { 0 < length buf.old }
@@ -86,8 +104,8 @@ impl<'a, S: Source> AnySource<'a, S> {
         ensures cause { HasCause (any_faults self.old) (any_faults self.new) result }
         ensures lasts { any_lasting self.new ≡ any_lasting self.old }
     {
-        let count = read_on(self.source, &mut self.reader, buf)?;
-        if count > 0 {
+        let count = self.read_next(buf)?;
+        if count > 0 && self.reader.made() == 0 && self.reader.direct(1) == 0 {
             look_ahead(self.source, &mut self.reader);
         }
         Ok(count)

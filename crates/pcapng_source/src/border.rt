@@ -1,39 +1,56 @@
-//! Going from the data of a packet to the next block at once.
+//! Going from the data of a packet into the next block at once.
 
 ghost use Rattle.std.specs.Prelude.{◌≡◌, ◌+◌, ◌*◌, ◌<◌, ◌≤◌, ℕ, List, [], ◌++◌, length};
+ghost use Rattle.std.specs.Bool.{OnTrue};
+ghost use Rattle.std.specs.Option.{IfSome};
 
 use crate::NgFault;
-use crate::reader::{FIRST_FIELDS, Reader, Stage, WORD};
+use crate::judge::judge_as;
+use crate::kind::Kind;
+use crate::reader::{Reader, Stage, WORD};
 
 // How many bytes pad the data of a packet at most.
 const PADDING: u64 = 3;
 
-impl Reader {
-    ghost use Rattle.pcapng_source.specs.Reading.{IsFitting, border_at, met_at, rest_of};
-    ghost use Rattle.pcapng_source.specs.declared.reader.Stage.TheVariants.{Body};
+// How many bytes lead from the data of a packet into the next block at most: three that pad the data, the second total
+// length, and the longest head.
+pub(crate) const BORDER: usize = 35;
 
-    // How many bytes come next up to the fields of the next block that are judged first, and those: behind the data of
-    // a packet what pads it, the second total length and those fields. 0 elsewhere.
+// How many bytes the head of an enhanced packet block has.
+const PACKET_HEAD: usize = 28;
+
+impl Reader {
+    ghost use Rattle.pcapng_source.specs.Fields.{kind_of};
+    ghost use Rattle.pcapng_source.specs.Reading.{EndsInHead, Goes, IsBehindData, IsBorder, IsFitting, met_at, rest_of, stop_of};
+    ghost use Rattle.pcapng_source.specs.declared.kind.Kind.TheVariants.{EnhancedPacket};
+    ghost use Rattle.pcapng_source.specs.declared.reader.Stage.TheVariants.{Body, Head};
+
+    // How many of these bytes, which come next, lead from the data of a packet into the next block, where they are all
+    // there: what pads the data, the second total length and the head of that block.
     #[inline]
-    pub(crate) fn border(&self) -> usize
-        ensures { result ≡ border_at self.now.stage self.now }
+    pub(crate) fn border(&self, front: &[u8]) -> Option<usize>
+        ensures border { IfSome result (IsBorder self.now front.now) }
+        ensures most { IfSome result (λ count. count ≤ 35) }
     {
         match self.stage {
             Stage::Body if self.owed == 0 && self.options == 0 && self.skip <= PADDING => {
-                self.skip as usize + WORD + FIRST_FIELDS
+                let start = self.skip as usize + WORD;
+                let end = start + self.stop(front.get(start..)?);
+                (end <= front.len()).then_some(end)
             }
-            _ => 0,
+            _ => None,
         }
     }
 
     // Goes over these bytes, which come next behind the data of a packet.
     #[inline]
     pub(crate) fn cross(&mut self, bytes: &[u8])
-        requires some { 0 < border_at self.old.stage self.old }
-        requires few { length bytes.now ≤ border_at self.old.stage self.old }
+        requires few { length bytes.now ≤ 35 }
+        requires behind { IsBehindData self.old }
         requires made { self.old.made ≡ [] }
         requires fits { IsFitting self.old }
-        ensures rest { (left : List ℕ) → rest_of self.new left ≡ rest_of self.old (bytes.now ++ left) }
+        ensures rest { EndsInHead self.old bytes.now
+            → (left : List ℕ) → rest_of self.new left ≡ rest_of self.old (bytes.now ++ left) }
         ensures fits { IsFitting self.new }
         ensures met { met_at self.new.stage ≡ 0 }
     {
@@ -41,11 +58,64 @@ impl Reader {
         if bytes.len() < padding + WORD {
             self.begin_trailer(bytes);
         } else if self.section.order().u32_at(bytes, padding) == self.block.total {
-            self.head.clear();
-            self.head.put(&bytes[padding + WORD..]);
-            self.stage = Stage::Head;
+            self.begin_head(&bytes[padding + WORD..]);
         } else {
             self.stage = Stage::Refused(NgFault::BadBlock(self.block.offset), 0);
+        }
+    }
+
+    // The same from the next block on, which begins with these bytes. No more of them are held than are judged next, and
+    // the whole head of an enhanced packet block is judged at once.
+    #[inline]
+    fn begin_head(&mut self, head: &[u8])
+        requires made { self.old.made ≡ [] }
+        ensures rest { length head.now ≤ stop_of self.old.section.order head.now → (left : List ℕ)
+            → rest_of self.new left ≡ rest_of (record self.old { head = head.now; stage = Head }) left }
+        ensures fits { IsFitting self.new }
+        ensures met { met_at self.new.stage ≡ 0 }
+    {
+        self.head.clear();
+        self.stage = Stage::Head;
+        if self.is_packet(head) && self.place.allowed() > 0 {
+            self.head.put(head);
+            self.take_packet();
+        } else {
+            let stop = self.stop(head);
+            self.head.put(&head[..stop.min(head.len())]);
+        }
+    }
+
+    // Whether this is the whole head of an enhanced packet block.
+    #[inline]
+    fn is_packet(&self, head: &[u8]) -> bool
+        ensures whole { OnTrue result (length head.now ≡ 28) }
+        ensures kind { OnTrue result (kind_of self.now.section.order head.now ≡ EnhancedPacket) }
+    {
+        head.len() == PACKET_HEAD
+            && matches!(Kind::of(self.section.order(), head), Kind::EnhancedPacket)
+    }
+
+    // Goes on behind the head of an enhanced packet block. Most heads are one: where its kind is known, its fields are
+    // read once.
+    #[inline(always)]
+    fn take_packet(&mut self)
+        requires stage { self.old.stage ≡ Head }
+        requires made { self.old.made ≡ [] }
+        requires allowed { 0 < self.old.place.allowed }
+        requires kind { kind_of self.old.section.order self.old.head ≡ EnhancedPacket }
+        requires whole { length self.old.head ≡ 28 }
+        requires fits { IsFitting self.old }
+        ensures goes { Goes self.old self.new }
+    {
+        let offset = self.place.offset();
+        match judge_as(
+            Kind::EnhancedPacket,
+            &self.section,
+            offset,
+            self.head.as_slice(),
+        ) {
+            Some(fault) => self.stage = Stage::Refused(fault, 0),
+            None => self.open_enhanced(),
         }
     }
 

@@ -2,7 +2,6 @@
 
 ghost use Rattle.std.specs.Prelude.{◌≡◌, ◌+◌, ◌-◌, ◌≤◌, List, ℕ, [], ◌++◌, length, take, drop, min, slice_range};
 
-use mos_bytes::{Failed, Source};
 use std::marker::Model;
 
 // How many bytes the longest head of a block has.
@@ -53,8 +52,6 @@ impl Model for Head {
 }
 
 impl Head {
-    ghost use Rattle.pcapng_source.specs.Held.{IsRead};
-
     pub(crate) fn new() -> Self
         ensures { result ≡ [] }
     {
@@ -76,21 +73,6 @@ impl Head {
         ensures { self.new ≡ self.old ++ bytes.now }
     {
         self.len = put_behind(&mut self.bytes, self.len, bytes);
-    }
-
-    // Reads up to so many bytes more. A fault of the source is counted there, and not told.
-    #[inline]
-    pub(crate) fn read_more<S: Source>(&mut self, source: &mut S, most: usize)
-        requires { length self.old + most ≤ 28 }
-        ensures bytes { IsRead (S.left source.old) (S.left source.new) self.old self.new most }
-        ensures lasts { S.lasting source.new ≡ S.lasting source.old }
-        ensures source_faults { S.faults source.old ≤ S.faults source.new }
-    {
-        let end = self.len + most;
-        match source.read(&mut self.bytes[self.len..end]) {
-            Ok(count) => self.len += count,
-            Err(Failed) => {}
-        }
     }
 
     pub(crate) fn clear(&mut self)

@@ -81,6 +81,7 @@ fn judge_simple(section: &Section, offset: u64, head: &[u8]) -> Option<NgFault>
     judge_length(12, order.u32_at(head, 4), captured, offset)
 }
 
+#[inline(always)]
 fn judge_enhanced(section: &Section, offset: u64, head: &[u8]) -> Option<NgFault>
     requires { 8 ≤ length head.now }
     ensures { result ≡ kind_refusal EnhancedPacket section.now offset head.now }
@@ -101,6 +102,7 @@ fn judge_enhanced(section: &Section, offset: u64, head: &[u8]) -> Option<NgFault
     judge_length(28, order.u32_at(head, 4), order.u32_at(head, 20), offset)
 }
 
+#[inline(always)]
 fn judge_kind(kind: Kind, section: &Section, offset: u64, head: &[u8]) -> Option<NgFault>
     requires { 8 ≤ length head.now }
     ensures { result ≡ kind_refusal kind section.now offset head.now }
@@ -113,11 +115,12 @@ fn judge_kind(kind: Kind, section: &Section, offset: u64, head: &[u8]) -> Option
     }
 }
 
-fn judge_block(section: &Section, offset: u64, head: &[u8]) -> Option<NgFault>
+// Judges a block of this kind, which is no section header.
+#[inline(always)]
+pub(crate) fn judge_as(kind: Kind, section: &Section, offset: u64, head: &[u8]) -> Option<NgFault>
     requires { 8 ≤ length head.now }
-    ensures { result ≡ block_by (kind_of section.now.order head.now) section.now offset head.now }
+    ensures { result ≡ block_by kind section.now offset head.now }
 {
-    let kind = Kind::of(section.order(), head);
     if !kind.may_have(section.order().u32_at(head, 4)) {
         return Some(NgFault::BadBlock(offset));
     }
@@ -132,7 +135,7 @@ pub(crate) fn judge(section: &Section, offset: u64, head: &[u8]) -> Option<NgFau
         return None;
     }
     if !begins_section(head) {
-        return judge_block(section, offset, head);
+        return judge_as(Kind::of(section.order(), head), section, offset, head);
     }
     if head.len() < 12 {
         return None;

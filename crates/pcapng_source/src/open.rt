@@ -85,7 +85,8 @@ impl Reader {
         self.enter(total, captured, u64::from(total - 16 - captured), 0);
     }
 
-    fn open_enhanced(&mut self)
+    #[inline(always)]
+    pub(crate) fn open_enhanced(&mut self)
         requires { IsWhole EnhancedPacket self.old }
         ensures goes { Goes self.old self.new }
         ensures stage { self.new.stage ≡ Body }

@@ -26,6 +26,7 @@ fn record_head_of(seconds: u32, micros: u32, captured: u32, original: u32) -> [u
 }
 
 // When an enhanced packet was captured, in the unit of its interface.
+#[inline(always)]
 fn time_in(order: Order, head: &[u8]) -> u64
     requires { 20 ≤ length head.now }
     ensures { result ≡ time_of order head.now }
@@ -34,6 +35,7 @@ fn time_in(order: Order, head: &[u8]) -> u64
 }
 
 // The head of an enhanced packet's record, by the head of its block.
+#[inline(always)]
 pub(crate) fn enhanced_record(order: Order, interface: &Interface, head: &[u8]) -> [u8; RECORD_HEAD]
     requires { 28 ≤ length head.now }
     ensures { result ≡ record_by EnhancedPacket order interface.now head.now }

@@ -129,7 +129,8 @@ impl Reader {
 
     // How many of the next bytes are given as they are, of so many.
     pub(crate) fn direct(&self, count: usize) -> usize
-        ensures { result ≡ direct_at self.now.stage self.now count }
+        ensures direct { result ≡ direct_at self.now.stage self.now count }
+        ensures open { 0 < result → IsOpen self.now }
     {
         match self.stage {
             Stage::Plain => count,
@@ -142,7 +143,8 @@ impl Reader {
     pub(crate) fn give(&mut self, buf: &mut [u8]) -> usize
         requires { IsFitting self.old }
         ensures count { result ≡ min (length self.old.made) (length buf.old) }
-        ensures rest { (left : List ℕ) → rest_of self.old left ≡ after (take result buf.new) (rest_of self.new left) }
+        ensures rest { (left : List ℕ)
+            → rest_of self.old left ≡ after (take result buf.new) (rest_of self.new left) }
         ensures fits { IsFitting self.new }
         ensures stage { self.new.stage ≡ self.old.stage }
     {
@@ -170,16 +172,23 @@ impl Reader {
 
     // How many bytes more of a head are to be held before it is judged again.
     #[inline]
-    pub(crate) fn head_wanted(&self) -> usize
+    fn head_wanted(&self) -> usize
         ensures { result ≡ stop_of self.now.section.order self.now.head - length self.now.head }
     {
         let head = self.head.as_slice();
-        let stop = if head.len() < FIRST_FIELDS {
-            FIRST_FIELDS
-        } else {
-            Kind::of(self.section.order(), head).head_length()
-        };
-        stop.saturating_sub(head.len())
+        self.stop(head).saturating_sub(head.len())
+    }
+
+    // How many bytes of a block are held before it is judged again, where it begins with these.
+    #[inline]
+    pub(crate) fn stop(&self, bytes: &[u8]) -> usize
+        ensures stop { result ≡ stop_of self.now.section.order bytes.now }
+        ensures most { result ≤ 28 }
+    {
+        if bytes.len() < FIRST_FIELDS {
+            return FIRST_FIELDS;
+        }
+        Kind::of(self.section.order(), bytes).head_length()
     }
 
     // So many of the next bytes were given as they are.

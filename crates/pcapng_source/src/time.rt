@@ -26,6 +26,7 @@ fn micros_in(resolution: u8, time: u64) -> u128
 }
 
 // A time of this resolution as a record tells it: its seconds modulo 2^32, and its microseconds.
+#[inline(always)]
 pub(crate) fn seconds_and_micros(resolution: u8, time: u64) -> (u32, u32)
     ensures seconds { result.0 ≡ micros_of resolution time / 1000000 % 2 ^ 32 }
     ensures micros { result.1 ≡ micros_of resolution time % 1000000 }
@@ -34,6 +35,15 @@ pub(crate) fn seconds_and_micros(resolution: u8, time: u64) -> (u32, u32)
     if resolution == MICROSECONDS {
         return ((time / SECOND % (1 << 32)) as u32, (time % SECOND) as u32);
     }
+    any_seconds_and_micros(resolution, time)
+}
+
+// The same at any resolution, by long division.
+#[inline(never)]
+fn any_seconds_and_micros(resolution: u8, time: u64) -> (u32, u32)
+    ensures seconds { result.0 ≡ micros_of resolution time / 1000000 % 2 ^ 32 }
+    ensures micros { result.1 ≡ micros_of resolution time % 1000000 }
+{
     let micros = micros_in(resolution, time);
     let second = u128::from(SECOND);
     (

@@ -8,7 +8,8 @@ ghost use Rattle.mos_bytes.specs.Causes.{HasCause};
 ghost use Rattle.pcapng_source.specs.Outlooks.{Gives, IsOver, ReadGives, StepEnds, StepFalls, StepFits, StepGives, faults_with, outlook};
 ghost use Rattle.pcapng_source.specs.Reading.{IsFitting, IsOpen, IsSpent, direct_at, settled_at, skipped_at, wanted_at, weight_of};
 
-use crate::reader::{Next, Reader, Stage};
+use crate::border::BORDER;
+use crate::reader::{Next, Reader};
 use mos_bytes::{Failed, Source};
 
 // How many bytes are skipped at once.
@@ -17,26 +18,22 @@ const SKIPPED: usize = 512;
 // How many bytes are held at once: at most the head of a block.
 const HELD: usize = 28;
 
-// How many bytes lead from the data of a packet to the next block at most: three that pad the data, the second total
-// length, and the first fields.
-const BORDER: usize = 15;
-
 // Gives up to so many of the next bytes as they are.
-fn give<S: Source>(
+pub(crate) fn give<S: Source>(
     source: &mut S,
     reader: &mut Reader,
     buf: &mut [u8],
-) -> Result<Option<usize>, Failed>
+) -> Result<usize, Failed>
     requires some { 0 < length buf.old }
     requires few { length buf.old ≤ direct_at reader.old.stage reader.old (length buf.old) }
     requires made { reader.old.made ≡ [] }
     requires open { IsOpen reader.old }
     requires fits { IsFitting reader.old }
-    ensures gives { StepGives (outlook reader.old (S.left source.old))
+    ensures bound { ReadsAtMost result buf.new }
+    ensures gives { ReadGives (outlook reader.old (S.left source.old))
         (outlook reader.new (S.left source.new)) result buf.new }
-    ensures room { StepFits result buf.new }
-    ensures ends { StepEnds reader.new (S.left source.new) result (S.ended source.new) }
-    ensures falls { StepFalls reader.old reader.new result }
+    ensures ends { IfOk result (λ count. count ≡ 0
+        → IsAtEnd (S.left source.new) × S.ended source.new × IsOver reader.new) }
     ensures cause { HasCause (faults_with reader.old (S.faults source.old))
         (faults_with reader.new (S.faults source.new)) result }
     ensures lasts { S.lasting source.new ≡ S.lasting source.old }
@@ -46,7 +43,7 @@ fn give<S: Source>(
 {
     let count = source.read(buf)?;
     reader.gave(count);
-    Ok(Some(count))
+    Ok(count)
 }
 
 // Skips up to so many of the next bytes.
@@ -141,7 +138,7 @@ fn step<S: Source>(
         return Ok(Some(reader.give(buf)));
     }
     match reader.next(buf.len()) {
-        Next::Give(most) => give(source, reader, &mut buf[..most]),
+        Next::Give(most) => Ok(Some(give(source, reader, &mut buf[..most])?)),
         Next::Skip(most) => skip(source, reader, most),
         Next::Hold(most) => hold(source, reader, most),
         Next::Refuse => {
@@ -152,6 +149,7 @@ fn step<S: Source>(
 }
 
 // Reads on until some bytes are given, or none comes any more.
+#[inline(never)]
 pub(crate) fn read_on<S: Source>(
     source: &mut S,
     reader: &mut Reader,
@@ -203,7 +201,7 @@ fn step_ahead<S: Source>(source: &mut S, reader: &mut Reader) -> bool
     }
 }
 
-// Goes from the data of a packet to the next block at once, where its first fields are at hand.
+// Goes from the data of a packet into the next block at once, where its head is at hand.
 fn cross<S: Source>(source: &mut S, reader: &mut Reader)
     requires made { reader.old.made ≡ [] }
     requires fits { IsFitting reader.old }
@@ -215,10 +213,9 @@ fn cross<S: Source>(source: &mut S, reader: &mut Reader)
     ensures spent { IsSpent reader.new }
     ensures source_faults { S.faults source.old ≤ S.faults source.new }
 {
-    let border = reader.border();
-    if border == 0 || source.count_at_hand() < border {
+    let Some(border) = reader.border(source.at_hand()) else {
         return;
-    }
+    };
     let mut bytes = [0; BORDER];
     let Ok(count) = source.read(&mut bytes[..border]) else {
         return;
@@ -226,27 +223,10 @@ fn cross<S: Source>(source: &mut S, reader: &mut Reader)
     reader.cross(&bytes[..count]);
 }
 
-// Holds what is left of a head, where it is at hand: so a whole head is judged once.
-fn hold_head<S: Source>(source: &mut S, reader: &mut Reader)
-    requires fits { IsFitting reader.old }
-    requires spent { IsSpent reader.old }
-    ensures gives { Gives (outlook reader.old (S.left source.old)) (outlook reader.new (S.left source.new)) [] }
-    ensures later { faults_with reader.old (S.faults source.old) ≤ faults_with reader.new (S.faults source.new) }
-    ensures lasts { S.lasting source.new ≡ S.lasting source.old }
-    ensures fits { IsFitting reader.new }
-    ensures spent { IsSpent reader.new }
-    ensures source_faults { S.faults source.old ≤ S.faults source.new }
-{
-    if let Stage::Head = reader.stage {
-        let wanted = reader.head_wanted();
-        if wanted > 0 && source.count_at_hand() >= wanted {
-            reader.head.read_more(source, wanted);
-        }
-    }
-}
-
 // Goes on by bytes that are at hand, until bytes are made or stand next in the file: so that these can be shown.
+#[inline(never)]
 pub(crate) fn look_ahead<S: Source>(source: &mut S, reader: &mut Reader)
+    requires made { reader.old.made ≡ [] }
     requires fits { IsFitting reader.old }
     requires spent { IsSpent reader.old }
     ensures gives { Gives (outlook reader.old (S.left source.old)) (outlook reader.new (S.left source.new)) [] }
@@ -256,10 +236,6 @@ pub(crate) fn look_ahead<S: Source>(source: &mut S, reader: &mut Reader)
     ensures spent { IsSpent reader.new }
     ensures source_faults { S.faults source.old ≤ S.faults source.new }
 {
-    if reader.made() > 0 || reader.direct(1) > 0 {
-        return;
-    }
     cross(source, reader);
-    hold_head(source, reader);
     while step_ahead(source, reader) {}
 }

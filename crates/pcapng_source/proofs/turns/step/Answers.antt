@@ -1,5 +1,5 @@
 -- What was made is given, or the reader says what comes next.
-use Rattle.std.proofs.Common.{◌≡◌, ◌+◌, ap, sym, subst, ◌∙◌, arith, rules}
+use Rattle.std.proofs.Common.{◌≡◌, ◌+◌, Some, Ok, ap, sym, subst, ◌∙◌, arith, rules}
 use Rattle.mos_bytes.specs.Causes.{Rose, risen}
 use Rattle.pcapng_source.specs.Reading.{met_at}
 use Rattle.pcapng_source.proofs.Going.{cause-same, fits-nothing, met-rose, step-front, step-nothing}
@@ -11,15 +11,11 @@ returns-then-made-gt0-clause-cause g c =
     let same : met_at c.give.new.self.stage ≡ met_at c.args.reader.now.stage = ap met_at c.give.ensures.stage ∙ goes.met in
     record { later = omega (arith, same); failed = search rules }
 
-pub returns-in-Give-clause-gives : goal.returns-in-Give-clause-gives
-returns-in-Give-clause-gives g c =
+pub returns-in_ok-give-in-Give-clause-gives : goal.returns-in_ok-give-in-Give-clause-gives
+returns-in_ok-give-in-Give-clause-gives g c =
     let goes = c.take.ensures.goes in
-    step-front c.args.reader.now c.take.new.self _ _ _ c.give-in-Give.new.buf _ goes.same c.give-in-Give.ensures.room c.give-in-Give.ensures.gives
-
-pub returns-in-Give-clause-cause : goal.returns-in-Give-clause-cause
-returns-in-Give-clause-cause g c =
-    let goes = c.take.ensures.goes in
-    cause-same c.args.reader.now c.take.new.self _ _ _ goes.met c.give-in-Give.ensures.cause
+    step-front c.args.reader.now c.take.new.self _ _ (Ok (Some c.in_ok-give-in-Give.field-0)) c.give-in-Give.new.buf _ goes.same
+    c.in_ok-give-in-Give.ensures.bound.0 c.in_ok-give-in-Give.ensures.gives
 
 pub returns-in-Skip-clause-gives : goal.returns-in-Skip-clause-gives
 returns-in-Skip-clause-gives g c =
