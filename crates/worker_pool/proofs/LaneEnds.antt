@@ -1,8 +1,7 @@
 -- The ends of the lanes of workers, one after the other.
-use Rattle.std.proofs.Common.{◌≡◌, ◌<◌, ℕ, ◌+◌, true, Option, Some, None, List, [], ◌∷◌, ◌++◌, length, get_or, refl, sym, ap, subst, ◌∙◌, ◌⊎◌, inl, inr, ⊎_elim, arith}
-use Rattle.std.specs.Prelude.{Result, Err}
-use Rattle.std.proofs.lemmas.List.{length_push, get_or_append_left, get_or_push, get_or_default}
-use Rattle.std.proofs.lemmas.Bool.{cases_lt}
+use Rattle.std.proofs.Common.{◌≡◌, ◌<◌, ℕ, true, Option, Some, None, List, length, map, get_or, refl, sym, ap, subst, ◌∙◌, ◌⊎◌, inl, inr, arith}
+use Rattle.std.specs.Prelude.{Result, Ok, Err}
+use Rattle.std.proofs.lemmas.List.{length-map, get_or-map}
 use Rattle.lane_core.specs.declared.end.LaneEnd.{LaneEnd}
 use Rattle.lane_core.specs.declared.errors.LaneError.{LaneError}
 use Rattle.lane_core.specs.declared.errors.LaneError.TheVariants.{Heavy as TooHeavy, NoMemory as OutOfMemory}
@@ -14,30 +13,29 @@ use Rattle.worker_pool.specs.declared.worker.Worker.{Worker}
 use Rattle.worker_pool.specs.declared.job.PoolError.{PoolError}
 use Rattle.worker_pool.specs.declared.job.PoolError.TheVariants.{NoMemory}
 use Rattle.worker_pool.specs.Refused.{lane_refusal}
-use Rattle.worker_pool.specs.Ending.{HasEnded, AreEnded, EndsHeavy, IsCause}
+use Rattle.worker_pool.specs.Ending.{ComesTo, HaveCome, AreEnded, EndsHeavy, IsCause}
 
 module _ {L : Type 0} (g : Ghosts L) (last : Option Moment) where
-  -- one more worker, whose lane ended so
-  pub ended_more : (workers : List (Worker L)) (ends : List LaneEnd) (w : Worker L) (end : LaneEnd) → AreEnded g last workers ends → HasEnded g last w end → AreEnded g last (workers ++ w ∷ []) (ends ++ end ∷ [])
-  ended_more workers ends w end ended one = record {
-    count = length_push workers w ∙ ap (λ n. n + 1) ended.count ∙ sym (length_push ends end);
-    each = λ k v d lt. ⊎_elim
-        (λ below.
-        let other : k < length ends = (let e = ended.count in omega arith) in
-        subst (HasEnded g last (get_or (workers ++ w ∷ []) k v)) (sym (get_or_append_left ends (end ∷ []) d k other))
-        (subst (λ (x : Worker L). HasEnded g last x (get_or ends k d)) (sym (get_or_append_left workers (w ∷ []) v k below)) (ended.each k v d below)))
-        (λ past.
-        let here : length workers ≡ k = (let e = length_push workers w in omega arith) in
-        let there : length ends ≡ k = sym ended.count ∙ here in
-        subst (HasEnded g last (get_or (workers ++ w ∷ []) k v)) (sym (get_or_push ends end d k there))
-        (subst (λ (x : Worker L). HasEnded g last x end) (sym (get_or_push workers w v k here)) one))
-        (cases_lt k (length workers));
-  }
+  -- all lanes have ended
+  pub all_ended : (workers : List (Worker L)) (came : List (Result LaneEnd PoolError)) (ends : List LaneEnd)
+      → HaveCome g last workers came → came ≡ map (λ end. Ok end) ends → AreEnded g last workers ends
+  all_ended workers came ends have is =
+      let count : length workers ≡ length ends = have.count ∙ ap length is ∙ length-map ends (λ end. Ok end) in
+      record {
+        count = count;
+        each = λ k w d lt.
+            let within : k < length ends = (let e = count in omega arith) in
+            subst (ComesTo g last (get_or workers k w)) (ap (λ (l : List (Result LaneEnd PoolError)). get_or l k (Ok d)) is ∙ get_or-map (λ end. Ok end) ends k d (Ok d) within)
+            (have.each k w (Ok d) lt);
+      }
 
   -- the lane of one of the workers has no end
-  pub one_failed : (workers : List (Worker L)) (k : ℕ) (w : Worker L) (e : PoolError) → (k < length workers) × (w ≡ get_or workers k w) → IsCause g last w e
+  pub one_failed : (workers : List (Worker L)) (came : List (Result LaneEnd PoolError)) (k : ℕ) (r : Result LaneEnd PoolError) (e : PoolError)
+      → HaveCome g last workers came → (k < length came) × (r ≡ get_or came k r) → r ≡ Err e
       → (e ≡ NoMemory) ⊎ ((n : ℕ) × (n < length workers) × ((v : Worker L) → IsCause g last (get_or workers n v) e))
-  one_failed workers k w e at cause = inr (k, at.0, λ v. subst (λ (x : Worker L). IsCause g last x e) (at.1 ∙ get_or_default workers k w v at.0) cause)
+  one_failed workers came k r e have at is =
+      let within : k < length workers = (let n = have.count in let m = at.0 in omega arith) in
+      inr (k, within, λ v. subst (ComesTo g last (get_or workers k v)) (sym at.1 ∙ is) (have.each k v r within))
 
   -- ---- why one lane has no end
 

@@ -65,6 +65,16 @@ module _ {L : Type 0} (g : Ghosts L) (last : Option Moment) where
   IsCause worker (TooLong offset) = ⊥
   IsCause worker (TooMany offset) = ⊥
 
+  -- what a worker's lane comes to at the end
+  abbrev pub ComesTo : Worker L → Result LaneEnd PoolError → Type 0
+  ComesTo worker (Ok end) = HasEnded worker end
+  ComesTo worker (Err e) = IsCause worker e
+
+  -- what each worker's lane comes to, in order
+  pub record HaveCome (workers : List (Worker L)) (came : List (Result LaneEnd PoolError)) : Type 0 where
+    pub count : length workers ≡ length came
+    pub each : (k : ℕ) (w : Worker L) (d : Result LaneEnd PoolError) → k < length workers → ComesTo (get_or workers k w) (get_or came k d)
+
   -- how the lanes of workers end
   pub record AreEnded (workers : List (Worker L)) (ends : List LaneEnd) : Type 0 where
     pub count : length workers ≡ length ends

@@ -14,7 +14,7 @@ ghost use Rattle.worker_laws.specs.Ends.{IsJoined};
 ghost use Rattle.worker_pool.specs.declared.worker.Worker.{Worker as Begun};
 ghost use Rattle.worker_pool.specs.Run.{MayHave, run_of};
 ghost use Rattle.worker_pool.specs.Team.{IsTeam, AllKeep, HaveServed};
-ghost use Rattle.worker_pool.specs.Ending.{CameTo, HasEnded, AreEnded, IsCause, IsJoinedRun, Concludes};
+ghost use Rattle.worker_pool.specs.Ending.{CameTo, ComesTo, HaveCome, AreEnded, IsCause, IsJoinedRun, Concludes};
 ghost use Rattle.worker_pool.specs.Explained.{HaveAnswered};
 
 use crate::job::{LanesEnd, PoolError};
@@ -26,7 +26,9 @@ use flow_timers::Moment;
 use lane_core::{LaneEnd, Recorder};
 use native_filters::NativeBook;
 use report_text::Totals;
-use std::alloc::Global;
+use std::alloc::{AllocError, Global};
+use std::thread;
+use std::thread::Threads;
 use worker_laws::packets::{packets_go_to_lanes, packets_of_a_capture_rise};
 use worker_laws::runs::{
     a_heavy_lane_makes_a_heavy_run, a_run_has_its_versions, counts_of_a_run_fit, lanes_are_one_run,
@@ -59,15 +61,32 @@ fn end_of<L: Recorder + Drop>(
     last: Option<Moment>,
     natives: &NativeBook,
 ) -> Result<LaneEnd, PoolError>
-    ensures ended { IfOk result (λ end. HasEnded L.Recorder last worker end) }
-    ensures failed { IfErr result (λ e. IsCause L.Recorder last worker e) }
+    ensures came { ComesTo L.Recorder last worker result }
 {
     let Worker { lane, .. } = worker;
     Ok(lane.finish(alloc, last, natives)?)
 }
 
-/// What the lanes of workers end with, where `last` is the greatest moment of all packets.
-pub(crate) fn ends_of<L: Recorder + Drop>(
+// What the lane of each worker comes to. Each is ended by a thread of its own, where one can be started.
+fn each_end<R: Threads + Sync, L: Recorder + Drop + Send>(
+    rt: &R,
+    alloc: Global,
+    workers: Vec<Worker<L>>,
+    last: Option<Moment>,
+    natives: &NativeBook,
+) -> Result<Vec<Result<LaneEnd, PoolError>>, AllocError>
+    ensures come { IfOk result (λ came. HaveCome L.Recorder last workers.items came.items) }
+{
+    let f = |worker: Worker<L>| -> Result<LaneEnd, PoolError>
+        ensures came { ComesTo L.Recorder last worker result }
+    { end_of(alloc, worker, last, natives) };
+    thread::map_vec(rt, workers, &f)
+}
+
+/// What the lanes of workers end with, where `last` is the greatest moment of all packets. The first one that has no end
+/// tells why.
+pub(crate) fn ends_of<R: Threads + Sync, L: Recorder + Drop + Send>(
+    rt: &R,
     alloc: Global,
     workers: Vec<Worker<L>>,
     last: Option<Moment>,
@@ -78,14 +97,15 @@ pub(crate) fn ends_of<L: Recorder + Drop>(
         × ((w : Begun L) → IsCause L.Recorder last (get_or workers.items k w) e))) }
 {
     let mut ends = Vec::with_capacity(alloc, workers.len())?;
-    for worker in workers {
-        ends.push(end_of(alloc, worker, last, natives)?)?;
+    for came in each_end(rt, alloc, workers, last, natives)? {
+        ends.push(came?)?;
     }
     Ok(ends)
 }
 
 // What all lanes end with, as one.
-fn joined_of<L: Recorder + Drop>(
+fn joined_of<R: Threads + Sync, L: Recorder + Drop + Send>(
+    rt: &R,
     alloc: Global,
     script: &Script,
     workers: Vec<Worker<L>>,
@@ -103,7 +123,7 @@ fn joined_of<L: Recorder + Drop>(
     packets_of_a_capture_rise();
     lanes_are_one_run();
     a_heavy_lane_makes_a_heavy_run();
-    let ends = ends_of(alloc, workers, last, natives)?;
+    let ends = ends_of(rt, alloc, workers, last, natives)?;
     Ok(join(alloc, ends)?)
 }
 
@@ -138,7 +158,8 @@ fn whole_of(alloc: Global, joined: Joined, packets: u64, tail: u32) -> Result<La
 }
 
 /// The end of a run whose workers have served a whole capture.
-pub(crate) fn conclude<L: Recorder + Drop>(
+pub(crate) fn conclude<R: Threads + Sync, L: Recorder + Drop + Send>(
+    rt: &R,
     alloc: Global,
     script: &Script,
     ran: Ran<L>,
@@ -151,6 +172,6 @@ pub(crate) fn conclude<L: Recorder + Drop>(
         → Concludes app script.now (length begins) frames ran.whole.tail result }
 {
     let Ran { workers, whole } = ran;
-    let joined = joined_of(alloc, script, workers, whole.last, natives)?;
+    let joined = joined_of(rt, alloc, script, workers, whole.last, natives)?;
     whole_of(alloc, joined, whole.packets, whole.tail)
 }

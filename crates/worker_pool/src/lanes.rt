@@ -68,5 +68,5 @@ pub fn run_lanes<
     let ran = read_team(
         rt, alloc, team, used, job.script, natives, gate, capture, source,
     )?;
-    conclude(alloc, job.script, ran, natives)
+    conclude(rt, alloc, job.script, ran, natives)
 }

@@ -8,6 +8,7 @@ ghost use Rattle.forest_versions.specs.State.{start};
 ghost use Rattle.control_script.specs.Order.{commands_of};
 ghost use Rattle.worker_pool.specs.Worked.{MayWork, WorkedOn};
 ghost use Rattle.worker_pool.specs.Manned.{CanRun, MayStart, Served};
+ghost use Rattle.worker_pool.specs.Posts.{IsSeated};
 
 use crate::control::publish;
 use crate::dealer::Dealer;
@@ -17,7 +18,7 @@ use crate::finish::finish_all;
 use crate::gate::Gate;
 use crate::job::PoolError;
 use crate::post::Post;
-use crate::seat::{Works, start_work};
+use crate::seat::{Seat, Works, start_work};
 use crate::worker::Worker;
 use control_script::Script;
 use lane_core::Recorder;
@@ -98,6 +99,32 @@ fn join_control<R: Threads>(rt: &R, control: Option<JoinHandle<()>>) {
     }
 }
 
+// Starts the thread in which a worker does its duty until its flag is raised.
+fn take_on<'s, E: 's, L: Recorder + Drop + Send + 's, D: Duty<L> + Sync>(
+    scope: &Scope<'s, E>,
+    duty: &'s D,
+    script: &Script,
+    stop: &'s AtomicBool,
+    w: Worker<L>,
+) -> Seat<L>
+    requires shared { IsSync D.row }
+    requires commands { D.commands duty.now ≡ commands_of script.now }
+    requires ready { MayWork L.Recorder (D.commands duty.now) w }
+    requires lawful { IsTrue (are_lawful (start (L.app w.lane).presets) (D.commands duty.now)) }
+    ensures seated { IsSeated L.Recorder (commands_of script.now) w result }
+{
+    let promise = Works {
+        start: Snapshot::of(&w),
+        script: Snapshot::of(script),
+    };
+    let f = move |w: Worker<L>| -> Worker<L>
+        requires ready { MayWork L.Recorder (D.commands duty.now) w }
+        requires lawful { IsTrue (are_lawful (start (L.app w.lane).presets) (D.commands duty.now)) }
+        ensures { WorkedOn L.Recorder (D.commands duty.entry.now) w result }
+    { duty.serve(w, stop) };
+    start_work(scope, promise, stop, w, f)
+}
+
 // Starts the threads, has the packets of the capture dealt out, and waits for the threads. The dealer is handed back.
 fn run_threads<
     'c,
@@ -155,16 +182,7 @@ fn run_threads<
             for stop in stops {
                 let w = take_first(&mut workers);
                 let packets = take_first(&mut packets);
-                let promise = Works {
-                    start: Snapshot::of(&w),
-                    script: Snapshot::of(script),
-                };
-                let f = move |w: Worker<L>| -> Worker<L>
-                    requires ready { MayWork L.Recorder (D.commands duty.now) w }
-                    requires lawful { IsTrue (are_lawful (start (L.app w.lane).presets) (D.commands duty.now)) }
-                    ensures { WorkedOn L.Recorder (D.commands duty.entry.now) w result }
-                { duty.serve(w, stop) };
-                let seat = start_work(scope, promise, stop, w, f);
+                let seat = take_on(scope, duty, script, stop, w);
                 posts.push_reserved(Post { packets, seat });
             }
             let read = dealer.deal(&mut posts);

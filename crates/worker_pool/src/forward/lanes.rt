@@ -180,6 +180,6 @@ pub fn forward_lanes<
         out,
     )?;
     leave(
-        alloc, job.script, workers, relays, waiting, read, natives, capture, out,
+        rt, alloc, job.script, workers, relays, waiting, read, natives, capture, out,
     )
 }

@@ -38,12 +38,14 @@ use mos_bytes::Sink;
 use native_filters::NativeBook;
 use pcap_source::Capture;
 use std::alloc::Global;
+use std::thread::Threads;
 use worker_laws::join;
 use worker_laws::packets::packets_of_a_capture_rise;
 use worker_laws::runs::a_run_has_its_versions;
 
 // The versions of the records of lanes that keep no entries.
-fn versions_in<L: Recorder + Drop>(
+fn versions_in<R: Threads + Sync, L: Recorder + Drop + Send>(
+    rt: &R,
     alloc: Global,
     workers: Vec<Worker<L>>,
     last: Option<Moment>,
@@ -62,7 +64,7 @@ fn versions_in<L: Recorder + Drop>(
 {
     packets_of_a_capture_rise();
     a_run_has_its_versions();
-    let ends = ends_of(alloc, workers, last, natives)?;
+    let ends = ends_of(rt, alloc, workers, last, natives)?;
     let joined = join(alloc, ends)?;
     let versions = versions_of(alloc, joined.records.as_slice())?;
     Ok(versions)
@@ -84,7 +86,8 @@ fn is_write_fault(read: &Result<Whole, PoolError>) -> bool
 ///
 /// `read` is what the dispatcher ended with; its error is told. Nothing more is written where it is a fault of writing.
 /// Of other errors a fault of writing here comes first, then that of `read`, then that a lane failed.
-pub(crate) fn leave<L: Recorder + Drop, O: Sink>(
+pub(crate) fn leave<R: Threads + Sync, L: Recorder + Drop + Send, O: Sink>(
+    rt: &R,
     alloc: Global,
     script: &Script,
     workers: Vec<Worker<L>>,
@@ -131,7 +134,7 @@ pub(crate) fn leave<L: Recorder + Drop, O: Sink>(
     }
     write_ready(&mut waiting, capture, out, &mut spare)?;
     match read {
-        Ok(whole) => versions_in(alloc, workers, whole.last, natives),
+        Ok(whole) => versions_in(rt, alloc, workers, whole.last, natives),
         Err(error) => Err(error),
     }
 }

@@ -1,6 +1,7 @@
-use Rattle.worker_pool.specs.Ending.{AreEnded}
+use Rattle.std.proofs.Common.{◌≡◌, map}
+use Rattle.std.specs.Prelude.{Ok}
 use Rattle.worker_pool.proofs.conclude.ends_of.Given as goal
 
--- the workers so far ended so
-abbrev pub invariant-loop-worker : goal.invariant-loop-worker
-invariant-loop-worker g l = AreEnded g.L.Recorder l.last l.yielded l.ends.items
+-- so far each lane has an end
+abbrev pub invariant-loop-came : goal.invariant-loop-came
+invariant-loop-came g l = l.yielded ≡ map (λ end. Ok end) l.ends.items

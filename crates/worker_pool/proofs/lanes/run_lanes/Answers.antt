@@ -20,6 +20,11 @@ read_team-requires-send-L g c κs within =
     let lane = lane_send _ _ (view.ghosts (copied 0 g.row.R)) c.type_bounds.send-A (user.the_send _ c.type_bounds.send-R) in
     param_send 1 _ (arg_send _ yes _ lane)
 
+pub conclude-requires-send-L : goal.conclude-requires-send-L
+conclude-requires-send-L g c κs within =
+    let lane = lane_send _ _ (view.ghosts (copied 0 g.row.R)) c.type_bounds.send-A (user.the_send _ c.type_bounds.send-R) in
+    param_send 1 _ (arg_send _ yes _ lane)
+
 pub returns-clause-ends : goal.returns-clause-ends
 returns-clause-ends g c rest is =
     let app = g.A.App.meaning c.args.job.now.app in

@@ -22,6 +22,11 @@ stream_team-requires-send-L g c κs within =
     let lane = lane_send _ _ (view.ghosts (copied 0 g.row.R)) c.type_bounds.send-A (user.the_send _ c.type_bounds.send-R) in
     param_send 1 _ (arg_send _ yes _ lane)
 
+pub leave-requires-send-L : goal.leave-requires-send-L
+leave-requires-send-L g c κs within =
+    let lane = lane_send _ _ (view.ghosts (copied 0 g.row.R)) c.type_bounds.send-A (user.the_send _ c.type_bounds.send-R) in
+    param_send 1 _ (arg_send _ yes _ lane)
+
 pub stream_team-requires-clause-begins : goal.stream_team-requires-clause-begins
 stream_team-requires-clause-begins g c κs within =
     let relays = c.in_ok-team.relays.items in

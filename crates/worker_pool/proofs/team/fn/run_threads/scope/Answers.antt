@@ -20,21 +20,13 @@ use Rattle.worker_pool.proofs.Crossed.{flag_sync}
 use Rattle.worker_pool.proofs.Rows.{AllZip-more, moved, zip_first, zip_others}
 use Rattle.worker_pool.proofs.Forwarding.{dealt_under}
 use Rattle.worker_pool.proofs.Manning.{all_may_begin, fresh, posts_of_all, all_manned, all_served}
-use Rattle.worker_pool.proofs.team.fn.run_threads.scope.Lts.{arg-7-2}
 use Rattle.worker_pool.proofs.team.fn.run_threads.scope.Goals as goal
 
 pub start_control-control-requires-send-F : goal.start_control-control-requires-send-F
 start_control-control-requires-send-F g c κs within = search (sendable, crosses, ring.the_field_send, c.requires.gate_shared) depth 40
 
-pub start_work-seat-requires-send-F : goal.start_work-seat-requires-send-F
-start_work-seat-requires-send-F g c κs within = param_send _ (arg-7-2 g.row.R g.row.L g.row.D g.row.E g.row.G g.R.laws g.L.laws g.D.laws g.E.laws g.G.laws g.R.copy g.R.Threads g.R.Threads-dict g.R.Wait g.R.Wait-dict g.R.Clone g.R.Clone-dict g.L.Recorder g.L.Recorder-dict g.D.Duty g.D.Duty-dict g.E.Dealer g.E.Dealer-dict g.G.Gate g.G.Gate-dict g.L.Destruct-dict g.fn-1 g.fn-1-has κs)
-    (record {
-      owned = λ x vs ws. (tt, ((tt, c.requires.duty_shared.shared x.0.now x.0.ref_ptr.0 x.0.ref_ptr.1 _), ((tt, flag_sync.shared x.1.now x.1.ref_ptr.0 x.1.ref_ptr.1 _), tt)));
-      leaving = search sendable;
-    })
-
-pub start_work-seat-requires-clause-runs : goal.start_work-seat-requires-clause-runs
-start_work-seat-requires-clause-runs g c =
+pub take_on-seat-requires-clause-ready : goal.take_on-seat-requires-clause-ready
+take_on-seat-requires-clause-ready g c κs within =
     let i = c.loop-stop.invariant in
     let w = c.take_first-w.result in
     let tx = c.take_first-packets.result in
@@ -43,9 +35,7 @@ start_work-seat-requires-clause-runs g c =
     i.waiting c.take_first-w.ensures.first c.take_first-packets.ensures.first in
     let ready : g.L.Recorder.failed w.lane ≡ None → IsReady g.L.Recorder (g.D.Duty.commands c.captures.duty.now) w.lane w.commands =
     λ good. subst (λ (s : List Command). IsReady g.L.Recorder s w.lane w.commands) (sym c.requires.starts.duty) (may.ready good) in
-    let lawful : are_lawful (start (g.L.Recorder.app w.lane).presets) (g.D.Duty.commands c.captures.duty.now) ≡ true =
-    subst (λ (s : List Command). are_lawful (start (g.L.Recorder.app w.lane).presets) s ≡ true) (sym c.requires.starts.duty) may.lawful in
-    search (rules, ready, lawful)
+    ready
 
 pub loop-stop-init : goal.loop-stop-init
 loop-stop-init g c = record {
@@ -68,21 +58,19 @@ loop-stop-preserved g c =
     let may : MayBegin g.L.Recorder (commands_of c.captures.script.now) w tx =
     zip_first (MayBegin g.L.Recorder (commands_of c.captures.script.now)) w tx c.take_first-w.new.row.items c.loop-stop.workers.items c.take_first-packets.new.row.items c.loop-stop.packets.items
     i.waiting c.take_first-w.ensures.first c.take_first-packets.ensures.first in
-    let seated : IsSeated g.L.Recorder (commands_of c.captures.script.now) w c.start_work-seat.result =
-    subst (λ (b : Worker g.row.L.Denot). IsSeated g.L.Recorder (commands_of c.captures.script.now) b c.start_work-seat.result) c.of.ensures
-    (subst (λ (s : List Stamped). IsSeated g.L.Recorder (commands_of s) c.of.result.value c.start_work-seat.result) c.of-in-loop-stop.ensures c.start_work-seat.ensures) in
+    let seated : IsSeated g.L.Recorder (commands_of c.captures.script.now) w c.take_on-seat.result = c.take_on-seat.ensures.seated in
     record {
       front = i.front ++ w ∷ [];
       whole = moved c.from-workers.result.items i.front c.loop-stop.workers.items c.take_first-w.new.row.items w i.whole c.take_first-w.ensures.first;
       fresh = subst (λ (l : List (Post g.row.L.Denot)). AllZip (IsFresh g.L.Recorder (commands_of c.captures.script.now)) (i.front ++ w ∷ []) l) (sym c.push_reserved.ensures.items)
-          (AllZip-more (IsFresh g.L.Recorder (commands_of c.captures.script.now)) i.front c.loop-stop.posts.items w (record { packets = tx; seat = c.start_work-seat.result }) i.fresh
-          (fresh g.L.Recorder (commands_of c.captures.script.now) w tx c.start_work-seat.result may seated));
+          (AllZip-more (IsFresh g.L.Recorder (commands_of c.captures.script.now)) i.front c.loop-stop.posts.items w (record { packets = tx; seat = c.take_on-seat.result }) i.fresh
+          (fresh g.L.Recorder (commands_of c.captures.script.now) w tx c.take_on-seat.result may seated));
       waiting = zip_others (MayBegin g.L.Recorder (commands_of c.captures.script.now)) w tx c.take_first-w.new.row.items c.loop-stop.workers.items c.take_first-packets.new.row.items c.loop-stop.packets.items
           i.waiting c.take_first-w.ensures.first c.take_first-packets.ensures.first;
       flags = let e = ap length c.take_first-w.ensures.first in let f = i.flags in omega (arith, e, f);
       room =
           let e = ap length c.take_first-w.ensures.first in
-          let f = ap length c.push_reserved.ensures.items ∙ length-append c.loop-stop.posts.items (record { packets = tx; seat = c.start_work-seat.result } ∷ []) in
+          let f = ap length c.push_reserved.ensures.items ∙ length-append c.loop-stop.posts.items (record { packets = tx; seat = c.take_on-seat.result } ∷ []) in
           let h = c.push_reserved.ensures.capacity in
           let r = i.room in
           omega (arith, e, f, h, r);
