@@ -1,6 +1,6 @@
 //! The lines of records as one text, and a text written line by line: so that several threads may make the text of a report.
 
-ghost use Rattle.std.specs.Prelude.{◌≡◌, ◌++◌, IsTrue, IfOk, OnOk, IsErr, string_bytes};
+ghost use Rattle.std.specs.Prelude.{◌≡◌, ◌<◌, ◌≤◌, ◌++◌, length, IsTrue, IfOk, IfSome, OnOk, IsErr, string_bytes};
 ghost use Rattle.std.specs.List.{list_all};
 ghost use Rattle.mos_bytes.specs.Causes.{HasCause};
 ghost use Rattle.mos_bytes.specs.Writes.{WriteAdds};
@@ -10,6 +10,7 @@ ghost use Rattle.report_text.specs.Tidy.{are_named, is_tidy_record};
 use crate::lines::{push_callback, push_drop, push_field, push_first_line};
 use crate::record::Record;
 use app_api::{Bytes, Entry, Reason};
+use memchr::memchr;
 use mos_bytes::{Failed, Sink};
 use std::alloc::{AllocError, Global};
 
@@ -63,6 +64,17 @@ pub fn lines_of(alloc: Global, records: &[Record]) -> Result<String, AllocError>
     Ok(text)
 }
 
+// How long the first line of a text is with its end, if one ends.
+fn first_line_of(text: &[u8]) -> Option<usize>
+    ensures some { IfSome result (λ len. 0 < len) }
+    ensures within { IfSome result (λ len. len ≤ length text.now) }
+{
+    match memchr(b'\n', text) {
+        Some(end) => Some(end + 1),
+        None => None,
+    }
+}
+
 /// Writes a text, each line by one call, and what stands behind the last one by another. At an `Err` the sink holds a front of it.
 pub fn write_lines<O: Sink>(out: &mut O, text: &[u8]) -> Result<(), Failed>
     ensures text { WriteAdds (O.taken out.old) (O.taken out.new) result text.now }
@@ -70,8 +82,8 @@ pub fn write_lines<O: Sink>(out: &mut O, text: &[u8]) -> Result<(), Failed>
     ensures lasts { O.lasting out.new ≡ O.lasting out.old }
 {
     let mut rest = text;
-    while let Some(end) = rest.iter().position(|byte| *byte == b'\n') {
-        let (line, behind) = rest.split_at(end + 1);
+    while let Some(len) = first_line_of(rest) {
+        let (line, behind) = rest.split_at(len);
         out.write_all(line)?;
         rest = behind;
     }
