@@ -45,6 +45,18 @@ pub struct LaneEnd {
     pub drops: u64,
 }
 
+/// What is left of a lane that goes on no more.
+#[derive(Drop)]
+pub(crate) struct Closed<A> {
+    pub(crate) app: A,
+    /// The records in order of name.
+    pub(crate) slots: Vec<Slot>,
+    /// The callbacks of all records.
+    pub(crate) callbacks: u64,
+    /// The dropped packets of all records.
+    pub(crate) drops: u64,
+}
+
 // The fields of a record: an orphan has none.
 fn fields_in<A: App>(
     alloc: Global,

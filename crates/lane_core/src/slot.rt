@@ -6,7 +6,7 @@ ghost use Rattle.connection_core.specs.History.{drops_of};
 
 use app_api::{DropList, Tally, Verdict};
 use connection_core::Notes;
-use report_text::RecordKind;
+use report_text::{KeptRecord, RecordKind};
 use std::alloc::{AllocError, Global};
 
 /// A record under way: all that the report will tell of it, but for the fields of its application.
@@ -42,6 +42,20 @@ impl Slot {
             drops: DropList {
                 items: Vec::new(alloc),
             },
+        }
+    }
+
+    /// What is written of it.
+    pub(crate) fn kept(&self) -> KeptRecord<'_>
+        ensures { result ≡ kept_of self.now }
+    {
+        KeptRecord {
+            name: self.name,
+            kind: self.kind,
+            version: self.version,
+            callbacks: &self.notes.entries,
+            drops: &self.drops,
+            tally: &self.notes.tally,
         }
     }
 

@@ -18,7 +18,7 @@ use crate::plan::Plan;
 use crate::summary::write_summary;
 use crate::{Output, RunError, VersionList};
 use flow_timers::Moment;
-use lane_core::Recorder;
+use lane_core::Reporter;
 use lane_core::laws::{later_commands_change_none, records_are_tidy, weight_never_falls};
 use mos_bytes::Sink;
 use report_text::{Record, Totals, write_report};
@@ -50,7 +50,7 @@ pub(crate) fn write_end<O: Sink>(
 
 /// Ends a run whose lane took so many packets, of which `last` is the greatest moment, and behind which the capture has a
 /// tail of so many bytes.
-pub(crate) fn close<L: Recorder + Drop, O: Sink>(
+pub(crate) fn close<L: Reporter + Drop, O: Sink>(
     alloc: Global,
     plan: &Plan<'_>,
     lane: L,
@@ -80,6 +80,10 @@ pub(crate) fn close<L: Recorder + Drop, O: Sink>(
     later_commands_change_none();
     weight_never_falls();
     records_are_tidy();
+    if plan.output == Output::Report {
+        let items = lane.report(alloc, last, plan.natives, packets, tail, out)?;
+        return Ok(VersionList { items });
+    }
     let end = lane.finish(alloc, last, plan.natives)?;
     let records = end.records.as_slice();
     let totals = Totals {

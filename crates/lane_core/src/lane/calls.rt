@@ -9,18 +9,21 @@ ghost use Rattle.lane_core.specs.Records.{open_at};
 ghost use Rattle.lane_core.specs.Run.{LaneEvent, lane_run};
 
 use crate::closing::close;
-use crate::end::{LaneEnd, records_of, versions_of};
+use crate::end::{Closed, LaneEnd, records_of, versions_of};
 use crate::errors::LaneError;
 use crate::kept::Kept;
 use crate::lane::Lane;
 use crate::recorder::Recorder;
+use crate::report::{ReportError, Reporter, version_of_each, write_slots};
 use crate::world::World;
 use app_api::{App, Verdict, presets_of};
 use flow_table::Key;
 use flow_timers::Moment;
 use forest_versions::{Command, Control, Master};
+use mos_bytes::Sink;
 use native_filters::NativeBook;
 use pcap_source::Frame;
+use report_text::{Totals, write_totals};
 use shared_forest::{Forests, Tree};
 use std::alloc::{AllocError, Global};
 
@@ -46,6 +49,40 @@ impl<A: App + Drop, F: Forests + Drop> Lane<A, F> {
             kept: Kept::new(alloc),
             next: 0,
             failed: None,
+        })
+    }
+
+    // Ends the connections that were silent for too long, and hands out what was kept.
+    fn closed(
+        self,
+        alloc: Global,
+        greatest: Option<Moment>,
+        natives: &NativeBook,
+    ) -> Result<Closed<A>, LaneError> {
+        let Lane {
+            world,
+            forests,
+            kept,
+            failed,
+            ..
+        } = self;
+        if let Some(error) = failed {
+            return Err(error);
+        }
+        let mut kept = kept;
+        close(alloc, &world, natives, &forests, &mut kept, greatest)?;
+        let Kept {
+            slots,
+            ledger,
+            dropped,
+            ..
+        } = kept;
+        let World { app, .. } = world;
+        Ok(Closed {
+            app,
+            slots,
+            callbacks: ledger.counts.callbacks,
+            drops: dropped,
         })
     }
 
@@ -137,31 +174,39 @@ impl<A: App + Drop, F: Forests + Drop> Recorder for Lane<A, F> {
         greatest: Option<Moment>,
         natives: &NativeBook,
     ) -> Result<LaneEnd, LaneError> {
-        let Lane {
-            world,
-            forests,
-            kept,
-            failed,
-            ..
-        } = self;
-        if let Some(error) = failed {
-            return Err(error);
-        }
-        let mut kept = kept;
-        close(alloc, &world, natives, &forests, &mut kept, greatest)?;
-        let Kept {
-            slots,
-            ledger,
-            dropped,
-            ..
-        } = kept;
-        let versions = versions_of(alloc, &slots)?;
-        let records = records_of(alloc, &world.app, slots)?;
+        let closed = self.closed(alloc, greatest, natives)?;
+        let versions = versions_of(alloc, &closed.slots)?;
+        let records = records_of(alloc, &closed.app, closed.slots)?;
         Ok(LaneEnd {
             records,
             versions,
-            callbacks: ledger.counts.callbacks,
-            drops: dropped,
+            callbacks: closed.callbacks,
+            drops: closed.drops,
         })
+    }
+}
+
+impl<A: App + Drop, F: Forests + Drop> Reporter for Lane<A, F> {
+    fn report<O: Sink>(
+        self,
+        alloc: Global,
+        greatest: Option<Moment>,
+        natives: &NativeBook,
+        packets: u64,
+        tail: u32,
+        out: &mut O,
+    ) -> Result<Vec<u32>, ReportError> {
+        let closed = self.closed(alloc, greatest, natives)?;
+        let versions = version_of_each(alloc, &closed.slots)?;
+        let totals = Totals {
+            packets,
+            records: closed.slots.len() as u64,
+            callbacks: closed.callbacks,
+            drops: closed.drops,
+            tail,
+        };
+        write_slots(alloc, &closed.app, out, &closed.slots)?;
+        write_totals(alloc, out, &totals)?;
+        Ok(versions)
     }
 }
