@@ -1,7 +1,8 @@
 //! What a lane ends with.
 
 ghost use Rattle.std.specs.Prelude.{◌≡◌, IfOk, map, if◌then◌else◌, []};
-ghost use Rattle.lane_core.specs.End.{ended, is_conn};
+ghost use Rattle.report_text.specs.Kept.{is_conn};
+ghost use Rattle.lane_core.specs.End.{ended};
 
 use crate::slot::Slot;
 use app_api::{App, FieldList, Tally, fields_of};

@@ -2,7 +2,10 @@
 
 ghost use Rattle.std.specs.Prelude.{◌≡◌, ◌++◌, [], OnOk};
 ghost use Rattle.app_api.specs.declared.app.Tally.{Tally as TallyOf};
+ghost use Rattle.app_api.specs.App.{Meaning};
+ghost use Rattle.report_text.specs.Kept.{kept_record};
 ghost use Rattle.connection_core.specs.History.{drops_of};
+ghost use Rattle.lane_core.specs.End.{ended};
 
 use app_api::{DropList, Tally, Verdict};
 use connection_core::Notes;
@@ -47,7 +50,7 @@ impl Slot {
 
     /// What is written of it.
     pub(crate) fn kept(&self) -> KeptRecord<'_>
-        ensures { result ≡ kept_of self.now }
+        ensures { (app : Meaning) → kept_record app result ≡ ended app self.now }
     {
         KeptRecord {
             name: self.name,

@@ -80,7 +80,7 @@ pub(crate) fn close<L: Reporter + Drop, O: Sink>(
     later_commands_change_none();
     weight_never_falls();
     records_are_tidy();
-    if plan.output == Output::Report {
+    if let Output::Report = plan.output {
         let items = lane.report(alloc, last, plan.natives, packets, tail, out)?;
         return Ok(VersionList { items });
     }

@@ -1,12 +1,14 @@
 //! The calls of a lane.
 
-ghost use Rattle.std.specs.Prelude.{◌≡◌, List, [], IfOk, None};
+ghost use Rattle.std.specs.Prelude.{◌≡◌, List, [], IfOk, OnOk, Err, None, Some, true};
 ghost use Rattle.std.specs.Option.{option_copied};
 ghost use Rattle.shared_forest.specs.Store.{CountsAtMost};
 ghost use Rattle.forest_versions.specs.State.{start};
-ghost use Rattle.lane_core.specs.Lane.{IsTreeFound};
+ghost use Rattle.lane_core.specs.declared.errors.LaneError.{LaneError as Error};
+ghost use Rattle.lane_core.specs.Closing.{IsClosed};
+ghost use Rattle.lane_core.specs.Lane.{IsHeavyAtEnd, IsTreeFound};
 ghost use Rattle.lane_core.specs.Records.{open_at};
-ghost use Rattle.lane_core.specs.Run.{LaneEvent, lane_run};
+ghost use Rattle.lane_core.specs.Run.{LaneEvent, ended_run, lane_run};
 
 use crate::closing::close;
 use crate::end::{Closed, LaneEnd, records_of, versions_of};
@@ -58,7 +60,16 @@ impl<A: App + Drop, F: Forests + Drop> Lane<A, F> {
         alloc: Global,
         greatest: Option<Moment>,
         natives: &NativeBook,
-    ) -> Result<Closed<A>, LaneError> {
+    ) -> Result<Closed<A>, LaneError>
+        ensures failed { (e : Error) → self.failed ≡ Some e → result ≡ Err e }
+        ensures app { IfOk result (λ closed. closed.app ≡ self.world.app) }
+        ensures closed { self.failed ≡ None → IfOk result (λ closed. (events : List LaneEvent) → ⟦<Lane<A, F> as Recorder>⟧.stands self events
+            → IsClosed self.world.keep (ended_run (A.meaning self.world.app) events greatest) closed.slots.items closed.callbacks closed.drops) }
+        ensures light { OnOk result (self.world.keep ≡ true → (events : List LaneEvent) → ⟦<Lane<A, F> as Recorder>⟧.stands self events
+            → IsHeavyAtEnd (A.meaning self.world.app) events greatest → ⊥) }
+        ensures heavy { self.failed ≡ None → result ≡ Err LaneError.Heavy → (self.world.keep ≡ true)
+            × ((events : List LaneEvent) → ⟦<Lane<A, F> as Recorder>⟧.stands self events → IsHeavyAtEnd (A.meaning self.world.app) events greatest) }
+    {
         let Lane {
             world,
             forests,
@@ -175,8 +186,9 @@ impl<A: App + Drop, F: Forests + Drop> Recorder for Lane<A, F> {
         natives: &NativeBook,
     ) -> Result<LaneEnd, LaneError> {
         let closed = self.closed(alloc, greatest, natives)?;
-        let versions = versions_of(alloc, &closed.slots)?;
-        let records = records_of(alloc, &closed.app, closed.slots)?;
+        let slots = closed.slots;
+        let versions = versions_of(alloc, &slots)?;
+        let records = records_of(alloc, &closed.app, slots)?;
         Ok(LaneEnd {
             records,
             versions,

@@ -7,7 +7,7 @@ use Rattle.report_text.specs.Tidy.{tidy}
 use Rattle.mos_run.specs.Records.{packets_of}
 use Rattle.mos_run.specs.Outcome.{closing, is_forward}
 use Rattle.mos_run.specs.declared.refusal.RunError.TheVariants as Run
-use Rattle.mos_run.proofs.Closing.{was_good, end_is, end_is_heavy, end_is_light, end_is_tidy, versions_are, closing_is, ends_well, ends_badly, ends_not}
+use Rattle.mos_run.proofs.Closing.{was_good, end_is, end_is_heavy, end_is_light, end_is_tidy, versions_are, closing_is, ends_well, ends_badly, ends_not, reported_well, reported_badly}
 use Rattle.mos_run.proofs.Replaying.{front_at_end}
 use Rattle.mos_run.proofs.close.close.Goals as goal
 
@@ -25,6 +25,29 @@ write_end-requires g c = record {
       subst (λ l. tidy l ≡ true) (sym c.as_slice-records.ensures)
       (end_is_tidy (g.L.Recorder.app lane) plan.script.now plan.output read.0 (g.L.Recorder.keeps lane) end.records end.versions end.callbacks end.drops c.records_are_tidy.ensures c.requires.app c.requires.lawful kept is);
 }
+
+pub returns-in_err-items-clause-ends : goal.returns-in_err-items-clause-ends
+returns-in_err-items-clause-ends g c = λ header frames before count is_last read first.
+    let lane = c.args.lane in
+    let plan = c.args.plan.now in
+    let front = front_at_end (g.L.Recorder.app lane) plan.script.now plan.output header frames c.args.tail before (g.O.Sink.taken c.args.out.now) first in
+    let error = err_from_is_err_and c.from_residual.result c.from_residual.ensures.1 in
+    rw (error.1, error.2)
+    (reported_badly (g.L.Recorder.app lane) plan.script.now plan.output frames (g.L.Recorder.given lane) (g.L.Recorder.failed lane) (g.L.Recorder.stands lane) (g.L.Recorder.keeps lane) c.args.last c.later_commands_change_none.ensures is_last read
+    c.in-Report.is c.requires.keeps c.args.packets c.args.tail count header before
+    g.O.Sink.taken c.args.out.now c.report.new.out c.report.result c.in_err-items.field-0.0 c.weight_never_falls.ensures c.in_err-items.was
+    c.report.ensures.failed c.in_err-items.ensures.text c.report.ensures.too_heavy c.report.ensures.heavy first front)
+
+pub returns-in_ok-items-clause-ends : goal.returns-in_ok-items-clause-ends
+returns-in_ok-items-clause-ends g c = λ header frames before count is_last read first.
+    let lane = c.args.lane in
+    let plan = c.args.plan.now in
+    let good = was_good_report (g.L.Recorder.failed lane) c.report.result c.in_ok-items.items (λ e is. (c.report.ensures.failed e is).0) c.in_ok-items.was in
+    let kept : g.L.Recorder.keeps lane ≡ true = c.requires.keeps ∙ ap (λ o. not (is_forward o)) c.in-Report.is in
+    reported_well (g.L.Recorder.app lane) plan.script.now plan.output frames (g.L.Recorder.given lane) (g.L.Recorder.failed lane) (g.L.Recorder.stands lane) (g.L.Recorder.keeps lane) c.args.last c.later_commands_change_none.ensures is_last read
+    c.in-Report.is c.requires.keeps c.args.packets c.args.tail count header before
+    c.report.result c.in_ok-items.items c.in_ok-items.items.items (g.O.Sink.taken c.args.out.now) (g.O.Sink.taken c.report.new.out) c.in_ok-items.was good
+    (c.in_ok-items.ensures.text good) (c.in_ok-items.ensures.versions good) (λ events s over. (c.report.ensures.too_heavy good kept events s over).0) first
 
 pub returns-in_err-end-clause-ends : goal.returns-in_err-end-clause-ends
 returns-in_err-end-clause-ends g c = λ header frames before count is_last read first.
