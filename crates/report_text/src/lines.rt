@@ -57,11 +57,7 @@ pub(crate) fn push_first_line(line: &mut String, of: &Record) -> Result<(), Allo
 }
 
 // What a callback saw that is lent without its entry.
-fn push_lent_seen(
-    alloc: Global,
-    line: &mut String,
-    seen: Option<&Seen>,
-) -> Result<(), AllocError>
+fn push_lent_seen(alloc: Global, line: &mut String, seen: Option<&Seen>) -> Result<(), AllocError>
     ensures { OnOk result (string_bytes line.new ≡ string_bytes line.old ++ seen_text (seen_lent seen.entry)) }
 {
     match seen {
@@ -86,11 +82,7 @@ pub(crate) fn push_callback(
     line.push('\n')
 }
 
-pub(crate) fn push_entry(
-    alloc: Global,
-    line: &mut String,
-    entry: &Entry,
-) -> Result<(), AllocError>
+pub(crate) fn push_entry(alloc: Global, line: &mut String, entry: &Entry) -> Result<(), AllocError>
     ensures { OnOk result (string_bytes line.new ≡ string_bytes line.old ++ callback_line entry.now) }
 {
     push_callback(alloc, line, &Callback::of(entry))

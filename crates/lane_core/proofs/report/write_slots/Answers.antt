@@ -1,4 +1,4 @@
-use Rattle.std.proofs.Common.{◌∙◌, ◌≡◌, subst}
+use Rattle.std.proofs.Common.{◌∙◌, subst}
 use Rattle.report_text.specs.Report.{record_text}
 use Rattle.report_text.specs.declared.record.Record.{Record}
 use Rattle.mos_bytes.specs.Writes.{AppendsFront}
