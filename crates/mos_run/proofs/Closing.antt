@@ -1,35 +1,29 @@
 -- The end of a run: what a lane ends with, and what is written of it.
-use Rattle.std.proofs.Common.{◌≡◌, ◌≢◌, ℕ, ◌+◌, ◌<◌, Bool, true, false, Option, Some, None, List, [], ◌∷◌, ◌++◌, length, map, refl, sym, ap, subst, ◌∙◌, arith, inl, inr, ⊎_elim}
+use Rattle.std.proofs.Common.{◌≡◌, ◌≢◌, ℕ, ◌+◌, ◌<◌, Bool, true, false, Option, Some, None, List, [], ◌∷◌, ◌++◌, length, map, refl, sym, ap, subst, ◌∙◌, inl, inr, ⊎_elim}
 use Rattle.std.proofs.lemmas.List.{length-map}
-use Rattle.std.proofs.lemmas.Grind.{common_steps}
 use Rattle.std.specs.Prelude.{◌⊎◌, not, if◌then◌else◌, Result, Ok, Err}
 use Rattle.std.specs.Io.KnownBytes.{Appends}
 use Rattle.std.proofs.KnownBytes.{Appends-trans}
-use Rattle.mos_bytes.specs.Writes.{AppendsFront, WriteAdds}
+use Rattle.mos_bytes.specs.Writes.{AppendsFront}
 use Rattle.mos_bytes.proofs.Writes.{AppendsFront-after}
-use Rattle.app_api.specs.App.{Meaning, IsLawful}
+use Rattle.app_api.specs.App.{Meaning}
 use Rattle.pcap_source.specs.Captured.{Captured}
 use Rattle.report_text.specs.declared.record.Record.{Record}
 use Rattle.report_text.specs.declared.record.Totals.{Totals}
 use Rattle.report_text.specs.Report.{report_text, records_text}
 use Rattle.report_text.specs.Lines.{totals_line}
-use Rattle.report_text.specs.Tidy.{tidy}
-use Rattle.forest_versions.specs.Lawful.{are_lawful}
-use Rattle.forest_versions.specs.State.{start}
 use Rattle.control_script.specs.declared.stamped.Stamped.{Stamped}
-use Rattle.control_script.specs.Order.{commands_of}
-use Rattle.control_script.specs.Versions.{ceil}
 use Rattle.lane_core.specs.declared.errors.LaneError.{LaneError}
 use Rattle.lane_core.specs.declared.errors.LaneError.TheVariants as Lane
 use Rattle.lane_core.specs.declared.report.ReportError.{ReportError}
 use Rattle.lane_core.specs.declared.report.ReportError.TheVariants as Told
 use Rattle.lane_core.specs.Sight.{Moment, arrivals}
-use Rattle.lane_core.specs.Records.{VersionedPacket, RecordSoFar, ended_at, versioned}
+use Rattle.lane_core.specs.Records.{VersionedPacket, RecordSoFar, ended_at}
 use Rattle.lane_core.specs.Run.{LaneEvent, ended_run}
 use Rattle.lane_core.specs.Shown.{record_of, callbacks_of, weight}
 use Rattle.lane_core.specs.Lane.{IsEnd, IsHeavyAtEnd, shown}
 use Rattle.lane_core.specs.Report.{end_text, lane_fault}
-use Rattle.lane_core.specs.Laws.{LaterCommandsChangeNone, RecordsAreTidy, WeightNeverFalls, rise}
+use Rattle.lane_core.specs.Laws.{LaterCommandsChangeNone, WeightNeverFalls}
 use Rattle.worker_laws.specs.Greatest.{greatest}
 use Rattle.mos_run.specs.declared.output.Output.{Output}
 use Rattle.mos_run.specs.declared.output.Output.TheVariants.{Report, Forward, Summary}
@@ -42,7 +36,6 @@ use Rattle.mos_run.specs.Summary.{summary_text, made_line}
 use Rattle.mos_run.specs.Reading.{Follows, IsRead}
 use Rattle.mos_run.specs.Refusal.{lane_refusal, report_refusal}
 use Rattle.mos_run.specs.Run.{StopsAs, RunsAs}
-use Rattle.mos_run.proofs.Events.{are_events}
 use Rattle.mos_run.proofs.Following.{ended_are}
 use Rattle.mos_run.proofs.Reading.{heavy_at_end, over_at_end, under_at_end, weighs_at_end}
 
@@ -88,17 +81,6 @@ module _ (app : Meaning) (script : List Stamped) (output : Output) (frames : Lis
             let f = read.follows good in
             over_at_end app script output frames (sym keeps ∙ is.0) (subst (λ so_far. 134217728 < weight so_far) (at-end f) (is.1 f.events f.stands_for))
         by (Some e) bad = heavy_at_end app script falls output frames (read.heavy (λ good. let both = sym bad ∙ good in cc))
-
-  rising : (n : ℕ) (fs : List Captured) → rise n (versioned (ceil script) (arrivals n fs)) ≡ true
-  rising n [] = refl
-  rising n (frame ∷ fs) = grind (arith, common_steps, rising (n + 1) fs)
-
-  pub end_is_tidy : (keep : Bool) (items : List Record) (versions : List (ℕ × ℕ)) (callbacks drops : ℕ) → RecordsAreTidy → IsLawful app → are_lawful (start app.presets) (commands_of script) ≡ true
-      → keep ≡ true → IsEnd keep app rs items versions callbacks drops → tidy items ≡ true
-  end_is_tidy keep items versions callbacks drops law lawful commands keeps end =
-      let is = subst (λ b. IsEnd b app rs items versions callbacks drops) keeps end in
-      subst (λ l. tidy l ≡ true) (sym is.records_are)
-      (law app (control_at app script) (greatest (arrivals 0 frames)) (packets_of script frames) lawful (λ v. are_events app (commands_of script) v lawful commands) (rising 0 frames))
 
   versions-shown : (keep : Bool) (so_far : List RecordSoFar) → map (λ r. r.version) (map (shown keep app) so_far) ≡ versions_of so_far
   versions-shown keep [] = refl
