@@ -1,5 +1,6 @@
 -- Records under way, as they are shown at the end.
-use Rattle.std.proofs.Common.{◌≡◌, ℕ, Bool, true, false, List, [], ◌∷◌, map, refl, ap, ◌∙◌}
+use Rattle.std.proofs.Common.{◌≡◌, ℕ, ◌+◌, ◌<◌, Bool, true, false, List, [], ◌∷◌, ◌++◌, length, drop, get_or, map, refl, sym, ap, ◌∙◌}
+use Rattle.std.proofs.lemmas.List.{at_drop_more}
 use Rattle.std.specs.Prelude.{if◌then◌else◌}
 use Rattle.app_api.specs.App.{Meaning}
 use Rattle.report_text.specs.declared.record.RecordKind.TheVariants.{Conn, Orphan}
@@ -7,8 +8,11 @@ use Rattle.packet_views.specs.declared.packet.Class.TheVariants as Class
 use Rattle.lane_core.specs.Sight.{Segment, Sight, Tcp, Other}
 use Rattle.lane_core.specs.Records.{RecordSoFar, opens}
 use Rattle.lane_core.specs.Shown.{kind_of}
+use Rattle.lane_core.specs.declared.slot.Slot.{Slot}
 use Rattle.lane_core.specs.Kept.{slot_of}
-use Rattle.lane_core.specs.End.{ended, is_conn}
+use Rattle.report_text.specs.Kept.{is_conn}
+use Rattle.report_text.specs.Report.{record_text, records_text}
+use Rattle.lane_core.specs.End.{ended}
 use Rattle.lane_core.specs.Lane.{shown}
 
 conn_where : (b : Bool) (segment : Segment) → is_conn (if b then Conn segment.sender segment.receiver else Orphan Class.Tcp) ≡ b
@@ -33,3 +37,14 @@ all_ended keep app (one ∷ others) =
 pub versions_named : (keep : Bool) (so_far : List RecordSoFar) → map {B = ℕ × ℕ} (λ s. (s.name, s.version)) (map (slot_of keep) so_far) ≡ map {B = ℕ × ℕ} (λ r. (r.first.number, r.version)) so_far
 versions_named keep [] = refl
 versions_named keep (one ∷ others) = ap (λ ps. (one.first.number, one.version) ∷ ps) (versions_named keep others)
+
+pub version_of_all : (keep : Bool) (so_far : List RecordSoFar) → map (λ s. s.version) (map (slot_of keep) so_far) ≡ map (λ r. r.version) so_far
+version_of_all keep [] = refl
+version_of_all keep (one ∷ others) = ap (λ vs. one.version ∷ vs) (version_of_all keep others)
+
+-- the text of records under way from a place on, one record at a time
+pub slots_text-drop : (app : Meaning) (ss : List Slot) (i : ℕ) (s : Slot) → i < length ss → s ≡ get_or ss i s
+    → records_text (map (ended app) (drop i ss)) ≡ record_text (ended app s) ++ records_text (map (ended app) (drop (i + 1) ss))
+slots_text-drop app ss i s within is =
+    at_drop_more (λ rest. records_text (map (ended app) rest)) ss i s within
+    ∙ ap (λ x. record_text (ended app x) ++ records_text (map (ended app) (drop (i + 1) ss))) (sym is)

@@ -25,3 +25,4 @@ pub mod Commands
 pub mod Standing
 pub mod Ending
 pub mod EndOfRun
+pub mod Reporting

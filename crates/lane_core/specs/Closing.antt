@@ -10,8 +10,9 @@ use Rattle.lane_core.specs.declared.connection.Connection.{Connection}
 use Rattle.lane_core.specs.declared.kept.Kept.{Kept}
 use Rattle.lane_core.specs.Sight.{Moment}
 use Rattle.lane_core.specs.Records.{RecordSoFar, ended_at}
-use Rattle.lane_core.specs.Shown.{weight}
-use Rattle.lane_core.specs.Kept.{Keeps}
+use Rattle.lane_core.specs.declared.slot.Slot.{Slot}
+use Rattle.lane_core.specs.Shown.{callbacks_of, drops_of, weight}
+use Rattle.lane_core.specs.Kept.{Keeps, slot_of}
 
 -- whether the open connection of a key has its record at a place
 abbrev pub is_at : ℕ → Option Connection → Bool
@@ -35,3 +36,9 @@ pub record IsTooHeavy (app : Meaning) (keep : Bool) (m : Versions) (content : Sh
   pub keeps : keep ≡ true
   pub heavy : (control_at : ℕ → ControlState) (so_far : List RecordSoFar) → ((v : ℕ) → Tells m v (control_at v)) → Keeps keep (told_at m) content kept so_far
       → 134217728 < weight (map (ended_at app control_at last) so_far)
+
+-- what is left of a lane that ended with these records
+pub record IsClosed (keep : Bool) (so_far : List RecordSoFar) (slots : List Slot) (callbacks drops : ℕ) : Type 0 where
+  pub slots_are : slots ≡ map (slot_of keep) so_far
+  pub callbacks_are : callbacks ≡ callbacks_of so_far
+  pub drops_are : drops ≡ drops_of so_far

@@ -11,3 +11,4 @@ pub mod Silences
 pub mod Kept
 pub mod Closing
 pub mod Lane
+pub mod Report

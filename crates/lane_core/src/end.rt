@@ -1,7 +1,8 @@
 //! What a lane ends with.
 
 ghost use Rattle.std.specs.Prelude.{◌≡◌, IfOk, map, if◌then◌else◌, []};
-ghost use Rattle.lane_core.specs.End.{ended, is_conn};
+ghost use Rattle.report_text.specs.Kept.{is_conn};
+ghost use Rattle.lane_core.specs.End.{ended};
 
 use crate::slot::Slot;
 use app_api::{App, FieldList, Tally, fields_of};
@@ -43,6 +44,18 @@ pub struct LaneEnd {
     pub callbacks: u64,
     /// The dropped packets of all records.
     pub drops: u64,
+}
+
+/// What is left of a lane that goes on no more.
+#[derive(Drop)]
+pub(crate) struct Closed<A> {
+    pub(crate) app: A,
+    /// The records in order of name.
+    pub(crate) slots: Vec<Slot>,
+    /// The callbacks of all records.
+    pub(crate) callbacks: u64,
+    /// The dropped packets of all records.
+    pub(crate) drops: u64,
 }
 
 // The fields of a record: an orphan has none.

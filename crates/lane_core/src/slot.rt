@@ -2,11 +2,14 @@
 
 ghost use Rattle.std.specs.Prelude.{◌≡◌, ◌++◌, [], OnOk};
 ghost use Rattle.app_api.specs.declared.app.Tally.{Tally as TallyOf};
+ghost use Rattle.app_api.specs.App.{Meaning};
+ghost use Rattle.report_text.specs.Kept.{kept_record};
 ghost use Rattle.connection_core.specs.History.{drops_of};
+ghost use Rattle.lane_core.specs.End.{ended};
 
 use app_api::{DropList, Tally, Verdict};
 use connection_core::Notes;
-use report_text::RecordKind;
+use report_text::{KeptRecord, RecordKind};
 use std::alloc::{AllocError, Global};
 
 /// A record under way: all that the report will tell of it, but for the fields of its application.
@@ -42,6 +45,20 @@ impl Slot {
             drops: DropList {
                 items: Vec::new(alloc),
             },
+        }
+    }
+
+    /// What is written of it.
+    pub(crate) fn kept(&self) -> KeptRecord<'_>
+        ensures { (app : Meaning) → kept_record app result ≡ ended app self.now }
+    {
+        KeptRecord {
+            name: self.name,
+            kind: self.kind,
+            version: self.version,
+            callbacks: &self.notes.entries,
+            drops: &self.drops,
+            tally: &self.notes.tally,
         }
     }
 

@@ -1,32 +1,29 @@
 -- The end of a run: what a lane ends with, and what is written of it.
-use Rattle.std.proofs.Common.{◌≡◌, ◌≢◌, ℕ, ◌+◌, ◌<◌, Bool, true, false, Option, Some, None, List, [], ◌∷◌, ◌++◌, length, map, refl, sym, ap, subst, ◌∙◌, arith, inl, inr}
+use Rattle.std.proofs.Common.{◌≡◌, ◌≢◌, ℕ, ◌+◌, ◌<◌, Bool, true, false, Option, Some, None, List, [], ◌∷◌, ◌++◌, length, map, refl, sym, ap, subst, ◌∙◌, inl, inr, ⊎_elim}
 use Rattle.std.proofs.lemmas.List.{length-map}
-use Rattle.std.proofs.lemmas.Grind.{common_steps}
 use Rattle.std.specs.Prelude.{◌⊎◌, not, if◌then◌else◌, Result, Ok, Err}
 use Rattle.std.specs.Io.KnownBytes.{Appends}
 use Rattle.std.proofs.KnownBytes.{Appends-trans}
 use Rattle.mos_bytes.specs.Writes.{AppendsFront}
 use Rattle.mos_bytes.proofs.Writes.{AppendsFront-after}
-use Rattle.app_api.specs.App.{Meaning, IsLawful}
+use Rattle.app_api.specs.App.{Meaning}
 use Rattle.pcap_source.specs.Captured.{Captured}
 use Rattle.report_text.specs.declared.record.Record.{Record}
 use Rattle.report_text.specs.declared.record.Totals.{Totals}
 use Rattle.report_text.specs.Report.{report_text, records_text}
 use Rattle.report_text.specs.Lines.{totals_line}
-use Rattle.report_text.specs.Tidy.{tidy}
-use Rattle.forest_versions.specs.Lawful.{are_lawful}
-use Rattle.forest_versions.specs.State.{start}
 use Rattle.control_script.specs.declared.stamped.Stamped.{Stamped}
-use Rattle.control_script.specs.Order.{commands_of}
-use Rattle.control_script.specs.Versions.{ceil}
 use Rattle.lane_core.specs.declared.errors.LaneError.{LaneError}
 use Rattle.lane_core.specs.declared.errors.LaneError.TheVariants as Lane
+use Rattle.lane_core.specs.declared.report.ReportError.{ReportError}
+use Rattle.lane_core.specs.declared.report.ReportError.TheVariants as Told
 use Rattle.lane_core.specs.Sight.{Moment, arrivals}
-use Rattle.lane_core.specs.Records.{VersionedPacket, RecordSoFar, ended_at, versioned}
+use Rattle.lane_core.specs.Records.{VersionedPacket, RecordSoFar, ended_at}
 use Rattle.lane_core.specs.Run.{LaneEvent, ended_run}
 use Rattle.lane_core.specs.Shown.{record_of, callbacks_of, weight}
 use Rattle.lane_core.specs.Lane.{IsEnd, IsHeavyAtEnd, shown}
-use Rattle.lane_core.specs.Laws.{LaterCommandsChangeNone, RecordsAreTidy, WeightNeverFalls, rise}
+use Rattle.lane_core.specs.Report.{end_text, lane_fault}
+use Rattle.lane_core.specs.Laws.{LaterCommandsChangeNone, WeightNeverFalls}
 use Rattle.worker_laws.specs.Greatest.{greatest}
 use Rattle.mos_run.specs.declared.output.Output.{Output}
 use Rattle.mos_run.specs.declared.output.Output.TheVariants.{Report, Forward, Summary}
@@ -34,14 +31,13 @@ use Rattle.mos_run.specs.declared.refusal.RunError.{RunError}
 use Rattle.mos_run.specs.declared.refusal.RunError.TheVariants as Run
 use Rattle.worker_pool.specs.Run.{totals_of}
 use Rattle.mos_run.specs.Records.{control_at, packets_of, records_of, records_so_far, versions_of}
-use Rattle.mos_run.specs.Outcome.{is_forward, is_heavy, streamed, closing, ended, weighed, refused}
+use Rattle.mos_run.specs.Outcome.{Outcome, is_forward, is_heavy, streamed, closing, ended, weighed, refused}
 use Rattle.mos_run.specs.Summary.{summary_text, made_line}
 use Rattle.mos_run.specs.Reading.{Follows, IsRead}
-use Rattle.mos_run.specs.Refusal.{lane_refusal}
+use Rattle.mos_run.specs.Refusal.{lane_refusal, report_refusal}
 use Rattle.mos_run.specs.Run.{StopsAs, RunsAs}
-use Rattle.mos_run.proofs.Events.{are_events}
 use Rattle.mos_run.proofs.Following.{ended_are}
-use Rattle.mos_run.proofs.Reading.{heavy_at_end, over_at_end, under_at_end}
+use Rattle.mos_run.proofs.Reading.{heavy_at_end, over_at_end, under_at_end, weighs_at_end}
 
 -- a call that went well was made of a lane that hadn't failed
 pub was_good : {V : Type 0} (failed : Option LaneError) (result : Result V LaneError) (v : V) → ((e : LaneError) → failed ≡ Some e → result ≡ Err e) → result ≡ Ok v → failed ≡ None
@@ -85,17 +81,6 @@ module _ (app : Meaning) (script : List Stamped) (output : Output) (frames : Lis
             let f = read.follows good in
             over_at_end app script output frames (sym keeps ∙ is.0) (subst (λ so_far. 134217728 < weight so_far) (at-end f) (is.1 f.events f.stands_for))
         by (Some e) bad = heavy_at_end app script falls output frames (read.heavy (λ good. let both = sym bad ∙ good in cc))
-
-  rising : (n : ℕ) (fs : List Captured) → rise n (versioned (ceil script) (arrivals n fs)) ≡ true
-  rising n [] = refl
-  rising n (frame ∷ fs) = grind (arith, common_steps, rising (n + 1) fs)
-
-  pub end_is_tidy : (keep : Bool) (items : List Record) (versions : List (ℕ × ℕ)) (callbacks drops : ℕ) → RecordsAreTidy → IsLawful app → are_lawful (start app.presets) (commands_of script) ≡ true
-      → keep ≡ true → IsEnd keep app rs items versions callbacks drops → tidy items ≡ true
-  end_is_tidy keep items versions callbacks drops law lawful commands keeps end =
-      let is = subst (λ b. IsEnd b app rs items versions callbacks drops) keeps end in
-      subst (λ l. tidy l ≡ true) (sym is.records_are)
-      (law app (control_at app script) (greatest (arrivals 0 frames)) (packets_of script frames) lawful (λ v. are_events app (commands_of script) v lawful commands) (rising 0 frames))
 
   versions-shown : (keep : Bool) (so_far : List RecordSoFar) → map (λ r. r.version) (map (shown keep app) so_far) ≡ versions_of so_far
   versions-shown keep [] = refl
@@ -177,3 +162,98 @@ module _ (app : Meaning) (script : List Stamped) (given : List Captured → List
       → AppendsFront before now (weighed app script given output header frames tail).text → RunsAs (weighed app script given output header frames tail) before now (Err (lane_refusal e))
   ends_not header tail Lane.Heavy before now heavy front = (inl (ap (λ b. (if b then refused Run.Heavy else ended app script given output header frames tail).ends) (heavy refl)), front)
   ends_not header tail Lane.NoMemory before now heavy front = (inr (inr (inl refl)), front)
+
+-- ---- a lane that writes its report itself
+
+told_lane : (e : LaneError) → report_refusal (lane_fault e) ≡ lane_refusal e
+told_lane Lane.NoMemory = refl
+told_lane Lane.Heavy = refl
+
+-- a report that went well was that of a lane that hadn't failed
+pub was_good_report : {V : Type 0} (failed : Option LaneError) (result : Result V ReportError) (v : V) → ((e : LaneError) → failed ≡ Some e → result ≡ Err (lane_fault e)) → result ≡ Ok v → failed ≡ None
+was_good_report None result v before ok = refl
+was_good_report (Some e) result v before ok = absurd (let bad = before e refl in cc)
+
+module _ (app : Meaning) (script : List Stamped) (output : Output) (frames : List Captured)
+    (given : ℕ) (failed : Option LaneError) (stands : List LaneEvent → Type 0) (keep : Bool) (last : Option Moment) (later : LaterCommandsChangeNone) (is_last : last ≡ greatest (arrivals 0 frames))
+    (read : IsRead app script output given failed stands frames) (report : output ≡ Report) (keeps : keep ≡ not (is_forward output))
+    (packets tail : ℕ) (count : length frames ≡ packets) (header : List ℕ) (before : Option (List ℕ)) where
+  abbrev all_of : List RecordSoFar
+  all_of = records_of app script (packets_of script) frames
+
+  kept : keep ≡ true
+  kept = keeps ∙ ap (λ o. not (is_forward o)) report
+
+  text_of_end : end_text keep app all_of packets tail ≡ closing output (map (record_of app) all_of) (totals_of all_of (length frames) tail)
+  text_of_end =
+      ap (λ b. end_text b app all_of packets tail) kept
+      ∙ ap (λ n. end_text true app all_of n tail) (sym count)
+      ∙ ap (λ o. closing o (map (record_of app) all_of) (totals_of all_of (length frames) tail)) (sym report)
+
+  text_at_end : (f : Follows script given stands (packets_of script frames)) → end_text keep app (ended_run app f.events last) packets tail ≡ closing output (map (record_of app) all_of) (totals_of all_of (length frames) tail)
+  text_at_end f = ap (λ rs. end_text keep app rs packets tail) (at-end app script output frames given failed stands keep last later is_last read f) ∙ text_of_end
+
+  -- all of it is written
+  pub reported_well : {V : Type 0} (r : Result V ReportError) (v : V) (versions : List ℕ) (mid after : Option (List ℕ)) → r ≡ Ok v → failed ≡ None
+      → ((events : List LaneEvent) → stands events → Appends mid after (end_text keep app (ended_run app events last) packets tail))
+      → ((events : List LaneEvent) → stands events → versions ≡ map (λ r. r.version) (ended_run app events last))
+      → ((events : List LaneEvent) → stands events → IsHeavyAtEnd app events last → (r ≡ Err Told.Heavy) ⊎ (r ≡ Err Told.NoMemory))
+      → Appends before mid (streamed app script (packets_of script) output header frames)
+      → RunsAs (weighed app script (packets_of script) output header frames tail) before after (Ok versions)
+  reported_well r v versions mid after ok good text names heavy first =
+      let f = read.follows good in
+      let same = names f.events f.stands_for ∙ ap (map (λ r. r.version)) (at-end app script output frames given failed stands keep last later is_last read f) in
+      let light = end_is_light app script output frames given failed stands keep last later is_last read good keeps
+      (λ kept events s over. ⊎_elim (λ e. let both = sym ok ∙ e in cc) (λ e. let both = sym ok ∙ e in cc) (heavy events s over)) in
+      ends_well app script (packets_of script) output frames header tail versions before mid after light same first (subst (Appends mid after) (text_at_end f) (text f.events f.stands_for))
+
+  abbrev outcome_of : Outcome
+  outcome_of = weighed app script (packets_of script) output header frames tail
+
+  -- a front of it is written, or nothing
+  pub reported_badly : {V O : Type 0} (taken : O → Option (List ℕ)) (o p : O) (r : Result V ReportError) (e : ReportError) → WeightNeverFalls → r ≡ Err e
+      → ((le : LaneError) → failed ≡ Some le → (r ≡ Err (lane_fault le)) × (p ≡ o))
+      → (failed ≡ None → (events : List LaneEvent) → stands events → AppendsFront (taken o) (taken p) (end_text keep app (ended_run app events last) packets tail))
+      → (failed ≡ None → keep ≡ true → (events : List LaneEvent) → stands events → IsHeavyAtEnd app events last → ((r ≡ Err Told.Heavy) ⊎ (r ≡ Err Told.NoMemory)) × (p ≡ o))
+      → (failed ≡ None → r ≡ Err Told.Heavy → (keep ≡ true) × ((events : List LaneEvent) → stands events → IsHeavyAtEnd app events last))
+      → Appends before (taken o) (streamed app script (packets_of script) output header frames)
+      → AppendsFront before (taken o) outcome_of.text
+      → RunsAs outcome_of before (taken p) (Err (report_refusal e))
+  reported_badly taken o p r e falls was bad text too_heavy heavy first front = by failed refl
+    where
+      stopped : (le : LaneError) → r ≡ Err (lane_fault le) → p ≡ o → (le ≡ Lane.Heavy → is_heavy app script (packets_of script) output frames ≡ true)
+          → RunsAs outcome_of before (taken p) (Err (report_refusal e))
+      stopped le is same over =
+          let both = sym was ∙ is in
+          let error : e ≡ lane_fault le = cc in
+          subst (λ x. RunsAs outcome_of before (taken p) (Err x)) (sym (ap report_refusal error ∙ told_lane le))
+          (ends_not app script (packets_of script) output frames header tail le before (taken p) over (subst (λ q. AppendsFront before (taken q) outcome_of.text) (sym same) front))
+
+      written : (x : RunError) → failed ≡ None → is_heavy app script (packets_of script) output frames ≡ false
+          → ((x ≡ Run.WriteFault) × (is_forward output ≡ false)) ⊎ (x ≡ Run.NoMemory) → RunsAs outcome_of before (taken p) (Err x)
+      written x good light which =
+          let f = read.follows good in
+          ends_badly app script (packets_of script) output frames header tail x before (taken o) (taken p) light which first
+          (subst (AppendsFront (taken o) (taken p)) (text_at_end f) (text good f.events f.stands_for))
+
+      light_end : (x : ReportError) → e ≡ x → failed ≡ None → is_heavy app script (packets_of script) output frames ≡ false
+          → RunsAs outcome_of before (taken p) (Err (report_refusal e))
+      light_end Told.WriteFault is good light = written (report_refusal e) good light (inl (ap report_refusal is, ap is_forward report))
+      light_end Told.NoMemory is good light = written (report_refusal e) good light (inr (ap report_refusal is))
+      light_end Told.Heavy is good light =
+          let over = end_is_heavy app script output frames given failed stands keep last later is_last read falls keeps (λ g. heavy g (was ∙ ap (λ x. Err x) is)) in
+          absurd (let both = sym light ∙ over in cc)
+
+      weighed_by : (b : Bool) → is_heavy app script (packets_of script) output frames ≡ b → failed ≡ None → RunsAs outcome_of before (taken p) (Err (report_refusal e))
+      weighed_by true over good =
+          let f = read.follows good in
+          let is = too_heavy good kept f.events f.stands_for
+          (subst (λ rs. 134217728 < weight rs) (sym (at-end app script output frames given failed stands keep last later is_last read f)) (weighs_at_end app script output frames over)) in
+          ⊎_elim (λ h. stopped Lane.Heavy h is.1 (λ x. over)) (λ m. stopped Lane.NoMemory m is.1 (λ x. over)) is.0
+      weighed_by false light good = light_end e refl good light
+
+      by : (why : Option LaneError) → failed ≡ why → RunsAs outcome_of before (taken p) (Err (report_refusal e))
+      by None good = weighed_by (is_heavy app script (packets_of script) output frames) refl good
+      by (Some le) why =
+          let is = bad le why in
+          stopped le is.0 is.1 (λ x. heavy_at_end app script falls output frames (read.heavy (λ good. let both = sym why ∙ good in cc)))

@@ -80,6 +80,13 @@ module _ (app : Meaning) (script : List Stamped) where
       → (not (is_forward output) ≡ true → 134217728 < weight (records_of app script (packets_of script) frames) → ⊥) → is_heavy app script (packets_of script) output frames ≡ false
   under_at_end output frames under = light-at-end (not (is_forward output)) output frames refl under
 
+  -- what is too heavy weighs so much
+  pub weighs_at_end : (output : Output) (frames : List Captured) → is_heavy app script (packets_of script) output frames ≡ true
+      → 134217728 < weight (records_of app script (packets_of script) frames)
+  weighs_at_end output frames heavy =
+      is_over (weight (records_of app script (packets_of script) frames))
+      (both (not (is_forward output)) (nat_lt 134217728 (weight (records_of app script (packets_of script) frames))) heavy).1
+
   -- what is too heavy before the end is so at the end
   pub heavy_at_end : WeightNeverFalls → (output : Output) (frames : List Captured) → is_heavy_so_far app script output frames ≡ true → is_heavy app script (packets_of script) output frames ≡ true
   heavy_at_end falls output frames heavy =

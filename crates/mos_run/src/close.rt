@@ -1,9 +1,9 @@
 //! The end of a run: its records, and what is written of them.
 
-ghost use Rattle.std.specs.Prelude.{◌≡◌, ◌≢◌, ◌⊎◌, ℕ, List, Option, length, not, true, false, IsTrue, IfErr, IsErrOf};
+ghost use Rattle.std.specs.Prelude.{◌≡◌, ◌≢◌, ◌⊎◌, ℕ, List, Option, length, not, true, false, IfErr, IsErrOf};
 ghost use Rattle.std.specs.Io.KnownBytes.{Appends};
 ghost use Rattle.mos_bytes.specs.Writes.{WriteAdds};
-ghost use Rattle.report_text.specs.Tidy.{tidy};
+ghost use Rattle.report_text.specs.declared.record.Record.{Record};
 ghost use Rattle.pcap_source.specs.Captured.{Captured};
 ghost use Rattle.app_api.specs.App.{IsLawful};
 ghost use Rattle.lane_core.specs.Sight.{arrivals};
@@ -18,39 +18,38 @@ use crate::plan::Plan;
 use crate::summary::write_summary;
 use crate::{Output, RunError, VersionList};
 use flow_timers::Moment;
-use lane_core::Recorder;
-use lane_core::laws::{later_commands_change_none, records_are_tidy, weight_never_falls};
+use lane_core::Reporter;
+use lane_core::laws::{later_commands_change_none, weight_never_falls};
 use mos_bytes::Sink;
-use report_text::{Record, Totals, write_report};
+use report_text::Totals;
 use std::alloc::Global;
 use worker_pool::versions::versions_of;
 
-/// Writes what is written at the end.
-pub(crate) fn write_end<O: Sink>(
+// Writes what is written at the end of a run without a report: what was made and counted, and nothing where packets were
+// handed on.
+fn write_counts<O: Sink>(
     alloc: Global,
     output: Output,
-    records: &[Record],
     totals: &Totals,
     out: &mut O,
 ) -> Result<(), RunError>
-    requires tidy { output ≡ Output.Report → IsTrue (tidy records.now) }
-    ensures text { WriteAdds (O.taken out.old) (O.taken out.new) result (closing output records.now totals.now) }
+    requires no_report { output ≢ Output.Report }
+    ensures text { (records : List Record) → WriteAdds (O.taken out.old) (O.taken out.new) result (closing output records totals.now) }
     ensures silent { is_forward output ≡ true → out.new ≡ out.old }
     ensures only { IfErr result
         (λ e. ((e ≡ RunError.WriteFault) × (is_forward output ≡ false)) ⊎ (e ≡ RunError.NoMemory)) }
     ensures to { Writes O.Sink out.old out.new (IsErrOf result RunError.WriteFault) }
 {
     match output {
-        Output::Report => write_report(alloc, out, records, totals)?,
-        Output::Forward => {}
         Output::Summary(n) => write_summary(alloc, out, n, totals)?,
+        Output::Report | Output::Forward => {}
     }
     Ok(())
 }
 
 /// Ends a run whose lane took so many packets, of which `last` is the greatest moment, and behind which the capture has a
 /// tail of so many bytes.
-pub(crate) fn close<L: Recorder + Drop, O: Sink>(
+pub(crate) fn close<L: Reporter + Drop, O: Sink>(
     alloc: Global,
     plan: &Plan<'_>,
     lane: L,
@@ -79,7 +78,10 @@ pub(crate) fn close<L: Recorder + Drop, O: Sink>(
 {
     later_commands_change_none();
     weight_never_falls();
-    records_are_tidy();
+    if let Output::Report = plan.output {
+        let items = lane.report(alloc, last, plan.natives, packets, tail, out)?;
+        return Ok(VersionList { items });
+    }
     let end = lane.finish(alloc, last, plan.natives)?;
     let records = end.records.as_slice();
     let totals = Totals {
@@ -90,6 +92,6 @@ pub(crate) fn close<L: Recorder + Drop, O: Sink>(
         tail,
     };
     let versions = versions_of(alloc, records)?;
-    write_end(alloc, plan.output, records, &totals, out)?;
+    write_counts(alloc, plan.output, &totals, out)?;
     Ok(versions)
 }

@@ -4,7 +4,7 @@ ghost use Rattle.std.specs.Prelude.{◌≡◌};
 ghost use Rattle.mos_run.specs.Refusal.{explained, met_in, status_of};
 
 use control_script::ScriptError;
-use lane_core::LaneError;
+use lane_core::{LaneError, ReportError};
 use mos_bytes::{Failed, FetchError};
 use pcap_source::{CaptureFault, NextError, OpenError};
 use pcapng_source::NgFault;
@@ -182,6 +182,20 @@ impl From<LaneError> for RunError {
 
     fn from(error: LaneError) -> Self {
         RunError::from(PoolError::from(error))
+    }
+}
+
+impl From<ReportError> for RunError {
+    ghost use Rattle.mos_run.specs.Refusal.{report_refusal};
+
+    ghost from_gives = { λ e r. r ≡ report_refusal e };
+
+    fn from(error: ReportError) -> Self {
+        match error {
+            ReportError::WriteFault => RunError::WriteFault,
+            ReportError::NoMemory => RunError::NoMemory,
+            ReportError::Heavy => RunError::Heavy,
+        }
     }
 }
 

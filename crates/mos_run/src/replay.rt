@@ -24,7 +24,7 @@ use crate::plan::Plan;
 use crate::{Output, RunError, VersionList};
 use app_api::Verdict;
 use lane_core::laws::{last_packet_is_added, weight_never_falls};
-use lane_core::{Lane, LaneError, Recorder};
+use lane_core::{Lane, LaneError, Recorder, Reporter};
 use mos_bytes::{Failed, Sink, Source};
 use pcap_source::{Capture, Frame, Step};
 use shared_forest::Table;
@@ -130,7 +130,7 @@ fn take<L: Recorder, O: Sink>(
 }
 
 // Reads an opened capture to its end or its tail, and hands its packets to a lane.
-fn read_on<L: Recorder + Drop, S: Source, O: Sink>(
+fn read_on<L: Reporter + Drop, S: Source, O: Sink>(
     alloc: Global,
     plan: &Plan<'_>,
     lane: L,

@@ -10,10 +10,10 @@ ghost use Rattle.mos_run.specs.Outcome.{closing, is_forward, output_of};
 ghost use Rattle.mos_run.specs.Runs.{IsJob, Runs, RunsUnderSettings};
 
 use crate::chosen::Chosen;
-use crate::close::write_end;
 use crate::laws::what_one_worker_has_is_allowed;
 use crate::output::output_of;
 use crate::plan::{Crew, Plan};
+use crate::summary::write_summary;
 use crate::{Output, RunError, VersionList};
 use capture_maker::Maker;
 use control_script::Script;
@@ -53,7 +53,8 @@ fn write_end_by<R: Threads + Sync, G, O: Sink>(
             write_report_by(crew.rt, alloc, plan.workers, out, records, totals)?;
             Ok(())
         }
-        output => write_end(alloc, output, records, totals, out),
+        Output::Forward => Ok(()),
+        Output::Summary(n) => write_summary(alloc, out, n, totals),
     }
 }
 

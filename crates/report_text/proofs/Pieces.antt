@@ -1,6 +1,7 @@
 -- The text of a list from a place on, one piece at a time.
-use Rattle.std.proofs.Common.{◌≡◌, ℕ, ◌+◌, ◌<◌, List, ◌++◌, length, drop, get_or, ap, sym, ◌∙◌}
-use Rattle.std.proofs.lemmas.List.{drop_more}
+use Rattle.std.proofs.Common.{◌≡◌, ℕ, ◌+◌, ◌<◌, List, [], ◌++◌, length, drop, get_or, slice_get, Some, None, ap, sym, ◌∙◌, inl, inr}
+use Rattle.std.proofs.lemmas.List.{drop_more, at_drop_all}
+use Rattle.std.proofs.lemmas.Option.{slice_get_cases, slice_get_within, get_or_from_slice_get}
 use Rattle.app_api.specs.declared.entry.Entry.{Entry}
 use Rattle.app_api.specs.declared.reaction.Reason.{Reason}
 use Rattle.report_text.specs.declared.record.Record.{Record}
@@ -25,3 +26,15 @@ pub fields_text-drop : (fs : List (List ℕ × ℕ)) (i : ℕ) (f : List ℕ × 
     → fields_text (drop i fs) ≡ field_line f ++ fields_text (drop (i + 1) fs)
 fields_text-drop fs i f within is =
     ap fields_text (drop_more fs i f within) ∙ ap (λ x. field_line x ++ fields_text (drop (i + 1) fs)) (sym is)
+
+-- the same of a list that is asked for one place after another, up to where it has none
+pub fields_text-asked : (fs : List (List ℕ × ℕ)) (i : ℕ) (f : List ℕ × ℕ) → slice_get fs i ≡ Some f
+    → fields_text (drop i fs) ≡ field_line f ++ fields_text (drop (i + 1) fs)
+fields_text-asked fs i f here = fields_text-drop fs i f (slice_get_within fs i f here) (sym (get_or_from_slice_get fs i f f here))
+
+pub fields_text-past : (fs : List (List ℕ × ℕ)) (i : ℕ) → slice_get fs i ≡ None → fields_text (drop i fs) ≡ []
+fields_text-past fs i none =
+    elim (slice_get_cases fs i).1 [
+      | inl found ↦ cc (none, found.2)
+      | inr beyond ↦ at_drop_all fields_text fs i beyond.0
+    ]

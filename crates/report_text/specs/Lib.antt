@@ -1,6 +1,7 @@
 pub mod Words
 pub mod Lines
 pub mod Report
+pub mod Kept
 pub mod Tidy
 pub mod Ranges
 pub mod Reports

@@ -14,8 +14,12 @@ abbrev pub kind_text : ℕ → RecordKind → List ℕ
 kind_text name (Conn client server) = codes "conn " ++ (decimal name ++ (codes " " ++ (endpoint_text client ++ (codes " > " ++ endpoint_text server))))
 kind_text name (Orphan class) = codes "orphan " ++ (decimal name ++ (codes " " ++ class_text class))
 
+-- the first line of a record of this name, kind and version
+abbrev pub head_line : ℕ → RecordKind → ℕ → List ℕ
+head_line name kind version = kind_text name kind ++ (codes " v " ++ (decimal version ++ codes "\n"))
+
 unfoldable pub first_line : Record → List ℕ
-first_line r = kind_text r.name r.kind ++ (codes " v " ++ (decimal r.version ++ codes "\n"))
+first_line r = head_line r.name r.kind r.version
 
 unfoldable pub callback_line : Entry → List ℕ
 callback_line e =
@@ -26,9 +30,13 @@ callback_line e =
 unfoldable pub drop_line : ℕ × Reason → List ℕ
 drop_line d = codes "drop " ++ (decimal d.0 ++ (codes " " ++ (reason_text d.1 ++ codes "\n")))
 
+-- what follows a field's name
+abbrev pub value_text : ℕ → List ℕ
+value_text value = codes " " ++ (decimal value ++ codes "\n")
+
 -- a field's name and its value
 unfoldable pub field_line : List ℕ × ℕ → List ℕ
-field_line f = codes "field " ++ (f.0 ++ (codes " " ++ (decimal f.1 ++ codes "\n")))
+field_line f = codes "field " ++ (f.0 ++ value_text f.1)
 
 unfoldable pub totals_line : Totals → List ℕ
 totals_line t =

@@ -1,7 +1,9 @@
 //! The lines of a report, each put behind what a text already holds.
 
 ghost use Rattle.std.specs.Prelude.{◌≡◌, ◌++◌, IsTrue, OnOk, string_bytes};
-ghost use Rattle.report_text.specs.Lines.{kind_text, first_line, callback_line, drop_line, field_line, totals_line};
+ghost use Rattle.callback_log.specs.Walk.{entry_lent, seen_lent};
+ghost use Rattle.report_text.specs.Lines.{kind_text, head_line, first_line, callback_line, drop_line, value_text, field_line, totals_line};
+ghost use Rattle.report_text.specs.Words.{seen_text};
 ghost use Rattle.app_api.specs.App.{is_field_name};
 
 use crate::record::{Record, RecordKind, Totals};
@@ -9,7 +11,8 @@ use crate::words::{
     class_name, hook_word, push_endpoint, push_event, push_labelled, push_name, push_reason,
     push_seen,
 };
-use app_api::{Entry, Reason};
+use app_api::{Entry, Reason, Seen};
+use callback_log::Callback;
 use std::alloc::{AllocError, Global};
 use std::fmt::Write;
 
@@ -32,29 +35,57 @@ fn push_kind(line: &mut String, name: u64, kind: &RecordKind) -> Result<(), Allo
     }
 }
 
+// The first line of a record of this name, kind and version.
+pub(crate) fn push_head(
+    line: &mut String,
+    name: u64,
+    kind: &RecordKind,
+    version: u32,
+) -> Result<(), AllocError>
+    ensures { OnOk result (string_bytes line.new ≡ string_bytes line.old ++ head_line name kind.now version) }
+{
+    push_kind(line, name, kind)?;
+    push_labelled(line, " v ", u64::from(version))?;
+    line.push('\n')
+}
+
 #[tactic(auto, unfolding(crate::specs::Lines::first_line))]
 pub(crate) fn push_first_line(line: &mut String, of: &Record) -> Result<(), AllocError>
     ensures { OnOk result (string_bytes line.new ≡ string_bytes line.old ++ first_line of.now) }
 {
-    push_kind(line, of.name, &of.kind)?;
-    push_labelled(line, " v ", u64::from(of.version))?;
-    line.push('\n')
+    push_head(line, of.name, &of.kind, of.version)
+}
+
+// What a callback saw that is lent without its entry.
+fn push_lent_seen(alloc: Global, line: &mut String, seen: Option<&Seen>) -> Result<(), AllocError>
+    ensures { OnOk result (string_bytes line.new ≡ string_bytes line.old ++ seen_text (seen_lent seen.entry)) }
+{
+    match seen {
+        Some(seen) => push_seen(alloc, line, seen),
+        None => Ok(()),
+    }
 }
 
 #[tactic(auto, unfolding(crate::specs::Lines::callback_line))]
 pub(crate) fn push_callback(
     alloc: Global,
     line: &mut String,
-    entry: &Entry,
+    callback: &Callback<'_>,
 ) -> Result<(), AllocError>
+    ensures { OnOk result (string_bytes line.new ≡ string_bytes line.old ++ callback_line (entry_lent callback.now)) }
+{
+    push_labelled(line, "cb ", callback.index)?;
+    line.push_str(hook_word(callback.hook))?;
+    push_event(line, callback.event)?;
+    push_labelled(line, " ", u64::from(callback.reg))?;
+    push_lent_seen(alloc, line, callback.seen)?;
+    line.push('\n')
+}
+
+pub(crate) fn push_entry(alloc: Global, line: &mut String, entry: &Entry) -> Result<(), AllocError>
     ensures { OnOk result (string_bytes line.new ≡ string_bytes line.old ++ callback_line entry.now) }
 {
-    push_labelled(line, "cb ", entry.index)?;
-    line.push_str(hook_word(entry.hook))?;
-    push_event(line, entry.event)?;
-    push_labelled(line, " ", u64::from(entry.reg))?;
-    push_seen(alloc, line, &entry.seen)?;
-    line.push('\n')
+    push_callback(alloc, line, &Callback::of(entry))
 }
 
 #[tactic(auto, unfolding(crate::specs::Lines::drop_line))]
@@ -67,6 +98,14 @@ pub(crate) fn push_drop(line: &mut String, index: u64, reason: Reason) -> Result
     line.push('\n')
 }
 
+// What follows a field's name.
+fn push_value(line: &mut String, value: u64) -> Result<(), AllocError>
+    ensures { OnOk result (string_bytes line.new ≡ string_bytes line.old ++ value_text value) }
+{
+    push_labelled(line, " ", value)?;
+    line.push('\n')
+}
+
 #[tactic(auto, unfolding(crate::specs::Lines::field_line))]
 pub(crate) fn push_field(line: &mut String, name: &[u8], value: u64) -> Result<(), AllocError>
     requires { IsTrue (is_field_name name.now) }
@@ -74,8 +113,17 @@ pub(crate) fn push_field(line: &mut String, name: &[u8], value: u64) -> Result<(
 {
     line.push_str("field ")?;
     push_name(line, name)?;
-    push_labelled(line, " ", value)?;
-    line.push('\n')
+    push_value(line, value)
+}
+
+// The same of a name that is a text.
+#[tactic(auto, unfolding(crate::specs::Lines::field_line))]
+pub(crate) fn push_named(line: &mut String, name: &str, value: u64) -> Result<(), AllocError>
+    ensures { OnOk result (string_bytes line.new ≡ string_bytes line.old ++ field_line (name.now, value)) }
+{
+    line.push_str("field ")?;
+    line.push_str(name)?;
+    push_value(line, value)
 }
 
 #[tactic(auto, unfolding(crate::specs::Lines::totals_line))]

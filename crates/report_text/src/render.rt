@@ -7,7 +7,7 @@ ghost use Rattle.mos_bytes.specs.Writes.{WriteAdds};
 ghost use Rattle.report_text.specs.Report.{callbacks_text, drops_text, fields_text, record_text, records_text};
 ghost use Rattle.report_text.specs.Tidy.{are_named, is_tidy_record};
 
-use crate::lines::{push_callback, push_drop, push_field, push_first_line};
+use crate::lines::{push_drop, push_entry, push_field, push_first_line};
 use crate::record::Record;
 use app_api::{Bytes, Entry, Reason};
 use memchr::memchr;
@@ -18,7 +18,7 @@ fn push_callbacks(alloc: Global, text: &mut String, entries: &[Entry]) -> Result
     ensures text { OnOk result (string_bytes text.new ≡ string_bytes text.old ++ callbacks_text entries.now) }
 {
     for entry in entries {
-        push_callback(alloc, text, entry)?;
+        push_entry(alloc, text, entry)?;
     }
     Ok(())
 }

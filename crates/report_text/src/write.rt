@@ -3,15 +3,17 @@
 ghost use Rattle.std.specs.Prelude.{◌≡◌, IsErrOf, IsTrue};
 ghost use Rattle.mos_bytes.specs.Causes.{HasCauseOf};
 ghost use Rattle.mos_bytes.specs.Writes.{WriteAdds};
-ghost use Rattle.report_text.specs.Lines.{first_line, callback_line, drop_line, field_line, totals_line};
+ghost use Rattle.callback_log.specs.Walk.{entry_lent};
+ghost use Rattle.report_text.specs.Lines.{head_line, callback_line, drop_line, field_line, totals_line};
 ghost use Rattle.report_text.specs.Report.{callbacks_text, drops_text, fields_text, rest_text, record_text, records_text, report_text};
 ghost use Rattle.report_text.specs.Tidy.{are_named, is_tidy_record, tidy};
 ghost use Rattle.std.specs.List.{list_all};
 ghost use Rattle.app_api.specs.App.{is_field_name};
 
-use crate::lines::{push_callback, push_drop, push_field, push_first_line, push_totals};
-use crate::record::{Record, Totals};
+use crate::lines::{push_callback, push_drop, push_field, push_head, push_totals};
+use crate::record::{Record, RecordKind, Totals};
 use app_api::{Bytes, Entry, Reason};
+use callback_log::Callback;
 use mos_bytes::{Failed, Sink};
 use std::alloc::{AllocError, Global};
 use thiserror::Error;
@@ -48,7 +50,23 @@ impl From<AllocError> for TextError {
 }
 
 // Writes one callback's line. `line` is room that is used again.
-fn write_callback<O: Sink>(
+pub(crate) fn write_callback<O: Sink>(
+    alloc: Global,
+    out: &mut O,
+    line: &mut String,
+    callback: &Callback<'_>,
+) -> Result<(), TextError>
+    ensures text { WriteAdds (O.taken out.old) (O.taken out.new) result (callback_line (entry_lent callback.now)) }
+    ensures cause { HasCauseOf (O.faults out.old) (O.faults out.new) (IsErrOf result TextError.WriteFault) }
+    ensures lasts { O.lasting out.new ≡ O.lasting out.old }
+{
+    line.clear();
+    push_callback(alloc, line, callback)?;
+    out.write_all(line.as_bytes())?;
+    Ok(())
+}
+
+fn write_entry<O: Sink>(
     alloc: Global,
     out: &mut O,
     line: &mut String,
@@ -58,19 +76,23 @@ fn write_callback<O: Sink>(
     ensures cause { HasCauseOf (O.faults out.old) (O.faults out.new) (IsErrOf result TextError.WriteFault) }
     ensures lasts { O.lasting out.new ≡ O.lasting out.old }
 {
-    line.clear();
-    push_callback(alloc, line, entry)?;
-    out.write_all(line.as_bytes())?;
-    Ok(())
+    write_callback(alloc, out, line, &Callback::of(entry))
 }
 
-fn write_first_line<O: Sink>(out: &mut O, line: &mut String, of: &Record) -> Result<(), TextError>
-    ensures text { WriteAdds (O.taken out.old) (O.taken out.new) result (first_line of.now) }
+// The first line of a record of this name, kind and version.
+pub(crate) fn write_head<O: Sink>(
+    out: &mut O,
+    line: &mut String,
+    name: u64,
+    kind: &RecordKind,
+    version: u32,
+) -> Result<(), TextError>
+    ensures text { WriteAdds (O.taken out.old) (O.taken out.new) result (head_line name kind.now version) }
     ensures cause { HasCauseOf (O.faults out.old) (O.faults out.new) (IsErrOf result TextError.WriteFault) }
     ensures lasts { O.lasting out.new ≡ O.lasting out.old }
 {
     line.clear();
-    push_first_line(line, of)?;
+    push_head(line, name, kind, version)?;
     out.write_all(line.as_bytes())?;
     Ok(())
 }
@@ -108,7 +130,7 @@ fn write_field<O: Sink>(
     Ok(())
 }
 
-fn write_callbacks<O: Sink>(
+fn write_entries<O: Sink>(
     alloc: Global,
     out: &mut O,
     line: &mut String,
@@ -119,12 +141,12 @@ fn write_callbacks<O: Sink>(
     ensures lasts { O.lasting out.new ≡ O.lasting out.old }
 {
     for entry in entries {
-        write_callback(alloc, out, line, entry)?;
+        write_entry(alloc, out, line, entry)?;
     }
     Ok(())
 }
 
-fn write_drops<O: Sink>(
+pub(crate) fn write_drops<O: Sink>(
     out: &mut O,
     line: &mut String,
     drops: &[(u64, Reason)],
@@ -167,7 +189,7 @@ fn write_rest<O: Sink>(
     ensures cause { HasCauseOf (O.faults out.old) (O.faults out.new) (IsErrOf result TextError.WriteFault) }
     ensures lasts { O.lasting out.new ≡ O.lasting out.old }
 {
-    write_callbacks(alloc, out, line, of.entries.as_slice())?;
+    write_entries(alloc, out, line, of.entries.as_slice())?;
     write_drops(out, line, of.drops.as_slice())?;
     write_fields(out, line, of.fields.as_slice())
 }
@@ -183,7 +205,7 @@ fn write_record<O: Sink>(
     ensures cause { HasCauseOf (O.faults out.old) (O.faults out.new) (IsErrOf result TextError.WriteFault) }
     ensures lasts { O.lasting out.new ≡ O.lasting out.old }
 {
-    write_first_line(out, line, of)?;
+    write_head(out, line, of.name, &of.kind, of.version)?;
     write_rest(alloc, out, line, of)
 }
 

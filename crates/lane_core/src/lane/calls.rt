@@ -1,26 +1,31 @@
 //! The calls of a lane.
 
-ghost use Rattle.std.specs.Prelude.{◌≡◌, List, [], IfOk, None};
+ghost use Rattle.std.specs.Prelude.{◌≡◌, List, [], IfOk, OnOk, Err, None, Some, true};
 ghost use Rattle.std.specs.Option.{option_copied};
 ghost use Rattle.shared_forest.specs.Store.{CountsAtMost};
 ghost use Rattle.forest_versions.specs.State.{start};
-ghost use Rattle.lane_core.specs.Lane.{IsTreeFound};
+ghost use Rattle.lane_core.specs.declared.errors.LaneError.{LaneError as Error};
+ghost use Rattle.lane_core.specs.Closing.{IsClosed};
+ghost use Rattle.lane_core.specs.Lane.{IsHeavyAtEnd, IsTreeFound};
 ghost use Rattle.lane_core.specs.Records.{open_at};
-ghost use Rattle.lane_core.specs.Run.{LaneEvent, lane_run};
+ghost use Rattle.lane_core.specs.Run.{LaneEvent, ended_run, lane_run};
 
 use crate::closing::close;
-use crate::end::{LaneEnd, records_of, versions_of};
+use crate::end::{Closed, LaneEnd, records_of, versions_of};
 use crate::errors::LaneError;
 use crate::kept::Kept;
 use crate::lane::Lane;
 use crate::recorder::Recorder;
+use crate::report::{ReportError, Reporter, version_of_each, write_slots};
 use crate::world::World;
 use app_api::{App, Verdict, presets_of};
 use flow_table::Key;
 use flow_timers::Moment;
 use forest_versions::{Command, Control, Master};
+use mos_bytes::Sink;
 use native_filters::NativeBook;
 use pcap_source::Frame;
+use report_text::{Totals, write_totals};
 use shared_forest::{Forests, Tree};
 use std::alloc::{AllocError, Global};
 
@@ -46,6 +51,49 @@ impl<A: App + Drop, F: Forests + Drop> Lane<A, F> {
             kept: Kept::new(alloc),
             next: 0,
             failed: None,
+        })
+    }
+
+    // Ends the connections that were silent for too long, and hands out what was kept.
+    fn closed(
+        self,
+        alloc: Global,
+        greatest: Option<Moment>,
+        natives: &NativeBook,
+    ) -> Result<Closed<A>, LaneError>
+        ensures failed { (e : Error) → self.failed ≡ Some e → result ≡ Err e }
+        ensures app { IfOk result (λ closed. closed.app ≡ self.world.app) }
+        ensures closed { self.failed ≡ None → IfOk result (λ closed. (events : List LaneEvent) → ⟦<Lane<A, F> as Recorder>⟧.stands self events
+            → IsClosed self.world.keep (ended_run (A.meaning self.world.app) events greatest) closed.slots.items closed.callbacks closed.drops) }
+        ensures light { OnOk result (self.world.keep ≡ true → (events : List LaneEvent) → ⟦<Lane<A, F> as Recorder>⟧.stands self events
+            → IsHeavyAtEnd (A.meaning self.world.app) events greatest → ⊥) }
+        ensures heavy { self.failed ≡ None → result ≡ Err LaneError.Heavy → (self.world.keep ≡ true)
+            × ((events : List LaneEvent) → ⟦<Lane<A, F> as Recorder>⟧.stands self events → IsHeavyAtEnd (A.meaning self.world.app) events greatest) }
+    {
+        let Lane {
+            world,
+            forests,
+            kept,
+            failed,
+            ..
+        } = self;
+        if let Some(error) = failed {
+            return Err(error);
+        }
+        let mut kept = kept;
+        close(alloc, &world, natives, &forests, &mut kept, greatest)?;
+        let Kept {
+            slots,
+            ledger,
+            dropped,
+            ..
+        } = kept;
+        let World { app, .. } = world;
+        Ok(Closed {
+            app,
+            slots,
+            callbacks: ledger.counts.callbacks,
+            drops: dropped,
         })
     }
 
@@ -137,31 +185,40 @@ impl<A: App + Drop, F: Forests + Drop> Recorder for Lane<A, F> {
         greatest: Option<Moment>,
         natives: &NativeBook,
     ) -> Result<LaneEnd, LaneError> {
-        let Lane {
-            world,
-            forests,
-            kept,
-            failed,
-            ..
-        } = self;
-        if let Some(error) = failed {
-            return Err(error);
-        }
-        let mut kept = kept;
-        close(alloc, &world, natives, &forests, &mut kept, greatest)?;
-        let Kept {
-            slots,
-            ledger,
-            dropped,
-            ..
-        } = kept;
+        let closed = self.closed(alloc, greatest, natives)?;
+        let slots = closed.slots;
         let versions = versions_of(alloc, &slots)?;
-        let records = records_of(alloc, &world.app, slots)?;
+        let records = records_of(alloc, &closed.app, slots)?;
         Ok(LaneEnd {
             records,
             versions,
-            callbacks: ledger.counts.callbacks,
-            drops: dropped,
+            callbacks: closed.callbacks,
+            drops: closed.drops,
         })
+    }
+}
+
+impl<A: App + Drop, F: Forests + Drop> Reporter for Lane<A, F> {
+    fn report<O: Sink>(
+        self,
+        alloc: Global,
+        greatest: Option<Moment>,
+        natives: &NativeBook,
+        packets: u64,
+        tail: u32,
+        out: &mut O,
+    ) -> Result<Vec<u32>, ReportError> {
+        let closed = self.closed(alloc, greatest, natives)?;
+        let versions = version_of_each(alloc, &closed.slots)?;
+        let totals = Totals {
+            packets,
+            records: closed.slots.len() as u64,
+            callbacks: closed.callbacks,
+            drops: closed.drops,
+            tail,
+        };
+        write_slots(alloc, &closed.app, out, &closed.slots)?;
+        write_totals(alloc, out, &totals)?;
+        Ok(versions)
     }
 }

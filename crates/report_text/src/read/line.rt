@@ -6,7 +6,7 @@ ghost use Rattle.report_text.specs.ReadLines.{bare, line_text, is_tidy_line, ent
 
 use super::parts::{after_endpoint, class_of, endpoint_of, event_of, hook_of, reason_of, seen_of};
 use super::words::{decimal, decimal_u8, decimal_u32, first, first_word, second, skip};
-use crate::lines::{push_callback, push_drop, push_field, push_first_line, push_totals};
+use crate::lines::{push_drop, push_entry, push_field, push_first_line, push_totals};
 use crate::record::{Record, RecordKind, Totals};
 use crate::tidy::{is_field_name, is_tidy_entry};
 use app_api::{Bytes, DropList, Entry, EntryList, FieldList, Reason};
@@ -74,7 +74,7 @@ pub(super) fn push_line(alloc: Global, room: &mut String, line: &Line) -> Result
             let of = bare(alloc, *name, *kind, *version);
             push_first_line(room, &of)
         }
-        Line::Callback(entry) => push_callback(alloc, room, entry),
+        Line::Callback(entry) => push_entry(alloc, room, entry),
         Line::Dropped(index, reason) => push_drop(room, *index, *reason),
         Line::Field(name, value) => push_field(room, name.as_slice(), *value),
         Line::Last(totals) => push_totals(room, totals),

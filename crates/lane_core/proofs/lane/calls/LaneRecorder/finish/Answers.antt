@@ -1,40 +1,21 @@
-use Rattle.std.proofs.Common.{◌∙◌, ℕ, List, map, sym, ap}
-use Rattle.std.proofs.lemmas.Result.{err_from_is_err_and}
+use Rattle.std.proofs.Common.{◌∙◌, ℕ, List, map, ap}
 use Rattle.lane_core.specs.declared.slot.Slot.{Slot}
 use Rattle.lane_core.specs.End.{ended}
-use Rattle.lane_core.specs.Records.{ended_at}
-use Rattle.lane_core.specs.Run.{control_of, lane_run, ended_run}
-use Rattle.lane_core.proofs.Ended.{ends_at, drops-kept}
+use Rattle.lane_core.specs.Run.{ended_run}
 use Rattle.lane_core.proofs.Ending.{all_ended, versions_named}
-use Rattle.lane_core.proofs.Standing.{never_failed, is_light_at_end, err_is_heavy}
 use Rattle.lane_core.proofs.lane.calls.LaneRecorder.finish.Goals as goal
 
 pub returns-clause-ended : goal.returns-clause-ended
 returns-clause-ended g c = λ good events r.
     let app = g.A.App.meaning c.args.self.world.app in
     let keep = c.args.self.world.keep in
-    let last = c.args.greatest in
-    let stands = c.in_ok-close.ensures.ends (control_of app events) (lane_run app events) (r.commands good).told (r.records good) in
-    let so_far = ended_run app events last in
+    let so_far = ended_run app events c.args.greatest in
+    let lane = c.in_ok-closed in
+    let is = lane.ensures.closed good events r in
     record {
-      records_are = c.in_ok-records.ensures ∙ ap (map (ended app)) stands.shown ∙ all_ended keep app so_far;
-      versions_are = c.in_ok-versions.ensures ∙ ap (λ (ss : List Slot). map {B = ℕ × ℕ} (λ s. (s.name, s.version)) ss) (c.deref.ensures.value ∙ stands.shown) ∙ versions_named keep so_far;
-      callbacks_are = stands.counted;
-      drops_are = c.close.ensures.dropped ∙ r.dropped good
-          ∙ sym (drops-kept app (control_of app events) (ended_at app (control_of app events) last) (ends_at app (control_of app events) last) (lane_run app events));
+      records_are = c.in_ok-records.ensures ∙ ap (λ a. map (ended (g.A.App.meaning a)) lane.closed.slots.items) lane.ensures.app
+          ∙ ap (map (ended app)) is.slots_are ∙ all_ended keep app so_far;
+      versions_are = c.in_ok-versions.ensures ∙ ap (λ (ss : List Slot). map {B = ℕ × ℕ} (λ s. (s.name, s.version)) ss) (c.deref.ensures.value ∙ is.slots_are) ∙ versions_named keep so_far;
+      callbacks_are = is.callbacks_are;
+      drops_are = is.drops_are;
     }
-
-pub returns-clause-light : goal.returns-clause-light
-returns-clause-light g c = λ keeps events r heavy.
-    let app = g.A.App.meaning c.args.self.world.app in
-    let keep = c.args.self.world.keep in
-    let good = never_failed c.args.self.failed c.in_default.not-Some in
-    let stands = c.in_ok-close.ensures.ends (control_of app events) (lane_run app events) (r.commands good).told (r.records good) in
-    is_light_at_end keep c.close.new.kept.ledger.counts.weight _ c.in_ok-close.ensures.light keeps stands.weighed heavy
-
-pub returns-in_err-close-clause-heavy : goal.returns-in_err-close-clause-heavy
-returns-in_err-close-clause-heavy g c = λ good is.
-    let app = g.A.App.meaning c.args.self.world.app in
-    let p = err_from_is_err_and c.from_residual.result c.from_residual.ensures.1 in
-    let heavy = c.close.ensures.heavy (err_is_heavy c.from_residual.result c.close.result p.0 c.in_err-close.field-0.0 p.2 p.1 is c.in_err-close.was) in
-    (heavy.keeps, λ events r. heavy.heavy (control_of app events) (lane_run app events) (r.commands good).told (r.records good))

@@ -1,7 +1,7 @@
 use Rattle.std.proofs.Common.{◌≡◌, drop}
 use Rattle.report_text.specs.Report.{callbacks_text}
 use Rattle.mos_bytes.proofs.Writing.{Writing}
-use Rattle.report_text.proofs.write.write_callbacks.Given as goal
+use Rattle.report_text.proofs.write.write_entries.Given as goal
 
 abbrev pub invariant-loop-entry : goal.invariant-loop-entry
 invariant-loop-entry g l =

@@ -1,0 +1,131 @@
+//! The end of a lane that writes its records, without a list of them.
+
+ghost use Rattle.std.specs.Prelude.{◌≡◌, ◌⊎◌, List, IfOk, IsErrOf, Err, None, Some, map, true};
+ghost use Rattle.mos_bytes.specs.Causes.{HasCauseOf};
+ghost use Rattle.mos_bytes.specs.Outside.{Writes};
+ghost use Rattle.mos_bytes.specs.Writes.{WriteAdds};
+ghost use Rattle.report_text.specs.declared.write.TextError.TheVariants.{WriteFault as TextFault};
+ghost use Rattle.report_text.specs.Report.{records_text};
+ghost use Rattle.lane_core.specs.declared.errors.LaneError.{LaneError as Error};
+ghost use Rattle.lane_core.specs.End.{ended};
+ghost use Rattle.lane_core.specs.Lane.{IsHeavyAtEnd};
+ghost use Rattle.lane_core.specs.Report.{end_text, lane_fault};
+ghost use Rattle.lane_core.specs.Run.{LaneEvent, ended_run};
+
+use crate::errors::LaneError;
+use crate::recorder::Recorder;
+use crate::slot::Slot;
+use app_api::App;
+use flow_timers::Moment;
+use mos_bytes::Sink;
+use native_filters::NativeBook;
+use report_text::{TextError, write_kept};
+use std::alloc::{AllocError, Global};
+
+/// Why a report was not written to its end.
+#[derive(Clone, Copy, Debug, PartialEq, Eq)]
+pub enum ReportError {
+    /// The sink failed, and has counted it. It holds a front of the text.
+    WriteFault,
+    /// Memory was refused. The sink holds a front of the text, which is empty where the records were not ready.
+    NoMemory,
+    /// The callbacks weigh more than 134,217,728: for each of them 32, and the bytes that it saw. Nothing was written.
+    Heavy,
+}
+
+impl From<LaneError> for ReportError {
+    ghost use Rattle.std.specs.Prelude.{◌≡◌};
+    ghost use Rattle.lane_core.specs.Report.{lane_fault};
+
+    ghost from_gives = { λ e r. r ≡ lane_fault e };
+
+    fn from(error: LaneError) -> Self {
+        match error {
+            LaneError::NoMemory => ReportError::NoMemory,
+            LaneError::Heavy => ReportError::Heavy,
+        }
+    }
+}
+
+impl From<TextError> for ReportError {
+    ghost use Rattle.std.specs.Prelude.{◌≡◌};
+    ghost use Rattle.lane_core.specs.Report.{text_fault};
+
+    ghost from_gives = { λ e r. r ≡ text_fault e };
+
+    fn from(error: TextError) -> Self {
+        match error {
+            TextError::WriteFault => ReportError::WriteFault,
+            TextError::NoMemory => ReportError::NoMemory,
+        }
+    }
+}
+
+impl From<AllocError> for ReportError {
+    ghost use Rattle.std.specs.Prelude.{◌≡◌};
+    ghost use Rattle.lane_core.specs.declared.report.ReportError.TheVariants.{NoMemory};
+
+    ghost from_gives = { λ _ r. r ≡ NoMemory };
+
+    fn from(_: AllocError) -> Self {
+        ReportError::NoMemory
+    }
+}
+
+/// A recorder that can end by writing its records.
+pub trait Reporter: Recorder {
+    /// Ends as `finish` does, but writes the report of the records, and answers the version of each in order of name. Nothing
+    /// is written before the records are ready, the weight of their callbacks is judged, and there is memory for the versions.
+    ///
+    /// The report counts `packets` whole records of the capture, and `tail` bytes behind them. At an error `out` has gained a
+    /// front of it: of nothing where the records weigh too much, or where the recorder failed before.
+    fn report<O: Sink>(
+        self,
+        alloc: Global,
+        greatest: Option<Moment>,
+        natives: &NativeBook,
+        packets: u64,
+        tail: u32,
+        out: &mut O,
+    ) -> Result<Vec<u32>, ReportError>
+        ensures failed { (e : Error) → Self.failed self ≡ Some e → (result ≡ Err (lane_fault e)) × (out.new ≡ out.old) }
+        ensures text { Self.failed self ≡ None → (events : List LaneEvent) → Self.stands self events → WriteAdds (O.taken out.old) (O.taken out.new) result
+            (end_text (Self.keeps self) (Self.app self) (ended_run (Self.app self) events greatest) packets tail) }
+        ensures versions { Self.failed self ≡ None → IfOk result (λ versions. (events : List LaneEvent) → Self.stands self events
+            → versions.items ≡ map (λ r. r.version) (ended_run (Self.app self) events greatest)) }
+        ensures too_heavy { Self.failed self ≡ None → Self.keeps self ≡ true → (events : List LaneEvent) → Self.stands self events → IsHeavyAtEnd (Self.app self) events greatest
+            → ((result ≡ Err ReportError.Heavy) ⊎ (result ≡ Err ReportError.NoMemory)) × (out.new ≡ out.old) }
+        ensures heavy { Self.failed self ≡ None → result ≡ Err ReportError.Heavy → (Self.keeps self ≡ true)
+            × ((events : List LaneEvent) → Self.stands self events → IsHeavyAtEnd (Self.app self) events greatest) }
+        ensures silent { result ≡ Err ReportError.Heavy → out.new ≡ out.old }
+        ensures to { Writes O.Sink out.old out.new (IsErrOf result ReportError.WriteFault) };
+}
+
+/// The version of each record.
+pub(crate) fn version_of_each(alloc: Global, slots: &[Slot]) -> Result<Vec<u32>, AllocError>
+    ensures { IfOk result (λ versions. versions.items ≡ map (λ s. s.version) slots.now) }
+{
+    let mut versions = Vec::with_capacity(alloc, slots.len())?;
+    for slot in slots {
+        versions.push(slot.version)?;
+    }
+    Ok(versions)
+}
+
+/// Writes the lines of records in order. At an `Err` the sink holds a front of them.
+pub(crate) fn write_slots<A: App, O: Sink>(
+    alloc: Global,
+    app: &A,
+    out: &mut O,
+    slots: &[Slot],
+) -> Result<(), TextError>
+    ensures text { WriteAdds (O.taken out.old) (O.taken out.new) result (records_text (map (ended (A.meaning app.now)) slots.now)) }
+    ensures cause { HasCauseOf (O.faults out.old) (O.faults out.new) (IsErrOf result TextFault) }
+    ensures lasts { O.lasting out.new ≡ O.lasting out.old }
+{
+    let mut line = String::new(alloc);
+    for slot in slots {
+        write_kept(alloc, app, out, &mut line, &slot.kept())?;
+    }
+    Ok(())
+}

@@ -1,0 +1,137 @@
+//! Writes records as they are kept, without a list of their entries or a text of each field's name.
+
+ghost use Rattle.std.specs.Prelude.{◌≡◌, IsErrOf, [], if◌then◌else◌};
+ghost use Rattle.mos_bytes.specs.Causes.{HasCauseOf};
+ghost use Rattle.mos_bytes.specs.Writes.{WriteAdds};
+ghost use Rattle.report_text.specs.Kept.{is_conn, kept_record};
+ghost use Rattle.report_text.specs.Lines.{field_line};
+ghost use Rattle.report_text.specs.Report.{callbacks_text, fields_text, rest_text, record_text};
+
+use crate::lines::push_named;
+use crate::record::RecordKind;
+use crate::write::{TextError, write_callback, write_drops, write_head};
+use app_api::{App, DropList, Tally};
+use callback_log::CallbackLog;
+use mos_bytes::Sink;
+use std::alloc::Global;
+
+/// A record as it is kept: what a [`Record`](crate::Record) has, but its callbacks as they were noted and, for its fields, what
+/// the application counted.
+#[derive(Drop)]
+pub struct KeptRecord<'a> {
+    /// The number of its first packet in the capture, from 0.
+    pub name: u64,
+    pub kind: RecordKind,
+    /// How many control commands were in force for it.
+    pub version: u32,
+    /// Its callbacks in the order in which they were made.
+    pub callbacks: &'a CallbackLog,
+    /// Its packets that were dropped, by their places in the capture, each with who asked for it.
+    pub drops: &'a DropList,
+    /// What the application counted for it, which gives the fields of a connection. An orphan has none.
+    pub tally: &'a Tally,
+}
+
+fn write_callbacks<O: Sink>(
+    alloc: Global,
+    out: &mut O,
+    line: &mut String,
+    log: &CallbackLog,
+) -> Result<(), TextError>
+    ensures text { WriteAdds (O.taken out.old) (O.taken out.new) result (callbacks_text log.now) }
+    ensures cause { HasCauseOf (O.faults out.old) (O.faults out.new) (IsErrOf result TextError.WriteFault) }
+    ensures lasts { O.lasting out.new ≡ O.lasting out.old }
+{
+    let mut walk = log.callbacks();
+    while let Some(callback) = walk.next() {
+        write_callback(alloc, out, line, &callback)?;
+    }
+    Ok(())
+}
+
+fn write_named<O: Sink>(
+    out: &mut O,
+    line: &mut String,
+    name: &str,
+    value: u64,
+) -> Result<(), TextError>
+    ensures text { WriteAdds (O.taken out.old) (O.taken out.new) result (field_line (name.now, value)) }
+    ensures cause { HasCauseOf (O.faults out.old) (O.faults out.new) (IsErrOf result TextError.WriteFault) }
+    ensures lasts { O.lasting out.new ≡ O.lasting out.old }
+{
+    line.clear();
+    push_named(line, name, value)?;
+    out.write_all(line.as_bytes())?;
+    Ok(())
+}
+
+// The fields that an application tells of a tally.
+fn write_told<A: App, O: Sink>(
+    app: &A,
+    out: &mut O,
+    line: &mut String,
+    tally: &Tally,
+) -> Result<(), TextError>
+    ensures text { WriteAdds (O.taken out.old) (O.taken out.new) result (fields_text ((A.meaning app.now).fields tally.now)) }
+    ensures cause { HasCauseOf (O.faults out.old) (O.faults out.new) (IsErrOf result TextError.WriteFault) }
+    ensures lasts { O.lasting out.new ≡ O.lasting out.old }
+{
+    for place in 0..256u16 {
+        let Some((name, value)) = app.field(place as u8, tally) else {
+            break;
+        };
+        write_named(out, line, name, value)?;
+    }
+    Ok(())
+}
+
+// The fields of a record: an orphan has none.
+fn write_fields<A: App, O: Sink>(
+    app: &A,
+    out: &mut O,
+    line: &mut String,
+    of: &KeptRecord<'_>,
+) -> Result<(), TextError>
+    ensures text { WriteAdds (O.taken out.old) (O.taken out.new) result (fields_text (kept_record (A.meaning app.now) of.now).fields) }
+    ensures cause { HasCauseOf (O.faults out.old) (O.faults out.new) (IsErrOf result TextError.WriteFault) }
+    ensures lasts { O.lasting out.new ≡ O.lasting out.old }
+{
+    match of.kind {
+        RecordKind::Conn { .. } => write_told(app, out, line, of.tally),
+        RecordKind::Orphan { .. } => Ok(()),
+    }
+}
+
+// The lines that follow a record's first line.
+fn write_rest<A: App, O: Sink>(
+    alloc: Global,
+    app: &A,
+    out: &mut O,
+    line: &mut String,
+    of: &KeptRecord<'_>,
+) -> Result<(), TextError>
+    ensures text { WriteAdds (O.taken out.old) (O.taken out.new) result (rest_text (kept_record (A.meaning app.now) of.now)) }
+    ensures cause { HasCauseOf (O.faults out.old) (O.faults out.new) (IsErrOf result TextError.WriteFault) }
+    ensures lasts { O.lasting out.new ≡ O.lasting out.old }
+{
+    write_callbacks(alloc, out, line, of.callbacks)?;
+    write_drops(out, line, of.drops.as_slice())?;
+    write_fields(app, out, line, of)
+}
+
+/// Writes the lines of a record as it is kept, each by one call: those that `write_report` writes of the record for which it
+/// stands. `line` is room that is used again. At an `Err` the sink holds a front of them.
+pub fn write_kept<A: App, O: Sink>(
+    alloc: Global,
+    app: &A,
+    out: &mut O,
+    line: &mut String,
+    of: &KeptRecord<'_>,
+) -> Result<(), TextError>
+    ensures text { WriteAdds (O.taken out.old) (O.taken out.new) result (record_text (kept_record (A.meaning app.now) of.now)) }
+    ensures cause { HasCauseOf (O.faults out.old) (O.faults out.new) (IsErrOf result TextError.WriteFault) }
+    ensures lasts { O.lasting out.new ≡ O.lasting out.old }
+{
+    write_head(out, line, of.name, &of.kind, of.version)?;
+    write_rest(alloc, app, out, line, of)
+}
