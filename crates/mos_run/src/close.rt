@@ -5,14 +5,13 @@ ghost use Rattle.std.specs.Io.KnownBytes.{Appends};
 ghost use Rattle.mos_bytes.specs.Writes.{WriteAdds};
 ghost use Rattle.report_text.specs.declared.record.Record.{Record};
 ghost use Rattle.pcap_source.specs.Captured.{Captured};
-ghost use Rattle.app_api.specs.App.{IsLawful};
 ghost use Rattle.lane_core.specs.Sight.{arrivals};
 ghost use Rattle.worker_laws.specs.Greatest.{greatest};
 ghost use Rattle.mos_run.specs.Records.{packets_of};
 ghost use Rattle.mos_run.specs.Outcome.{is_forward, streamed, closing};
 ghost use Rattle.mos_bytes.specs.Outside.{Writes};
 ghost use Rattle.mos_run.specs.Reading.{LaneHasRead};
-ghost use Rattle.mos_run.specs.Runs.{EndsAlone, MayRun};
+ghost use Rattle.mos_run.specs.Runs.{EndsAlone};
 
 use crate::plan::Plan;
 use crate::summary::write_summary;
@@ -58,8 +57,6 @@ pub(crate) fn close<L: Reporter + Drop, O: Sink>(
     tail: u32,
     out: &mut O,
 ) -> Result<VersionList, RunError>
-    requires app { IsLawful (L.app lane) }
-    requires lawful { MayRun (L.app lane) plan.now.script.now }
     requires keeps { L.keeps lane ≡ not (is_forward plan.now.output) }
     requires read { (frames : List Captured) × (length frames ≡ packets) × (last ≡ greatest (arrivals 0 frames))
         × LaneHasRead L.Recorder plan.now.script.now plan.now.output lane frames }

@@ -8,7 +8,6 @@ ghost use Rattle.mos_bytes.specs.Writes.{WriteAdds};
 ghost use Rattle.pcap_source.specs.Captured.{Captured};
 ghost use Rattle.pcap_source.specs.Reading.{Opened};
 ghost use Rattle.lane_rings.specs.Forwarded.{bytes_under as left_by};
-ghost use Rattle.app_api.specs.App.{IsLawful};
 ghost use Rattle.mos_run.specs.Apps.{meaning_of};
 ghost use Rattle.mos_run.specs.Records.{packets_of};
 ghost use Rattle.mos_run.specs.Outcome.{is_forward, streamed};
@@ -138,7 +137,6 @@ fn read_on<L: Reporter + Drop, S: Source, O: Sink>(
     source: &mut S,
     out: &mut O,
 ) -> Result<VersionList, RunError>
-    requires app { IsLawful (L.app lane) }
     requires lawful { MayRun (L.app lane) plan.now.script.now }
     requires keeps { L.keeps lane ≡ not (is_forward plan.now.output) }
     requires opened { Opened capture }

@@ -6,7 +6,7 @@ use Rattle.std.specs.Io.KnownBytes.{Appends}
 use Rattle.mos_run.specs.Records.{packets_of}
 use Rattle.mos_run.specs.Outcome.{is_forward}
 use Rattle.mos_run.specs.declared.refusal.RunError.TheVariants as Run
-use Rattle.mos_run.proofs.Closing.{was_good, end_is, end_is_heavy, end_is_light, versions_are, closing_is, ends_well, ends_badly, ends_not, reported_well, reported_badly}
+use Rattle.mos_run.proofs.Closing.{was_good, end_is, end_is_heavy, end_is_light, versions_are, closing_is, ends_well, ends_badly, ends_not, was_good_report, reported_well, reported_badly}
 use Rattle.mos_run.proofs.Replaying.{front_at_end}
 use Rattle.mos_run.proofs.close.close.Goals as goal
 
@@ -22,8 +22,8 @@ returns-in_err-items-clause-ends g c = λ header frames before count is_last rea
     g.O.Sink.taken c.args.out.now c.report.new.out c.report.result c.in_err-items.field-0.0 c.weight_never_falls.ensures c.in_err-items.was
     c.report.ensures.failed c.in_err-items.ensures.text c.report.ensures.too_heavy c.report.ensures.heavy first front)
 
-pub returns-in_ok-items-clause-ends : goal.returns-in_ok-items-clause-ends
-returns-in_ok-items-clause-ends g c = λ header frames before count is_last read first.
+pub returns-in-Report-clause-ends : goal.returns-in-Report-clause-ends
+returns-in-Report-clause-ends g c = λ header frames before count is_last read first.
     let lane = c.args.lane in
     let plan = c.args.plan.now in
     let good = was_good_report (g.L.Recorder.failed lane) c.report.result c.in_ok-items.items (λ e is. (c.report.ensures.failed e is).0) c.in_ok-items.was in
@@ -39,7 +39,7 @@ returns-in_err-end-clause-ends g c = λ header frames before count is_last read 
     let plan = c.args.plan.now in
     let app = g.L.Recorder.app lane in
     let front = front_at_end app plan.script.now plan.output header frames c.args.tail before (g.O.Sink.taken c.args.out.now) first in
-    let error = err_from_is_err_and c.from_residual.result c.from_residual.ensures.1 in
+    let error = err_from_is_err_and c.from_residual-in_err-end.result c.from_residual-in_err-end.ensures.1 in
     rw (error.1, error.2)
     (ends_not app plan.script.now (packets_of plan.script.now) plan.output frames header c.args.tail c.in_err-end.field-0.0 before (g.O.Sink.taken c.args.out.now)
     (λ heavy. end_is_heavy app plan.script.now plan.output frames (g.L.Recorder.given lane) (g.L.Recorder.failed lane) (g.L.Recorder.stands lane) (g.L.Recorder.keeps lane) c.args.last c.later_commands_change_none.ensures is_last read

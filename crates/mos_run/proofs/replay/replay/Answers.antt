@@ -1,7 +1,7 @@
-use Rattle.std.proofs.Common.{◌≡◌, [], refl, sym, subst, ◌∙◌, inl, inr, ⊎_elim, rules}
+use Rattle.std.proofs.Common.{[], refl, sym, subst, ◌∙◌, inl, inr, ⊎_elim, rules}
 use Rattle.std.proofs.lemmas.Result.{err_from_is_err_and}
 use Rattle.mos_bytes.proofs.Writes.{AppendsFront-nil}
-use Rattle.mos_run.specs.Apps.{meaning_of, lawful_app}
+use Rattle.mos_run.specs.Apps.{meaning_of}
 use Rattle.mos_run.specs.Records.{packets_of}
 use Rattle.mos_run.specs.Outcome.{is_forward, outcome_over}
 use Rattle.mos_run.specs.Run.{RunsAs}
@@ -87,9 +87,6 @@ returns-in_err-lane g c = record {
     to = search rules;
   };
 }
-
-pub read_on-requires-clause-app : goal.read_on-requires-clause-app
-read_on-requires-clause-app g c = lawful_app c.in_ok-lane.lane.world.app.0
 
 pub read_on-requires-clause-read : goal.read_on-requires-clause-read
 read_on-requires-clause-read g c =
