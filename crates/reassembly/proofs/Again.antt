@@ -9,7 +9,7 @@ use Rattle.reassembly.specs.Runs.{is_accepted, is_covered}
 use Rattle.reassembly.specs.Segment.{is_last}
 use Rattle.reassembly.specs.Pages.{IsGrown, tally_in}
 use Rattle.reassembly.specs.Waiting.{runs_of, IsMet}
-use Rattle.reassembly.specs.Window.{byte_at, cell_at, IsBounded, HaveAccepted, taken_cell, again_cell, taken_tally, AreAgain}
+use Rattle.reassembly.specs.Window.{byte_at, cell_at, IsBounded, HaveAccepted, taken_cell, again_cell, taken_tally, AreTaken, AreAgain}
 use Rattle.reassembly.proofs.Counts.{count_below-same, count_below-le}
 use Rattle.reassembly.proofs.Laid.{IsFew, tally_is, length-part}
 use Rattle.reassembly.proofs.Taken.{accepted_from_next, met_covered}
@@ -64,7 +64,7 @@ pub record IsAgain (old mid : Window) (met : List Run) (low high : ℕ) : Type 0
 pub again_from : (old ready mid : Window) (met : List Run) (limit end start m k j low : ℕ) (policy : Policy) (segment : List ℕ) → IsCut old.next limit end start (length segment) m k j
     → low ≡ start + m → old.bytes.base ≤ old.next → ready.next ≡ old.next → ready.runs ≡ old.runs → IsGrown old.bytes ready.bytes
     → (start + j ≤ start + k) ⊎ IsMet (runs_of old.runs) (start + k) (start + j) met
-    → ((p : ℕ) → ready.bytes.base ≤ p → cell_at mid p ≡ taken_cell policy low (take (k - m) (drop m segment)) p (cell_at ready p))
+    → AreTaken policy low (take (k - m) (drop m segment)) ready mid
     → IsAgain old mid met (start + k) (start + j)
 again_from old ready mid met limit end start m k j low policy segment cut at base next runs grown meets cells =
     let middle = take (k - m) (drop m segment) in
@@ -83,7 +83,7 @@ again_from old ready mid met limit end start m k j low policy segment cut at bas
 -- the cells of the whole segment
 pub cells_placed : (old ready mid new : Window) (start m k j low : ℕ) (policy : Policy) (segment : List ℕ) → low ≡ start + m
     → ready.next ≡ old.next → ready.runs ≡ old.runs → IsGrown old.bytes ready.bytes → mid.bytes.base ≡ ready.bytes.base
-    → ((p : ℕ) → ready.bytes.base ≤ p → cell_at mid p ≡ taken_cell policy low (take (k - m) (drop m segment)) p (cell_at ready p))
+    → AreTaken policy low (take (k - m) (drop m segment)) ready mid
     → AreAgain policy (start + k) (take (j - k) (drop k segment)) mid new
     → (p : ℕ) → old.bytes.base ≤ p → cell_at new p ≡ placed_cell policy start segment m k j p (cell_at old p)
 cells_placed old ready mid new start m k j low policy segment at next runs grown base cells again p l =

@@ -12,7 +12,7 @@ use Rattle.reassembly.specs.declared.runs.Run.{Run}
 use Rattle.reassembly.specs.Segment.{is_last, has_byte, count_below}
 use Rattle.reassembly.specs.Runs.{is_covered}
 use Rattle.reassembly.specs.Laying.{laid_byte, tally_of, tally_sum}
-use Rattle.reassembly.specs.Pages.{bytes_of, page_at, byte_of, IsHeld, IsKeyed, IsChangedAt, IsSamePlace, laid_in, tally_in}
+use Rattle.reassembly.specs.Pages.{bytes_of, page_at, byte_of, IsHeld, IsKeyed, IsChangedAt, IsSamePlace, laid_in, AreLaid, tally_in}
 use Rattle.reassembly.proofs.Counts.{count_below-same, count_below-le, count_below-stretch}
 use Rattle.reassembly.proofs.Laid.{laid_window, tally_is}
 use Rattle.reassembly.proofs.Parts.{length-mid}
@@ -131,7 +131,7 @@ laid_place old new low k from bytes cells h = record {
 
 pub laid_page : (old new : Pages) (runs : List Run) (low k from : ℕ) (policy : Policy) (bytes cells : List ℕ) → IsLaidIn old new low k from bytes cells
     → ((i : ℕ) → i < length bytes → slice_index cells i ≡ laid_byte runs low policy (take (length bytes) (drop from (page_at old k))) bytes i)
-    → (p : ℕ) → old.base ≤ p → byte_of new p ≡ laid_in old runs low policy bytes (length bytes) p
+    → AreLaid old new runs low policy bytes
 laid_page old new runs low k from policy bytes cells h laid p l =
     let base : old.base ≤ low = h.part.base in
     let place : k ≡ (low - old.base) / 2048 = h.part.place in
@@ -201,7 +201,7 @@ beyond before now runs low policy bytes part n m k h p l =
     h.laid p (omega arith) ∙ stays (leb low p && ltb p (low + n)) (is_covered runs p && not (is_last policy)) (slice_index bytes (p - low)) (byte_of before p) (λ t. true≢false (sym (and_parts (leb low p) (ltb p (low + n)) t).1 ∙ past))
 
 pub laid_on : (before now after : Pages) (runs : List Run) (low : ℕ) (policy : Policy) (bytes part : List ℕ) (n m k : ℕ) → IsLaidOn before now runs low policy bytes part n m k
-    → ((p : ℕ) → now.base ≤ p → byte_of after p ≡ laid_in now runs (low + n) policy part (length part) p)
+    → AreLaid now after runs (low + n) policy part
     → (p : ℕ) → before.base ≤ p → byte_of after p ≡ laid_in before runs low policy bytes k p
 laid_on before now after runs low policy bytes part n m k h next p l =
     let sum : n + m ≡ k = h.sum in

@@ -8,8 +8,8 @@ use Rattle.reassembly.specs.declared.runs.Run.{Run}
 use Rattle.reassembly.specs.declared.window.Window.{Window}
 use Rattle.reassembly.specs.Runs.{run_at, is_accepted, is_covered}
 use Rattle.reassembly.specs.Segment.{is_last, has_byte}
-use Rattle.reassembly.specs.Pages.{byte_of, IsGrown, IsSamePlace, IsReady, IsHeld, laid_in, tally_in}
-use Rattle.reassembly.specs.Window.{last_end, end_of, byte_at, cell_at, IsLaid, taken_cell, taken_tally}
+use Rattle.reassembly.specs.Pages.{byte_of, IsGrown, IsSamePlace, IsReady, IsHeld, AreLaid, tally_in}
+use Rattle.reassembly.specs.Window.{last_end, end_of, byte_at, IsLaid, taken_tally, AreTaken}
 use Rattle.reassembly.specs.Waiting.{runs_of, IsMet}
 use Rattle.reassembly.proofs.Counts.{count_below-same, count_below-le}
 use Rattle.reassembly.proofs.Laid.{tally_is}
@@ -77,7 +77,7 @@ pub record IsTaken (old : Window) (ready : Pages) (met : List Run) (new : Window
   pub grown : IsGrown old.bytes ready
   pub place : IsSamePlace ready new.bytes
   pub touching : IsMet (runs_of old.runs) low (low + length bytes) met
-  pub laid : (p : ℕ) → ready.base ≤ p → byte_of new.bytes p ≡ laid_in ready met low policy bytes (length bytes) p
+  pub laid : AreLaid ready new.bytes met low policy bytes
   pub accepted : (p : ℕ) → is_accepted new.next (runs_of new.runs) p ≡ (is_accepted old.next (runs_of old.runs) p || (leb low p && ltb p (low + length bytes)))
 
 -- a choice that is made where a byte stands alone
@@ -86,7 +86,7 @@ only_here true a b last x y h = ap (λ c. cond (not (c && not last)) x y) (h ref
 only_here false a b last x y h = refl
 
 pub cells_taken : (old : Window) (ready : Pages) (met : List Run) (new : Window) (low : ℕ) (bytes : List ℕ) (policy : Policy) → IsLaid old → old.next ≤ low → IsTaken old ready met new low bytes policy
-    → (p : ℕ) → old.bytes.base ≤ p → cell_at new p ≡ taken_cell policy low bytes p (cell_at old p)
+    → AreTaken policy low bytes old new
 cells_taken old ready met new low bytes policy is_laid from t p reach =
     let here : Bool = has_byte low bytes p in
     let acc : Bool = is_accepted old.next (runs_of old.runs) p in

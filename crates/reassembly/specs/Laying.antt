@@ -7,6 +7,14 @@ use Rattle.reassembly.specs.declared.laying.Stretch.{Stretch}
 use Rattle.reassembly.specs.Segment.{is_last, count_below}
 use Rattle.reassembly.specs.Runs.{is_covered, IsCursor}
 
+-- the bytes at the indices below n are these
+abbrev pub HasBytes : List ℕ → ℕ → (ℕ → ℕ) → Type 0
+HasBytes bytes n byte = (i : ℕ) → i < n → slice_index bytes i ≡ byte i
+
+-- each index has the byte that it had; past the end it has 0
+abbrev pub HasSameBytes : List ℕ → List ℕ → Type 0
+HasSameBytes old new = (i : ℕ) → slice_index new i ≡ slice_index old i
+
 -- how many of the first n bytes of two texts differ
 abbrev pub differing_of : List ℕ → List ℕ → ℕ → ℕ
 differing_of kept segment n = count_below (λ i. not (nat_eq (slice_index kept i) (slice_index segment i))) n

@@ -59,6 +59,11 @@ pub record IsSamePlace (old new : Pages) : Type 0 where
 abbrev pub laid_in : Pages → List Run → ℕ → Policy → List ℕ → ℕ → ℕ → ℕ
 laid_in s runs low policy bytes n p = if (nat_le low p && nat_lt p (low + n)) && not (is_covered runs p && not (is_last policy)) then slice_index bytes (p - low) else byte_of s p
 
+-- from the base on, the bytes are the old ones with these laid over them
+abbrev pub AreLaid : Pages → Pages → List Run → ℕ → Policy → List ℕ → Type 0
+AreLaid old new runs low policy bytes =
+    (p : ℕ) → old.base ≤ p → byte_of new p ≡ laid_in old runs low policy bytes (length bytes) p
+
 -- how they are judged
 abbrev pub tally_in : Pages → List Run → ℕ → List ℕ → ℕ → Tally
 tally_in s runs low bytes n = record {

@@ -1,5 +1,5 @@
 -- The accepted positions above next, as runs: private to the crate.
-use Rattle.std.specs.Prelude.{ℕ, ◌<◌, ◌≤◌, Bool, ◌&&◌, ◌||◌, nat_le, nat_lt, List, length, slice_index_or}
+use Rattle.std.specs.Prelude.{◌≡◌, ℕ, ◌<◌, ◌≤◌, Bool, ◌&&◌, ◌||◌, nat_le, nat_lt, List, length, slice_index_or}
 use Rattle.std.specs.List.{list_any}
 use Rattle.reassembly.specs.declared.runs.Run.{Run}
 
@@ -17,6 +17,14 @@ is_covered runs p = list_any (covers p) runs
 -- below next, or in a run
 abbrev pub is_accepted : ℕ → List Run → ℕ → Bool
 is_accepted next runs p = nat_lt p next || is_covered runs p
+
+-- the positions of a set are those that it had, and those from low to below high
+abbrev pub Gains : (ℕ → Bool) → (ℕ → Bool) → ℕ → ℕ → Type 0
+Gains old new low high = (p : ℕ) → new p ≡ (old p || (nat_le low p && nat_lt p high))
+
+-- each number of this kind that bounded the old bounds the new
+abbrev pub KeepsBounds : {S : Type 0} → (ℕ → Type 0) → (S → ℕ → Type 0) → S → S → Type 0
+KeepsBounds Kind Bounds old new = (m : ℕ) → Kind m → Bounds old m → Bounds new m
 
 -- no run is empty, and each begins above the end of those before it
 pub record AreOrdered (runs : List Run) : Type 0 where

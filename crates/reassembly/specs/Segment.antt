@@ -1,6 +1,6 @@
 -- What a segment does to a receiver (RFC 9293, sections 3.4 and 3.10.7.4). Each of its bytes is judged by the position p
 -- where it stands and by the cell c that the receiver holds there, with next and limit from before the segment.
-use Rattle.std.specs.Prelude.{ℕ, suc, zero, ◌+◌, ◌-◌, ℤ, pos, negsuc, Bool, true, false, not, ◌&&◌, ◌||◌, nat_le, nat_lt, nat_eq, List, length, drop, map, max, min, Option, Some, None, is_some, slice_index, if◌then◌else◌}
+use Rattle.std.specs.Prelude.{ℕ, suc, zero, ◌+◌, ◌-◌, ℤ, pos, negsuc, ◌+ℤ◌, Bool, true, false, not, ◌&&◌, ◌||◌, nat_le, nat_lt, nat_eq, List, length, drop, map, max, min, Option, Some, None, is_some, slice_index, if◌then◌else◌}
 use Rattle.std.specs.List.{range_with_len}
 use Rattle.reassembly.specs.declared.answers.Policy.{Policy}
 use Rattle.reassembly.specs.declared.answers.Policy.TheVariants.{First, Last}
@@ -85,3 +85,11 @@ counts r q bytes rbuf = let c = counts_at r (from_zero q) (drop (below_zero q) b
   differ = c.differ;
   over = c.over;
 }
+
+-- the receiver after a segment that begins d above next
+abbrev pub accept_above : ℤ → List ℕ → Policy → ℕ → Receiver → Receiver
+accept_above d bytes policy rbuf r = accept r (pos (next_of r.cells) +ℤ d) bytes policy rbuf
+
+-- how the bytes of that one are judged
+abbrev pub counts_above : ℤ → List ℕ → ℕ → Receiver → Placed
+counts_above d bytes rbuf r = counts r (pos (next_of r.cells) +ℤ d) bytes rbuf

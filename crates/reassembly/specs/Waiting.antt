@@ -2,6 +2,8 @@
 use Rattle.std.specs.Prelude.{◌≡◌, ◌⊎◌, ℕ, ◌-◌, ◌<◌, ◌≤◌, List, length, map, Some, None}
 use Rattle.std.specs.Ordering.{nat_cmp}
 use Rattle.std.specs.BTreeMap.{BTreeMap, IsOrdered, get}
+use Rattle.std.specs.BTreeMap.Range.{entries_between}
+use Rattle.std.specs.declared.ops.Bound.TheVariants.{Included}
 use Rattle.reassembly.specs.declared.runs.Run.{Run}
 use Rattle.reassembly.specs.declared.waiting.Runs.{Runs}
 use Rattle.reassembly.specs.Runs.{run_at, AreOrdered}
@@ -18,6 +20,18 @@ pub record HasItem (runs : List Run) (run : Run) : Type 0 where
   pub at : ℕ
   pub within : at < length runs
   pub is : run_at runs at ≡ run
+
+-- one of the runs that wait is this one
+abbrev pub HasRun : Runs → Run → Type 0
+HasRun r run = HasItem (runs_of r) run
+
+-- each of the runs that wait is so
+abbrev pub EachRun : Runs → (Run → Type 0) → Type 0
+EachRun r IsSo = (run : Run) → HasRun r run → IsSo run
+
+-- those of them that begin at `from` or above it, and at high or below it
+abbrev pub begun_between : Runs → ℕ → ℕ → List Run
+begun_between r from high = map run_of (entries_between nat_cmp (Included from) (Included high) r.map.entries)
 
 -- the run overlaps the positions from low to below high, or ends or begins where they begin or end
 pub record Touches (low high : ℕ) (run : Run) : Type 0 where

@@ -1,5 +1,5 @@
 -- The buffer of a stream and what it holds: private to the crate.
-use Rattle.std.specs.Prelude.{◌≡◌, ℕ, ◌+◌, ◌-◌, ◌<◌, ◌≤◌, max, not, ◌&&◌, nat_le, nat_eq, true, List, [], ◌∷◌, length, map, Option, Some, None, is_some, slice_index, if◌then◌else◌}
+use Rattle.std.specs.Prelude.{◌≡◌, ℕ, ◌+◌, ◌-◌, ◌<◌, ◌≤◌, Bool, max, not, ◌&&◌, nat_le, nat_eq, true, List, [], ◌∷◌, length, map, Option, Some, None, is_some, slice_index, if◌then◌else◌}
 use Rattle.std.specs.List.{range_with_len}
 use Rattle.reassembly.specs.declared.answers.Policy.{Policy}
 use Rattle.reassembly.specs.declared.laying.Tally.{Tally}
@@ -24,9 +24,13 @@ end_of w = last_end w.next (runs_of w.runs)
 abbrev pub byte_at : Window → ℕ → ℕ
 byte_at w p = byte_of w.bytes p
 
+-- the position is accepted: it lies below next, or in a run
+abbrev pub accepts : Window → ℕ → Bool
+accepts w p = is_accepted w.next (runs_of w.runs) p
+
 -- the cell at a position that the buffer still has
 abbrev pub cell_at : Window → ℕ → Option ℕ
-cell_at w p = if is_accepted w.next (runs_of w.runs) p then Some (byte_at w p) else None
+cell_at w p = if accepts w p then Some (byte_at w p) else None
 
 -- the kept cells: those from rbuf below next upward
 abbrev pub kept_at : Window → ℕ → ℕ → Option ℕ
@@ -74,6 +78,11 @@ pub record IsSameWindow (old new : Window) : Type 0 where
 abbrev pub taken_cell : Policy → ℕ → List ℕ → ℕ → Option ℕ → Option ℕ
 taken_cell policy low bytes p c = if has_byte low bytes p && not (is_some c && not (is_last policy)) then Some (slice_index bytes (p - low)) else c
 
+-- each cell is so after them
+abbrev pub AreTaken : Policy → ℕ → List ℕ → Window → Window → Type 0
+AreTaken policy low bytes old new =
+    (p : ℕ) → old.bytes.base ≤ p → cell_at new p ≡ taken_cell policy low bytes p (cell_at old p)
+
 -- the cell at p after bytes came again that stand from low on: none is accepted anew, and an old one is replaced where
 -- the last one stays
 abbrev pub again_cell : Policy → ℕ → List ℕ → ℕ → Option ℕ → Option ℕ
@@ -87,7 +96,7 @@ AreAgain policy low bytes old new =
 
 -- from low to below high the runs have what is accepted, and nothing else
 abbrev pub HaveAccepted : Window → List Run → ℕ → ℕ → Type 0
-HaveAccepted w met low high = (p : ℕ) → low ≤ p → p < high → is_covered met p ≡ is_accepted w.next (runs_of w.runs) p
+HaveAccepted w met low high = (p : ℕ) → low ≤ p → p < high → is_covered met p ≡ accepts w p
 
 -- how those bytes are judged
 abbrev pub taken_tally : Window → ℕ → List ℕ → Tally

@@ -1,9 +1,9 @@
 //! Laying a segment's bytes into the buffer, one stretch after another: its positions are all accepted already, or none is.
 
-ghost use Rattle.std.specs.Prelude.{◌≡◌, ℕ, ◌+◌, ◌<◌, ◌≤◌, ◌&&◌, ◌^◌, not, length, if◌then◌else◌, slice_index};
+ghost use Rattle.std.specs.Prelude.{◌≡◌, ◌+◌, ◌<◌, ◌≤◌, ◌&&◌, ◌^◌, not, length, if◌then◌else◌};
 ghost use Rattle.reassembly.specs.Segment.{is_last};
 ghost use Rattle.reassembly.specs.Runs.{AreOrdered, IsCursor};
-ghost use Rattle.reassembly.specs.Laying.{differing_of, laid_byte, tally_of, tally_of_stretch, tally_sum, IsStretch};
+ghost use Rattle.reassembly.specs.Laying.{HasBytes, differing_of, laid_byte, tally_of, tally_of_stretch, tally_sum, IsStretch};
 
 use crate::Policy;
 use crate::runs::{Run, ended_by};
@@ -124,7 +124,7 @@ pub fn lay(cells: &mut [u8], runs: &[Run], start: u64, segment: &[u8], policy: P
     requires length { length cells.old ≡ length segment.now }
     requires short { length segment.now ≤ 65535 }
     requires reach { start + length segment.now < 2 ^ 64 }
-    ensures cells { (i : ℕ) → i < length segment.now → slice_index cells.new i ≡ laid_byte runs.now start policy cells.old segment.now i }
+    ensures cells { HasBytes cells.new (length segment.now) (laid_byte runs.now start policy cells.old segment.now) }
     ensures tally { result ≡ tally_of runs.now start cells.old segment.now (length segment.now) }
 {
     let stop = start + segment.len() as u64;

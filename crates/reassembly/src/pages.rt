@@ -1,8 +1,8 @@
 //! The bytes of a stream by position, in pages of 2,048 positions: those that lie below a place are given back one by one.
 
-ghost use Rattle.std.specs.Prelude.{◌≡◌, ℕ, ◌+◌, ◌-◌, ◌*◌, ◌/◌, ◌%◌, ◌<◌, ◌≤◌, ◌^◌, ◌⊎◌, [], length, min, vec_len, slice_index, OnOk};
+ghost use Rattle.std.specs.Prelude.{◌≡◌, ℕ, ◌+◌, ◌-◌, ◌*◌, ◌/◌, ◌%◌, ◌<◌, ◌≤◌, ◌^◌, ◌⊎◌, [], length, min, vec_len, OnOk};
 ghost use Rattle.reassembly.specs.Runs.{AreOrdered};
-ghost use Rattle.reassembly.specs.Laying.{differing_of};
+ghost use Rattle.reassembly.specs.Laying.{HasBytes, HasSameBytes};
 
 use crate::Policy;
 use crate::laying::{Tally, added, differing, lay};
@@ -35,7 +35,7 @@ fn part_len(offset: u64, left: usize) -> usize
 // page, or else twice what there was.
 fn lengthen(page: &mut Vec<u8>, len: usize, is_whole: bool) -> Result<(), AllocError>
     requires { len ≤ 2048 }
-    ensures bytes { (i : ℕ) → slice_index page.new.items i ≡ slice_index page.old.items i }
+    ensures bytes { HasSameBytes page.old.items page.new.items }
     ensures longer { length page.old.items ≤ length page.new.items }
     ensures len { OnOk result (len ≤ length page.new.items) }
 {
@@ -50,7 +50,7 @@ fn lengthen(page: &mut Vec<u8>, len: usize, is_whole: bool) -> Result<(), AllocE
 }
 
 impl Pages {
-    ghost use Rattle.reassembly.specs.Pages.{page_at, byte_of, IsHeld, IsReady, IsKeyed, IsGrown, IsChangedAt, IsSamePlace, laid_in, tally_in, differing_in};
+    ghost use Rattle.reassembly.specs.Pages.{page_at, byte_of, IsHeld, IsReady, IsKeyed, IsGrown, IsChangedAt, IsSamePlace, AreLaid, tally_in, differing_in};
 
     /// No pages. It takes no memory.
     pub fn new(alloc: Global) -> Self
@@ -106,7 +106,7 @@ impl Pages {
         requires within { place < vec_len self.old.keys }
         requires page { len ≤ 2048 }
         ensures changed { IsChangedAt self.old self.new place }
-        ensures bytes { (i : ℕ) → slice_index (page_at self.new place) i ≡ slice_index (page_at self.old place) i }
+        ensures bytes { HasSameBytes (page_at self.old place) (page_at self.new place) }
         ensures longer { length (page_at self.old place) ≤ length (page_at self.new place) }
         ensures len { OnOk result (len ≤ length (page_at self.new place)) }
     {
@@ -143,7 +143,7 @@ impl Pages {
         requires ready { IsReady self.now low (low + len) }
         requires reach { low + len < 2 ^ 64 }
         ensures len { length result.now ≡ len }
-        ensures bytes { (i : ℕ) → i < len → slice_index result.now i ≡ byte_of self.now (low + i) }
+        ensures bytes { HasBytes result.now len (λ i. byte_of self.now (low + i)) }
     {
         let offset = (low - self.base) as usize;
         let from = offset % PAGE;
@@ -161,7 +161,7 @@ impl Pages {
         requires ready { IsReady self.old low (low + length bytes.now) }
         requires reach { low + length bytes.now < 2 ^ 63 }
         ensures place { IsSamePlace self.old self.new }
-        ensures bytes { (p : ℕ) → self.old.base ≤ p → byte_of self.new p ≡ laid_in self.old runs.now low policy bytes.now (length bytes.now) p }
+        ensures bytes { AreLaid self.old self.new runs.now low policy bytes.now }
         ensures tally { result ≡ tally_in self.old runs.now low bytes.now (length bytes.now) }
     {
         let offset = (low - self.base) as usize;
@@ -186,7 +186,7 @@ impl Pages {
         requires short { length bytes.now ≤ 65535 }
         requires reach { low + length bytes.now < 2 ^ 63 }
         ensures place { IsSamePlace self.old self.new }
-        ensures bytes { (p : ℕ) → self.old.base ≤ p → byte_of self.new p ≡ laid_in self.old runs.now low policy bytes.now (length bytes.now) p }
+        ensures bytes { AreLaid self.old self.new runs.now low policy bytes.now }
         ensures tally { result ≡ tally_in self.old runs.now low bytes.now (length bytes.now) }
     {
         let mut tally = Tally {
@@ -233,7 +233,7 @@ impl Pages {
         requires from { self.now.base ≤ low }
         requires ready { IsReady self.now low (low + length buf.old) }
         requires reach { low + length buf.old < 2 ^ 64 }
-        ensures { (i : ℕ) → i < length buf.old → slice_index buf.new i ≡ byte_of self.now (low + i) }
+        ensures { HasBytes buf.new (length buf.old) (λ i. byte_of self.now (low + i)) }
     {
         let mut done = 0;
         while done < buf.len() {

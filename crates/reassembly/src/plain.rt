@@ -1,9 +1,9 @@
 //! The receiver of the definitions, in code: slow, and it forgets nothing.
 
-ghost use Rattle.std.specs.Prelude.{◌≡◌, ℕ, ◌+◌, ◌<◌, ◌≤◌, ◌^◌, ℤ, pos, ◌+ℤ◌, neg_ℤ, ◌≤ℤ◌, ◌<ℤ◌, max, length, drop, OnOk, OnErr, IfOk, Option, is_some, slice_index, slice_index_or, None};
+ghost use Rattle.std.specs.Prelude.{◌≡◌, ℕ, ◌+◌, ◌<◌, ◌≤◌, ◌^◌, ℤ, pos, neg_ℤ, ◌≤ℤ◌, ◌<ℤ◌, max, length, drop, OnOk, OnErr, IfOk, Option, is_some, slice_index, slice_index_or, None};
 ghost use Rattle.std.specs.List.{prefix_len};
 ghost use Rattle.reassembly.specs.Receiver.{no_bytes, held, next_of, kept, wide_of, limit_of};
-ghost use Rattle.reassembly.specs.Segment.{is_old, is_new, is_over, is_differing, cell_after, held_after, accept, counts};
+ghost use Rattle.reassembly.specs.Segment.{is_old, is_new, is_over, is_differing, cell_after, held_after, accept_above, counts_above};
 ghost use Rattle.reassembly.specs.Fin.{is_free_from, note_of, noted};
 ghost use Rattle.reassembly.specs.Offer.{offered};
 ghost use Rattle.reassembly.specs.Plain.{judged_below, counted_more};
@@ -106,7 +106,8 @@ fn write_all(
 ) -> Placed
     requires within { start + length bytes.now ≤ length cells.old }
     requires short { length bytes.now ≤ 65535 }
-    ensures cells { (p : ℕ) → held cells.new p ≡ held_after before.next before.limit policy start bytes.now p (held cells.old p) }
+    ensures cells { (p : ℕ) → held cells.new p
+        ≡ held_after before.next before.limit policy start bytes.now p (held cells.old p) }
     ensures placed { result ≡ judged_below before start bytes.now cells.old (length bytes.now) }
 {
     let mut placed = Placed {
@@ -184,8 +185,8 @@ impl PlainReceiver {
         requires short { length bytes.now ≤ 65535 }
         requires next { next_of self.old.cells ≤ 2 ^ 62 }
         ensures err { OnErr result (self.new ≡ self.old) }
-        ensures ok { OnOk result (self.new ≡ accept self.old (pos (next_of self.old.cells) +ℤ d) bytes.now policy rbuf) }
-        ensures counts { IfOk result (λ placed. placed ≡ counts self.old (pos (next_of self.old.cells) +ℤ d) bytes.now rbuf) }
+        ensures ok { OnOk result (self.new ≡ accept_above d bytes.now policy rbuf self.old) }
+        ensures counts { IfOk result (λ placed. placed ≡ counts_above d bytes.now rbuf self.old) }
     {
         let next = self.next();
         let before = Before {

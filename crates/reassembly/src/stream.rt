@@ -1,11 +1,11 @@
 //! A stream: its buffer, its FIN, and the size of its receive buffer.
 
-ghost use Rattle.std.specs.Prelude.{◌≡◌, ℕ, ◌+◌, ◌-◌, ◌<◌, ◌≤◌, ◌^◌, ℤ, pos, ◌+ℤ◌, neg_ℤ, ◌≤ℤ◌, ◌<ℤ◌, ◌++◌, min, length, drop, OnOk, OnErr, IfOk, Option, None};
-ghost use Rattle.reassembly.specs.Receiver.{Receiver, no_bytes, next_of, kept, low_of, wide_of};
+ghost use Rattle.std.specs.Prelude.{◌≡◌, ℕ, ◌+◌, ◌-◌, ◌<◌, ◌≤◌, ◌^◌, ℤ, pos, neg_ℤ, ◌≤ℤ◌, ◌<ℤ◌, ◌++◌, min, length, drop, OnOk, OnErr, IfOk, Option, None};
+ghost use Rattle.reassembly.specs.Receiver.{no_bytes, low_of};
 ghost use Rattle.reassembly.specs.Kept.{bytes_from, runs_from, positions_in, AreWhole};
-ghost use Rattle.reassembly.specs.Segment.{accept, counts};
+ghost use Rattle.reassembly.specs.Segment.{accept_above, counts_above};
 ghost use Rattle.reassembly.specs.Fin.{note_of, noted};
-ghost use Rattle.reassembly.specs.View.{StandsFor};
+ghost use Rattle.reassembly.specs.View.{StandsFor, ForReceiver, ForKept, ForWide, StandsAfter, StandsAfterWide};
 
 use crate::fin::{judge, natural, noted_after};
 use crate::start::{limit, start_of};
@@ -71,7 +71,7 @@ impl Stream {
 
     /// The lowest kept position below `next`, or `next` where none is kept there.
     pub fn low(&self) -> u64
-        ensures { (r : Receiver) → StandsFor self.now r → result ≡ low_of r.cells self.now.rbuf }
+        ensures { ForReceiver self.now (λ r. result ≡ low_of r.cells self.now.rbuf) }
     {
         self.window.next.saturating_sub(u64::from(self.rbuf))
     }
@@ -94,8 +94,10 @@ impl Stream {
         ensures err { OnErr result (self.new ≡ self.old) }
         ensures rbuf { self.new.rbuf ≡ self.old.rbuf }
         ensures rise { OnOk result (self.new.next ≤ self.old.next + self.old.rbuf) }
-        ensures stands { OnOk result ((r : Receiver) → StandsFor self.old r → wide ≡ wide_of r self.old.rbuf → StandsFor self.new (accept r (pos (next_of r.cells) +ℤ d) bytes.now policy self.old.rbuf)) }
-        ensures counts { IfOk result (λ placed. (r : Receiver) → StandsFor self.old r → wide ≡ wide_of r self.old.rbuf → placed ≡ counts r (pos (next_of r.cells) +ℤ d) bytes.now self.old.rbuf) }
+        ensures stands { OnOk result (StandsAfterWide self.old wide self.new
+            (accept_above d bytes.now policy self.old.rbuf)) }
+        ensures counts { IfOk result (λ placed. ForWide self.old wide
+            (λ r. placed ≡ counts_above d bytes.now self.old.rbuf r)) }
     {
         let limit = limit(self.window.next, self.fin, wide);
         let start = start_of(self.window.next, d);
@@ -113,9 +115,10 @@ impl Stream {
 
     /// Notes a FIN at `position`, the end of its segment, where `edge` is the greatest position that is allowed.
     pub fn note_fin(&mut self, position: i64, edge: u64) -> FinNote
-        ensures answer { (r : Receiver) → StandsFor self.old r → result ≡ note_of r position edge }
-        ensures stands { (r : Receiver) → StandsFor self.old r → StandsFor self.new (noted r position edge) }
-        ensures same { (self.new.next ≡ self.old.next) × (self.new.kept ≡ self.old.kept) × (self.new.rbuf ≡ self.old.rbuf) }
+        ensures answer { ForReceiver self.old (λ r. result ≡ note_of r position edge) }
+        ensures stands { StandsAfter self.old self.new (λ r. noted r position edge) }
+        ensures same { (self.new.next ≡ self.old.next) × (self.new.kept ≡ self.old.kept)
+            × (self.new.rbuf ≡ self.old.rbuf) }
     {
         let Some(position) = natural(position) else {
             return FinNote::Refused;
@@ -131,8 +134,9 @@ impl Stream {
     /// 0 exactly where `buf` is empty or `position` isn't kept. The rest of `buf` stays.
     pub fn read_at(&self, position: u64, buf: &mut [u8]) -> usize
         ensures bound { result ≤ length buf.old }
-        ensures len { (r : Receiver) → StandsFor self.now r → result ≡ length (bytes_from (kept r.cells self.now.rbuf) position (length buf.old)) }
-        ensures bytes { (r : Receiver) → StandsFor self.now r → buf.new ≡ bytes_from (kept r.cells self.now.rbuf) position (length buf.old) ++ drop result buf.old }
+        ensures len { ForKept self.now (λ at. result ≡ length (bytes_from at position (length buf.old))) }
+        ensures bytes { ForKept self.now
+            (λ at. buf.new ≡ bytes_from at position (length buf.old) ++ drop result buf.old) }
     {
         let end = self.window.run_end(position, self.rbuf);
         let len = (end - position).min(buf.len() as u64) as usize;
@@ -146,9 +150,9 @@ impl Stream {
     /// The longest runs of kept positions among the `len` from `position` on, in order, also above `next`.
     /// Each is kept whole: `read_at` from its place on fills a buffer of its length.
     pub fn pieces(&self, position: u64, len: u32) -> Pieces<'_>
-        ensures runs { (r : Receiver) → StandsFor self.now r → result ≡ runs_from (kept r.cells self.now.rbuf) position len }
+        ensures runs { ForKept self.now (λ at. result ≡ runs_from at position len) }
         ensures few { positions_in result ≤ len }
-        ensures whole { (r : Receiver) → StandsFor self.now r → AreWhole (kept r.cells self.now.rbuf) result }
+        ensures whole { ForKept self.now (λ at. AreWhole at result) }
     {
         Pieces::new(&self.window, self.rbuf, position, len)
     }

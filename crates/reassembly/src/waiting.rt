@@ -1,12 +1,10 @@
 //! The runs above `next`, which wait for the bytes before them, in an ordered map.
 
-ghost use Rattle.std.specs.Prelude.{◌≡◌, ℕ, ◌+◌, ◌-◌, ◌<◌, ◌≤◌, [], ◌∷◌, ◌&&◌, ◌||◌, false, map, length, nat_le, nat_lt, IfSome, IfNone, IfOk, OnOk, OnErr};
+ghost use Rattle.std.specs.Prelude.{◌≡◌, ℕ, ◌-◌, ◌<◌, ◌≤◌, [], ◌∷◌, false, length, IfSome, IfNone, IfOk, OnOk, OnErr};
 ghost use Rattle.std.specs.Ordering.{nat_cmp};
 ghost use Rattle.std.specs.BTreeMap.{IsOrdered};
-ghost use Rattle.std.specs.BTreeMap.Range.{entries_between};
-ghost use Rattle.std.specs.declared.ops.Bound.TheVariants.{Included};
-ghost use Rattle.reassembly.specs.Runs.{AreOrdered, AreAbove, AreWithin, run_at, is_covered};
-ghost use Rattle.reassembly.specs.Waiting.{run_of, runs_of, HasItem, Touches, IsMet, IsJoined, IsThinned};
+ghost use Rattle.reassembly.specs.Runs.{AreOrdered, AreAbove, AreWithin, Gains, KeepsBounds, run_at, is_covered, is_accepted};
+ghost use Rattle.reassembly.specs.Waiting.{runs_of, begun_between, HasRun, EachRun, IsMet, IsJoined, IsThinned};
 
 use crate::runs::Run;
 use std::alloc::{AllocError, Global};
@@ -50,8 +48,9 @@ impl Runs {
 
     // The last run that begins at `position` or below it.
     fn begun_by(&self, position: u64) -> Option<Run>
-        ensures some { IfSome result (λ run. HasItem (runs_of self.now) run × (run.start ≤ position) × ((other : _) → HasItem (runs_of self.now) other → other.start ≤ position → other.start ≤ run.start)) }
-        ensures none { IfNone result ((other : _) → HasItem (runs_of self.now) other → position < other.start) }
+        ensures some { IfSome result (λ run. HasRun self.now run × (run.start ≤ position)
+            × EachRun self.now (λ other. other.start ≤ position → other.start ≤ run.start)) }
+        ensures none { IfNone result (EachRun self.now (λ other. position < other.start)) }
     {
         let Some((start, end)) = self.map.range(..=position).next_back() else {
             return None;
@@ -64,8 +63,9 @@ impl Runs {
 
     /// The first run that begins above `position`.
     pub fn above(&self, position: u64) -> Option<Run>
-        ensures some { IfSome result (λ run. HasItem (runs_of self.now) run × (position < run.start) × ((other : _) → HasItem (runs_of self.now) other → position < other.start → run.start ≤ other.start)) }
-        ensures none { IfNone result ((other : _) → HasItem (runs_of self.now) other → other.start ≤ position) }
+        ensures some { IfSome result (λ run. HasRun self.now run × (position < run.start)
+            × EachRun self.now (λ other. position < other.start → run.start ≤ other.start)) }
+        ensures none { IfNone result (EachRun self.now (λ other. other.start ≤ position)) }
     {
         let from = (Bound::Excluded(position), Bound::Unbounded);
         let Some((start, end)) = self.map.range(from).next() else {
@@ -80,7 +80,7 @@ impl Runs {
     /// The run that has `position`.
     pub fn covering(&self, position: u64) -> Option<Run>
         requires { AreOrdered (runs_of self.now) }
-        ensures some { IfSome result (λ run. HasItem (runs_of self.now) run × (run.start ≤ position) × (position < run.end)) }
+        ensures some { IfSome result (λ run. HasRun self.now run × (run.start ≤ position) × (position < run.end)) }
         ensures none { IfNone result (is_covered (runs_of self.now) position ≡ false) }
     {
         match self.begun_by(position) {
@@ -91,7 +91,8 @@ impl Runs {
 
     /// Where the last run ends.
     pub fn end(&self) -> Option<u64>
-        ensures some { IfSome result (λ end. (0 < length (runs_of self.now)) × (end ≡ (run_at (runs_of self.now) (length (runs_of self.now) - 1)).end)) }
+        ensures some { IfSome result (λ end. (0 < length (runs_of self.now))
+            × (end ≡ (run_at (runs_of self.now) (length (runs_of self.now) - 1)).end)) }
         ensures none { IfNone result (runs_of self.now ≡ []) }
     {
         match self.map.last_key_value() {
@@ -102,8 +103,10 @@ impl Runs {
 
     // Takes the first run away if it begins at `high` or below it, and answers where it ends.
     fn pop_touching(&mut self, high: u64) -> Option<u64>
-        ensures some { IfSome result (λ end. (run : _) × (runs_of self.old ≡ run ∷ runs_of self.new) × (run.start ≤ high) × (end ≡ run.end)) }
-        ensures none { IfNone result ((runs_of self.new ≡ runs_of self.old) × (0 < length (runs_of self.old) → high < (run_at (runs_of self.old) 0).start)) }
+        ensures some { IfSome result (λ end. (run : _) × (runs_of self.old ≡ run ∷ runs_of self.new)
+            × (run.start ≤ high) × (end ≡ run.end)) }
+        ensures none { IfNone result ((runs_of self.new ≡ runs_of self.old)
+            × (0 < length (runs_of self.old) → high < (run_at (runs_of self.old) 0).start)) }
     {
         match self.map.first_key_value() {
             Some((start, _)) if *start <= high => {}
@@ -121,8 +124,10 @@ impl Runs {
         ensures rises { high ≤ result }
         ensures ordered { AreOrdered (runs_of self.new) }
         ensures above { AreAbove (runs_of self.new) result }
-        ensures accepted { (p : ℕ) → (nat_lt p result || is_covered (runs_of self.new) p) ≡ (nat_lt p high || is_covered (runs_of self.old) p) }
-        ensures within { (m : ℕ) → high ≤ m → AreWithin (runs_of self.old) m → (result ≤ m) × AreWithin (runs_of self.new) m }
+        ensures accepted { (p : ℕ) → is_accepted result (runs_of self.new) p
+            ≡ is_accepted high (runs_of self.old) p }
+        ensures within { (m : ℕ) → high ≤ m → AreWithin (runs_of self.old) m
+            → (result ≤ m) × AreWithin (runs_of self.new) m }
     {
         let mut end = high;
         while let Some(run_end) = self.pop_touching(end) {
@@ -135,8 +140,8 @@ impl Runs {
     fn first_touching(&self, low: u64) -> u64
         requires { AreOrdered (runs_of self.now) }
         ensures from { result ≤ low }
-        ensures before { (run : _) → HasItem (runs_of self.now) run → run.start < result → run.end < low }
-        ensures after { (run : _) → HasItem (runs_of self.now) run → result ≤ run.start → run.start ≤ low → low ≤ run.end }
+        ensures before { EachRun self.now (λ run. run.start < result → run.end < low) }
+        ensures after { EachRun self.now (λ run. result ≤ run.start → run.start ≤ low → low ≤ run.end) }
     {
         match self.begun_by(low) {
             Some(run) if low <= run.end => run.start,
@@ -148,7 +153,7 @@ impl Runs {
     fn copied(&self, from: u64, high: u64) -> Result<Vec<Run>, AllocError>
         requires ordered { AreOrdered (runs_of self.now) }
         requires forward { from ≤ high }
-        ensures { IfOk result (λ met. (met.items ≡ map run_of (entries_between nat_cmp (Included from) (Included high) self.now.map.entries)) × AreOrdered met.items) }
+        ensures { IfOk result (λ met. (met.items ≡ begun_between self.now from high) × AreOrdered met.items) }
     {
         let mut met = Vec::new(self.alloc);
         for (start, end) in self
@@ -195,9 +200,9 @@ impl Runs {
         requires met { IsMet (runs_of self.old) low high met.now }
         ensures err { OnErr result (runs_of self.new ≡ runs_of self.old) }
         ensures ordered { OnOk result (AreOrdered (runs_of self.new)) }
-        ensures covered { OnOk result ((p : ℕ) → is_covered (runs_of self.new) p ≡ (is_covered (runs_of self.old) p || (nat_le low p && nat_lt p high))) }
-        ensures above { OnOk result ((m : ℕ) → m < low → AreAbove (runs_of self.old) m → AreAbove (runs_of self.new) m) }
-        ensures within { OnOk result ((m : ℕ) → high ≤ m → AreWithin (runs_of self.old) m → AreWithin (runs_of self.new) m) }
+        ensures covered { OnOk result (Gains (is_covered (runs_of self.old)) (is_covered (runs_of self.new)) low high) }
+        ensures above { OnOk result (KeepsBounds (λ m. m < low) AreAbove (runs_of self.old) (runs_of self.new)) }
+        ensures within { OnOk result (KeepsBounds (λ m. high ≤ m) AreWithin (runs_of self.old) (runs_of self.new)) }
     {
         let run = joined(met, low, high);
         self.map.insert(run.start, run.end)?;

@@ -1,7 +1,8 @@
 //! The buffer of a stream: the bytes of its pages, of which those below `next` and those in a run are accepted.
 
-ghost use Rattle.std.specs.Prelude.{◌≡◌, ℕ, ◌+◌, ◌-◌, ◌<◌, ◌≤◌, ◌^◌, ◌⊎◌, ◌||◌, ◌&&◌, [], length, min, true, nat_le, nat_lt, slice_index, OnOk, OnErr, IfOk, Option, IsTrue, IsFalse};
-ghost use Rattle.reassembly.specs.Runs.{AreOrdered, AreAbove, is_accepted};
+ghost use Rattle.std.specs.Prelude.{◌≡◌, ℕ, ◌+◌, ◌-◌, ◌<◌, ◌≤◌, ◌^◌, ◌⊎◌, [], length, min, true, OnOk, OnErr, IfOk, Option, IsTrue, IsFalse};
+ghost use Rattle.reassembly.specs.Runs.{AreOrdered, AreAbove, Gains, KeepsBounds};
+ghost use Rattle.reassembly.specs.Laying.{HasBytes};
 ghost use Rattle.reassembly.specs.Pages.{IsHeld, IsReady, IsGrown, tally_in};
 ghost use Rattle.reassembly.specs.Waiting.{runs_of, IsMet};
 
@@ -29,7 +30,7 @@ fn count_under(position: u64, start: u64, len: usize) -> usize
 impl Window {
     ghost use Rattle.reassembly.specs.Steps.{StepsTo, counts_viewed};
     ghost use Rattle.reassembly.specs.Kept.{IsRunEnd, IsFirstKept};
-    ghost use Rattle.reassembly.specs.Window.{view_of, kept_at, byte_at, cell_at, IsLaid, IsSized, IsBounded, IsSameWindow, taken_cell, taken_tally, AreAgain, HaveAccepted, differing_below};
+    ghost use Rattle.reassembly.specs.Window.{view_of, kept_at, byte_at, accepts, IsLaid, IsSized, IsBounded, IsSameWindow, taken_tally, AreTaken, AreAgain, HaveAccepted, differing_below};
 
     /// A buffer with nothing in it. It takes no memory.
     pub fn new(alloc: Global) -> Self
@@ -47,7 +48,7 @@ impl Window {
     fn end(&self) -> u64
         requires { IsLaid self.now }
         ensures bounded { IsBounded self.now result }
-        ensures last { 0 < result → is_accepted self.now.next (runs_of self.now.runs) (result - 1) ≡ true }
+        ensures last { 0 < result → accepts self.now (result - 1) ≡ true }
     {
         match self.runs.end() {
             Some(end) => end,
@@ -81,12 +82,13 @@ impl Window {
         requires some { low < high }
         requires met { IsMet (runs_of self.old.runs) low high met.now }
         ensures bytes { self.new.bytes ≡ self.old.bytes }
-        ensures err { OnErr result ((self.new.next ≡ self.old.next) × (runs_of self.new.runs ≡ runs_of self.old.runs)) }
+        ensures err { OnErr result ((self.new.next ≡ self.old.next)
+            × (runs_of self.new.runs ≡ runs_of self.old.runs)) }
         ensures ordered { OnOk result (AreOrdered (runs_of self.new.runs)) }
         ensures above { OnOk result (AreAbove (runs_of self.new.runs) self.new.next) }
         ensures rises { OnOk result (self.old.next ≤ self.new.next) }
-        ensures accepted { OnOk result ((p : ℕ) → is_accepted self.new.next (runs_of self.new.runs) p ≡ (is_accepted self.old.next (runs_of self.old.runs) p || (nat_le low p && nat_lt p high))) }
-        ensures bounded { OnOk result ((limit : ℕ) → high ≤ limit → IsBounded self.old limit → IsBounded self.new limit) }
+        ensures accepted { OnOk result (Gains (accepts self.old) (accepts self.new) low high) }
+        ensures bounded { OnOk result (KeepsBounds (λ m. high ≤ m) IsBounded self.old self.new) }
     {
         if low == self.next {
             self.next = self.runs.absorb(high);
@@ -140,8 +142,9 @@ impl Window {
         ensures held { (p : ℕ) → IsHeld self.old.bytes p → IsHeld self.new.bytes p }
         ensures laid { OnOk result (IsLaid self.new) }
         ensures rises { OnOk result (self.old.next ≤ self.new.next) }
-        ensures bounded { OnOk result ((limit : ℕ) → (length bytes.now ≡ 0) ⊎ (low + length bytes.now ≤ limit) → IsBounded self.old limit → IsBounded self.new limit) }
-        ensures cells { OnOk result ((p : ℕ) → self.old.bytes.base ≤ p → cell_at self.new p ≡ taken_cell policy low bytes.now p (cell_at self.old p)) }
+        ensures bounded { OnOk result (KeepsBounds (λ m. (length bytes.now ≡ 0) ⊎ (low + length bytes.now ≤ m))
+            IsBounded self.old self.new) }
+        ensures cells { OnOk result (AreTaken policy low bytes.now self.old self.new) }
         ensures tally { IfOk result (λ tally. tally ≡ taken_tally self.old low bytes.now) }
         ensures few { IfOk result (λ tally. (tally.old ≤ length bytes.now) × (tally.differ ≤ length bytes.now)) }
     {
@@ -206,9 +209,11 @@ impl Window {
         ensures err { OnErr result (IsSameWindow self.old self.new) }
         ensures laid { OnOk result (IsLaid self.new) }
         ensures sized { OnOk result (IsSized self.new rbuf) }
-        ensures bounded { OnOk result ((m : ℕ) → limit ≤ m → IsBounded self.old m → IsBounded self.new m) }
-        ensures steps { OnOk result ((fin : Option ℕ) → StepsTo limit start segment.now policy (view_of self.old fin rbuf) (view_of self.new fin rbuf)) }
-        ensures counts { IfOk result (λ placed. (fin : Option ℕ) → placed ≡ counts_viewed (view_of self.old fin rbuf) limit start segment.now) }
+        ensures bounded { OnOk result (KeepsBounds (λ m. limit ≤ m) IsBounded self.old self.new) }
+        ensures steps { OnOk result ((fin : Option ℕ)
+            → StepsTo limit start segment.now policy (view_of self.old fin rbuf) (view_of self.new fin rbuf)) }
+        ensures counts { IfOk result (λ placed. (fin : Option ℕ)
+            → placed ≡ counts_viewed (view_of self.old fin rbuf) limit start segment.now) }
         ensures bounds { IfOk result (λ placed. placed.old ≤ length segment.now) }
     {
         let below = count_under(self.next, start, segment.len());
@@ -232,7 +237,7 @@ impl Window {
     pub fn is_free_from(&self, position: u64) -> bool
         requires { IsLaid self.now }
         ensures free { IsTrue result → IsBounded self.now position }
-        ensures taken { IsFalse result → (p : ℕ) × (position ≤ p) × (is_accepted self.now.next (runs_of self.now.runs) p ≡ true) }
+        ensures taken { IsFalse result → (p : ℕ) × (position ≤ p) × (accepts self.now p ≡ true) }
     {
         self.end() <= position
     }
@@ -277,9 +282,10 @@ impl Window {
     pub fn copy(&self, position: u64, buf: &mut [u8])
         requires laid { IsLaid self.now }
         requires from { self.now.bytes.base ≤ position }
-        requires accepted { (p : ℕ) → position ≤ p → p < position + length buf.old → is_accepted self.now.next (runs_of self.now.runs) p ≡ true }
+        requires accepted { (p : ℕ) → position ≤ p → p < position + length buf.old
+            → accepts self.now p ≡ true }
         requires reach { position + length buf.old < 2 ^ 64 }
-        ensures { (i : ℕ) → i < length buf.old → slice_index buf.new i ≡ byte_at self.now (position + i) }
+        ensures { HasBytes buf.new (length buf.old) (λ i. byte_at self.now (position + i)) }
     {
         self.bytes.copy(position, buf);
     }
