@@ -42,6 +42,18 @@ pub record DirectionStandsFor (rbuf : ℕ) (k : DirectionView) (d : Direction) :
   pub window : k.stream.rbuf ≡ rbuf
   pub mark : k.mark ≡ d.mark
 
+-- whatever direction it stands for, this is true of it
+abbrev pub ForDirection : ℕ → DirectionView → (Direction → Type 0) → Type 0
+ForDirection rbuf k IsTrueOf = (d : Direction) → DirectionStandsFor rbuf k d → IsTrueOf d
+
+-- whatever direction it stands for, the value is what `told` makes of it
+abbrev pub DirectionTells : {V : Type 0} → ℕ → DirectionView → V → (Direction → V) → Type 0
+DirectionTells rbuf k value told = ForDirection rbuf k (λ d. value ≡ told d)
+
+-- whatever direction it stood for, it then stands for what the step makes of it
+abbrev pub DirectionStandsAfter : ℕ → DirectionView → DirectionView → (Direction → Direction) → Type 0
+DirectionStandsAfter rbuf old new step = ForDirection rbuf old (λ d. DirectionStandsFor rbuf new (step d))
+
 -- a socket stands for each connection with its ends and shifts, its origins, offers, marks and kept bytes, its last packet
 -- and its settings
 pub record SocketStandsFor (s : SocketView) (e : Emulation) : Type 0 where
@@ -52,3 +64,15 @@ pub record SocketStandsFor (s : SocketView) (e : Emulation) : Type 0 where
   pub last : s.last ≡ e.last
   pub rbuf : s.rbuf ≡ e.rbuf
   pub policy : s.policy ≡ e.policy
+
+-- whatever connection the socket stands for, this is true of it
+abbrev pub ForEmulation : SocketView → (Emulation → Type 0) → Type 0
+ForEmulation s IsTrueOf = (e : Emulation) → SocketStandsFor s e → IsTrueOf e
+
+-- whatever connection the socket stands for, the value is what `told` makes of it
+abbrev pub SocketTells : {V : Type 0} → SocketView → V → (Emulation → V) → Type 0
+SocketTells s value told = ForEmulation s (λ e. value ≡ told e)
+
+-- whatever connection the socket stood for, it then stands for what the step makes of it
+abbrev pub SocketStandsAfter : SocketView → SocketView → (Emulation → Emulation) → Type 0
+SocketStandsAfter old new step = ForEmulation old (λ e. SocketStandsFor new (step e))

@@ -38,10 +38,8 @@ pub(crate) struct Taken {
 }
 
 impl KeptDirection {
-    ghost use Rattle.reassembly.specs.View.{StandsFor};
-    ghost use Rattle.reassembly.specs.Receiver.{Receiver};
-    ghost use Rattle.flow_socket.specs.View.{DirectionStandsFor};
-    ghost use Rattle.flow_socket.specs.Direction.{Direction, untouched, direction_after, placed_in, is_fin_refused, is_in_window, is_finished, acks_syn, acks_fin, next_in, offered_in};
+    ghost use Rattle.flow_socket.specs.View.{DirectionStandsFor, DirectionTells, DirectionStandsAfter};
+    ghost use Rattle.flow_socket.specs.Direction.{untouched, direction_after, placed_in, is_fin_refused, is_in_window, is_finished, acks_syn, acks_fin, offered_in};
 
     /// A direction from which nothing was received.
     pub(crate) fn new(alloc: Global, rbuf: u32) -> KeptDirection
@@ -61,15 +59,15 @@ impl KeptDirection {
     /// Which of the SYN and the FIN of this direction's sender a number acknowledges.
     pub(crate) fn acks(&self, ack: u32) -> Acks
         requires next { self.now.stream.next ≤ 2 ^ 62 }
-        ensures syn { (rbuf : ℕ) (d : Direction) → DirectionStandsFor rbuf self.now d → result.syn ≡ acks_syn ack d }
-        ensures fin { (rbuf : ℕ) (d : Direction) → DirectionStandsFor rbuf self.now d → result.fin ≡ acks_fin ack d }
+        ensures syn { (rbuf : ℕ) → DirectionTells rbuf self.now result.syn (acks_syn ack) }
+        ensures fin { (rbuf : ℕ) → DirectionTells rbuf self.now result.fin (acks_fin ack) }
     {
         acks_of(ack, self.stream.next(), self.origin, self.stream.fin())
     }
 
     /// Whether the FIN of this direction's sender is reached.
     pub(crate) fn is_finished(&self) -> bool
-        ensures { (rbuf : ℕ) (d : Direction) → DirectionStandsFor rbuf self.now d → result ≡ is_finished d }
+        ensures { (rbuf : ℕ) → DirectionTells rbuf self.now result is_finished }
     {
         self.stream.fin() == Some(self.stream.next())
     }
@@ -80,8 +78,7 @@ impl KeptDirection {
     pub(crate) fn offer(&mut self, ack: u32, size: u32)
         requires next { self.old.stream.next ≤ 2 ^ 62 + 2 ^ 20 }
         ensures stream { self.new.stream ≡ self.old.stream }
-        ensures stands { (rbuf : ℕ) (d : Direction) → DirectionStandsFor rbuf self.old d
-            → DirectionStandsFor rbuf self.new (offered_in ack size d) }
+        ensures stands { (rbuf : ℕ) → DirectionStandsAfter rbuf self.old self.new (offered_in ack size) }
     {
         let Some(origin) = self.origin else {
             return;
@@ -106,10 +103,14 @@ impl KeptDirection {
         ensures err { OnErr result (self.new ≡ self.old) }
         ensures rbuf { self.new.stream.rbuf ≡ self.old.stream.rbuf }
         ensures rise { OnOk result (self.new.stream.next ≤ self.old.stream.next + self.old.stream.rbuf) }
-        ensures stands { OnOk result ((d : Direction) → DirectionStandsFor rbuf self.old d → DirectionStandsFor rbuf self.new (direction_after rbuf policy h.now payload.now d)) }
-        ensures placed { IfOk result (λ taken. (d : Direction) → DirectionStandsFor rbuf self.old d → taken.placed ≡ placed_in rbuf h.now payload.now d) }
-        ensures refused { IfOk result (λ taken. (d : Direction) → DirectionStandsFor rbuf self.old d → taken.fin_refused ≡ is_fin_refused rbuf policy h.now payload.now d) }
-        ensures window { IfOk result (λ taken. (d : Direction) → DirectionStandsFor rbuf self.old d → taken.in_window ≡ is_in_window rbuf h.now d) }
+        ensures stands { OnOk result (DirectionStandsAfter rbuf self.old self.new
+            (direction_after rbuf policy h.now payload.now)) }
+        ensures placed { IfOk result (λ taken. DirectionTells rbuf self.old taken.placed
+            (placed_in rbuf h.now payload.now)) }
+        ensures refused { IfOk result (λ taken. DirectionTells rbuf self.old taken.fin_refused
+            (is_fin_refused rbuf policy h.now payload.now)) }
+        ensures window { IfOk result (λ taken. DirectionTells rbuf self.old taken.in_window
+            (is_in_window rbuf h.now)) }
     {
         let origin = self.origin.unwrap_or(origin_from(h));
         let next = self.stream.next();
@@ -128,8 +129,7 @@ impl KeptDirection {
 
 impl KeptDirection {
     ghost use Rattle.std.specs.Prelude.{drop, ◌++◌};
-    ghost use Rattle.flow_socket.specs.View.{DirectionStandsFor};
-    ghost use Rattle.flow_socket.specs.Direction.{Direction};
+    ghost use Rattle.flow_socket.specs.View.{DirectionTells, DirectionStandsAfter};
     ghost use Rattle.flow_socket.specs.Peek.{peeked_in, peek_bytes, marked};
 
     /// Reads on from the mark, at most as many bytes as the buffer has, and moves the mark behind them.
@@ -137,9 +137,10 @@ impl KeptDirection {
     pub(crate) fn peek(&mut self, buf: &mut [u8], rbuf: u32) -> Peeked
         ensures few { result.len ≤ length buf.old }
         ensures stream { self.new.stream ≡ self.old.stream }
-        ensures stands { (d : Direction) → DirectionStandsFor rbuf self.old d → DirectionStandsFor rbuf self.new (marked rbuf (length buf.old) d) }
-        ensures answer { (d : Direction) → DirectionStandsFor rbuf self.old d → result ≡ peeked_in rbuf (length buf.old) d }
-        ensures bytes { (d : Direction) → DirectionStandsFor rbuf self.old d → buf.new ≡ peek_bytes rbuf (length buf.old) d ++ drop result.len buf.old }
+        ensures stands { DirectionStandsAfter rbuf self.old self.new (marked rbuf (length buf.old)) }
+        ensures answer { DirectionTells rbuf self.old result (peeked_in rbuf (length buf.old)) }
+        ensures bytes { DirectionTells rbuf self.old buf.new
+            (λ d. peek_bytes rbuf (length buf.old) d ++ drop result.len buf.old) }
     {
         let at = self.mark.max(self.stream.low());
         let missed = at - self.mark;

@@ -2,8 +2,7 @@
 
 ghost use Rattle.std.specs.Prelude.{◌≡◌, ◌+◌, ◌-◌, ◌^◌, ◌≤◌, ◌≤ℤ◌, ◌<ℤ◌, ◌-ℤ◌, ◌+ℤ◌, pos, length, OnOk, OnErr, IfOk, false, if◌then◌else◌};
 ghost use Rattle.packet_views.specs.Flags.{has_fin, has_rst};
-ghost use Rattle.reassembly.specs.Receiver.{Receiver, wide_of};
-ghost use Rattle.reassembly.specs.View.{StandsFor};
+ghost use Rattle.reassembly.specs.View.{ForWide, StandsAfterWide};
 ghost use Rattle.flow_socket.specs.Segment.{with_segment, placed_at, nothing_placed, is_refused, is_refusal};
 
 use packet_views::Head;
@@ -36,12 +35,12 @@ pub(crate) fn take_segment(
     ensures err { OnErr result (stream.new ≡ stream.old) }
     ensures rbuf { stream.new.rbuf ≡ stream.old.rbuf }
     ensures rise { OnOk result (stream.new.next ≤ stream.old.next + stream.old.rbuf) }
-    ensures stands { OnOk result ((r : Receiver) → wide ≡ wide_of r stream.old.rbuf → StandsFor stream.old r
-        → StandsFor stream.new (with_segment stream.old.rbuf policy has_fin distance payload.now r)) }
-    ensures placed { IfOk result (λ judged. (r : Receiver) → wide ≡ wide_of r stream.old.rbuf → StandsFor stream.old r
-        → judged.placed ≡ placed_at stream.old.rbuf distance payload.now r) }
-    ensures refused { IfOk result (λ judged. (r : Receiver) → wide ≡ wide_of r stream.old.rbuf → StandsFor stream.old r
-        → judged.fin_refused ≡ is_refused stream.old.rbuf policy has_fin distance payload.now r) }
+    ensures stands { OnOk result (StandsAfterWide stream.old wide stream.new
+        (with_segment stream.old.rbuf policy has_fin distance payload.now)) }
+    ensures placed { IfOk result (λ judged. ForWide stream.old wide
+        (λ r. judged.placed ≡ placed_at stream.old.rbuf distance payload.now r)) }
+    ensures refused { IfOk result (λ judged. ForWide stream.old wide
+        (λ r. judged.fin_refused ≡ is_refused stream.old.rbuf policy has_fin distance payload.now r)) }
 {
     let next = stream.next();
     let placed = stream.place(distance, payload, policy, wide)?;
@@ -76,15 +75,12 @@ pub(crate) fn take_unless_reset(
     ensures err { OnErr result (stream.new ≡ stream.old) }
     ensures rbuf { stream.new.rbuf ≡ stream.old.rbuf }
     ensures rise { OnOk result (stream.new.next ≤ stream.old.next + stream.old.rbuf) }
-    ensures stands { OnOk result ((r : Receiver) → wide ≡ wide_of r stream.old.rbuf → StandsFor stream.old r
-        → StandsFor stream.new
-        (if has_rst h.now then r else with_segment stream.old.rbuf policy (has_fin h.now) distance payload.now r)) }
-    ensures placed { IfOk result (λ judged. (r : Receiver) → wide ≡ wide_of r stream.old.rbuf → StandsFor stream.old r
-        → judged.placed
-        ≡ (if has_rst h.now then nothing_placed else placed_at stream.old.rbuf distance payload.now r)) }
-    ensures refused { IfOk result (λ judged. (r : Receiver) → wide ≡ wide_of r stream.old.rbuf → StandsFor stream.old r
-        → judged.fin_refused
-        ≡ (if has_rst h.now then false else is_refused stream.old.rbuf policy (has_fin h.now) distance payload.now r)) }
+    ensures stands { OnOk result (StandsAfterWide stream.old wide stream.new
+        (λ r. if has_rst h.now then r else with_segment stream.old.rbuf policy (has_fin h.now) distance payload.now r)) }
+    ensures placed { IfOk result (λ judged. ForWide stream.old wide (λ r. judged.placed
+        ≡ (if has_rst h.now then nothing_placed else placed_at stream.old.rbuf distance payload.now r))) }
+    ensures refused { IfOk result (λ judged. ForWide stream.old wide (λ r. judged.fin_refused
+        ≡ (if has_rst h.now then false else is_refused stream.old.rbuf policy (has_fin h.now) distance payload.now r))) }
 {
     if h.has_rst() {
         return Ok(NOTHING);

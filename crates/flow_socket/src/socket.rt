@@ -57,13 +57,13 @@ impl FlowSocket {
     ghost use Rattle.tcp_emulation.specs.States.{other};
     ghost use Rattle.tcp_emulation.specs.Ends.{end_at, ends_after_receive, change_of, is_over};
     ghost use Rattle.flow_socket.specs.Direction.{acks_syn, acks_fin, is_finished, placed_in, is_fin_refused, is_in_window, offered_in};
-    ghost use Rattle.flow_socket.specs.Emulation.{Emulation, fresh, stepped, with_offer, sent, sent_answer, received, got_of, direction_of, with_direction, taken_by};
+    ghost use Rattle.flow_socket.specs.Emulation.{fresh, stepped, with_offer, sent, sent_answer, received, got_of, direction_of, with_direction, taken_by};
     ghost use Rattle.std.specs.Prelude.{map};
     ghost use Rattle.flow_socket.specs.Peek.{peeked, bytes_peeked, after_peek, runs_at, pieces_at};
     ghost use Rattle.reassembly.specs.Receiver.{kept};
     ghost use Rattle.reassembly.specs.Kept.{positions_in, AreWhole};
     ghost use Rattle.reassembly.specs.View.{StandsFor};
-    ghost use Rattle.flow_socket.specs.View.{SocketStandsFor, view_at, next_at};
+    ghost use Rattle.flow_socket.specs.View.{SocketStandsFor, ForEmulation, SocketTells, SocketStandsAfter, view_at, next_at};
 
     /// The socket of a connection before its first packet. Each receiver's buffer has `rbuf` bytes,
     /// from 1 to 1,048,576; `policy` says which byte of an overlap stays.
@@ -89,9 +89,8 @@ impl FlowSocket {
     #[tactic(auto, unfolding(crate::specs::Emulation::sent, crate::specs::Emulation::sent_answer))]
     pub fn send(&mut self, from: Side, h: &Head, scale: Option<u8>) -> Sent
         requires scale { ForSome scale (λ shift. shift ≤ 14) }
-        ensures stands { (e : Emulation) → SocketStandsFor self.old e
-            → SocketStandsFor self.new (sent from h.now scale e) }
-        ensures answer { (e : Emulation) → SocketStandsFor self.old e → result ≡ sent_answer from h.now e }
+        ensures stands { SocketStandsAfter self.old self.new (sent from h.now scale) }
+        ensures answer { SocketTells self.old result (sent_answer from h.now) }
         ensures client { self.new.client.stream ≡ self.old.client.stream }
         ensures server { self.new.server.stream ≡ self.old.server.stream }
         ensures rbuf { self.new.rbuf ≡ self.old.rbuf }
@@ -107,10 +106,9 @@ impl FlowSocket {
     // Steps the end that sends a packet. The shifts are read by the ends from before the step.
     fn step_sender(&mut self, from: Side, h: &Head, scale: Option<u8>) -> Change
         requires scale { ForSome scale (λ shift. shift ≤ 14) }
-        ensures stands { (e : Emulation) → SocketStandsFor self.old e
-            → SocketStandsFor self.new (stepped from h.now scale e) }
-        ensures change { (e : Emulation) → SocketStandsFor self.old e
-            → result ≡ change_of (end_at from e.ends) (end_at from (stepped from h.now scale e).ends) }
+        ensures stands { SocketStandsAfter self.old self.new (stepped from h.now scale) }
+        ensures change { SocketTells self.old result
+            (λ e. change_of (end_at from e.ends) (end_at from (stepped from h.now scale e).ends)) }
         ensures client { self.new.client ≡ self.old.client }
         ensures server { self.new.server ≡ self.old.server }
         ensures rbuf { self.new.rbuf ≡ self.old.rbuf }
@@ -122,8 +120,7 @@ impl FlowSocket {
 
     // Offers a packet's window on the stream that its sender receives, after the step.
     fn offer(&mut self, from: Side, h: &Head)
-        ensures stands { (e : Emulation) → SocketStandsFor self.old e
-            → SocketStandsFor self.new (with_offer from h.now e) }
+        ensures stands { SocketStandsAfter self.old self.new (with_offer from h.now) }
         ensures client { self.new.client.stream ≡ self.old.client.stream }
         ensures server { self.new.server.stream ≡ self.old.server.stream }
         ensures rbuf { self.new.rbuf ≡ self.old.rbuf }
@@ -136,8 +133,8 @@ impl FlowSocket {
 
     // Notes an offer on the stream that `of` sends.
     fn note_offer(&mut self, of: Side, ack: u32, size: u32)
-        ensures stands { (e : Emulation) → SocketStandsFor self.old e
-            → SocketStandsFor self.new (with_direction of (offered_in ack size (direction_of of e)) e) }
+        ensures stands { SocketStandsAfter self.old self.new
+            (λ e. with_direction of (offered_in ack size (direction_of of e)) e) }
         ensures client { self.new.client.stream ≡ self.old.client.stream }
         ensures server { self.new.server.stream ≡ self.old.server.stream }
         ensures rbuf { self.new.rbuf ≡ self.old.rbuf }
@@ -156,8 +153,8 @@ impl FlowSocket {
         requires client { next_at Side.Client self.old ≤ 2 ^ 62 }
         requires server { next_at Side.Server self.old ≤ 2 ^ 62 }
         ensures err { OnErr result (self.new ≡ self.old) }
-        ensures stands { OnOk result ((e : Emulation) → SocketStandsFor self.old e → SocketStandsFor self.new (received from h.now payload.now e)) }
-        ensures answer { IfOk result (λ got. (e : Emulation) → SocketStandsFor self.old e → got ≡ got_of from h.now payload.now e) }
+        ensures stands { OnOk result (SocketStandsAfter self.old self.new (received from h.now payload.now)) }
+        ensures answer { IfOk result (λ got. SocketTells self.old got (got_of from h.now payload.now)) }
         ensures rise { OnOk result (next_at from self.new ≤ next_at from self.old + self.old.rbuf) }
         ensures peer { OnOk result (view_at (other from) self.new ≡ view_at (other from) self.old) }
         ensures rbuf { self.new.rbuf ≡ self.old.rbuf }
@@ -180,8 +177,10 @@ impl FlowSocket {
 
     // Steps the end that receives a packet.
     fn step_receiver(&mut self, of: Side, facts: &SegFacts) -> Change
-        ensures stands { (e : Emulation) → SocketStandsFor self.old e → SocketStandsFor self.new (record e { ends = ends_after_receive of facts.now e.ends }) }
-        ensures change { (e : Emulation) → SocketStandsFor self.old e → result ≡ change_of (end_at of e.ends) (end_at of (ends_after_receive of facts.now e.ends)) }
+        ensures stands { SocketStandsAfter self.old self.new
+            (λ e. record e { ends = ends_after_receive of facts.now e.ends }) }
+        ensures change { SocketTells self.old result
+            (λ e. change_of (end_at of e.ends) (end_at of (ends_after_receive of facts.now e.ends))) }
         ensures client { self.new.client ≡ self.old.client }
         ensures server { self.new.server ≡ self.old.server }
         ensures rbuf { self.new.rbuf ≡ self.old.rbuf }
@@ -192,8 +191,8 @@ impl FlowSocket {
     // Which of the SYN and the FIN of `of` a number acknowledges.
     fn acks(&self, of: Side, ack: u32) -> Acks
         requires next { next_at of self.now ≤ 2 ^ 62 }
-        ensures syn { (e : Emulation) → SocketStandsFor self.now e → result.syn ≡ acks_syn ack (direction_of of e) }
-        ensures fin { (e : Emulation) → SocketStandsFor self.now e → result.fin ≡ acks_fin ack (direction_of of e) }
+        ensures syn { SocketTells self.now result.syn (λ e. acks_syn ack (direction_of of e)) }
+        ensures fin { SocketTells self.now result.fin (λ e. acks_fin ack (direction_of of e)) }
     {
         match of {
             Side::Client => self.client.acks(ack),
@@ -203,7 +202,7 @@ impl FlowSocket {
 
     // Whether the FIN of `from` is reached.
     fn is_finished(&self, from: Side) -> bool
-        ensures { (e : Emulation) → SocketStandsFor self.now e → result ≡ is_finished (direction_of from e) }
+        ensures { SocketTells self.now result (λ e. is_finished (direction_of from e)) }
     {
         match from {
             Side::Client => self.client.is_finished(),
@@ -216,10 +215,14 @@ impl FlowSocket {
         requires bytes { length payload.now ≤ 65535 }
         requires next { next_at from self.old ≤ 2 ^ 62 }
         ensures err { OnErr result (self.new ≡ self.old) }
-        ensures stands { OnOk result ((e : Emulation) → SocketStandsFor self.old e → SocketStandsFor self.new (with_direction from (taken_by from h.now payload.now e) e)) }
-        ensures placed { IfOk result (λ taken. (e : Emulation) → SocketStandsFor self.old e → taken.placed ≡ placed_in e.rbuf h.now payload.now (direction_of from e)) }
-        ensures refused { IfOk result (λ taken. (e : Emulation) → SocketStandsFor self.old e → taken.fin_refused ≡ is_fin_refused e.rbuf e.policy h.now payload.now (direction_of from e)) }
-        ensures window { IfOk result (λ taken. (e : Emulation) → SocketStandsFor self.old e → taken.in_window ≡ is_in_window e.rbuf h.now (direction_of from e)) }
+        ensures stands { OnOk result (SocketStandsAfter self.old self.new
+            (λ e. with_direction from (taken_by from h.now payload.now e) e)) }
+        ensures placed { IfOk result (λ taken. SocketTells self.old taken.placed
+            (λ e. placed_in e.rbuf h.now payload.now (direction_of from e))) }
+        ensures refused { IfOk result (λ taken. SocketTells self.old taken.fin_refused
+            (λ e. is_fin_refused e.rbuf e.policy h.now payload.now (direction_of from e))) }
+        ensures window { IfOk result (λ taken. SocketTells self.old taken.in_window
+            (λ e. is_in_window e.rbuf h.now (direction_of from e))) }
         ensures rise { OnOk result (next_at from self.new ≤ next_at from self.old + self.old.rbuf) }
         ensures peer { OnOk result (view_at (other from) self.new ≡ view_at (other from) self.old) }
         ensures rbuf { self.new.rbuf ≡ self.old.rbuf }
@@ -234,10 +237,11 @@ impl FlowSocket {
     /// has and all below `next`, and moves that mark behind them. The other mark stays.
     #[tactic(auto, unfolding(crate::specs::Peek::peeked, crate::specs::Peek::bytes_peeked, crate::specs::Peek::after_peek))]
     pub fn peek(&mut self, from: Side, buf: &mut [u8]) -> Peeked
-        ensures stands { (e : Emulation) → SocketStandsFor self.old e → SocketStandsFor self.new (after_peek from (length buf.old) e) }
-        ensures answer { (e : Emulation) → SocketStandsFor self.old e → result ≡ peeked from (length buf.old) e }
+        ensures stands { SocketStandsAfter self.old self.new (after_peek from (length buf.old)) }
+        ensures answer { SocketTells self.old result (peeked from (length buf.old)) }
         ensures few { result.len ≤ length buf.old }
-        ensures bytes { (e : Emulation) → SocketStandsFor self.old e → buf.new ≡ bytes_peeked from (length buf.old) e ++ drop result.len buf.old }
+        ensures bytes { SocketTells self.old buf.new
+            (λ e. bytes_peeked from (length buf.old) e ++ drop result.len buf.old) }
         ensures rbuf { self.new.rbuf ≡ self.old.rbuf }
         ensures stream { (view_at from self.new).stream ≡ (view_at from self.old).stream }
         ensures peer { view_at (other from) self.new ≡ view_at (other from) self.old }
@@ -253,10 +257,12 @@ impl FlowSocket {
     /// `Stream::read_at` gives the bytes of a run, as many as it has positions.
     #[tactic(auto, unfolding(crate::specs::Peek::runs_at, crate::specs::Peek::pieces_at))]
     pub fn ppeek(&self, from: Side, off: u64, len: u32) -> Pieces<'_>
-        ensures runs { (e : Emulation) → SocketStandsFor self.now e → result ≡ runs_at from off len e }
+        ensures runs { SocketTells self.now result (runs_at from off len) }
         ensures few { positions_in result ≤ len }
-        ensures whole { (e : Emulation) → SocketStandsFor self.now e → AreWhole (kept (direction_of from e).receiver.cells e.rbuf) result }
-        ensures pieces { (e : Emulation) → SocketStandsFor self.now e → map (λ piece. (piece.0, length piece.1)) (pieces_at from off len e) ≡ result }
+        ensures whole { ForEmulation self.now
+            (λ e. AreWhole (kept (direction_of from e).receiver.cells e.rbuf) result) }
+        ensures pieces { ForEmulation self.now
+            (λ e. map (λ piece. (piece.0, length piece.1)) (pieces_at from off len e) ≡ result) }
     {
         self.stream(from).pieces(off, len)
     }
@@ -264,8 +270,8 @@ impl FlowSocket {
     /// The stream of the bytes that `from` sends, as the other end accepts them.
     pub fn stream(&self, from: Side) -> &Stream
         ensures known { result.now ≡ (view_at from self.now).stream }
-        ensures stands { (e : Emulation) → SocketStandsFor self.now e → StandsFor result.now (direction_of from e).receiver }
-        ensures rbuf { (e : Emulation) → SocketStandsFor self.now e → result.now.rbuf ≡ e.rbuf }
+        ensures stands { ForEmulation self.now (λ e. StandsFor result.now (direction_of from e).receiver) }
+        ensures rbuf { SocketTells self.now result.now.rbuf (λ e. e.rbuf) }
     {
         match from {
             Side::Client => &self.client.stream,
@@ -275,14 +281,14 @@ impl FlowSocket {
 
     /// Whether the connection is over: each end is in CLOSED or TIME_WAIT.
     pub fn is_over(&self) -> bool
-        ensures { (e : Emulation) → SocketStandsFor self.now e → result ≡ is_over e.ends }
+        ensures { SocketTells self.now result (λ e. is_over e.ends) }
     {
         tcp_emulation::is_over(&self.ends)
     }
 
     /// The header of the packet that was sent last, None exactly before the first.
     pub fn last(&self) -> Option<Head>
-        ensures { (e : Emulation) → SocketStandsFor self.now e → result ≡ e.last }
+        ensures { SocketTells self.now result (λ e. e.last) }
     {
         self.last
     }
@@ -291,7 +297,8 @@ impl FlowSocket {
 // The sum of the faults of a packet: bytes that weren't accepted, an RST out of the window, a
 // FIN that was refused.
 fn fault_of(h: &Head, taken: &Taken) -> u8
-    ensures { result ≡ fault_of (nat_lt 0 taken.now.placed.over) (has_rst h.now && not taken.now.in_window) taken.now.fin_refused }
+    ensures { result
+        ≡ fault_of (nat_lt 0 taken.now.placed.over) (has_rst h.now && not taken.now.in_window) taken.now.fin_refused }
 {
     let is_reset_out = h.has_rst() && !taken.in_window;
     u8::from(taken.placed.over > 0) + 2 * u8::from(is_reset_out) + 4 * u8::from(taken.fin_refused)

@@ -41,7 +41,7 @@ returns-clause-stands c d s = record {
       receiver_stands c.take_unless_reset.new.stream c.args.rbuf c.args.policy c.args.h.now c.args.payload.now d
       c.self.inside.stream.rbuf (to_z w64 (of_z w64 c.distance-distance.result)) (rbuf_is c d s)
       (to_z-of_z {w = w64} (record { sfits = c.distance-distance.type_inv }) ∙ distance_is c d s)
-      (c.in_ok-judged.ensures.stands d.receiver (wide_is c d s) (subst (λ k. StandsFor k.stream d.receiver) (sym c.self.view_is) s.stream));
+      (c.in_ok-judged.ensures.stands d.receiver (subst (λ k. StandsFor k.stream d.receiver) (sym c.self.view_is) s.stream) (wide_is c d s));
   offer = ap (λ k. k.offer) c.self.view_is ∙ (s.offer ∙ sym (offer_stays c.args.rbuf c.args.policy c.args.h.now c.args.payload.now d));
   window = c.in_ok-judged.ensures.rbuf ∙ rbuf_is c d s;
   mark = ap (λ k. k.mark) c.self.view_is ∙ s.mark;
