@@ -20,6 +20,10 @@ Flows T = map.FinMap key_cmp T
 abbrev pub found : {T : Type 0} → Flows T → EndpointPair → Option T
 found flows key = map.get flows key
 
+-- this is what is found for the key, and for any other key what was found before
+abbrev pub FindsAt : {T : Type 0} → Flows T → Flows T → EndpointPair → Option T → Type 0
+FindsAt old new key value = (other : EndpointPair) → found new other ≡ (if same_key key other then value else found old other)
+
 -- the value of a key that was there is another one, and the rest stays
 pub record Rewrites {T : Type 0} (old new : Flows T) (key : EndpointPair) (value : T) : Type 0 where
   pub flows : new ≡ map.insert old key value

@@ -1,11 +1,11 @@
 //! The table of open connections.
 
-ghost use Rattle.std.specs.Prelude.{◌≡◌, ◌+◌, ◌↔◌, None, Some, if◌then◌else◌, IsNone, IfSome, IfNone, OnOk, OnErr, IfErr};
+ghost use Rattle.std.specs.Prelude.{◌≡◌, ◌+◌, ◌↔◌, None, Some, IsNone, IfSome, IfNone, OnOk, OnErr, IfErr};
 ghost use Rattle.std.specs.Borrow.{sem};
 ghost use Rattle.std.specs.Option.{option_copied, option_copied_mut};
 ghost use Rattle.std.specs.FinMap as map;
-ghost use Rattle.flow_table.specs.Key.{EndpointPair, same_key};
-ghost use Rattle.flow_table.specs.Table.{found};
+ghost use Rattle.flow_table.specs.Key.{EndpointPair};
+ghost use Rattle.flow_table.specs.Table.{found, FindsAt};
 
 use crate::hashing::KeyHashing;
 use crate::key::Key;
@@ -63,7 +63,7 @@ impl<T> FlowTable<T> {
         T: Drop,
         requires absent { found self.old key ≡ None }
         ensures ok { OnOk result (self.new ≡ map.insert self.old key value) }
-        ensures found { OnOk result ((other : EndpointPair) → found self.new other ≡ (if same_key key other then Some value else found self.old other)) }
+        ensures found { OnOk result (FindsAt self.old self.new key (Some value)) }
         ensures len { OnOk result (map.len self.new ≡ map.len self.old + 1) }
         ensures err { OnErr result (self.new ≡ self.old) }
         ensures returned { IfErr result (λ back. back ≡ value) }
@@ -97,7 +97,7 @@ impl<T> FlowTable<T> {
     pub fn close(&mut self, key: &Key) -> Option<T>
         ensures value { result ≡ found self.old key.now }
         ensures removed { self.new ≡ map.remove self.old key.now }
-        ensures found { (other : EndpointPair) → found self.new other ≡ (if same_key key.now other then None else found self.old other) }
+        ensures found { FindsAt self.old self.new key.now None }
         ensures none { IfNone result (self.new ≡ self.old) }
         ensures len { IfSome result (λ _. map.len self.new + 1 ≡ map.len self.old) }
     {
@@ -109,7 +109,7 @@ impl<T> FlowTable<T> {
         ensures empty { IsNone result ↔ (self.old ≡ map.empty) }
         ensures value { IfSome result (λ flow. found self.old flow.0 ≡ Some flow.1) }
         ensures removed { IfSome result (λ flow. self.new ≡ map.remove self.old flow.0) }
-        ensures found { IfSome result (λ flow. (other : EndpointPair) → found self.new other ≡ (if same_key flow.0 other then None else found self.old other)) }
+        ensures found { IfSome result (λ flow. FindsAt self.old self.new flow.0 None) }
         ensures none { IfNone result (self.new ≡ self.old) }
         ensures len { IfSome result (λ _. map.len self.new + 1 ≡ map.len self.old) }
     {
