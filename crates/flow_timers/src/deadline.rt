@@ -50,7 +50,8 @@ pub(crate) fn first_of(deadlines: &BTreeSet<Deadline>) -> Option<Deadline>
 
 /// Takes the deadline that a name had away, unless it is also the one that the name has now.
 pub(crate) fn take_old(deadlines: &mut BTreeSet<Deadline>, old: Deadline, new: Deadline)
-    ensures { (d : Deadline) → contains order deadlines.new d ≡ (if eq_by_cmp order old d && not (eq_by_cmp order new d) then false else contains order deadlines.old d) }
+    ensures { (d : Deadline) → contains order deadlines.new d
+        ≡ (if eq_by_cmp order old d && not (eq_by_cmp order new d) then false else contains order deadlines.old d) }
 {
     if old != new {
         deadlines.remove(&old);
