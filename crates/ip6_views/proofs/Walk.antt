@@ -1,9 +1,9 @@
 -- What the walk over the extension headers finds, by the header at which it stands.
-use Rattle.std.proofs.Common.{◌≡◌, ◌≢◌, ℕ, zero, suc, ◌+◌, ◌-◌, false, true, List, slice_index, Some, None, refl, arith, Option}
+use Rattle.std.proofs.Common.{◌≡◌, ◌≢◌, ℕ, zero, suc, ◌+◌, ◌-◌, false, true, List, slice_index, Some, None, refl, arith}
 use Rattle.std.proofs.lemmas.Bool.{ne_eqb}
 use Rattle.packet_views.specs.declared.packet.Class.{Class}
 use Rattle.packet_views.specs.declared.packet.Class.TheVariants.{Other, Bad}
-use Rattle.ip6_views.specs.Chain.{Found, TcpAt, Only, is_extension, extension_length, blocked, chain}
+use Rattle.ip6_views.specs.Chain.{TcpAt, Only, is_extension, extension_length, blocked, chain}
 
 pub chain_at_tcp : (left : ℕ) (frame : List ℕ) (end kind at : ℕ) → kind ≡ 6 → chain left frame end kind at ≡ TcpAt at
 unfolding chain

@@ -1,6 +1,5 @@
 -- What a frame that carries IPv6 is as a packet: where its TCP header is, or its class, and the fields of a segment by their places.
 use Rattle.std.specs.Prelude.{◌==◌, ◌||◌, not, ℕ, ◌+◌, ◌*◌, ◌-◌, ◌/◌, Bool, nat_lt, if◌then◌else◌, Option, List, length, slice_index, slice_range}
-use Rattle.packet_views.specs.declared.packet.Class.{Class}
 use Rattle.packet_views.specs.declared.packet.Class.TheVariants.{Cut, Bad}
 use Rattle.packet_views.specs.declared.packet.Head.{Head}
 use Rattle.packet_views.specs.Frame.{field, ip_version}

@@ -3,7 +3,6 @@ use Rattle.std.specs.Prelude.{⊤}
 use Rattle.packet_views.specs.declared.packet.Class.{Class}
 use Rattle.ip6_views.specs.declared.sight.SightTcp.{SightTcp}
 use Rattle.ip6_views.specs.declared.sight.Sight.{Sight as Borrowed}
-use Rattle.ip6_views.specs.declared.sight.Sight.TheVariants as Borrowed
 use Rattle.ip6_views.specs.Sight.{Segment, Sight, Tcp, Other}
 
 abbrev pub seen : SightTcp → Segment

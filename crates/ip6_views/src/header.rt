@@ -69,7 +69,8 @@ fn packet_end(frame: &[u8], ip: usize) -> Result<usize, Class>
     requires start { ip ≡ ip_start frame.now }
     requires within { ip ≤ 18 }
     ensures end { IfOk result (λ end. end ≡ ip6_end frame.now) }
-    ensures found { IfOk result (λ end. found6_in frame.now ≡ checked frame.now (chain 8 frame.now end (first_kind frame.now) (header_end frame.now))) }
+    ensures found { IfOk result (λ end. found6_in frame.now
+        ≡ checked frame.now (chain 8 frame.now end (first_kind frame.now) (header_end frame.now))) }
     ensures header { IfOk result (λ end. ip + 40 ≤ end) }
     ensures captured { IfOk result (λ end. end ≤ length frame.now) }
     ensures packet { IfOk result (λ end. end < ip + 40 + 2 ^ 16) }
