@@ -10,12 +10,14 @@ use Rattle.app_api.specs.declared.entry.Seen.{Seen}
 use Rattle.app_api.specs.declared.registration.PeekSpec.{PeekSpec}
 use Rattle.app_api.specs.declared.registration.Reg.{Reg}
 use Rattle.builtin_events.specs.declared.raise.Raise.{Raise}
+use Rattle.builtin_events.specs.Raised.{raises_of}
 use Rattle.shared_forest.specs.Lists.{TreeLists}
 use Rattle.connection_core.specs.declared.ledger.Notes.{Notes}
 use Rattle.connection_core.specs.declared.ledger.Counts.{Counts}
 use Rattle.connection_core.specs.declared.ledger.Ledger.{Ledger}
 use Rattle.connection_core.specs.declared.flow.Flow.{Flow}
 use Rattle.connection_core.specs.declared.moment.Moment.{Moment}
+use Rattle.connection_core.specs.declared.moment.Phase.{Phase}
 use Rattle.connection_core.specs.Course.{Course, seen_by, after_seen, bytes_seen}
 use Rattle.connection_core.specs.History.{History, weight_of}
 use Rattle.connection_core.specs.Trees.{active_in, InternsWithin}
@@ -92,6 +94,14 @@ pub record RiseBy (n : ℕ) (old new : Counts) : Type 0 where
 
 abbrev pub raise_of : Moment → Raise
 raise_of m = record { hook = m.hook; event = m.event; facts = m.facts.now }
+
+-- a step of the packet with this number, sent by this side, for its raise at a moment
+abbrev pub at_moment : {T : Type 0} → (ℕ → Side → Raise → T) → Moment → T
+at_moment step m = step m.number m.from (raise_of m)
+
+-- and for all raises of its phase
+abbrev pub in_phase : {T : Type 0} → (ℕ → Side → List Raise → T) → Phase → T
+in_phase step p = step p.number p.from (raises_of p.raised)
 
 -- one more is kept, where anything is kept
 abbrev pub kept_with : {T : Type 0} → Bool → List T → T → List T

@@ -2,12 +2,11 @@
 
 ghost use Rattle.std.specs.Prelude.{◌≡◌, ◌≤◌, ◌<◌, ◌+◌, ◌*◌, ◌^◌, IsTrue, OnOk, List, ℕ, length};
 ghost use Rattle.app_api.specs.Reg.{peek_fits, reg_of};
-ghost use Rattle.builtin_events.specs.Raised.{raises_of};
 ghost use Rattle.app_api.specs.declared.registration.Reg.{Reg as RegOf};
 ghost use Rattle.connection_core.specs.Course.{called, called_at, raised};
 ghost use Rattle.connection_core.specs.Trees.{list_in_force, IsForestInForce};
 ghost use Rattle.connection_core.specs.Numbers.{called_by};
-ghost use Rattle.connection_core.specs.Standing.{IsAsFar, RiseBy, raise_of};
+ghost use Rattle.connection_core.specs.Standing.{IsAsFar, RiseBy, raise_of, at_moment, in_phase};
 ghost use Rattle.connection_core.specs.Calls.{StepsInForce};
 
 use crate::ledger::{Ledger, Notes};
@@ -36,7 +35,7 @@ impl<A: App> Terms<'_, A> {
         requires weight { ledger.old.counts.weight < 2 ^ 63 }
         ensures stands { OnOk result ((list : List RegOf) → StepsInForce self.now.keep self.now.in_force list
             socket.old notes.old ledger.old socket.new notes.new ledger.new
-            (λ s c. called (A.meaning self.now.app.now) s moment.now.number moment.now.from (raise_of moment.now) c reg.now)) }
+            (λ s c. at_moment (called (A.meaning self.now.app.now) s) moment.now c reg.now)) }
         ensures rise { RiseBy 1 ledger.old.counts ledger.new.counts }
         ensures as_far { IsAsFar socket.old socket.new }
     {
@@ -62,7 +61,7 @@ impl<A: App> Terms<'_, A> {
         requires weight { ledger.old.counts.weight < 2 ^ 63 }
         ensures stands { OnOk result ((list : List RegOf) → StepsInForce self.now.keep self.now.in_force list
             socket.old notes.old ledger.old socket.new notes.new ledger.new
-            (λ s c. called_by (A.meaning self.now.app.now) s moment.now.number moment.now.from (raise_of moment.now) c (reg_of s.regs number))) }
+            (λ s c. at_moment (called_by (A.meaning self.now.app.now) s) moment.now c (reg_of s.regs number))) }
         ensures rise { RiseBy 1 ledger.old.counts ledger.new.counts }
         ensures as_far { IsAsFar socket.old socket.new }
     {
@@ -85,9 +84,9 @@ impl<A: App> Terms<'_, A> {
         requires forest { IsForestInForce self.now.in_force tree.now }
         requires callbacks { ledger.old.counts.callbacks < 2 ^ 62 }
         requires weight { ledger.old.counts.weight < 2 ^ 62 }
-        ensures stands { OnOk result (StepsInForce self.now.keep self.now.in_force (list_in_force self.now.in_force tree.now)
-            socket.old notes.old ledger.old socket.new notes.new ledger.new
-            (λ s. called_at (A.meaning self.now.app.now) s moment.now.number moment.now.from (raise_of moment.now))) }
+        ensures stands { OnOk result (StepsInForce self.now.keep self.now.in_force
+            (list_in_force self.now.in_force tree.now) socket.old notes.old ledger.old socket.new notes.new ledger.new
+            (λ s. at_moment (called_at (A.meaning self.now.app.now) s) moment.now)) }
         ensures rise { RiseBy 255 ledger.old.counts ledger.new.counts }
         ensures as_far { IsAsFar socket.old socket.new }
     {
@@ -115,9 +114,9 @@ impl<A: App> Terms<'_, A> {
         requires forest { IsForestInForce self.now.in_force tree.now }
         requires callbacks { ledger.old.counts.callbacks < 2 ^ 61 }
         requires weight { ledger.old.counts.weight < 2 ^ 61 }
-        ensures stands { OnOk result (StepsInForce self.now.keep self.now.in_force (list_in_force self.now.in_force tree.now)
-            socket.old notes.old ledger.old socket.new notes.new ledger.new
-            (λ s. raised (A.meaning self.now.app.now) s phase.now.number phase.now.from (raises_of phase.now.raised))) }
+        ensures stands { OnOk result (StepsInForce self.now.keep self.now.in_force
+            (list_in_force self.now.in_force tree.now) socket.old notes.old ledger.old socket.new notes.new ledger.new
+            (λ s. in_phase (raised (A.meaning self.now.app.now) s) phase.now)) }
         ensures rise { RiseBy 1530 ledger.old.counts ledger.new.counts }
         ensures as_far { IsAsFar socket.old socket.new }
     {

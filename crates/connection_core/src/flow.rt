@@ -47,10 +47,9 @@ const MOST: usize = 4 * 255;
 impl Flow {
     ghost use Rattle.app_api.specs.App.{Meaning};
     ghost use Rattle.shared_forest.specs.Lists.{TreeLists};
-    ghost use Rattle.builtin_events.specs.Raised.{raises_of};
     ghost use Rattle.connection_core.specs.Course.{changed_all, raise_done, phase as made};
     ghost use Rattle.connection_core.specs.History.{fresh, verdict, drops_of, is_over};
-    ghost use Rattle.connection_core.specs.Standing.{IsFlow, IsConnection, RiseBy, Reached, Stepped, raise_of};
+    ghost use Rattle.connection_core.specs.Standing.{IsFlow, IsConnection, RiseBy, Reached, Stepped, at_moment, in_phase};
     ghost use Rattle.connection_core.specs.Calls.{phase_sending, phase_receiving, gone_on, followed_by};
     ghost use Rattle.connection_core.specs.Calls.{AltersTree, CostsTree, state_in, ForConnection, ForCourse, MakesInForce, CostsInForce};
 
@@ -125,10 +124,10 @@ impl Flow {
         ensures made { OnOk result (MakesInForce terms.now.keep terms.now.in_force
             (state_in F.ForestView forests.old self.old notes.old ledger.old)
             (state_in F.ForestView forests.new self.new notes.new ledger.new)
-            (λ s. raise_done (A.meaning terms.now.app.now) s moment.now.number moment.now.from (raise_of moment.now))) }
+            (λ s. at_moment (raise_done (A.meaning terms.now.app.now) s) moment.now)) }
         ensures failed { OnErr result (CostsInForce terms.now.keep terms.now.in_force
             (state_in F.ForestView forests.old self.old notes.old ledger.old) (F.interns forests.new)
-            (λ s. raise_done (A.meaning terms.now.app.now) s moment.now.number moment.now.from (raise_of moment.now))) }
+            (λ s. at_moment (raise_done (A.meaning terms.now.app.now) s) moment.now)) }
         ensures asked { OnOk result (ledger.new.changes.items ≡ []) }
         ensures rise { RiseBy 255 ledger.old.counts ledger.new.counts }
         ensures count { self.new.count ≡ self.old.count }
@@ -162,10 +161,10 @@ impl Flow {
         ensures made { OnOk result (MakesInForce terms.now.keep terms.now.in_force
             (state_in F.ForestView forests.old self.old notes.old ledger.old)
             (state_in F.ForestView forests.new self.new notes.new ledger.new)
-            (λ s. made (A.meaning terms.now.app.now) s phase.now.number phase.now.from (raises_of phase.now.raised))) }
+            (λ s. in_phase (made (A.meaning terms.now.app.now) s) phase.now)) }
         ensures failed { OnErr result (CostsInForce terms.now.keep terms.now.in_force
             (state_in F.ForestView forests.old self.old notes.old ledger.old) (F.interns forests.new)
-            (λ s. made (A.meaning terms.now.app.now) s phase.now.number phase.now.from (raises_of phase.now.raised))) }
+            (λ s. in_phase (made (A.meaning terms.now.app.now) s) phase.now)) }
         ensures asked { OnOk result (ledger.new.changes.items ≡ []) }
         ensures rise { RiseBy 1530 ledger.old.counts ledger.new.counts }
         ensures count { self.new.count ≡ self.old.count }
@@ -199,12 +198,14 @@ impl Flow {
         ensures forest { IsForestInForce terms.now.in_force (F.content forests.new self.new.forest) }
         ensures kept { Keeps F.answered F.content forests.old forests.new }
         ensures stands { OnOk result (ForConnection terms.now.keep terms.now.in_force
-            (state_in F.ForestView forests.old self.old notes.old ledger.old) (λ s others h. Reached terms.now.keep others
+            (state_in F.ForestView forests.old self.old notes.old ledger.old)
+            (λ s others h. Reached terms.now.keep others
             (list_in_force terms.now.in_force (F.content forests.new self.new.forest)) self.new.socket notes.new ledger.new
             (F.interns forests.old) (F.interns forests.new) h.altered (phase_sending (A.meaning terms.now.app.now) s arrived.now h))) }
         ensures failed { OnErr result (ForConnection terms.now.keep terms.now.in_force
-            (state_in F.ForestView forests.old self.old notes.old ledger.old) (λ s others h. InternsWithin
-            (F.interns forests.old) (F.interns forests.new) h.altered (phase_sending (A.meaning terms.now.app.now) s arrived.now h).altered)) }
+            (state_in F.ForestView forests.old self.old notes.old ledger.old)
+            (λ s others h. InternsWithin (F.interns forests.old) (F.interns forests.new)
+            h.altered (phase_sending (A.meaning terms.now.app.now) s arrived.now h).altered)) }
         ensures asked { OnOk result (ledger.new.changes.items ≡ []) }
         ensures rise { RiseBy 1530 ledger.old.counts ledger.new.counts }
         ensures count { self.new.count ≡ self.old.count }
@@ -291,12 +292,14 @@ impl Flow {
         ensures forest { IsForestInForce terms.now.in_force (F.content forests.new self.new.forest) }
         ensures kept { Keeps F.answered F.content forests.old forests.new }
         ensures stands { OnOk result (ForCourse terms.now.keep terms.now.in_force
-            (state_in F.ForestView forests.old self.old notes.old ledger.old) (λ s others h c. Stepped terms.now.keep others
+            (state_in F.ForestView forests.old self.old notes.old ledger.old)
+            (λ s others h c. Stepped terms.now.keep others
             (told terms.now.in_force) (F.content forests.new self.new.forest) self.new notes.new ledger.new.counts
             (F.interns forests.old) (F.interns forests.new) c.altered (gone_on (A.meaning terms.now.app.now) s arrived.now h c))) }
         ensures failed { OnErr result (ForCourse terms.now.keep terms.now.in_force
-            (state_in F.ForestView forests.old self.old notes.old ledger.old) (λ s others h c. InternsWithin
-            (F.interns forests.old) (F.interns forests.new) c.altered (gone_on (A.meaning terms.now.app.now) s arrived.now h c).altered)) }
+            (state_in F.ForestView forests.old self.old notes.old ledger.old)
+            (λ s others h c. InternsWithin (F.interns forests.old) (F.interns forests.new)
+            c.altered (gone_on (A.meaning terms.now.app.now) s arrived.now h c).altered)) }
         ensures rise { RiseBy 1530 ledger.old.counts ledger.new.counts }
         ensures count { self.new.count ≤ self.old.count + 1 }
     {
@@ -331,24 +334,28 @@ impl Flow {
         ensures forest { IsForestInForce terms.now.in_force (F.content forests.new self.new.forest) }
         ensures kept { Keeps F.answered F.content forests.old forests.new }
         ensures stands { OnOk result (ForConnection terms.now.keep terms.now.in_force
-            (state_in F.ForestView forests.old self.old notes.old ledger.old) (λ s others h. IsConnection terms.now.keep others
+            (state_in F.ForestView forests.old self.old notes.old ledger.old)
+            (λ s others h. IsConnection terms.now.keep others
             (told terms.now.in_force) (F.content forests.new self.new.forest) self.new notes.new ledger.new.counts
             (followed_by (A.meaning terms.now.app.now) s arrived.now h))) }
 
         // At most one intern for each change that alters the private list, also where memory is refused on the way.
         ensures interned { ForConnection terms.now.keep terms.now.in_force
-            (state_in F.ForestView forests.old self.old notes.old ledger.old) (λ s others h. InternsWithin
-            (F.interns forests.old) (F.interns forests.new) h.altered (followed_by (A.meaning terms.now.app.now) s arrived.now h).altered) }
+            (state_in F.ForestView forests.old self.old notes.old ledger.old)
+            (λ s others h. InternsWithin (F.interns forests.old) (F.interns forests.new)
+            h.altered (followed_by (A.meaning terms.now.app.now) s arrived.now h).altered) }
 
         ensures over { IfOk result (λ step. ForConnection terms.now.keep terms.now.in_force
-            (state_in F.ForestView forests.old self.old notes.old ledger.old) (λ s others h. step.over
-            ≡ is_over (followed_by (A.meaning terms.now.app.now) s arrived.now h))) }
+            (state_in F.ForestView forests.old self.old notes.old ledger.old)
+            (λ s others h. step.over ≡ is_over (followed_by (A.meaning terms.now.app.now) s arrived.now h))) }
         ensures verdict { IfOk result (λ step. ForConnection terms.now.keep terms.now.in_force
-            (state_in F.ForestView forests.old self.old notes.old ledger.old) (λ s others h. step.verdict
+            (state_in F.ForestView forests.old self.old notes.old ledger.old)
+            (λ s others h. step.verdict
             ≡ verdict (A.meaning terms.now.app.now) s arrived.now.number arrived.now.from arrived.now.head.now arrived.now.scale h)) }
         ensures drops { IfOk result (λ step. ForConnection terms.now.keep terms.now.in_force
-            (state_in F.ForestView forests.old self.old notes.old ledger.old) (λ s others h.
-            (followed_by (A.meaning terms.now.app.now) s arrived.now h).drops ≡ h.drops ++ drops_of step.verdict arrived.now.number)) }
+            (state_in F.ForestView forests.old self.old notes.old ledger.old)
+            (λ s others h. (followed_by (A.meaning terms.now.app.now) s arrived.now h).drops
+            ≡ h.drops ++ drops_of step.verdict arrived.now.number)) }
         ensures rise { RiseBy 3060 ledger.old.counts ledger.new.counts }
         ensures count { self.new.count ≤ self.old.count + 1 }
     {

@@ -36,7 +36,8 @@ pub fn lone<A: App, F: ForestView>(
     requires weight { ledger.old.counts.weight < 2 ^ 60 }
     ensures stands { OnOk result (ForOrphan (A.meaning terms.now.app.now) terms.now.keep terms.now.in_force
         (F.content forests.now forest.now) notes.old ledger.old
-        (λ s others. IsNotedOf terms.now.keep others (orphaned (A.meaning terms.now.app.now) s number (raises_of raised)) notes.new ledger.new)) }
+        (λ s others. IsNotedOf terms.now.keep others
+        (orphaned (A.meaning terms.now.app.now) s number (raises_of raised)) notes.new ledger.new)) }
     ensures verdict { IfOk result (λ verdict. ForOrphan (A.meaning terms.now.app.now) terms.now.keep terms.now.in_force
         (F.content forests.now forest.now) notes.old ledger.old
         (λ s others. verdict ≡ orphan_verdict (A.meaning terms.now.app.now) s number (raises_of raised))) }

@@ -36,7 +36,8 @@ pub fn silence<A: App, F: ForestView>(
     requires callbacks { ledger.old.counts.callbacks < 2 ^ 60 }
     requires weight { ledger.old.counts.weight < 2 ^ 60 }
     ensures stands { OnOk result (ForConnection terms.now.keep terms.now.in_force
-        (state_in F.ForestView forests.now flow notes.old ledger.old) (λ s others h. IsNotedOf terms.now.keep others
+        (state_in F.ForestView forests.now flow notes.old ledger.old)
+        (λ s others h. IsNotedOf terms.now.keep others
         (silenced (A.meaning terms.now.app.now) s number (record { hook = Rcv; event = EVENT; facts = facts.now }) h)
         notes.new ledger.new)) }
     ensures rise { RiseBy 255 ledger.old.counts ledger.new.counts }
