@@ -1,11 +1,12 @@
 //! Whether anything is heard of what a packet raises, which is known before there are facts.
 
-ghost use Rattle.std.specs.Prelude.{◌≡◌, ◌≤◌, ◌-◌, ◌&&◌, ◌||◌, ◌==◌, not, nat_lt, ℕ, slice_index_or, false};
+ghost use Rattle.std.specs.Prelude.{◌≡◌, ◌≤◌, ◌&&◌, ◌||◌, ◌==◌, not, nat_lt, ℕ};
 ghost use Rattle.packet_views.specs.declared.packet.Head.{Head as HeadOf};
 ghost use Rattle.tcp_emulation.specs.declared.segment.Side.{Side};
 ghost use Rattle.tcp_emulation.specs.States.{number_of};
 ghost use Rattle.builtin_events.specs.Facts.{read_bytes};
-ghost use Rattle.builtin_events.specs.Heard.{is_any_heard};
+ghost use Rattle.app_api.specs.Events as events;
+ghost use Rattle.builtin_events.specs.Heard.{is_any_heard, is_heard_in};
 ghost use Rattle.builtin_events.specs.Raises.{sender_raises, receiver_raises};
 
 use crate::facts::read_bytes;
@@ -20,7 +21,7 @@ const EVENTS: usize = 9;
 fn is(heard: &[bool; EVENTS], event: u16) -> bool
     requires low { 256 ≤ event }
     requires high { event ≤ 264 }
-    ensures { result ≡ slice_index_or heard.now (event - 256) false }
+    ensures { result ≡ is_heard_in heard.now event }
 {
     heard[(event - START) as usize]
 }
@@ -29,7 +30,8 @@ fn is(heard: &[bool; EVENTS], event: u16) -> bool
 /// order, whether it is heard there.
 #[tactic(auto, unfolding(crate::specs::Raises::sender_raises, crate::specs::Facts::sender_facts))]
 pub fn is_heard_at_sender(heard: &[bool; EVENTS], first: bool, s: &Sent) -> bool
-    ensures { (h : HeadOf) (from : Side) (nth : ℕ) → result ≡ is_any_heard heard.now (sender_raises h from nth first s.now) }
+    ensures { (h : HeadOf) (from : Side) (nth : ℕ)
+        → result ≡ is_any_heard heard.now (sender_raises h from nth first s.now) }
 {
     is(heard, PKT_IN)
         || first && is(heard, START)
@@ -38,8 +40,8 @@ pub fn is_heard_at_sender(heard: &[bool; EVENTS], first: bool, s: &Sent) -> bool
 
 // The same of what its payload raises at its receiver: `rexmit`, `new_data` and `error`.
 fn is_payload_heard(heard: &[bool; EVENTS], h: &Head, g: &Got) -> bool
-    ensures { result ≡ ((nat_lt 0 (read_bytes h.now g.now.placed.old) && slice_index_or heard.now 2 false)
-        || ((g.now.rose && slice_index_or heard.now 3 false) || (not (g.now.fault == 0) && slice_index_or heard.now 4 false))) }
+    ensures { result ≡ ((nat_lt 0 (read_bytes h.now g.now.placed.old) && is_heard_in heard.now events.REXMIT)
+        || ((g.now.rose && is_heard_in heard.now events.NEW_DATA) || (not (g.now.fault == 0) && is_heard_in heard.now events.ERROR))) }
 {
     g.rose && is(heard, NEW_DATA)
         || is(heard, REXMIT) && read_bytes(h, g.placed.old) > 0
@@ -48,8 +50,8 @@ fn is_payload_heard(heard: &[bool; EVENTS], h: &Head, g: &Got) -> bool
 
 // The same of what its state raises there: `state` and `end`.
 fn is_state_heard(heard: &[bool; EVENTS], g: &Got) -> bool
-    ensures { result ≡ ((not (number_of g.now.change.old == number_of g.now.change.new) && slice_index_or heard.now 5 false)
-        || (g.now.over && slice_index_or heard.now 6 false)) }
+    ensures { result ≡ ((not (number_of g.now.change.old == number_of g.now.change.new) && is_heard_in heard.now events.STATE)
+        || (g.now.over && is_heard_in heard.now events.END)) }
 {
     is(heard, STATE) && g.change.old.number() != g.change.new.number() || g.over && is(heard, END)
 }

@@ -23,3 +23,7 @@ defs_at lent = defs_of lent.master.now
 -- what is looked up is this control state
 abbrev pub IsInForce : InForce → ControlState → Type 0
 IsInForce lent s = Tells lent.master.now lent.version s
+
+-- what holds of the control state that is in force
+abbrev pub ForControl : InForce → (ControlState → Type 0) → Type 0
+ForControl lent holds = (s : ControlState) → IsInForce lent s → holds s

@@ -9,3 +9,4 @@ pub mod Numbers
 pub mod Reach
 pub mod Laws
 pub mod Standing
+pub mod Calls

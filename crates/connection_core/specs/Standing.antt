@@ -1,18 +1,24 @@
 -- What is kept for a connection and noted of its callbacks, and which histories and courses it stands for.
-use Rattle.std.specs.Prelude.{◌≡◌, ℕ, ◌+◌, ◌*◌, ◌≤◌, Bool, Option, List, [], length, if◌then◌else◌}
+use Rattle.std.specs.Prelude.{◌≡◌, ℕ, ◌+◌, ◌*◌, ◌≤◌, Bool, Option, List, [], ◌∷◌, ◌++◌, length, if◌then◌else◌}
+use Rattle.tcp_emulation.specs.declared.segment.Side.{Side}
 use Rattle.tcp_emulation.specs.declared.segment.Side.TheVariants.{Client, Server}
+use Rattle.flow_socket.specs.Emulation.{Emulation}
 use Rattle.flow_socket.specs.View.{SocketView, SocketStandsFor, next_at}
 use Rattle.app_api.specs.declared.app.Tally.{Tally}
 use Rattle.app_api.specs.declared.entry.Entry.{Entry}
+use Rattle.app_api.specs.declared.entry.Seen.{Seen}
+use Rattle.app_api.specs.declared.registration.PeekSpec.{PeekSpec}
 use Rattle.app_api.specs.declared.registration.Reg.{Reg}
 use Rattle.builtin_events.specs.declared.raise.Raise.{Raise}
+use Rattle.builtin_events.specs.Raised.{raises_of}
 use Rattle.shared_forest.specs.Lists.{TreeLists}
 use Rattle.connection_core.specs.declared.ledger.Notes.{Notes}
 use Rattle.connection_core.specs.declared.ledger.Counts.{Counts}
 use Rattle.connection_core.specs.declared.ledger.Ledger.{Ledger}
 use Rattle.connection_core.specs.declared.flow.Flow.{Flow}
 use Rattle.connection_core.specs.declared.moment.Moment.{Moment}
-use Rattle.connection_core.specs.Course.{Course}
+use Rattle.connection_core.specs.declared.moment.Phase.{Phase}
+use Rattle.connection_core.specs.Course.{Course, seen_by, after_seen, bytes_seen}
 use Rattle.connection_core.specs.History.{History, weight_of}
 use Rattle.connection_core.specs.Trees.{active_in, InternsWithin}
 
@@ -88,3 +94,29 @@ pub record RiseBy (n : ℕ) (old new : Counts) : Type 0 where
 
 abbrev pub raise_of : Moment → Raise
 raise_of m = record { hook = m.hook; event = m.event; facts = m.facts.now }
+
+-- a step of the packet with this number, sent by this side, for its raise at a moment
+abbrev pub at_moment : {T : Type 0} → (ℕ → Side → Raise → T) → Moment → T
+at_moment step m = step m.number m.from (raise_of m)
+
+-- and for all raises of its phase
+abbrev pub in_phase : {T : Type 0} → (ℕ → Side → List Raise → T) → Phase → T
+in_phase step p = step p.number p.from (raises_of p.raised)
+
+-- one more is kept, where anything is kept
+abbrev pub kept_with : {T : Type 0} → Bool → List T → T → List T
+kept_with keep kept x = if keep then kept ++ x ∷ [] else kept
+
+-- ---- one look of a callback at the stream that this side sends
+
+-- it saw what this peek sees
+abbrev pub Sees : SocketView → Side → PeekSpec → Seen → Type 0
+Sees socket from peek seen = (e : Emulation) → SocketStandsFor socket e → seen ≡ seen_by from peek e
+
+-- it saw as many bytes as this peek sees
+abbrev pub SeesSoMany : SocketView → Side → PeekSpec → ℕ → Type 0
+SeesSoMany socket from peek got = (e : Emulation) → SocketStandsFor socket e → got ≡ bytes_seen (seen_by from peek e)
+
+-- it moved the marks as this peek moves them
+abbrev pub PeeksOn : SocketView → Side → PeekSpec → SocketView → Type 0
+PeeksOn socket from peek socket_after = (e : Emulation) → SocketStandsFor socket e → SocketStandsFor socket_after (after_seen from peek e)

@@ -4,11 +4,17 @@ use Rattle.std.specs.List.{All}
 use Rattle.std.specs.Option.{option_to_list}
 use Rattle.app_api.specs.declared.registration.Reg.{Reg}
 use Rattle.shared_forest.specs.declared.node.Slot.{Slot}
+use Rattle.shared_forest.specs.declared.store.Shared.{Shared}
 use Rattle.shared_forest.specs.Lists.{TreeLists}
 use Rattle.shared_forest.specs.Listing.{listing}
 use Rattle.event_trees.specs.declared.defs.EventDef.{EventDef}
 use Rattle.event_trees.specs.Private.{IsPrivate}
 use Rattle.event_trees.specs.Canon.{slot_of, canon}
+use Rattle.event_trees.specs.Edit.{IsForestOf}
+use Rattle.forest_versions.specs.State.{ControlState, active as first_active}
+use Rattle.forest_versions.specs.Master.{Versions, defs_of}
+use Rattle.connection_core.specs.declared.in_force.InForce.{InForce}
+use Rattle.connection_core.specs.InForce.{told, defs_at}
 
 -- the registrations with the numbers of a tree's slots
 abbrev pub regs_named : (ℕ → Option Reg) → List Slot → List Reg
@@ -36,3 +42,25 @@ InternsWithin None None before after = ⊤
 InternsWithin None (Some n) before after = ⊥
 InternsWithin (Some m) None before after = ⊥
 InternsWithin (Some m) (Some n) before after = (m ≤ n) × (n + before ≤ m + after)
+
+-- later look-ups answer the same for each number that a registration may have
+abbrev pub AnswersAs : (ℕ → Option Reg) → (ℕ → Option Reg) → Type 0
+AnswersAs at now = (number : ℕ) → number ≤ 255 → now number ≡ at number
+
+-- ---- with what is in force
+
+-- the private list that a tree names
+abbrev pub list_in_force : InForce → TreeLists → List Reg
+list_in_force lent tree = active_in (told lent) tree
+
+-- a tree by which the registrations are called that it names
+abbrev pub IsForestInForce : InForce → TreeLists → Type 0
+IsForestInForce lent tree = IsForestIn (defs_at lent) (told lent) tree
+
+-- the tree of the registrations that are on at a connection's start
+abbrev pub IsFirstForest : InForce → ControlState → TreeLists → Type 0
+IsFirstForest lent s tree = IsForestOf (defs_at lent) (first_active s) (listing tree)
+
+-- a master's place in a store with these trees has the tree of the registrations that are on now
+abbrev pub HasPresentForest : (Shared → TreeLists) → Versions → Type 0
+HasPresentForest content m = IsForestOf (defs_of m) (first_active m.now) (listing (content m.forest))

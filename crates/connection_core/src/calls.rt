@@ -2,14 +2,12 @@
 
 ghost use Rattle.std.specs.Prelude.{◌≡◌, ◌≤◌, ◌<◌, ◌+◌, ◌*◌, ◌^◌, IsTrue, OnOk, List, ℕ, length};
 ghost use Rattle.app_api.specs.Reg.{peek_fits, reg_of};
-ghost use Rattle.builtin_events.specs.Raised.{raises_of};
 ghost use Rattle.app_api.specs.declared.registration.Reg.{Reg as RegOf};
-ghost use Rattle.forest_versions.specs.State.{ControlState};
-ghost use Rattle.connection_core.specs.InForce.{told, defs_at, IsInForce};
 ghost use Rattle.connection_core.specs.Course.{called, called_at, raised};
-ghost use Rattle.connection_core.specs.Trees.{active_in, IsForestIn};
+ghost use Rattle.connection_core.specs.Trees.{list_in_force, IsForestInForce};
 ghost use Rattle.connection_core.specs.Numbers.{called_by};
-ghost use Rattle.connection_core.specs.Standing.{Steps, IsAsFar, RiseBy, raise_of};
+ghost use Rattle.connection_core.specs.Standing.{IsAsFar, RiseBy, raise_of, at_moment, in_phase};
+ghost use Rattle.connection_core.specs.Calls.{StepsInForce};
 
 use crate::ledger::{Ledger, Notes};
 use crate::look::look;
@@ -35,8 +33,9 @@ impl<A: App> Terms<'_, A> {
         requires peek { IsTrue (peek_fits reg.now.peek) }
         requires callbacks { ledger.old.counts.callbacks < 2 ^ 63 }
         requires weight { ledger.old.counts.weight < 2 ^ 63 }
-        ensures stands { OnOk result ((s : ControlState) (list : List RegOf) → IsInForce self.now.in_force s → Steps self.now.keep list socket.old notes.old ledger.old socket.new notes.new ledger.new
-            (λ c. called (A.meaning self.now.app.now) s moment.now.number moment.now.from (raise_of moment.now) c reg.now)) }
+        ensures stands { OnOk result ((list : List RegOf) → StepsInForce self.now.keep self.now.in_force list
+            socket.old notes.old ledger.old socket.new notes.new ledger.new
+            (λ s c. at_moment (called (A.meaning self.now.app.now) s) moment.now c reg.now)) }
         ensures rise { RiseBy 1 ledger.old.counts ledger.new.counts }
         ensures as_far { IsAsFar socket.old socket.new }
     {
@@ -60,8 +59,9 @@ impl<A: App> Terms<'_, A> {
     ) -> Result<(), AllocError>
         requires callbacks { ledger.old.counts.callbacks < 2 ^ 63 }
         requires weight { ledger.old.counts.weight < 2 ^ 63 }
-        ensures stands { OnOk result ((s : ControlState) (list : List RegOf) → IsInForce self.now.in_force s → Steps self.now.keep list socket.old notes.old ledger.old socket.new notes.new ledger.new
-            (λ c. called_by (A.meaning self.now.app.now) s moment.now.number moment.now.from (raise_of moment.now) c (reg_of s.regs number))) }
+        ensures stands { OnOk result ((list : List RegOf) → StepsInForce self.now.keep self.now.in_force list
+            socket.old notes.old ledger.old socket.new notes.new ledger.new
+            (λ s c. at_moment (called_by (A.meaning self.now.app.now) s) moment.now c (reg_of s.regs number))) }
         ensures rise { RiseBy 1 ledger.old.counts ledger.new.counts }
         ensures as_far { IsAsFar socket.old socket.new }
     {
@@ -81,11 +81,12 @@ impl<A: App> Terms<'_, A> {
         notes: &mut Notes,
         ledger: &mut Ledger,
     ) -> Result<(), AllocError>
-        requires forest { IsForestIn (defs_at self.now.in_force) (told self.now.in_force) tree.now }
+        requires forest { IsForestInForce self.now.in_force tree.now }
         requires callbacks { ledger.old.counts.callbacks < 2 ^ 62 }
         requires weight { ledger.old.counts.weight < 2 ^ 62 }
-        ensures stands { OnOk result ((s : ControlState) → IsInForce self.now.in_force s → Steps self.now.keep (active_in (told self.now.in_force) tree.now) socket.old notes.old ledger.old socket.new notes.new ledger.new
-            (called_at (A.meaning self.now.app.now) s moment.now.number moment.now.from (raise_of moment.now))) }
+        ensures stands { OnOk result (StepsInForce self.now.keep self.now.in_force
+            (list_in_force self.now.in_force tree.now) socket.old notes.old ledger.old socket.new notes.new ledger.new
+            (λ s. at_moment (called_at (A.meaning self.now.app.now) s) moment.now)) }
         ensures rise { RiseBy 255 ledger.old.counts ledger.new.counts }
         ensures as_far { IsAsFar socket.old socket.new }
     {
@@ -110,11 +111,12 @@ impl<A: App> Terms<'_, A> {
         notes: &mut Notes,
         ledger: &mut Ledger,
     ) -> Result<(), AllocError>
-        requires forest { IsForestIn (defs_at self.now.in_force) (told self.now.in_force) tree.now }
+        requires forest { IsForestInForce self.now.in_force tree.now }
         requires callbacks { ledger.old.counts.callbacks < 2 ^ 61 }
         requires weight { ledger.old.counts.weight < 2 ^ 61 }
-        ensures stands { OnOk result ((s : ControlState) → IsInForce self.now.in_force s → Steps self.now.keep (active_in (told self.now.in_force) tree.now) socket.old notes.old ledger.old socket.new notes.new ledger.new
-            (raised (A.meaning self.now.app.now) s phase.now.number phase.now.from (raises_of phase.now.raised))) }
+        ensures stands { OnOk result (StepsInForce self.now.keep self.now.in_force
+            (list_in_force self.now.in_force tree.now) socket.old notes.old ledger.old socket.new notes.new ledger.new
+            (λ s. in_phase (raised (A.meaning self.now.app.now) s) phase.now)) }
         ensures rise { RiseBy 1530 ledger.old.counts ledger.new.counts }
         ensures as_far { IsAsFar socket.old socket.new }
     {
@@ -126,11 +128,17 @@ impl<A: App> Terms<'_, A> {
     }
 }
 
-ghost use Rattle.connection_core.specs.Course.{call_of, entry_of};
+ghost use Rattle.connection_core.specs.Course.{entry_of};
 
 // The call as the application sees it.
 fn call_of(moment: &Moment, reg: &Reg, got: u32) -> Call
-    ensures { result ≡ record { reg = reg.now.number; hook = moment.now.hook; event = reg.now.event; facts = moment.now.facts.now; got = got } }
+    ensures { result ≡ record {
+      reg = reg.now.number;
+      hook = moment.now.hook;
+      event = reg.now.event;
+      facts = moment.now.facts.now;
+      got = got;
+    } }
 {
     Call {
         reg: reg.number,

@@ -3,11 +3,9 @@
 ghost use Rattle.std.specs.Prelude.{◌≡◌, ◌==◌, OnOk, OnErr};
 ghost use Rattle.std.specs.List.{list_any};
 ghost use Rattle.shared_forest.specs.Store.{Keeps};
-ghost use Rattle.forest_versions.specs.State.{ControlState};
-ghost use Rattle.connection_core.specs.InForce.{told, defs_at, IsInForce};
 ghost use Rattle.connection_core.specs.Course.{is_so, changed, changed_all};
-ghost use Rattle.connection_core.specs.Trees.{active_in, IsForestIn};
-ghost use Rattle.connection_core.specs.Standing.{Alters, Costs};
+ghost use Rattle.connection_core.specs.Trees.{IsForestInForce};
+ghost use Rattle.connection_core.specs.Calls.{AltersTree, CostsTree};
 
 use crate::in_force::InForce;
 use app_api::Change1;
@@ -42,12 +40,12 @@ fn change<F: Forests>(
     change: Change1,
 ) -> Result<(), AllocError>
     requires answered { F.answered forests.old forest.old }
-    requires forest { IsForestIn (defs_at in_force.now) (told in_force.now) (F.content forests.old forest.old) }
+    requires forest { IsForestInForce in_force.now (F.content forests.old forest.old) }
     ensures answered { F.answered forests.new forest.new }
-    ensures forest { IsForestIn (defs_at in_force.now) (told in_force.now) (F.content forests.new forest.new) }
+    ensures forest { IsForestInForce in_force.now (F.content forests.new forest.new) }
     ensures kept { Keeps F.answered F.content forests.old forests.new }
-    ensures made { OnOk result ((s : ControlState) → IsInForce in_force.now s → Alters (active_in (told in_force.now) (F.content forests.old forest.old)) (active_in (told in_force.now) (F.content forests.new forest.new))
-        (F.interns forests.old) (F.interns forests.new) (changed s change)) }
+    ensures made { OnOk result (AltersTree F.ForestView in_force.now forests.old forest.old
+        forests.new forest.new (λ s. changed s change)) }
     ensures err { OnErr result (forests.new ≡ forests.old) }
 {
     let Some(reg) = in_force.reg_at(change.reg) else {
@@ -75,14 +73,14 @@ pub(crate) fn change_all<F: Forests>(
     changes: &[Change1],
 ) -> Result<(), AllocError>
     requires answered { F.answered forests.old forest.old }
-    requires forest { IsForestIn (defs_at in_force.now) (told in_force.now) (F.content forests.old forest.old) }
+    requires forest { IsForestInForce in_force.now (F.content forests.old forest.old) }
     ensures answered { F.answered forests.new forest.new }
-    ensures forest { IsForestIn (defs_at in_force.now) (told in_force.now) (F.content forests.new forest.new) }
+    ensures forest { IsForestInForce in_force.now (F.content forests.new forest.new) }
     ensures kept { Keeps F.answered F.content forests.old forests.new }
-    ensures made { OnOk result ((s : ControlState) → IsInForce in_force.now s → Alters (active_in (told in_force.now) (F.content forests.old forest.old)) (active_in (told in_force.now) (F.content forests.new forest.new))
-        (F.interns forests.old) (F.interns forests.new) (changed_all s changes.now)) }
-    ensures failed { OnErr result ((s : ControlState) → IsInForce in_force.now s
-        → Costs (active_in (told in_force.now) (F.content forests.old forest.old)) (F.interns forests.old) (F.interns forests.new) (changed_all s changes.now)) }
+    ensures made { OnOk result (AltersTree F.ForestView in_force.now forests.old forest.old
+        forests.new forest.new (λ s. changed_all s changes.now)) }
+    ensures failed { OnErr result (CostsTree F.ForestView in_force.now forests.old forest.old
+        forests.new (λ s. changed_all s changes.now)) }
 {
     for asked in changes {
         change(alloc, in_force, forests, forest, *asked)?;

@@ -3,9 +3,9 @@
 ghost use Rattle.std.specs.Prelude.{◌≡◌, ◌+◌, ◌<◌, ◌≤◌, ◌^◌, ◌++◌, [], OnOk, OnErr, IfOk};
 ghost use Rattle.shared_forest.specs.Store.{Keeps};
 ghost use Rattle.app_api.specs.declared.reaction.Verdict.{Verdict as VerdictOf};
-ghost use Rattle.connection_core.specs.Trees.{active_in, IsForestIn, InternsWithin};
+ghost use Rattle.connection_core.specs.Trees.{list_in_force, IsForestInForce, InternsWithin};
 ghost use Rattle.forest_versions.specs.State.{ControlState, active as first_active};
-ghost use Rattle.connection_core.specs.InForce.{told, defs_at, IsInForce};
+ghost use Rattle.connection_core.specs.InForce.{told, IsInForce};
 ghost use Rattle.connection_core.specs.Reach.{Reaches};
 
 use crate::changes::change_all;
@@ -47,18 +47,18 @@ const MOST: usize = 4 * 255;
 impl Flow {
     ghost use Rattle.app_api.specs.App.{Meaning};
     ghost use Rattle.shared_forest.specs.Lists.{TreeLists};
-    ghost use Rattle.builtin_events.specs.Raised.{raises_of};
-    ghost use Rattle.connection_core.specs.declared.ledger.Counts.{Counts};
-    ghost use Rattle.connection_core.specs.Course.{Course, changed_all, raise_done, phase as made};
-    ghost use Rattle.connection_core.specs.History.{History, fresh, sender_phase, receiver_phase, received_unless, followed, verdict, drops_of, is_over};
-    ghost use Rattle.connection_core.specs.Standing.{IsFlow, IsConnection, IsUnder, RiseBy, Alters, Costs, CostsUnder};
-    ghost use Rattle.connection_core.specs.Standing.{Makes, Reached, Stepped, raise_of};
+    ghost use Rattle.connection_core.specs.Course.{changed_all, raise_done, phase as made};
+    ghost use Rattle.connection_core.specs.History.{fresh, verdict, drops_of, is_over};
+    ghost use Rattle.connection_core.specs.Standing.{IsFlow, IsConnection, RiseBy, Reached, Stepped, at_moment, in_phase};
+    ghost use Rattle.connection_core.specs.Calls.{phase_sending, phase_receiving, gone_on, followed_by};
+    ghost use Rattle.connection_core.specs.Calls.{AltersTree, CostsTree, state_in, ForConnection, ForCourse, MakesInForce, CostsInForce};
 
     /// A connection before its first packet, with the tree of the registrations that are on at its start. It takes no memory.
     pub fn new(alloc: Global, in_force: &InForce, forest: Shared) -> Flow
         ensures forest { result.forest ≡ forest }
         ensures count { result.count ≡ 0 }
-        ensures opened { (s : ControlState) (tree : TreeLists) → IsInForce in_force.now s → active_in (told in_force.now) tree ≡ first_active s
+        ensures opened { (s : ControlState) (tree : TreeLists) → IsInForce in_force.now s
+            → list_in_force in_force.now tree ≡ first_active s
             → (app : Meaning) → IsFlow (told in_force.now) tree result (fresh app s) }
     {
         Flow {
@@ -77,15 +77,14 @@ impl Flow {
         ledger: &mut Ledger,
     ) -> Result<(), AllocError>
         requires answered { F.answered forests.old self.old.forest }
-        requires forest { IsForestIn (defs_at in_force.now) (told in_force.now) (F.content forests.old self.old.forest) }
+        requires forest { IsForestInForce in_force.now (F.content forests.old self.old.forest) }
         ensures answered { F.answered forests.new self.new.forest }
-        ensures forest { IsForestIn (defs_at in_force.now) (told in_force.now) (F.content forests.new self.new.forest) }
+        ensures forest { IsForestInForce in_force.now (F.content forests.new self.new.forest) }
         ensures kept { Keeps F.answered F.content forests.old forests.new }
-        ensures made { OnOk result ((s : ControlState) → IsInForce in_force.now s
-            → Alters (active_in (told in_force.now) (F.content forests.old self.old.forest)) (active_in (told in_force.now) (F.content forests.new self.new.forest))
-            (F.interns forests.old) (F.interns forests.new) (changed_all s ledger.old.changes.items)) }
-        ensures failed { OnErr result ((s : ControlState) → IsInForce in_force.now s
-            → Costs (active_in (told in_force.now) (F.content forests.old self.old.forest)) (F.interns forests.old) (F.interns forests.new) (changed_all s ledger.old.changes.items)) }
+        ensures made { OnOk result (AltersTree F.ForestView in_force.now forests.old self.old.forest
+            forests.new self.new.forest (λ s. changed_all s ledger.old.changes.items)) }
+        ensures failed { OnErr result (CostsTree F.ForestView in_force.now forests.old self.old.forest
+            forests.new (λ s. changed_all s ledger.old.changes.items)) }
         ensures asked { OnOk result (ledger.new.changes.items ≡ []) }
         ensures drop { ledger.new.drop ≡ ledger.old.drop }
         ensures counts { ledger.new.counts ≡ ledger.old.counts }
@@ -116,24 +115,19 @@ impl Flow {
         ledger: &mut Ledger,
     ) -> Result<(), AllocError>
         requires answered { F.answered forests.old self.old.forest }
-        requires forest { IsForestIn (defs_at terms.now.in_force) (told terms.now.in_force)
-            (F.content forests.old self.old.forest) }
+        requires forest { IsForestInForce terms.now.in_force (F.content forests.old self.old.forest) }
         requires callbacks { ledger.old.counts.callbacks < 2 ^ 62 }
         requires weight { ledger.old.counts.weight < 2 ^ 62 }
         ensures answered { F.answered forests.new self.new.forest }
-        ensures forest { IsForestIn (defs_at terms.now.in_force) (told terms.now.in_force)
-            (F.content forests.new self.new.forest) }
+        ensures forest { IsForestInForce terms.now.in_force (F.content forests.new self.new.forest) }
         ensures kept { Keeps F.answered F.content forests.old forests.new }
-        ensures made { OnOk result ((s : ControlState) → IsInForce terms.now.in_force s → Makes terms.now.keep
-            (active_in (told terms.now.in_force) (F.content forests.old self.old.forest))
-            self.old.socket notes.old ledger.old (F.interns forests.old)
-            (active_in (told terms.now.in_force) (F.content forests.new self.new.forest))
-            self.new.socket notes.new ledger.new (F.interns forests.new)
-            (raise_done (A.meaning terms.now.app.now) s moment.now.number moment.now.from (raise_of moment.now))) }
-        ensures failed { OnErr result ((s : ControlState) → IsInForce terms.now.in_force s → CostsUnder terms.now.keep
-            (active_in (told terms.now.in_force) (F.content forests.old self.old.forest))
-            self.old.socket notes.old ledger.old (F.interns forests.old) (F.interns forests.new)
-            (raise_done (A.meaning terms.now.app.now) s moment.now.number moment.now.from (raise_of moment.now))) }
+        ensures made { OnOk result (MakesInForce terms.now.keep terms.now.in_force
+            (state_in F.ForestView forests.old self.old notes.old ledger.old)
+            (state_in F.ForestView forests.new self.new notes.new ledger.new)
+            (λ s. at_moment (raise_done (A.meaning terms.now.app.now) s) moment.now)) }
+        ensures failed { OnErr result (CostsInForce terms.now.keep terms.now.in_force
+            (state_in F.ForestView forests.old self.old notes.old ledger.old) (F.interns forests.new)
+            (λ s. at_moment (raise_done (A.meaning terms.now.app.now) s) moment.now)) }
         ensures asked { OnOk result (ledger.new.changes.items ≡ []) }
         ensures rise { RiseBy 255 ledger.old.counts ledger.new.counts }
         ensures count { self.new.count ≡ self.old.count }
@@ -157,20 +151,20 @@ impl Flow {
         ledger: &mut Ledger,
     ) -> Result<(), AllocError>
         requires answered { F.answered forests.old self.old.forest }
-        requires forest { IsForestIn (defs_at terms.now.in_force) (told terms.now.in_force) (F.content forests.old self.old.forest) }
+        requires forest { IsForestInForce terms.now.in_force (F.content forests.old self.old.forest) }
         requires callbacks { ledger.old.counts.callbacks < 2 ^ 61 }
         requires weight { ledger.old.counts.weight < 2 ^ 61 }
         requires quiet { ledger.old.changes.items ≡ [] }
         ensures answered { F.answered forests.new self.new.forest }
-        ensures forest { IsForestIn (defs_at terms.now.in_force) (told terms.now.in_force) (F.content forests.new self.new.forest) }
+        ensures forest { IsForestInForce terms.now.in_force (F.content forests.new self.new.forest) }
         ensures kept { Keeps F.answered F.content forests.old forests.new }
-        ensures made { OnOk result ((s : ControlState) → IsInForce terms.now.in_force s
-            → Makes terms.now.keep (active_in (told terms.now.in_force) (F.content forests.old self.old.forest)) self.old.socket notes.old ledger.old (F.interns forests.old)
-            (active_in (told terms.now.in_force) (F.content forests.new self.new.forest)) self.new.socket notes.new ledger.new (F.interns forests.new)
-            (made (A.meaning terms.now.app.now) s phase.now.number phase.now.from (raises_of phase.now.raised))) }
-        ensures failed { OnErr result ((s : ControlState) → IsInForce terms.now.in_force s
-            → CostsUnder terms.now.keep (active_in (told terms.now.in_force) (F.content forests.old self.old.forest)) self.old.socket notes.old ledger.old (F.interns forests.old) (F.interns forests.new)
-            (made (A.meaning terms.now.app.now) s phase.now.number phase.now.from (raises_of phase.now.raised))) }
+        ensures made { OnOk result (MakesInForce terms.now.keep terms.now.in_force
+            (state_in F.ForestView forests.old self.old notes.old ledger.old)
+            (state_in F.ForestView forests.new self.new notes.new ledger.new)
+            (λ s. in_phase (made (A.meaning terms.now.app.now) s) phase.now)) }
+        ensures failed { OnErr result (CostsInForce terms.now.keep terms.now.in_force
+            (state_in F.ForestView forests.old self.old notes.old ledger.old) (F.interns forests.new)
+            (λ s. in_phase (made (A.meaning terms.now.app.now) s) phase.now)) }
         ensures asked { OnOk result (ledger.new.changes.items ≡ []) }
         ensures rise { RiseBy 1530 ledger.old.counts ledger.new.counts }
         ensures count { self.new.count ≡ self.old.count }
@@ -197,23 +191,21 @@ impl Flow {
         ledger: &mut Ledger,
     ) -> Result<(), AllocError>
         requires answered { F.answered forests.old self.old.forest }
-        requires forest { IsForestIn (defs_at terms.now.in_force) (told terms.now.in_force) (F.content forests.old self.old.forest) }
+        requires forest { IsForestInForce terms.now.in_force (F.content forests.old self.old.forest) }
         requires callbacks { ledger.old.counts.callbacks < 2 ^ 61 }
         requires weight { ledger.old.counts.weight < 2 ^ 61 }
         ensures answered { F.answered forests.new self.new.forest }
-        ensures forest { IsForestIn (defs_at terms.now.in_force) (told terms.now.in_force) (F.content forests.new self.new.forest) }
+        ensures forest { IsForestInForce terms.now.in_force (F.content forests.new self.new.forest) }
         ensures kept { Keeps F.answered F.content forests.old forests.new }
-        ensures stands { OnOk result ((s : ControlState) (others : Counts) (h : History) → IsInForce terms.now.in_force s
-            → IsConnection terms.now.keep others (told terms.now.in_force) (F.content forests.old self.old.forest) self.old notes.old ledger.old.counts h
-            → Reached terms.now.keep others (active_in (told terms.now.in_force) (F.content forests.new self.new.forest)) self.new.socket notes.new ledger.new
-            (F.interns forests.old) (F.interns forests.new) h.altered
-            (sender_phase (A.meaning terms.now.app.now) s arrived.now.number arrived.now.from
-            arrived.now.head.now arrived.now.scale h)) }
-        ensures failed { OnErr result ((s : ControlState) (others : Counts) (h : History) → IsInForce terms.now.in_force s
-            → IsConnection terms.now.keep others (told terms.now.in_force) (F.content forests.old self.old.forest) self.old notes.old ledger.old.counts h
-            → InternsWithin (F.interns forests.old) (F.interns forests.new) h.altered
-            (sender_phase (A.meaning terms.now.app.now) s arrived.now.number arrived.now.from
-            arrived.now.head.now arrived.now.scale h).altered) }
+        ensures stands { OnOk result (ForConnection terms.now.keep terms.now.in_force
+            (state_in F.ForestView forests.old self.old notes.old ledger.old)
+            (λ s others h. Reached terms.now.keep others
+            (list_in_force terms.now.in_force (F.content forests.new self.new.forest)) self.new.socket notes.new ledger.new
+            (F.interns forests.old) (F.interns forests.new) h.altered (phase_sending (A.meaning terms.now.app.now) s arrived.now h))) }
+        ensures failed { OnErr result (ForConnection terms.now.keep terms.now.in_force
+            (state_in F.ForestView forests.old self.old notes.old ledger.old)
+            (λ s others h. InternsWithin (F.interns forests.old) (F.interns forests.new)
+            h.altered (phase_sending (A.meaning terms.now.app.now) s arrived.now h).altered)) }
         ensures asked { OnOk result (ledger.new.changes.items ≡ []) }
         ensures rise { RiseBy 1530 ledger.old.counts ledger.new.counts }
         ensures count { self.new.count ≡ self.old.count }
@@ -245,20 +237,20 @@ impl Flow {
     ) -> Result<(), AllocError>
         requires count { self.old.count < 2 ^ 30 }
         requires answered { F.answered forests.old self.old.forest }
-        requires forest { IsForestIn (defs_at terms.now.in_force) (told terms.now.in_force) (F.content forests.old self.old.forest) }
+        requires forest { IsForestInForce terms.now.in_force (F.content forests.old self.old.forest) }
         requires callbacks { ledger.old.counts.callbacks < 2 ^ 61 }
         requires weight { ledger.old.counts.weight < 2 ^ 61 }
         requires quiet { ledger.old.changes.items ≡ [] }
         ensures answered { F.answered forests.new self.new.forest }
-        ensures forest { IsForestIn (defs_at terms.now.in_force) (told terms.now.in_force) (F.content forests.new self.new.forest) }
+        ensures forest { IsForestInForce terms.now.in_force (F.content forests.new self.new.forest) }
         ensures kept { Keeps F.answered F.content forests.old forests.new }
-        ensures stands { OnOk result ((s : ControlState) (others : Counts) (c : Course) → IsInForce terms.now.in_force s
-            → IsUnder terms.now.keep others (active_in (told terms.now.in_force) (F.content forests.old self.old.forest)) self.old.socket notes.old ledger.old c
-            → Reached terms.now.keep others (active_in (told terms.now.in_force) (F.content forests.new self.new.forest)) self.new.socket notes.new ledger.new
-            (F.interns forests.old) (F.interns forests.new) c.altered (receiver_phase (A.meaning terms.now.app.now) s arrived.now.number arrived.now.from arrived.now.head.now arrived.now.payload.now self.old.count c)) }
-        ensures failed { OnErr result ((s : ControlState) → IsInForce terms.now.in_force s
-            → CostsUnder terms.now.keep (active_in (told terms.now.in_force) (F.content forests.old self.old.forest)) self.old.socket notes.old ledger.old (F.interns forests.old) (F.interns forests.new)
-            (receiver_phase (A.meaning terms.now.app.now) s arrived.now.number arrived.now.from arrived.now.head.now arrived.now.payload.now self.old.count)) }
+        ensures stands { OnOk result (MakesInForce terms.now.keep terms.now.in_force
+            (state_in F.ForestView forests.old self.old notes.old ledger.old)
+            (state_in F.ForestView forests.new self.new notes.new ledger.new)
+            (λ s. phase_receiving (A.meaning terms.now.app.now) s arrived.now self.old.count)) }
+        ensures failed { OnErr result (CostsInForce terms.now.keep terms.now.in_force
+            (state_in F.ForestView forests.old self.old notes.old ledger.old) (F.interns forests.new)
+            (λ s. phase_receiving (A.meaning terms.now.app.now) s arrived.now self.old.count)) }
         ensures rise { RiseBy 1530 ledger.old.counts ledger.new.counts }
         ensures count { self.new.count ≤ self.old.count + 1 }
         ensures counted { OnOk result (self.new.count ≡ self.old.count + 1) }
@@ -292,21 +284,22 @@ impl Flow {
     ) -> Result<(), AllocError>
         requires count { self.old.count < 2 ^ 30 }
         requires answered { F.answered forests.old self.old.forest }
-        requires forest { IsForestIn (defs_at terms.now.in_force) (told terms.now.in_force) (F.content forests.old self.old.forest) }
+        requires forest { IsForestInForce terms.now.in_force (F.content forests.old self.old.forest) }
         requires callbacks { ledger.old.counts.callbacks < 2 ^ 61 }
         requires weight { ledger.old.counts.weight < 2 ^ 61 }
         requires quiet { ledger.old.changes.items ≡ [] }
         ensures answered { F.answered forests.new self.new.forest }
-        ensures forest { IsForestIn (defs_at terms.now.in_force) (told terms.now.in_force) (F.content forests.new self.new.forest) }
+        ensures forest { IsForestInForce terms.now.in_force (F.content forests.new self.new.forest) }
         ensures kept { Keeps F.answered F.content forests.old forests.new }
-        ensures stands { OnOk result ((s : ControlState) (others : Counts) (h : History) (c : Course) → IsInForce terms.now.in_force s → self.old.count ≡ h.count
-            → IsUnder terms.now.keep others (active_in (told terms.now.in_force) (F.content forests.old self.old.forest)) self.old.socket notes.old ledger.old c
-            → Stepped terms.now.keep others (told terms.now.in_force) (F.content forests.new self.new.forest) self.new notes.new ledger.new.counts (F.interns forests.old) (F.interns forests.new) c.altered
-            (received_unless c.drop arrived.now.number c (receiver_phase (A.meaning terms.now.app.now) s arrived.now.number arrived.now.from arrived.now.head.now arrived.now.payload.now h.count c) h)) }
-        ensures failed { OnErr result ((s : ControlState) (others : Counts) (h : History) (c : Course) → IsInForce terms.now.in_force s → self.old.count ≡ h.count
-            → IsUnder terms.now.keep others (active_in (told terms.now.in_force) (F.content forests.old self.old.forest)) self.old.socket notes.old ledger.old c
-            → InternsWithin (F.interns forests.old) (F.interns forests.new) c.altered
-            (received_unless c.drop arrived.now.number c (receiver_phase (A.meaning terms.now.app.now) s arrived.now.number arrived.now.from arrived.now.head.now arrived.now.payload.now h.count c) h).altered) }
+        ensures stands { OnOk result (ForCourse terms.now.keep terms.now.in_force
+            (state_in F.ForestView forests.old self.old notes.old ledger.old)
+            (λ s others h c. Stepped terms.now.keep others
+            (told terms.now.in_force) (F.content forests.new self.new.forest) self.new notes.new ledger.new.counts
+            (F.interns forests.old) (F.interns forests.new) c.altered (gone_on (A.meaning terms.now.app.now) s arrived.now h c))) }
+        ensures failed { OnErr result (ForCourse terms.now.keep terms.now.in_force
+            (state_in F.ForestView forests.old self.old notes.old ledger.old)
+            (λ s others h c. InternsWithin (F.interns forests.old) (F.interns forests.new)
+            c.altered (gone_on (A.meaning terms.now.app.now) s arrived.now h c).altered)) }
         ensures rise { RiseBy 1530 ledger.old.counts ledger.new.counts }
         ensures count { self.new.count ≤ self.old.count + 1 }
     {
@@ -334,39 +327,35 @@ impl Flow {
     ) -> Result<Step, AllocError>
         requires count { self.old.count < 2 ^ 30 }
         requires answered { F.answered forests.old self.old.forest }
-        requires forest { IsForestIn (defs_at terms.now.in_force) (told terms.now.in_force) (F.content forests.old self.old.forest) }
+        requires forest { IsForestInForce terms.now.in_force (F.content forests.old self.old.forest) }
         requires callbacks { ledger.old.counts.callbacks < 2 ^ 60 }
         requires weight { ledger.old.counts.weight < 2 ^ 60 }
         ensures answered { F.answered forests.new self.new.forest }
-        ensures forest { IsForestIn (defs_at terms.now.in_force) (told terms.now.in_force) (F.content forests.new self.new.forest) }
+        ensures forest { IsForestInForce terms.now.in_force (F.content forests.new self.new.forest) }
         ensures kept { Keeps F.answered F.content forests.old forests.new }
-        ensures stands { OnOk result ((s : ControlState) (others : Counts) (h : History) → IsInForce terms.now.in_force s
-            → IsConnection terms.now.keep others (told terms.now.in_force) (F.content forests.old self.old.forest) self.old notes.old ledger.old.counts h
-            → IsConnection terms.now.keep others (told terms.now.in_force) (F.content forests.new self.new.forest)
-            self.new notes.new ledger.new.counts
-            (followed (A.meaning terms.now.app.now) s arrived.now.number arrived.now.from
-            arrived.now.head.now arrived.now.scale arrived.now.payload.now h)) }
+        ensures stands { OnOk result (ForConnection terms.now.keep terms.now.in_force
+            (state_in F.ForestView forests.old self.old notes.old ledger.old)
+            (λ s others h. IsConnection terms.now.keep others
+            (told terms.now.in_force) (F.content forests.new self.new.forest) self.new notes.new ledger.new.counts
+            (followed_by (A.meaning terms.now.app.now) s arrived.now h))) }
 
         // At most one intern for each change that alters the private list, also where memory is refused on the way.
-        ensures interned { (s : ControlState) (others : Counts) (h : History) → IsInForce terms.now.in_force s
-            → IsConnection terms.now.keep others (told terms.now.in_force) (F.content forests.old self.old.forest) self.old notes.old ledger.old.counts h
-            → InternsWithin (F.interns forests.old) (F.interns forests.new) h.altered
-            (followed (A.meaning terms.now.app.now) s arrived.now.number arrived.now.from
-            arrived.now.head.now arrived.now.scale arrived.now.payload.now h).altered }
+        ensures interned { ForConnection terms.now.keep terms.now.in_force
+            (state_in F.ForestView forests.old self.old notes.old ledger.old)
+            (λ s others h. InternsWithin (F.interns forests.old) (F.interns forests.new)
+            h.altered (followed_by (A.meaning terms.now.app.now) s arrived.now h).altered) }
 
-        ensures over { IfOk result (λ step. (s : ControlState) (others : Counts) (h : History) → IsInForce terms.now.in_force s
-            → IsConnection terms.now.keep others (told terms.now.in_force) (F.content forests.old self.old.forest) self.old notes.old ledger.old.counts h
-            → step.over ≡ is_over (followed (A.meaning terms.now.app.now) s arrived.now.number arrived.now.from
-            arrived.now.head.now arrived.now.scale arrived.now.payload.now h)) }
-        ensures verdict { IfOk result (λ step. (s : ControlState) (others : Counts) (h : History) → IsInForce terms.now.in_force s
-            → IsConnection terms.now.keep others (told terms.now.in_force) (F.content forests.old self.old.forest) self.old notes.old ledger.old.counts h
-            → step.verdict ≡ verdict (A.meaning terms.now.app.now) s arrived.now.number arrived.now.from
-            arrived.now.head.now arrived.now.scale h) }
-        ensures drops { IfOk result (λ step. (s : ControlState) (others : Counts) (h : History) → IsInForce terms.now.in_force s
-            → IsConnection terms.now.keep others (told terms.now.in_force) (F.content forests.old self.old.forest) self.old notes.old ledger.old.counts h
-            → (followed (A.meaning terms.now.app.now) s arrived.now.number arrived.now.from
-            arrived.now.head.now arrived.now.scale arrived.now.payload.now h).drops
-            ≡ h.drops ++ drops_of step.verdict arrived.now.number) }
+        ensures over { IfOk result (λ step. ForConnection terms.now.keep terms.now.in_force
+            (state_in F.ForestView forests.old self.old notes.old ledger.old)
+            (λ s others h. step.over ≡ is_over (followed_by (A.meaning terms.now.app.now) s arrived.now h))) }
+        ensures verdict { IfOk result (λ step. ForConnection terms.now.keep terms.now.in_force
+            (state_in F.ForestView forests.old self.old notes.old ledger.old)
+            (λ s others h. step.verdict
+            ≡ verdict (A.meaning terms.now.app.now) s arrived.now.number arrived.now.from arrived.now.head.now arrived.now.scale h)) }
+        ensures drops { IfOk result (λ step. ForConnection terms.now.keep terms.now.in_force
+            (state_in F.ForestView forests.old self.old notes.old ledger.old)
+            (λ s others h. (followed_by (A.meaning terms.now.app.now) s arrived.now h).drops
+            ≡ h.drops ++ drops_of step.verdict arrived.now.number)) }
         ensures rise { RiseBy 3060 ledger.old.counts ledger.new.counts }
         ensures count { self.new.count ≤ self.old.count + 1 }
     {

@@ -11,8 +11,8 @@ ghost use Rattle.shared_forest.specs.Listing.{listing};
 ghost use Rattle.shared_forest.specs.Heard.{is_heard};
 ghost use Rattle.event_trees.specs.Fires.{fires};
 ghost use Rattle.forest_versions.specs.State.{ControlState};
-ghost use Rattle.connection_core.specs.InForce.{told, defs_at, IsInForce};
-ghost use Rattle.connection_core.specs.Trees.{active_in, IsForestIn};
+ghost use Rattle.connection_core.specs.InForce.{IsInForce};
+ghost use Rattle.connection_core.specs.Trees.{list_in_force, IsForestInForce};
 ghost use Rattle.connection_core.specs.Unheard.{CallsNothing, CallNothing};
 
 use crate::in_force::InForce;
@@ -25,10 +25,10 @@ use shared_forest::Tree;
 
 // What isn't heard over the tree of a private list calls nothing. It does nothing.
 fn unheard_calls_nothing(in_force: &InForce, tree: &Tree)
-    requires forest { IsForestIn (defs_at in_force.now) (told in_force.now) tree.now }
+    requires forest { IsForestInForce in_force.now tree.now }
     ensures { (s : ControlState) (hook : HookOf) (event : ℕ) → IsInForce in_force.now s
         → is_heard hook event (listing tree.now) ≡ false
-        → (facts : Facts) → fires s.defs facts hook event (active_in (told in_force.now) tree.now) ≡ [] }
+        → (facts : Facts) → fires s.defs facts hook event (list_in_force in_force.now tree.now) ≡ [] }
 {
     heard_where_registered(tree);
     later_events_change_nothing(in_force.defs());
@@ -36,9 +36,9 @@ fn unheard_calls_nothing(in_force: &InForce, tree: &Tree)
 
 /// Whether the raise of an event is heard.
 pub(crate) fn hears(in_force: &InForce, tree: &Tree, hook: Hook, event: u16) -> bool
-    requires forest { IsForestIn (defs_at in_force.now) (told in_force.now) tree.now }
+    requires forest { IsForestInForce in_force.now tree.now }
     ensures { result ≡ false → (s : ControlState) (facts : Facts) → IsInForce in_force.now s
-        → CallsNothing s (active_in (told in_force.now) tree.now) (record { hook = hook; event = event; facts = facts }) }
+        → CallsNothing s (list_in_force in_force.now tree.now) (record { hook = hook; event = event; facts = facts }) }
 {
     unheard_calls_nothing(in_force, tree);
     tree.is_heard(hook, event)
@@ -46,9 +46,9 @@ pub(crate) fn hears(in_force: &InForce, tree: &Tree, hook: Hook, event: u16) -> 
 
 /// Whether any raise of a packet's phase at its sender is heard.
 pub(crate) fn hears_sender(in_force: &InForce, tree: &Tree, first: bool, sent: &Sent) -> bool
-    requires forest { IsForestIn (defs_at in_force.now) (told in_force.now) tree.now }
-    ensures { result ≡ false → (s : ControlState) (h : HeadOf) (from : Side) (nth : ℕ) → IsInForce in_force.now s
-        → CallNothing s (active_in (told in_force.now) tree.now) (sender_raises h from nth first sent.now) }
+    requires forest { IsForestInForce in_force.now tree.now }
+    ensures { result ≡ false → (s : ControlState) (h : HeadOf) (from : Side) (nth : ℕ)
+        → IsInForce in_force.now s → CallNothing s (list_in_force in_force.now tree.now) (sender_raises h from nth first sent.now) }
 {
     unheard_calls_nothing(in_force, tree);
     is_heard_at_sender(tree.heard(Hook::Snd), first, sent)
@@ -56,9 +56,9 @@ pub(crate) fn hears_sender(in_force: &InForce, tree: &Tree, first: bool, sent: &
 
 /// Whether any raise of its phase at its receiver is heard.
 pub(crate) fn hears_receiver(in_force: &InForce, tree: &Tree, head: &Head, got: &Got) -> bool
-    requires forest { IsForestIn (defs_at in_force.now) (told in_force.now) tree.now }
+    requires forest { IsForestInForce in_force.now tree.now }
     ensures { result ≡ false → (s : ControlState) (from : Side) (nth : ℕ) → IsInForce in_force.now s
-        → CallNothing s (active_in (told in_force.now) tree.now) (receiver_raises head.now from nth got.now) }
+        → CallNothing s (list_in_force in_force.now tree.now) (receiver_raises head.now from nth got.now) }
 {
     unheard_calls_nothing(in_force, tree);
     is_heard_at_receiver(tree.heard(Hook::Rcv), head, got)

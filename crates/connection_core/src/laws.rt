@@ -1,15 +1,13 @@
 //! What callers may rest on. These functions do nothing.
 
-ghost use Rattle.std.specs.Prelude.{◌≡◌, ◌≤◌, ℕ, Option, List};
+ghost use Rattle.std.specs.Prelude.{◌≡◌, ℕ, Option, List};
 ghost use Rattle.app_api.specs.declared.registration.Reg.{Reg};
 ghost use Rattle.shared_forest.specs.Lists.{TreeLists};
-ghost use Rattle.shared_forest.specs.Listing.{listing};
 ghost use Rattle.event_trees.specs.declared.defs.EventDef.{EventDef};
-ghost use Rattle.event_trees.specs.Edit.{IsForestOf};
 ghost use Rattle.event_trees.specs.Later.{IsEarlier};
 ghost use Rattle.forest_versions.specs.State.{ControlState, active as first_active};
-ghost use Rattle.connection_core.specs.InForce.{told, defs_at, IsInForce};
-ghost use Rattle.connection_core.specs.Trees.{active_in, IsForestIn};
+ghost use Rattle.connection_core.specs.InForce.{IsInForce};
+ghost use Rattle.connection_core.specs.Trees.{active_in, list_in_force, AnswersAs, IsForestIn, IsForestInForce, IsFirstForest};
 ghost use Rattle.connection_core.specs.Laws.{CallsWhatFires};
 
 use crate::in_force::InForce;
@@ -25,20 +23,20 @@ pub fn callbacks_are_those_that_fire()
 
 /// The tree of the registrations that are on at a connection's start names them.
 pub fn first_tree_names_the_first_list(in_force: &InForce, tree: &Tree)
-    ensures list { (s : ControlState) → IsInForce in_force.now s → IsForestOf (defs_at in_force.now) (first_active s) (listing tree.now)
-        → active_in (told in_force.now) tree.now ≡ first_active s }
-    ensures forest { (s : ControlState) → IsInForce in_force.now s → IsForestOf (defs_at in_force.now) (first_active s) (listing tree.now)
-        → IsForestIn (defs_at in_force.now) (told in_force.now) tree.now }
+    ensures list { (s : ControlState) → IsInForce in_force.now s → IsFirstForest in_force.now s tree.now
+        → list_in_force in_force.now tree.now ≡ first_active s }
+    ensures forest { (s : ControlState) → IsInForce in_force.now s → IsFirstForest in_force.now s tree.now
+        → IsForestInForce in_force.now tree.now }
 {
     slots_in_order(tree);
 }
 
 /// A tree stays that of its private list where events are defined later, and registrations are looked up as before.
 pub fn trees_stay(defs: &Defs)
-    ensures forest { (earlier : List EventDef) (at now : ℕ → Option Reg) (tree : TreeLists) → IsEarlier earlier defs.now
-        → ((number : ℕ) → number ≤ 255 → now number ≡ at number) → IsForestIn earlier at tree → IsForestIn defs.now now tree }
+    ensures forest { (earlier : List EventDef) (at now : ℕ → Option Reg) (tree : TreeLists)
+        → IsEarlier earlier defs.now → AnswersAs at now → IsForestIn earlier at tree → IsForestIn defs.now now tree }
     ensures list { (earlier : List EventDef) (at now : ℕ → Option Reg) (tree : TreeLists)
-        → ((number : ℕ) → number ≤ 255 → now number ≡ at number) → IsForestIn earlier at tree → active_in now tree ≡ active_in at tree }
+        → AnswersAs at now → IsForestIn earlier at tree → active_in now tree ≡ active_in at tree }
 {
     later_events_change_nothing(defs);
 }

@@ -1,7 +1,8 @@
 //! What is noted of callbacks: in their record, and for the packet under way.
 
-ghost use Rattle.std.specs.Prelude.{◌≡◌, ◌+◌, ◌<◌, ◌≤◌, ◌^◌, ◌++◌, ◌∷◌, [], None, OnOk, if◌then◌else◌};
+ghost use Rattle.std.specs.Prelude.{◌≡◌, ◌+◌, ◌<◌, ◌≤◌, ◌^◌, ◌++◌, [], None, OnOk};
 ghost use Rattle.connection_core.specs.Course.{first_reason};
+ghost use Rattle.connection_core.specs.Standing.{kept_with};
 
 use app_api::{Change1, Entry, Reaction, Reason, Tally};
 use callback_log::CallbackLog;
@@ -51,7 +52,7 @@ impl Notes {
     /// Keeps an entry, where these are kept.
     pub(crate) fn keep_entry(&mut self, keep: bool, entry: Entry) -> Result<(), AllocError>
         ensures tally { self.new.tally ≡ self.old.tally }
-        ensures entries { OnOk result (self.new.entries ≡ (if keep then self.old.entries ++ entry ∷ [] else self.old.entries)) }
+        ensures entries { OnOk result (self.new.entries ≡ kept_with keep self.old.entries entry) }
     {
         if !keep {
             return Ok(());

@@ -1,15 +1,12 @@
 //! Peeks at the stream of a packet's sender.
 
-ghost use Rattle.std.specs.Prelude.{◌≡◌, ◌≤◌, ◌+◌, ◌++◌, ◌∷◌, [], length, true, IsTrue, if◌then◌else◌, OnOk, IfOk, List, ℕ};
+ghost use Rattle.std.specs.Prelude.{◌≡◌, ◌≤◌, ◌+◌, ◌++◌, ◌∷◌, [], length, true, IsTrue, if◌then◌else◌, OnOk, IfOk};
 ghost use Rattle.reassembly.specs.Receiver.{Receiver, kept};
 ghost use Rattle.reassembly.specs.Kept.{bytes_from};
 ghost use Rattle.reassembly.specs.View.{StandsFor};
-ghost use Rattle.flow_socket.specs.Emulation.{Emulation};
-ghost use Rattle.flow_socket.specs.View.{SocketStandsFor};
 ghost use Rattle.app_api.specs.Reg.{peek_fits};
-ghost use Rattle.app_api.specs.declared.registration.PeekSpec.{PeekSpec as PeekSpecOf};
-ghost use Rattle.connection_core.specs.Course.{seen_by, after_seen, bytes_seen};
-ghost use Rattle.connection_core.specs.Standing.{IsAsFar};
+ghost use Rattle.app_api.specs.declared.registration.PeekSpec.TheVariants.{Next, At};
+ghost use Rattle.connection_core.specs.Standing.{IsAsFar, kept_with, Sees, SeesSoMany, PeeksOn};
 
 use app_api::{Bytes, PeekSpec, PieceList, Seen};
 use flow_socket::FlowSocket;
@@ -38,10 +35,10 @@ pub(crate) fn look(
     peek: &PeekSpec,
 ) -> Result<Looked, AllocError>
     requires { IsTrue (peek_fits peek.now) }
-    ensures seen { IfOk result (λ look. keep ≡ true → (e : Emulation) → SocketStandsFor socket.old e → look.seen ≡ seen_by from peek.now e) }
-    ensures got { IfOk result (λ look. (e : Emulation) → SocketStandsFor socket.old e → look.got ≡ bytes_seen (seen_by from peek.now e)) }
+    ensures seen { IfOk result (λ look. keep ≡ true → Sees socket.old from peek.now look.seen) }
+    ensures got { IfOk result (λ look. SeesSoMany socket.old from peek.now look.got) }
     ensures few { IfOk result (λ look. look.got ≤ 256) }
-    ensures stands { (e : Emulation) → SocketStandsFor socket.old e → SocketStandsFor socket.new (after_seen from peek.now e) }
+    ensures stands { PeeksOn socket.old from peek.now socket.new }
     ensures as_far { IsAsFar socket.old socket.new }
 {
     match *peek {
@@ -63,10 +60,10 @@ fn look_next(
     len: u16,
 ) -> Result<Looked, AllocError>
     requires { len ≤ 256 }
-    ensures seen { IfOk result (λ look. keep ≡ true → (e : Emulation) → SocketStandsFor socket.old e → look.seen ≡ seen_by from (PeekSpecOf.Next len) e) }
-    ensures got { IfOk result (λ look. (e : Emulation) → SocketStandsFor socket.old e → look.got ≡ bytes_seen (seen_by from (PeekSpecOf.Next len) e)) }
+    ensures seen { IfOk result (λ look. keep ≡ true → Sees socket.old from (Next len) look.seen) }
+    ensures got { IfOk result (λ look. SeesSoMany socket.old from (Next len) look.got) }
     ensures few { IfOk result (λ look. look.got ≤ 256) }
-    ensures stands { (e : Emulation) → SocketStandsFor socket.old e → SocketStandsFor socket.new (after_seen from (PeekSpecOf.Next len) e) }
+    ensures stands { PeeksOn socket.old from (Next len) socket.new }
     ensures as_far { IsAsFar socket.old socket.new }
 {
     let mut room = [0; LONGEST];
@@ -82,10 +79,10 @@ fn look_into(
     buf: &mut [u8],
 ) -> Result<Looked, AllocError>
     requires { length buf.old ≤ 256 }
-    ensures seen { IfOk result (λ look. keep ≡ true → (e : Emulation) → SocketStandsFor socket.old e → look.seen ≡ seen_by from (PeekSpecOf.Next (length buf.old)) e) }
-    ensures got { IfOk result (λ look. (e : Emulation) → SocketStandsFor socket.old e → look.got ≡ bytes_seen (seen_by from (PeekSpecOf.Next (length buf.old)) e)) }
+    ensures seen { IfOk result (λ look. keep ≡ true → Sees socket.old from (Next (length buf.old)) look.seen) }
+    ensures got { IfOk result (λ look. SeesSoMany socket.old from (Next (length buf.old)) look.got) }
     ensures few { IfOk result (λ look. look.got ≤ 256) }
-    ensures stands { (e : Emulation) → SocketStandsFor socket.old e → SocketStandsFor socket.new (after_seen from (PeekSpecOf.Next (length buf.old)) e) }
+    ensures stands { PeeksOn socket.old from (Next (length buf.old)) socket.new }
     ensures as_far { IsAsFar socket.old socket.new }
 {
     let peeked = socket.peek(from, buf);
@@ -124,8 +121,8 @@ fn look_at(
     len: u16,
 ) -> Result<Looked, AllocError>
     requires { len ≤ 256 }
-    ensures seen { IfOk result (λ look. keep ≡ true → (e : Emulation) → SocketStandsFor socket.now e → look.seen ≡ seen_by from (PeekSpecOf.At off len) e) }
-    ensures got { IfOk result (λ look. (e : Emulation) → SocketStandsFor socket.now e → look.got ≡ bytes_seen (seen_by from (PeekSpecOf.At off len) e)) }
+    ensures seen { IfOk result (λ look. keep ≡ true → Sees socket.now from (At off len) look.seen) }
+    ensures got { IfOk result (λ look. SeesSoMany socket.now from (At off len) look.got) }
     ensures few { IfOk result (λ look. look.got ≤ 256) }
 {
     let mut pieces = PieceList {
@@ -153,8 +150,9 @@ fn note_piece(
     pieces: &mut PieceList,
 ) -> Result<(), AllocError>
     requires { run ≤ 256 }
-    ensures { OnOk result ((r : Receiver) → StandsFor stream.now r → length (bytes_from (kept r.cells stream.now.rbuf) place run) ≡ run → pieces.new
-        ≡ (if keep then pieces.old ++ (place, bytes_from (kept r.cells stream.now.rbuf) place run) ∷ [] else pieces.old)) }
+    ensures { OnOk result ((r : Receiver) → StandsFor stream.now r
+        → length (bytes_from (kept r.cells stream.now.rbuf) place run) ≡ run
+        → pieces.new ≡ kept_with keep pieces.old (place, bytes_from (kept r.cells stream.now.rbuf) place run)) }
 {
     if !keep {
         return Ok(());

@@ -55,7 +55,8 @@ impl Phase {
     pub(crate) fn moment(&self, event: u16) -> Moment<'_>
         ensures number { result.number ≡ self.now.number }
         ensures from { result.from ≡ self.now.from }
-        ensures raise { raise_of result ≡ record { hook = self.now.raised.hook; event = event; facts = self.now.raised.facts } }
+        ensures raise { raise_of result
+            ≡ record { hook = self.now.raised.hook; event = event; facts = self.now.raised.facts } }
     {
         Moment {
             number: self.number,

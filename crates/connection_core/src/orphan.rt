@@ -1,13 +1,11 @@
 //! Packets that belong to no connection.
 
-ghost use Rattle.std.specs.Prelude.{◌≡◌, ◌<◌, ◌^◌, [], OnOk, IfOk};
+ghost use Rattle.std.specs.Prelude.{◌≡◌, ◌<◌, ◌^◌, OnOk, IfOk};
 ghost use Rattle.builtin_events.specs.Raised.{raises_of};
-ghost use Rattle.forest_versions.specs.State.{ControlState, active as first_active};
-ghost use Rattle.connection_core.specs.declared.ledger.Counts.{Counts};
-ghost use Rattle.connection_core.specs.InForce.{told, defs_at, IsInForce};
-ghost use Rattle.connection_core.specs.Trees.{active_in, IsForestIn};
+ghost use Rattle.connection_core.specs.Trees.{IsForestInForce};
 ghost use Rattle.connection_core.specs.History.{orphaned, orphan_verdict, drops_of};
-ghost use Rattle.connection_core.specs.Standing.{IsNoted, RiseBy};
+ghost use Rattle.connection_core.specs.Standing.{RiseBy};
+ghost use Rattle.connection_core.specs.Calls.{ForOrphan, IsNotedOf};
 
 use crate::flow::verdict_of;
 use crate::ledger::{Ledger, Notes};
@@ -33,21 +31,19 @@ pub fn lone<A: App, F: ForestView>(
     ledger: &mut Ledger,
 ) -> Result<Verdict, AllocError>
     requires answered { F.answered forests.now forest.now }
-    requires forest { IsForestIn (defs_at terms.now.in_force) (told terms.now.in_force) (F.content forests.now forest.now) }
+    requires forest { IsForestInForce terms.now.in_force (F.content forests.now forest.now) }
     requires callbacks { ledger.old.counts.callbacks < 2 ^ 60 }
     requires weight { ledger.old.counts.weight < 2 ^ 60 }
-    ensures stands { OnOk result ((s : ControlState) (others : Counts) → IsInForce terms.now.in_force s
-        → active_in (told terms.now.in_force) (F.content forests.now forest.now) ≡ first_active s
-        → IsNoted terms.now.keep others (A.meaning terms.now.app.now).fresh [] notes.old ledger.old.counts
-        → IsNoted terms.now.keep others (orphaned (A.meaning terms.now.app.now) s number (raises_of raised)).tally (orphaned (A.meaning terms.now.app.now) s number (raises_of raised)).entries notes.new ledger.new.counts) }
-    ensures verdict { IfOk result (λ verdict. (s : ControlState) (others : Counts) → IsInForce terms.now.in_force s
-        → active_in (told terms.now.in_force) (F.content forests.now forest.now) ≡ first_active s
-        → IsNoted terms.now.keep others (A.meaning terms.now.app.now).fresh [] notes.old ledger.old.counts
-        → verdict ≡ orphan_verdict (A.meaning terms.now.app.now) s number (raises_of raised)) }
-    ensures drops { IfOk result (λ verdict. (s : ControlState) (others : Counts) → IsInForce terms.now.in_force s
-        → active_in (told terms.now.in_force) (F.content forests.now forest.now) ≡ first_active s
-        → IsNoted terms.now.keep others (A.meaning terms.now.app.now).fresh [] notes.old ledger.old.counts
-        → (orphaned (A.meaning terms.now.app.now) s number (raises_of raised)).drops ≡ drops_of verdict number) }
+    ensures stands { OnOk result (ForOrphan (A.meaning terms.now.app.now) terms.now.keep terms.now.in_force
+        (F.content forests.now forest.now) notes.old ledger.old
+        (λ s others. IsNotedOf terms.now.keep others
+        (orphaned (A.meaning terms.now.app.now) s number (raises_of raised)) notes.new ledger.new)) }
+    ensures verdict { IfOk result (λ verdict. ForOrphan (A.meaning terms.now.app.now) terms.now.keep terms.now.in_force
+        (F.content forests.now forest.now) notes.old ledger.old
+        (λ s others. verdict ≡ orphan_verdict (A.meaning terms.now.app.now) s number (raises_of raised))) }
+    ensures drops { IfOk result (λ verdict. ForOrphan (A.meaning terms.now.app.now) terms.now.keep terms.now.in_force
+        (F.content forests.now forest.now) notes.old ledger.old
+        (λ s others. (orphaned (A.meaning terms.now.app.now) s number (raises_of raised)).drops ≡ drops_of verdict number)) }
     ensures rise { RiseBy 1530 ledger.old.counts ledger.new.counts }
 {
     ledger.begin();

@@ -3,13 +3,10 @@
 ghost use Rattle.std.specs.Prelude.{◌≡◌, ◌<◌, ◌^◌, OnOk};
 ghost use Rattle.app_api.specs.Events.{TIMER as EVENT};
 ghost use Rattle.native_filters.specs.declared.facts.Hook.TheVariants.{Rcv};
-ghost use Rattle.forest_versions.specs.State.{ControlState};
-ghost use Rattle.connection_core.specs.declared.ledger.Counts.{Counts};
-ghost use Rattle.connection_core.specs.InForce.{told, defs_at, IsInForce};
-ghost use Rattle.connection_core.specs.Trees.{IsForestIn};
-ghost use Rattle.connection_core.specs.History.{History};
+ghost use Rattle.connection_core.specs.Trees.{IsForestInForce};
 ghost use Rattle.connection_core.specs.Silence.{silenced};
-ghost use Rattle.connection_core.specs.Standing.{IsConnection, IsNoted, RiseBy};
+ghost use Rattle.connection_core.specs.Standing.{RiseBy};
+ghost use Rattle.connection_core.specs.Calls.{state_in, ForConnection, IsNotedOf};
 
 use crate::flow::Flow;
 use crate::ledger::{Ledger, Notes};
@@ -35,15 +32,14 @@ pub fn silence<A: App, F: ForestView>(
     ledger: &mut Ledger,
 ) -> Result<(), AllocError>
     requires answered { F.answered forests.now flow.forest }
-    requires forest { IsForestIn (defs_at terms.now.in_force) (told terms.now.in_force) (F.content forests.now flow.forest) }
+    requires forest { IsForestInForce terms.now.in_force (F.content forests.now flow.forest) }
     requires callbacks { ledger.old.counts.callbacks < 2 ^ 60 }
     requires weight { ledger.old.counts.weight < 2 ^ 60 }
-    ensures stands { OnOk result ((s : ControlState) (others : Counts) (h : History) → IsInForce terms.now.in_force s
-        → IsConnection terms.now.keep others (told terms.now.in_force) (F.content forests.now flow.forest) flow notes.old ledger.old.counts h
-        → IsNoted terms.now.keep others
-        (silenced (A.meaning terms.now.app.now) s number (record { hook = Rcv; event = EVENT; facts = facts.now }) h).tally
-        (silenced (A.meaning terms.now.app.now) s number (record { hook = Rcv; event = EVENT; facts = facts.now }) h).entries
-        notes.new ledger.new.counts) }
+    ensures stands { OnOk result (ForConnection terms.now.keep terms.now.in_force
+        (state_in F.ForestView forests.now flow notes.old ledger.old)
+        (λ s others h. IsNotedOf terms.now.keep others
+        (silenced (A.meaning terms.now.app.now) s number (record { hook = Rcv; event = EVENT; facts = facts.now }) h)
+        notes.new ledger.new)) }
     ensures rise { RiseBy 255 ledger.old.counts ledger.new.counts }
 {
     ledger.begin();

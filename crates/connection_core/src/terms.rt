@@ -1,8 +1,7 @@
 //! What callbacks run under: the application, what is in force, and whether entries are kept.
 
 ghost use Rattle.std.specs.Prelude.{◌≡◌, IsTrue};
-ghost use Rattle.forest_versions.specs.State.{ControlState};
-ghost use Rattle.connection_core.specs.InForce.{IsInForce};
+ghost use Rattle.connection_core.specs.InForce.{ForControl};
 ghost use Rattle.connection_core.specs.Course.{reaction_of, asked_by};
 
 use crate::in_force::InForce;
@@ -26,8 +25,10 @@ const FIRST_OF_SCRIPTS: u8 = 16;
 impl<A: App> Terms<'_, A> {
     /// Runs a callback: a preset's application, or the action of a script's registration.
     pub(crate) fn react(&self, reg: &Reg, call: &Call, tally: &mut Tally) -> Reaction
-        ensures tally { (s : ControlState) → IsInForce self.now.in_force s → tally.new ≡ (reaction_of (A.meaning self.now.app.now) s.rules reg.now call.now tally.old).0 }
-        ensures reaction { (s : ControlState) → IsInForce self.now.in_force s → result ≡ (reaction_of (A.meaning self.now.app.now) s.rules reg.now call.now tally.old).1 }
+        ensures tally { ForControl self.now.in_force (λ s.
+            tally.new ≡ (reaction_of (A.meaning self.now.app.now) s.rules reg.now call.now tally.old).0) }
+        ensures reaction { ForControl self.now.in_force (λ s.
+            result ≡ (reaction_of (A.meaning self.now.app.now) s.rules reg.now call.now tally.old).1) }
     {
         if reg.number < FIRST_OF_SCRIPTS {
             self.app.react(tally, call, self.in_force.rules())

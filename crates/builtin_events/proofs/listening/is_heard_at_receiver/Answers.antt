@@ -1,4 +1,4 @@
-use Rattle.std.proofs.Common.{◌≡◌, ◌&&◌, ◌||◌, ◌==◌, not, Bool, true, false, get_or, sym, ◌∙◌, true≢false}
+use Rattle.std.proofs.Common.{◌==◌, not, sym, ◌∙◌, true≢false}
 use Rattle.std.specs.Prelude.{nat_lt}
 use Rattle.tcp_emulation.specs.States.{number_of}
 use Rattle.builtin_events.specs.Facts.{read_bytes, receiver_facts}

@@ -26,7 +26,7 @@ returns-in_ok-receive-in-None-clause-stands g c = λ s others h course force cou
     c.args.self.now.count c.in-None.is u.drop count c.in_ok-receive-in-None.ensures.counted
     (subst (λ n. Reached c.args.terms.now.keep others (active_in (told c.args.terms.now.in_force) (g.F.ForestView.content c.receive.new.forests c.receive.new.self.forest)) c.receive.new.self.socket c.receive.new.notes c.receive.new.ledger
     (g.F.ForestView.interns c.args.forests.now) (g.F.ForestView.interns c.receive.new.forests) course.altered (receiver_phase app s arrived.number arrived.from arrived.head.now arrived.payload.now n course)) count
-    (c.in_ok-receive-in-None.ensures.stands s others course force u))
+    ((c.in_ok-receive-in-None.ensures.stands s force).stands others course u))
 
 pub returns-in_err-receive-in-None-clause-failed : goal.returns-in_err-receive-in-None-clause-failed
 returns-in_err-receive-in-None-clause-failed g c = on_err_always c.from_residual.result (λ s others h course force count u.

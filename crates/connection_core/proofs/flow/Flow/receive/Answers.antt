@@ -14,16 +14,18 @@ use Rattle.connection_core.proofs.flow.Flow.receive.Goals as goal
 
 pub returns-clause-stands : goal.returns-clause-stands
 returns-clause-stands g c =
-    on_ok_weaker c.make.result (λ makes. λ s others course force u.
-    let app = g.A.App.meaning c.args.terms.now.app.now in
-    let at = told c.args.terms.now.in_force in
-    let keep = c.args.terms.now.keep in
-    receiver_makes app s keep others (active_in at (g.F.ForestView.content c.args.forests.now c.args.self.now.forest))
-    c.args.arrived.now.number c.args.arrived.now.from c.args.arrived.now.head.now c.args.arrived.now.payload.now c.args.self.now.count
-    c.in_ok-got.got (raises_of c.raised_at_receiver.result) c.args.self.now.socket c.receive.new.self c.args.notes.now c.args.ledger.now course
-    (λ before after. Reached keep others (active_in at (g.F.ForestView.content c.make.new.forests c.make.new.self.forest)) c.make.new.self.socket c.make.new.notes c.make.new.ledger
-    (g.F.ForestView.interns c.args.forests.now) (g.F.ForestView.interns c.make.new.forests) before.altered after)
-    u c.in_ok-got.ensures.stands c.in_ok-got.ensures.answer c.raised_at_receiver.ensures.raises ((makes s force).stands others))
+    on_ok_weaker c.make.result (λ makes. λ s force. record {
+      stands = λ others course u.
+          let app = g.A.App.meaning c.args.terms.now.app.now in
+          let at = told c.args.terms.now.in_force in
+          let keep = c.args.terms.now.keep in
+          receiver_makes app s keep others (active_in at (g.F.ForestView.content c.args.forests.now c.args.self.now.forest))
+          c.args.arrived.now.number c.args.arrived.now.from c.args.arrived.now.head.now c.args.arrived.now.payload.now c.args.self.now.count
+          c.in_ok-got.got (raises_of c.raised_at_receiver.result) c.args.self.now.socket c.receive.new.self c.args.notes.now c.args.ledger.now course
+          (λ before after. Reached keep others (active_in at (g.F.ForestView.content c.make.new.forests c.make.new.self.forest)) c.make.new.self.socket c.make.new.notes c.make.new.ledger
+          (g.F.ForestView.interns c.args.forests.now) (g.F.ForestView.interns c.make.new.forests) before.altered after)
+          u c.in_ok-got.ensures.stands c.in_ok-got.ensures.answer c.raised_at_receiver.ensures.raises ((makes s force).stands others);
+    })
     c.make.ensures.made
 
 pub returns-clause-failed : goal.returns-clause-failed
@@ -46,7 +48,7 @@ returns-in_err-got-clause-failed g c = on_err_always c.from_residual.result (λ 
 
 -- nobody hears anything of it
 pub returns-then-not-hears_receiver-clause-stands : goal.returns-then-not-hears_receiver-clause-stands
-returns-then-not-hears_receiver-clause-stands g c = λ s others course force u.
+returns-then-not-hears_receiver-clause-stands g c = λ s force.
     let app = g.A.App.meaning c.args.terms.now.app.now in
     let at = told c.args.terms.now.in_force in
     let keep = c.args.terms.now.keep in
@@ -55,9 +57,11 @@ returns-then-not-hears_receiver-clause-stands g c = λ s others course force u.
     let arrived = c.args.arrived.now in
     let raises = receiver_raises arrived.head.now arrived.from c.args.self.now.count c.in_ok-got.got in
     let silent = subst (λ (t : TreeLists). CallNothing s (active_in at t) raises) c.tree_of-tree.ensures
-    (c.hears_receiver.ensures c.if-not-hears_receiver.true s arrived.from c.args.self.now.count force) in
-    receiver_makes app s keep others (active_in at tree) arrived.number arrived.from arrived.head.now arrived.payload.now c.args.self.now.count
-    c.in_ok-got.got raises c.args.self.now.socket c.receive.new.self c.args.notes.now c.args.ledger.now course
-    (λ before after. Reached keep others (active_in at tree) c.receive.new.self c.args.notes.now c.args.ledger.now interns interns before.altered after)
-    u c.in_ok-got.ensures.stands c.in_ok-got.ensures.answer refl
-    (phase_silent app s keep others (active_in at tree) interns arrived.number arrived.from raises c.receive.new.self c.args.notes.now c.args.ledger.now silent c.requires.quiet)
+    (c.hears_receiver.ensures c.if-not-hears_receiver.true s arrived.from c.args.self.now.count force) in record {
+      stands = λ others course u.
+          receiver_makes app s keep others (active_in at tree) arrived.number arrived.from arrived.head.now arrived.payload.now c.args.self.now.count
+          c.in_ok-got.got raises c.args.self.now.socket c.receive.new.self c.args.notes.now c.args.ledger.now course
+          (λ before after. Reached keep others (active_in at tree) c.receive.new.self c.args.notes.now c.args.ledger.now interns interns before.altered after)
+          u c.in_ok-got.ensures.stands c.in_ok-got.ensures.answer refl
+          (phase_silent app s keep others (active_in at tree) interns arrived.number arrived.from raises c.receive.new.self c.args.notes.now c.args.ledger.now silent c.requires.quiet);
+    }

@@ -11,7 +11,7 @@ use Rattle.connection_core.proofs.terms.Terms.call.Goals as goal
 
 pub returns-clause-stands : goal.returns-clause-stands
 returns-clause-stands g c =
-    on_ok_weaker c.keep_entry.result (λ entries. λ s list force. record {
+    on_ok_weaker c.keep_entry.result (λ entries. λ list s force. record {
       stands = λ others course u.
           let app = g.A.App.meaning c.args.self.now.app.now in
           let r = c.args.reg.now in

@@ -41,7 +41,7 @@ loop-number-preserved g c =
     let inv = c.loop-number.invariant in record {
       stands = λ s force. calls_on (g.A.App.meaning c.args.self.now.app.now) s c.args.self.now.keep (active_in (told c.args.self.now.in_force) c.args.tree.now) c.args.moment.now.number c.args.moment.now.from (raise_of c.args.moment.now)
           c.args.socket.now c.args.notes.now c.args.ledger.now (to_come c.defs-defs.result.now c.start-walk.result) c.loop-number.socket c.call_number.new.socket c.loop-number.notes c.call_number.new.notes c.loop-number.ledger c.call_number.new.ledger
-          _ _ c.in-Some.number (inv.stands s force) given (c.in_ok-call_number.ensures.stands s _ force);
+          _ _ c.in-Some.number (inv.stands s force) given (c.in_ok-call_number.ensures.stands _ s force);
       callbacks = omega (arith, count, inv.callbacks, c.call_number.ensures.rise.callbacks);
       weight = omega (arith, count, inv.weight, c.call_number.ensures.rise.weight);
       as_far = record {
