@@ -1,6 +1,6 @@
 //! The callbacks of one record.
 
-ghost use Rattle.std.specs.Prelude.{◌≡◌, ◌++◌, ◌∷◌, [], OnOk, OnErr, IfOk};
+ghost use Rattle.std.specs.Prelude.{◌≡◌, ◌<◌, ◌++◌, ◌∷◌, [], vec_len, vec_capacity, OnOk, OnErr, IfOk};
 ghost use Rattle.std.specs.Vec.Iter.{into_iter_items};
 ghost use Rattle.callback_log.specs.Entries.{seen_first, seen_later, seen_kept};
 
@@ -61,7 +61,7 @@ impl CallbackLog {
             hook,
             saw: has_seen(&seen),
         };
-        self.notes.reserve(1)?;
+        make_room(&mut self.notes)?;
         keep_seen(&mut self.peeks, seen)?;
         self.notes.push_reserved(note);
         Ok(())
@@ -87,6 +87,19 @@ impl CallbackLog {
         }
         Ok(EntryList { items })
     }
+}
+
+// Room for one note more. A full list grows by a quarter and four places, not to twice its length: a run keeps a list for each
+// of many records to its end, and most are short.
+fn make_room(notes: &mut Vec<Note>) -> Result<(), AllocError>
+    ensures room { OnOk result (vec_len notes.new < vec_capacity notes.new) }
+    ensures same { notes.new.items ≡ notes.old.items }
+{
+    let len = notes.len();
+    if len < notes.capacity() {
+        return Ok(());
+    }
+    notes.reserve_exact(len / 4 + 4)
 }
 
 // Keeps what a callback saw, if it had a peek.

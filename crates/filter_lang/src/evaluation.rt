@@ -15,7 +15,11 @@ use native_filters::{Facts, NativeBook};
 pub fn eval(e: &Expr, facts: &Facts, natives: &NativeBook) -> bool
     ensures { result ≡ meaning e.now facts.now }
 {
-    truth(e.term(), facts, natives)
+    match e.term() {
+        // Most filters are one comparison, which needs no walk.
+        Term::Cmp(left, op, right) => holds(left, *op, right, facts),
+        term => truth(term, facts, natives),
+    }
 }
 
 // Whether a term is true of the facts.
@@ -28,7 +32,7 @@ fn truth<N: Natives>(term: &Term, facts: &Facts, natives: &N) -> bool
         Term::True => true,
         Term::False => false,
         Term::Native(which) => natives.ask(*which, facts),
-        Term::Cmp(left, op, right) => compare(value(left, facts), *op, value(right, facts)),
+        Term::Cmp(left, op, right) => holds(left, *op, right, facts),
         Term::Not(inner) => !truth(inner, facts, natives),
         Term::And(members) => all_true(&members.items, facts, natives),
         Term::Or(members) => any_true(&members.items, facts, natives),
@@ -61,6 +65,15 @@ fn any_true<N: Natives>(terms: &[Term], facts: &Facts, natives: &N) -> bool
         }
     }
     false
+}
+
+// Whether a comparison is true of the facts.
+fn holds(left: &Sum, op: Op, right: &Sum, facts: &Facts) -> bool
+    requires left { SumIsWithin left.now }
+    requires right { SumIsWithin right.now }
+    ensures { result ≡ compared (sum_value facts.now left.now) op (sum_value facts.now right.now) }
+{
+    compare(value(left, facts), op, value(right, facts))
 }
 
 // The number that a sum makes, from the left.

@@ -4,7 +4,7 @@ use Rattle.callback_log.proofs.log.CallbackLog.push.Goals as goal
 
 kept : (c : goal.After-push_reserved) → Kept c.self.inside.notes.items c.push_reserved.new.self.items c.self.inside.peeks.items c.keep_seen.new.peeks.items c.args.entry
 kept c = record {
-  note = (cc (c.push_reserved.ensures.items, c.reserve.ensures.items, c.has_seen.ensures));
+  note = (cc (c.push_reserved.ensures.items, c.make_room.ensures.same, c.has_seen.ensures));
   seen = c.in_ok-keep_seen.ensures.kept;
 }
 
