@@ -46,6 +46,17 @@ pub struct LaneEnd {
     pub drops: u64,
 }
 
+/// What a lane ends with where no records are made of what it kept.
+#[derive(Debug, Drop)]
+pub struct LaneCounts {
+    /// The number of commands that each record lived under, in order of name.
+    pub versions: Vec<u32>,
+    /// The callbacks of all records.
+    pub callbacks: u64,
+    /// The dropped packets of all records.
+    pub drops: u64,
+}
+
 /// What is left of a lane that goes on no more.
 #[derive(Drop)]
 pub(crate) struct Closed<A> {

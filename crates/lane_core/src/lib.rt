@@ -19,7 +19,7 @@ mod silent;
 mod slot;
 mod world;
 
-pub use end::{LaneEnd, VersionOfList};
+pub use end::{LaneCounts, LaneEnd, VersionOfList};
 pub use errors::LaneError;
 pub use lane::Lane;
 pub use recorder::Recorder;

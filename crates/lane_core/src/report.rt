@@ -1,6 +1,6 @@
-//! The end of a lane that writes its records, without a list of them.
+//! The end of a lane that writes its records, or counts them, without a list of them.
 
-ghost use Rattle.std.specs.Prelude.{◌≡◌, ◌⊎◌, List, IfOk, IsErrOf, Err, None, Some, map, true};
+ghost use Rattle.std.specs.Prelude.{◌≡◌, ◌⊎◌, List, IfOk, OnOk, IsErrOf, Err, None, Some, map, true};
 ghost use Rattle.mos_bytes.specs.Causes.{HasCauseOf};
 ghost use Rattle.mos_bytes.specs.Outside.{Writes};
 ghost use Rattle.mos_bytes.specs.Writes.{WriteAdds};
@@ -8,10 +8,11 @@ ghost use Rattle.report_text.specs.declared.write.TextError.TheVariants.{WriteFa
 ghost use Rattle.report_text.specs.Report.{records_text};
 ghost use Rattle.lane_core.specs.declared.errors.LaneError.{LaneError as Error};
 ghost use Rattle.lane_core.specs.End.{ended};
-ghost use Rattle.lane_core.specs.Lane.{IsHeavyAtEnd};
+ghost use Rattle.lane_core.specs.Lane.{IsCounted, IsHeavyAtEnd};
 ghost use Rattle.lane_core.specs.Report.{end_text, lane_fault};
 ghost use Rattle.lane_core.specs.Run.{LaneEvent, ended_run};
 
+use crate::end::LaneCounts;
 use crate::errors::LaneError;
 use crate::recorder::Recorder;
 use crate::slot::Slot;
@@ -72,8 +73,23 @@ impl From<AllocError> for ReportError {
     }
 }
 
-/// A recorder that can end by writing its records.
+/// A recorder that can end by writing its records, or by counting them.
 pub trait Reporter: Recorder {
+    /// Ends as `finish` does, but makes no records: it answers the version of each in order of name, and what is counted over them.
+    fn count(
+        self,
+        alloc: Global,
+        greatest: Option<Moment>,
+        natives: &NativeBook,
+    ) -> Result<LaneCounts, LaneError>
+        ensures failed { (e : Error) → Self.failed self ≡ Some e → result ≡ Err e }
+        ensures counted { Self.failed self ≡ None → IfOk result (λ end. (events : List LaneEvent) → Self.stands self events
+            → IsCounted (ended_run (Self.app self) events greatest) end.versions.items end.callbacks end.drops) }
+        ensures light { OnOk result (Self.keeps self ≡ true → (events : List LaneEvent) → Self.stands self events
+            → IsHeavyAtEnd (Self.app self) events greatest → ⊥) }
+        ensures heavy { Self.failed self ≡ None → result ≡ Err Error.Heavy → (Self.keeps self ≡ true)
+            × ((events : List LaneEvent) → Self.stands self events → IsHeavyAtEnd (Self.app self) events greatest) };
+
     /// Ends as `finish` does, but writes the report of the records, and answers the version of each in order of name. Nothing
     /// is written before the records are ready, the weight of their callbacks is judged, and there is memory for the versions.
     ///

@@ -21,7 +21,7 @@ use Rattle.lane_core.specs.Sight.{Moment, arrivals}
 use Rattle.lane_core.specs.Records.{VersionedPacket, RecordSoFar, ended_at}
 use Rattle.lane_core.specs.Run.{LaneEvent, ended_run}
 use Rattle.lane_core.specs.Shown.{record_of, callbacks_of, weight}
-use Rattle.lane_core.specs.Lane.{IsEnd, IsHeavyAtEnd, shown}
+use Rattle.lane_core.specs.Lane.{IsCounted, IsHeavyAtEnd}
 use Rattle.lane_core.specs.Report.{end_text, lane_fault}
 use Rattle.lane_core.specs.Laws.{LaterCommandsChangeNone, WeightNeverFalls}
 use Rattle.worker_laws.specs.Greatest.{greatest}
@@ -55,12 +55,12 @@ module _ (app : Meaning) (script : List Stamped) (output : Output) (frames : Lis
         ended_are app script given stands (packets_of script frames) f later last
         ∙ ap (λ l. map (ended_at app (control_at app script) l) (records_so_far app script (packets_of script) frames)) is_last
 
-    -- what the lane ends with are these records
-    pub end_is : (items : List Record) (versions : List (ℕ × ℕ)) (callbacks drops : ℕ) → failed ≡ None
-        → ((events : List LaneEvent) → stands events → IsEnd keep app (ended_run app events last) items versions callbacks drops) → IsEnd keep app rs items versions callbacks drops
-    end_is items versions callbacks drops good end =
+    -- what the lane counts are these records
+    pub counted_is : (versions : List ℕ) (callbacks drops : ℕ) → failed ≡ None
+        → ((events : List LaneEvent) → stands events → IsCounted (ended_run app events last) versions callbacks drops) → IsCounted rs versions callbacks drops
+    counted_is versions callbacks drops good end =
         let f = read.follows good in
-        subst (λ so_far. IsEnd keep app so_far items versions callbacks drops) (at-end f) (end f.events f.stands_for)
+        subst (λ so_far. IsCounted so_far versions callbacks drops) (at-end f) (end f.events f.stands_for)
 
     -- they aren't too heavy
     pub end_is_light : failed ≡ None → keep ≡ not (is_forward output)
@@ -82,36 +82,21 @@ module _ (app : Meaning) (script : List Stamped) (output : Output) (frames : Lis
             over_at_end app script output frames (sym keeps ∙ is.0) (subst (λ so_far. 134217728 < weight so_far) (at-end f) (is.1 f.events f.stands_for))
         by (Some e) bad = heavy_at_end app script falls output frames (read.heavy (λ good. let both = sym bad ∙ good in cc))
 
-  versions-shown : (keep : Bool) (so_far : List RecordSoFar) → map (λ r. r.version) (map (shown keep app) so_far) ≡ versions_of so_far
-  versions-shown keep [] = refl
-  versions-shown keep (r ∷ so_far) = ap (λ l. r.version ∷ l) (versions-shown keep so_far)
-
-  pub versions_are : (keep : Bool) (items : List Record) (versions : List (ℕ × ℕ)) (callbacks drops : ℕ) → IsEnd keep app rs items versions callbacks drops → map (λ r. r.version) items ≡ versions_of rs
-  versions_are keep items versions callbacks drops end = ap (map (λ r. r.version)) end.records_are ∙ versions-shown keep rs
-
-  totals-are : (keep : Bool) (items : List Record) (versions : List (ℕ × ℕ)) (callbacks drops packets len tail : ℕ) → IsEnd keep app rs items versions callbacks drops → length frames ≡ packets → len ≡ length items
+  totals-are : (versions : List ℕ) (callbacks drops packets len tail : ℕ) → IsCounted rs versions callbacks drops → length frames ≡ packets → len ≡ length versions
       → record { packets = packets; records = len; callbacks = callbacks; drops = drops; tail = tail } ≡ totals_of rs (length frames) tail
-  totals-are keep items versions callbacks drops packets len tail end count is_len =
-      let lengths : len ≡ length rs = is_len ∙ ap length end.records_are ∙ length-map rs (shown keep app) in
+  totals-are versions callbacks drops packets len tail counted count is_len =
+      let lengths : len ≡ length rs = is_len ∙ ap length counted.versions_are ∙ length-map rs (λ r. r.version) in
       ap (λ n. record { packets = n; records = len; callbacks = callbacks; drops = drops; tail = tail }) (sym count)
       ∙ ap (λ n. record { packets = length frames; records = n; callbacks = callbacks; drops = drops; tail = tail }) lengths
-      ∙ ap (λ n. record { packets = length frames; records = length rs; callbacks = n; drops = drops; tail = tail }) end.callbacks_are
-      ∙ ap (λ n. record { packets = length frames; records = length rs; callbacks = callbacks_of rs; drops = n; tail = tail }) end.drops_are
+      ∙ ap (λ n. record { packets = length frames; records = length rs; callbacks = n; drops = drops; tail = tail }) counted.callbacks_are
+      ∙ ap (λ n. record { packets = length frames; records = length rs; callbacks = callbacks_of rs; drops = n; tail = tail }) counted.drops_are
 
-  closing-by : (o : Output) (keep : Bool) (items : List Record) (versions : List (ℕ × ℕ)) (callbacks drops : ℕ) (one two : Totals) → keep ≡ not (is_forward o) → IsEnd keep app rs items versions callbacks drops → one ≡ two
-      → closing o items one ≡ closing o (map (record_of app) rs) two
-  closing-by Report keep items versions callbacks drops one two keeps end same =
-      let is = subst (λ b. IsEnd b app rs items versions callbacks drops) keeps end in
-      ap (λ l. report_text l one) is.records_are ∙ ap (report_text (map (record_of app) rs)) same
-  closing-by Forward keep items versions callbacks drops one two keeps end same = refl
-  closing-by (Summary n) keep items versions callbacks drops one two keeps end same = ap (summary_text n) same
-
-  -- what is written of it
-  pub closing_is : (keep : Bool) (items : List Record) (versions : List (ℕ × ℕ)) (callbacks drops packets len tail : ℕ) → keep ≡ not (is_forward output) → IsEnd keep app rs items versions callbacks drops
-      → length frames ≡ packets → len ≡ length items
-      → closing output items (record { packets = packets; records = len; callbacks = callbacks; drops = drops; tail = tail }) ≡ closing output (map (record_of app) rs) (totals_of rs (length frames) tail)
-  closing_is keep items versions callbacks drops packets len tail keeps end count is_len =
-      closing-by output keep items versions callbacks drops _ _ keeps end (totals-are keep items versions callbacks drops packets len tail end count is_len)
+  -- what is written of them
+  pub closing_is : (versions : List ℕ) (callbacks drops packets len tail : ℕ) → IsCounted rs versions callbacks drops → length frames ≡ packets → len ≡ length versions
+      → closing output (map (record_of app) rs) (record { packets = packets; records = len; callbacks = callbacks; drops = drops; tail = tail })
+      ≡ closing output (map (record_of app) rs) (totals_of rs (length frames) tail)
+  closing_is versions callbacks drops packets len tail counted count is_len =
+      ap (closing output (map (record_of app) rs)) (totals-are versions callbacks drops packets len tail counted count is_len)
 
 -- ---- how a run ends
 

@@ -22,7 +22,6 @@ use lane_core::laws::{later_commands_change_none, weight_never_falls};
 use mos_bytes::Sink;
 use report_text::Totals;
 use std::alloc::Global;
-use worker_pool::versions::versions_of;
 
 // Writes what is written at the end of a run without a report: what was made and counted, and nothing where packets were
 // handed on.
@@ -79,16 +78,16 @@ pub(crate) fn close<L: Reporter + Drop, O: Sink>(
         let items = lane.report(alloc, last, plan.natives, packets, tail, out)?;
         return Ok(VersionList { items });
     }
-    let end = lane.finish(alloc, last, plan.natives)?;
-    let records = end.records.as_slice();
+    let end = lane.count(alloc, last, plan.natives)?;
     let totals = Totals {
         packets,
-        records: records.len() as u64,
+        records: end.versions.len() as u64,
         callbacks: end.callbacks,
         drops: end.drops,
         tail,
     };
-    let versions = versions_of(alloc, records)?;
     write_counts(alloc, plan.output, &totals, out)?;
-    Ok(versions)
+    Ok(VersionList {
+        items: end.versions,
+    })
 }

@@ -11,7 +11,7 @@ ghost use Rattle.lane_core.specs.Records.{open_at};
 ghost use Rattle.lane_core.specs.Run.{LaneEvent, ended_run, lane_run};
 
 use crate::closing::close;
-use crate::end::{Closed, LaneEnd, records_of, versions_of};
+use crate::end::{Closed, LaneCounts, LaneEnd, records_of, versions_of};
 use crate::errors::LaneError;
 use crate::kept::Kept;
 use crate::lane::Lane;
@@ -199,6 +199,20 @@ impl<A: App + Drop, F: Forests + Drop> Recorder for Lane<A, F> {
 }
 
 impl<A: App + Drop, F: Forests + Drop> Reporter for Lane<A, F> {
+    fn count(
+        self,
+        alloc: Global,
+        greatest: Option<Moment>,
+        natives: &NativeBook,
+    ) -> Result<LaneCounts, LaneError> {
+        let closed = self.closed(alloc, greatest, natives)?;
+        Ok(LaneCounts {
+            versions: version_of_each(alloc, &closed.slots)?,
+            callbacks: closed.callbacks,
+            drops: closed.drops,
+        })
+    }
+
     fn report<O: Sink>(
         self,
         alloc: Global,
