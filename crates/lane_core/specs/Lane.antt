@@ -56,11 +56,11 @@ HadFailed failed holds = (e : LaneError) → failed ≡ Some e → holds e
 abbrev pub GoesOn : {L : Type 0} → (L → Option LaneError) → (L → List LaneEvent → Type 0) → L → L → LaneEvent → Type 0
 GoesOn failed stands old new event = failed old ≡ None → ForEvents (stands old) (λ events. stands new (with_event event events))
 
--- a lane keeps entries, and these are too heavy, as it is said of whatever events it stands for
+-- a lane keeps entries, and they are too heavy: `heavy` holds of whatever events it stands for
 abbrev pub KeepsTooMuch : {L : Type 0} → (L → Bool) → (L → Meaning) → (L → List LaneEvent → Type 0) → L → (Meaning → List LaneEvent → Type 0) → Type 0
 KeepsTooMuch keeps app stands lane heavy = (keeps lane ≡ true) × ForEvents (stands lane) (heavy (app lane))
 
--- if it keeps entries, these aren't
+-- if it keeps entries, they aren't
 abbrev pub KeepsWithin : {L : Type 0} → (L → Bool) → (L → Meaning) → (L → List LaneEvent → Type 0) → L → (Meaning → List LaneEvent → Type 0) → Type 0
 KeepsWithin keeps app stands lane heavy = keeps lane ≡ true → ForEvents (stands lane) (λ events. heavy (app lane) events → ⊥)
 

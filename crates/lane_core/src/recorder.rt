@@ -1,6 +1,6 @@
 //! What a lane promises.
 
-ghost use Rattle.std.specs.Prelude.{◌≡◌, ◌≢◌, ◌+◌, ◌<◌, ◌↔◌, [], OnOk, OnErr, IfOk, IfErr, IsTrue, Err, Some, None, true};
+ghost use Rattle.std.specs.Prelude.{◌≡◌, ◌≢◌, ◌+◌, ◌<◌, ◌↔◌, [], OnOk, OnErr, IfOk, IfErr, IsTrue, Err, Some, None};
 ghost use Rattle.forest_versions.specs.Lawful.{is_lawful};
 ghost use Rattle.forest_versions.specs.State.{after};
 ghost use Rattle.connection_core.specs.Trees.{InternsWithin};

@@ -91,10 +91,10 @@ pub trait Reporter: Recorder {
         ensures text { Self.failed self ≡ None → ForEvents (Self.stands self) (λ events.
             WriteAdds (O.taken out.old) (O.taken out.new) result
             (end_text (Self.keeps self) (Self.app self) (ended_run (Self.app self) events greatest) packets tail)) }
-        ensures versions { Self.failed self ≡ None → IfOk result (λ versions.
-            ForEvents (Self.stands self) (λ events. versions.items ≡ map (λ r. r.version) (ended_run (Self.app self) events greatest))) }
-        ensures too_heavy { Self.failed self ≡ None → Self.keeps self ≡ true
-            → ForEvents (Self.stands self) (λ events. IsHeavyBy greatest (Self.app self) events
+        ensures versions { Self.failed self ≡ None → IfOk result (λ versions. ForEvents (Self.stands self)
+            (λ events. versions.items ≡ map (λ r. r.version) (ended_run (Self.app self) events greatest))) }
+        ensures too_heavy { Self.failed self ≡ None → Self.keeps self ≡ true → ForEvents (Self.stands self)
+            (λ events. IsHeavyBy greatest (Self.app self) events
             → ((result ≡ Err ReportError.Heavy) ⊎ (result ≡ Err ReportError.NoMemory)) × (out.new ≡ out.old)) }
         ensures heavy { Self.failed self ≡ None → result ≡ Err ReportError.Heavy
             → KeepsTooMuch Self.keeps Self.app Self.stands self (IsHeavyBy greatest) }

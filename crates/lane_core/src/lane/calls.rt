@@ -68,8 +68,8 @@ impl<A: App + Drop, F: Forests + Drop> Lane<A, F> {
             ForEvents (⟦<Lane<A, F> as Recorder>⟧.stands self) (λ events.
             IsClosed self.world.keep (ended_run (A.meaning self.world.app) events greatest)
             closed.slots.items closed.callbacks closed.drops)) }
-        ensures light { OnOk result (self.world.keep ≡ true
-            → ForEvents (⟦<Lane<A, F> as Recorder>⟧.stands self) (λ events. IsHeavyAtEnd (A.meaning self.world.app) events greatest → ⊥)) }
+        ensures light { OnOk result (self.world.keep ≡ true → ForEvents (⟦<Lane<A, F> as Recorder>⟧.stands self)
+            (λ events. IsHeavyAtEnd (A.meaning self.world.app) events greatest → ⊥)) }
         ensures heavy { self.failed ≡ None → result ≡ Err LaneError.Heavy → (self.world.keep ≡ true)
             × ForEvents (⟦<Lane<A, F> as Recorder>⟧.stands self) (IsHeavyBy greatest (A.meaning self.world.app)) }
     {
