@@ -1,9 +1,16 @@
 -- Only for proofs: records under way as records of the report.
-use Rattle.std.specs.Prelude.{[], if◌then◌else◌}
+use Rattle.std.specs.Prelude.{ℕ, [], if◌then◌else◌}
+use Rattle.app_api.specs.declared.app.Tally.{Tally}
 use Rattle.app_api.specs.App.{Meaning}
 use Rattle.report_text.specs.declared.record.Record.{Record}
+use Rattle.report_text.specs.declared.record.RecordKind.{RecordKind}
 use Rattle.report_text.specs.Kept.{is_conn}
 use Rattle.lane_core.specs.declared.slot.Slot.{Slot}
+
+-- a record under way of no callback and no dropped packet
+abbrev pub new_slot : ℕ → RecordKind → ℕ → Tally → Slot
+new_slot name kind version tally =
+    record { name = name; kind = kind; version = version; notes = record { tally = tally; entries = [] }; drops = [] }
 
 -- a record under way as it is shown; an orphan has no fields
 abbrev pub ended : Meaning → Slot → Record

@@ -63,6 +63,10 @@ pub record AreKept (keep : Bool) (told : ℕ → ℕ → Option Reg) (content : 
 abbrev pub Keeps : Bool → (ℕ → ℕ → Option Reg) → (Shared → TreeLists) → Kept → List RecordSoFar → Type 0
 Keeps keep told content kept so_far = AreKept keep told content kept.flows kept.slots.items kept.ledger.counts so_far
 
+-- a packet was counted where it was dropped
+abbrev pub CountsDrop : Kept → Kept → Verdict → Type 0
+CountsDrop kept kept_after verdict = kept_after.dropped ≡ kept.dropped + length (drops_of verdict 0)
+
 -- A packet of a number made other records of those that were kept: these are kept after it, its verdict is the one that is due, it is
 -- counted where it was dropped, and each alteration of a private list cost at most one intern.
 pub record Makes (number : ℕ) (so_far after : List RecordSoFar) (due : Verdict)

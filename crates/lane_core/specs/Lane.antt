@@ -1,5 +1,5 @@
 -- What a lane stands for, in terms of its parts.
-use Rattle.std.specs.Prelude.{◌≡◌, ℕ, ◌<◌, Bool, Option, Some, None, List, [], ◌∷◌, ◌++◌, length, map, if◌then◌else◌, zero, suc, ⊤}
+use Rattle.std.specs.Prelude.{◌≡◌, ℕ, ◌<◌, Bool, true, Option, Some, None, List, [], ◌∷◌, ◌++◌, length, map, if◌then◌else◌, zero, suc, ⊤}
 use Rattle.app_api.specs.App.{Meaning}
 use Rattle.app_api.specs.declared.reaction.Verdict.{Verdict}
 use Rattle.shared_forest.specs.declared.store.Shared.{Shared}
@@ -15,7 +15,7 @@ use Rattle.lane_core.specs.declared.errors.LaneError.TheVariants.{Heavy}
 use Rattle.lane_core.specs.declared.kept.Kept.{Kept}
 use Rattle.lane_core.specs.Sight.{Moment, Arrival}
 use Rattle.lane_core.specs.Records.{RecordSoFar, verdict_on}
-use Rattle.lane_core.specs.Run.{LaneEvent, commands_of, control_of, lane_run, ended_run, newest_of}
+use Rattle.lane_core.specs.Run.{LaneEvent, Arrived, commands_of, control_of, lane_run, ended_run, newest_of}
 use Rattle.lane_core.specs.Shown.{record_of, callbacks_of, drops_of, weight}
 use Rattle.lane_core.specs.Kept.{Keeps}
 
@@ -35,6 +35,34 @@ IsHeavy app events = 134217728 < weight (lane_run app events)
 -- the records of a run that goes on no more weigh so much
 abbrev pub IsHeavyAtEnd : Meaning → List LaneEvent → Option Moment → Type 0
 IsHeavyAtEnd app events last = 134217728 < weight (ended_run app events last)
+
+-- with one more packet they weigh so much
+abbrev pub IsHeavyAt : Arrival → Meaning → List LaneEvent → Type 0
+IsHeavyAt a app events = IsHeavy app (with_event (Arrived a) events)
+
+-- they do once each connection has ended that was silent for too long by then
+abbrev pub IsHeavyBy : Option Moment → Meaning → List LaneEvent → Type 0
+IsHeavyBy last app events = IsHeavyAtEnd app events last
+
+-- this holds of whatever events a lane stands for
+abbrev pub ForEvents : (List LaneEvent → Type 0) → (List LaneEvent → Type 0) → Type 0
+ForEvents stands holds = (events : List LaneEvent) → stands events → holds events
+
+-- where a lane had failed, this holds of why it did
+abbrev pub HadFailed : Option LaneError → (LaneError → Type 0) → Type 0
+HadFailed failed holds = (e : LaneError) → failed ≡ Some e → holds e
+
+-- one that hadn't failed went on by an event: whatever it stood for, it stands for with this behind it
+abbrev pub GoesOn : {L : Type 0} → (L → Option LaneError) → (L → List LaneEvent → Type 0) → L → L → LaneEvent → Type 0
+GoesOn failed stands old new event = failed old ≡ None → ForEvents (stands old) (λ events. stands new (with_event event events))
+
+-- a lane keeps entries, and they are too heavy: `heavy` holds of whatever events it stands for
+abbrev pub KeepsTooMuch : {L : Type 0} → (L → Bool) → (L → Meaning) → (L → List LaneEvent → Type 0) → L → (Meaning → List LaneEvent → Type 0) → Type 0
+KeepsTooMuch keeps app stands lane heavy = (keeps lane ≡ true) × ForEvents (stands lane) (heavy (app lane))
+
+-- if it keeps entries, they aren't
+abbrev pub KeepsWithin : {L : Type 0} → (L → Bool) → (L → Meaning) → (L → List LaneEvent → Type 0) → L → (Meaning → List LaneEvent → Type 0) → Type 0
+KeepsWithin keeps app stands lane heavy = keeps lane ≡ true → ForEvents (stands lane) (λ events. heavy (app lane) events → ⊥)
 
 -- the number of the last packet, from one more than it
 abbrev pub newest_by : ℕ → Option ℕ

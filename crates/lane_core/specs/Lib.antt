@@ -6,9 +6,11 @@ pub mod Laws
 pub mod Places
 pub mod End
 pub mod Trees
+pub mod World
 pub mod Steps
 pub mod Silences
 pub mod Kept
+pub mod Packets
 pub mod Closing
 pub mod Lane
 pub mod Report

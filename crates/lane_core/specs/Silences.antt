@@ -1,5 +1,5 @@
 -- Only for proofs: what silence does to an open connection, to its record under way and to the table of open connections.
-use Rattle.std.specs.Prelude.{◌≡◌, ℕ, Bool, true, false, Option, Some, None, List, if◌then◌else◌, slice_set, get_or, ⊤}
+use Rattle.std.specs.Prelude.{◌≡◌, ℕ, Bool, true, false, ◌&&◌, Option, Some, None, List, if◌then◌else◌, slice_set, get_or, ⊤}
 use Rattle.native_filters.specs.declared.facts.Hook.TheVariants.{Rcv}
 use Rattle.native_filters.specs.Facts.{no_facts}
 use Rattle.flow_table.specs.Key.{EndpointPair, same_key}
@@ -46,6 +46,10 @@ IsGone m now (Some conn) = IsSilent m conn now true
 -- a connection was taken from the table
 abbrev pub IsTaken : Flows Connection → Flows Connection → EndpointPair → Type 0
 IsTaken old new key = (other : EndpointPair) → found new other ≡ (if same_key key other then None else found old other)
+
+-- where this is true, the table has this for a key, and all else is as it was
+abbrev pub IsPutWhere : Bool → Flows Connection → Flows Connection → EndpointPair → Option Connection → Type 0
+IsPutWhere is old new key entry = (other : EndpointPair) → found new other ≡ (if is && same_key key other then entry else found old other)
 
 -- a history after its end by idleness
 abbrev pub silent_history : Meaning → ControlState → Connection → Slot → History → History

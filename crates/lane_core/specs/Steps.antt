@@ -21,6 +21,7 @@ use Rattle.lane_core.specs.declared.connection.Connection.{Connection}
 use Rattle.lane_core.specs.declared.slot.Slot.{Slot}
 use Rattle.lane_core.specs.declared.kept.Kept.{Kept}
 use Rattle.lane_core.specs.Sight.{Segment, Moment}
+use Rattle.lane_core.specs.End.{new_slot}
 use Rattle.lane_core.specs.Records.{side_of}
 use Rattle.lane_core.specs.Silences.{IsSilent}
 
@@ -62,6 +63,17 @@ pub record StepCosts (app : Meaning) (keep : Bool) (at : ℕ → Option Reg) (co
   pub interned : (others : Counts) (h : History) → IsConnection keep others at tree conn.flow slot.notes counts h
       → InternsWithin interns interns_after h.altered (stepped app control conn number segment h).altered
 
+-- the same of a step, and of its cost, under whatever the master tells of the connection's version
+abbrev pub IsStepUnder : Meaning → Bool → Versions → TreeLists → TreeLists → Option ℕ → Option ℕ → Connection → Connection → Slot → Slot → Counts → Counts → ℕ → Moment → Segment → Step → Type 0
+IsStepUnder app keep m tree tree_after interns interns_after conn conn_after slot slot_after counts counts_after number moment segment step =
+    (control : ControlState) → Tells m conn.version control
+    → IsStep app keep (told_at m conn.version) control tree tree_after interns interns_after conn conn_after slot slot_after counts counts_after number moment segment step
+
+abbrev pub StepCostsUnder : Meaning → Bool → Versions → TreeLists → Option ℕ → Option ℕ → Connection → Slot → Counts → ℕ → Segment → Type 0
+StepCostsUnder app keep m tree interns interns_after conn slot counts number segment =
+    (control : ControlState) → Tells m conn.version control
+    → StepCosts app keep (told_at m conn.version) control tree interns interns_after conn slot counts number segment
+
 -- a connection's history after the segment that opens it
 abbrev pub opened_by : Meaning → ControlState → ℕ → Segment → History
 opened_by app control number segment =
@@ -89,8 +101,7 @@ pub record Steps (app : Meaning) (keep : Bool) (m : Versions) (content content_a
   pub was : found kept.flows key ≡ Some conn
   pub heard : IsSilent m conn moment false
   pub slot_is : slot ≡ get_or kept.slots.items conn.place slot
-  pub step_is : (control : ControlState) → Tells m conn.version control
-      → IsStep app keep (told_at m conn.version) control (content conn.flow.forest) (content_after conn_after.flow.forest) interns interns_after
+  pub step_is : IsStepUnder app keep m (content conn.flow.forest) (content_after conn_after.flow.forest) interns interns_after
       conn conn_after slot slot_after kept.ledger.counts kept_after.ledger.counts number moment segment step
   pub left : (other : EndpointPair) → found kept_after.flows other ≡ (if same_key key other then Some conn_after else found kept.flows other)
   pub noted : kept_after.slots.items ≡ slice_set kept.slots.items conn.place slot_after
@@ -103,8 +114,7 @@ pub record Failed (app : Meaning) (keep : Bool) (m : Versions) (content : Shared
   pub was : found kept.flows key ≡ Some conn
   pub heard : IsSilent m conn moment false
   pub slot_is : slot ≡ get_or kept.slots.items conn.place slot
-  pub costs : (control : ControlState) → Tells m conn.version control
-      → StepCosts app keep (told_at m conn.version) control (content conn.flow.forest) interns interns_after conn slot kept.ledger.counts number segment
+  pub costs : StepCostsUnder app keep m (content conn.flow.forest) interns interns_after conn slot kept.ledger.counts number segment
 
 -- the open connection of a key, which wasn't silent for too long, made a step, and it was closed where it is over
 pub record Follows (app : Meaning) (keep : Bool) (m : Versions) (content content_after : Shared → TreeLists) (interns interns_after : Option ℕ)
@@ -116,8 +126,7 @@ pub record Follows (app : Meaning) (keep : Bool) (m : Versions) (content content
   pub was : found kept.flows key ≡ Some conn
   pub heard : IsSilent m conn moment false
   pub slot_is : slot ≡ get_or kept.slots.items conn.place slot
-  pub step_is : (control : ControlState) → Tells m conn.version control
-      → IsStep app keep (told_at m conn.version) control (content conn.flow.forest) (content_after conn_after.flow.forest) interns interns_after
+  pub step_is : IsStepUnder app keep m (content conn.flow.forest) (content_after conn_after.flow.forest) interns interns_after
       conn conn_after slot slot_after kept.ledger.counts kept_after.ledger.counts number moment segment step
   pub left : (other : EndpointPair) → found kept_after.flows other ≡ (if same_key key other then (if step.over then None else Some conn_after) else found kept.flows other)
   pub noted : kept_after.slots.items ≡ slice_set kept.slots.items conn.place slot_after
@@ -128,10 +137,9 @@ pub record Opens (app : Meaning) (keep : Bool) (m : Versions) (content_after : S
   pub conn : Connection
   pub slot : Slot
   pub tree : TreeLists
-  pub slot_is : slot ≡ record { name = number; kind = Conn segment.sender segment.receiver; version = m.version; notes = record { tally = app.fresh; entries = [] }; drops = [] }
+  pub slot_is : slot ≡ new_slot number (Conn segment.sender segment.receiver) m.version app.fresh
   pub client : conn.client ≡ segment.sender
   pub version : conn.version ≡ m.version
   pub place_is : conn.place ≡ place
   pub new : IsFlow (told_at m conn.version) tree conn.flow (fresh app m.now)
-  pub step_is : (control : ControlState) → Tells m conn.version control
-      → IsStep app keep (told_at m conn.version) control tree (content_after conn_after.flow.forest) interns interns_after conn conn_after slot slot_after counts counts_after number moment segment step
+  pub step_is : IsStepUnder app keep m tree (content_after conn_after.flow.forest) interns interns_after conn conn_after slot slot_after counts counts_after number moment segment step

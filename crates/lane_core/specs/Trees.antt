@@ -14,6 +14,10 @@ use Rattle.lane_core.specs.declared.connection.Connection.{Connection}
 abbrev pub IsTree : Versions → ℕ → TreeLists → Type 0
 IsTree m version tree = IsForestIn (defs_of m) (told_at m version) tree
 
+-- this holds of each such tree, of any version so far
+abbrev pub ForTrees : Versions → (ℕ → TreeLists → Type 0) → Type 0
+ForTrees m holds = (v : ℕ) (tree : TreeLists) → v ≤ m.version → IsTree m v tree → holds v tree
+
 abbrev pub AllOpen : (Connection → Type 0) → Flows Connection → Type 0
 AllOpen holds flows = (key : EndpointPair) → ForSome (found flows key) holds
 

@@ -5,6 +5,7 @@ ghost use Rattle.flow_table.specs.Table.{found};
 ghost use Rattle.connection_core.specs.Standing.{RiseBy};
 ghost use Rattle.lane_core.specs.Trees.{AreAnswered, AreTrees, ArePlaced};
 ghost use Rattle.lane_core.specs.Silences.{AreOfThese};
+ghost use Rattle.lane_core.specs.World.{Under};
 ghost use Rattle.lane_core.specs.declared.errors.LaneError.TheVariants.{Heavy};
 ghost use Rattle.lane_core.specs.Closing.{is_at, EndsOne, EndsAll, IsTooHeavy};
 
@@ -49,7 +50,7 @@ fn end_one<A: App, F: Forests>(
     requires trees { AreTrees world.now.master (F.content forests.now) kept.old.flows }
     requires callbacks { kept.old.ledger.counts.callbacks < 2 ^ 60 }
     requires weight { kept.old.ledger.counts.weight < 2 ^ 60 }
-    ensures ends { OnOk result (EndsOne (A.meaning world.now.app) world.now.keep world.now.master (F.content forests.now) kept.old kept.new place now) }
+    ensures ends { OnOk result (Under A.meaning world.now EndsOne (F.content forests.now) kept.old kept.new place now) }
     ensures these { AreOfThese kept.old.flows kept.new.flows }
     ensures rise { RiseBy 255 kept.old.ledger.counts kept.new.ledger.counts }
     ensures len { vec_len kept.new.slots ≡ vec_len kept.old.slots }
@@ -92,8 +93,10 @@ fn end_all<A: App, F: Forests>(
     requires few { vec_len kept.old.slots ≤ 1048576 }
     requires callbacks { kept.old.ledger.counts.callbacks < 2 ^ 40 }
     requires weight { kept.old.ledger.counts.weight < 2 ^ 40 }
-    ensures ends { OnOk result (EndsAll (A.meaning world.now.app) world.now.keep world.now.master (F.content forests.now) kept.old kept.new (Some now)) }
-    ensures heavy { result ≡ Err Heavy → IsTooHeavy (A.meaning world.now.app) world.now.keep world.now.master (F.content forests.now) kept.old (Some now) }
+    ensures ends { OnOk result
+        (Under A.meaning world.now EndsAll (F.content forests.now) kept.old kept.new (Some now)) }
+    ensures heavy { result ≡ Err Heavy
+        → Under A.meaning world.now IsTooHeavy (F.content forests.now) kept.old (Some now) }
     ensures dropped { kept.new.dropped ≡ kept.old.dropped }
 {
     for place in 0..kept.slots.len() {
@@ -120,8 +123,9 @@ fn end_by<A: App, F: Forests>(
     requires few { vec_len kept.old.slots ≤ 1048576 }
     requires callbacks { kept.old.ledger.counts.callbacks < 2 ^ 40 }
     requires weight { kept.old.ledger.counts.weight < 2 ^ 40 }
-    ensures ends { OnOk result (EndsAll (A.meaning world.now.app) world.now.keep world.now.master (F.content forests.now) kept.old kept.new last) }
-    ensures heavy { result ≡ Err Heavy → IsTooHeavy (A.meaning world.now.app) world.now.keep world.now.master (F.content forests.now) kept.old last }
+    ensures ends { OnOk result (Under A.meaning world.now EndsAll (F.content forests.now) kept.old kept.new last) }
+    ensures heavy { result ≡ Err Heavy
+        → Under A.meaning world.now IsTooHeavy (F.content forests.now) kept.old last }
     ensures dropped { kept.new.dropped ≡ kept.old.dropped }
 {
     let Some(now) = last else {
@@ -149,9 +153,10 @@ pub(crate) fn close<A: App, F: Forests>(
     requires few { vec_len kept.old.slots ≤ 1048576 }
     requires callbacks { kept.old.ledger.counts.callbacks < 2 ^ 40 }
     requires weight { kept.old.ledger.counts.weight < 2 ^ 40 }
-    ensures ends { OnOk result (EndsAll (A.meaning world.now.app) world.now.keep world.now.master (F.content forests.now) kept.old kept.new last) }
+    ensures ends { OnOk result (Under A.meaning world.now EndsAll (F.content forests.now) kept.old kept.new last) }
     ensures light { OnOk result ((world.now.keep && nat_lt 134217728 kept.new.ledger.counts.weight) ≡ false) }
-    ensures heavy { result ≡ Err Heavy → IsTooHeavy (A.meaning world.now.app) world.now.keep world.now.master (F.content forests.now) kept.old last }
+    ensures heavy { result ≡ Err Heavy
+        → Under A.meaning world.now IsTooHeavy (F.content forests.now) kept.old last }
     ensures dropped { kept.new.dropped ≡ kept.old.dropped }
 {
     end_by(alloc, world, natives, forests, kept, last)?;

@@ -1,14 +1,14 @@
 //! The table of open connections: which one takes a segment, and what becomes of it.
 
-ghost use Rattle.std.specs.Prelude.{◌≡◌, ◌+◌, ◌<◌, ◌≤◌, ◌^◌, ℕ, OnOk, OnErr, IfOk, IfSome, vec_len, Some, None, Ok, not, ◌&&◌, if◌then◌else◌};
-ghost use Rattle.flow_table.specs.Key.{EndpointPair, same_key};
+ghost use Rattle.std.specs.Prelude.{◌≡◌, ◌+◌, ◌<◌, ◌≤◌, ◌^◌, ℕ, OnOk, OnErr, IfOk, IfSome, vec_len, Some, None, Ok, not};
 ghost use Rattle.flow_table.specs.Table.{found};
 ghost use Rattle.shared_forest.specs.Store.{Keeps};
 ghost use Rattle.connection_core.specs.Standing.{RiseBy};
 ghost use Rattle.ip6_views.specs.Seen.{seen};
 ghost use Rattle.lane_core.specs.Trees.{AreAnswered, AreTrees, ArePlaced, AreSince, AreShort};
-ghost use Rattle.lane_core.specs.Silences.{IsGone};
+ghost use Rattle.lane_core.specs.Silences.{IsGone, IsPutWhere};
 ghost use Rattle.lane_core.specs.Steps.{Steps, Follows, Failed};
+ghost use Rattle.lane_core.specs.World.{Under};
 
 use crate::connection::Connection;
 use crate::kept::Kept;
@@ -45,10 +45,10 @@ fn step_flow<A: App, F: Forests>(
     ensures gone { result ≡ Ok None → IsGone world.now.master moment (found kept.old.flows key.now) }
     ensures same { result ≡ Ok None → kept.new ≡ kept.old }
     ensures same_forests { result ≡ Ok None → forests.new ≡ forests.old }
-    ensures some { IfOk result (λ step. IfSome step (λ s. Steps (A.meaning world.now.app) world.now.keep world.now.master
+    ensures some { IfOk result (λ step. IfSome step (λ s. Under A.meaning world.now Steps
         (F.content forests.old) (F.content forests.new) (F.interns forests.old) (F.interns forests.new)
         kept.old kept.new key.now number moment (seen segment.now) s)) }
-    ensures failed { OnErr result (Failed (A.meaning world.now.app) world.now.keep world.now.master
+    ensures failed { OnErr result (Under A.meaning world.now Failed
         (F.content forests.old) (F.interns forests.old) (F.interns forests.new)
         kept.old key.now number moment (seen segment.now)) }
     ensures placed { ArePlaced (vec_len kept.new.slots) kept.new.flows }
@@ -77,7 +77,7 @@ fn step_flow<A: App, F: Forests>(
 
 // Takes the connection of a key from the table where it is over.
 fn settle(flows: &mut FlowTable<Connection>, key: &Key, over: bool)
-    ensures { (other : EndpointPair) → found flows.new other ≡ (if over && same_key key.now other then None else found flows.old other) }
+    ensures { IsPutWhere over flows.old flows.new key.now None }
 {
     if over {
         let _closed = flows.close(key);
@@ -106,10 +106,10 @@ pub(crate) fn follow<A: App, F: Forests>(
     ensures gone { result ≡ Ok None → IsGone world.now.master moment (found kept.old.flows key.now) }
     ensures same { result ≡ Ok None → kept.new ≡ kept.old }
     ensures same_forests { result ≡ Ok None → forests.new ≡ forests.old }
-    ensures some { IfOk result (λ step. IfSome step (λ s. Follows (A.meaning world.now.app) world.now.keep world.now.master
+    ensures some { IfOk result (λ step. IfSome step (λ s. Under A.meaning world.now Follows
         (F.content forests.old) (F.content forests.new) (F.interns forests.old) (F.interns forests.new)
         kept.old kept.new key.now number moment (seen segment.now) s)) }
-    ensures failed { OnErr result (Failed (A.meaning world.now.app) world.now.keep world.now.master
+    ensures failed { OnErr result (Under A.meaning world.now Failed
         (F.content forests.old) (F.interns forests.old) (F.interns forests.new)
         kept.old key.now number moment (seen segment.now)) }
     ensures placed { ArePlaced (vec_len kept.new.slots) kept.new.flows }
@@ -139,7 +139,7 @@ pub(crate) fn keep(
     over: bool,
 ) -> Result<(), AllocError>
     requires absent { found flows.old key ≡ None }
-    ensures left { OnOk result ((other : EndpointPair) → found flows.new other ≡ (if not over && same_key key other then Some conn else found flows.old other)) }
+    ensures left { OnOk result (IsPutWhere (not over) flows.old flows.new key (Some conn)) }
     ensures err { OnErr result (flows.new ≡ flows.old) }
 {
     if over {

@@ -1,18 +1,14 @@
 //! What a packet does to one record: to that of an open connection, of one that it opens, or of its own.
 
 ghost use Rattle.std.specs.Prelude.{◌≡◌, ◌+◌, ◌<◌, ◌≤◌, ◌^◌, IfOk, OnErr};
-ghost use Rattle.shared_forest.specs.Listing.{listing};
 ghost use Rattle.shared_forest.specs.Store.{Keeps};
-ghost use Rattle.event_trees.specs.Edit.{IsForestOf};
 ghost use Rattle.builtin_events.specs.Raised.{raises_of};
-ghost use Rattle.forest_versions.specs.Master.{Tells};
-ghost use Rattle.forest_versions.specs.State.{ControlState, active};
-ghost use Rattle.connection_core.specs.InForce.{told_at};
 ghost use Rattle.connection_core.specs.Standing.{RiseBy};
 ghost use Rattle.connection_core.specs.Trees.{InternsWithin};
 ghost use Rattle.ip6_views.specs.Seen.{seen};
 ghost use Rattle.lane_core.specs.Trees.{IsTree};
-ghost use Rattle.lane_core.specs.Steps.{IsStep, IsLone, Opens, StepCosts, opened_by};
+ghost use Rattle.lane_core.specs.Steps.{IsStepUnder, StepCostsUnder, IsLone, Opens, opened_by};
+ghost use Rattle.lane_core.specs.World.{Under, HoldsTree};
 
 use crate::connection::Connection;
 use crate::sides::side_of;
@@ -69,13 +65,13 @@ pub(crate) fn step_one<A: App, F: Forests>(
     ensures tree { IsTree world.now.master conn.new.version (F.content forests.new conn.new.flow.forest) }
     ensures kept { Keeps F.answered F.content forests.old forests.new }
     ensures rise { RiseBy 3060 ledger.old.counts ledger.new.counts }
-    ensures stands { IfOk result (λ step. (control : ControlState) → Tells world.now.master conn.old.version control
-        → IsStep (A.meaning world.now.app) world.now.keep (told_at world.now.master conn.old.version) control
-        (F.content forests.old conn.old.flow.forest) (F.content forests.new conn.new.flow.forest) (F.interns forests.old) (F.interns forests.new)
+    ensures stands { IfOk result (λ step. Under A.meaning world.now IsStepUnder
+        (F.content forests.old conn.old.flow.forest) (F.content forests.new conn.new.flow.forest)
+        (F.interns forests.old) (F.interns forests.new)
         conn.old conn.new slot.old slot.new ledger.old.counts ledger.new.counts number moment (seen segment.now) step) }
-    ensures costs { OnErr result ((control : ControlState) → Tells world.now.master conn.old.version control
-        → StepCosts (A.meaning world.now.app) world.now.keep (told_at world.now.master conn.old.version) control
-        (F.content forests.old conn.old.flow.forest) (F.interns forests.old) (F.interns forests.new) conn.old slot.old ledger.old.counts number (seen segment.now)) }
+    ensures costs { OnErr result (Under A.meaning world.now StepCostsUnder
+        (F.content forests.old conn.old.flow.forest) (F.interns forests.old) (F.interns forests.new)
+        conn.old slot.old ledger.old.counts number (seen segment.now)) }
 {
     let terms = Terms {
         app: &world.app,
@@ -115,7 +111,7 @@ pub(crate) fn start_one<A: App, F: Forests>(
     segment: &SightTcp<'_>,
 ) -> Result<Opened, AllocError>
     requires answered { F.answered forests.old world.now.master.forest }
-    requires tree { IsForestOf world.now.master.now.defs (active world.now.master.now) (listing (F.content forests.old world.now.master.forest)) }
+    requires tree { HoldsTree world.now.master (F.content forests.old) }
     requires callbacks { ledger.old.counts.callbacks < 2 ^ 60 }
     requires weight { ledger.old.counts.weight < 2 ^ 60 }
     ensures kept { Keeps F.answered F.content forests.old forests.new }
@@ -124,10 +120,13 @@ pub(crate) fn start_one<A: App, F: Forests>(
     ensures version { IfOk result (λ opened. opened.conn.version ≡ world.now.master.version) }
     ensures count { IfOk result (λ opened. opened.conn.flow.count ≤ 1) }
     ensures answered { IfOk result (λ opened. F.answered forests.new opened.conn.flow.forest) }
-    ensures tree { IfOk result (λ opened. IsTree world.now.master opened.conn.version (F.content forests.new opened.conn.flow.forest)) }
-    ensures stands { IfOk result (λ opened. Opens (A.meaning world.now.app) world.now.keep world.now.master (F.content forests.new) (F.interns forests.old) (F.interns forests.new)
+    ensures tree { IfOk result (λ opened.
+        IsTree world.now.master opened.conn.version (F.content forests.new opened.conn.flow.forest)) }
+    ensures stands { IfOk result (λ opened. Under A.meaning world.now Opens
+        (F.content forests.new) (F.interns forests.old) (F.interns forests.new)
         ledger.old.counts ledger.new.counts place number moment (seen segment.now) opened.conn opened.slot opened.step) }
-    ensures interned { InternsWithin (F.interns forests.old) (F.interns forests.new) 0 (opened_by (A.meaning world.now.app) world.now.master.now number (seen segment.now)).altered }
+    ensures interned { InternsWithin (F.interns forests.old) (F.interns forests.new) 0
+        (opened_by (A.meaning world.now.app) world.now.master.now number (seen segment.now)).altered }
 {
     let version = world.master.version();
     let kind = RecordKind::Conn {
@@ -168,11 +167,12 @@ pub(crate) fn lone_at<A: App, F: Forests>(
     ledger: &mut Ledger,
 ) -> Result<Verdict, AllocError>
     requires answered { F.answered forests.now world.now.master.forest }
-    requires tree { IsForestOf world.now.master.now.defs (active world.now.master.now) (listing (F.content forests.now world.now.master.forest)) }
+    requires tree { HoldsTree world.now.master (F.content forests.now) }
     requires callbacks { ledger.old.counts.callbacks < 2 ^ 60 }
     requires weight { ledger.old.counts.weight < 2 ^ 60 }
     ensures rise { RiseBy 1530 ledger.old.counts ledger.new.counts }
-    ensures stands { IfOk result (λ verdict. IsLone (A.meaning world.now.app) world.now.keep world.now.master.now slot.old slot.new ledger.old.counts ledger.new.counts number (raises_of raised) verdict) }
+    ensures stands { IfOk result (λ verdict. Under A.meaning world.now (λ app keep m. IsLone app keep m.now)
+        slot.old slot.new ledger.old.counts ledger.new.counts number (raises_of raised) verdict) }
 {
     let terms = Terms {
         app: &world.app,

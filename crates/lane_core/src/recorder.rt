@@ -1,6 +1,6 @@
 //! What a lane promises.
 
-ghost use Rattle.std.specs.Prelude.{◌≡◌, ◌≢◌, ◌+◌, ◌<◌, ◌↔◌, [], OnOk, OnErr, IfOk, IfErr, IsTrue, Err, Some, None, true};
+ghost use Rattle.std.specs.Prelude.{◌≡◌, ◌≢◌, ◌+◌, ◌<◌, ◌↔◌, [], OnOk, OnErr, IfOk, IfErr, IsTrue, Err, Some, None};
 ghost use Rattle.forest_versions.specs.Lawful.{is_lawful};
 ghost use Rattle.forest_versions.specs.State.{after};
 ghost use Rattle.connection_core.specs.Trees.{InternsWithin};
@@ -8,7 +8,7 @@ ghost use Rattle.shared_forest.specs.Store.{CountsAtMost};
 ghost use Rattle.lane_core.specs.Sight.{arrival_of};
 ghost use Rattle.lane_core.specs.Run.{Gave, Arrived, lane_run, ended_run, newest_of, packets_of};
 ghost use Rattle.lane_core.specs.Shown.{alterations};
-ghost use Rattle.lane_core.specs.Lane.{IsEnd, IsHeavy, IsHeavyAtEnd, IsAfter, next_verdict, with_event};
+ghost use Rattle.lane_core.specs.Lane.{ForEvents, GoesOn, HadFailed, IsEnd, IsHeavyAt, IsHeavyBy, IsAfter, KeepsTooMuch, KeepsWithin, next_verdict, with_event};
 
 use crate::end::LaneEnd;
 use crate::errors::LaneError;
@@ -59,22 +59,22 @@ pub trait Recorder {
     /// An error is want of memory, or that for which the lane failed before. What is in force, the commands so far and the
     /// store's interns are then as before.
     fn command(&mut self, alloc: Global, c: &Command) -> Result<(), LaneError>
-        requires lawful { IsTrue (is_lawful (Self.control self.old) c.now) }
-        requires few { Self.given self.old < 4096 }
-        ensures stands { Self.failed self.old ≡ None → (events : List LaneEvent) → Self.stands self.old events → Self.stands self.new (with_event (Gave c.now) events) }
-        ensures failed_before { (e : Error) → Self.failed self.old ≡ Some e → (result ≡ Err e) × (self.new ≡ self.old) }
-        ensures ok { OnOk result (Self.failed self.new ≡ None) }
-        ensures fails { IfErr result (λ e. Self.failed self.new ≡ Some e) }
-        ensures no_memory { Self.failed self.old ≡ None → IfErr result (λ e. e ≡ Error.NoMemory) }
-        ensures control { OnOk result (Self.control self.new ≡ after (Self.control self.old) c.now) }
-        ensures version { OnOk result (Self.given self.new ≡ Self.given self.old + 1) }
-        ensures control_stays { OnErr result (Self.control self.new ≡ Self.control self.old) }
-        ensures version_stays { OnErr result (Self.given self.new ≡ Self.given self.old) }
-        ensures newest { Self.last self.new ≡ Self.last self.old }
-        ensures app { Self.app self.new ≡ Self.app self.old }
-        ensures keeps { Self.keeps self.new ≡ Self.keeps self.old }
-        ensures interned { CountsAtMost (Self.interns self.old) (Self.interns self.new) }
-        ensures interns_stay { OnErr result (Self.interns self.new ≡ Self.interns self.old) };
+        requires lawful { IsTrue (is_lawful (control self.old) c.now) }
+        requires few { given self.old < 4096 }
+        ensures stands { GoesOn failed stands self.old self.new (Gave c.now) }
+        ensures failed_before { HadFailed (failed self.old) (λ e. (result ≡ Err e) × (self.new ≡ self.old)) }
+        ensures ok { OnOk result (failed self.new ≡ None) }
+        ensures fails { IfErr result (λ e. failed self.new ≡ Some e) }
+        ensures no_memory { failed self.old ≡ None → IfErr result (λ e. e ≡ Error.NoMemory) }
+        ensures control { OnOk result (control self.new ≡ after (control self.old) c.now) }
+        ensures version { OnOk result (given self.new ≡ given self.old + 1) }
+        ensures control_stays { OnErr result (control self.new ≡ control self.old) }
+        ensures version_stays { OnErr result (given self.new ≡ given self.old) }
+        ensures newest { last self.new ≡ last self.old }
+        ensures app { app self.new ≡ app self.old }
+        ensures keeps { keeps self.new ≡ keeps self.old }
+        ensures interned { CountsAtMost (interns self.old) (interns self.new) }
+        ensures interns_stay { OnErr result (interns self.new ≡ interns self.old) };
 
     /// One more packet, of a number above all before. Answers what becomes of it. Where the open connection of its key was
     /// silent for longer than the limit that is in force for it, that has ended before, with its callbacks for the event
@@ -90,43 +90,45 @@ pub trait Recorder {
         frame: &Frame,
         natives: &NativeBook,
     ) -> Result<Verdict, LaneError>
-        requires rising { IsAfter (Self.last self.old) number }
+        requires rising { IsAfter (last self.old) number }
         requires bound { number < 1048576 }
-        ensures stands { Self.failed self.old ≡ None → (events : List LaneEvent) → Self.stands self.old events → Self.stands self.new (with_event (Arrived (arrival_of number frame.now)) events) }
-        ensures failed_before { (e : Error) → Self.failed self.old ≡ Some e → (result ≡ Err e) × (self.new ≡ self.old) }
-        ensures ok { OnOk result (Self.failed self.new ≡ None) }
-        ensures fails { IfErr result (λ e. Self.failed self.new ≡ Some e) }
-        ensures verdict { IfOk result (λ verdict. (events : List LaneEvent) → Self.stands self.old events → verdict ≡ next_verdict (Self.app self.old) events (arrival_of number frame.now)) }
-        ensures light { OnOk result (Self.keeps self.old ≡ true → (events : List LaneEvent) → Self.stands self.old events
-            → IsHeavy (Self.app self.old) (with_event (Arrived (arrival_of number frame.now)) events) → ⊥) }
-        ensures heavy { Self.failed self.old ≡ None → result ≡ Err Error.Heavy → (Self.keeps self.old ≡ true) × ((events : List LaneEvent) → Self.stands self.old events
-            → IsHeavy (Self.app self.old) (with_event (Arrived (arrival_of number frame.now)) events)) }
-        ensures interned { Self.failed self.old ≡ None → (events : List LaneEvent) → Self.stands self.old events → InternsWithin (Self.interns self.old) (Self.interns self.new)
-            (alterations (lane_run (Self.app self.old) events)) (alterations (lane_run (Self.app self.old) (with_event (Arrived (arrival_of number frame.now)) events))) }
-        ensures newest { Self.failed self.old ≡ None → Self.last self.new ≡ Some number }
-        ensures version { Self.given self.new ≡ Self.given self.old }
-        ensures control { Self.control self.new ≡ Self.control self.old }
-        ensures app { Self.app self.new ≡ Self.app self.old }
-        ensures keeps { Self.keeps self.new ≡ Self.keeps self.old };
+        ensures stands { GoesOn failed stands self.old self.new (Arrived (arrival_of number frame.now)) }
+        ensures failed_before { HadFailed (failed self.old) (λ e. (result ≡ Err e) × (self.new ≡ self.old)) }
+        ensures ok { OnOk result (failed self.new ≡ None) }
+        ensures fails { IfErr result (λ e. failed self.new ≡ Some e) }
+        ensures verdict { IfOk result (λ verdict. ForEvents (stands self.old) (λ events.
+            verdict ≡ next_verdict (app self.old) events (arrival_of number frame.now))) }
+        ensures light { OnOk result (KeepsWithin keeps app stands self.old (IsHeavyAt (arrival_of number frame.now))) }
+        ensures heavy { failed self.old ≡ None → result ≡ Err Error.Heavy
+            → KeepsTooMuch keeps app stands self.old (IsHeavyAt (arrival_of number frame.now)) }
+        ensures interned { failed self.old ≡ None → ForEvents (stands self.old) (λ events.
+            InternsWithin (interns self.old) (interns self.new)
+            (alterations (lane_run (app self.old) events))
+            (alterations (lane_run (app self.old) (with_event (Arrived (arrival_of number frame.now)) events)))) }
+        ensures newest { failed self.old ≡ None → last self.new ≡ Some number }
+        ensures version { given self.new ≡ given self.old }
+        ensures control { control self.new ≡ control self.old }
+        ensures app { app self.new ≡ app self.old }
+        ensures keeps { keeps self.new ≡ keeps self.old };
 
     /// The commands so far.
     fn version(&self) -> u32
-        ensures { result ≡ Self.given self.now };
+        ensures { result ≡ given self.now };
 
     /// The number of the last packet of the list for which it stands, that at which it failed included; `None` exactly where
     /// that list has no packet.
     fn newest(&self) -> Option<u64>
-        ensures last { result ≡ Self.last self.now }
-        ensures of_list { (events : List LaneEvent) → Self.stands self.now events → result ≡ newest_of events }
-        ensures none { (events : List LaneEvent) → Self.stands self.now events → (result ≡ None) ↔ (packets_of events ≡ []) };
+        ensures last { result ≡ last self.now }
+        ensures of_list { ForEvents (stands self.now) (λ events. result ≡ newest_of events) }
+        ensures none { ForEvents (stands self.now) (λ events. (result ≡ None) ↔ (packets_of events ≡ [])) };
 
     /// What is in force now, for a record that begins.
     fn in_force(&self) -> &Control
-        ensures { result.now ≡ Self.control self.now };
+        ensures { result.now ≡ control self.now };
 
     /// Whether it failed.
     fn has_failed(&self) -> bool
-        ensures { IsTrue result ↔ (Self.failed self.now ≢ None) };
+        ensures { IsTrue result ↔ (failed self.now ≢ None) };
 
     /// The records, their versions, and what is counted over them. `greatest` is the greatest moment of all packets of the
     /// capture, also of those that other lanes took; `None` where there is no packet. A connection that was silent for too
@@ -140,10 +142,11 @@ pub trait Recorder {
         greatest: Option<Moment>,
         natives: &NativeBook,
     ) -> Result<LaneEnd, LaneError>
-        ensures failed { (e : Error) → Self.failed self ≡ Some e → result ≡ Err e }
-        ensures ended { Self.failed self ≡ None → IfOk result (λ end. (events : List LaneEvent) → Self.stands self events
-            → IsEnd (Self.keeps self) (Self.app self) (ended_run (Self.app self) events greatest) end.records end.versions end.callbacks end.drops) }
-        ensures light { OnOk result (Self.keeps self ≡ true → (events : List LaneEvent) → Self.stands self events → IsHeavyAtEnd (Self.app self) events greatest → ⊥) }
-        ensures heavy { Self.failed self ≡ None → result ≡ Err Error.Heavy → (Self.keeps self ≡ true)
-            × ((events : List LaneEvent) → Self.stands self events → IsHeavyAtEnd (Self.app self) events greatest) };
+        ensures failed { HadFailed (failed self) (λ e. result ≡ Err e) }
+        ensures ended { failed self ≡ None → IfOk result (λ end. ForEvents (stands self) (λ events.
+            IsEnd (keeps self) (app self) (ended_run (app self) events greatest)
+            end.records end.versions end.callbacks end.drops)) }
+        ensures light { OnOk result (KeepsWithin keeps app stands self (IsHeavyBy greatest)) }
+        ensures heavy { failed self ≡ None → result ≡ Err Error.Heavy
+            → KeepsTooMuch keeps app stands self (IsHeavyBy greatest) };
 }

@@ -1,16 +1,15 @@
 //! The end of a lane that writes its records, or counts them, without a list of them.
 
-ghost use Rattle.std.specs.Prelude.{◌≡◌, ◌⊎◌, List, IfOk, OnOk, IsErrOf, Err, None, Some, map, true};
+ghost use Rattle.std.specs.Prelude.{◌≡◌, ◌⊎◌, IfOk, OnOk, IsErrOf, Err, None, map, true};
 ghost use Rattle.mos_bytes.specs.Causes.{HasCauseOf};
 ghost use Rattle.mos_bytes.specs.Outside.{Writes};
 ghost use Rattle.mos_bytes.specs.Writes.{WriteAdds};
 ghost use Rattle.report_text.specs.declared.write.TextError.TheVariants.{WriteFault as TextFault};
 ghost use Rattle.report_text.specs.Report.{records_text};
-ghost use Rattle.lane_core.specs.declared.errors.LaneError.{LaneError as Error};
 ghost use Rattle.lane_core.specs.End.{ended};
-ghost use Rattle.lane_core.specs.Lane.{IsCounted, IsHeavyAtEnd};
+ghost use Rattle.lane_core.specs.Lane.{ForEvents, HadFailed, IsCounted, IsHeavyBy, KeepsTooMuch, KeepsWithin};
 ghost use Rattle.lane_core.specs.Report.{end_text, lane_fault};
-ghost use Rattle.lane_core.specs.Run.{LaneEvent, ended_run};
+ghost use Rattle.lane_core.specs.Run.{ended_run};
 
 use crate::end::LaneCounts;
 use crate::errors::LaneError;
@@ -82,13 +81,12 @@ pub trait Reporter: Recorder {
         greatest: Option<Moment>,
         natives: &NativeBook,
     ) -> Result<LaneCounts, LaneError>
-        ensures failed { (e : Error) → Self.failed self ≡ Some e → result ≡ Err e }
-        ensures counted { Self.failed self ≡ None → IfOk result (λ end. (events : List LaneEvent) → Self.stands self events
-            → IsCounted (ended_run (Self.app self) events greatest) end.versions.items end.callbacks end.drops) }
-        ensures light { OnOk result (Self.keeps self ≡ true → (events : List LaneEvent) → Self.stands self events
-            → IsHeavyAtEnd (Self.app self) events greatest → ⊥) }
-        ensures heavy { Self.failed self ≡ None → result ≡ Err Error.Heavy → (Self.keeps self ≡ true)
-            × ((events : List LaneEvent) → Self.stands self events → IsHeavyAtEnd (Self.app self) events greatest) };
+        ensures failed { HadFailed (Self.failed self) (λ e. result ≡ Err e) }
+        ensures counted { Self.failed self ≡ None → IfOk result (λ end. ForEvents (Self.stands self) (λ events.
+            IsCounted (ended_run (Self.app self) events greatest) end.versions.items end.callbacks end.drops)) }
+        ensures light { OnOk result (KeepsWithin Self.keeps Self.app Self.stands self (IsHeavyBy greatest)) }
+        ensures heavy { Self.failed self ≡ None → result ≡ Err LaneError.Heavy
+            → KeepsTooMuch Self.keeps Self.app Self.stands self (IsHeavyBy greatest) };
 
     /// Ends as `finish` does, but writes the report of the records, and answers the version of each in order of name. Nothing
     /// is written before the records are ready, the weight of their callbacks is judged, and there is memory for the versions.
@@ -104,15 +102,17 @@ pub trait Reporter: Recorder {
         tail: u32,
         out: &mut O,
     ) -> Result<Vec<u32>, ReportError>
-        ensures failed { (e : Error) → Self.failed self ≡ Some e → (result ≡ Err (lane_fault e)) × (out.new ≡ out.old) }
-        ensures text { Self.failed self ≡ None → (events : List LaneEvent) → Self.stands self events → WriteAdds (O.taken out.old) (O.taken out.new) result
-            (end_text (Self.keeps self) (Self.app self) (ended_run (Self.app self) events greatest) packets tail) }
-        ensures versions { Self.failed self ≡ None → IfOk result (λ versions. (events : List LaneEvent) → Self.stands self events
-            → versions.items ≡ map (λ r. r.version) (ended_run (Self.app self) events greatest)) }
-        ensures too_heavy { Self.failed self ≡ None → Self.keeps self ≡ true → (events : List LaneEvent) → Self.stands self events → IsHeavyAtEnd (Self.app self) events greatest
-            → ((result ≡ Err ReportError.Heavy) ⊎ (result ≡ Err ReportError.NoMemory)) × (out.new ≡ out.old) }
-        ensures heavy { Self.failed self ≡ None → result ≡ Err ReportError.Heavy → (Self.keeps self ≡ true)
-            × ((events : List LaneEvent) → Self.stands self events → IsHeavyAtEnd (Self.app self) events greatest) }
+        ensures failed { HadFailed (Self.failed self) (λ e. (result ≡ Err (lane_fault e)) × (out.new ≡ out.old)) }
+        ensures text { Self.failed self ≡ None → ForEvents (Self.stands self) (λ events.
+            WriteAdds (O.taken out.old) (O.taken out.new) result
+            (end_text (Self.keeps self) (Self.app self) (ended_run (Self.app self) events greatest) packets tail)) }
+        ensures versions { Self.failed self ≡ None → IfOk result (λ versions. ForEvents (Self.stands self)
+            (λ events. versions.items ≡ map (λ r. r.version) (ended_run (Self.app self) events greatest))) }
+        ensures too_heavy { Self.failed self ≡ None → Self.keeps self ≡ true → ForEvents (Self.stands self)
+            (λ events. IsHeavyBy greatest (Self.app self) events
+            → ((result ≡ Err ReportError.Heavy) ⊎ (result ≡ Err ReportError.NoMemory)) × (out.new ≡ out.old)) }
+        ensures heavy { Self.failed self ≡ None → result ≡ Err ReportError.Heavy
+            → KeepsTooMuch Self.keeps Self.app Self.stands self (IsHeavyBy greatest) }
         ensures silent { result ≡ Err ReportError.Heavy → out.new ≡ out.old }
         ensures to { Writes O.Sink out.old out.new (IsErrOf result ReportError.WriteFault) };
 }
@@ -135,7 +135,8 @@ pub(crate) fn write_slots<A: App, O: Sink>(
     out: &mut O,
     slots: &[Slot],
 ) -> Result<(), TextError>
-    ensures text { WriteAdds (O.taken out.old) (O.taken out.new) result (records_text (map (ended (A.meaning app.now)) slots.now)) }
+    ensures text { WriteAdds (O.taken out.old) (O.taken out.new) result
+        (records_text (map (ended (A.meaning app.now)) slots.now)) }
     ensures cause { HasCauseOf (O.faults out.old) (O.faults out.new) (IsErrOf result TextFault) }
     ensures lasts { O.lasting out.new ≡ O.lasting out.old }
 {

@@ -6,6 +6,7 @@ ghost use Rattle.forest_versions.specs.Master.{Tells};
 ghost use Rattle.connection_core.specs.Standing.{RiseBy};
 ghost use Rattle.lane_core.specs.Trees.{AreAnswered, AreTrees, ArePlaced, IsTree};
 ghost use Rattle.lane_core.specs.Silences.{IsSilent, IsHeard, IsTaken, Silenced, Silences, Goes, FailsSilent, AreOfThese, raise_in};
+ghost use Rattle.lane_core.specs.World.{Under};
 
 use crate::connection::Connection;
 use crate::slot::Slot;
@@ -78,7 +79,7 @@ fn call_silent<A: App, F: Forests>(
     requires tree { IsTree world.now.master conn.version (F.content forests.now conn.flow.forest) }
     requires callbacks { ledger.old.counts.callbacks < 2 ^ 60 }
     requires weight { ledger.old.counts.weight < 2 ^ 60 }
-    ensures called { OnOk result (Silenced (A.meaning world.now.app) world.now.keep world.now.master (F.content forests.now conn.flow.forest)
+    ensures called { OnOk result (Under A.meaning world.now Silenced (F.content forests.now conn.flow.forest)
         conn slot.old slot.new ledger.old.counts ledger.new.counts) }
     ensures rise { RiseBy 255 ledger.old.counts ledger.new.counts }
 {
@@ -122,9 +123,11 @@ pub(crate) fn end_silent<A: App, F: Forests>(
     requires trees { AreTrees world.now.master (F.content forests.now) flows.old }
     requires callbacks { ledger.old.counts.callbacks < 2 ^ 60 }
     requires weight { ledger.old.counts.weight < 2 ^ 60 }
-    ensures silences { IfOk result (λ ended. ended ≡ true → Silences (A.meaning world.now.app) world.now.keep world.now.master (F.content forests.now)
+    ensures silences { IfOk result (λ ended. ended ≡ true
+        → Under A.meaning world.now Silences (F.content forests.now)
         flows.old flows.new slots.old slots.new ledger.old.counts ledger.new.counts key.now now) }
-    ensures goes { IfOk result (λ ended. ended ≡ false → Goes world.now.master flows.old flows.new slots.old slots.new ledger.old.counts ledger.new.counts key.now now) }
+    ensures goes { IfOk result (λ ended. ended ≡ false → Goes world.now.master
+        flows.old flows.new slots.old slots.new ledger.old.counts ledger.new.counts key.now now) }
     ensures fails { OnErr result (FailsSilent world.now.master flows.old key.now now) }
     ensures these { AreOfThese flows.old flows.new }
     ensures rise { RiseBy 255 ledger.old.counts ledger.new.counts }

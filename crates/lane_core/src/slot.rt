@@ -1,11 +1,11 @@
 //! Records under way.
 
-ghost use Rattle.std.specs.Prelude.{◌≡◌, ◌++◌, [], OnOk};
+ghost use Rattle.std.specs.Prelude.{◌≡◌, ◌++◌, OnOk};
 ghost use Rattle.app_api.specs.declared.app.Tally.{Tally as TallyOf};
 ghost use Rattle.app_api.specs.App.{Meaning};
 ghost use Rattle.report_text.specs.Kept.{kept_record};
 ghost use Rattle.connection_core.specs.History.{drops_of};
-ghost use Rattle.lane_core.specs.End.{ended};
+ghost use Rattle.lane_core.specs.End.{ended, new_slot};
 
 use app_api::{DropList, Tally, Verdict};
 use connection_core::Notes;
@@ -35,7 +35,7 @@ impl Slot {
         version: u32,
         tally: Tally,
     ) -> Slot
-        ensures { result ≡ record { name = name; kind = kind; version = version; notes = record { tally = tally; entries = [] }; drops = [] } }
+        ensures { result ≡ new_slot name kind version tally }
     {
         Slot {
             name,
@@ -64,7 +64,8 @@ impl Slot {
 
     /// Notes what became of a packet.
     pub(crate) fn note(&mut self, number: u64, verdict: Verdict) -> Result<(), AllocError>
-        ensures noted { OnOk result (self.new ≡ record self.old { drops = self.old.drops ++ drops_of verdict number }) }
+        ensures noted { OnOk result
+            (self.new ≡ record self.old { drops = self.old.drops ++ drops_of verdict number }) }
     {
         match verdict {
             Verdict::Pass => Ok(()),

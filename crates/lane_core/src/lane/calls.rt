@@ -1,14 +1,13 @@
 //! The calls of a lane.
 
-ghost use Rattle.std.specs.Prelude.{◌≡◌, List, [], IfOk, OnOk, Err, None, Some, true};
+ghost use Rattle.std.specs.Prelude.{◌≡◌, [], IfOk, OnOk, Err, None, true};
 ghost use Rattle.std.specs.Option.{option_copied};
 ghost use Rattle.shared_forest.specs.Store.{CountsAtMost};
 ghost use Rattle.forest_versions.specs.State.{start};
-ghost use Rattle.lane_core.specs.declared.errors.LaneError.{LaneError as Error};
 ghost use Rattle.lane_core.specs.Closing.{IsClosed};
-ghost use Rattle.lane_core.specs.Lane.{IsHeavyAtEnd, IsTreeFound};
+ghost use Rattle.lane_core.specs.Lane.{ForEvents, HadFailed, IsHeavyAtEnd, IsHeavyBy, IsTreeFound};
 ghost use Rattle.lane_core.specs.Records.{open_at};
-ghost use Rattle.lane_core.specs.Run.{LaneEvent, ended_run, lane_run};
+ghost use Rattle.lane_core.specs.Run.{ended_run, lane_run};
 
 use crate::closing::close;
 use crate::end::{Closed, LaneCounts, LaneEnd, records_of, versions_of};
@@ -35,11 +34,13 @@ impl<A: App + Drop, F: Forests + Drop> Lane<A, F> {
         ensures stands { IfOk result (λ lane. ⟦<Lane<A, F> as Recorder>⟧.stands lane []) }
         ensures app { IfOk result (λ lane. ⟦<Lane<A, F> as Recorder>⟧.app lane ≡ A.meaning app) }
         ensures keeps { IfOk result (λ lane. ⟦<Lane<A, F> as Recorder>⟧.keeps lane ≡ keep) }
-        ensures control { IfOk result (λ lane. ⟦<Lane<A, F> as Recorder>⟧.control lane ≡ start (A.meaning app).presets) }
+        ensures control { IfOk result (λ lane.
+            ⟦<Lane<A, F> as Recorder>⟧.control lane ≡ start (A.meaning app).presets) }
         ensures given { IfOk result (λ lane. ⟦<Lane<A, F> as Recorder>⟧.given lane ≡ 0) }
         ensures last { IfOk result (λ lane. ⟦<Lane<A, F> as Recorder>⟧.last lane ≡ None) }
         ensures failed { IfOk result (λ lane. ⟦<Lane<A, F> as Recorder>⟧.failed lane ≡ None) }
-        ensures interned { IfOk result (λ lane. CountsAtMost (F.interns forests) (⟦<Lane<A, F> as Recorder>⟧.interns lane)) }
+        ensures interned { IfOk result (λ lane.
+            CountsAtMost (F.interns forests) (⟦<Lane<A, F> as Recorder>⟧.interns lane)) }
     {
         let mut forests = forests;
         let presets = presets_of(alloc, &app)?;
@@ -61,14 +62,16 @@ impl<A: App + Drop, F: Forests + Drop> Lane<A, F> {
         greatest: Option<Moment>,
         natives: &NativeBook,
     ) -> Result<Closed<A>, LaneError>
-        ensures failed { (e : Error) → self.failed ≡ Some e → result ≡ Err e }
+        ensures failed { HadFailed self.failed (λ e. result ≡ Err e) }
         ensures app { IfOk result (λ closed. closed.app ≡ self.world.app) }
-        ensures closed { self.failed ≡ None → IfOk result (λ closed. (events : List LaneEvent) → ⟦<Lane<A, F> as Recorder>⟧.stands self events
-            → IsClosed self.world.keep (ended_run (A.meaning self.world.app) events greatest) closed.slots.items closed.callbacks closed.drops) }
-        ensures light { OnOk result (self.world.keep ≡ true → (events : List LaneEvent) → ⟦<Lane<A, F> as Recorder>⟧.stands self events
-            → IsHeavyAtEnd (A.meaning self.world.app) events greatest → ⊥) }
+        ensures closed { self.failed ≡ None → IfOk result (λ closed.
+            ForEvents (⟦<Lane<A, F> as Recorder>⟧.stands self) (λ events.
+            IsClosed self.world.keep (ended_run (A.meaning self.world.app) events greatest)
+            closed.slots.items closed.callbacks closed.drops)) }
+        ensures light { OnOk result (self.world.keep ≡ true → ForEvents (⟦<Lane<A, F> as Recorder>⟧.stands self)
+            (λ events. IsHeavyAtEnd (A.meaning self.world.app) events greatest → ⊥)) }
         ensures heavy { self.failed ≡ None → result ≡ Err LaneError.Heavy → (self.world.keep ≡ true)
-            × ((events : List LaneEvent) → ⟦<Lane<A, F> as Recorder>⟧.stands self events → IsHeavyAtEnd (A.meaning self.world.app) events greatest) }
+            × ForEvents (⟦<Lane<A, F> as Recorder>⟧.stands self) (IsHeavyBy greatest (A.meaning self.world.app)) }
     {
         let Lane {
             world,
@@ -107,8 +110,10 @@ impl<A: App + Drop, F: Forests + Drop> Lane<A, F> {
     /// The tree by which the registrations of an open connection are called: that of its private list, which other
     /// connections may share. `None` exactly where no connection of the key is open. Of a lane that failed nothing is said.
     pub fn tree_of(&self, key: &Key) -> Option<&Tree>
-        ensures tree { ⟦<Lane<A, F> as Recorder>⟧.failed self.now ≡ None → (events : List LaneEvent) → ⟦<Lane<A, F> as Recorder>⟧.stands self.now events
-            → IsTreeFound (⟦<Lane<A, F> as Recorder>⟧.control self.now).defs (open_at key.now (lane_run (⟦<Lane<A, F> as Recorder>⟧.app self.now) events)) (option_copied result) }
+        ensures tree { ⟦<Lane<A, F> as Recorder>⟧.failed self.now ≡ None
+            → ForEvents (⟦<Lane<A, F> as Recorder>⟧.stands self.now) (λ events.
+            IsTreeFound (⟦<Lane<A, F> as Recorder>⟧.control self.now).defs
+            (open_at key.now (lane_run (⟦<Lane<A, F> as Recorder>⟧.app self.now) events)) (option_copied result)) }
     {
         let conn = self.kept.flows.get(key)?;
         Some(self.forests.tree_of(&conn.flow.forest))

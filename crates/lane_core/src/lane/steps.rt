@@ -1,22 +1,19 @@
 //! What a packet or a command does to a lane that hasn't failed.
 
-ghost use Rattle.std.specs.Prelude.{◌≡◌, ◌+◌, ◌*◌, ◌<◌, ◌≤◌, ◌&&◌, nat_lt, vec_len, ℕ, List, [], ◌∷◌, ◌++◌, length, OnOk, OnErr, IfOk, IfSome, IsTrue, None, Some, Ok, true};
+ghost use Rattle.std.specs.Prelude.{◌≡◌, ◌+◌, ◌*◌, ◌<◌, ◌≤◌, ◌&&◌, nat_lt, vec_len, List, [], OnOk, OnErr, IfOk, IfSome, IsTrue, None, Some, Ok, true};
 ghost use Rattle.std.specs.Option.{option_copied};
 ghost use Rattle.flow_table.specs.Table.{found};
-ghost use Rattle.app_api.specs.declared.registration.Reg.{Reg as RegOf};
 ghost use Rattle.shared_forest.specs.Store.{CountsAtMost};
 ghost use Rattle.forest_versions.specs.Lawful.{is_lawful};
-ghost use Rattle.forest_versions.specs.Master.{StandsFor};
 ghost use Rattle.forest_versions.specs.State.{after};
-ghost use Rattle.forest_versions.specs.declared.command.Command.{Command as CommandOf};
-ghost use Rattle.connection_core.specs.History.{drops_of};
-ghost use Rattle.connection_core.specs.InForce.{told_at};
-ghost use Rattle.lane_core.specs.Sight.{Tcp, Other, arrival_of, key_of_segment};
+ghost use Rattle.lane_core.specs.Sight.{Tcp, Other, arrival_at, arrival_of, key_of_segment};
 ghost use Rattle.ip6_views.specs.Seen.{seen};
 ghost use Rattle.lane_core.specs.Records.{RecordSoFar, opens};
-ghost use Rattle.lane_core.specs.Kept.{Keeps, AddsTo, SetsAmong, SetsStray, CostsAtMost, CostsAmong, EndsSilent, LeavesNone, arrived};
+ghost use Rattle.lane_core.specs.Kept.{SetsStray, EndsSilent, LeavesNone, CountsDrop};
+ghost use Rattle.lane_core.specs.Packets.{segment_at, AddsPacket, PlacesPacket, CostsToAdd, CostsToPlace, KeepsRecords, KeepsAlike};
 ghost use Rattle.lane_core.specs.Silences.{IsGone};
 ghost use Rattle.lane_core.specs.Trees.{AreShort};
+ghost use Rattle.lane_core.specs.World.{Under, TakesCommand};
 
 use crate::command::give_to;
 use crate::errors::LaneError;
@@ -59,10 +56,9 @@ impl<A: App + Drop, F: Forests + Drop> Lane<A, F> {
         requires callbacks { self.old.kept.ledger.counts.callbacks + 3060 ≤ 3315 * self.old.next }
         requires weight { self.old.kept.ledger.counts.weight + 881280 ≤ 954720 * self.old.next }
         requires room { vec_len self.old.kept.slots < self.old.next }
-        ensures stands { IfOk result (λ verdict. SetsAmong (A.meaning self.old.world.app) self.old.world.keep self.old.world.master (arrived self.old.world.master.version number moment (Tcp (seen segment.now)))
-            (F.content self.old.forests) (F.interns self.old.forests) self.old.kept (F.content self.new.forests) (F.interns self.new.forests) self.new.kept verdict) }
-        ensures costs { OnErr result (CostsAmong (A.meaning self.old.world.app) self.old.world.keep self.old.world.master (arrived self.old.world.master.version number moment (Tcp (seen segment.now)))
-            (F.content self.old.forests) self.old.kept (F.interns self.old.forests) (F.interns self.new.forests)) }
+        ensures stands { IfOk result (λ verdict.
+            PlacesPacket A.meaning self.old self.new (segment_at number moment segment.now) verdict) }
+        ensures costs { OnErr result (CostsToPlace A.meaning self.old self.new (segment_at number moment segment.now)) }
         ensures world { self.new.world ≡ self.old.world }
         ensures next { self.new.next ≡ self.old.next }
         ensures failed { self.new.failed ≡ self.old.failed }
@@ -97,8 +93,10 @@ impl<A: App + Drop, F: Forests + Drop> Lane<A, F> {
         requires callbacks { self.old.kept.ledger.counts.callbacks + 3060 ≤ 3315 * self.old.next }
         requires weight { self.old.kept.ledger.counts.weight + 881280 ≤ 954720 * self.old.next }
         requires room { vec_len self.old.kept.slots < self.old.next }
-        ensures stands { IfOk result (λ verdict. SetsStray (A.meaning self.old.world.app) self.old.world.keep self.old.world.master number class (option_copied head.entry)
-            (F.content self.old.forests) (F.interns self.old.forests) self.old.kept (F.content self.new.forests) (F.interns self.new.forests) self.new.kept verdict) }
+        ensures stands { IfOk result (λ verdict.
+            Under A.meaning self.old.world SetsStray number class (option_copied head.entry)
+            (F.content self.old.forests) (F.interns self.old.forests) self.old.kept
+            (F.content self.new.forests) (F.interns self.new.forests) self.new.kept verdict) }
         ensures forests { self.new.forests ≡ self.old.forests }
         ensures world { self.new.world ≡ self.old.world }
         ensures next { self.new.next ≡ self.old.next }
@@ -133,8 +131,10 @@ impl<A: App + Drop, F: Forests + Drop> Lane<A, F> {
         requires gone { IsGone self.old.world.master moment (found self.old.kept.flows key.now) }
         requires callbacks { self.old.kept.ledger.counts.callbacks + 3315 ≤ 3315 * self.old.next }
         requires weight { self.old.kept.ledger.counts.weight + 954720 ≤ 954720 * self.old.next }
-        ensures ends { OnOk result (EndsSilent (A.meaning self.old.world.app) self.old.world.keep self.old.world.master key.now moment (F.content self.old.forests) self.old.kept self.new.kept) }
-        ensures fails { OnErr result (LeavesNone (A.meaning self.old.world.app) self.old.world.keep self.old.world.master key.now moment (F.content self.old.forests) self.old.kept) }
+        ensures ends { OnOk result (Under A.meaning self.old.world EndsSilent key.now moment
+            (F.content self.old.forests) self.old.kept self.new.kept) }
+        ensures fails { OnErr result (Under A.meaning self.old.world LeavesNone key.now moment
+            (F.content self.old.forests) self.old.kept) }
         ensures absent { OnOk result (found self.new.kept.flows key.now ≡ None) }
         ensures callbacks { self.new.kept.ledger.counts.callbacks + 3060 ≤ 3315 * self.old.next }
         ensures weight { self.new.kept.ledger.counts.weight + 881280 ≤ 954720 * self.old.next }
@@ -179,10 +179,9 @@ impl<A: App + Drop, F: Forests + Drop> Lane<A, F> {
         requires callbacks { self.old.kept.ledger.counts.callbacks + 3060 ≤ 3315 * self.old.next }
         requires weight { self.old.kept.ledger.counts.weight + 881280 ≤ 954720 * self.old.next }
         requires room { vec_len self.old.kept.slots < self.old.next }
-        ensures stands { IfOk result (λ verdict. SetsAmong (A.meaning self.old.world.app) self.old.world.keep self.old.world.master (arrived self.old.world.master.version number moment (Tcp (seen segment.now)))
-            (F.content self.old.forests) (F.interns self.old.forests) self.old.kept (F.content self.new.forests) (F.interns self.new.forests) self.new.kept verdict) }
-        ensures costs { OnErr result (CostsAmong (A.meaning self.old.world.app) self.old.world.keep self.old.world.master (arrived self.old.world.master.version number moment (Tcp (seen segment.now)))
-            (F.content self.old.forests) self.old.kept (F.interns self.old.forests) (F.interns self.new.forests)) }
+        ensures stands { IfOk result (λ verdict.
+            PlacesPacket A.meaning self.old self.new (segment_at number moment segment.now) verdict) }
+        ensures costs { OnErr result (CostsToPlace A.meaning self.old self.new (segment_at number moment segment.now)) }
         ensures world { self.new.world ≡ self.old.world }
         ensures next { self.new.next ≡ self.old.next }
         ensures failed { self.new.failed ≡ self.old.failed }
@@ -211,10 +210,9 @@ impl<A: App + Drop, F: Forests + Drop> Lane<A, F> {
         requires callbacks { self.old.kept.ledger.counts.callbacks + 3315 ≤ 3315 * self.old.next }
         requires weight { self.old.kept.ledger.counts.weight + 954720 ≤ 954720 * self.old.next }
         requires room { vec_len self.old.kept.slots < self.old.next }
-        ensures stands { IfOk result (λ verdict. AddsTo (A.meaning self.old.world.app) self.old.world.keep self.old.world.master (arrived self.old.world.master.version number moment (Tcp (seen segment.now)))
-            (F.content self.old.forests) (F.interns self.old.forests) self.old.kept (F.content self.new.forests) (F.interns self.new.forests) self.new.kept verdict) }
-        ensures costs { OnErr result (CostsAtMost (A.meaning self.old.world.app) self.old.world.keep self.old.world.master (arrived self.old.world.master.version number moment (Tcp (seen segment.now)))
-            (F.content self.old.forests) self.old.kept (F.interns self.old.forests) (F.interns self.new.forests)) }
+        ensures stands { IfOk result (λ verdict.
+            AddsPacket A.meaning self.old self.new (segment_at number moment segment.now) verdict) }
+        ensures costs { OnErr result (CostsToAdd A.meaning self.old self.new (segment_at number moment segment.now)) }
         ensures world { self.new.world ≡ self.old.world }
         ensures next { self.new.next ≡ self.old.next }
         ensures failed { self.new.failed ≡ self.old.failed }
@@ -242,10 +240,9 @@ impl<A: App + Drop, F: Forests + Drop> Lane<A, F> {
         ensures gone { result ≡ Ok None → IsGone self.old.world.master moment (found self.old.kept.flows key.now) }
         ensures same { result ≡ Ok None → self.new.kept ≡ self.old.kept }
         ensures same_forests { result ≡ Ok None → self.new.forests ≡ self.old.forests }
-        ensures stands { IfOk result (λ found. IfSome found (λ verdict. AddsTo (A.meaning self.old.world.app) self.old.world.keep self.old.world.master (arrived self.old.world.master.version number moment (Tcp (seen segment.now)))
-            (F.content self.old.forests) (F.interns self.old.forests) self.old.kept (F.content self.new.forests) (F.interns self.new.forests) self.new.kept verdict)) }
-        ensures costs { OnErr result (CostsAtMost (A.meaning self.old.world.app) self.old.world.keep self.old.world.master (arrived self.old.world.master.version number moment (Tcp (seen segment.now)))
-            (F.content self.old.forests) self.old.kept (F.interns self.old.forests) (F.interns self.new.forests)) }
+        ensures stands { IfOk result (λ found. IfSome found (λ verdict.
+            AddsPacket A.meaning self.old self.new (segment_at number moment segment.now) verdict)) }
+        ensures costs { OnErr result (CostsToAdd A.meaning self.old self.new (segment_at number moment segment.now)) }
         ensures world { self.new.world ≡ self.old.world }
         ensures next { self.new.next ≡ self.old.next }
         ensures failed { self.new.failed ≡ self.old.failed }
@@ -279,10 +276,9 @@ impl<A: App + Drop, F: Forests + Drop> Lane<A, F> {
     ) -> Result<Verdict, AllocError>
         requires rising { self.old.next ≤ number }
         requires bound { number < 1048576 }
-        ensures stands { IfOk result (λ verdict. AddsTo (A.meaning self.old.world.app) self.old.world.keep self.old.world.master (arrived self.old.world.master.version number moment (Tcp (seen segment.now)))
-            (F.content self.old.forests) (F.interns self.old.forests) self.old.kept (F.content self.new.forests) (F.interns self.new.forests) self.new.kept verdict) }
-        ensures costs { OnErr result (CostsAtMost (A.meaning self.old.world.app) self.old.world.keep self.old.world.master (arrived self.old.world.master.version number moment (Tcp (seen segment.now)))
-            (F.content self.old.forests) self.old.kept (F.interns self.old.forests) (F.interns self.new.forests)) }
+        ensures stands { IfOk result (λ verdict.
+            AddsPacket A.meaning self.old self.new (segment_at number moment segment.now) verdict) }
+        ensures costs { OnErr result (CostsToAdd A.meaning self.old self.new (segment_at number moment segment.now)) }
         ensures world { self.new.world ≡ self.old.world }
         ensures next { self.new.next ≡ number + 1 }
         ensures failed { self.new.failed ≡ self.old.failed }
@@ -308,10 +304,9 @@ impl<A: App + Drop, F: Forests + Drop> Lane<A, F> {
     ) -> Result<Verdict, AllocError>
         requires rising { self.old.next ≤ number }
         requires bound { number < 1048576 }
-        ensures stands { IfOk result (λ verdict. AddsTo (A.meaning self.old.world.app) self.old.world.keep self.old.world.master (arrived self.old.world.master.version number moment (Other class))
-            (F.content self.old.forests) (F.interns self.old.forests) self.old.kept (F.content self.new.forests) (F.interns self.new.forests) self.new.kept verdict) }
-        ensures costs { OnErr result (CostsAtMost (A.meaning self.old.world.app) self.old.world.keep self.old.world.master (arrived self.old.world.master.version number moment (Other class))
-            (F.content self.old.forests) self.old.kept (F.interns self.old.forests) (F.interns self.new.forests)) }
+        ensures stands { IfOk result (λ verdict.
+            AddsPacket A.meaning self.old self.new (arrival_at number moment (Other class)) verdict) }
+        ensures costs { OnErr result (CostsToAdd A.meaning self.old self.new (arrival_at number moment (Other class))) }
         ensures world { self.new.world ≡ self.old.world }
         ensures next { self.new.next ≡ number + 1 }
         ensures failed { self.new.failed ≡ self.old.failed }
@@ -324,8 +319,7 @@ impl<A: App + Drop, F: Forests + Drop> Lane<A, F> {
     // A table that begins its hashes with a seed of the first frame, in place of the one without a connection.
     fn draw_seed(&mut self, alloc: Global, frame: &Frame)
         requires none { self.old.kept.slots.items ≡ [] }
-        ensures stands { (so_far : List RecordSoFar) → Keeps self.old.world.keep (told_at self.old.world.master) (F.content self.old.forests) self.old.kept so_far
-            → Keeps self.old.world.keep (told_at self.old.world.master) (F.content self.old.forests) self.new.kept so_far }
+        ensures stands { KeepsAlike self.old self.new.kept }
         ensures world { self.new.world ≡ self.old.world }
         ensures forests { self.new.forests ≡ self.old.forests }
         ensures next { self.new.next ≡ self.old.next }
@@ -339,8 +333,7 @@ impl<A: App + Drop, F: Forests + Drop> Lane<A, F> {
     // Draws the table's seed before the first record: who sends packets from afar doesn't know the first frame and its time,
     // and so can't choose endpoints that collide.
     fn prepare(&mut self, alloc: Global, frame: &Frame)
-        ensures stands { (so_far : List RecordSoFar) → Keeps self.old.world.keep (told_at self.old.world.master) (F.content self.old.forests) self.old.kept so_far
-            → Keeps self.old.world.keep (told_at self.old.world.master) (F.content self.old.forests) self.new.kept so_far }
+        ensures stands { KeepsAlike self.old self.new.kept }
         ensures world { self.new.world ≡ self.old.world }
         ensures forests { self.new.forests ≡ self.old.forests }
         ensures next { self.new.next ≡ self.old.next }
@@ -363,11 +356,8 @@ impl<A: App + Drop, F: Forests + Drop> Lane<A, F> {
         requires rising { self.old.next ≤ number }
         requires bound { number < 1048576 }
         ensures stands { IfOk result (λ verdict.
-            AddsTo (A.meaning self.old.world.app) self.old.world.keep self.old.world.master (record { version = self.old.world.master.version; arrival = arrival_of number frame.now })
-            (F.content self.old.forests) (F.interns self.old.forests) self.old.kept (F.content self.new.forests) (F.interns self.new.forests) self.new.kept verdict) }
-        ensures costs { OnErr result (
-            CostsAtMost (A.meaning self.old.world.app) self.old.world.keep self.old.world.master (record { version = self.old.world.master.version; arrival = arrival_of number frame.now })
-            (F.content self.old.forests) self.old.kept (F.interns self.old.forests) (F.interns self.new.forests)) }
+            AddsPacket A.meaning self.old self.new (arrival_of number frame.now) verdict) }
+        ensures costs { OnErr result (CostsToAdd A.meaning self.old self.new (arrival_of number frame.now)) }
         ensures world { self.new.world ≡ self.old.world }
         ensures next { self.new.next ≡ number + 1 }
         ensures failed { self.new.failed ≡ self.old.failed }
@@ -386,7 +376,7 @@ impl<A: App + Drop, F: Forests + Drop> Lane<A, F> {
     // Counts a dropped packet.
     fn count(&mut self, verdict: Verdict)
         requires room { self.old.kept.dropped < self.old.next }
-        ensures dropped { self.new.kept.dropped ≡ self.old.kept.dropped + length (drops_of verdict 0) }
+        ensures dropped { CountsDrop self.old.kept self.new.kept verdict }
         ensures kept { self.new.kept ≡ record self.old.kept { dropped = self.new.kept.dropped } }
         ensures world { self.new.world ≡ self.old.world }
         ensures forests { self.new.forests ≡ self.old.forests }
@@ -409,12 +399,9 @@ impl<A: App + Drop, F: Forests + Drop> Lane<A, F> {
         requires rising { self.old.next ≤ number }
         requires bound { number < 1048576 }
         ensures stands { IfOk result (λ verdict.
-            AddsTo (A.meaning self.old.world.app) self.old.world.keep self.old.world.master (record { version = self.old.world.master.version; arrival = arrival_of number frame.now })
-            (F.content self.old.forests) (F.interns self.old.forests) self.old.kept (F.content self.new.forests) (F.interns self.new.forests) self.new.kept verdict) }
-        ensures costs { OnErr result (
-            CostsAtMost (A.meaning self.old.world.app) self.old.world.keep self.old.world.master (record { version = self.old.world.master.version; arrival = arrival_of number frame.now })
-            (F.content self.old.forests) self.old.kept (F.interns self.old.forests) (F.interns self.new.forests)) }
-        ensures dropped { IfOk result (λ verdict. self.new.kept.dropped ≡ self.old.kept.dropped + length (drops_of verdict 0)) }
+            AddsPacket A.meaning self.old self.new (arrival_of number frame.now) verdict) }
+        ensures costs { OnErr result (CostsToAdd A.meaning self.old self.new (arrival_of number frame.now)) }
+        ensures dropped { IfOk result (λ verdict. CountsDrop self.old.kept self.new.kept verdict) }
         ensures world { self.new.world ≡ self.old.world }
         ensures next { self.new.next ≡ number + 1 }
         ensures failed { self.new.failed ≡ self.old.failed }
@@ -449,10 +436,9 @@ impl<A: App + Drop, F: Forests + Drop> Lane<A, F> {
     pub(crate) fn give(&mut self, alloc: Global, c: &Command) -> Result<(), AllocError>
         requires lawful { IsTrue (is_lawful self.old.world.master.now c.now) }
         requires below { self.old.world.master.version < 4096 }
-        ensures stands { (presets : List RegOf) (commands : List CommandOf) → StandsFor self.old.world.master presets commands
-            → OnOk result (StandsFor self.new.world.master presets (commands ++ c.now ∷ [])) }
-        ensures kept { (so_far : List RecordSoFar) → Keeps self.old.world.keep (told_at self.old.world.master) (F.content self.old.forests) self.old.kept so_far
-            → OnOk result (Keeps self.new.world.keep (told_at self.new.world.master) (F.content self.new.forests) self.new.kept so_far) }
+        ensures stands { TakesCommand result self.old.world.master self.new.world.master c.now }
+        ensures kept { (so_far : List RecordSoFar) → KeepsRecords self.old so_far
+            → OnOk result (KeepsRecords self.new so_far) }
         ensures now { OnOk result (self.new.world.master.now ≡ after self.old.world.master.now c.now) }
         ensures version { OnOk result (self.new.world.master.version ≡ self.old.world.master.version + 1) }
         ensures app { self.new.world.app ≡ self.old.world.app }

@@ -1,4 +1,4 @@
-use Rattle.std.proofs.Common.{◌≡◌, sym, subst, arith}
+use Rattle.std.proofs.Common.{sym, subst, arith}
 use Rattle.std.specs.Option.{IfSome}
 use Rattle.shared_forest.specs.Listing.{listing}
 use Rattle.event_trees.specs.Edit.{IsForestOf}
