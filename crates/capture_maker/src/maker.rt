@@ -105,6 +105,8 @@ impl Source for Maker {
     // Nothing is left.
     ghost ended = { λ m. m.left ≡ [] };
 
+    ghost lent = { λ _. [] };
+
     /// Gives the rest of a record, or as much of it as `buf` has room for. It never fails.
     fn read(&mut self, buf: &mut [u8]) -> Result<usize, Failed>
         ensures bound { ReadsAtMost result buf.new }
@@ -136,4 +138,13 @@ impl Source for Maker {
     {
         0
     }
+
+    /// None, as at hand.
+    fn lend(&self) -> &[u8]
+        ensures lent { result.now ≡ [] }
+    {
+        &[]
+    }
+
+    fn pass(&mut self, _count: usize) {}
 }

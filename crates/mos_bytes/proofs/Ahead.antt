@@ -12,6 +12,19 @@ prepend_known-front : (known : Option (List ℕ)) (ahead front rest : List ℕ) 
 prepend_known-front None ahead front rest parts = tt
 prepend_known-front (Some left) ahead front rest parts = ap (λ l. l ++ left) parts ∙ append_assoc front rest left
 
+-- n bytes of a buffer are passed over
+pub ahead_passed : (known : Option (List ℕ)) (n start end : ℕ) (buffer : List ℕ) → n ≤ end - start
+    → Consumes (prepend_known (slice_range buffer start end) known) (prepend_known (slice_range buffer (start + n) end) known) (take n (slice_range buffer start end))
+ahead_passed known n start end buffer within =
+    let ahead = slice_range buffer start end in
+    let left = end - (start + n) in
+    let split : end - start ≡ n + left = omega arith in
+    let rest : drop n ahead ≡ slice_range buffer (start + n) end =
+    ap (λ k. drop n (take k (drop start buffer))) split ∙ drop-take n left (drop start buffer) ∙ ap (take left) (drop-drop n start buffer) in
+    let parts : ahead ≡ take n ahead ++ slice_range buffer (start + n) end =
+    sym (take-append-drop n ahead) ∙ ap (λ l. take n ahead ++ l) rest in
+    prepend_known-front known ahead (take n ahead) (slice_range buffer (start + n) end) parts
+
 -- a read from a buffer, which copies n bytes to the front of another
 pub ahead_read : (known : Option (List ℕ)) (n start end : ℕ) (buffer to behind : List ℕ) → start ≤ end → n ≤ length (slice_range buffer start end)
     → n ≤ end - start → to ≡ take n (slice_range buffer start end) ++ behind
@@ -20,13 +33,7 @@ ahead_read known n start end buffer to behind ordered fits within copied =
     let ahead = slice_range buffer start end in
     let front = take n ahead in
     let put : take n to ≡ front = ap (take n) copied ∙ ap (λ k. take k (front ++ behind)) (sym (length-take-le n ahead fits)) ∙ take-append_seam front behind in
-    let left = end - (start + n) in
-    let split : end - start ≡ n + left = omega arith in
-    let rest : drop n ahead ≡ slice_range buffer (start + n) end =
-    ap (λ k. drop n (take k (drop start buffer))) split ∙ drop-take n left (drop start buffer) ∙ ap (take left) (drop-drop n start buffer) in
-    let parts : ahead ≡ take n to ++ slice_range buffer (start + n) end =
-    sym (take-append-drop n ahead) ∙ ap (λ l. l ++ drop n ahead) (sym put) ∙ ap (λ l. take n to ++ l) rest in
-    prepend_known-front known ahead (take n to) (slice_range buffer (start + n) end) parts
+    subst (Consumes (prepend_known ahead known) (prepend_known (slice_range buffer (start + n) end) known)) (sym put) (ahead_passed known n start end buffer within)
 
 -- a read of the reader itself, with nothing read ahead
 pub direct_read : {E : Type 0} (a b : Option (List ℕ)) (ahead : List ℕ) (result : Result ℕ E) (buf : List ℕ) → ahead ≡ []

@@ -81,6 +81,8 @@ impl Source for MemSource {
     // Nothing is left.
     ghost ended = { λ s. s.left ≡ [] };
 
+    ghost lent = { λ _. [] };
+
     /// Gives as many bytes as `buf` has room for and are left, and no more than a piece. A listed call fails and gives none.
     fn read(&mut self, buf: &mut [u8]) -> Result<usize, Failed>
         ensures bound { ReadsAtMost result buf.new }
@@ -122,4 +124,13 @@ impl Source for MemSource {
     {
         self.bytes.len() - self.place
     }
+
+    /// None: each byte is given by a read, so that the calls which are to fail are met.
+    fn lend(&self) -> &[u8]
+        ensures lent { result.now ≡ [] }
+    {
+        &[]
+    }
+
+    fn pass(&mut self, _count: usize) {}
 }

@@ -105,6 +105,8 @@ impl<R: Read> Source for ReadSource<R> {
 
     ghost ended = { λ _. ⊤ };
 
+    ghost lent = { ahead_of };
+
     /// Gives what was read ahead, or asks the reader once. An error counts one fault more, any other answer none.
     fn read(&mut self, buf: &mut [u8]) -> Result<usize, Failed>
         ensures bound { ReadsAtMost result buf.new }
@@ -140,5 +142,21 @@ impl<R: Read> Source for ReadSource<R> {
         ensures ahead { result ≡ length (ahead_of self.now) }
     {
         self.end - self.start
+    }
+
+    /// What was read ahead.
+    fn lend(&self) -> &[u8]
+        ensures lent { result.now ≡ ahead_of self.now }
+    {
+        &self.buffer[self.start..self.end]
+    }
+
+    /// Passes over bytes that were read ahead.
+    fn pass(&mut self, count: usize)
+        requires within { count ≤ length (ahead_of self.old) }
+        ensures bytes { Consumes (source_left R.remaining self.old) (source_left R.remaining self.new) (take count (ahead_of self.old)) }
+        ensures faults { source_faults self.new ≡ source_faults self.old }
+    {
+        self.start += count;
     }
 }

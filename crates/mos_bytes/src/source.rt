@@ -3,7 +3,7 @@
 ghost use Rattle.std.specs.Prelude.{◌≡◌, ◌+◌, ◌<◌, ◌≤◌, ℕ, List, length, take, IfOk};
 ghost use Rattle.std.specs.declared.option.Option.{Option};
 ghost use Rattle.std.specs.Io.{ReadsAtMost};
-ghost use Rattle.std.specs.Io.KnownBytes.{ReadConsumes};
+ghost use Rattle.std.specs.Io.KnownBytes.{Consumes, ReadConsumes};
 ghost use Rattle.mos_bytes.specs.Causes.{HasCause};
 ghost use Rattle.mos_bytes.specs.Reads.{BeginsWith, FillConsumes, HasAtLeast};
 
@@ -26,6 +26,9 @@ pub trait Source {
     // A source that turns another form into this one has it where the source below has ended and all of that form was accepted.
     ghost ended: { Self → Type 0 };
 
+    // The bytes that it lends.
+    ghost lent: { Self → List ℕ };
+
     /// Puts some of the bytes that are left into the front of `buf`, and answers how many.
     /// It answers 0 only where none is left or `buf` is empty. A call that fails consumes nothing.
     fn read(&mut self, buf: &mut [u8]) -> Result<usize, Failed>
@@ -43,6 +46,17 @@ pub trait Source {
     /// How many bytes are at hand: those that `at_hand` shows, and more behind them where one slice can't show all.
     fn count_at_hand(&self) -> usize
         ensures least { HasAtLeast (left self.now) result };
+
+    /// Bytes at hand that may be used where they stand, and then be passed over in place of a read. None is always an answer.
+    fn lend(&self) -> &[u8]
+        ensures lent { result.now ≡ lent self.now };
+
+    /// Passes over the first `count` of the bytes that it lends, as if a read had given them.
+    fn pass(&mut self, count: usize)
+        requires within { count ≤ length (lent self.old) }
+        ensures bytes { Consumes (left self.old) (left self.new) (take count (lent self.old)) }
+        ensures faults { faults self.new ≡ faults self.old }
+        ensures lasts { lasting self.new ≡ lasting self.old };
 }
 
 /// Reads until `buf` is full or the source ends, and answers how many bytes stand in the front of `buf`:

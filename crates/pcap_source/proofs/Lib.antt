@@ -1,4 +1,5 @@
 pub mod Cuts
 pub mod Longest
 pub mod Opened
+pub mod Lent
 pub mod Steps

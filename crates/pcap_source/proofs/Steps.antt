@@ -1,5 +1,5 @@
 -- What `next` may answer after it has read a head, and then a body.
-use Rattle.std.proofs.Common.{◌≡◌, ◌⊎◌, inl, inr, rules, ℕ, suc, ◌+◌, ◌-◌, ◌<◌, ◌≤◌, List, [], ◌++◌, length, take, drop, None, Some, Ok, Err, refl, sym, ap, subst, ◌∙◌, arith, length-append, length-take-le, take_all}
+use Rattle.std.proofs.Common.{◌≡◌, ◌⊎◌, inl, inr, rules, ℕ, suc, ◌+◌, ◌-◌, ◌<◌, ◌≤◌, List, [], ◌++◌, length, take, drop, None, Some, Ok, Err, refl, sym, ap, subst, ◌∙◌, arith, append_assoc, length-append, length-take-le, take_all}
 use Rattle.std.proofs.Math.Seq.{take-append_seam, drop-append_seam, drop-append-add}
 use Rattle.std.specs.declared.option.Option.{Option}
 use Rattle.std.specs.Io.KnownBytes.{Consumes}
@@ -8,7 +8,7 @@ use Rattle.mos_bytes.specs.Reads.{Fills, FillsPart}
 use Rattle.pcap_source.specs.Captured.{Captured}
 use Rattle.pcap_source.specs.Order.{number_in}
 use Rattle.pcap_source.specs.Capture.{tail, ended, with_frame, record_at, record_of, record_length, captured_length, frames_from}
-use Rattle.pcap_source.specs.Reading.{IsTold, NextGives, reading}
+use Rattle.pcap_source.specs.Reading.{IsRecord, IsTold, NextGives, reading}
 use Rattle.pcap_source.specs.declared.order.Order.{Order}
 use Rattle.pcap_source.specs.declared.capture.Step.TheVariants.{Frame, Tail, End}
 use Rattle.pcap_source.specs.declared.errors.NextError.{NextError}
@@ -168,3 +168,24 @@ pub reads-Frame : (n m : ℕ) (a b d : Option (List ℕ)) (head body : List ℕ)
 reads-Frame n m a b d head body fills full rest all =
     subst (Consumes a d) (ap (λ l. l ++ take m body) (take_all n head full) ∙ ap (λ l. head ++ l) (take_all m body all))
     (Consumes-trans a b d (take n head) (take m body) fills.consumed rest.consumed)
+
+-- the same where head and data were consumed at once
+pub gives-whole : (order : Order) (count offset : ℕ) (a d : Option (List ℕ)) (frame : Captured) → Consumes a d (frame.head ++ frame.bytes) → IsRecord order frame → count < 1048576
+    → NextGives (reading order count offset) (reading order (count + 1) (offset + 16 + length frame.bytes)) a d frame (Ok Frame)
+gives-whole order count offset None d frame consumed is few = tt
+gives-whole order count offset (Some before) None frame consumed is few = absurd consumed
+gives-whole order count offset (Some before) (Some after) frame consumed is few =
+    let head = frame.head in
+    let body = frame.bytes in
+    let first : Fills (Some before) (Some (body ++ after)) 16 head = record {
+      within = omega (arith, is.head);
+      consumed = consumed ∙ append_assoc head body after ∙ ap (λ l. l ++ (body ++ after)) (sym (take_all 16 head (omega (arith, is.head))));
+      short = λ less. absurd (omega (arith, is.head, less));
+    } in
+    let last : Fills (Some (body ++ after)) (Some after) (length body) body = record {
+      within = omega arith;
+      consumed = ap (λ l. l ++ after) (sym (take_all (length body) body (omega arith)));
+      short = λ less. absurd (omega (arith, less));
+    } in
+    subst (λ f. NextGives (reading order count offset) (reading order (count + 1) (offset + 16 + length body)) (Some before) (Some after) f (Ok Frame)) (sym is.whole)
+    (gives-Frame order count offset 16 (length body) (Some before) (Some (body ++ after)) (Some after) head body first is.head (omega arith) few is.told is.bounded last (omega arith))

@@ -1,15 +1,17 @@
 //! Reading a capture front to back.
 
-ghost use Rattle.std.specs.Prelude.{◌≡◌, ◌+◌, ◌*◌, ◌<◌, ◌≤◌, ◌⊎◌, ◌↔◌, ◌++◌, ℕ, List, length, Some, IsTrue, IfOk, OnOk, IfErr, IsErrOf, Err, true, false, ◌≢◌};
+ghost use Rattle.std.specs.Prelude.{◌≡◌, ◌+◌, ◌*◌, ◌<◌, ◌≤◌, ◌⊎◌, ◌↔◌, ◌++◌, ℕ, List, length, take, drop, Some, IsTrue, IfSome, IfOk, OnOk, OnErr, IfErr, IsErrOf, Err, true, false, ◌≢◌};
 ghost use Rattle.std.specs.Io.KnownBytes.{Consumes};
 ghost use Rattle.mos_bytes.specs.Causes.{HasCauseOf};
 ghost use Rattle.mos_bytes.specs.Reads.{Fills, FillsPart};
-ghost use Rattle.pcap_source.specs.Capture.{is_whole};
+ghost use Rattle.pcap_source.specs.Capture.{is_whole, record_of};
+ghost use Rattle.pcap_source.specs.Order.{number_in};
 ghost use Rattle.pcap_source.specs.Reading.{CaptureState, IsRecord, IsTold, NextGives, RefusesAt, reading};
 
 use crate::header::{HEADER, judge_header};
 use crate::{Frame, NextError, OpenError, Order};
 use mos_bytes::{Source, fill};
+use std::alloc::AllocError;
 use std::marker::Model;
 
 /// How many records a capture may have.
@@ -76,7 +78,67 @@ fn read_bytes<S: Source>(
     Ok(fill(source, bytes)?)
 }
 
-// Reads the record at this offset into the frame.
+// How many bytes of data the record at the front of these has, where it stands there whole and has not too many.
+fn whole_data(order: Order, front: &[u8]) -> Option<usize>
+    ensures within { IfSome result (λ count. 16 + count ≤ length front.now) }
+    ensures bounded { IfSome result (λ count. count ≤ 262144) }
+    ensures told { IfSome result (λ count. count ≡ number_in order 4 (drop 8 (take 16 front.now))) }
+{
+    if front.len() < HEAD {
+        return None;
+    }
+    let captured = order.u32_at(&front[..HEAD], 8);
+    if captured > CAPTURED_LIMIT || HEAD + captured as usize > front.len() {
+        return None;
+    }
+    Some(captured as usize)
+}
+
+// Reads the numbers in the frame's head.
+fn read_numbers(order: Order, frame: &mut Frame)
+    ensures { frame.new ≡ record_of order frame.old.head frame.old.bytes }
+{
+    frame.seconds = order.u32_at(&frame.head, 0);
+    frame.fraction = order.u32_at(&frame.head, 4);
+    frame.original = order.u32_at(&frame.head, 12);
+}
+
+// Copies the head and the data at the front of these bytes into the frame.
+fn copy_parts(front: &[u8], captured: usize, frame: &mut Frame) -> Result<(), AllocError>
+    requires within { 16 + captured ≤ length front.now }
+    ensures head { OnOk result (frame.new.head ≡ take 16 front.now) }
+    ensures bytes { OnOk result (frame.new.bytes ≡ take captured (drop 16 front.now)) }
+{
+    let (head, rest) = front.split_at(HEAD);
+    frame.bytes.clear();
+    frame.bytes.extend_from_slice(&rest[..captured])?;
+    frame.head.copy_from_slice(head);
+    Ok(())
+}
+
+// Copies the record at the front of what the source lends into the frame, and passes over it.
+fn copy_record<S: Source>(
+    order: Order,
+    captured: usize,
+    source: &mut S,
+    frame: &mut Frame,
+) -> Result<(), AllocError>
+    requires within { 16 + captured ≤ length (S.lent source.old) }
+    requires bounded { captured ≤ 262144 }
+    requires told { captured ≡ number_in order 4 (drop 8 (take 16 (S.lent source.old))) }
+    ensures whole { OnOk result (IsRecord order frame.new) }
+    ensures consumed { OnOk result (Consumes (S.left source.old) (S.left source.new) (frame.new.head ++ frame.new.bytes)) }
+    ensures stays { OnErr result (source.new ≡ source.old) }
+    ensures faults { S.faults source.new ≡ S.faults source.old }
+    ensures lasts { S.lasting source.new ≡ S.lasting source.old }
+{
+    copy_parts(source.lend(), captured, frame)?;
+    source.pass(HEAD + captured);
+    read_numbers(order, frame);
+    Ok(())
+}
+
+// Reads the record at this offset into the frame: at once where the source lends the whole of it, else its head and then its data.
 fn read_record<S: Source>(
     order: Order,
     count: u32,
@@ -95,6 +157,12 @@ fn read_record<S: Source>(
     ensures cause { HasCauseOf (S.faults source.old) (S.faults source.new) (IsErrOf result NextError.ReadFault) }
     ensures lasts { S.lasting source.new ≡ S.lasting source.old }
 {
+    if count < RECORD_LIMIT {
+        if let Some(captured) = whole_data(order, source.lend()) {
+            copy_record(order, captured, source, frame)?;
+            return Ok(Step::Frame);
+        }
+    }
     let filled = fill(source, &mut frame.head)?;
     if filled == 0 {
         return Ok(Step::End);
@@ -113,9 +181,7 @@ fn read_record<S: Source>(
     if filled < frame.bytes.len() {
         return Ok(Step::Tail((HEAD + filled) as u32));
     }
-    frame.seconds = order.u32_at(&frame.head, 0);
-    frame.fraction = order.u32_at(&frame.head, 4);
-    frame.original = order.u32_at(&frame.head, 12);
+    read_numbers(order, frame);
     Ok(Step::Frame)
 }
 

@@ -1,9 +1,9 @@
 //! The source over a file of either form.
 
-ghost use Rattle.std.specs.Prelude.{◌≡◌, ◌+◌, ◌<◌, ◌≤◌, ℕ, List, [], length, option_map, IfOk};
+ghost use Rattle.std.specs.Prelude.{◌≡◌, ◌+◌, ◌<◌, ◌≤◌, ℕ, List, [], length, take, option_map, IfOk};
 ghost use Rattle.std.proofs.Props.{props};
 ghost use Rattle.std.specs.Io.{ReadsAtMost};
-ghost use Rattle.std.specs.Io.KnownBytes.{ReadConsumes};
+ghost use Rattle.std.specs.Io.KnownBytes.{Consumes, ReadConsumes};
 ghost use Rattle.mos_bytes.specs.Causes.{HasCause};
 ghost use Rattle.mos_bytes.specs.Reads.{BeginsWith, HasAtLeast};
 ghost use Rattle.pcapng_source.specs.Reading.{IsFitting, IsSpent};
@@ -113,7 +113,7 @@ impl<'a, S: Source> AnySource<'a, S> {
 }
 
 impl<'a, S: Source> Source for AnySource<'a, S> {
-    ghost use Rattle.pcapng_source.specs.Sources.{any_ended, any_faults, any_lasting, any_left};
+    ghost use Rattle.pcapng_source.specs.Sources.{any_ended, any_faults, any_lasting, any_left, any_lent};
 
     ghost left = { any_left };
 
@@ -125,6 +125,8 @@ impl<'a, S: Source> Source for AnySource<'a, S> {
     ghost lasting = { any_lasting };
 
     ghost ended = { any_ended };
+
+    ghost lent = { any_lent };
 
     /// Gives bytes that were made or that stand in the file. At a refused block it fails, each time again.
     fn read(&mut self, buf: &mut [u8]) -> Result<usize, Failed>
@@ -165,5 +167,26 @@ impl<'a, S: Source> Source for AnySource<'a, S> {
         }
         let made = self.reader.made();
         made.saturating_add(self.reader.direct(self.source.count_at_hand()))
+    }
+    /// Of a file that is no pcapng file what the source below lends, of any other none.
+    fn lend(&self) -> &[u8]
+        ensures lent { result.now ≡ any_lent self.now }
+    {
+        if self.reader.is_plain() {
+            self.source.lend()
+        } else {
+            &[]
+        }
+    }
+
+    fn pass(&mut self, count: usize)
+        requires within { count ≤ length (any_lent self.old) }
+        ensures bytes { Consumes (any_left self.old) (any_left self.new) (take count (any_lent self.old)) }
+        ensures faults { any_faults self.new ≡ any_faults self.old }
+        ensures lasts { any_lasting self.new ≡ any_lasting self.old }
+    {
+        if self.reader.is_plain() {
+            self.source.pass(count);
+        }
     }
 }

@@ -61,7 +61,7 @@ pub struct WatchedSource<'a, S> {
 }
 
 impl<'a, S: Source> Source for WatchedSource<'a, S> {
-    ghost use Rattle.std.specs.Prelude.{⊤};
+    ghost use Rattle.std.specs.Prelude.{⊤, []};
     ghost use Rattle.std.specs.declared.option.Option.TheVariants.{None};
 
     ghost left = { λ s. None };
@@ -73,6 +73,8 @@ impl<'a, S: Source> Source for WatchedSource<'a, S> {
     ghost lasting = { λ s. tt };
 
     ghost ended = { λ s. S.ended s.below };
+
+    ghost lent = { λ _. [] };
 
     fn read(&mut self, buf: &mut [u8]) -> Result<usize, Failed> {
         self.flow.note_read();
@@ -94,6 +96,12 @@ impl<'a, S: Source> Source for WatchedSource<'a, S> {
         }
         0
     }
+
+    fn lend(&self) -> &[u8] {
+        &[]
+    }
+
+    fn pass(&mut self, _count: usize) {}
 }
 
 // A sink that counts what it gets.

@@ -3,8 +3,13 @@ use Rattle.std.proofs.Common.{◌≡◌, ◌≤◌, ◌<◌, ◌∙◌, Err, len
 use Rattle.std.proofs.lemmas.Result.{err_from_is_err_and}
 use Rattle.pcap_source.specs.Order.{number_in}
 use Rattle.pcap_source.specs.declared.errors.NextError.TheVariants.{ReadFault}
-use Rattle.pcap_source.proofs.Steps.{gives-End, gives-Tail, gives-TooMany, gives-TooLong, gives-cut, gives-Frame, gives-head-fault, gives-body-Err}
+use Rattle.pcap_source.proofs.Steps.{gives-End, gives-Tail, gives-TooMany, gives-TooLong, gives-cut, gives-Frame, gives-head-fault, gives-body-Err, gives-whole}
 use Rattle.pcap_source.proofs.capture.read_record.Goals as goal
+
+pub returns-in-Some-clause-gives : goal.returns-in-Some-clause-gives
+returns-in-Some-clause-gives g c =
+    let copied = c.in_ok-copy_record.ensures in
+    gives-whole c.args.order c.args.count c.args.offset _ _ c.copy_record.new.frame copied.consumed copied.whole (omega arith)
 
 pub returns-then-filled-eq0-clause-gives : goal.returns-then-filled-eq0-clause-gives
 returns-then-filled-eq0-clause-gives g c = gives-End _ _ _ _ _ _ _ _ _ c.in_ok-filled.ensures.bytes (search rules) c.if-filled-eq0.true
@@ -34,12 +39,12 @@ pub returns-clause-gives : goal.returns-clause-gives
 returns-clause-gives g c =
     let sized : length c.read_bytes.new.bytes.items ≡ number_in c.args.order 4 (drop 8 c.fill.new.buf) = c.in_ok-filled-2.ensures.length ∙ c.u32_at-captured.ensures in
     let all : length c.read_bytes.new.bytes.items ≤ c.in_ok-filled-2.filled = omega (arith, c.len.ensures) in
-    rw (c.u32_at-frame-inside.ensures, c.u32_at-frame-inside-2.ensures, c.u32_at-frame-inside-3.ensures)
+    rw (c.read_numbers.ensures)
     (gives-Frame _ _ _ _ _ _ _ _ _ _ c.in_ok-filled.ensures.bytes (search rules) (omega arith) (omega arith) sized (search rules) c.in_ok-filled-2.ensures.ok all)
 
 pub returns-in_err-filled-clause-gives : goal.returns-in_err-filled-clause-gives
 returns-in_err-filled-clause-gives g c =
-    let error = err_from_is_err_and c.from_residual.result c.from_residual.ensures.1 in
+    let error = err_from_is_err_and c.from_residual-in_err-filled.result c.from_residual-in_err-filled.ensures.1 in
     rw (error.1, error.2) (gives-head-fault _ _ _ _ _ _ _ _ c.in_err-filled.ensures.bytes (search rules))
 
 pub returns-in_err-filled-2-clause-gives : goal.returns-in_err-filled-2-clause-gives
