@@ -8,7 +8,7 @@ ghost use Rattle.std.specs.Option.{option_copied};
 ghost use Rattle.app_api.specs.Reg.{reg_of};
 ghost use Rattle.app_api.specs.declared.rule.Rule.{Rule as RuleOf};
 ghost use Rattle.forest_versions.specs.State.{ControlState};
-ghost use Rattle.forest_versions.specs.Timeline.{Line, as_of, IsBefore};
+ghost use Rattle.forest_versions.specs.Timeline.{Line, as_of, unchanged, TakesBack, IsBefore};
 ghost use Rattle.forest_versions.specs.Past.{PastLines, line_of, never, with_reg, noted, AreBefore, IsPastOf};
 
 use crate::checks::find_reg;
@@ -141,7 +141,7 @@ impl Past {
     /// Takes the note of the last command back.
     #[tactic(auto, unfolding(crate::specs::Past::noted))]
     pub(crate) fn take_back(&mut self, c: &Command)
-        ensures { (past : PastLines) (from : ℕ) (rules : List RuleOf) → self.old ≡ noted from rules c.now past → self.new ≡ past }
+        ensures { TakesBack (λ past from rules. noted from rules c.now past) self.old self.new }
     {
         match c {
             Command::Event(_) => {}
@@ -165,7 +165,7 @@ impl Past {
     }
 
     fn take_back_reg(&mut self, number: u8)
-        ensures { (past : PastLines) (from : ℕ) (reg : Option RegOf) → self.old ≡ with_reg past number from reg → self.new ≡ past }
+        ensures { TakesBack (λ past from reg. with_reg past number from reg) self.old self.new }
     {
         let line = &mut self.regs[usize::from(number)];
         line.step_back();
@@ -175,7 +175,8 @@ impl Past {
 // The line of each number before the first command.
 fn first_regs(alloc: Global, regs: &[Reg]) -> Result<Vec<Timeline<Option<Reg>>>, AllocError>
     ensures whole { IfOk result (λ lines. length lines.items ≡ 256) }
-    ensures lines { IfOk result (λ lines. (number : ℕ) → number ≤ 255 → slice_index_or lines.items number never ≡ record { first = reg_of regs.now number; steps = [] }) }
+    ensures lines { IfOk result (λ lines. (number : ℕ) → number ≤ 255
+        → slice_index_or lines.items number never ≡ unchanged (reg_of regs.now number)) }
 {
     let mut lines = Vec::new(alloc);
     for number in 0..=u8::MAX {
