@@ -2,11 +2,9 @@
 //! rules and the limit of idleness. A command adds one change, so the past takes memory by the number of commands; but rules are kept as whole
 //! lists, since they are lent as such.
 
-ghost use Rattle.std.specs.Prelude.{◌≡◌, ◌≤◌, ℕ, [], List, Option, length, slice_index_or, IfOk, OnOk, OnErr};
-ghost use Rattle.app_api.specs.declared.registration.Reg.{Reg as RegOf};
+ghost use Rattle.std.specs.Prelude.{◌≡◌, ◌≤◌, ℕ, Option, length, slice_index_or, IfOk, OnOk, OnErr};
 ghost use Rattle.std.specs.Option.{option_copied};
 ghost use Rattle.app_api.specs.Reg.{reg_of};
-ghost use Rattle.app_api.specs.declared.rule.Rule.{Rule as RuleOf};
 ghost use Rattle.forest_versions.specs.State.{ControlState};
 ghost use Rattle.forest_versions.specs.Timeline.{Line, as_of, unchanged, TakesBack, IsBefore};
 ghost use Rattle.forest_versions.specs.Past.{PastLines, line_of, never, with_reg, noted, AreBefore, IsPastOf};
