@@ -53,7 +53,8 @@ impl Turns {
 
     // The next turn, which is then gone.
     pub(crate) fn take(&mut self) -> Option<Turn>
-        ensures turn { MatchOption result ((self.old ≡ []) × (self.new ≡ [])) (λ turn. self.old ≡ turn ∷ self.new) }
+        ensures turn { MatchOption result ((self.old ≡ []) × (self.new ≡ []))
+            (λ turn. self.old ≡ turn ∷ self.new) }
         ensures bound { IfSome result (λ turn. turn.connection < 100000) }
     {
         let first = GROUP * self.group;

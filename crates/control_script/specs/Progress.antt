@@ -10,3 +10,7 @@ use Rattle.control_script.specs.Order.{commands_of}
 pub record StandsOn (presets : List Reg) (p : Progress) : Type 0 where
   pub control : p.control ≡ control presets (commands_of p.script)
   pub lawful : IsTrue (are_lawful (start presets) (commands_of p.script))
+
+-- true of the presets on which it stands
+abbrev pub OnPresetsOf : Progress → (List Reg → Type 0) → Type 0
+OnPresetsOf p IsSo = (presets : List Reg) → StandsOn presets p → IsSo presets

@@ -1,5 +1,5 @@
 -- The commands of a script, or its first refusal.
-use Rattle.std.specs.Prelude.{ℕ, if◌then◌else◌, nat_le, List, [], ◌∷◌, ◌++◌, length, Option, Some, None, Result, Ok, Err}
+use Rattle.std.specs.Prelude.{◌≢◌, ℕ, if◌then◌else◌, nat_le, List, [], ◌∷◌, ◌++◌, length, Option, Some, None, Result, Ok, Err, IfErr}
 use Rattle.std.specs.List.{list_any, list_all}
 use Rattle.app_api.specs.declared.registration.Reg.{Reg}
 use Rattle.forest_versions.specs.declared.refusal.Refusal.{Refusal}
@@ -7,7 +7,7 @@ use Rattle.forest_versions.specs.declared.refusal.Refusal.TheVariants.{Duplicate
 use Rattle.forest_versions.specs.Lawful.{refusal}
 use Rattle.forest_versions.specs.State.{control}
 use Rattle.control_script.specs.declared.error.ScriptError.{ScriptError}
-use Rattle.control_script.specs.declared.error.ScriptError.TheVariants.{Syntax, Duplicate, NoSuchNumber, TooDeep, TooMany, StampOrder}
+use Rattle.control_script.specs.declared.error.ScriptError.TheVariants.{Syntax, Duplicate, NoSuchNumber, TooDeep, TooMany, StampOrder, NoMemory}
 use Rattle.control_script.specs.declared.stamped.Stamped.{Stamped}
 use Rattle.control_script.specs.Grammar.{line_place, read}
 use Rattle.control_script.specs.Order.{commands_of, is_later}
@@ -52,6 +52,10 @@ then_lines k (Err e) = Err e
 abbrev pub lines_read : List Reg → ℕ → List (List ℕ) → List Stamped → Result (List Stamped) ScriptError
 lines_read presets n [] before = Ok before
 lines_read presets n (l ∷ ls) before = then_lines (lines_read presets (next_line n) ls) (line_read presets n before (without_return l))
+
+-- true of the refusal that is told, where it isn't want of memory
+abbrev pub IfRefused : {T : Type 0} → Result T ScriptError → (ScriptError → Type 0) → Type 0
+IfRefused result IsSo = IfErr result (λ e. e ≢ NoMemory → IsSo e)
 
 -- the script that a text is
 unfoldable pub script : List ℕ → List Reg → Result (List Stamped) ScriptError

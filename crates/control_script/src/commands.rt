@@ -1,9 +1,10 @@
 //! The command of a line.
 
-ghost use Rattle.std.specs.Prelude.{◌≡◌, ◌≢◌, Ok, Err, IfOk, IfErr, IsTrue};
+ghost use Rattle.std.specs.Prelude.{◌≡◌, Ok, Err, IfOk, IsTrue};
 ghost use Rattle.forest_versions.specs.Lawful.{is_within};
 ghost use Rattle.control_script.specs.Grammar.{line_place, command_place};
 ghost use Rattle.control_script.specs.Reader.{reads};
+ghost use Rattle.control_script.specs.Script.{IfRefused};
 
 use crate::error::ScriptError;
 use crate::events::definition;
@@ -21,7 +22,7 @@ const LAST_STAMP: u64 = 4_294_967_295;
 pub(crate) fn command(alloc: Global, words: &mut Words<'_>) -> Result<Stamped, ScriptError>
     ensures ok { IfOk result (λ s. reads words.old line_place ≡ Ok s) }
     ensures within { IfOk result (λ s. IsTrue (is_within s.command)) }
-    ensures err { IfErr result (λ e. e ≢ ScriptError.NoMemory → reads words.old line_place ≡ Err e) }
+    ensures err { IfRefused result (λ e. reads words.old line_place ≡ Err e) }
 {
     if words.is("at") {
         words.advance();
@@ -39,7 +40,7 @@ pub(crate) fn command(alloc: Global, words: &mut Words<'_>) -> Result<Stamped, S
 fn unstamped(alloc: Global, words: &mut Words<'_>, stamp: Stamp) -> Result<Stamped, ScriptError>
     ensures ok { IfOk result (λ s. reads words.old (command_place stamp) ≡ Ok s) }
     ensures within { IfOk result (λ s. IsTrue (is_within s.command)) }
-    ensures err { IfErr result (λ e. e ≢ ScriptError.NoMemory → reads words.old (command_place stamp) ≡ Err e) }
+    ensures err { IfRefused result (λ e. reads words.old (command_place stamp) ≡ Err e) }
 {
     if words.is("event") {
         words.advance();

@@ -1,6 +1,6 @@
 //! The names and numbers of events, and definitions of events.
 
-ghost use Rattle.std.specs.Prelude.{◌≡◌, ◌≢◌, ◌<◌, ◌≤◌, ℕ, None, Ok, Err, IfOk, IfErr, IfSome, IsTrue, length};
+ghost use Rattle.std.specs.Prelude.{◌≡◌, ◌<◌, ◌≤◌, ℕ, None, Ok, Err, IfOk, IfErr, IfSome, IsTrue, length};
 ghost use Rattle.filter_lang.specs.Grammar.{filter};
 ghost use Rattle.filter_lang.specs.Shape.{Shape};
 ghost use Rattle.forest_versions.specs.Lawful.{may_be_event, is_within};
@@ -8,6 +8,7 @@ ghost use Rattle.control_script.specs.declared.stamped.Stamped.{Stamped as Stamp
 ghost use Rattle.control_script.specs.Grammar.{Next, number_place, under_place, defined_next, with_filter};
 ghost use Rattle.control_script.specs.Names.{event_of, begins_with_letter};
 ghost use Rattle.control_script.specs.Reader.{reads, takes, ReadsEvent, RefusesEvent};
+ghost use Rattle.control_script.specs.Script.{IfRefused};
 
 use crate::error::ScriptError;
 use crate::numbers::number_in;
@@ -95,7 +96,8 @@ fn unknown(words: &Words<'_>) -> ScriptError
 // The filter that the text behind the word is.
 fn filter_behind(alloc: Global, words: &Words<'_>) -> Result<Expr, ScriptError>
     ensures ok { IfOk result (λ f. filter words.now.rest.now ≡ Ok f) }
-    ensures err { IfErr result (λ e. e ≢ ScriptError.NoMemory → (make : Shape → StampedOf) → with_filter words.now.line make (filter words.now.rest.now) ≡ Err e) }
+    ensures err { IfRefused result (λ e. (make : Shape → StampedOf)
+        → with_filter words.now.line make (filter words.now.rest.now) ≡ Err e) }
 {
     let line = words.line;
     match from_utf8(words.rest) {
@@ -120,7 +122,7 @@ pub(crate) fn definition(
 ) -> Result<Stamped, ScriptError>
     ensures ok { IfOk result (λ s. reads words.old (number_place 1 255 (under_place stamp)) ≡ Ok s) }
     ensures within { IfOk result (λ s. IsTrue (is_within s.command)) }
-    ensures err { IfErr result (λ e. e ≢ ScriptError.NoMemory → reads words.old (number_place 1 255 (under_place stamp)) ≡ Err e) }
+    ensures err { IfRefused result (λ e. reads words.old (number_place 1 255 (under_place stamp)) ≡ Err e) }
 {
     let number = number(words, 1, 255)?;
     if !words.is("under") {

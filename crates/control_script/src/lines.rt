@@ -1,12 +1,12 @@
 //! The lines of a text.
 
-ghost use Rattle.std.specs.Prelude.{◌≡◌, ◌≢◌, ◌<◌, ◌∷◌, Ok, Err, IfOk, IfErr, IsTrue, length, not};
+ghost use Rattle.std.specs.Prelude.{◌≡◌, ◌<◌, ◌∷◌, Ok, Err, IfOk, IsTrue, length, not};
 ghost use Rattle.std.specs.List.{list_all, find};
 ghost use Rattle.std.specs.Option.{option_copied};
 ghost use Rattle.control_script.specs.Words.{is_blank};
 ghost use Rattle.forest_versions.specs.Lawful.{is_within};
 ghost use Rattle.control_script.specs.Lines.{lines, without_return, is_skipped, is_text};
-ghost use Rattle.control_script.specs.Script.{said};
+ghost use Rattle.control_script.specs.Script.{IfRefused, said};
 
 use crate::commands::command;
 use crate::error::ScriptError;
@@ -64,7 +64,7 @@ fn is_text(line: &[u8]) -> bool
 pub(crate) fn said(alloc: Global, n: u32, line: &[u8]) -> Result<Stamped, ScriptError>
     ensures ok { IfOk result (λ s. said n line.now ≡ Ok s) }
     ensures within { IfOk result (λ s. IsTrue (is_within s.command)) }
-    ensures err { IfErr result (λ e. e ≢ ScriptError.NoMemory → said n line.now ≡ Err e) }
+    ensures err { IfRefused result (λ e. said n line.now ≡ Err e) }
 {
     if !is_text(line) {
         return Err(ScriptError::Syntax(n));

@@ -73,7 +73,8 @@ pub(crate) fn octet(text: &[u8]) -> Option<u32>
 
 /// What stands before the first byte that is this one, and what stands behind it.
 pub(crate) fn cut_at(mark: u8, text: &[u8]) -> Option<(&[u8], &[u8])>
-    ensures { MatchOption result (cut_at mark text.now ≡ None) (λ c. cut_at mark text.now ≡ Some (c.0.now, c.1.now)) }
+    ensures { MatchOption result (cut_at mark text.now ≡ None)
+        (λ c. cut_at mark text.now ≡ Some (c.0.now, c.1.now)) }
 {
     let place = place_of(mark, text);
     if place < text.len() {

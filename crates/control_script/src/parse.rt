@@ -1,11 +1,11 @@
 //! From a text to the script that it is.
 
-ghost use Rattle.std.specs.Prelude.{◌≡◌, ◌≢◌, Ok, IfOk, IfErr, IsTrue, Err};
+ghost use Rattle.std.specs.Prelude.{◌≡◌, Ok, IfOk, IsTrue, Err};
 ghost use Rattle.app_api.specs.Reg.{are_presets};
 ghost use Rattle.forest_versions.specs.Lawful.{are_lawful};
 ghost use Rattle.forest_versions.specs.State.{start};
 ghost use Rattle.control_script.specs.Order.{commands_of};
-ghost use Rattle.control_script.specs.Script.{script};
+ghost use Rattle.control_script.specs.Script.{IfRefused, script};
 
 use crate::error::ScriptError;
 use crate::lines::{first_line, without_return};
@@ -23,7 +23,7 @@ pub fn parse_script(alloc: Global, text: &[u8], presets: &[Reg]) -> Result<Scrip
     requires lawful { IsTrue (are_presets presets.now) }
     ensures ok { IfOk result (λ s. script text.now presets.now ≡ Ok s) }
     ensures lawful { IfOk result (λ s. IsTrue (are_lawful (start presets.now) (commands_of s))) }
-    ensures err { IfErr result (λ e. e ≢ ScriptError.NoMemory → script text.now presets.now ≡ Err e) }
+    ensures err { IfRefused result (λ e. script text.now presets.now ≡ Err e) }
 {
     let mut progress = Progress::new(alloc, presets)?;
     let mut rest = text;

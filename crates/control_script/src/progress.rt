@@ -23,11 +23,10 @@ pub(crate) struct Progress {
 }
 
 impl Progress {
-    ghost use Rattle.std.specs.Prelude.{◌≢◌, List, Ok, Err, OnOk, IfErr};
-    ghost use Rattle.app_api.specs.declared.registration.Reg.{Reg as RegOf};
+    ghost use Rattle.std.specs.Prelude.{Ok, Err, OnOk};
     ghost use Rattle.forest_versions.specs.Lawful.{is_within};
-    ghost use Rattle.control_script.specs.Progress.{StandsOn};
-    ghost use Rattle.control_script.specs.Script.{admitted, line_read};
+    ghost use Rattle.control_script.specs.Progress.{OnPresetsOf, StandsOn};
+    ghost use Rattle.control_script.specs.Script.{IfRefused, admitted, line_read};
 
     /// Before the first line.
     pub(crate) fn new(alloc: Global, presets: &[Reg]) -> Result<Progress, AllocError>
@@ -44,9 +43,11 @@ impl Progress {
 
     /// Reads a line.
     pub(crate) fn line(&mut self, alloc: Global, n: u32, line: &[u8]) -> Result<(), ScriptError>
-        ensures ok { OnOk result ((presets : List RegOf) → StandsOn presets self.old → line_read presets n self.old.script line.now ≡ Ok self.new.script) }
-        ensures stands { OnOk result ((presets : List RegOf) → StandsOn presets self.old → StandsOn presets self.new) }
-        ensures err { IfErr result (λ e. e ≢ ScriptError.NoMemory → (presets : List RegOf) → StandsOn presets self.old → line_read presets n self.old.script line.now ≡ Err e) }
+        ensures ok { OnOk result (OnPresetsOf self.old (λ presets.
+            line_read presets n self.old.script line.now ≡ Ok self.new.script)) }
+        ensures stands { OnOk result (OnPresetsOf self.old (λ presets. StandsOn presets self.new)) }
+        ensures err { IfRefused result (λ e. OnPresetsOf self.old (λ presets.
+            line_read presets n self.old.script line.now ≡ Err e)) }
     {
         if is_skipped(line) {
             return Ok(());
@@ -58,9 +59,11 @@ impl Progress {
     // Adds a command, where it may be given.
     fn admit(&mut self, alloc: Global, n: u32, stamped: Stamped) -> Result<(), ScriptError>
         requires within { IsTrue (is_within stamped.command) }
-        ensures ok { OnOk result ((presets : List RegOf) → StandsOn presets self.old → admitted presets n self.old.script stamped ≡ Ok self.new.script) }
-        ensures stands { OnOk result ((presets : List RegOf) → StandsOn presets self.old → StandsOn presets self.new) }
-        ensures err { IfErr result (λ e. e ≢ ScriptError.NoMemory → (presets : List RegOf) → StandsOn presets self.old → admitted presets n self.old.script stamped ≡ Err e) }
+        ensures ok { OnOk result (OnPresetsOf self.old (λ presets.
+            admitted presets n self.old.script stamped ≡ Ok self.new.script)) }
+        ensures stands { OnOk result (OnPresetsOf self.old (λ presets. StandsOn presets self.new)) }
+        ensures err { IfRefused result (λ e. OnPresetsOf self.old (λ presets.
+            admitted presets n self.old.script stamped ≡ Err e)) }
     {
         if self.script.len() >= COMMANDS {
             return Err(ScriptError::TooMany(n));

@@ -1,9 +1,10 @@
 -- The listing that the tree of a private list has.
-use Rattle.std.specs.Prelude.{ℕ, if◌then◌else◌, List, [], ◌∷◌, ◌++◌, map}
+use Rattle.std.specs.Prelude.{◌≡◌, ℕ, if◌then◌else◌, List, [], ◌∷◌, ◌++◌, map}
 use Rattle.std.specs.Ordering.{is_lt, is_eq}
 use Rattle.app_api.specs.declared.registration.Reg.{Reg}
 use Rattle.shared_forest.specs.declared.node.Slot.{Slot}
-use Rattle.shared_forest.specs.Listing.{Shown}
+use Rattle.shared_forest.specs.Lists.{TreeLists}
+use Rattle.shared_forest.specs.Listing.{Shown, listing}
 use Rattle.event_trees.specs.declared.defs.EventDef.{EventDef}
 use Rattle.event_trees.specs.Defs.{path}
 use Rattle.event_trees.specs.Private.{path_cmp}
@@ -58,6 +59,10 @@ shown_at list paths = map (λ p. record { path = p; slots = slots_at list p }) p
 -- one pair for the empty path and one for each prefix of a path, in order
 unfoldable pub canon_of : List Placed → List Shown
 canon_of list = shown_at list (paths_with ([] ∷ []) list)
+
+-- the tree has these registrations, and the nodes that they need
+abbrev pub IsCanonOf : List Placed → TreeLists → Type 0
+IsCanonOf list tree = listing tree ≡ canon_of list
 
 abbrev pub canon : List EventDef → List Reg → List Shown
 canon defs list = canon_of (placed defs list)

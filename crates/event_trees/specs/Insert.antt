@@ -23,6 +23,10 @@ last_path (top ∷ ns) = end_path [] ns
 abbrev pub IsUpTo : List ℕ → List ℕ → Type 0
 IsUpTo q p = is_gt (path_cmp q p) ≡ false
 
+-- true of each path that is no later than this one and has so many events in common with it
+abbrev pub AfterReached : List ℕ → ℕ → (List ℕ → Type 0) → Type 0
+AfterReached path depth IsSo = (before : List ℕ) → IsUpTo before path → depth ≡ common before path → IsSo before
+
 -- how many nodes have paths that are no later than this, and how many events it has in common with the last of them
 pub record IsReach (nodes : List Node) (path : List ℕ) (node depth : ℕ) : Type 0 where
   pub low : 1 ≤ node

@@ -2,7 +2,8 @@
 use Rattle.std.specs.Prelude.{ℕ, ◌≤◌, List, [], ◌∷◌, ◌++◌, map, length}
 use Rattle.std.specs.List.{AllByRecursion}
 use Rattle.shared_forest.specs.declared.node.Slot.{Slot}
-use Rattle.shared_forest.specs.Listing.{Shown}
+use Rattle.shared_forest.specs.Lists.{TreeLists}
+use Rattle.shared_forest.specs.Listing.{Shown, listing}
 use Rattle.event_trees.specs.Canon.{Placed}
 
 abbrev pub all_at : List ℕ → List Slot → List Placed
@@ -11,6 +12,13 @@ all_at path slots = map (λ slot. record { path = path; slot = slot }) slots
 abbrev pub read_off : List Shown → List Placed
 read_off [] = []
 read_off (s ∷ ss) = all_at s.path s.slots ++ read_off ss
+
+-- the registrations of a tree, each with its path
+abbrev pub placed_in : TreeLists → List Placed
+placed_in tree = read_off (listing tree)
+
+abbrev pub placed_numbers : List Placed → List ℕ
+placed_numbers list = map (λ r. r.slot.number) list
 
 -- each path has at most 8 events
 abbrev pub AreShort : List Shown → Type 0

@@ -1,5 +1,5 @@
 -- A walk over a tree, node by node.
-use Rattle.std.specs.Prelude.{ℕ, zero, suc, Bool, cond, true, ◌&&◌, ◌==◌, Option, Some, None, List, [], ◌∷◌, ◌++◌, map}
+use Rattle.std.specs.Prelude.{ℕ, zero, suc, Bool, cond, true, ◌&&◌, ◌==◌, Option, Some, None, List, [], ◌∷◌, ◌++◌, drop, map}
 use Rattle.std.specs.List.{filter}
 use Rattle.native_filters.specs.declared.facts.Facts.{Facts}
 use Rattle.native_filters.specs.declared.facts.Hook.{Hook}
@@ -27,6 +27,10 @@ passes keep (e ∷ es) = keep e && passes keep es
 -- the numbers of the registrations that have the hook
 abbrev pub called : Hook → List Slot → List ℕ
 called hook slots = map (λ s. s.number) (filter (λ s. is_hook s.hook hook) slots)
+
+-- those of the registrations from a place on
+abbrev pub called_from : Hook → List Slot → ℕ → List ℕ
+called_from hook slots from = called hook (drop from slots)
 
 -- what fires of a listing: each path asked anew from its beginning
 abbrev pub firing : (ℕ → Bool) → Hook → List Shown → List ℕ

@@ -91,7 +91,8 @@ impl Defs {
             ≡ (if d.number == event then Some d else found self.old event)) }
 
         // What was there stays: the paths of events, and private lists.
-        ensures paths { OnOk result ((event : ℕ) → IsTrue (is_event self.old event) → path self.new event ≡ path self.old event) }
+        ensures paths { OnOk result ((event : ℕ) → IsTrue (is_event self.old event)
+            → path self.new event ≡ path self.old event) }
         ensures private { OnOk result ((list : List Reg) → IsPrivate self.old list → IsPrivate self.new list) }
         ensures err { OnErr result (self.new ≡ self.old) }
     {

@@ -1,14 +1,14 @@
 //! A copy of a tree with one registration more or one less.
 
-ghost use Rattle.std.specs.Prelude.{◌≡◌, ◌≤◌, ◌==◌, eqb, false, length, map, IsTrue, IfOk};
-ghost use Rattle.std.specs.List.{IsDistinct, list_any};
+ghost use Rattle.std.specs.Prelude.{◌≡◌, ◌≤◌, eqb, false, length, IsTrue, IfOk};
+ghost use Rattle.std.specs.List.{IsDistinct};
 ghost use Rattle.std.specs.List.Sorted.{IsStrictlySortedBy};
 ghost use Rattle.std.specs.Ordering.{is_lt};
 ghost use Rattle.shared_forest.specs.Listing.{listing};
-ghost use Rattle.event_trees.specs.Canon.{canon_of};
+ghost use Rattle.event_trees.specs.Canon.{IsCanonOf};
 ghost use Rattle.event_trees.specs.Build.{seen};
-ghost use Rattle.event_trees.specs.ReadOff.{read_off, AreShort};
-ghost use Rattle.event_trees.specs.Edit.{placed_cmp, switched};
+ghost use Rattle.event_trees.specs.ReadOff.{placed_in, placed_numbers, AreShort};
+ghost use Rattle.event_trees.specs.Edit.{placed_cmp, has_placed, switched};
 
 use crate::insert::tree_with;
 use crate::placed::PlacedReg;
@@ -36,14 +36,14 @@ pub(crate) fn tree_switched(
     on: bool,
 ) -> Result<Tree, AllocError>
     requires short { AreShort (listing tree.now) }
-    requires canon { listing tree.now ≡ canon_of (read_off (listing tree.now)) }
-    requires order { IsStrictlySortedBy placed_cmp (read_off (listing tree.now)) }
-    requires distinct { IsDistinct eqb (map (λ r. r.slot.number) (read_off (listing tree.now))) }
-    requires few { length (read_off (listing tree.now)) ≤ 255 }
-    requires there { on ≡ false → IsTrue (list_any (λ r. r.slot.number == reg.now.slot.number) (read_off (listing tree.now))) }
-    requires new_order { IsStrictlySortedBy placed_cmp (switched (seen reg.now) on (read_off (listing tree.now))) }
-    requires new_few { length (switched (seen reg.now) on (read_off (listing tree.now))) ≤ 255 }
-    ensures { IfOk result (λ new. listing new ≡ canon_of (switched (seen reg.now) on (read_off (listing tree.now)))) }
+    requires canon { IsCanonOf (placed_in tree.now) tree.now }
+    requires order { IsStrictlySortedBy placed_cmp (placed_in tree.now) }
+    requires distinct { IsDistinct eqb (placed_numbers (placed_in tree.now)) }
+    requires few { length (placed_in tree.now) ≤ 255 }
+    requires there { on ≡ false → IsTrue (has_placed reg.now.slot.number (placed_in tree.now)) }
+    requires new_order { IsStrictlySortedBy placed_cmp (switched (seen reg.now) on (placed_in tree.now)) }
+    requires new_few { length (switched (seen reg.now) on (placed_in tree.now)) ≤ 255 }
+    ensures { IfOk result (IsCanonOf (switched (seen reg.now) on (placed_in tree.now))) }
 {
     if on {
         return tree_with(alloc, tree, reg);

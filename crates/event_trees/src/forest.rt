@@ -6,7 +6,7 @@ ghost use Rattle.shared_forest.specs.Store.{Keeps, CountsAtMost};
 ghost use Rattle.event_trees.specs.Private.{IsPrivate, edited};
 ghost use Rattle.app_api.specs.declared.registration.Reg.{Reg as RegOf};
 ghost use Rattle.event_trees.specs.Defs.{is_event};
-ghost use Rattle.event_trees.specs.Edit.{IsForestOf, IsSwitchable};
+ghost use Rattle.event_trees.specs.Edit.{IsTreeOf, IsSwitchable};
 ghost use Rattle.event_trees.specs.Canon.{canon};
 
 use crate::defs::Defs;
@@ -51,11 +51,13 @@ pub fn edit<F: Forests>(
     requires low { 1 ≤ reg.now.number }
     requires high { reg.now.number ≤ 255 }
     requires event { IsTrue (is_event defs.now reg.now.event) }
-    requires forest { (list : List RegOf) × IsForestOf defs.now list (listing (F.content f.old tree.now)) × IsSwitchable list reg.now on }
+    requires forest { (list : List RegOf) × IsTreeOf defs.now list (F.content f.old tree.now)
+        × IsSwitchable list reg.now on }
 
     ensures answered { IfOk result (λ s. F.answered f.new s) }
-    ensures listing { (list : List RegOf) → IsForestOf defs.now list (listing (F.content f.old tree.now)) → IsSwitchable list reg.now on
-        → IfOk result (λ s. IsForestOf defs.now (edited defs.now list reg.now on) (listing (F.content f.new s))) }
+    ensures listing { (list : List RegOf) → IsTreeOf defs.now list (F.content f.old tree.now)
+        → IsSwitchable list reg.now on
+        → IfOk result (λ s. IsTreeOf defs.now (edited defs.now list reg.now on) (F.content f.new s)) }
 
     ensures kept { Keeps F.answered F.content f.old f.new }
     ensures counted { CountsAtMost (F.interns f.old) (F.interns f.new) }

@@ -1,6 +1,6 @@
 //! A copy of a tree with one registration more, and the nodes of its path that weren't there.
 
-ghost use Rattle.std.specs.Prelude.{◌≡◌, ◌≤◌, ◌<◌, ◌+◌, ◌-◌, ◌^◌, ◌++◌, ◌∷◌, List, ℕ, length, take, drop, map, if◌then◌else◌, nat_le, ◌&&◌, false, IfOk, OnOk, IfSome, IfNone};
+ghost use Rattle.std.specs.Prelude.{◌≡◌, ◌≤◌, ◌<◌, ◌+◌, ◌-◌, ◌^◌, ◌++◌, ◌∷◌, length, take, drop, map, if◌then◌else◌, nat_le, ◌&&◌, false, IfOk, OnOk, IfSome, IfNone};
 ghost use Rattle.std.specs.List.{All};
 ghost use Rattle.std.specs.List.Sorted.{IsStrictlySortedBy};
 ghost use Rattle.std.specs.declared.cmp.Ordering.TheVariants.{Less};
@@ -9,11 +9,11 @@ ghost use Rattle.shared_forest.specs.Layout.{IsTree};
 ghost use Rattle.shared_forest.specs.Listing.{listing, path_after};
 ghost use Rattle.event_trees.specs.EventPath.{path_of};
 ghost use Rattle.event_trees.specs.Private.{path_cmp};
-ghost use Rattle.event_trees.specs.Canon.{canon_of};
+ghost use Rattle.event_trees.specs.Canon.{IsCanonOf};
 ghost use Rattle.event_trees.specs.Build.{seen, common};
-ghost use Rattle.event_trees.specs.ReadOff.{read_off, AreShort};
+ghost use Rattle.event_trees.specs.ReadOff.{placed_in, AreShort};
 ghost use Rattle.event_trees.specs.Edit.{placed_cmp, put_placed};
-ghost use Rattle.event_trees.specs.Insert.{IsReach, IsBetween, IsSpot, IsUpTo, chain, raised, raised_by, moved, with_path};
+ghost use Rattle.event_trees.specs.Insert.{AfterReached, IsReach, IsBetween, IsSpot, IsUpTo, chain, raised, raised_by, moved, with_path};
 
 use crate::nodes::count_last;
 use crate::placed::PlacedReg;
@@ -33,10 +33,10 @@ struct Reach {
 fn next_depth(node: Node, path: &[u16], depth: usize) -> Option<usize>
     requires low { 1 ≤ node.depth }
     requires within { depth ≤ length path.now }
-    ensures some { IfSome result (λ d. (before : List ℕ) → IsUpTo before path.now → depth ≡ common before path.now → node.depth ≤ length before + 1
-        → IsUpTo (path_after before node) path.now × (d ≡ common (path_after before node) path.now)) }
-    ensures none { IfNone result ((before : List ℕ) → IsUpTo before path.now → depth ≡ common before path.now
-        → path_cmp path.now (path_after before node) ≡ Less) }
+    ensures some { IfSome result (λ d. AfterReached path.now depth (λ before. node.depth ≤ length before + 1
+        → IsUpTo (path_after before node) path.now × (d ≡ common (path_after before node) path.now))) }
+    ensures none { IfNone result (AfterReached path.now depth (λ before.
+        path_cmp path.now (path_after before node) ≡ Less)) }
 {
     let above = node.depth as usize - 1;
     if above > depth {
@@ -203,11 +203,11 @@ fn nodes_with(
 
 /// A copy of a tree with one registration more.
 pub(crate) fn tree_with(alloc: Global, tree: &Tree, reg: &PlacedReg) -> Result<Tree, AllocError>
-    requires canon { listing tree.now ≡ canon_of (read_off (listing tree.now)) }
-    requires order { IsStrictlySortedBy placed_cmp (put_placed (seen reg.now) (read_off (listing tree.now))) }
+    requires canon { IsCanonOf (placed_in tree.now) tree.now }
+    requires order { IsStrictlySortedBy placed_cmp (put_placed (seen reg.now) (placed_in tree.now)) }
     requires short { AreShort (listing tree.now) }
-    requires few { length (read_off (listing tree.now)) < 255 }
-    ensures { IfOk result (λ more. listing more ≡ canon_of (put_placed (seen reg.now) (read_off (listing tree.now)))) }
+    requires few { length (placed_in tree.now) < 255 }
+    ensures { IfOk result (IsCanonOf (put_placed (seen reg.now) (placed_in tree.now))) }
 {
     let nodes = tree.nodes();
     let slots = tree.slots();

@@ -11,17 +11,17 @@ ghost use Rattle.event_trees.specs.Defs.{is_event, path, AreDefs};
 ghost use Rattle.event_trees.specs.Private.{IsPrivate, edited};
 ghost use Rattle.event_trees.specs.Canon.{slot_of, canon};
 ghost use Rattle.event_trees.specs.Fires.{fires, hears};
-ghost use Rattle.event_trees.specs.Edit.{IsForestOf};
-ghost use Rattle.event_trees.specs.Later.{IsEarlier};
+ghost use Rattle.event_trees.specs.Edit.{IsTreeOf};
+ghost use Rattle.event_trees.specs.Later.{IsEarlier, OfEarlierEvents, OfEarlierLists};
 
 use crate::defs::Defs;
 use shared_forest::Tree;
 
 /// The registrations of the tree of a private list are those of the list, in its order, and at most 255.
 pub fn slots_in_order(tree: &Tree)
-    ensures slots { (defs : List EventDef) (list : List Reg) → IsForestOf defs list (listing tree.now)
+    ensures slots { (defs : List EventDef) (list : List Reg) → IsTreeOf defs list tree.now
         → tree.now.slots ≡ map slot_of list }
-    ensures few { (defs : List EventDef) (list : List Reg) → IsForestOf defs list (listing tree.now)
+    ensures few { (defs : List EventDef) (list : List Reg) → IsTreeOf defs list tree.now
         → length tree.now.slots ≤ 255 }
 {
     let _nodes = tree.nodes();
@@ -30,10 +30,11 @@ pub fn slots_in_order(tree: &Tree)
 /// In the tree of a private list an event is heard exactly where a registration of the list has the hook and stands under
 /// that root. A raise that isn't heard calls nothing.
 pub fn heard_where_registered(tree: &Tree)
-    ensures heard { (defs : List EventDef) (list : List Reg) (hook : Hook) (event : ℕ) → IsForestOf defs list (listing tree.now)
-        → is_heard hook event (listing tree.now) ≡ hears defs hook event list }
-    ensures unheard { (defs : List EventDef) (list : List Reg) (hook : Hook) (event : ℕ) → IsForestOf defs list (listing tree.now)
-        → is_heard hook event (listing tree.now) ≡ false → (facts : Facts) → fires defs facts hook event list ≡ [] }
+    ensures heard { (defs : List EventDef) (list : List Reg) (hook : Hook) (event : ℕ)
+        → IsTreeOf defs list tree.now → is_heard hook event (listing tree.now) ≡ hears defs hook event list }
+    ensures unheard { (defs : List EventDef) (list : List Reg) (hook : Hook) (event : ℕ)
+        → IsTreeOf defs list tree.now → is_heard hook event (listing tree.now) ≡ false
+        → (facts : Facts) → fires defs facts hook event list ≡ [] }
 {
     let _nodes = tree.nodes();
 }
@@ -41,18 +42,14 @@ pub fn heard_where_registered(tree: &Tree)
 /// For registrations of events that were there before, events that were added later change nothing.
 pub fn later_events_change_nothing(defs: &Defs)
     ensures defs { (earlier : List EventDef) → IsEarlier earlier defs.now → AreDefs earlier }
-    ensures events { (earlier : List EventDef) (event : ℕ) → IsEarlier earlier defs.now → IsTrue (is_event earlier event)
-        → IsTrue (is_event defs.now event) }
-    ensures paths { (earlier : List EventDef) (event : ℕ) → IsEarlier earlier defs.now → IsTrue (is_event earlier event)
-        → path defs.now event ≡ path earlier event }
-    ensures private { (earlier : List EventDef) (list : List Reg) → IsEarlier earlier defs.now → IsPrivate earlier list
-        → IsPrivate defs.now list }
-    ensures listing { (earlier : List EventDef) (list : List Reg) → IsEarlier earlier defs.now → IsPrivate earlier list
-        → canon defs.now list ≡ canon earlier list }
-    ensures fires { (earlier : List EventDef) (list : List Reg) → IsEarlier earlier defs.now → IsPrivate earlier list
-        → (facts : Facts) (hook : Hook) (event : ℕ) → fires defs.now facts hook event list ≡ fires earlier facts hook event list }
-    ensures edited { (earlier : List EventDef) (list : List Reg) → IsEarlier earlier defs.now → IsPrivate earlier list
-        → (r : Reg) (on : Bool) → IsTrue (is_event earlier r.event) → edited defs.now list r on ≡ edited earlier list r on }
+    ensures events { OfEarlierEvents defs.now (λ earlier event. IsTrue (is_event defs.now event)) }
+    ensures paths { OfEarlierEvents defs.now (λ earlier event. path defs.now event ≡ path earlier event) }
+    ensures private { OfEarlierLists defs.now (λ earlier list. IsPrivate defs.now list) }
+    ensures listing { OfEarlierLists defs.now (λ earlier list. canon defs.now list ≡ canon earlier list) }
+    ensures fires { OfEarlierLists defs.now (λ earlier list. (facts : Facts) (hook : Hook) (event : ℕ)
+        → fires defs.now facts hook event list ≡ fires earlier facts hook event list) }
+    ensures edited { OfEarlierLists defs.now (λ earlier list. (r : Reg) (on : Bool)
+        → IsTrue (is_event earlier r.event) → edited defs.now list r on ≡ edited earlier list r on) }
 {
     defs.paths();
 }

@@ -3,10 +3,11 @@
 ghost use Rattle.std.specs.Prelude.{◌≡◌, ◌≤◌, ◌<◌, ◌+◌, ◌-◌, ◌^◌, ◌++◌, [], ◌∷◌, length, drop, slice_index_or, OnOk, IfOk};
 ghost use Rattle.std.specs.List.Sorted.{IsStrictlySortedBy};
 ghost use Rattle.shared_forest.specs.Layout.{under, IsTree};
-ghost use Rattle.shared_forest.specs.Listing.{listing, listing_of};
-ghost use Rattle.event_trees.specs.Canon.{canon_of};
+ghost use Rattle.shared_forest.specs.Listing.{listing_of};
+ghost use Rattle.event_trees.specs.Canon.{canon_of, IsCanonOf};
 ghost use Rattle.event_trees.specs.Edit.{placed_cmp};
 ghost use Rattle.event_trees.specs.Build.{all_seen, seen_slots, common, fresh_nodes, bumped, counted};
+ghost use Rattle.event_trees.specs.Remove.{no_node};
 
 use crate::path::EventPath;
 use crate::placed::PlacedReg;
@@ -53,7 +54,7 @@ fn push_nodes(
 /// Gives the last node one registration more.
 pub(crate) fn count_last(nodes: &mut [Node])
     requires some { 0 < length nodes.old }
-    requires room { (slice_index_or nodes.old (length nodes.old - 1) (record { event = 0; depth = 0; below = 0; first = 0; count = 0 })).count < 255 }
+    requires room { (slice_index_or nodes.old (length nodes.old - 1) no_node).count < 255 }
     ensures { nodes.new ≡ bumped nodes.old }
 {
     let last = nodes.len() - 1;
@@ -90,7 +91,8 @@ fn nodes_of(alloc: Global, regs: &[PlacedReg]) -> Result<Vec<Node>, AllocError>
     requires order { IsStrictlySortedBy placed_cmp (all_seen regs.now) }
     requires few { length regs.now ≤ 255 }
     ensures tree { IfOk result (λ nodes. IsTree nodes.items (seen_slots regs.now)) }
-    ensures listing { IfOk result (λ nodes. listing_of nodes.items (seen_slots regs.now) ≡ canon_of (all_seen regs.now)) }
+    ensures listing { IfOk result (λ nodes.
+        listing_of nodes.items (seen_slots regs.now) ≡ canon_of (all_seen regs.now)) }
 {
     let mut nodes = Vec::new(alloc);
     nodes.push(Node {
@@ -126,7 +128,7 @@ fn slots_of(alloc: Global, regs: &[PlacedReg]) -> Result<Vec<Slot>, AllocError>
 pub(crate) fn tree_of(alloc: Global, regs: &[PlacedReg]) -> Result<Tree, AllocError>
     requires order { IsStrictlySortedBy placed_cmp (all_seen regs.now) }
     requires few { length regs.now ≤ 255 }
-    ensures { IfOk result (λ tree. listing tree ≡ canon_of (all_seen regs.now)) }
+    ensures { IfOk result (IsCanonOf (all_seen regs.now)) }
 {
     let nodes = nodes_of(alloc, regs)?;
     let slots = slots_of(alloc, regs)?;

@@ -1,7 +1,7 @@
 //! Places of a walk.
 
-ghost use Rattle.std.specs.Prelude.{◌≡◌, ◌≤◌, ◌<◌, ◌+◌, [], ◌∷◌, length, drop, IfSome, IfNone};
-ghost use Rattle.event_trees.specs.Walk.{called};
+ghost use Rattle.std.specs.Prelude.{◌≡◌, ◌≤◌, ◌<◌, ◌+◌, [], ◌∷◌, length, IfSome, IfNone};
+ghost use Rattle.event_trees.specs.Walk.{called_from};
 
 use native_filters::Hook;
 use shared_forest::{Node, Slot};
@@ -32,8 +32,8 @@ impl Place {
 
 /// The next registration with the hook: its number, and the place after it.
 pub(crate) fn next_called(slots: &[Slot], hook: Hook, from: usize) -> Option<(u8, usize)>
-    ensures some { IfSome result (λ r. called hook (drop from slots.now) ≡ r.0 ∷ called hook (drop r.1 slots.now)) }
-    ensures none { IfNone result (called hook (drop from slots.now) ≡ []) }
+    ensures some { IfSome result (λ r. called_from hook slots.now from ≡ r.0 ∷ called_from hook slots.now r.1) }
+    ensures none { IfNone result (called_from hook slots.now from ≡ []) }
     ensures after { IfSome result (λ r. r.1 ≤ length slots.now) }
 {
     let mut i = from;

@@ -1,12 +1,12 @@
 //! A copy of a tree with one registration less, and without the nodes that nothing needs any more.
 
-ghost use Rattle.std.specs.Prelude.{◌≡◌, ◌≤◌, ◌<◌, ◌+◌, ◌-◌, ◌++◌, [], ◌==◌, length, take, drop, map, eqb, if◌then◌else◌, slice_index_or, IsTrue, IfOk, OnOk};
-ghost use Rattle.std.specs.List.{IsDistinct, list_any};
+ghost use Rattle.std.specs.Prelude.{◌≡◌, ◌≤◌, ◌<◌, ◌+◌, ◌-◌, ◌++◌, [], length, take, drop, eqb, if◌then◌else◌, slice_index_or, IsTrue, IfOk, OnOk};
+ghost use Rattle.std.specs.List.{IsDistinct};
 ghost use Rattle.std.specs.List.Sorted.{IsStrictlySortedBy};
 ghost use Rattle.shared_forest.specs.Listing.{listing};
-ghost use Rattle.event_trees.specs.Canon.{canon_of};
-ghost use Rattle.event_trees.specs.ReadOff.{read_off, AreShort};
-ghost use Rattle.event_trees.specs.Edit.{placed_cmp, without_placed};
+ghost use Rattle.event_trees.specs.Canon.{IsCanonOf};
+ghost use Rattle.event_trees.specs.ReadOff.{placed_in, placed_numbers, AreShort};
+ghost use Rattle.event_trees.specs.Edit.{placed_cmp, has_placed, without_placed};
 ghost use Rattle.event_trees.specs.Remove.{IsPlaceOf, IsOwner, IsBareFrom, IsKeep, no_node, lowered, moved_back, uncounted, kept_nodes as kept_of, without_nodes};
 
 use shared_forest::{Node, Slot, Tree};
@@ -164,13 +164,13 @@ fn slots_without(alloc: Global, slots: &[Slot], place: usize) -> Result<Vec<Slot
 
 /// A copy of a tree with one registration less.
 pub(crate) fn tree_without(alloc: Global, tree: &Tree, number: u8) -> Result<Tree, AllocError>
-    requires canon { listing tree.now ≡ canon_of (read_off (listing tree.now)) }
-    requires order { IsStrictlySortedBy placed_cmp (read_off (listing tree.now)) }
-    requires distinct { IsDistinct eqb (map (λ r. r.slot.number) (read_off (listing tree.now))) }
-    requires there { IsTrue (list_any (λ r. r.slot.number == number) (read_off (listing tree.now))) }
+    requires canon { IsCanonOf (placed_in tree.now) tree.now }
+    requires order { IsStrictlySortedBy placed_cmp (placed_in tree.now) }
+    requires distinct { IsDistinct eqb (placed_numbers (placed_in tree.now)) }
+    requires there { IsTrue (has_placed number (placed_in tree.now)) }
     requires short { AreShort (listing tree.now) }
-    requires few { length (read_off (listing tree.now)) ≤ 255 }
-    ensures { IfOk result (λ fewer. listing fewer ≡ canon_of (without_placed number (read_off (listing tree.now)))) }
+    requires few { length (placed_in tree.now) ≤ 255 }
+    ensures { IfOk result (IsCanonOf (without_placed number (placed_in tree.now))) }
 {
     let nodes = tree.nodes();
     let slots = tree.slots();

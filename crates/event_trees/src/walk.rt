@@ -5,7 +5,7 @@ ghost use Rattle.shared_forest.specs.declared.node.Slot.{Slot as SlotOf};
 ghost use Rattle.native_filters.specs.declared.facts.Hook.{Hook as HookOf};
 ghost use Rattle.shared_forest.specs.Listing.{slots_of};
 ghost use Rattle.event_trees.specs.Walk.{keeps, called, walked};
-ghost use Rattle.event_trees.specs.Place.{come};
+ghost use Rattle.event_trees.specs.Place.{come, passed_by};
 ghost use Rattle.std.specs.Option.{option_to_list};
 
 use crate::defs::Defs;
@@ -27,7 +27,7 @@ struct Question<'a> {
 impl Question<'_> {
     // Whether the raise passes a node with this event.
     fn keeps(&self, event: u16) -> bool
-        ensures { result ≡ keeps self.now.defs.now self.now.facts.now self.now.root event }
+        ensures { result ≡ passed_by self.now event }
     {
         match self.defs.find(event) {
             Some(d) => eval(&d.filter, self.facts, self.natives),
@@ -38,10 +38,10 @@ impl Question<'_> {
     // The next node that passes, and the place after it. What stands under a node that doesn't pass is left out.
     fn next_kept(&self, nodes: &[Node], from: usize) -> Option<(Node, usize)>
         ensures some { IfSome result (λ r. (hook : HookOf) (slots : List SlotOf) →
-            walked (keeps self.now.defs.now self.now.facts.now self.now.root) hook 0 (drop from nodes.now) slots
-            ≡ called hook (slots_of r.0 slots) ++ walked (keeps self.now.defs.now self.now.facts.now self.now.root) hook 0 (drop r.1 nodes.now) slots) }
+            walked (passed_by self.now) hook 0 (drop from nodes.now) slots
+            ≡ called hook (slots_of r.0 slots) ++ walked (passed_by self.now) hook 0 (drop r.1 nodes.now) slots) }
         ensures none { IfNone result ((hook : HookOf) (slots : List SlotOf) →
-            walked (keeps self.now.defs.now self.now.facts.now self.now.root) hook 0 (drop from nodes.now) slots ≡ []) }
+            walked (passed_by self.now) hook 0 (drop from nodes.now) slots ≡ []) }
         ensures node { IfSome result (λ r. Contains nodes.now r.0) }
         ensures after { IfSome result (λ r. (from < r.1) × (r.1 ≤ length nodes.now)) }
     {
@@ -69,9 +69,8 @@ fn left_out(node: Node) -> usize
 fn next_called_in(tree: &Tree, hook: Hook, question: &Question, from: Place) -> Option<(u8, Place)>
     requires { from.end ≤ length tree.now.slots }
     ensures some { IfSome result (λ r.
-        come (keeps question.now.defs.now question.now.facts.now question.now.root) hook tree.now from
-        ≡ r.0 ∷ come (keeps question.now.defs.now question.now.facts.now question.now.root) hook tree.now r.1) }
-    ensures none { IfNone result (come (keeps question.now.defs.now question.now.facts.now question.now.root) hook tree.now from ≡ []) }
+        come (passed_by question.now) hook tree.now from ≡ r.0 ∷ come (passed_by question.now) hook tree.now r.1) }
+    ensures none { IfNone result (come (passed_by question.now) hook tree.now from ≡ []) }
     ensures within { IfSome result (λ r. r.1.end ≤ length tree.now.slots) }
 {
     let nodes = tree.nodes();
@@ -133,7 +132,8 @@ impl<'a> Walk<'a> {
             → to_come defs result ≡ numbers_of (fires defs facts.now hook event list) }
 
         // Over any tree: what its listing gives, each path asked from its root on.
-        ensures listed { (defs : List EventDef) → to_come defs result ≡ firing (keeps defs facts.now event) hook (listing tree.now) }
+        ensures listed { (defs : List EventDef)
+            → to_come defs result ≡ firing (keeps defs facts.now event) hook (listing tree.now) }
     {
         Walk {
             tree,

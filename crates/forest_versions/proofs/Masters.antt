@@ -17,9 +17,9 @@ use Rattle.forest_versions.specs.State.{ControlState, start, after, control, mas
 use Rattle.forest_versions.specs.Lawful.{is_lawful, are_lawful}
 use Rattle.forest_versions.specs.Sound.{IsSound}
 use Rattle.forest_versions.specs.Timeline.{Line, as_of, IsBefore}
-use Rattle.forest_versions.specs.Past.{PastLines, line_of, never, noted, AreBefore, IsPastOf}
+use Rattle.forest_versions.specs.Past.{PastLines, line_of, noted, AreBefore, IsPastOf}
 use Rattle.forest_versions.specs.Master.{Versions, Tells, StandsFor, IsMaster}
-use Rattle.forest_versions.proofs.Pasts.{as_of-unchanged, TellTheSame, same-earlier, TellsOf, tells-later, before-noted}
+use Rattle.forest_versions.proofs.Pasts.{as_of-unchanged, same-earlier, tells-later, before-noted}
 
 -- definitions only grow
 earlier-after : (s : ControlState) (c : Command) (earlier : List EventDef) → IsEarlier earlier s.defs → IsEarlier earlier (after s c).defs

@@ -1,12 +1,13 @@
 -- What a master stands for: presets and commands, at each version up to the present.
 use Rattle.std.specs.Prelude.{◌≡◌, ℕ, ◌+◌, ◌≤◌, IsTrue, List, length}
 use Rattle.shared_forest.specs.declared.store.Shared.{Shared}
+use Rattle.shared_forest.specs.Lists.{TreeLists}
 use Rattle.app_api.specs.declared.registration.Reg.{Reg}
 use Rattle.app_api.specs.Reg.{reg_of, are_presets}
 use Rattle.event_trees.specs.declared.defs.EventDef.{EventDef}
 use Rattle.event_trees.specs.Later.{IsEarlier}
 use Rattle.forest_versions.specs.declared.command.Command.{Command}
-use Rattle.forest_versions.specs.State.{ControlState, start, control, master}
+use Rattle.forest_versions.specs.State.{ControlState, IsTreeFor, start, control, master}
 use Rattle.forest_versions.specs.Lawful.{are_lawful}
 use Rattle.forest_versions.specs.Sound.{IsSound}
 use Rattle.forest_versions.specs.Timeline.{as_of}
@@ -27,6 +28,10 @@ pub record Versions : Type 0 where
 abbrev pub defs_of : Versions → List EventDef
 defs_of m = m.now.defs
 
+-- a store with these trees holds the tree of the registrations that are on now
+abbrev pub HasForest : (Shared → TreeLists) → Versions → Type 0
+HasForest content m = IsTreeFor m.now (content m.forest)
+
 -- the look-ups of a master at a version are those of this state
 pub record Tells (m : Versions) (v : ℕ) (s : ControlState) : Type 0 where
   pub defs : IsEarlier s.defs m.now.defs
@@ -36,6 +41,10 @@ pub record Tells (m : Versions) (v : ℕ) (s : ControlState) : Type 0 where
   pub rules : as_of m.past.rules v ≡ s.rules
   pub idle : as_of m.past.idle v ≡ s.idle
   pub sound : IsSound s
+
+-- true of what is in force at a version
+abbrev pub AtVersion : Versions → ℕ → (ControlState → Type 0) → Type 0
+AtVersion m v IsSo = (s : ControlState) → Tells m v s → IsSo s
 
 -- a master with these presets and after these commands
 pub record StandsFor (m : Versions) (first : List Reg) (commands : List Command) : Type 0 where

@@ -6,7 +6,9 @@ use Rattle.reassembly.specs.declared.answers.Policy.TheVariants.{First}
 use Rattle.app_api.specs.declared.registration.Reg.{Reg}
 use Rattle.app_api.specs.declared.rule.Rule.{Rule}
 use Rattle.event_trees.specs.declared.defs.EventDef.{EventDef}
+use Rattle.shared_forest.specs.Lists.{TreeLists}
 use Rattle.event_trees.specs.Private.{put_reg, without}
+use Rattle.event_trees.specs.Edit.{IsTreeOf}
 use Rattle.forest_versions.specs.declared.command.Command.{Command}
 use Rattle.forest_versions.specs.declared.command.Command.TheVariants.{Event, Register, Unregister, Buffer, Overlap, AddRule, RemoveRule, Idle}
 use Rattle.forest_versions.specs.Rules.{put_rule, without_rule}
@@ -45,6 +47,13 @@ after s (AddRule r) = record s { rules = put_rule r s.rules }
 after s (RemoveRule number) = record s { rules = without_rule number s.rules }
 after s (Idle seconds) = record s { idle = Some seconds }
 
+-- with one registration more, and without that of a number
+abbrev pub registered : ControlState → Reg → ControlState
+registered s r = record s { regs = put_reg s.defs r s.regs }
+
+abbrev pub withdrawn : ControlState → ℕ → ControlState
+withdrawn s number = record s { regs = without number s.regs }
+
 -- what is in force after these commands
 unfoldable pub control : List Reg → List Command → ControlState
 control presets commands = fold after (start presets) commands
@@ -56,6 +65,10 @@ master presets commands v = control presets (take v commands)
 -- the private list with which a connection starts: the registrations that are on
 abbrev pub active : ControlState → List Reg
 active s = filter (λ r. r.on) s.regs
+
+-- the tree is that of the registrations that are on
+abbrev pub IsTreeFor : ControlState → TreeLists → Type 0
+IsTreeFor s tree = IsTreeOf s.defs (active s) tree
 
 -- whether a command sets how long a connection may be silent
 abbrev pub is_idle_limit : Command → Bool

@@ -1,5 +1,5 @@
 -- A value that changes with the versions.
-use Rattle.std.specs.Prelude.{ℕ, ◌<◌, if◌then◌else◌, nat_le, List, [], ◌∷◌, ◌++◌}
+use Rattle.std.specs.Prelude.{◌≡◌, ℕ, ◌<◌, if◌then◌else◌, nat_le, List, [], ◌∷◌, ◌++◌}
 use Rattle.std.specs.List.{All, fold}
 use Rattle.std.specs.List.Sorted.{IsNonDecreasingBy}
 
@@ -12,9 +12,17 @@ pub record Line (T : Type 0) : Type 0 where
 unfoldable pub as_of : {T : Type 0} → Line T → ℕ → T
 as_of line v = fold (λ value step. if nat_le step.0 v then step.1 else value) line.first line.steps
 
+-- a value that hasn't changed yet
+abbrev pub unchanged : {T : Type 0} → T → Line T
+unchanged value = record { first = value; steps = [] }
+
 -- with another value from a version on
 abbrev pub stepped : {T : Type 0} → Line T → ℕ → T → Line T
 stepped line from value = record { first = line.first; steps = line.steps ++ (from, value) ∷ [] }
+
+-- the last change is taken back: what it was made from is there again
+abbrev pub TakesBack : {P T : Type 0} → (P → ℕ → T → P) → P → P → Type 0
+TakesBack {P} {T} changed old new = (before : P) (from : ℕ) (value : T) → old ≡ changed before from value → new ≡ before
 
 -- each step is before a version
 abbrev pub IsBefore : {T : Type 0} → Line T → ℕ → Type 0

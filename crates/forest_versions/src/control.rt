@@ -8,9 +8,9 @@ ghost use Rattle.app_api.specs.declared.registration.Reg.{Reg as RegOf};
 ghost use Rattle.shared_forest.specs.Listing.{Shown};
 ghost use Rattle.event_trees.specs.Defs.{IsAddable};
 ghost use Rattle.event_trees.specs.Edit.{IsForestOf};
-ghost use Rattle.event_trees.specs.Private.{IsPrivate, put_reg, without};
+ghost use Rattle.event_trees.specs.Private.{IsPrivate, without};
 ghost use Rattle.forest_versions.specs.Rules.{rule_of, put_rule, without_rule};
-ghost use Rattle.forest_versions.specs.State.{presets_in, start, after};
+ghost use Rattle.forest_versions.specs.State.{presets_in, start, after, registered, withdrawn};
 ghost use Rattle.forest_versions.specs.Lawful.{refusal, is_lawful, is_setting, IsRegistrable};
 ghost use Rattle.forest_versions.specs.Sound.{IsSound};
 
@@ -186,7 +186,8 @@ impl Control {
     pub(crate) fn define(&mut self, alloc: Global, d: &EventDef) -> Result<(), AllocError>
         requires { IsAddable self.old.defs d.now }
         ensures ok { OnOk result (self.new ≡ record self.old { defs = self.old.defs ++ d.now ∷ [] }) }
-        ensures trees { (list : List RegOf) (shown : List Shown) → IsForestOf self.old.defs list shown → IsForestOf self.new.defs list shown }
+        ensures trees { (list : List RegOf) (shown : List Shown)
+            → IsForestOf self.old.defs list shown → IsForestOf self.new.defs list shown }
         ensures regs { self.new.regs ≡ self.old.regs }
         ensures err { OnErr result (self.new ≡ self.old) }
     {
@@ -204,7 +205,7 @@ impl Control {
     /// Adds a registration at its place.
     pub(crate) fn register(&mut self, r: &Reg) -> Result<(), AllocError>
         requires { IsRegistrable self.old r.now }
-        ensures ok { OnOk result (self.new ≡ record self.old { regs = put_reg self.old.defs r.now self.old.regs }) }
+        ensures ok { OnOk result (self.new ≡ registered self.old r.now) }
         ensures err { OnErr result (self.new ≡ self.old) }
     {
         switch(&self.defs, &mut self.regs, r, true)
@@ -212,7 +213,7 @@ impl Control {
 
     /// Removes the registration of a number, if there is one.
     pub(crate) fn withdraw(&mut self, number: u8)
-        ensures { self.new ≡ record self.old { regs = without number self.old.regs } }
+        ensures { self.new ≡ withdrawn self.old number }
     {
         remove_reg(&mut self.regs, number);
     }

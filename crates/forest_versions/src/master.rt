@@ -6,16 +6,14 @@ ghost use Rattle.std.specs.Option.{option_copied};
 ghost use Rattle.app_api.specs.declared.registration.Reg.{Reg as RegOf};
 ghost use Rattle.app_api.specs.App.{are_rules};
 ghost use Rattle.app_api.specs.Reg.{are_presets, peek_fits, reg_of};
-ghost use Rattle.shared_forest.specs.Listing.{listing};
 ghost use Rattle.shared_forest.specs.Store.{Keeps, CountsAtMost};
 ghost use Rattle.event_trees.specs.Defs.{is_event};
-ghost use Rattle.event_trees.specs.Edit.{IsForestOf};
 ghost use Rattle.forest_versions.specs.declared.command.Command.{Command as CommandOf};
-ghost use Rattle.forest_versions.specs.State.{ControlState, active, after, is_idle_limit};
+ghost use Rattle.forest_versions.specs.State.{ControlState, IsTreeFor, after, is_idle_limit};
 ghost use Rattle.forest_versions.specs.Lawful.{is_lawful};
 ghost use Rattle.forest_versions.specs.Past.{line_of, noted, AreBefore};
 ghost use Rattle.forest_versions.specs.Timeline.{as_of};
-ghost use Rattle.forest_versions.specs.Master.{defs_of, Tells, StandsFor};
+ghost use Rattle.forest_versions.specs.Master.{AtVersion, HasForest, defs_of, Tells, StandsFor};
 
 use crate::command::Command;
 use crate::control::Control;
@@ -61,7 +59,7 @@ impl Master {
         requires lawful { IsTrue (are_presets presets.now) }
         ensures stands { IfOk result (λ m. StandsFor m presets.now []) }
         ensures answered { IfOk result (λ m. F.answered f.new m.forest) }
-        ensures forest { IfOk result (λ m. IsForestOf m.now.defs (active m.now) (listing (F.content f.new m.forest))) }
+        ensures forest { IfOk result (HasForest (F.content f.new)) }
         ensures kept { Keeps F.answered F.content f.old f.new }
         ensures counted { CountsAtMost (F.interns f.old) (F.interns f.new) }
         ensures err { OnErr result (f.new ≡ f.old) }
@@ -87,16 +85,17 @@ impl Master {
         c: &Command,
     ) -> Result<(), AllocError>
         requires answered { F.answered f.old self.old.forest }
-        requires forest { IsForestOf self.old.now.defs (active self.old.now) (listing (F.content f.old self.old.forest)) }
+        requires forest { HasForest (F.content f.old) self.old }
         requires lawful { IsTrue (is_lawful self.old.now c.now) }
         requires below { self.old.version < 4096 }
         ensures stands { (presets : List RegOf) (commands : List CommandOf) → StandsFor self.old presets commands
             → OnOk result (StandsFor self.new presets (commands ++ c.now ∷ [])) }
         ensures version { OnOk result (self.new.version ≡ self.old.version + 1) }
         ensures now { OnOk result (self.new.now ≡ after self.old.now c.now) }
-        ensures earlier { (v : ℕ) (s : ControlState) → v ≤ self.old.version → Tells self.old v s → Tells self.new v s }
+        ensures earlier { (v : ℕ) (s : ControlState) → v ≤ self.old.version
+            → Tells self.old v s → Tells self.new v s }
         ensures answered { F.answered f.new self.new.forest }
-        ensures forest { IsForestOf self.new.now.defs (active self.new.now) (listing (F.content f.new self.new.forest)) }
+        ensures forest { HasForest (F.content f.new) self.new }
         ensures kept { Keeps F.answered F.content f.old f.new }
         ensures counted { CountsAtMost (F.interns f.old) (F.interns f.new) }
         ensures unchanged { OnErr result (self.new ≡ self.old) }
@@ -162,7 +161,7 @@ impl Master {
 
     /// The registration of a number at a version. None where it isn't registered there.
     pub fn reg_at(&self, version: u32, number: u8) -> Option<&Reg>
-        ensures reg { (s : ControlState) → Tells self.now version s → option_copied result ≡ reg_of s.regs number }
+        ensures reg { AtVersion self.now version (λ s. option_copied result ≡ reg_of s.regs number) }
         ensures line { option_copied result ≡ as_of (line_of self.now.past number) version }
         ensures number { IfSome result (λ r. r.now.number ≡ number) }
         ensures low { IfSome result (λ r. 1 ≤ r.now.number) }
@@ -174,7 +173,7 @@ impl Master {
 
     /// The receive buffer at a version, in bytes, 1 to 1,048,576.
     pub fn rbuf_at(&self, version: u32) -> u32
-        ensures rbuf { (s : ControlState) → Tells self.now version s → result ≡ s.rbuf }
+        ensures rbuf { AtVersion self.now version (λ s. result ≡ s.rbuf) }
         ensures low { 1 ≤ result }
         ensures high { result ≤ 1048576 }
     {
@@ -183,14 +182,14 @@ impl Master {
 
     /// The policy at a version.
     pub fn policy_at(&self, version: u32) -> Policy
-        ensures { (s : ControlState) → Tells self.now version s → result ≡ s.policy }
+        ensures { AtVersion self.now version (λ s. result ≡ s.policy) }
     {
         self.past.policy(version)
     }
 
     /// The rules at a version, by rising number.
     pub fn rules_at(&self, version: u32) -> &[Rule]
-        ensures rules { (s : ControlState) → Tells self.now version s → result.now ≡ s.rules }
+        ensures rules { AtVersion self.now version (λ s. result.now ≡ s.rules) }
         ensures rise { IsTrue (are_rules result.now) }
     {
         self.past.rules(version)
@@ -199,7 +198,7 @@ impl Master {
     /// For how many seconds a connection may be silent that began at a version: what the last `idle` among as many
     /// commands says. None exactly where none of them is one.
     pub fn idle_at(&self, version: u32) -> Option<u32>
-        ensures idle { (s : ControlState) → Tells self.now version s → result ≡ s.idle }
+        ensures idle { AtVersion self.now version (λ s. result ≡ s.idle) }
         ensures none { (presets : List RegOf) (commands : List CommandOf) → StandsFor self.now presets commands
             → is_none result ≡ not (list_any is_idle_limit (take version commands)) }
     {
@@ -228,14 +227,14 @@ fn give<F: Forests>(
     c: &Command,
 ) -> Result<(), AllocError>
     requires answered { F.answered f.old forest.old }
-    requires forest { IsForestOf control.old.defs (active control.old) (listing (F.content f.old forest.old)) }
+    requires forest { IsTreeFor control.old (F.content f.old forest.old) }
     requires lawful { IsTrue (is_lawful control.old c.now) }
     requires before { AreBefore past.old from }
     ensures now { OnOk result (control.new ≡ after control.old c.now) }
     ensures past { OnOk result (past.new ≡ noted from control.old.rules c.now past.old) }
     ensures whole { length past.old.regs ≡ 256 }
     ensures answered { F.answered f.new forest.new }
-    ensures forest { IsForestOf control.new.defs (active control.new) (listing (F.content f.new forest.new)) }
+    ensures forest { IsTreeFor control.new (F.content f.new forest.new) }
     ensures kept { Keeps F.answered F.content f.old f.new }
     ensures counted { CountsAtMost (F.interns f.old) (F.interns f.new) }
     ensures control_unchanged { OnErr result (control.new ≡ control.old) }

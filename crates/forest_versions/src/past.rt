@@ -2,13 +2,11 @@
 //! rules and the limit of idleness. A command adds one change, so the past takes memory by the number of commands; but rules are kept as whole
 //! lists, since they are lent as such.
 
-ghost use Rattle.std.specs.Prelude.{◌≡◌, ◌≤◌, ℕ, [], List, Option, length, slice_index_or, IfOk, OnOk, OnErr};
-ghost use Rattle.app_api.specs.declared.registration.Reg.{Reg as RegOf};
+ghost use Rattle.std.specs.Prelude.{◌≡◌, ◌≤◌, ℕ, Option, length, slice_index_or, IfOk, OnOk, OnErr};
 ghost use Rattle.std.specs.Option.{option_copied};
 ghost use Rattle.app_api.specs.Reg.{reg_of};
-ghost use Rattle.app_api.specs.declared.rule.Rule.{Rule as RuleOf};
 ghost use Rattle.forest_versions.specs.State.{ControlState};
-ghost use Rattle.forest_versions.specs.Timeline.{Line, as_of, IsBefore};
+ghost use Rattle.forest_versions.specs.Timeline.{Line, as_of, unchanged, TakesBack, IsBefore};
 ghost use Rattle.forest_versions.specs.Past.{PastLines, line_of, never, with_reg, noted, AreBefore, IsPastOf};
 
 use crate::checks::find_reg;
@@ -141,7 +139,7 @@ impl Past {
     /// Takes the note of the last command back.
     #[tactic(auto, unfolding(crate::specs::Past::noted))]
     pub(crate) fn take_back(&mut self, c: &Command)
-        ensures { (past : PastLines) (from : ℕ) (rules : List RuleOf) → self.old ≡ noted from rules c.now past → self.new ≡ past }
+        ensures { TakesBack (λ past from rules. noted from rules c.now past) self.old self.new }
     {
         match c {
             Command::Event(_) => {}
@@ -165,7 +163,7 @@ impl Past {
     }
 
     fn take_back_reg(&mut self, number: u8)
-        ensures { (past : PastLines) (from : ℕ) (reg : Option RegOf) → self.old ≡ with_reg past number from reg → self.new ≡ past }
+        ensures { TakesBack (λ past from reg. with_reg past number from reg) self.old self.new }
     {
         let line = &mut self.regs[usize::from(number)];
         line.step_back();
@@ -175,7 +173,8 @@ impl Past {
 // The line of each number before the first command.
 fn first_regs(alloc: Global, regs: &[Reg]) -> Result<Vec<Timeline<Option<Reg>>>, AllocError>
     ensures whole { IfOk result (λ lines. length lines.items ≡ 256) }
-    ensures lines { IfOk result (λ lines. (number : ℕ) → number ≤ 255 → slice_index_or lines.items number never ≡ record { first = reg_of regs.now number; steps = [] }) }
+    ensures lines { IfOk result (λ lines. (number : ℕ) → number ≤ 255
+        → slice_index_or lines.items number never ≡ unchanged (reg_of regs.now number)) }
 {
     let mut lines = Vec::new(alloc);
     for number in 0..=u8::MAX {

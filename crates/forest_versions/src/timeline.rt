@@ -1,7 +1,7 @@
 //! A value that changes with the versions, and is known at each of them.
 
-ghost use Rattle.std.specs.Prelude.{◌≡◌, ℕ, [], OnOk, OnErr};
-ghost use Rattle.forest_versions.specs.Timeline.{Line, as_of, stepped, IsBefore};
+ghost use Rattle.std.specs.Prelude.{◌≡◌, OnOk, OnErr};
+ghost use Rattle.forest_versions.specs.Timeline.{as_of, unchanged, stepped, TakesBack, IsBefore};
 
 use std::alloc::{AllocError, Global};
 use std::marker::Model;
@@ -27,7 +27,7 @@ impl<T> Model for Timeline<T> {
 impl<T: Drop> Timeline<T> {
     /// A value that hasn't changed yet.
     pub(crate) fn new(alloc: Global, first: T) -> Timeline<T>
-        ensures { result ≡ record { first = first; steps = [] } }
+        ensures { result ≡ unchanged first }
     {
         Timeline {
             first,
@@ -60,7 +60,7 @@ impl<T: Drop> Timeline<T> {
 
     /// Takes the last change back.
     pub(crate) fn step_back(&mut self)
-        ensures { (line : Line T) (from : ℕ) (value : T) → self.old ≡ stepped line from value → self.new ≡ line }
+        ensures { TakesBack stepped self.old self.new }
     {
         let _ = self.steps.pop();
     }

@@ -4,11 +4,8 @@ ghost use Rattle.std.specs.Prelude.{◌≡◌, List, IsTrue, IfSome, IfNone, IfO
 ghost use Rattle.std.specs.List.{filter};
 ghost use Rattle.app_api.specs.declared.registration.Reg.{Reg as RegOf};
 ghost use Rattle.app_api.specs.Reg.{reg_of};
-ghost use Rattle.shared_forest.specs.Listing.{listing};
 ghost use Rattle.shared_forest.specs.Store.{Keeps, CountsAtMost};
-ghost use Rattle.event_trees.specs.Private.{put_reg, without};
-ghost use Rattle.event_trees.specs.Edit.{IsForestOf};
-ghost use Rattle.forest_versions.specs.State.{active, after};
+ghost use Rattle.forest_versions.specs.State.{IsTreeFor, after, registered, withdrawn};
 ghost use Rattle.forest_versions.specs.Lawful.{is_lawful, IsRegistrable};
 
 use crate::checks::find_reg;
@@ -26,7 +23,7 @@ pub(crate) fn first_tree<F: Forests>(
     control: &Control,
 ) -> Result<Shared, AllocError>
     ensures answered { IfOk result (λ s. F.answered f.new s) }
-    ensures forest { IfOk result (λ s. IsForestOf control.now.defs (active control.now) (listing (F.content f.new s))) }
+    ensures forest { IfOk result (λ s. IsTreeFor control.now (F.content f.new s)) }
     ensures kept { Keeps F.answered F.content f.old f.new }
     ensures counted { CountsAtMost (F.interns f.old) (F.interns f.new) }
     ensures err { OnErr result (f.new ≡ f.old) }
@@ -45,11 +42,11 @@ pub(crate) fn change<F: Forests>(
     c: &Command,
 ) -> Result<(), AllocError>
     requires answered { F.answered f.old forest.old }
-    requires forest { IsForestOf control.old.defs (active control.old) (listing (F.content f.old forest.old)) }
+    requires forest { IsTreeFor control.old (F.content f.old forest.old) }
     requires lawful { IsTrue (is_lawful control.old c.now) }
     ensures ok { OnOk result (control.new ≡ after control.old c.now) }
     ensures answered { F.answered f.new forest.new }
-    ensures forest { IsForestOf control.new.defs (active control.new) (listing (F.content f.new forest.new)) }
+    ensures forest { IsTreeFor control.new (F.content f.new forest.new) }
     ensures kept { Keeps F.answered F.content f.old f.new }
     ensures counted { CountsAtMost (F.interns f.old) (F.interns f.new) }
     ensures control { OnErr result (control.new ≡ control.old) }
@@ -77,11 +74,11 @@ fn register<F: Forests>(
     r: &Reg,
 ) -> Result<(), AllocError>
     requires answered { F.answered f.old forest.old }
-    requires forest { IsForestOf control.old.defs (active control.old) (listing (F.content f.old forest.old)) }
+    requires forest { IsTreeFor control.old (F.content f.old forest.old) }
     requires fits { IsRegistrable control.old r.now }
-    ensures ok { OnOk result (control.new ≡ record control.old { regs = put_reg control.old.defs r.now control.old.regs }) }
+    ensures ok { OnOk result (control.new ≡ registered control.old r.now) }
     ensures answered { F.answered f.new forest.new }
-    ensures forest { IsForestOf control.new.defs (active control.new) (listing (F.content f.new forest.new)) }
+    ensures forest { IsTreeFor control.new (F.content f.new forest.new) }
     ensures kept { Keeps F.answered F.content f.old f.new }
     ensures counted { CountsAtMost (F.interns f.old) (F.interns f.new) }
     ensures control { OnErr result (control.new ≡ control.old) }
@@ -114,10 +111,10 @@ fn withdraw<F: Forests>(
     number: u8,
 ) -> Result<(), AllocError>
     requires answered { F.answered f.old forest.old }
-    requires forest { IsForestOf control.old.defs (active control.old) (listing (F.content f.old forest.old)) }
-    ensures ok { OnOk result (control.new ≡ record control.old { regs = without number control.old.regs }) }
+    requires forest { IsTreeFor control.old (F.content f.old forest.old) }
+    ensures ok { OnOk result (control.new ≡ withdrawn control.old number) }
     ensures answered { F.answered f.new forest.new }
-    ensures forest { IsForestOf control.new.defs (active control.new) (listing (F.content f.new forest.new)) }
+    ensures forest { IsTreeFor control.new (F.content f.new forest.new) }
     ensures kept { Keeps F.answered F.content f.old f.new }
     ensures counted { CountsAtMost (F.interns f.old) (F.interns f.new) }
     ensures control { OnErr result (control.new ≡ control.old) }

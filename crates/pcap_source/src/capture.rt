@@ -1,9 +1,10 @@
 //! Reading a capture front to back.
 
-ghost use Rattle.std.specs.Prelude.{◌≡◌, ◌+◌, ◌*◌, ◌<◌, ◌≤◌, ◌⊎◌, ◌↔◌, ◌++◌, ℕ, List, length, take, drop, Some, IsTrue, IfSome, IfOk, OnOk, OnErr, IfErr, IsErrOf, Err, true, false, ◌≢◌};
+ghost use Rattle.std.specs.Prelude.{◌≡◌, ◌+◌, ◌*◌, ◌<◌, ◌≤◌, ◌⊎◌, ◌↔◌, ℕ, List, length, take, drop, Some, IsTrue, IfSome, IfOk, OnOk, OnErr, IfErr, IsErrOf, Err, true, false, ◌≢◌};
 ghost use Rattle.std.specs.Io.KnownBytes.{Consumes};
 ghost use Rattle.mos_bytes.specs.Causes.{HasCauseOf};
 ghost use Rattle.mos_bytes.specs.Reads.{Fills, FillsPart};
+ghost use Rattle.pcap_source.specs.Captured.{record_bytes};
 ghost use Rattle.pcap_source.specs.Capture.{is_whole, record_of};
 ghost use Rattle.pcap_source.specs.Order.{number_in};
 ghost use Rattle.pcap_source.specs.Reading.{CaptureState, IsRecord, IsTold, NextGives, RefusesAt, reading};
@@ -66,7 +67,8 @@ fn read_bytes<S: Source>(
 ) -> Result<usize, NextError>
     ensures length { OnOk result (length bytes.new.items ≡ count) }
     ensures ok { IfOk result (λ n. Fills (S.left source.old) (S.left source.new) n bytes.new.items) }
-    ensures part { result ≡ Err NextError.ReadFault → FillsPart (S.left source.old) (S.left source.new) bytes.new.items }
+    ensures part { result ≡ Err NextError.ReadFault
+        → FillsPart (S.left source.old) (S.left source.new) bytes.new.items }
     ensures sized { result ≡ Err NextError.ReadFault → length bytes.new.items ≡ count }
     ensures ended { IfOk result (λ n. n < count → S.ended source.new) }
     ensures told { IsTold (S.left source.old) → IsTold (S.left source.new) }
@@ -127,7 +129,7 @@ fn copy_record<S: Source>(
     requires bounded { captured ≤ 262144 }
     requires told { captured ≡ number_in order 4 (drop 8 (take 16 (S.lent source.old))) }
     ensures whole { OnOk result (IsRecord order frame.new) }
-    ensures consumed { OnOk result (Consumes (S.left source.old) (S.left source.new) (frame.new.head ++ frame.new.bytes)) }
+    ensures consumed { OnOk result (Consumes (S.left source.old) (S.left source.new) (record_bytes frame.new)) }
     ensures stays { OnErr result (source.new ≡ source.old) }
     ensures faults { S.faults source.new ≡ S.faults source.old }
     ensures lasts { S.lasting source.new ≡ S.lasting source.old }
@@ -147,13 +149,15 @@ fn read_record<S: Source>(
     frame: &mut Frame,
 ) -> Result<Step, NextError>
     requires { count ≤ 1048576 }
-    ensures gives { NextGives (reading order count offset) (reading order (count + 1) (offset + 16 + length frame.new.bytes))
+    ensures gives { NextGives (reading order count offset)
+        (reading order (count + 1) (offset + 16 + length frame.new.bytes))
         (S.left source.old) (S.left source.new) frame.new result }
     ensures few { result ≡ Ok Step.Frame → count < 1048576 }
     ensures ended { IfOk result (λ step. step ≢ Step.Frame → S.ended source.new) }
     ensures refused { RefusesAt (reading order count offset) result }
     ensures whole { result ≡ Ok Step.Frame → IsRecord order frame.new }
-    ensures consumed { result ≡ Ok Step.Frame → Consumes (S.left source.old) (S.left source.new) (frame.new.head ++ frame.new.bytes) }
+    ensures consumed { result ≡ Ok Step.Frame
+        → Consumes (S.left source.old) (S.left source.new) (record_bytes frame.new) }
     ensures cause { HasCauseOf (S.faults source.old) (S.faults source.new) (IsErrOf result NextError.ReadFault) }
     ensures lasts { S.lasting source.new ≡ S.lasting source.old }
 {
@@ -195,7 +199,8 @@ impl Capture {
         ensures ended { (count : ℕ) → result ≡ Err (OpenError.ShortHeader count) → S.ended source.new }
         ensures cause { HasCauseOf (S.faults source.old) (S.faults source.new) (IsErrOf result OpenError.ReadFault) }
         ensures lasts { S.lasting source.new ≡ S.lasting source.old }
-        ensures at_most { (read : List ℕ) × Consumes (S.left source.old) (S.left source.new) read × (length read ≤ 24) }
+        ensures at_most { (read : List ℕ) × Consumes (S.left source.old) (S.left source.new) read
+            × (length read ≤ 24) }
     {
         let mut header = [0; HEADER];
         let filled = fill(source, &mut header)?;
@@ -213,7 +218,8 @@ impl Capture {
 
     /// Whether the next record stands whole among the bytes that the source has at hand: then `next` asks nothing outside.
     pub fn is_at_hand<S: Source>(&self, source: &S) -> bool
-        ensures whole { IsTrue result → (bytes : List ℕ) → S.left source.now ≡ Some bytes → IsTrue (is_whole self.now.order bytes) }
+        ensures whole { IsTrue result → (bytes : List ℕ) → S.left source.now ≡ Some bytes
+            → IsTrue (is_whole self.now.order bytes) }
     {
         let front = source.at_hand();
         if front.len() < HEAD {
@@ -243,7 +249,7 @@ impl Capture {
         // The frame holds what was read.
         ensures whole { result ≡ Ok Step.Frame → IsRecord self.old.order frame.new }
         ensures consumed { result ≡ Ok Step.Frame
-            → Consumes (S.left source.old) (S.left source.new) (frame.new.head ++ frame.new.bytes) }
+            → Consumes (S.left source.old) (S.left source.new) (record_bytes frame.new) }
 
         ensures cause { HasCauseOf (S.faults source.old) (S.faults source.new) (IsErrOf result NextError.ReadFault) }
         ensures lasts { S.lasting source.new ≡ S.lasting source.old }

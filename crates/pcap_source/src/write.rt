@@ -1,8 +1,9 @@
 //! Writing a capture as it was read.
 
-ghost use Rattle.std.specs.Prelude.{◌≡◌, ◌++◌};
+ghost use Rattle.std.specs.Prelude.{◌≡◌};
 ghost use Rattle.mos_bytes.specs.Causes.{HasCause};
 ghost use Rattle.mos_bytes.specs.Writes.{WriteAdds};
+ghost use Rattle.pcap_source.specs.Captured.{record_bytes};
 
 use crate::{Capture, Frame};
 use mos_bytes::{Failed, Sink};
@@ -19,7 +20,7 @@ impl Capture {
 
     /// Writes the frame's head and then its bytes: for a frame as `next` left it, what was read. It takes no memory.
     pub fn write_record<O: Sink>(&self, out: &mut O, frame: &Frame) -> Result<(), Failed>
-        ensures bytes { WriteAdds (O.taken out.old) (O.taken out.new) result (frame.now.head ++ frame.now.bytes) }
+        ensures bytes { WriteAdds (O.taken out.old) (O.taken out.new) result (record_bytes frame.now) }
         ensures cause { HasCause (O.faults out.old) (O.faults out.new) result }
         ensures lasts { O.lasting out.new ≡ O.lasting out.old }
     {

@@ -8,3 +8,4 @@ pub mod Reports
 pub mod ReadWords
 pub mod ReadLines
 pub mod ReadLaws
+pub mod Written

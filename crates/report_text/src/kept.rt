@@ -2,10 +2,10 @@
 
 ghost use Rattle.std.specs.Prelude.{◌≡◌, IsErrOf, [], if◌then◌else◌};
 ghost use Rattle.mos_bytes.specs.Causes.{HasCauseOf};
-ghost use Rattle.mos_bytes.specs.Writes.{WriteAdds};
 ghost use Rattle.report_text.specs.Kept.{is_conn, kept_record};
 ghost use Rattle.report_text.specs.Lines.{field_line};
 ghost use Rattle.report_text.specs.Report.{callbacks_text, fields_text, rest_text, record_text};
+ghost use Rattle.report_text.specs.Written.{Adds};
 
 use crate::lines::push_named;
 use crate::record::RecordKind;
@@ -38,7 +38,7 @@ fn write_callbacks<O: Sink>(
     line: &mut String,
     log: &CallbackLog,
 ) -> Result<(), TextError>
-    ensures text { WriteAdds (O.taken out.old) (O.taken out.new) result (callbacks_text log.now) }
+    ensures text { Adds O.Sink out.old out.new result (callbacks_text log.now) }
     ensures cause { HasCauseOf (O.faults out.old) (O.faults out.new) (IsErrOf result TextError.WriteFault) }
     ensures lasts { O.lasting out.new ≡ O.lasting out.old }
 {
@@ -55,7 +55,7 @@ fn write_named<O: Sink>(
     name: &str,
     value: u64,
 ) -> Result<(), TextError>
-    ensures text { WriteAdds (O.taken out.old) (O.taken out.new) result (field_line (name.now, value)) }
+    ensures text { Adds O.Sink out.old out.new result (field_line (name.now, value)) }
     ensures cause { HasCauseOf (O.faults out.old) (O.faults out.new) (IsErrOf result TextError.WriteFault) }
     ensures lasts { O.lasting out.new ≡ O.lasting out.old }
 {
@@ -72,7 +72,7 @@ fn write_told<A: App, O: Sink>(
     line: &mut String,
     tally: &Tally,
 ) -> Result<(), TextError>
-    ensures text { WriteAdds (O.taken out.old) (O.taken out.new) result (fields_text ((A.meaning app.now).fields tally.now)) }
+    ensures text { Adds O.Sink out.old out.new result (fields_text ((A.meaning app.now).fields tally.now)) }
     ensures cause { HasCauseOf (O.faults out.old) (O.faults out.new) (IsErrOf result TextError.WriteFault) }
     ensures lasts { O.lasting out.new ≡ O.lasting out.old }
 {
@@ -92,7 +92,7 @@ fn write_fields<A: App, O: Sink>(
     line: &mut String,
     of: &KeptRecord<'_>,
 ) -> Result<(), TextError>
-    ensures text { WriteAdds (O.taken out.old) (O.taken out.new) result (fields_text (kept_record (A.meaning app.now) of.now).fields) }
+    ensures text { Adds O.Sink out.old out.new result (fields_text (kept_record (A.meaning app.now) of.now).fields) }
     ensures cause { HasCauseOf (O.faults out.old) (O.faults out.new) (IsErrOf result TextError.WriteFault) }
     ensures lasts { O.lasting out.new ≡ O.lasting out.old }
 {
@@ -110,7 +110,7 @@ fn write_rest<A: App, O: Sink>(
     line: &mut String,
     of: &KeptRecord<'_>,
 ) -> Result<(), TextError>
-    ensures text { WriteAdds (O.taken out.old) (O.taken out.new) result (rest_text (kept_record (A.meaning app.now) of.now)) }
+    ensures text { Adds O.Sink out.old out.new result (rest_text (kept_record (A.meaning app.now) of.now)) }
     ensures cause { HasCauseOf (O.faults out.old) (O.faults out.new) (IsErrOf result TextError.WriteFault) }
     ensures lasts { O.lasting out.new ≡ O.lasting out.old }
 {
@@ -128,7 +128,7 @@ pub fn write_kept<A: App, O: Sink>(
     line: &mut String,
     of: &KeptRecord<'_>,
 ) -> Result<(), TextError>
-    ensures text { WriteAdds (O.taken out.old) (O.taken out.new) result (record_text (kept_record (A.meaning app.now) of.now)) }
+    ensures text { Adds O.Sink out.old out.new result (record_text (kept_record (A.meaning app.now) of.now)) }
     ensures cause { HasCauseOf (O.faults out.old) (O.faults out.new) (IsErrOf result TextError.WriteFault) }
     ensures lasts { O.lasting out.new ≡ O.lasting out.old }
 {

@@ -73,8 +73,10 @@ fn take(
 /// compare the two. It reads the text once, and takes memory for the records and for one line.
 pub fn read_report(alloc: Global, text: &[u8]) -> Result<(RecordList, Totals), ReadBack>
     ensures report { IfOk result (λ p. IsReport text.now p.0 p.1) }
-    ensures alone { IfOk result (λ p. (rs : List Record) (t : Totals) → IsReport text.now rs t → (rs ≡ p.0) × (t ≡ p.1)) }
-    ensures none { IfErr result (λ e. (offset : ℕ) → e ≡ ReadBack.NoReport offset → NoReportAt text.now offset) }
+    ensures alone { IfOk result (λ p. (rs : List Record) (t : Totals) → IsReport text.now rs t
+        → (rs ≡ p.0) × (t ≡ p.1)) }
+    ensures none { IfErr result (λ e. (offset : ℕ)
+        → e ≡ ReadBack.NoReport offset → NoReportAt text.now offset) }
 {
     let mut room = String::new(alloc);
     let mut taker = Taker::new(alloc);

@@ -3,9 +3,9 @@
 ghost use Rattle.std.specs.Prelude.{◌≡◌, ◌<◌, ◌≤◌, ◌++◌, length, IsTrue, IfOk, IfSome, OnOk, IsErr, string_bytes};
 ghost use Rattle.std.specs.List.{list_all};
 ghost use Rattle.mos_bytes.specs.Causes.{HasCause};
-ghost use Rattle.mos_bytes.specs.Writes.{WriteAdds};
 ghost use Rattle.report_text.specs.Report.{callbacks_text, drops_text, fields_text, record_text, records_text};
 ghost use Rattle.report_text.specs.Tidy.{are_named, is_tidy_record};
+ghost use Rattle.report_text.specs.Written.{Adds};
 
 use crate::lines::{push_drop, push_entry, push_field, push_first_line};
 use crate::record::Record;
@@ -77,7 +77,7 @@ fn first_line_of(text: &[u8]) -> Option<usize>
 
 /// Writes a text, each line by one call, and what stands behind the last one by another. At an `Err` the sink holds a front of it.
 pub fn write_lines<O: Sink>(out: &mut O, text: &[u8]) -> Result<(), Failed>
-    ensures text { WriteAdds (O.taken out.old) (O.taken out.new) result text.now }
+    ensures text { Adds O.Sink out.old out.new result text.now }
     ensures cause { HasCause (O.faults out.old) (O.faults out.new) result }
     ensures lasts { O.lasting out.new ≡ O.lasting out.old }
 {

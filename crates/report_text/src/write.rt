@@ -2,11 +2,11 @@
 
 ghost use Rattle.std.specs.Prelude.{◌≡◌, IsErrOf, IsTrue};
 ghost use Rattle.mos_bytes.specs.Causes.{HasCauseOf};
-ghost use Rattle.mos_bytes.specs.Writes.{WriteAdds};
 ghost use Rattle.callback_log.specs.Walk.{entry_lent};
 ghost use Rattle.report_text.specs.Lines.{head_line, callback_line, drop_line, field_line, totals_line};
 ghost use Rattle.report_text.specs.Report.{callbacks_text, drops_text, fields_text, rest_text, record_text, records_text, report_text};
 ghost use Rattle.report_text.specs.Tidy.{are_named, is_tidy_record, tidy};
+ghost use Rattle.report_text.specs.Written.{Adds};
 ghost use Rattle.std.specs.List.{list_all};
 ghost use Rattle.app_api.specs.App.{is_field_name};
 
@@ -56,7 +56,7 @@ pub(crate) fn write_callback<O: Sink>(
     line: &mut String,
     callback: &Callback<'_>,
 ) -> Result<(), TextError>
-    ensures text { WriteAdds (O.taken out.old) (O.taken out.new) result (callback_line (entry_lent callback.now)) }
+    ensures text { Adds O.Sink out.old out.new result (callback_line (entry_lent callback.now)) }
     ensures cause { HasCauseOf (O.faults out.old) (O.faults out.new) (IsErrOf result TextError.WriteFault) }
     ensures lasts { O.lasting out.new ≡ O.lasting out.old }
 {
@@ -72,7 +72,7 @@ fn write_entry<O: Sink>(
     line: &mut String,
     entry: &Entry,
 ) -> Result<(), TextError>
-    ensures text { WriteAdds (O.taken out.old) (O.taken out.new) result (callback_line entry.now) }
+    ensures text { Adds O.Sink out.old out.new result (callback_line entry.now) }
     ensures cause { HasCauseOf (O.faults out.old) (O.faults out.new) (IsErrOf result TextError.WriteFault) }
     ensures lasts { O.lasting out.new ≡ O.lasting out.old }
 {
@@ -87,7 +87,7 @@ pub(crate) fn write_head<O: Sink>(
     kind: &RecordKind,
     version: u32,
 ) -> Result<(), TextError>
-    ensures text { WriteAdds (O.taken out.old) (O.taken out.new) result (head_line name kind.now version) }
+    ensures text { Adds O.Sink out.old out.new result (head_line name kind.now version) }
     ensures cause { HasCauseOf (O.faults out.old) (O.faults out.new) (IsErrOf result TextError.WriteFault) }
     ensures lasts { O.lasting out.new ≡ O.lasting out.old }
 {
@@ -103,7 +103,7 @@ fn write_drop<O: Sink>(
     index: u64,
     reason: Reason,
 ) -> Result<(), TextError>
-    ensures text { WriteAdds (O.taken out.old) (O.taken out.new) result (drop_line (index, reason)) }
+    ensures text { Adds O.Sink out.old out.new result (drop_line (index, reason)) }
     ensures cause { HasCauseOf (O.faults out.old) (O.faults out.new) (IsErrOf result TextError.WriteFault) }
     ensures lasts { O.lasting out.new ≡ O.lasting out.old }
 {
@@ -120,7 +120,7 @@ fn write_field<O: Sink>(
     value: u64,
 ) -> Result<(), TextError>
     requires { IsTrue (is_field_name name.now) }
-    ensures text { WriteAdds (O.taken out.old) (O.taken out.new) result (field_line (name.now, value)) }
+    ensures text { Adds O.Sink out.old out.new result (field_line (name.now, value)) }
     ensures cause { HasCauseOf (O.faults out.old) (O.faults out.new) (IsErrOf result TextError.WriteFault) }
     ensures lasts { O.lasting out.new ≡ O.lasting out.old }
 {
@@ -136,7 +136,7 @@ fn write_entries<O: Sink>(
     line: &mut String,
     entries: &[Entry],
 ) -> Result<(), TextError>
-    ensures text { WriteAdds (O.taken out.old) (O.taken out.new) result (callbacks_text entries.now) }
+    ensures text { Adds O.Sink out.old out.new result (callbacks_text entries.now) }
     ensures cause { HasCauseOf (O.faults out.old) (O.faults out.new) (IsErrOf result TextError.WriteFault) }
     ensures lasts { O.lasting out.new ≡ O.lasting out.old }
 {
@@ -151,7 +151,7 @@ pub(crate) fn write_drops<O: Sink>(
     line: &mut String,
     drops: &[(u64, Reason)],
 ) -> Result<(), TextError>
-    ensures text { WriteAdds (O.taken out.old) (O.taken out.new) result (drops_text drops.now) }
+    ensures text { Adds O.Sink out.old out.new result (drops_text drops.now) }
     ensures cause { HasCauseOf (O.faults out.old) (O.faults out.new) (IsErrOf result TextError.WriteFault) }
     ensures lasts { O.lasting out.new ≡ O.lasting out.old }
 {
@@ -167,7 +167,7 @@ fn write_fields<O: Sink>(
     fields: &[(Bytes, u64)],
 ) -> Result<(), TextError>
     requires { IsTrue (are_named fields.now) }
-    ensures text { WriteAdds (O.taken out.old) (O.taken out.new) result (fields_text fields.now) }
+    ensures text { Adds O.Sink out.old out.new result (fields_text fields.now) }
     ensures cause { HasCauseOf (O.faults out.old) (O.faults out.new) (IsErrOf result TextError.WriteFault) }
     ensures lasts { O.lasting out.new ≡ O.lasting out.old }
 {
@@ -185,7 +185,7 @@ fn write_rest<O: Sink>(
     of: &Record,
 ) -> Result<(), TextError>
     requires { IsTrue (is_tidy_record of.now) }
-    ensures text { WriteAdds (O.taken out.old) (O.taken out.new) result (rest_text of.now) }
+    ensures text { Adds O.Sink out.old out.new result (rest_text of.now) }
     ensures cause { HasCauseOf (O.faults out.old) (O.faults out.new) (IsErrOf result TextError.WriteFault) }
     ensures lasts { O.lasting out.new ≡ O.lasting out.old }
 {
@@ -201,7 +201,7 @@ fn write_record<O: Sink>(
     of: &Record,
 ) -> Result<(), TextError>
     requires { IsTrue (is_tidy_record of.now) }
-    ensures text { WriteAdds (O.taken out.old) (O.taken out.new) result (record_text of.now) }
+    ensures text { Adds O.Sink out.old out.new result (record_text of.now) }
     ensures cause { HasCauseOf (O.faults out.old) (O.faults out.new) (IsErrOf result TextError.WriteFault) }
     ensures lasts { O.lasting out.new ≡ O.lasting out.old }
 {
@@ -216,7 +216,7 @@ fn write_records<O: Sink>(
     records: &[Record],
 ) -> Result<(), TextError>
     requires { IsTrue (list_all is_tidy_record records.now) }
-    ensures text { WriteAdds (O.taken out.old) (O.taken out.new) result (records_text records.now) }
+    ensures text { Adds O.Sink out.old out.new result (records_text records.now) }
     ensures cause { HasCauseOf (O.faults out.old) (O.faults out.new) (IsErrOf result TextError.WriteFault) }
     ensures lasts { O.lasting out.new ≡ O.lasting out.old }
 {
@@ -228,7 +228,7 @@ fn write_records<O: Sink>(
 
 /// Writes the last line of a report. At an `Err` the sink holds a front of it.
 pub fn write_totals<O: Sink>(alloc: Global, out: &mut O, totals: &Totals) -> Result<(), TextError>
-    ensures text { WriteAdds (O.taken out.old) (O.taken out.new) result (totals_line totals.now) }
+    ensures text { Adds O.Sink out.old out.new result (totals_line totals.now) }
     ensures cause { HasCauseOf (O.faults out.old) (O.faults out.new) (IsErrOf result TextError.WriteFault) }
     ensures lasts { O.lasting out.new ≡ O.lasting out.old }
 {
@@ -247,7 +247,7 @@ pub fn write_report<O: Sink>(
     totals: &Totals,
 ) -> Result<(), TextError>
     requires tidy { IsTrue (tidy records.now) }
-    ensures text { WriteAdds (O.taken out.old) (O.taken out.new) result (report_text records.now totals.now) }
+    ensures text { Adds O.Sink out.old out.new result (report_text records.now totals.now) }
     ensures cause { HasCauseOf (O.faults out.old) (O.faults out.new) (IsErrOf result TextError.WriteFault) }
     ensures lasts { O.lasting out.new ≡ O.lasting out.old }
 {

@@ -1,6 +1,7 @@
 -- The words after the program's name: which of them are accepted, and what they choose.
-use Rattle.std.specs.Prelude.{ℕ, Bool, true, false, not, ◌&&◌, ◌==◌, if◌then◌else◌, nat_le, List, [], ◌∷◌, ◌++◌, map, length, slice_index, find, codes, Option, Some, None, option_map, option_and_then}
+use Rattle.std.specs.Prelude.{◌≡◌, ℕ, Bool, true, false, not, ◌&&◌, ◌==◌, if◌then◌else◌, nat_le, List, [], ◌∷◌, ◌++◌, map, length, slice_index, find, codes, Option, Some, None, option_map, option_and_then, Result, IfErr, String, string_bytes}
 use Rattle.std.specs.List.{list_all, list_any, before_first, after_first}
+use Rattle.std.specs.Borrow.{Bor}
 use Rattle.std.specs.Char.{is_ascii_digit}
 use Rattle.std.specs.Str.{bytes_eq}
 use Rattle.std.specs.Str.Parse.{digits_value}
@@ -10,6 +11,8 @@ use Rattle.words.specs.declared.settings.AppKind.TheVariants.{Log}
 use Rattle.words.specs.declared.settings.Emit.{Emit}
 use Rattle.words.specs.declared.settings.Emit.TheVariants.{Report, Summary}
 use Rattle.words.specs.declared.settings.Settings.{Settings}
+use Rattle.words.specs.declared.settings.WordsError.{WordsError}
+use Rattle.words.specs.declared.settings.WordsError.TheVariants.{Usage}
 
 -- ---- the words as items
 
@@ -136,3 +139,15 @@ accepted items = if are_options items then settings_of (value_of items) else Non
 -- the settings that the words choose, where they are accepted
 unfoldable pub words_settings : List (List ℕ) → Option Settings
 words_settings words = option_and_then accepted (items_from None words)
+
+-- the same of words as they are given
+abbrev pub chosen_by : {Z : Type 0} → List (String Z) → Option Settings
+chosen_by words = words_settings (map string_bytes words)
+
+-- `Usage` is told only where nothing is chosen
+abbrev pub UsageMeansNone : {T C : Type 0} → Result T WordsError → Option C → Type 0
+UsageMeansNone result choice = IfErr result (λ e. e ≡ Usage → choice ≡ None)
+
+-- the text that is lent, where one is
+abbrev pub given : Option (Bor (List ℕ)) → Option (List ℕ)
+given text = option_map (λ s. s.now) text

@@ -1,8 +1,8 @@
 //! The words as `clap` reads them.
 
-ghost use Rattle.std.specs.Prelude.{◌≡◌, ◌≢◌, IfOk, IfErr, None, false, map, string_bytes};
+ghost use Rattle.std.specs.Prelude.{◌≡◌, ◌≢◌, IfOk, false, map, string_bytes};
 ghost use Rattle.clap.specs.Words.{first_value, found_of};
-ghost use Rattle.words.specs.Words.{words_settings};
+ghost use Rattle.words.specs.Words.{UsageMeansNone, chosen_by};
 ghost use Rattle.words.specs.Found.{found_settings, has_dashes};
 
 use crate::command::command;
@@ -26,8 +26,8 @@ pub(crate) fn has_dashes(words: &[String]) -> bool
 /// The matches of the words, none of which is `--`. The values are still to be tested.
 pub(crate) fn parsed<'a>(alloc: Global, words: &'a [String]) -> Result<ArgMatches<'a>, WordsError>
     requires { has_dashes (map string_bytes words.now) ≡ false }
-    ensures ok { IfOk result (λ m. words_settings (map string_bytes words.now) ≡ found_settings (first_value (found_of m))) }
-    ensures usage { IfErr result (λ e. e ≡ WordsError.Usage → words_settings (map string_bytes words.now) ≡ None) }
+    ensures ok { IfOk result (λ m. chosen_by words.now ≡ found_settings (first_value (found_of m))) }
+    ensures usage { UsageMeansNone result (chosen_by words.now) }
 {
     match command(alloc)?.try_get_matches_from(words) {
         Ok(matches) => Ok(matches),

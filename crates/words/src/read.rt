@@ -1,8 +1,8 @@
 //! The words, read as settings.
 
-ghost use Rattle.std.specs.Prelude.{◌≡◌, ◌≤◌, IfOk, IfErr, IfSome, Some, None, map, option_map, string_bytes};
+ghost use Rattle.std.specs.Prelude.{◌≡◌, ◌≤◌, IfOk, IfSome, Some, None};
 ghost use Rattle.clap.specs.Words.{first_value, found_of};
-ghost use Rattle.words.specs.Words.{is_value, settings_of, words_settings};
+ghost use Rattle.words.specs.Words.{UsageMeansNone, chosen_by, given, is_value, settings_of};
 ghost use Rattle.words.specs.Found.{all_pass, passes};
 
 use crate::parse::{has_dashes, parsed};
@@ -15,10 +15,10 @@ use std::alloc::Global;
 ///
 /// Usage exactly where they aren't accepted, unless memory was refused before that was known.
 pub fn read_words(alloc: Global, words: &[String]) -> Result<Settings, WordsError>
-    ensures ok { IfOk result (λ s. words_settings (map string_bytes words.now) ≡ Some s) }
+    ensures ok { IfOk result (λ s. chosen_by words.now ≡ Some s) }
     ensures workers { IfOk result (λ s. (1 ≤ s.workers) × (s.workers ≤ 16)) }
     ensures few { IfOk result (λ s. IfSome s.make (λ n. n ≤ 100000)) }
-    ensures usage { IfErr result (λ e. e ≡ WordsError.Usage → words_settings (map string_bytes words.now) ≡ None) }
+    ensures usage { UsageMeansNone result (chosen_by words.now) }
 {
     if has_dashes(words) {
         return Err(WordsError::Usage);
@@ -42,7 +42,7 @@ fn all_pass(matches: &ArgMatches<'_>) -> bool
 }
 
 fn passes(value: Option<&str>) -> bool
-    ensures { result ≡ passes (option_map (λ s. s.now) value.entry) }
+    ensures { result ≡ passes (given value.entry) }
 {
     match value {
         Some(text) => is_value(text.as_bytes()),
@@ -61,7 +61,7 @@ fn settings(alloc: Global, matches: &ArgMatches<'_>) -> Result<Settings, WordsEr
     ensures ok { IfOk result (λ s. settings_of (first_value (found_of matches.now)) ≡ Some s) }
     ensures workers { IfOk result (λ s. (1 ≤ s.workers) × (s.workers ≤ 16)) }
     ensures few { IfOk result (λ s. IfSome s.make (λ n. n ≤ 100000)) }
-    ensures usage { IfErr result (λ e. e ≡ WordsError.Usage → settings_of (first_value (found_of matches.now)) ≡ None) }
+    ensures usage { UsageMeansNone result (settings_of (first_value (found_of matches.now))) }
 {
     let app = app_of(matches.get_str("app")).ok_or(WordsError::Usage)?;
     let workers = workers_of(matches.get_str("workers")).ok_or(WordsError::Usage)?;

@@ -1,11 +1,11 @@
 //! Each option's value, as the choice that it makes.
 
-ghost use Rattle.std.specs.Prelude.{◌≡◌, ◌^◌, ◌≤◌, ◌<◌, IfOk, IfErr, IfSome, Some, None, MatchOption, option_map};
+ghost use Rattle.std.specs.Prelude.{◌≡◌, ◌^◌, ◌≤◌, ◌<◌, IfOk, IfSome, Some, None, MatchOption};
 ghost use Rattle.std.specs.List.{list_all};
 ghost use Rattle.std.specs.Char.{digit_value, is_ascii_digit};
 ghost use Rattle.std.specs.Str.Parse.{digits_value};
 ghost use Rattle.words.specs.Offers.{most_workers, most_made};
-ghost use Rattle.words.specs.Words.{app_of, workers_of, script_of, emit_of, make_of, number_up_to};
+ghost use Rattle.words.specs.Words.{UsageMeansNone, given, app_of, workers_of, script_of, emit_of, make_of, number_up_to};
 
 use crate::settings::{AppKind, Emit, Name, WordsError};
 use std::alloc::Global;
@@ -18,7 +18,7 @@ const MOST_MADE: u32 = 100_000;
 
 /// The application of this name, or the log.
 pub(crate) fn app_of(text: Option<&str>) -> Option<AppKind>
-    ensures { result ≡ app_of (option_map (λ s. s.now) text.entry) }
+    ensures { result ≡ app_of (given text.entry) }
 {
     let Some(text) = text else {
         return Some(AppKind::Log);
@@ -40,7 +40,7 @@ pub(crate) fn app_of(text: Option<&str>) -> Option<AppKind>
 
 /// So many workers, or one.
 pub(crate) fn workers_of(text: Option<&str>) -> Option<usize>
-    ensures which { result ≡ workers_of (option_map (λ s. s.now) text.entry) }
+    ensures which { result ≡ workers_of (given text.entry) }
     ensures within { IfSome result (λ workers. (1 ≤ workers) × (workers ≤ 16)) }
 {
     match text {
@@ -54,8 +54,8 @@ pub(crate) fn workers_of(text: Option<&str>) -> Option<usize>
 
 /// The script's name, of at most 255 bytes, or none.
 pub(crate) fn script_of(alloc: Global, text: Option<&str>) -> Result<Option<Name>, WordsError>
-    ensures ok { IfOk result (λ script. script_of (option_map (λ s. s.now) text.entry) ≡ Some script) }
-    ensures usage { IfErr result (λ e. e ≡ WordsError.Usage → script_of (option_map (λ s. s.now) text.entry) ≡ None) }
+    ensures ok { IfOk result (λ script. script_of (given text.entry) ≡ Some script) }
+    ensures usage { UsageMeansNone result (script_of (given text.entry)) }
 {
     let Some(text) = text else {
         return Ok(None);
@@ -69,7 +69,7 @@ pub(crate) fn script_of(alloc: Global, text: Option<&str>) -> Result<Option<Name
 
 /// What is written: a summary where a capture is made, which excludes a choice; else the choice, or the report.
 pub(crate) fn emit_of(text: Option<&str>, make: Option<&str>) -> Option<Emit>
-    ensures { result ≡ emit_of (option_map (λ s. s.now) text.entry) (option_map (λ s. s.now) make.entry) }
+    ensures { result ≡ emit_of (given text.entry) (given make.entry) }
 {
     match (text, make) {
         (Some(_), Some(_)) => None,
@@ -89,7 +89,7 @@ pub(crate) fn emit_of(text: Option<&str>, make: Option<&str>) -> Option<Emit>
 
 /// How many connections are made, where any are.
 pub(crate) fn make_of(text: Option<&str>) -> Option<Option<u32>>
-    ensures which { result ≡ make_of (option_map (λ s. s.now) text.entry) }
+    ensures which { result ≡ make_of (given text.entry) }
     ensures few { IfSome result (λ made. IfSome made (λ n. n ≤ 100000)) }
 {
     match text {
