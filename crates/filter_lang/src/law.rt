@@ -15,5 +15,6 @@ pub fn first_refusal()
     ensures none_goes_on { (before : List Placed) (p : Place) (t : Placed) (refusal : ℕ → FilterError)
         → place_behind before start ≡ Some p → next p t.token ≡ stop refusal
         → (after : List Placed) → read (before ++ t ∷ after) start ≡ Err (refusal t.at) }
-    ensures refused { (text : List ℕ) (e : FilterError) → filter text ≡ Err e → IsRefused (tokens text) start e }
+    ensures refused { (text : List ℕ) (e : FilterError) → filter text ≡ Err e
+        → IsRefused (tokens text) start e }
 {}

@@ -17,7 +17,8 @@ ghost use Rattle.lane_rings.specs.Forward.{Leaving, Keeps, AreFronts, AreIndexed
 
 /// A run begins right: nothing was sent, taken or written, and the resequencer is new.
 pub fn beginning_is_right()
-    ensures keeps { (lane : ℕ → ℕ) (w : Waiting) (limit : ℕ) → w.next ≡ 0 → w.window ≡ replicate limit None
+    ensures keeps { (lane : ℕ → ℕ) (w : Waiting) (limit : ℕ) → w.next ≡ 0
+        → w.window ≡ replicate limit None
         → Keeps lane 0 (λ l. []) (beginning w) }
 {}
 
@@ -69,13 +70,16 @@ pub fn taken_are_right()
 /// However a run ends: no answer came back, and what was written is a front of what the packets leave, in their order
 /// and each once; also with a part of the record whose turn it is, where its write failed.
 pub fn a_front_was_written()
-    ensures none_lost { (lane : ℕ → ℕ) (answer : ℕ → Answer) (n : ℕ) (taken : ℕ → List Answer) (s : Leaving)
+    ensures none_lost { (lane : ℕ → ℕ) (answer : ℕ → Answer) (n : ℕ) (taken : ℕ → List Answer)
+        (s : Leaving)
         → Keeps lane n taken s
         → AreIndexed answer → AreFronts lane answer n taken → s.lost ≡ false }
-    ensures whole_records { (lane : ℕ → ℕ) (answer : ℕ → Answer) (n m : ℕ) (taken : ℕ → List Answer) (s : Leaving)
+    ensures whole_records { (lane : ℕ → ℕ) (answer : ℕ → Answer) (n m : ℕ)
+        (taken : ℕ → List Answer) (s : Leaving)
         → Keeps lane n taken s
         → AreIndexed answer → AreFronts lane answer n taken → n ≤ m → IsPrefix s.out (forwarded answer m) }
-    ensures cut_record { (lane : ℕ → ℕ) (answer : ℕ → Answer) (n m : ℕ) (taken : ℕ → List Answer) (s : Leaving)
+    ensures cut_record { (lane : ℕ → ℕ) (answer : ℕ → Answer) (n m : ℕ)
+        (taken : ℕ → List Answer) (s : Leaving)
         (a : Answer) (part : List ℕ)
         → Keeps lane n taken s → AreIndexed answer → AreFronts lane answer n taken → n ≤ m
         → first_of s.waiting ≡ Some a → IsPrefix part (bytes_out a) → IsPrefix (s.out ++ part) (forwarded answer m) }
@@ -93,7 +97,8 @@ pub fn all_was_written()
 /// are those of the list that go to it, in order, and what the first n packets leave are their bytes, one after the
 /// other.
 pub fn numbers_are_places()
-    ensures share { (of : Answer → ℕ) (l : ℕ) (answers : List Answer) (d : Answer) (n : ℕ) → n ≤ length answers
+    ensures share { (of : Answer → ℕ) (l : ℕ) (answers : List Answer) (d : Answer) (n : ℕ)
+        → n ≤ length answers
         → map (λ i. get_or answers i d) (share (λ i. of (get_or answers i d)) l n) ≡ filter (λ a. of a == l)
         (take n answers) }
     ensures bytes { (answers : List Answer) (d : Answer) (n : ℕ) → n ≤ length answers

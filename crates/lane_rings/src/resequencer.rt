@@ -61,8 +61,10 @@ impl Resequencer {
 
     // The place of an index; none where it was given out or lies too far above the next one.
     fn place_of(&self, index: u64) -> Option<usize>
-        ensures some { IfSome result (λ place. (place ≡ index - self.now.next) × (self.now.next ≤ index) × (place < length self.now.window)) }
-        ensures none { result ≡ None → (nat_lt index self.now.next || nat_le (self.now.next + length self.now.window) index) ≡ true }
+        ensures some { IfSome result (λ place. (place ≡ index - self.now.next) × (self.now.next ≤ index)
+            × (place < length self.now.window)) }
+        ensures none { result ≡ None
+            → (nat_lt index self.now.next || nat_le (self.now.next + length self.now.window) index) ≡ true }
     {
         let index = u128::from(index);
         if index < self.next {

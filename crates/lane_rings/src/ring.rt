@@ -37,7 +37,8 @@ impl<T: Drop> RingTx<T> {
         ensures ring { SameTx self.old self.new }
         ensures ok { OnOk result (sent self.new ≡ sent self.old ++ item ∷ []) }
         ensures fewer { OnOk result (free self.old ≤ free self.new + 1) }
-        ensures full { IfErr result (λ back. (back ≡ item) × (sent self.new ≡ sent self.old) × (free self.new ≡ 0)) }
+        ensures full { IfErr result (λ back. (back ≡ item) × (sent self.new ≡ sent self.old)
+            × (free self.new ≡ 0)) }
         ensures succeeds { 0 < free self.old → IsOk result }
     {
         match self.producer.push(item) {

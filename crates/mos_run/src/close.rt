@@ -32,7 +32,8 @@ fn write_counts<O: Sink>(
     out: &mut O,
 ) -> Result<(), RunError>
     requires no_report { output ≢ Output.Report }
-    ensures text { (records : List Record) → WriteAdds (O.taken out.old) (O.taken out.new) result (closing output records totals.now) }
+    ensures text { (records : List Record)
+        → WriteAdds (O.taken out.old) (O.taken out.new) result (closing output records totals.now) }
     ensures silent { is_forward output ≡ true → out.new ≡ out.old }
     ensures only { IfErr result
         (λ e. ((e ≡ RunError.WriteFault) × (is_forward output ≡ false)) ⊎ (e ≡ RunError.NoMemory)) }

@@ -42,7 +42,8 @@ fn write_end_by<R: Threads + Sync, G, O: Sink>(
 ) -> Result<(), RunError>
     requires some { 1 ≤ plan.now.workers }
     requires tidy { plan.now.output ≡ Output.Report → IsTrue (tidy records.now) }
-    ensures text { WriteAdds (O.taken out.old) (O.taken out.new) result (closing plan.now.output records.now totals.now) }
+    ensures text { WriteAdds (O.taken out.old) (O.taken out.new) result
+        (closing plan.now.output records.now totals.now) }
     ensures silent { is_forward plan.now.output ≡ true → out.new ≡ out.old }
     ensures only { IfErr result
         (λ e. ((e ≡ RunError.WriteFault) × (is_forward plan.now.output ≡ false)) ⊎ (e ≡ RunError.NoMemory)) }

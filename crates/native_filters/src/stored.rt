@@ -26,7 +26,8 @@ impl Native {
     pub fn new(which: u8, f: fn(&Facts) -> bool) -> Native
         requires number { which ≤ 5 }
         requires callable { IsAlwaysCallable f }
-        requires answers { (facts : Bor FactsOf) (answer : Bool) → post f facts answer → answer ≡ native which facts.now }
+        requires answers { (facts : Bor FactsOf) (answer : Bool) → post f facts answer
+            → answer ≡ native which facts.now }
         ensures { result.which ≡ which }
     {
         Native { which, function: f }

@@ -90,7 +90,8 @@ impl Forests for Table {
         // A tree that is there gets its row, and needs no memory. Another is added at the end.
         ensures held { Contains self.old.rows tree → IsOk result }
         ensures found { Contains self.old.rows tree → OnOk result (self.new.rows ≡ self.old.rows) }
-        ensures added { ¬ (Contains self.old.rows tree) → OnOk result (self.new.rows ≡ self.old.rows ++ tree ∷ []) }
+        ensures added { ¬ (Contains self.old.rows tree)
+            → OnOk result (self.new.rows ≡ self.old.rows ++ tree ∷ []) }
         ensures rises { OnOk result (self.new.interns ≡ min (self.old.interns + 1) (2 ^ 64 - 1)) }
     {
         let row = row_for(&mut self.rows, tree)?;
@@ -121,7 +122,8 @@ fn row_for(rows: &mut IndexSet<Tree>, tree: Tree) -> Result<usize, AllocError>
     ensures added { ¬ (Contains rows.old.keys tree) → OnOk result (rows.new.keys ≡ rows.old.keys ++ tree ∷ []) }
     ensures held { Contains rows.old.keys tree → IsOk result }
     ensures longer { length rows.old.keys ≤ length rows.new.keys }
-    ensures kept { (row : ℕ) (d : TreeLists) → row < length rows.old.keys → slice_index_or rows.new.keys row d ≡ slice_index_or rows.old.keys row d }
+    ensures kept { (row : ℕ) (d : TreeLists) → row < length rows.old.keys
+        → slice_index_or rows.new.keys row d ≡ slice_index_or rows.old.keys row d }
     ensures err { OnErr result (rows.new.keys ≡ rows.old.keys) }
 {
     let (row, _is_new) = rows.insert_full(tree)?;

@@ -23,7 +23,8 @@ fn texts_of<R: Threads + Sync>(
 ) -> Result<Vec<Result<String, AllocError>>, AllocError>
     requires size { 0 < size }
     requires tidy { IsTrue (list_all is_tidy_record records.now) }
-    ensures count { IfOk result (λ texts. length texts.items ≡ length records.now / size + min 1 (length records.now % size)) }
+    ensures count { IfOk result (λ texts.
+        length texts.items ≡ length records.now / size + min 1 (length records.now % size)) }
     ensures each { IfOk result (λ texts. AreTexts size records.now texts.items) }
 {
     let f = |_start: usize, chunk: &[Record]| -> Result<String, AllocError>

@@ -97,7 +97,8 @@ fn take_lowest(queues: &mut Vec<Queue>, merged: &mut Vec<Record>) -> Result<bool
 /// copied. Where lists are those of lanes, which no two have a name in common, and names rise in each, they rise in the
 /// merged list, and it has exactly the records of the lists.
 pub fn merge(alloc: Global, lists: Vec<RecordList>) -> Result<RecordList, AllocError>
-    ensures merged { (of : ℕ → ℕ) → AreOfLanes of lists.items → IfOk result (λ merged. IsMerge of lists.items merged) }
+    ensures merged { (of : ℕ → ℕ) → AreOfLanes of lists.items
+        → IfOk result (λ merged. IsMerge of lists.items merged) }
 {
     let mut queues = queues_of(alloc, lists)?;
     let mut items = Vec::with_capacity(alloc, count_of(&queues))?;

@@ -22,7 +22,8 @@ pub fn packets_of_a_capture_rise()
 
 /// Each packet goes to one of the lanes: that of its key, as `ip6_views` has it of what is seen of the frame.
 pub fn packets_go_to_lanes()
-    ensures below { (lanes : ℕ) (sight : Sight) → 1 ≤ lanes → lane_of (λ key. lane_of_key key lanes) sight < lanes }
+    ensures below { (lanes : ℕ) (sight : Sight) → 1 ≤ lanes
+        → lane_of (λ key. lane_of_key key lanes) sight < lanes }
     ensures frame { (lanes : ℕ) (frame : List ℕ)
         → lane_of (λ key. lane_of_key key lanes) (sight_of frame) ≡ lane_of_sight (sight_of frame) lanes }
 {}

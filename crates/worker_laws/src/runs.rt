@@ -93,7 +93,8 @@ pub fn a_heavy_lane_makes_a_heavy_run()
 
 /// The versions of a run's records are those of the list, where it is allowed; and the run's packets are all packets.
 pub fn a_run_has_its_versions()
-    ensures versions { (app : Meaning) (commands : List Command) (least most : ℕ → ℕ) (lane : EndpointPair → ℕ)
+    ensures versions { (app : Meaning) (commands : List Command) (least most : ℕ → ℕ)
+        (lane : EndpointPair → ℕ)
         (packets : List Arrival) (vs : List ℕ)
         → IsAllowedRun app commands least most lane packets vs
         → map (λ r. r.version) (run_under app commands vs packets) ≡ vs }
@@ -110,7 +111,8 @@ pub fn without_live_commands_there_is_one_run()
         → run_under app commands vs packets
         ≡ map (ended_at app (in_force app commands) (greatest packets))
         (records app (in_force app commands) (versioned most packets)) }
-    ensures verdicts { (app : Meaning) (commands : List Command) (least most : ℕ → ℕ) (lane : EndpointPair → ℕ)
+    ensures verdicts { (app : Meaning) (commands : List Command) (least most : ℕ → ℕ)
+        (lane : EndpointPair → ℕ)
         (packets : List Arrival) (vs : List ℕ)
         → ((n : ℕ) → least n ≡ most n) → IsAllowedRun app commands least most lane packets vs
         → verdicts_under app commands vs packets ≡ verdicts_from app (in_force app commands) [] (versioned most packets) }

@@ -42,12 +42,14 @@ pub fn a_share_makes_its_part()
         (lane : EndpointPair → ℕ) (l : ℕ)
         (u v : ℕ → ℕ) (ps : List Arrival) → All (λ a. u a.number ≡ v a.number) (share lane l ps)
         → judged endings judge (versioned u (share lane l ps)) ≡ judged_part lane l (judged endings judge (versioned v ps)) }
-    ensures histories { (app : Meaning) (control_at : ℕ → ControlState) (lane : EndpointPair → ℕ) (l : ℕ) (u v : ℕ → ℕ)
+    ensures histories { (app : Meaning) (control_at : ℕ → ControlState) (lane : EndpointPair → ℕ)
+        (l : ℕ) (u v : ℕ → ℕ)
         (ps : List Arrival)
         → All (λ a. u a.number ≡ v a.number) (share lane l ps)
         → lane_records app control_at (versioned u (share lane l ps))
         ≡ filter (λ r. lane_of lane r.first.sight == l) (lane_records app control_at (versioned v ps)) }
-    ensures at_end { (app : Meaning) (control_at : ℕ → ControlState) (last : Option Moment) (lane : EndpointPair → ℕ)
+    ensures at_end { (app : Meaning) (control_at : ℕ → ControlState) (last : Option Moment)
+        (lane : EndpointPair → ℕ)
         (l : ℕ) (u v : ℕ → ℕ) (ps : List Arrival)
         → All (λ a. u a.number ≡ v a.number) (share lane l ps)
         → map (ended_at app control_at last) (lane_records app control_at (versioned u (share lane l ps)))
@@ -69,13 +71,15 @@ pub fn lanes_make_one_run()
 pub fn names_differ()
     ensures rise { (endings : Endings) (ps : List VersionedPacket) → Rises (map (λ p. p.arrival.number) ps)
         → Rises (map name_of (records endings ps)) }
-    ensures apart { (lane : EndpointPair → ℕ) (k l : ℕ) → k ≢ l → (ms : List Members) → Rises (map name_of ms)
+    ensures apart { (lane : EndpointPair → ℕ) (k l : ℕ) → k ≢ l → (ms : List Members)
+        → Rises (map name_of ms)
         → All (λ i. All (λ j. i ≢ j) (map name_of (part lane k ms))) (map name_of (part lane l ms)) }
 {}
 
 /// A list of records whose names rise is known by its parts: two such lists with the same part for each lane are equal.
 pub fn parts_make_the_whole()
-    ensures records { (lane : EndpointPair → ℕ) (ms ns : List Members) → Rises (map name_of ms) → Rises (map name_of ns)
+    ensures records { (lane : EndpointPair → ℕ) (ms ns : List Members) → Rises (map name_of ms)
+        → Rises (map name_of ns)
         → ((l : ℕ) → part lane l ms ≡ part lane l ns) → ms ≡ ns }
     ensures shown { (of : ℕ → ℕ) (rs ss : List Record) → Rises (names_in rs) → Rises (names_in ss)
         → ((l : ℕ) → filter (λ r. of r.name == l) rs ≡ filter (λ r. of r.name == l) ss) → rs ≡ ss }

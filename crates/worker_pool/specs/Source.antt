@@ -1,5 +1,5 @@
 -- What a run did to the source of an opened capture.
-use Rattle.std.specs.Prelude.{◌≡◌, ℕ, List, [], Some}
+use Rattle.std.specs.Prelude.{◌≡◌, ℕ, List, [], Option, Some}
 use Rattle.mos_bytes.specs.declared.source.Source.{Ghosts as Source}
 use Rattle.mos_bytes.specs.Outside.{Reads}
 use Rattle.pcap_source.specs.Capture.{Frames, tail}
@@ -15,3 +15,7 @@ pub record ReadsOn {S : Type 0} (source : Source S) (capture : CaptureState) (ol
   pub reads : Reads source old new fault
   pub ended : whole → source.ended new
   pub cut : fault → (bytes : List ℕ) → source.left old ≡ Some bytes → source.left new ≡ Some [] → EndsInTail (frames_at capture bytes)
+
+-- a source that told its bytes has none left
+abbrev pub IsReadWhole : Option (List ℕ) → Option (List ℕ) → Type 0
+IsReadWhole old new = (rest : List ℕ) → old ≡ Some rest → new ≡ Some []

@@ -66,6 +66,16 @@ module _ (lane : ℕ → ℕ) (n : ℕ) (taken_so_far : ℕ → List Answer) whe
     pub cut : IsPrefix part (bytes_of_first (first_of state.waiting))
     pub written : Appends old new (state.out ++ part)
 
+-- more was written: whatever records these were whose turn it was, those whose turn it is now were written whole, and these wait
+abbrev pub LeavesOn : Waiting → Waiting → Option (List ℕ) → Option (List ℕ) → Type 0
+LeavesOn old new written written_after = (lane : ℕ → ℕ) (n : ℕ) (taken_so_far : ℕ → List Answer) (before : Option (List ℕ))
+    → Leaves lane n taken_so_far old before written → Leaves lane n taken_so_far new before written_after
+
+-- a write failed: whatever records these were, a front of the one whose turn it was is behind them
+abbrev pub IsCutShort : Waiting → Option (List ℕ) → Option (List ℕ) → Type 0
+IsCutShort old written written_after = (lane : ℕ → ℕ) (n : ℕ) (taken_so_far : ℕ → List Answer) (before : Option (List ℕ))
+    → Leaves lane n taken_so_far old before written → HasLeft lane n taken_so_far before written_after
+
 -- ---- the run
 
 -- why the dispatcher stopped, where it read a capture that gives these frames

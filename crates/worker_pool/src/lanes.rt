@@ -1,13 +1,13 @@
 //! A run on several lanes.
 
-ghost use Rattle.std.specs.Prelude.{◌≡◌, ◌≤◌, ◌⊎◌, [], ℕ, List, Some, Err, IsOk, IfOk, IsTrue, IsErrOf};
+ghost use Rattle.std.specs.Prelude.{◌≡◌, ◌≤◌, ◌⊎◌, ℕ, List, Some, Err, IsOk, IfOk, IsTrue, IsErrOf};
 ghost use Rattle.pcap_source.specs.Captured.{Captured};
 ghost use Rattle.pcap_source.specs.Reading.{Opened, frames_at};
 ghost use Rattle.forest_versions.specs.Lawful.{are_lawful};
 ghost use Rattle.forest_versions.specs.State.{start};
 ghost use Rattle.control_script.specs.Order.{commands_of};
 ghost use Rattle.worker_pool.specs.Run.{EndsOver, IsWhole};
-ghost use Rattle.worker_pool.specs.Source.{ReadsOn};
+ghost use Rattle.worker_pool.specs.Source.{IsReadWhole, ReadsOn};
 
 use crate::conclude::conclude;
 use crate::gate::Gate;
@@ -53,7 +53,7 @@ pub fn run_lanes<
         → EndsOver (A.meaning job.now.app) job.now.script.now job.now.workers (frames_at capture.old rest) result }
     ensures whole { IfOk result (λ end. (frames : List Captured) × (tail : ℕ)
         × IsWhole (A.meaning job.now.app) job.now.script.now job.now.workers frames tail end) }
-    ensures read { IsOk result → (rest : List ℕ) → S.left source.old ≡ Some rest → S.left source.new ≡ Some [] }
+    ensures read { IsOk result → IsReadWhole (S.left source.old) (S.left source.new) }
     ensures no_write { IsErrOf result PoolError.WriteFault → ⊥ }
 
     // That a run weighs too much is told only where all of the capture was read.
@@ -61,8 +61,8 @@ pub fn run_lanes<
         (IsOk result ⊎ IsErrOf result PoolError.Heavy) (IsErrOf result PoolError.ReadFault) }
 
     // The capture may be read on only where nothing of it was read.
-    ensures stopped { IsTrue capture.new.is_live → (result ≡ Err PoolError.NoMemory) × (capture.new ≡ capture.old)
-        × (source.new ≡ source.old) }
+    ensures stopped { IsTrue capture.new.is_live
+        → (result ≡ Err PoolError.NoMemory) × (capture.new ≡ capture.old) × (source.new ≡ source.old) }
 {
     let (team, used) = make_team(rt, alloc, job)?;
     let ran = read_team(

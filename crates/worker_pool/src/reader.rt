@@ -106,8 +106,8 @@ pub(crate) fn read_team<
     ensures light { IfErr result (λ e. e ≢ PoolError.Heavy) }
     ensures reads { ReadsOn S.Source capture.old source.old source.new (IsOk result)
         (IsErrOf result PoolError.ReadFault) }
-    ensures stopped { IsTrue capture.new.is_live → (result ≡ Err PoolError.NoMemory) × (capture.new ≡ capture.old)
-        × (source.new ≡ source.old) }
+    ensures stopped { IsTrue capture.new.is_live
+        → (result ≡ Err PoolError.NoMemory) × (capture.new ≡ capture.old) × (source.new ≡ source.old) }
 {
     let failed = AtomicBool::new(false);
     let mut used = used;

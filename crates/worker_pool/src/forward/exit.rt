@@ -1,13 +1,12 @@
 //! Where packets leave: what was answered is written in the order of the capture.
 
-ghost use Rattle.std.specs.Prelude.{◌≡◌, ◌<◌, List, Option, ℕ, None, true, false, IfOk, IfErr, OnOk};
+ghost use Rattle.std.specs.Prelude.{◌≡◌, ◌<◌, None, true, false, IfOk, IfErr, OnOk};
 ghost use Rattle.std.specs.Io.KnownBytes.{Keeps};
 ghost use Rattle.mos_bytes.specs.Causes.{HasCause};
 ghost use Rattle.mos_bytes.specs.Writes.{WriteAdds};
-ghost use Rattle.lane_rings.specs.declared.items.Answer.{Answer as Answered};
 ghost use Rattle.lane_rings.specs.Waiting.{first_of};
 ghost use Rattle.lane_rings.specs.Forwarded.{bytes_out};
-ghost use Rattle.worker_pool.specs.Streamed.{Leaves, HasLeft};
+ghost use Rattle.worker_pool.specs.Streamed.{IsCutShort, LeavesOn};
 ghost use Rattle.worker_pool.specs.Drained.{held};
 
 use app_api::Verdict;
@@ -35,13 +34,10 @@ fn write_first<O: Sink>(
     out: &mut O,
     spare: &mut Vec<Frame>,
 ) -> Result<bool, Failed>
-    ensures leaves { OnOk result ((lane : ℕ → ℕ) (n : ℕ) (taken : ℕ → List Answered) (before : Option (List ℕ))
-        → Leaves lane n taken waiting.old before (O.taken out.old)
-        → Leaves lane n taken waiting.new before (O.taken out.new)) }
+    ensures leaves { OnOk result (LeavesOn waiting.old waiting.new (O.taken out.old) (O.taken out.new)) }
     ensures fewer { IfOk result (λ more. more ≡ true → held waiting.new.window < held waiting.old.window) }
     ensures none { IfOk result (λ more. more ≡ false → first_of waiting.new ≡ None) }
-    ensures cut { IfErr result (λ _. (lane : ℕ → ℕ) (n : ℕ) (taken : ℕ → List Answered) (before : Option (List ℕ))
-        → Leaves lane n taken waiting.old before (O.taken out.old) → HasLeft lane n taken before (O.taken out.new)) }
+    ensures cut { IfErr result (λ _. IsCutShort waiting.old (O.taken out.old) (O.taken out.new)) }
     ensures cause { HasCause (O.faults out.old) (O.faults out.new) result }
     ensures lasts { O.lasting out.new ≡ O.lasting out.old }
 {
@@ -62,12 +58,9 @@ pub(crate) fn write_ready<O: Sink>(
     out: &mut O,
     spare: &mut Vec<Frame>,
 ) -> Result<(), Failed>
-    ensures leaves { OnOk result ((lane : ℕ → ℕ) (n : ℕ) (taken : ℕ → List Answered) (before : Option (List ℕ))
-        → Leaves lane n taken waiting.old before (O.taken out.old)
-        → Leaves lane n taken waiting.new before (O.taken out.new)) }
+    ensures leaves { OnOk result (LeavesOn waiting.old waiting.new (O.taken out.old) (O.taken out.new)) }
     ensures none { OnOk result (first_of waiting.new ≡ None) }
-    ensures cut { IfErr result (λ _. (lane : ℕ → ℕ) (n : ℕ) (taken : ℕ → List Answered) (before : Option (List ℕ))
-        → Leaves lane n taken waiting.old before (O.taken out.old) → HasLeft lane n taken before (O.taken out.new)) }
+    ensures cut { IfErr result (λ _. IsCutShort waiting.old (O.taken out.old) (O.taken out.new)) }
     ensures cause { HasCause (O.faults out.old) (O.faults out.new) result }
     ensures lasts { O.lasting out.new ≡ O.lasting out.old }
 {

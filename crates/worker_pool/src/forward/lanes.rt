@@ -10,7 +10,7 @@ ghost use Rattle.forest_versions.specs.State.{start};
 ghost use Rattle.control_script.specs.Order.{commands_of};
 ghost use Rattle.worker_pool.specs.GoesOn.{GoesOn};
 ghost use Rattle.worker_pool.specs.Manned.{CanRun, Served};
-ghost use Rattle.worker_pool.specs.Source.{ReadsOn};
+ghost use Rattle.worker_pool.specs.Source.{IsReadWhole, ReadsOn};
 ghost use Rattle.worker_pool.specs.Streamed.{AreRelays, Leaves, Streamed, lane_at, taken_from};
 ghost use Rattle.worker_pool.specs.Forward.{ForwardsFront, ForwardsOver};
 
@@ -148,7 +148,7 @@ pub fn forward_lanes<
     ensures forwards { (rest : List ℕ) → S.left source.old ≡ Some rest
         → ForwardsOver (A.meaning job.now.app) job.now.script.now job.now.workers (frames_at capture.old rest)
         (O.taken out.old) (O.taken out.new) result }
-    ensures read { IsOk result → (rest : List ℕ) → S.left source.old ≡ Some rest → S.left source.new ≡ Some [] }
+    ensures read { IsOk result → IsReadWhole (S.left source.old) (S.left source.new) }
 
     // It keeps no entries, so they never weigh too much.
     ensures never_heavy { IfErr result (λ e. e ≢ PoolError.Heavy) }
