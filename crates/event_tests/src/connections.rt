@@ -1,12 +1,8 @@
 //! Connections under short scripts: what their callbacks see, which packets are dropped, and the record that they leave.
 
 ghost use Rattle.std.specs.Prelude.{◌≡◌, IfOk};
-ghost use Rattle.shared_forest.specs.Listing.{listing};
 ghost use Rattle.shared_forest.specs.Rows.{HasRow, tree_at};
-ghost use Rattle.event_trees.specs.Edit.{IsForestOf};
-ghost use Rattle.forest_versions.specs.State.{active};
-ghost use Rattle.connection_core.specs.InForce.{told, defs_at};
-ghost use Rattle.connection_core.specs.Trees.{IsForestIn};
+ghost use Rattle.connection_core.specs.Trees.{IsForestInForce, HasPresentForest};
 
 use crate::masters::{Presets, master_after};
 use app_api::{DropList, FieldList, LogApp, Tally, Verdict};
@@ -215,9 +211,9 @@ struct Played {
 fn opened(alloc: Global, table: &mut Table, lent: &InForce) -> Result<Played, AllocError>
     requires present { lent.now.version ≡ lent.now.master.now.version }
     requires answered { HasRow table.old lent.now.master.now.forest }
-    requires forest { IsForestOf lent.now.master.now.now.defs (active lent.now.master.now.now) (listing (tree_at table.old lent.now.master.now.forest)) }
+    requires forest { HasPresentForest (tree_at table.old) lent.now.master.now }
     ensures answered { IfOk result (λ p. HasRow table.new p.flow.forest) }
-    ensures forest { IfOk result (λ p. IsForestIn (defs_at lent.now) (told lent.now) (tree_at table.new p.flow.forest)) }
+    ensures forest { IfOk result (λ p. IsForestInForce lent.now (tree_at table.new p.flow.forest)) }
 {
     let forest = table.again(alloc, lent.master.forest())?;
     lent.master.tells_the_present();
@@ -249,9 +245,9 @@ fn follow(
     packet: &Packet,
 ) -> bool
     requires answered { HasRow table.old played.old.flow.forest }
-    requires forest { IsForestIn (defs_at terms.now.in_force) (told terms.now.in_force) (tree_at table.old played.old.flow.forest) }
+    requires forest { IsForestInForce terms.now.in_force (tree_at table.old played.old.flow.forest) }
     ensures answered { HasRow table.new played.new.flow.forest }
-    ensures forest { IsForestIn (defs_at terms.now.in_force) (told terms.now.in_force) (tree_at table.new played.new.flow.forest) }
+    ensures forest { IsForestInForce terms.now.in_force (tree_at table.new played.new.flow.forest) }
 {
     let Packet(from, flags, seq, ack, payload) = *packet;
     let number = played.flow.count;
@@ -304,9 +300,9 @@ fn follow_all(
     packets: &[Packet],
 ) -> bool
     requires answered { HasRow table.old played.old.flow.forest }
-    requires forest { IsForestIn (defs_at terms.now.in_force) (told terms.now.in_force) (tree_at table.old played.old.flow.forest) }
+    requires forest { IsForestInForce terms.now.in_force (tree_at table.old played.old.flow.forest) }
     ensures answered { HasRow table.new played.new.flow.forest }
-    ensures forest { IsForestIn (defs_at terms.now.in_force) (told terms.now.in_force) (tree_at table.new played.new.flow.forest) }
+    ensures forest { IsForestInForce terms.now.in_force (tree_at table.new played.new.flow.forest) }
 {
     for packet in packets {
         if !follow(alloc, terms, table, played, packet) {
@@ -319,7 +315,7 @@ fn follow_all(
 // The callbacks of a packet of no connection, number 0, over the tree of one that begins.
 fn follow_orphan(alloc: Global, terms: &Terms<LogApp>, table: &Table, played: &mut Played) -> bool
     requires answered { HasRow table.now played.old.flow.forest }
-    requires forest { IsForestIn (defs_at terms.now.in_force) (told terms.now.in_force) (tree_at table.now played.old.flow.forest) }
+    requires forest { IsForestInForce terms.now.in_force (tree_at table.now played.old.flow.forest) }
 {
     let counts = played.ledger.counts;
     if counts.callbacks >= 1 << 60 || counts.weight >= 1 << 60 {
@@ -412,7 +408,7 @@ fn plays(
 ) -> bool
     requires present { terms.now.in_force.version ≡ terms.now.in_force.master.now.version }
     requires answered { HasRow table.old terms.now.in_force.master.now.forest }
-    requires forest { IsForestOf terms.now.in_force.master.now.now.defs (active terms.now.in_force.master.now.now) (listing (tree_at table.old terms.now.in_force.master.now.forest)) }
+    requires forest { HasPresentForest (tree_at table.old) terms.now.in_force.master.now }
 {
     let Ok(mut played) = opened(alloc, table, &terms.in_force) else {
         return false;

@@ -2,10 +2,8 @@
 
 ghost use Rattle.std.specs.Prelude.{IsTrue, IfOk, IfSome};
 ghost use Rattle.app_api.specs.Reg.{are_presets};
-ghost use Rattle.shared_forest.specs.Listing.{listing};
 ghost use Rattle.shared_forest.specs.Rows.{HasRow, tree_at};
-ghost use Rattle.event_trees.specs.Edit.{IsForestOf};
-ghost use Rattle.forest_versions.specs.State.{active};
+ghost use Rattle.connection_core.specs.Trees.{HasPresentForest};
 
 use app_api::{LogApp, Reg, presets_of};
 use app_traffic::RexmitApp;
@@ -43,9 +41,9 @@ pub fn script_of(alloc: Global, text: &str) -> Result<Script, ScriptError> {
 // Gives a command, where it may be given.
 fn give(alloc: Global, table: &mut Table, master: &mut Master, command: &Command) -> bool
     requires answered { HasRow table.old master.old.forest }
-    requires forest { IsForestOf master.old.now.defs (active master.old.now) (listing (tree_at table.old master.old.forest)) }
+    requires forest { HasPresentForest (tree_at table.old) master.old }
     ensures answered { HasRow table.new master.new.forest }
-    ensures forest { IsForestOf master.new.now.defs (active master.new.now) (listing (tree_at table.new master.new.forest)) }
+    ensures forest { HasPresentForest (tree_at table.new) master.new }
 {
     if master.version() >= 4096 || !master.control().is_lawful(command) {
         return false;
@@ -56,9 +54,9 @@ fn give(alloc: Global, table: &mut Table, master: &mut Master, command: &Command
 // Gives the commands of a script in order.
 fn give_all(alloc: Global, table: &mut Table, master: &mut Master, script: &Script) -> bool
     requires answered { HasRow table.old master.old.forest }
-    requires forest { IsForestOf master.old.now.defs (active master.old.now) (listing (tree_at table.old master.old.forest)) }
+    requires forest { HasPresentForest (tree_at table.old) master.old }
     ensures answered { HasRow table.new master.new.forest }
-    ensures forest { IsForestOf master.new.now.defs (active master.new.now) (listing (tree_at table.new master.new.forest)) }
+    ensures forest { HasPresentForest (tree_at table.new) master.new }
 {
     for place in 0..script.len() {
         let Some(command) = script.command(place) else {
@@ -74,7 +72,7 @@ fn give_all(alloc: Global, table: &mut Table, master: &mut Master, script: &Scri
 /// What is in force after a script. None where memory is wanted or the text is no script.
 pub fn master_after(alloc: Global, table: &mut Table, whose: Presets, text: &str) -> Option<Master>
     ensures answered { IfSome result (λ m. HasRow table.new m.forest) }
-    ensures forest { IfSome result (λ m. IsForestOf m.now.defs (active m.now) (listing (tree_at table.new m.forest))) }
+    ensures forest { IfSome result (λ m. HasPresentForest (tree_at table.new) m) }
 {
     let presets = first_presets(alloc, whose).ok()?;
     let script = parse_script(alloc, text.as_bytes(), &presets).ok()?;
