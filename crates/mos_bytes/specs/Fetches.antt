@@ -1,5 +1,5 @@
 -- What a fetch gives of the content of a name, where the shelf tells it.
-use Rattle.std.specs.Prelude.{◌≡◌, ℕ, ◌<◌, List, [], ◌∷◌, length, bytes_eq, if◌then◌else◌, ⊤}
+use Rattle.std.specs.Prelude.{◌≡◌, ℕ, ◌<◌, ◌≤◌, List, [], ◌∷◌, length, bytes_eq, if◌then◌else◌, ⊤}
 use Rattle.std.specs.declared.option.Option.{Option}
 use Rattle.std.specs.declared.option.Option.TheVariants.{None, Some}
 use Rattle.std.specs.Io.KnownBytes.{Consumes}
@@ -8,6 +8,10 @@ use Rattle.std.specs.Io.KnownBytes.{Consumes}
 abbrev pub IsContent : Option (List ℕ) → List ℕ → Type 0
 IsContent None bytes = ⊤
 IsContent (Some content) bytes = bytes ≡ content
+
+-- these bytes are the whole content, and no more than the limit
+abbrev pub IsContentWithin : ℕ → Option (List ℕ) → List ℕ → Type 0
+IsContentWithin limit content bytes = IsContent content bytes × (length bytes ≤ limit)
 
 -- the content has more bytes than the limit
 abbrev pub IsLonger : Option (List ℕ) → ℕ → Type 0

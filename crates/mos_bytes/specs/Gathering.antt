@@ -1,7 +1,9 @@
 -- What a sink that gathers tells.
-use Rattle.std.specs.Prelude.{◌≡◌, ℕ, ◌+◌, List, []}
+use Rattle.std.specs.Prelude.{◌≡◌, ℕ, ◌+◌, List, [], Result, IsOk}
 use Rattle.std.specs.declared.option.Option.{Option}
 use Rattle.std.specs.Io.KnownBytes.{append_known}
+use Rattle.mos_bytes.specs.Causes.{HasCause}
+use Rattle.mos_bytes.specs.declared.failed.Failed.{Failed}
 use Rattle.mos_bytes.specs.declared.sink.Sink.{Ghosts}
 use Rattle.mos_bytes.specs.declared.gathering_sink.GatheringSink.{GatheringSink}
 
@@ -28,6 +30,14 @@ given_to {sink = sink} g = append_known (sink.taken g.before.value) g.held.items
 -- the faults of the sink below, and the calls that have failed
 abbrev pub gathering_faults : {S : Type 0} {sink : Ghosts S} → GatheringSink S sink → ℕ
 gathering_faults {sink = sink} g = sink.faults g.inner + g.failures
+
+-- a fault that a call tells is one of the sink below
+abbrev pub IsCausedBelow : {S T : Type 0} {sink : Ghosts S} → GatheringSink S sink → GatheringSink S sink → Result T Failed → Type 0
+IsCausedBelow {sink = sink} old new result = HasCause (sink.faults (inner_of old)) (sink.faults (inner_of new)) result
+
+-- a call answers `Ok` and changes nothing
+abbrev pub DoesNothing : {S T E : Type 0} → S → S → Result T E → Type 0
+DoesNothing old new result = IsOk result × (new ≡ old)
 
 -- what no call changes: which sink was handed in, and what no call of that one changes
 abbrev pub gathering_lasting : {S : Type 0} {sink : Ghosts S} → GatheringSink S sink → S × sink.Lasting

@@ -70,7 +70,8 @@ impl<R: Files> Shelf for FolderShelf<R> {
         ensures over { result ≡ Err FetchError.TooLong → limit < shelf_came self.new }
         ensures came { IfOk result (λ bytes. shelf_came self.new ≡ length bytes.items) }
         ensures cause { HasCauseOf (shelf_faults self.old) (shelf_faults self.new) (IsErrOf result FetchError.Failed) }
-        ensures one_fault { result ≡ Err FetchError.Failed → shelf_faults self.new ≡ risen (shelf_faults self.old) }
+        ensures one_fault { result ≡ Err FetchError.Failed
+            → shelf_faults self.new ≡ risen (shelf_faults self.old) }
         ensures no_fault { result ≢ Err FetchError.Failed → shelf_faults self.new ≡ shelf_faults self.old }
     {
         let fetched = read_file(alloc, &self.rt, name, limit, &mut self.came);

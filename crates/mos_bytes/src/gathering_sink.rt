@@ -40,7 +40,7 @@ pub struct GatheringSink<S: Sink> {
 }
 
 impl<S: Sink> GatheringSink<S> {
-    ghost use Rattle.mos_bytes.specs.Gathering.{IsFinished, IsNew, inner_of, start_of, held_of, failures_of, given_to, gathering_faults, gathering_lasting};
+    ghost use Rattle.mos_bytes.specs.Gathering.{DoesNothing, IsCausedBelow, IsFinished, IsNew, inner_of, start_of, held_of, failures_of, given_to, gathering_faults, gathering_lasting};
 
     /// A sink over this one. All of its memory is taken here; where that is refused, `inner` comes back.
     pub fn new(alloc: Global, inner: S) -> Result<Self, AllocFailed<S>>
@@ -68,7 +68,7 @@ impl<S: Sink> GatheringSink<S> {
         ensures empty { OnOk result (held_of self.new ≡ []) }
         ensures sound { IsOk result ↔ (failures_of self.new ≡ 0) }
         ensures cause { HasCause (gathering_faults self.old) (gathering_faults self.new) result }
-        ensures below { HasCause (S.faults (inner_of self.old)) (S.faults (inner_of self.new)) result }
+        ensures below { IsCausedBelow self.old self.new result }
         ensures lasts { gathering_lasting self.new ≡ gathering_lasting self.old }
     {
         if let Err(failed) = self.inner.write_all(&self.held) {
@@ -87,9 +87,10 @@ impl<S: Sink> GatheringSink<S> {
         ensures sound { IsOk result ↔ (failures_of self.new ≡ 0) }
         ensures room { OnOk result (len < 65536 → length (held_of self.new) + len ≤ 65536) }
         ensures empty { OnOk result (65536 ≤ len → held_of self.new ≡ []) }
-        ensures fits { len < 65536 → length (held_of self.old) + len ≤ 65536 → IsOk result × (self.new ≡ self.old) }
+        ensures fits { len < 65536 → length (held_of self.old) + len ≤ 65536
+            → DoesNothing self.old self.new result }
         ensures cause { HasCause (gathering_faults self.old) (gathering_faults self.new) result }
-        ensures below { HasCause (S.faults (inner_of self.old)) (S.faults (inner_of self.new)) result }
+        ensures below { IsCausedBelow self.old self.new result }
         ensures lasts { gathering_lasting self.new ≡ gathering_lasting self.old }
     {
         if len > BUFFER - self.held.len() {
@@ -120,7 +121,7 @@ impl<S: Sink> GatheringSink<S> {
         ensures bytes { WriteAdds (given_to self.old) (given_to self.new) result bytes.now }
         ensures sound { IsOk result ↔ (failures_of self.new ≡ 0) }
         ensures cause { HasCause (gathering_faults self.old) (gathering_faults self.new) result }
-        ensures below { HasCause (S.faults (inner_of self.old)) (S.faults (inner_of self.new)) result }
+        ensures below { IsCausedBelow self.old self.new result }
         ensures lasts { gathering_lasting self.new ≡ gathering_lasting self.old }
     {
         let passed = self.inner.write_all(bytes);
@@ -154,8 +155,8 @@ impl<S: Sink> GatheringSink<S> {
         ensures lasts { gathering_lasting self.new ≡ gathering_lasting self.old }
 
         // A first fault is one of the sink below. That one isn't called where nothing is held, nor after a fault.
-        ensures below { failures_of self.old ≡ 0 → HasCause (S.faults (inner_of self.old)) (S.faults (inner_of self.new)) result }
-        ensures idle { failures_of self.old ≡ 0 → held_of self.old ≡ [] → IsOk result × (self.new ≡ self.old) }
+        ensures below { failures_of self.old ≡ 0 → IsCausedBelow self.old self.new result }
+        ensures idle { failures_of self.old ≡ 0 → held_of self.old ≡ [] → DoesNothing self.old self.new result }
         ensures stopped { failures_of self.old ≢ 0 → IsErr result × (inner_of self.new ≡ inner_of self.old) }
     {
         if self.failures > 0 {
@@ -172,14 +173,15 @@ impl<S: Sink> GatheringSink<S> {
         ensures inner { result ≡ inner_of self }
         ensures between { IsBetween (S.taken (start_of self)) (S.taken result) (given_to self) }
         ensures counts { S.faults (start_of self) ≤ S.faults result }
-        ensures cause { Rose (S.faults (start_of self)) (gathering_faults self) → Rose (S.faults (start_of self)) (S.faults result) }
+        ensures cause { Rose (S.faults (start_of self)) (gathering_faults self)
+            → Rose (S.faults (start_of self)) (S.faults result) }
     {
         self.inner
     }
 }
 
 impl<S: Sink> Sink for GatheringSink<S> {
-    ghost use Rattle.mos_bytes.specs.Gathering.{IsFinished, inner_of, held_of, failures_of, given_to, gathering_faults, gathering_lasting};
+    ghost use Rattle.mos_bytes.specs.Gathering.{DoesNothing, IsCausedBelow, IsFinished, inner_of, held_of, failures_of, given_to, gathering_faults, gathering_lasting};
 
     ghost taken = { given_to };
 
@@ -198,8 +200,9 @@ impl<S: Sink> Sink for GatheringSink<S> {
         ensures lasts { gathering_lasting self.new ≡ gathering_lasting self.old }
 
         // A first fault is one of the sink below. That one isn't called for a small piece that has room, nor after a fault.
-        ensures below { failures_of self.old ≡ 0 → HasCause (S.faults (inner_of self.old)) (S.faults (inner_of self.new)) result }
-        ensures gathers { failures_of self.old ≡ 0 → length bytes.now < 65536 → length (held_of self.old) + length bytes.now ≤ 65536
+        ensures below { failures_of self.old ≡ 0 → IsCausedBelow self.old self.new result }
+        ensures gathers { failures_of self.old ≡ 0 → length bytes.now < 65536
+            → length (held_of self.old) + length bytes.now ≤ 65536
             → IsOk result × (inner_of self.new ≡ inner_of self.old) × (held_of self.new ≡ held_of self.old ++ bytes.now) }
         ensures stopped { failures_of self.old ≢ 0 → IsErr result × (inner_of self.new ≡ inner_of self.old) }
     {
@@ -223,8 +226,8 @@ impl<S: Sink> Sink for GatheringSink<S> {
         ensures lasts { gathering_lasting self.new ≡ gathering_lasting self.old }
 
         // A first fault is one of the sink below. That one isn't called where nothing is held, nor after a fault.
-        ensures below { failures_of self.old ≡ 0 → HasCause (S.faults (inner_of self.old)) (S.faults (inner_of self.new)) result }
-        ensures idle { failures_of self.old ≡ 0 → held_of self.old ≡ [] → IsOk result × (self.new ≡ self.old) }
+        ensures below { failures_of self.old ≡ 0 → IsCausedBelow self.old self.new result }
+        ensures idle { failures_of self.old ≡ 0 → held_of self.old ≡ [] → DoesNothing self.old self.new result }
         ensures stopped { failures_of self.old ≢ 0 → IsErr result × (inner_of self.new ≡ inner_of self.old) }
     {
         self.finish()

@@ -1,8 +1,8 @@
 //! A shelf over contents in memory, for tests.
 
-ghost use Rattle.std.specs.Prelude.{◌≡◌, ◌≢◌, ◌<◌, ◌≤◌, ◌↔◌, ◌⊎◌, ℕ, List, length, None, Some, Err, IfOk, IsErrOf, Contains, bytes_eq, string_bytes, vec_items, map, option_map};
+ghost use Rattle.std.specs.Prelude.{◌≡◌, ◌≢◌, ◌<◌, ◌↔◌, ◌⊎◌, ℕ, List, length, None, Some, Err, IfOk, IsErrOf, Contains, bytes_eq, string_bytes, vec_items, map, option_map};
 ghost use Rattle.mos_bytes.specs.Causes.{HasCauseOf, risen};
-ghost use Rattle.mos_bytes.specs.Fetches.{IsContent, IsLonger, content_of};
+ghost use Rattle.mos_bytes.specs.Fetches.{IsContentWithin, IsLonger, content_of};
 ghost use Rattle.mos_bytes.specs.Memory.{ShelfState, shelf_content};
 
 use crate::{FetchError, Shelf};
@@ -36,7 +36,13 @@ impl MemShelf {
     /// from 0. Of equal names the first counts, and what has no partner in the other list counts for nothing. It takes
     /// no memory.
     pub fn new(names: Vec<String>, contents: Vec<Vec<u8>>, fails: Vec<u64>) -> Self
-        ensures { result ≡ record { names = map string_bytes names.items; contents = map vec_items contents.items; fails = fails.items; calls = 0; faults = 0 } }
+        ensures { result ≡ record {
+          names = map string_bytes names.items;
+          contents = map vec_items contents.items;
+          fails = fails.items;
+          calls = 0;
+          faults = 0;
+        } }
     {
         MemShelf {
             names,
@@ -56,7 +62,8 @@ fn is(own: &String, name: &str) -> bool
 
 // The content beside the first name that is this one.
 fn find<'a>(names: &[String], contents: &'a [Vec<u8>], name: &str) -> Option<&'a [u8]>
-    ensures { option_map (λ content. content.now) result ≡ content_of (map string_bytes names.now) (map vec_items contents.now) name.now }
+    ensures { option_map (λ content. content.now) result
+        ≡ content_of (map string_bytes names.now) (map vec_items contents.now) name.now }
 {
     for index in 0..names.len().min(contents.len()) {
         if is(&names[index], name) {
@@ -78,15 +85,16 @@ impl Shelf for MemShelf {
 
     /// Gives the content of this name. A listed call fails, and so does one with a name that the shelf doesn't hold.
     fn fetch(&mut self, alloc: Global, name: &str, limit: usize) -> Result<Vec<u8>, FetchError>
-        ensures whole { IfOk result (λ bytes. IsContent (shelf_content self.old name.now) bytes.items × (length bytes.items ≤ limit)) }
+        ensures whole { IfOk result (λ bytes. IsContentWithin limit (shelf_content self.old name.now) bytes.items) }
         ensures too_long { result ≡ Err FetchError.TooLong → IsLonger (shelf_content self.old name.now) limit }
         ensures kept { (other : List ℕ) → shelf_content self.new other ≡ shelf_content self.old other }
         ensures names { self.new.names ≡ self.old.names }
         ensures contents { self.new.contents ≡ self.old.contents }
         ensures cause { HasCauseOf self.old.faults self.new.faults (IsErrOf result FetchError.Failed) }
-        ensures failed { result ≡ Err FetchError.Failed ↔ (Contains self.old.fails self.old.calls ⊎ (shelf_content self.old name.now ≡ None)) }
-        ensures longer { (content : List ℕ) → shelf_content self.old name.now ≡ Some content → limit < length content
-            → ¬ Contains self.old.fails self.old.calls → result ≡ Err FetchError.TooLong }
+        ensures failed { result ≡ Err FetchError.Failed
+            ↔ (Contains self.old.fails self.old.calls ⊎ (shelf_content self.old name.now ≡ None)) }
+        ensures longer { (content : List ℕ) → shelf_content self.old name.now ≡ Some content
+            → limit < length content → ¬ Contains self.old.fails self.old.calls → result ≡ Err FetchError.TooLong }
         ensures one_fault { result ≡ Err FetchError.Failed → self.new.faults ≡ risen self.old.faults }
         ensures no_fault { result ≢ Err FetchError.Failed → self.new.faults ≡ self.old.faults }
         ensures calls { self.new.calls ≡ risen self.old.calls }

@@ -36,7 +36,8 @@ impl Model for MemSink {
 impl MemSink {
     /// An empty sink with as much room as `room` is long, whose calls fail that `fails` lists by their numbers from 0.
     pub fn new(room: Vec<u8>, fails: Vec<u64>) -> Self
-        ensures { result ≡ record { taken = []; room = length room.items; fails = fails.items; calls = 0; faults = 0 } }
+        ensures { result
+            ≡ record { taken = []; room = length room.items; fails = fails.items; calls = 0; faults = 0 } }
     {
         MemSink {
             room,
@@ -82,7 +83,8 @@ impl Sink for MemSink {
     fn write_all(&mut self, bytes: &[u8]) -> Result<(), Failed>
         ensures bytes { WriteAdds (Some self.old.taken) (Some self.new.taken) result bytes.now }
         ensures cause { HasCause self.old.faults self.new.faults result }
-        ensures failed { IsErr result ↔ (Contains self.old.fails self.old.calls ⊎ (self.old.room < length bytes.now)) }
+        ensures failed { IsErr result
+            ↔ (Contains self.old.fails self.old.calls ⊎ (self.old.room < length bytes.now)) }
         ensures half { OnErr result (length bytes.now ≤ self.old.room
             → self.new.taken ≡ self.old.taken ++ take (length bytes.now / 2) bytes.now) }
         ensures too_long { self.old.room < length bytes.now → self.new.taken ≡ self.old.taken }

@@ -40,7 +40,8 @@ impl Model for MemSource {
 impl MemSource {
     /// A source of these bytes, whose calls fail that `fails` lists by their numbers from 0. A read gives as much as has room.
     pub fn new(bytes: Vec<u8>, fails: Vec<u64>) -> Self
-        ensures { result ≡ record { left = bytes.items; piece = 2 ^ 64 - 1; fails = fails.items; calls = 0; faults = 0 } }
+        ensures { result
+            ≡ record { left = bytes.items; piece = 2 ^ 64 - 1; fails = fails.items; calls = 0; faults = 0 } }
     {
         MemSource {
             bytes,

@@ -81,7 +81,8 @@ impl<R: Read> ReadSource<R> {
     fn read_ahead(&mut self, buf: &mut [u8]) -> usize
         ensures count { result ≡ min (length (ahead_of self.old)) (length buf.old) }
         ensures bound { result ≤ length buf.new }
-        ensures bytes { Consumes (source_left R.remaining self.old) (source_left R.remaining self.new) (take result buf.new) }
+        ensures bytes { Consumes (source_left R.remaining self.old) (source_left R.remaining self.new)
+            (take result buf.new) }
         ensures rest { length (ahead_of self.old) ≡ result + length (ahead_of self.new) }
         ensures inner { self.new.inner ≡ self.old.inner }
         ensures faults { self.new.faults ≡ self.old.faults }
@@ -110,7 +111,8 @@ impl<R: Read> Source for ReadSource<R> {
     /// Gives what was read ahead, or asks the reader once. An error counts one fault more, any other answer none.
     fn read(&mut self, buf: &mut [u8]) -> Result<usize, Failed>
         ensures bound { ReadsAtMost result buf.new }
-        ensures bytes { ReadConsumes (source_left R.remaining self.old) (source_left R.remaining self.new) result buf.new }
+        ensures bytes { ReadConsumes (source_left R.remaining self.old) (source_left R.remaining self.new)
+            result buf.new }
         ensures cause { HasCause (source_faults self.old) (source_faults self.new) result }
         ensures ok { OnOk result (source_faults self.new ≡ source_faults self.old) }
         ensures err { OnErr result (source_faults self.new ≡ risen (source_faults self.old)) }

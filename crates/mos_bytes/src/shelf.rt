@@ -4,7 +4,7 @@ ghost use Rattle.std.specs.Prelude.{◌≡◌, ◌<◌, ◌≤◌, ℕ, List, le
 ghost use Rattle.std.specs.declared.option.Option.{Option};
 ghost use Rattle.std.specs.Io.KnownBytes.{Consumes, IsAtEnd};
 ghost use Rattle.mos_bytes.specs.Causes.{HasCauseOf};
-ghost use Rattle.mos_bytes.specs.Fetches.{IsContent, IsLonger, ReadsOver};
+ghost use Rattle.mos_bytes.specs.Fetches.{IsContentWithin, IsLonger, ReadsOver};
 
 use crate::{Failed, Source, fill};
 use std::alloc::{AllocError, Global};
@@ -72,7 +72,7 @@ pub trait Shelf {
 
     /// Gives the whole content of this name, where it has at most `limit` bytes. No call changes a content that is told.
     fn fetch(&mut self, alloc: Global, name: &str, limit: usize) -> Result<Vec<u8>, FetchError>
-        ensures whole { IfOk result (λ bytes. IsContent (content self.old name.now) bytes.items × (length bytes.items ≤ limit)) }
+        ensures whole { IfOk result (λ bytes. IsContentWithin limit (content self.old name.now) bytes.items) }
         ensures too_long { result ≡ Err FetchError.TooLong → IsLonger (content self.old name.now) limit }
         ensures kept { (other : List ℕ) → content self.new other ≡ content self.old other }
         ensures cause { HasCauseOf (faults self.old) (faults self.new) (IsErrOf result FetchError.Failed) }
@@ -86,9 +86,11 @@ pub(crate) fn read_whole<S: Source>(
     limit: usize,
     came: &mut usize,
 ) -> Result<Vec<u8>, FetchError>
-    ensures whole { IfOk result (λ bytes. Consumes (S.left source.old) (S.left source.new) bytes.items × IsAtEnd (S.left source.new)) }
+    ensures whole { IfOk result (λ bytes. Consumes (S.left source.old) (S.left source.new) bytes.items
+        × IsAtEnd (S.left source.new)) }
     ensures within { IfOk result (λ bytes. length bytes.items ≤ limit) }
-    ensures too_long { result ≡ Err FetchError.TooLong → ReadsOver (S.left source.old) (S.left source.new) limit came.new }
+    ensures too_long { result ≡ Err FetchError.TooLong
+        → ReadsOver (S.left source.old) (S.left source.new) limit came.new }
     ensures over { result ≡ Err FetchError.TooLong → limit < came.new }
     ensures came { IfOk result (λ bytes. came.new ≡ length bytes.items) }
     ensures cause { HasCauseOf (S.faults source.old) (S.faults source.new) (IsErrOf result FetchError.Failed) }

@@ -2,9 +2,9 @@
 
 ghost use Rattle.std.specs.Prelude.{◌≡◌, ◌<◌, ◌≤◌, IsTrue, IsErrOf};
 ghost use Rattle.mos_bytes.specs.Causes.{HasCauseOf};
-ghost use Rattle.mos_bytes.specs.Writes.{WriteAdds};
 ghost use Rattle.report_text.specs.Report.{report_text};
 ghost use Rattle.report_text.specs.Tidy.{tidy};
+ghost use Rattle.report_text.specs.Written.{Adds};
 
 use crate::round::write_round;
 use mos_bytes::Sink;
@@ -39,7 +39,7 @@ pub fn write_report_by<R: Threads + Sync, O: Sink>(
 ) -> Result<(), TextError>
     requires threads { 0 < threads }
     requires tidy { IsTrue (tidy records.now) }
-    ensures text { WriteAdds (O.taken out.old) (O.taken out.new) result (report_text records.now totals.now) }
+    ensures text { Adds O.Sink out.old out.new result (report_text records.now totals.now) }
     ensures cause { HasCauseOf (O.faults out.old) (O.faults out.new) (IsErrOf result TextError.WriteFault) }
     ensures lasts { O.lasting out.new ≡ O.lasting out.old }
 {

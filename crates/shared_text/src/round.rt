@@ -3,9 +3,9 @@
 ghost use Rattle.std.specs.Prelude.{◌≡◌, ◌+◌, ◌/◌, ◌%◌, ◌<◌, min, length, IsTrue, IfOk, IsErrOf, string_bytes};
 ghost use Rattle.std.specs.List.{list_all};
 ghost use Rattle.mos_bytes.specs.Causes.{HasCauseOf};
-ghost use Rattle.mos_bytes.specs.Writes.{WriteAdds};
 ghost use Rattle.report_text.specs.Report.{records_text};
 ghost use Rattle.report_text.specs.Tidy.{is_tidy_record};
+ghost use Rattle.report_text.specs.Written.{Adds};
 ghost use Rattle.shared_text.specs.Texts.{AreTexts};
 
 use mos_bytes::Sink;
@@ -45,7 +45,7 @@ pub(crate) fn write_round<R: Threads + Sync, O: Sink>(
 ) -> Result<(), TextError>
     requires size { 0 < size }
     requires tidy { IsTrue (list_all is_tidy_record records.now) }
-    ensures text { WriteAdds (O.taken out.old) (O.taken out.new) result (records_text records.now) }
+    ensures text { Adds O.Sink out.old out.new result (records_text records.now) }
     ensures cause { HasCauseOf (O.faults out.old) (O.faults out.new) (IsErrOf result TextError.WriteFault) }
     ensures lasts { O.lasting out.new ≡ O.lasting out.old }
 {
