@@ -80,9 +80,10 @@ pub(crate) fn close<L: Reporter + Drop, O: Sink>(
         return Ok(VersionList { items });
     }
     let end = lane.count(alloc, last, plan.natives)?;
+    let versions = end.versions.as_slice();
     let totals = Totals {
         packets,
-        records: end.versions.len() as u64,
+        records: versions.len() as u64,
         callbacks: end.callbacks,
         drops: end.drops,
         tail,

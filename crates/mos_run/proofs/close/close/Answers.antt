@@ -1,4 +1,4 @@
-use Rattle.std.proofs.Common.{◌≡◌, ◌∙◌, map, not, true, false, Err, sym, ap, subst}
+use Rattle.std.proofs.Common.{◌≡◌, ◌∙◌, length, map, not, true, false, Err, sym, ap, subst}
 use Rattle.std.specs.Prelude.{◌⊎◌}
 use Rattle.std.proofs.lemmas.Result.{err_from_is_err_and}
 use Rattle.mos_bytes.specs.Writes.{AppendsFront}
@@ -58,7 +58,7 @@ returns-in_err-write_counts-clause-ends g c = λ header frames before count is_l
     end.versions.items end.callbacks end.drops good (c.in_ok-end.ensures.counted good) in
     let light = end_is_light app plan.script.now plan.output frames (g.L.Recorder.given lane) (g.L.Recorder.failed lane) (g.L.Recorder.stands lane) (g.L.Recorder.keeps lane) c.args.last c.later_commands_change_none.ensures is_last read
     good c.requires.keeps c.in_ok-end.ensures.light in
-    let text = closing_is app plan.script.now plan.output frames end.versions.items end.callbacks end.drops c.args.packets c.len.result c.args.tail is count c.len.ensures in
+    let text = closing_is app plan.script.now plan.output frames end.versions.items end.callbacks end.drops c.args.packets (length c.as_slice-versions.result.now) c.args.tail is count (ap length c.as_slice-versions.ensures.value) in
     let error = err_from_is_err_and c.from_residual-in_err-write_counts.result c.from_residual-in_err-write_counts.ensures.1 in
     let which = subst (λ e. ((e ≡ Run.WriteFault) × (is_forward plan.output ≡ false)) ⊎ (e ≡ Run.NoMemory)) (sym error.2) c.in_err-write_counts.ensures.only in
     let last = subst (AppendsFront (g.O.Sink.taken c.args.out.now) (g.O.Sink.taken c.write_counts.new.out)) text (c.in_err-write_counts.ensures.text (map (record_of app) (records_of app plan.script.now (packets_of plan.script.now) frames))) in
@@ -76,6 +76,6 @@ returns-clause-ends g c = λ header frames before count is_last read first.
     end.versions.items end.callbacks end.drops good (c.in_ok-end.ensures.counted good) in
     let light = end_is_light app plan.script.now plan.output frames (g.L.Recorder.given lane) (g.L.Recorder.failed lane) (g.L.Recorder.stands lane) (g.L.Recorder.keeps lane) c.args.last c.later_commands_change_none.ensures is_last read
     good c.requires.keeps c.in_ok-end.ensures.light in
-    let text = closing_is app plan.script.now plan.output frames end.versions.items end.callbacks end.drops c.args.packets c.len.result c.args.tail is count c.len.ensures in
+    let text = closing_is app plan.script.now plan.output frames end.versions.items end.callbacks end.drops c.args.packets (length c.as_slice-versions.result.now) c.args.tail is count (ap length c.as_slice-versions.ensures.value) in
     let last = subst (Appends (g.O.Sink.taken c.args.out.now) (g.O.Sink.taken c.write_counts.new.out)) text (c.in_ok-write_counts.ensures.text (map (record_of app) (records_of app plan.script.now (packets_of plan.script.now) frames))) in
     ends_well app plan.script.now (packets_of plan.script.now) plan.output frames header c.args.tail _ before (g.O.Sink.taken c.args.out.now) (g.O.Sink.taken c.write_counts.new.out) light is.versions_are first last
