@@ -9,7 +9,7 @@ use Rattle.connection_core.specs.declared.ledger.Counts.{Counts}
 use Rattle.connection_core.specs.InForce.{told_at}
 use Rattle.connection_core.specs.Trees.{active_in}
 use Rattle.lane_core.specs.declared.connection.Connection.{Connection}
-use Rattle.lane_core.specs.declared.slot.Slot.{Slot}
+use Rattle.lane_core.specs.declared.under_way.RecordUnderWay.{RecordUnderWay}
 use Rattle.lane_core.specs.Records.{RecordSoFar}
 use Rattle.lane_core.specs.Places.{place_of}
 use Rattle.lane_core.specs.Kept.{IsOpenAt, AreKept}
@@ -45,7 +45,7 @@ module _ (m after : Versions) (content content' : Shared → TreeLists) (flows :
   )
 
   -- and the lane stands for the same records
-  pub kept_on : (keep : Bool) (slots : List Slot) (counts : Counts) (pasts : List RecordSoFar) → Lists → AreKept keep (told_at m) content flows slots counts pasts → AreKept keep (told_at after) content' flows slots counts pasts
+  pub kept_on : (keep : Bool) (slots : List RecordUnderWay) (counts : Counts) (pasts : List RecordSoFar) → Lists → AreKept keep (told_at m) content flows slots counts pasts → AreKept keep (told_at after) content' flows slots counts pasts
   kept_on keep slots counts pasts lists stands = record {
     shown = stands.shown;
     placed = λ key. open_on key (found flows key) (place_of key pasts) pasts lists refl (stands.placed key);

@@ -18,7 +18,7 @@ use Rattle.connection_core.specs.InForce.{told_at}
 use Rattle.connection_core.specs.Standing.{IsFlow, IsConnection}
 use Rattle.connection_core.specs.Trees.{InternsWithin}
 use Rattle.lane_core.specs.declared.connection.Connection.{Connection}
-use Rattle.lane_core.specs.declared.slot.Slot.{Slot}
+use Rattle.lane_core.specs.declared.under_way.RecordUnderWay.{RecordUnderWay}
 use Rattle.lane_core.specs.declared.kept.Kept.{Kept}
 use Rattle.lane_core.specs.Sight.{Segment, Tcp, Moment, key_of_segment}
 use Rattle.lane_core.specs.Records.{RecordSoFar, VersionedPacket, is_open_at, side_of, side_in, history_after, verdict_after, verdict_among, started_by, continued_by, placed}
@@ -67,14 +67,14 @@ module _ (app : Meaning) (control_at : ℕ → ControlState) (keep : Bool) (m : 
   }
 
   -- what stands for one record stands for its history
-  pub connection_in : (content : Shared → TreeLists) (flows : Flows Connection) (slots : List Slot) (counts : Counts) (pasts : List RecordSoFar) (i : ℕ) (d : RecordSoFar) (conn : Connection) (slot : Slot)
+  pub connection_in : (content : Shared → TreeLists) (flows : Flows Connection) (slots : List RecordUnderWay) (counts : Counts) (pasts : List RecordSoFar) (i : ℕ) (d : RecordSoFar) (conn : Connection) (slot : RecordUnderWay)
       → AreKept keep told content flows slots counts pasts → i < length pasts → IsOpen told content conn (get_or pasts i d) → slot ≡ slot_of keep (get_or pasts i d)
       → IsConnection keep (others pasts i) (told conn.version) (content conn.flow.forest) conn.flow slot.notes counts (get_or pasts i d).history
   connection_in content flows slots counts pasts i d conn slot stands within is slot_is = record {
     kept = is.kept;
     noted = record {
-      tally = ap (λ (s : Slot). s.notes.tally) slot_is;
-      entries = ap (λ (s : Slot). s.notes.entries) slot_is;
+      tally = ap (λ (s : RecordUnderWay). s.notes.tally) slot_is;
+      entries = ap (λ (s : RecordUnderWay). s.notes.entries) slot_is;
       callbacks = stands.counted ∙ others_and (λ r. length r.history.entries) pasts i d within;
       weight = stands.weighed ∙ others_and (λ r. weight_of r.history.entries) pasts i d within;
     };
@@ -101,7 +101,7 @@ module _ (app : Meaning) (control_at : ℕ → ControlState) (keep : Bool) (m : 
       (others_and (λ r. r.history.altered) pasts i d within) (others_with (λ r. r.history.altered) pasts i next within) costs)
 
   module _ (content content' : Shared → TreeLists) (interns interns' : Option ℕ) (number : ℕ) (moment : Moment) (segment : Segment) (p : VersionedPacket) (is_p : p ≡ arrived p.version number moment (Tcp segment))
-      (conn after : Connection) (slot slot' : Slot) (counts counts' : Counts) (step : Step) (past : RecordSoFar) (rest : Counts) where
+      (conn after : Connection) (slot slot' : RecordUnderWay) (counts counts' : Counts) (step : Step) (past : RecordSoFar) (rest : Counts) where
     abbrev next : RecordSoFar
     next = continued_by app control_at p.arrival past
 
@@ -135,9 +135,9 @@ module _ (app : Meaning) (control_at : ℕ → ControlState) (keep : Bool) (m : 
         ap (λ t. record { tally = t; entries = slot'.notes.entries }) (noted.tally ∙ ap (λ (h : History). h.tally) same)
         ∙ ap (λ es. record { tally = next.history.tally; entries = es }) (noted.entries ∙ ap (λ (h : History). if keep then h.entries else []) same) in
         let drops_are : slot.drops ++ drops_of step.verdict number ≡ next.history.drops =
-        ap (λ (s : Slot). s.drops ++ drops_of step.verdict number) was ∙ sym went.drops ∙ ap (λ (h : History). h.drops) same in
+        ap (λ (s : RecordUnderWay). s.drops ++ drops_of step.verdict number) was ∙ sym went.drops ∙ ap (λ (h : History). h.drops) same in
         st.noted
-        ∙ ap (λ (s : Slot). record { name = s.name; kind = s.kind; version = s.version; notes = slot'.notes; drops = slot.drops ++ drops_of step.verdict number }) was
+        ∙ ap (λ (s : RecordUnderWay). record { name = s.name; kind = s.kind; version = s.version; notes = slot'.notes; drops = slot.drops ++ drops_of step.verdict number }) was
         ∙ ap (λ n. record (slot_of keep past) { notes = n; drops = slot.drops ++ drops_of step.verdict number }) notes_are
         ∙ ap (λ ds. record (slot_of keep past) { notes = (slot_of keep next).notes; drops = ds }) drops_are
 
@@ -149,7 +149,7 @@ module _ (app : Meaning) (control_at : ℕ → ControlState) (keep : Bool) (m : 
         ∙ ap (λ v. verdict app (control_at v) number (side_in past.first.sight segment) segment.head segment.scale past.history) is.version)
 
   -- the lane after a packet that an open connection takes
-  pub record Continued (content' : Shared → TreeLists) (interns interns' : Option ℕ) (after : Flows Connection) (slots' : List Slot) (counts' : Counts) (p : VersionedPacket) (step : Step) (pasts : List RecordSoFar) : Type 0 where
+  pub record Continued (content' : Shared → TreeLists) (interns interns' : Option ℕ) (after : Flows Connection) (slots' : List RecordUnderWay) (counts' : Counts) (p : VersionedPacket) (step : Step) (pasts : List RecordSoFar) : Type 0 where
     pub stands : AreKept keep told content' after slots' counts' (placed app control_at p pasts)
     pub interned : InternsWithin interns interns' (alterations pasts) (alterations (placed app control_at p pasts))
     pub verdict_is : step.verdict ≡ verdict_among app control_at p pasts

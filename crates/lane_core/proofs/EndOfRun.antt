@@ -18,7 +18,7 @@ use Rattle.connection_core.specs.declared.ledger.Counts.{Counts}
 use Rattle.connection_core.specs.InForce.{told_at}
 use Rattle.flow_table.specs.declared.endpoint.Endpoint.{Endpoint}
 use Rattle.lane_core.specs.declared.connection.Connection.{Connection}
-use Rattle.lane_core.specs.declared.slot.Slot.{Slot}
+use Rattle.lane_core.specs.declared.under_way.RecordUnderWay.{RecordUnderWay}
 use Rattle.lane_core.specs.Sight.{Segment, Sight, Tcp, Other, Moment, key_of_segment}
 use Rattle.lane_core.specs.Records.{RecordSoFar, opens, is_between, is_shut, is_open_at, is_silent, ended_at}
 use Rattle.lane_core.specs.Shown.{kind_of, total, weight}
@@ -178,19 +178,19 @@ either_so : (b : Bool) (P : Type 0) → (b ≡ true → P) → (b ≡ false → 
 either_so true P so otherwise = so refl
 either_so false P so otherwise = otherwise refl
 
-pub within_by : (keep : Bool) (slots : List Slot) (pasts : List RecordSoFar) (i : ℕ) → slots ≡ map (slot_of keep) pasts → i < length slots → i < length pasts
+pub within_by : (keep : Bool) (slots : List RecordUnderWay) (pasts : List RecordSoFar) (i : ℕ) → slots ≡ map (slot_of keep) pasts → i < length slots → i < length pasts
 within_by keep slots pasts i shown within = subst (λ n. i < n) (ap length shown ∙ length-map pasts (slot_of keep)) within
 
 module _ (app : Meaning) (control_at : ℕ → ControlState) (keep : Bool) (m : Versions) (tells : (v : ℕ) → Tells m v (control_at v)) (now : Moment) (content : Shared → TreeLists)
-    (flows : Flows Connection) (slots : List Slot) (counts : Counts) (pasts : List RecordSoFar) (stands : AreKept keep (told_at m) content flows slots counts pasts)
+    (flows : Flows Connection) (slots : List RecordUnderWay) (counts : Counts) (pasts : List RecordSoFar) (stands : AreKept keep (told_at m) content flows slots counts pasts)
     (i : ℕ) (d : RecordSoFar) (within : i < length pasts) where
   abbrev here : RecordSoFar
   here = get_or pasts i d
 
   -- its record under way has its kind
-  pub kind_there : (slot : Slot) → slot ≡ get_or slots i slot → slot.kind ≡ kind_of here.first.sight
+  pub kind_there : (slot : RecordUnderWay) → slot ≡ get_or slots i slot → slot.kind ≡ kind_of here.first.sight
   kind_there slot at =
-      ap (λ (s : Slot). s.kind) (at ∙ ap (λ ss. get_or ss i slot) stands.shown ∙ get_or-map (slot_of keep) pasts i d slot within)
+      ap (λ (s : RecordUnderWay). s.kind) (at ∙ ap (λ ss. get_or ss i slot) stands.shown ∙ get_or-map (slot_of keep) pasts i d slot within)
 
   stays : at_end app control_at now here ≡ here → set pasts i (at_end app control_at now here) ≡ pasts
   stays same = ap (set pasts i) same ∙ set-get_or pasts i d
@@ -230,7 +230,7 @@ module _ (app : Meaning) (control_at : ℕ → ControlState) (keep : Bool) (m : 
         (silent_as app control_at keep m tells now content conn (get_or pasts conn.place d) false (at.1 d) heard))
 
     -- the one that has its key's open connection, whether that was silent for too long or not
-    pub one_kept : (new : Flows Connection) (slots' : List Slot) (counts' : Counts) (ended : Bool) → is_at i (found flows key) ≡ true
+    pub one_kept : (new : Flows Connection) (slots' : List RecordUnderWay) (counts' : Counts) (ended : Bool) → is_at i (found flows key) ≡ true
         → (ended ≡ true → Silences app keep m content flows new slots slots' counts counts' key now) → (ended ≡ false → Goes m flows new slots slots' counts counts' key now)
         → AreKept keep (told_at m) content new slots' counts' (set pasts i (at_end app control_at now here))
     one_kept new slots' counts' true is silences goes =

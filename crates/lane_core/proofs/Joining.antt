@@ -25,7 +25,7 @@ use Rattle.lane_core.specs.Kept.{Keeps, Makes, AddsTo, SetsAmong, CostsAtMost, C
 use Rattle.lane_core.proofs.Continued.{continued, continued_costs}
 use Rattle.lane_core.proofs.Silencing.{heard_before_is}
 use Rattle.lane_core.proofs.Ended.{ends_before, drops-kept, alterations-kept}
-use Rattle.lane_core.proofs.Started.{stray_costs}
+use Rattle.lane_core.proofs.Started.{orphan_costs}
 
 -- a packet without a key ends nothing
 pub others_stay : (app : Meaning) (control_at : ℕ → ControlState) (version number : ℕ) (moment : Moment) (class : Class) (pasts : List RecordSoFar)
@@ -67,7 +67,7 @@ module _ (app : Meaning) (keep : Bool) (m : Versions) (content content' : Shared
   none_left_costs none = λ control_at pasts tells now stands.
       let before = map (ended_before app control_at packet) pasts in
       altered_since control_at pasts interns interns
-      (stray_costs app control_at keep m interns packet before
+      (orphan_costs app control_at keep m interns packet before
       (subst (λ k. place_of k before ≡ None) key_is (none control_at pasts version number segment tells key_is stands)))
 
 -- ---- a packet of an open connection that wasn't silent for too long

@@ -22,7 +22,7 @@ use Rattle.connection_core.specs.History.{History, weight_of}
 use Rattle.connection_core.specs.Silence.{silenced}
 use Rattle.connection_core.specs.InForce.{told_at}
 use Rattle.lane_core.specs.declared.connection.Connection.{Connection}
-use Rattle.lane_core.specs.declared.slot.Slot.{Slot}
+use Rattle.lane_core.specs.declared.under_way.RecordUnderWay.{RecordUnderWay}
 use Rattle.lane_core.specs.Sight.{Segment, Sight, Tcp, Other, Moment, key_of_segment}
 use Rattle.lane_core.specs.Records.{RecordSoFar, VersionedPacket, opens, is_open_at, belongs_to, timer_raise_of, is_past, is_silent, started_by, ended_before}
 use Rattle.lane_core.specs.Shown.{kind_of}
@@ -88,7 +88,7 @@ module _ (app : Meaning) (control_at : ℕ → ControlState) (keep : Bool) (m : 
       ∙ so (control_at conn.version) (tells conn.version)
 
   -- its history after the end
-  history_is : (content : Shared → TreeLists) (conn : Connection) (slot : Slot) (past : RecordSoFar) → IsOpen told content conn past → slot.kind ≡ kind_of past.first.sight → opens past.first.sight ≡ true
+  history_is : (content : Shared → TreeLists) (conn : Connection) (slot : RecordUnderWay) (past : RecordSoFar) → IsOpen told content conn past → slot.kind ≡ kind_of past.first.sight → opens past.first.sight ≡ true
       → silent_history app (control_at conn.version) conn slot past.history ≡ (over past).history
   history_is content conn slot past is kind opening =
       let h = past.history in
@@ -98,14 +98,14 @@ module _ (app : Meaning) (control_at : ℕ → ControlState) (keep : Bool) (m : 
       ∙ ap (λ n. silenced app (control_at past.version) past.last.number (raise_in (kind_of past.first.sight) n) h) is.kept.count
       ∙ ap (λ r. silenced app (control_at past.version) past.last.number r h) (raise_by_kind past.first.sight h.count opening)
 
-  module _ (content : Shared → TreeLists) (old : Flows Connection) (slots : List Slot) (counts : Counts) (key : EndpointPair) (pasts : List RecordSoFar) (stands : AreKept keep told content old slots counts pasts) where
+  module _ (content : Shared → TreeLists) (old : Flows Connection) (slots : List RecordUnderWay) (counts : Counts) (key : EndpointPair) (pasts : List RecordSoFar) (stands : AreKept keep told content old slots counts pasts) where
     -- the lane after the end of the open connection of a key
-    pub record SilencedKept (new : Flows Connection) (slots' : List Slot) (counts' : Counts) (conn : Connection) (d : RecordSoFar) : Type 0 where
+    pub record SilencedKept (new : Flows Connection) (slots' : List RecordUnderWay) (counts' : Counts) (conn : Connection) (d : RecordSoFar) : Type 0 where
       pub there : place_of key pasts ≡ Some conn.place
       pub silent : is_silent app control_at now (get_or pasts conn.place d) ≡ true
       pub kept : AreKept keep told content new slots' counts' (set pasts conn.place (over (get_or pasts conn.place d)))
 
-    pub silenced_kept : (new : Flows Connection) (slots' : List Slot) (counts' : Counts) (d : RecordSoFar) → (s : Silences app keep m content old new slots slots' counts counts' key now)
+    pub silenced_kept : (new : Flows Connection) (slots' : List RecordUnderWay) (counts' : Counts) (d : RecordSoFar) → (s : Silences app keep m content old new slots slots' counts counts' key now)
         → SilencedKept new slots' counts' s.conn d
     silenced_kept new slots' counts' d s =
         let conn = s.conn in
@@ -120,7 +120,7 @@ module _ (app : Meaning) (control_at : ℕ → ControlState) (keep : Bool) (m : 
         let slot_was : s.slot ≡ slot_of keep past = s.slot_is ∙ ap (λ ss. get_or ss i s.slot) stands.shown ∙ get_or-map (slot_of keep) pasts i d s.slot within in
         let connected = connection_in app control_at keep m content old slots counts pasts i d conn s.slot stands within is slot_was in
         let noted = s.called.stands (control_at conn.version) (others app control_at keep m pasts i) past.history (tells conn.version) connected in
-        let same = history_is content conn s.slot past is (ap (λ (t : Slot). t.kind) slot_was) opening in
+        let same = history_is content conn s.slot past is (ap (λ (t : RecordUnderWay). t.kind) slot_was) opening in
         let after = over past in
         let notes_are : s.slot_after.notes ≡ (slot_of keep after).notes =
         ap (λ t. record { tally = t; entries = s.slot_after.notes.entries }) (noted.tally ∙ ap (λ (h : History). h.tally) same)
@@ -128,7 +128,7 @@ module _ (app : Meaning) (control_at : ℕ → ControlState) (keep : Bool) (m : 
         let drops_are : after.history.drops ≡ past.history.drops = silenced-drops app (control_at past.version) past.last.number (timer_raise_of past.first.sight past.history.count) past.history in
         let shown : s.slot_after ≡ slot_of keep after =
         s.called.noted
-        ∙ ap (λ (t : Slot). record t { notes = s.slot_after.notes }) slot_was
+        ∙ ap (λ (t : RecordUnderWay). record t { notes = s.slot_after.notes }) slot_was
         ∙ ap (λ n. record (slot_of keep past) { notes = n }) notes_are
         ∙ ap (λ ds. record (slot_of keep after) { drops = ds }) (sym drops_are) in
         let before = λ (k : EndpointPair). holds_before past key k passes in
@@ -191,14 +191,14 @@ module _ (app : Meaning) (control_at : ℕ → ControlState) (keep : Bool) (m : 
           subst (λ l. place_of key l ≡ None) (sym (ends_before_is conn.place d at.0 (silent_as content conn past true (at.1 d) silent)))
           (place_by-cleared (is_open_at key) pasts conn.place (over past) (stands.single key) at.0 (ended_shut app control_at key past))
 
-    pub kept_same : (new : Flows Connection) (slots' : List Slot) (counts' : Counts) → Goes m old new slots slots' counts counts' key now → AreKept keep told content new slots' counts' pasts
+    pub kept_same : (new : Flows Connection) (slots' : List RecordUnderWay) (counts' : Counts) → Goes m old new slots slots' counts counts' key now → AreKept keep told content new slots' counts' pasts
     kept_same new slots' counts' n =
         subst (λ (c : Counts). AreKept keep told content new slots' c pasts) (sym n.counts_are)
         (subst (λ ss. AreKept keep told content new ss counts pasts) (sym n.slots_are)
         (subst (λ (f : Flows Connection). AreKept keep told content f slots counts pasts) (sym n.flows_are) stands))
 
     -- before a packet of the key, whether one ended or not
-    pub before_kept : (new : Flows Connection) (slots' : List Slot) (counts' : Counts) (ended : Bool)
+    pub before_kept : (new : Flows Connection) (slots' : List RecordUnderWay) (counts' : Counts) (ended : Bool)
         → (ended ≡ true → Silences app keep m content old new slots slots' counts counts' key now) → (ended ≡ false → Goes m old new slots slots' counts counts' key now)
         → (version number : ℕ) (segment : Segment) → key ≡ key_of_segment segment
         → AreKept keep told content new slots' counts' (map (ended_before app control_at (arrived version number now (Tcp segment))) pasts)
@@ -213,7 +213,7 @@ module _ (app : Meaning) (control_at : ℕ → ControlState) (keep : Bool) (m : 
         subst (λ l. AreKept keep told content new slots' counts' l) (sym (heard_before_is version number segment key_is n.heard d)) (kept_same new slots' counts' n)
 
   -- none of the key is open after the end of what didn't go on
-  pub none_open : (content : Shared → TreeLists) (old new : Flows Connection) (slots slots' : List Slot) (counts counts' : Counts) (key : EndpointPair) (ended : Bool)
+  pub none_open : (content : Shared → TreeLists) (old new : Flows Connection) (slots slots' : List RecordUnderWay) (counts counts' : Counts) (key : EndpointPair) (ended : Bool)
       → (ended ≡ true → Silences app keep m content old new slots slots' counts counts' key now) → (ended ≡ false → Goes m old new slots slots' counts counts' key now)
       → IsGone m now (found old key) → found new key ≡ None
   none_open content old new slots slots' counts counts' key true silences goes gone =

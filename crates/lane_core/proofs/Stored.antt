@@ -8,7 +8,7 @@ use Rattle.shared_forest.specs.Lists.{TreeLists}
 use Rattle.connection_core.specs.declared.ledger.Counts.{Counts}
 use Rattle.connection_core.specs.Standing.{IsFlow}
 use Rattle.lane_core.specs.declared.connection.Connection.{Connection}
-use Rattle.lane_core.specs.declared.slot.Slot.{Slot}
+use Rattle.lane_core.specs.declared.under_way.RecordUnderWay.{RecordUnderWay}
 use Rattle.lane_core.specs.Records.{RecordSoFar}
 use Rattle.lane_core.specs.Shown.{total}
 use Rattle.lane_core.specs.Places.{place_by, place_of, IsSingle}
@@ -40,7 +40,7 @@ module _ (keep : Bool) (told : ℕ → ℕ → Option Reg) where
   IsOpenAt-stored content content' None place pasts same none = none
   IsOpenAt-stored content content' (Some conn) place pasts same at = (at.0, λ d. IsOpen-stored content content' conn _ (same conn refl) (at.1 d))
 
-  pub kept-stored : (content content' : Shared → TreeLists) (flows : Flows Connection) (slots : List Slot) (counts : Counts) (pasts : List RecordSoFar)
+  pub kept-stored : (content content' : Shared → TreeLists) (flows : Flows Connection) (slots : List RecordUnderWay) (counts : Counts) (pasts : List RecordSoFar)
       → ((key : EndpointPair) (conn : Connection) → found flows key ≡ Some conn → content' conn.flow.forest ≡ content conn.flow.forest)
       → AreKept keep told content flows slots counts pasts → AreKept keep told content' flows slots counts pasts
   kept-stored content content' flows slots counts pasts same stands = record {
@@ -52,7 +52,7 @@ module _ (keep : Bool) (told : ℕ → ℕ → Option Reg) where
   }
 
 -- where no open connection took a packet, what was kept is kept still
-pub kept_unfollowed : {S : Type 0} (content : S → Shared → TreeLists) (keep : Bool) (told : ℕ → ℕ → Option Reg) (old new : S) (flows after : Flows Connection) (slots slots' : List Slot) (counts counts' : Counts) (pasts : List RecordSoFar)
+pub kept_unfollowed : {S : Type 0} (content : S → Shared → TreeLists) (keep : Bool) (told : ℕ → ℕ → Option Reg) (old new : S) (flows after : Flows Connection) (slots slots' : List RecordUnderWay) (counts counts' : Counts) (pasts : List RecordSoFar)
     → after ≡ flows → slots' ≡ slots → new ≡ old → counts' ≡ counts → AreKept keep told (content old) flows slots counts pasts → AreKept keep told (content new) after slots' counts' pasts
 kept_unfollowed content keep told old new flows after slots slots' counts counts' pasts flows_are slots_are store_is counts_are kept =
     subst (λ n. AreKept keep told (content new) after slots' n pasts) (sym counts_are)

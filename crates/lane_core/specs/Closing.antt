@@ -10,7 +10,7 @@ use Rattle.lane_core.specs.declared.connection.Connection.{Connection}
 use Rattle.lane_core.specs.declared.kept.Kept.{Kept}
 use Rattle.lane_core.specs.Sight.{Moment}
 use Rattle.lane_core.specs.Records.{RecordSoFar, ended_at}
-use Rattle.lane_core.specs.declared.slot.Slot.{Slot}
+use Rattle.lane_core.specs.declared.under_way.RecordUnderWay.{RecordUnderWay}
 use Rattle.lane_core.specs.Shown.{callbacks_of, drops_of, weight}
 use Rattle.lane_core.specs.Kept.{Keeps, slot_of}
 
@@ -38,7 +38,7 @@ pub record IsTooHeavy (app : Meaning) (keep : Bool) (m : Versions) (content : Sh
       → 134217728 < weight (map (ended_at app control_at last) so_far)
 
 -- what is left of a lane that ended with these records
-pub record IsClosed (keep : Bool) (so_far : List RecordSoFar) (slots : List Slot) (callbacks drops : ℕ) : Type 0 where
+pub record IsClosed (keep : Bool) (so_far : List RecordSoFar) (slots : List RecordUnderWay) (callbacks drops : ℕ) : Type 0 where
   pub slots_are : slots ≡ map (slot_of keep) so_far
   pub callbacks_are : callbacks ≡ callbacks_of so_far
   pub drops_are : drops ≡ drops_of so_far

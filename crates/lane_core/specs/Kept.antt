@@ -19,7 +19,7 @@ use Rattle.connection_core.specs.declared.ledger.Counts.{Counts}
 use Rattle.connection_core.specs.Standing.{IsFlow}
 use Rattle.connection_core.specs.Trees.{InternsWithin}
 use Rattle.lane_core.specs.declared.connection.Connection.{Connection}
-use Rattle.lane_core.specs.declared.slot.Slot.{Slot}
+use Rattle.lane_core.specs.declared.under_way.RecordUnderWay.{RecordUnderWay}
 use Rattle.lane_core.specs.declared.kept.Kept.{Kept}
 use Rattle.lane_core.specs.Sight.{Segment, Sight, Tcp, Moment, key_of_segment}
 use Rattle.lane_core.specs.Records.{RecordSoFar, VersionedPacket, opens, belongs_to, is_open_at, side_of, side_in, orphan_raises_of, ended_before, placed, verdict_among, added, verdict_on}
@@ -27,7 +27,7 @@ use Rattle.lane_core.specs.Shown.{kind_of, callbacks_of, weight, alterations, dr
 use Rattle.lane_core.specs.Places.{place_by, place_of, IsSingle}
 
 -- the record under way of a record so far; without `keep` it has no entries
-abbrev pub slot_of : Bool → RecordSoFar → Slot
+abbrev pub slot_of : Bool → RecordSoFar → RecordUnderWay
 slot_of keep so_far = record {
   name = so_far.first.number;
   kind = kind_of so_far.first.sight;
@@ -53,7 +53,7 @@ IsOpenAt told content (Some conn) place so_far =
 
 -- the records under way are these, each open connection is in the table, a key has at most one, and the callbacks are counted and
 -- weighed
-pub record AreKept (keep : Bool) (told : ℕ → ℕ → Option Reg) (content : Shared → TreeLists) (flows : Flows Connection) (slots : List Slot) (counts : Counts) (so_far : List RecordSoFar) : Type 0 where
+pub record AreKept (keep : Bool) (told : ℕ → ℕ → Option Reg) (content : Shared → TreeLists) (flows : Flows Connection) (slots : List RecordUnderWay) (counts : Counts) (so_far : List RecordSoFar) : Type 0 where
   pub shown : slots ≡ map (slot_of keep) so_far
   pub placed : (key : EndpointPair) → IsOpenAt told content (found flows key) (place_of key so_far) so_far
   pub single : (key : EndpointPair) → IsSingle (is_open_at key) so_far
@@ -111,16 +111,16 @@ abbrev pub arrived : ℕ → ℕ → Moment → Sight → VersionedPacket
 arrived version number moment sight = record { version = version; arrival = record { number = number; moment = moment; sight = sight } }
 
 -- a packet of this class and with this head that opens no connection and belongs to none of the open ones
-pub record IsStray (sight : Sight) (class : Class) (head : Option Head) (so_far : List RecordSoFar) : Type 0 where
+pub record IsOrphan (sight : Sight) (class : Class) (head : Option Head) (so_far : List RecordSoFar) : Type 0 where
   pub kind : kind_of sight ≡ Orphan class
   pub raises : orphan_raises_of sight ≡ orphan_raises class head
   pub shut : opens sight ≡ false
   pub untaken : place_by (belongs_to sight) so_far ≡ None
 
 -- a packet of no connection, of this class and with this head, was placed
-abbrev pub SetsStray : Meaning → Bool → Versions → ℕ → Class → Option Head → (Shared → TreeLists) → Option ℕ → Kept → (Shared → TreeLists) → Option ℕ → Kept → Verdict → Type 0
-SetsStray app keep m number class head content interns kept content_after interns_after kept_after verdict =
-    (control_at : ℕ → ControlState) (so_far : List RecordSoFar) (moment : Moment) (sight : Sight) → IsStray sight class head so_far
+abbrev pub SetsOrphan : Meaning → Bool → Versions → ℕ → Class → Option Head → (Shared → TreeLists) → Option ℕ → Kept → (Shared → TreeLists) → Option ℕ → Kept → Verdict → Type 0
+SetsOrphan app keep m number class head content interns kept content_after interns_after kept_after verdict =
+    (control_at : ℕ → ControlState) (so_far : List RecordSoFar) (moment : Moment) (sight : Sight) → IsOrphan sight class head so_far
     → ((v : ℕ) → Tells m v (control_at v)) → control_at m.version ≡ m.now → Keeps keep (told_at m) content kept so_far
     → Sets app control_at (arrived m.version number moment sight) so_far keep (told_at m) content_after kept_after interns_after interns verdict
 

@@ -7,7 +7,7 @@ ghost use Rattle.forest_versions.specs.State.{after};
 ghost use Rattle.connection_core.specs.InForce.{told_at};
 ghost use Rattle.connection_core.specs.Trees.{active_in};
 ghost use Rattle.lane_core.specs.Trees.{IsTree, ForTrees};
-ghost use Rattle.lane_core.specs.World.{HoldsTree, TakesCommand};
+ghost use Rattle.lane_core.specs.Settings.{HoldsTree, TakesCommand};
 
 use connection_core::laws::trees_stay;
 use forest_versions::{Command, Master};

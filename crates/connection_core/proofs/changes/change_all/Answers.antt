@@ -1,7 +1,7 @@
 use Rattle.std.proofs.Common.{◌≡◌, take, refl, sym, subst, ◌∙◌}
 use Rattle.std.proofs.lemmas.List.{take_all}
 use Rattle.connection_core.specs.InForce.{told}
-use Rattle.connection_core.specs.Course.{changed_all}
+use Rattle.connection_core.specs.PacketUnderWay.{changed_all}
 use Rattle.connection_core.specs.Trees.{active_in}
 use Rattle.connection_core.specs.Standing.{Alters, Costs}
 use Rattle.connection_core.proofs.Changing.{alters_nothing, alters_more, costs_of_front}

@@ -2,7 +2,7 @@ use Rattle.std.proofs.Common.{take}
 use Rattle.shared_forest.specs.Store.{Keeps}
 use Rattle.forest_versions.specs.State.{ControlState}
 use Rattle.connection_core.specs.InForce.{told, defs_at, IsInForce}
-use Rattle.connection_core.specs.Course.{changed_all}
+use Rattle.connection_core.specs.PacketUnderWay.{changed_all}
 use Rattle.connection_core.specs.Trees.{active_in, IsForestIn}
 use Rattle.connection_core.specs.Standing.{Alters}
 use Rattle.connection_core.proofs.changes.change_all.Given as goal

@@ -10,9 +10,9 @@ use Rattle.lane_core.proofs.closing.end_one.Goals as goal
 
 pub returns-in_default-clause-ends : goal.returns-in_default-clause-ends
 returns-in_default-clause-ends g c = λ control_at pasts d tells stands.
-    let m = c.args.world.now.master in
-    let app = g.A.App.meaning c.args.world.now.app in
-    let keep = c.args.world.now.keep in
+    let m = c.args.settings.now.master in
+    let app = g.A.App.meaning c.args.settings.now.app in
+    let keep = c.args.settings.now.keep in
     let kept = c.args.kept.now in
     let slots = kept.slots.items in
     let counts = kept.ledger.counts in
@@ -25,9 +25,9 @@ returns-in_default-clause-ends g c = λ control_at pasts d tells stands.
 
 pub returns-then-not-stands_at-clause-ends : goal.returns-then-not-stands_at-clause-ends
 returns-then-not-stands_at-clause-ends g c = λ control_at pasts d tells stands.
-    let m = c.args.world.now.master in
-    let app = g.A.App.meaning c.args.world.now.app in
-    let keep = c.args.world.now.keep in
+    let m = c.args.settings.now.master in
+    let app = g.A.App.meaning c.args.settings.now.app in
+    let keep = c.args.settings.now.keep in
     let kept = c.args.kept.now in
     let slots = kept.slots.items in
     let counts = kept.ledger.counts in
@@ -41,9 +41,9 @@ returns-then-not-stands_at-clause-ends g c = λ control_at pasts d tells stands.
 
 pub returns-clause-ends : goal.returns-clause-ends
 returns-clause-ends g c = λ control_at pasts d tells stands.
-    let m = c.args.world.now.master in
-    let app = g.A.App.meaning c.args.world.now.app in
-    let keep = c.args.world.now.keep in
+    let m = c.args.settings.now.master in
+    let app = g.A.App.meaning c.args.settings.now.app in
+    let keep = c.args.settings.now.keep in
     let kept = c.args.kept.now in
     let slots = c.deref_mut.result.now in
     let same = c.deref_mut.ensures.value in

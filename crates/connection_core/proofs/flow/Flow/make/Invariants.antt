@@ -2,7 +2,7 @@ use Rattle.std.proofs.Common.{◌≡◌, ◌*◌, [], take, map}
 use Rattle.shared_forest.specs.Store.{Keeps}
 use Rattle.forest_versions.specs.State.{ControlState}
 use Rattle.connection_core.specs.InForce.{told, defs_at, IsInForce}
-use Rattle.connection_core.specs.Course.{phase}
+use Rattle.connection_core.specs.PacketUnderWay.{phase}
 use Rattle.connection_core.specs.Trees.{active_in, IsForestIn}
 use Rattle.connection_core.specs.Standing.{RiseBy, Makes}
 use Rattle.connection_core.proofs.flow.Flow.make.Given as goal

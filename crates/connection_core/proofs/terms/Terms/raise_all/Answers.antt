@@ -3,7 +3,7 @@ use Rattle.std.proofs.lemmas.List.{take_all}
 use Rattle.builtin_events.specs.declared.raise.Raise.{Raise}
 use Rattle.connection_core.specs.InForce.{told}
 use Rattle.connection_core.specs.Trees.{active_in}
-use Rattle.connection_core.specs.Course.{raised}
+use Rattle.connection_core.specs.PacketUnderWay.{raised}
 use Rattle.connection_core.specs.Standing.{Steps, raise_of}
 use Rattle.connection_core.proofs.Raises.{raised_none, raised_more, raise_as}
 use Rattle.connection_core.proofs.terms.Terms.raise_all.Goals as goal
@@ -27,9 +27,9 @@ loop-event-preserved g c =
           let items = c.as_slice-event-items.result.now in
           let event = get_or items c.loop-event.event-index 0 in
           let list = active_in (told c.args.self.now.in_force) c.args.tree.now in
-          let step = raise_as app s c.args.self.now.keep list c.args.phase.now.number c.moment-moment.result.number c.args.phase.now.from c.moment-moment.result.from (at event) (raise_of c.moment-moment.result)
+          let step = raise_as app s c.args.self.now.keep list c.args.phase.now.number c.raise_at-raise_at.result.number c.args.phase.now.from c.raise_at-raise_at.result.from (at event) (raise_of c.raise_at-raise_at.result)
           c.loop-event.socket c.call_at.new.socket c.loop-event.notes c.call_at.new.notes c.loop-event.ledger c.call_at.new.ledger
-          c.moment-moment.ensures.number c.moment-moment.ensures.from c.moment-moment.ensures.raise (c.in_ok-call_at.ensures.stands s force) in
+          c.raise_at-raise_at.ensures.number c.raise_at-raise_at.ensures.from c.raise_at-raise_at.ensures.raise (c.in_ok-call_at.ensures.stands s force) in
           let so_far = subst (λ l. Steps c.args.self.now.keep list c.args.socket.now c.args.notes.now c.args.ledger.now c.loop-event.socket c.loop-event.notes c.loop-event.ledger
           (raised app s c.args.phase.now.number c.args.phase.now.from (map at (take c.loop-event.event-index l)))) (sym c.as_slice-event-items.ensures.items) (inv.stands s force) in
           subst (λ l. Steps c.args.self.now.keep list c.args.socket.now c.args.notes.now c.args.ledger.now c.call_at.new.socket c.call_at.new.notes c.call_at.new.ledger

@@ -2,7 +2,7 @@ use Rattle.std.proofs.Common.{◌*◌, take, map}
 use Rattle.forest_versions.specs.State.{ControlState}
 use Rattle.connection_core.specs.InForce.{told, IsInForce}
 use Rattle.connection_core.specs.Trees.{active_in}
-use Rattle.connection_core.specs.Course.{raised}
+use Rattle.connection_core.specs.PacketUnderWay.{raised}
 use Rattle.connection_core.specs.Standing.{Steps, IsAsFar, RiseBy}
 use Rattle.connection_core.proofs.terms.Terms.raise_all.Given as goal
 

@@ -25,7 +25,7 @@ invariant_of-self g c =
     record {
       placed = self.placed;
       answered = answered_kept g.F.ForestView.answered g.F.ForestView.content old new self.kept.flows c.start_one.ensures.kept self.answered;
-      trees = trees_kept self.world.master g.F.ForestView.answered g.F.ForestView.content old new self.kept.flows c.start_one.ensures.kept self.answered self.trees;
+      trees = trees_kept self.settings.master g.F.ForestView.answered g.F.ForestView.content old new self.kept.flows c.start_one.ensures.kept self.answered self.trees;
       since = self.since;
       short = self.short;
       callbacks = omega (arith, c.requires.callbacks, c.start_one.ensures.rise.callbacks);
@@ -33,8 +33,8 @@ invariant_of-self g c =
       few = self.few;
       dropped = self.dropped;
       numbered = self.numbered;
-      first = c.start_one.ensures.kept.still_answered self.world.master.forest self.first;
-      first_tree = subst (λ t. IsForestOf self.world.master.now.defs (active self.world.master.now) (listing t)) (sym (c.start_one.ensures.kept.same_content self.world.master.forest self.first)) self.first_tree;
+      first = c.start_one.ensures.kept.still_answered self.settings.master.forest self.first;
+      first_tree = subst (λ t. IsForestOf self.settings.master.now.defs (active self.settings.master.now) (listing t)) (sym (c.start_one.ensures.kept.same_content self.settings.master.forest self.first)) self.first_tree;
     }
 
 pub invariant_of-self-in-Break-branch-2 : goal.invariant_of-self-in-Break-branch-2
@@ -45,7 +45,7 @@ invariant_of-self-in-Break-branch-2 g c =
     record {
       placed = λ key conn is. omega (arith, self.placed key conn is, c.in_err-push.ensures.len);
       answered = answered_kept g.F.ForestView.answered g.F.ForestView.content old new self.kept.flows c.start_one.ensures.kept self.answered;
-      trees = trees_kept self.world.master g.F.ForestView.answered g.F.ForestView.content old new self.kept.flows c.start_one.ensures.kept self.answered self.trees;
+      trees = trees_kept self.settings.master g.F.ForestView.answered g.F.ForestView.content old new self.kept.flows c.start_one.ensures.kept self.answered self.trees;
       since = self.since;
       short = self.short;
       callbacks = omega (arith, c.requires.callbacks, c.start_one.ensures.rise.callbacks);
@@ -53,8 +53,8 @@ invariant_of-self-in-Break-branch-2 g c =
       few = omega (arith, c.requires.room, c.in_err-push.ensures.len);
       dropped = self.dropped;
       numbered = self.numbered;
-      first = c.start_one.ensures.kept.still_answered self.world.master.forest self.first;
-      first_tree = subst (λ t. IsForestOf self.world.master.now.defs (active self.world.master.now) (listing t)) (sym (c.start_one.ensures.kept.same_content self.world.master.forest self.first)) self.first_tree;
+      first = c.start_one.ensures.kept.still_answered self.settings.master.forest self.first;
+      first_tree = subst (λ t. IsForestOf self.settings.master.now.defs (active self.settings.master.now) (listing t)) (sym (c.start_one.ensures.kept.same_content self.settings.master.forest self.first)) self.first_tree;
     }
 
 pub invariant_of-self-2 : goal.invariant_of-self-2
@@ -62,7 +62,7 @@ invariant_of-self-2 g c =
     let self = c.args.self.now in
     let old = self.forests in
     let new = c.start_one.new.forests in
-    let m = self.world.master in
+    let m = self.settings.master in
     let e = c.in_ok-opened.ensures in
     let conn = c.in_ok-opened.opened.conn in
     let over = c.in_ok-opened.opened.step.over in
@@ -92,9 +92,9 @@ returns-clause-stands g c = λ control_at pasts tells now stands.
     let self = c.args.self.now in
     let old = self.forests in
     let new = c.start_one.new.forests in
-    let m = self.world.master in
-    let app = g.A.App.meaning self.world.app in
-    let keep = self.world.keep in
+    let m = self.settings.master in
+    let app = g.A.App.meaning self.settings.app in
+    let keep = self.settings.keep in
     let opened = c.in_ok-opened.opened in
     let segment = seen c.args.segment.now in
     let kept = self.kept in
@@ -117,19 +117,19 @@ pub returns-in_err-opened-clause-costs : goal.returns-in_err-opened-clause-costs
 returns-in_err-opened-clause-costs g c = on_err_always c.from_residual.result (λ control_at pasts tells now stands.
     let self = c.args.self.now in
     let kept = self.kept in
-    opening_costs (g.A.App.meaning self.world.app) control_at self.world.keep self.world.master (g.F.ForestView.content self.forests) (g.F.ForestView.interns self.forests) (g.F.ForestView.interns c.start_one.new.forests)
+    opening_costs (g.A.App.meaning self.settings.app) control_at self.settings.keep self.settings.master (g.F.ForestView.content self.forests) (g.F.ForestView.interns self.forests) (g.F.ForestView.interns c.start_one.new.forests)
     kept.flows kept.slots.items kept.ledger.counts c.args.key c.args.number c.args.moment (seen c.args.segment.now) pasts now stands c.requires.key c.requires.absent c.requires.opens c.start_one.ensures.interned)
 
 pub returns-in_err-push-clause-costs : goal.returns-in_err-push-clause-costs
 returns-in_err-push-clause-costs g c = on_err_always c.from_residual-in_err-push.result (λ control_at pasts tells now stands.
     let self = c.args.self.now in
     let kept = self.kept in
-    opening_costs (g.A.App.meaning self.world.app) control_at self.world.keep self.world.master (g.F.ForestView.content self.forests) (g.F.ForestView.interns self.forests) (g.F.ForestView.interns c.start_one.new.forests)
+    opening_costs (g.A.App.meaning self.settings.app) control_at self.settings.keep self.settings.master (g.F.ForestView.content self.forests) (g.F.ForestView.interns self.forests) (g.F.ForestView.interns c.start_one.new.forests)
     kept.flows kept.slots.items kept.ledger.counts c.args.key c.args.number c.args.moment (seen c.args.segment.now) pasts now stands c.requires.key c.requires.absent c.requires.opens c.start_one.ensures.interned)
 
 pub returns-in_err-keep-clause-costs : goal.returns-in_err-keep-clause-costs
 returns-in_err-keep-clause-costs g c = on_err_always c.from_residual-in_err-keep.result (λ control_at pasts tells now stands.
     let self = c.args.self.now in
     let kept = self.kept in
-    opening_costs (g.A.App.meaning self.world.app) control_at self.world.keep self.world.master (g.F.ForestView.content self.forests) (g.F.ForestView.interns self.forests) (g.F.ForestView.interns c.start_one.new.forests)
+    opening_costs (g.A.App.meaning self.settings.app) control_at self.settings.keep self.settings.master (g.F.ForestView.content self.forests) (g.F.ForestView.interns self.forests) (g.F.ForestView.interns c.start_one.new.forests)
     kept.flows kept.slots.items kept.ledger.counts c.args.key c.args.number c.args.moment (seen c.args.segment.now) pasts now stands c.requires.key c.requires.absent c.requires.opens c.start_one.ensures.interned)

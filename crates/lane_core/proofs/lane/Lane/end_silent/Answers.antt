@@ -32,9 +32,9 @@ invariant_of-self-2 g c =
 pub returns-then-not-is_timed-clause-ends : goal.returns-then-not-is_timed-clause-ends
 returns-then-not-is_timed-clause-ends g c = λ control_at pasts version number segment tells key_is stands.
     let self = c.args.self.now in
-    let m = self.world.master in
-    let app = g.A.App.meaning self.world.app in
-    let keep = self.world.keep in
+    let m = self.settings.master in
+    let app = g.A.App.meaning self.settings.app in
+    let keep = self.settings.keep in
     let kept = self.kept in
     let now = c.args.moment in
     let p = arrived version number now (Tcp segment) in
@@ -45,19 +45,19 @@ returns-then-not-is_timed-clause-ends g c = λ control_at pasts version number s
 pub returns-in_err-_ended-clause-fails : goal.returns-in_err-_ended-clause-fails
 returns-in_err-_ended-clause-fails g c = on_err_always c.from_residual.result (λ control_at pasts version number segment tells key_is stands.
     let self = c.args.self.now in
-    let app = g.A.App.meaning self.world.app in
+    let app = g.A.App.meaning self.settings.app in
     let kept = self.kept in
     let now = c.args.moment in
     let f = c.in_err-_ended.ensures.fails in
-    none_after app control_at self.world.keep self.world.master tells now (g.F.ForestView.content self.forests) kept.flows kept.slots.items kept.ledger.counts c.args.key.now pasts stands
+    none_after app control_at self.settings.keep self.settings.master tells now (g.F.ForestView.content self.forests) kept.flows kept.slots.items kept.ledger.counts c.args.key.now pasts stands
     version number segment key_is f.conn (started_by app control_at (arrived version number now (Tcp segment))) f.was f.silent)
 
 pub returns-clause-ends : goal.returns-clause-ends
 returns-clause-ends g c = λ control_at pasts version number segment tells key_is stands.
     let self = c.args.self.now in
-    let m = self.world.master in
-    let app = g.A.App.meaning self.world.app in
-    let keep = self.world.keep in
+    let m = self.settings.master in
+    let app = g.A.App.meaning self.settings.app in
+    let keep = self.settings.keep in
     let kept = self.kept in
     let now = c.args.moment in
     let content = g.F.ForestView.content self.forests in
@@ -75,15 +75,15 @@ pub returns-then-not-is_timed-clause-absent : goal.returns-then-not-is_timed-cla
 returns-then-not-is_timed-clause-absent g c =
     let self = c.args.self.now in
     let o = found self.kept.flows c.args.key.now in
-    let m = self.world.master in
+    let m = self.settings.master in
     unheard_gone m c.args.moment o c.tells_each_version.ensures c.requires.gone (never_heard m c.args.moment o (c.is_timed.ensures.never c.if-not-is_timed.true))
 
 pub returns-clause-absent : goal.returns-clause-absent
 returns-clause-absent g c =
     let self = c.args.self.now in
-    let m = self.world.master in
+    let m = self.settings.master in
     let met = c.end_silent.new in
     let told = c.tells_each_version.ensures in
     let e = c.in_ok-_ended.ensures in
-    none_open (g.A.App.meaning self.world.app) (λ v. (told v).0) self.world.keep m (λ v. (told v).1) c.args.moment (g.F.ForestView.content self.forests) self.kept.flows met.flows c.deref_mut.result.now met.slots
+    none_open (g.A.App.meaning self.settings.app) (λ v. (told v).0) self.settings.keep m (λ v. (told v).1) c.args.moment (g.F.ForestView.content self.forests) self.kept.flows met.flows c.deref_mut.result.now met.slots
     self.kept.ledger.counts met.ledger.counts c.args.key.now c.in_ok-_ended._ended e.silences e.goes c.requires.gone
