@@ -59,9 +59,11 @@ pub called_under : (app : Meaning) (s : ControlState) (number : ℕ) (from : Sid
     → ledger_after.counts.weight ≡ ledger.counts.weight + (32 + got)
     → IsUnder keep others list socket_after notes_after ledger_after (called app s number from raise c r)
 unfolding called
-called_under app s number from raise r keep others list socket socket_after notes notes_after ledger ledger_after got seen reaction c u heard saw bytes tally reacts entries changes drop callbacks weight =
+called_under app s number from raise r keep others list socket socket_after notes notes_after ledger ledger_after got seen reaction c u heard saw
+    bytes tally reacts entries changes drop callbacks weight =
     let here = seen_by from r.peek c.emulation in
-    let answer : reaction_of app s.rules r (record { reg = r.number; hook = raise.hook; event = r.event; facts = raise.facts; got = got }) notes.tally ≡ reaction_of app s.rules r (call_of raise r here) c.tally =
+    let answer : reaction_of app s.rules r (record { reg = r.number; hook = raise.hook; event = r.event; facts = raise.facts; got = got })
+        notes.tally ≡ reaction_of app s.rules r (call_of raise r here) c.tally =
     ap (λ n. reaction_of app s.rules r (record { reg = r.number; hook = raise.hook; event = r.event; facts = raise.facts; got = n }) notes.tally) bytes
     ∙ ap (λ t. reaction_of app s.rules r (call_of raise r here) t) u.noted.tally in
     let reaction_is : reaction ≡ (reaction_of app s.rules r (call_of raise r here) c.tally).1 = reacts ∙ ap (λ a. a.1) answer in

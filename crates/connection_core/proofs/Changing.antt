@@ -186,7 +186,8 @@ alters_none s change list i none = record {
 pub so_stays : (s : ControlState) (r : Reg) (on so : Bool) (c : PacketUnderWay) → so ≡ true → (if so then c else altered_to (edited s.defs c.active r on) c) ≡ c
 so_stays s r on so c is = ap (λ b. if b then c else altered_to (edited s.defs c.active r on) c) is
 
-pub so_alters : (s : ControlState) (r : Reg) (on so : Bool) (c : PacketUnderWay) → so ≡ false → (if so then c else altered_to (edited s.defs c.active r on) c) ≡ altered_to (edited s.defs c.active r on) c
+pub so_alters : (s : ControlState) (r : Reg) (on so : Bool) (c : PacketUnderWay) → so ≡ false
+    → (if so then c else altered_to (edited s.defs c.active r on) c) ≡ altered_to (edited s.defs c.active r on) c
 so_alters s r on so c is = ap (λ b. if b then c else altered_to (edited s.defs c.active r on) c) is
 
 -- the change of a registration that is so already

@@ -104,7 +104,8 @@ done_stands keep others at tree flow notes ledger c count drops u counted = reco
 }
 
 -- the packet was dropped
-pub dropped_stepped : (keep : Bool) (others : Counts) (at : ℕ → Option Reg) (tree : TreeLists) (flow : Flow) (notes : Notes) (ledger : Ledger) (i : Option ℕ) (number : ℕ) (c r : PacketUnderWay) (h : History)
+pub dropped_stepped : (keep : Bool) (others : Counts) (at : ℕ → Option Reg) (tree : TreeLists) (flow : Flow) (notes : Notes) (ledger : Ledger)
+    (i : Option ℕ) (number : ℕ) (c r : PacketUnderWay) (h : History)
     (count : ℕ) (reason : Reason) → ledger.drop ≡ Some reason → count ≡ h.count → flow.count ≡ count + 1
     → IsUnder keep others (active_in at tree) flow.socket notes ledger c
     → Stepped keep others at tree flow notes ledger.counts i i c.altered (received_unless c.drop number c r h)
@@ -117,7 +118,8 @@ dropped_stepped keep others at tree flow notes ledger i number c r h count reaso
     subst (λ o. Stepped keep others at tree flow notes ledger.counts i i c.altered (received_unless o number c r h)) drop is
 
 -- it came to its receiver
-pub received_stepped : (keep : Bool) (others : Counts) (at : ℕ → Option Reg) (tree : TreeLists) (flow : Flow) (notes : Notes) (before ledger : Ledger) (i j : Option ℕ) (number : ℕ) (c r : PacketUnderWay) (h : History)
+pub received_stepped : (keep : Bool) (others : Counts) (at : ℕ → Option Reg) (tree : TreeLists) (flow : Flow) (notes : Notes) (before ledger : Ledger)
+    (i j : Option ℕ) (number : ℕ) (c r : PacketUnderWay) (h : History)
     (count : ℕ) → before.drop ≡ None → before.drop ≡ c.drop → count ≡ h.count → flow.count ≡ count + 1
     → Reached keep others (active_in at tree) flow.socket notes ledger i j c.altered r
     → Stepped keep others at tree flow notes ledger.counts i j c.altered (received_unless c.drop number c r h)

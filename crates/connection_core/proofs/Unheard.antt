@@ -62,7 +62,8 @@ phase-none app s number from [] c silent none = refl
 phase-none app s number from (raise ∷ raises) c silent none =
     ap (phase app s number from raises) (done-none app s number from raise c silent.0 none) ∙ phase-none app s number from raises c silent.1 none
 
-pub phase_silent : (app : Meaning) (s : ControlState) (keep : Bool) (others : Counts) (list : List Reg) (i : Option ℕ) (number : ℕ) (from : Side) (raises : List Raise) (socket : SocketView) (notes : Notes) (ledger : Ledger)
+pub phase_silent : (app : Meaning) (s : ControlState) (keep : Bool) (others : Counts) (list : List Reg) (i : Option ℕ) (number : ℕ) (from : Side)
+    (raises : List Raise) (socket : SocketView) (notes : Notes) (ledger : Ledger)
     → CallNothing s list raises → ledger.changes.items ≡ [] → (c : PacketUnderWay) → IsUnder keep others list socket notes ledger c
     → Reached keep others list socket notes ledger i i c.altered (phase app s number from raises c)
 phase_silent app s keep others list i number from raises socket notes ledger silent none c u =

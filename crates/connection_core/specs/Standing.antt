@@ -48,7 +48,8 @@ pub record IsUnder (keep : Bool) (others : Counts) (list : List Reg) (socket : S
   pub drop : ledger.drop ≡ c.drop
 
 -- what stood for a packet under way stands for the one that this step makes of it
-pub record Steps (keep : Bool) (list : List Reg) (socket : SocketView) (notes : Notes) (ledger : Ledger) (socket_after : SocketView) (notes_after : Notes) (ledger_after : Ledger) (step : PacketUnderWay → PacketUnderWay) : Type 0 where
+pub record Steps (keep : Bool) (list : List Reg) (socket : SocketView) (notes : Notes) (ledger : Ledger) (socket_after : SocketView)
+    (notes_after : Notes) (ledger_after : Ledger) (step : PacketUnderWay → PacketUnderWay) : Type 0 where
   pub stands : (others : Counts) (c : PacketUnderWay) → IsUnder keep others list socket notes ledger c
       → IsUnder keep others list socket_after notes_after ledger_after (step c)
 
@@ -66,7 +67,8 @@ pub record CostsUnder (keep : Bool) (list : List Reg) (socket : SocketView) (not
   pub interned : (others : Counts) (c : PacketUnderWay) → IsUnder keep others list socket notes ledger c → InternsWithin interns interns_after c.altered (step c).altered
 
 -- a packet has come to this, with at most one intern for each alteration since the list was altered so often
-pub record Reached (keep : Bool) (others : Counts) (list : List Reg) (socket : SocketView) (notes : Notes) (ledger : Ledger) (interns interns_after : Option ℕ) (altered : ℕ) (c : PacketUnderWay) : Type 0 where
+pub record Reached (keep : Bool) (others : Counts) (list : List Reg) (socket : SocketView) (notes : Notes) (ledger : Ledger)
+    (interns interns_after : Option ℕ) (altered : ℕ) (c : PacketUnderWay) : Type 0 where
   pub under : IsUnder keep others list socket notes ledger c
   pub interned : InternsWithin interns interns_after altered c.altered
 
@@ -77,7 +79,8 @@ pub record Makes (keep : Bool) (list : List Reg) (socket : SocketView) (notes : 
       → Reached keep others list_after socket_after notes_after ledger_after interns interns_after c.altered (step c)
 
 -- a packet is done, and its connection has come to this history
-pub record Stepped (keep : Bool) (others : Counts) (at : ℕ → Option Reg) (tree : TreeLists) (flow : Flow) (notes : Notes) (counts : Counts) (interns interns_after : Option ℕ) (altered : ℕ) (h : History) : Type 0 where
+pub record Stepped (keep : Bool) (others : Counts) (at : ℕ → Option Reg) (tree : TreeLists) (flow : Flow) (notes : Notes) (counts : Counts)
+    (interns interns_after : Option ℕ) (altered : ℕ) (h : History) : Type 0 where
   pub stands : IsConnection keep others at tree flow notes counts h
   pub interned : InternsWithin interns interns_after altered h.altered
 

@@ -25,7 +25,8 @@ module _ (m after : Versions) (content content' : Shared → TreeLists) (flows :
   abbrev Lists : Type 0
   Lists = (v : ℕ) (tree : TreeLists) → v ≤ m.version → IsTree m v tree → active_in (told_at after v) tree ≡ active_in (told_at m v) tree
 
-  open_on : (key : EndpointPair) (o : Option Connection) (place : Option ℕ) (pasts : List RecordSoFar) → Lists → found flows key ≡ o → IsOpenAt (told_at m) content o place pasts → IsOpenAt (told_at after) content' o place pasts
+  open_on : (key : EndpointPair) (o : Option Connection) (place : Option ℕ) (pasts : List RecordSoFar) → Lists → found flows key ≡ o
+      → IsOpenAt (told_at m) content o place pasts → IsOpenAt (told_at after) content' o place pasts
   open_on key None place pasts lists there none = none
   open_on key (Some x) place pasts lists there at = (
     at.0,
@@ -45,7 +46,8 @@ module _ (m after : Versions) (content content' : Shared → TreeLists) (flows :
   )
 
   -- and the lane stands for the same records
-  pub kept_on : (keep : Bool) (slots : List RecordUnderWay) (counts : Counts) (pasts : List RecordSoFar) → Lists → AreKept keep (told_at m) content flows slots counts pasts → AreKept keep (told_at after) content' flows slots counts pasts
+  pub kept_on : (keep : Bool) (slots : List RecordUnderWay) (counts : Counts) (pasts : List RecordSoFar) → Lists
+      → AreKept keep (told_at m) content flows slots counts pasts → AreKept keep (told_at after) content' flows slots counts pasts
   kept_on keep slots counts pasts lists stands = record {
     shown = stands.shown;
     placed = λ key. open_on key (found flows key) (place_of key pasts) pasts lists refl (stands.placed key);

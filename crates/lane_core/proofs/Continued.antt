@@ -34,7 +34,8 @@ use Rattle.lane_core.proofs.Stored.{IsOpenAt-stored}
 use Rattle.lane_core.proofs.Verdicts.{verdict_among-some}
 
 -- what the table has for a key, after a step of one connection
-continued_at : (told : ℕ → ℕ → Option Reg) (content : Shared → TreeLists) (flows after : Flows Connection) (pasts : List RecordSoFar) (i : ℕ) (past d : RecordSoFar) (conn : Connection) (own key : EndpointPair) (same over : Bool)
+continued_at : (told : ℕ → ℕ → Option Reg) (content : Shared → TreeLists) (flows after : Flows Connection) (pasts : List RecordSoFar) (i : ℕ)
+    (past d : RecordSoFar) (conn : Connection) (own key : EndpointPair) (same over : Bool)
     → same_key own key ≡ same → IsSingle (is_open_at own) pasts → place_of own pasts ≡ Some i → ((k : EndpointPair) → is_open_at k (get_or pasts i d) ≡ same_key own k)
     → ((k : EndpointPair) → is_open_at k past ≡ (same_key own k && not over)) → conn.place ≡ i → IsOpen told content conn past
     → found after key ≡ (if same then (if over then None else Some conn) else found flows key)
@@ -67,7 +68,8 @@ module _ (app : Meaning) (control_at : ℕ → ControlState) (keep : Bool) (m : 
   }
 
   -- what stands for one record stands for its history
-  pub connection_in : (content : Shared → TreeLists) (flows : Flows Connection) (slots : List RecordUnderWay) (counts : Counts) (pasts : List RecordSoFar) (i : ℕ) (d : RecordSoFar) (conn : Connection) (slot : RecordUnderWay)
+  pub connection_in : (content : Shared → TreeLists) (flows : Flows Connection) (slots : List RecordUnderWay) (counts : Counts)
+      (pasts : List RecordSoFar) (i : ℕ) (d : RecordSoFar) (conn : Connection) (slot : RecordUnderWay)
       → AreKept keep told content flows slots counts pasts → i < length pasts → IsOpen told content conn (get_or pasts i d) → slot ≡ slot_of keep (get_or pasts i d)
       → IsConnection keep (others pasts i) (told conn.version) (content conn.flow.forest) conn.flow slot.notes counts (get_or pasts i d).history
   connection_in content flows slots counts pasts i d conn slot stands within is slot_is = record {
@@ -100,16 +102,19 @@ module _ (app : Meaning) (control_at : ℕ → ControlState) (keep : Bool) (m : 
       rw new (InternsWithin-others interns interns' (others_of (λ r. r.history.altered) pasts i) past.history.altered next.history.altered (alterations pasts) (alterations (set pasts i next))
       (others_and (λ r. r.history.altered) pasts i d within) (others_with (λ r. r.history.altered) pasts i next within) costs)
 
-  module _ (content content' : Shared → TreeLists) (interns interns' : Option ℕ) (number : ℕ) (moment : Moment) (segment : Segment) (p : VersionedPacket) (is_p : p ≡ arrived p.version number moment (Tcp segment))
+  module _ (content content' : Shared → TreeLists) (interns interns' : Option ℕ) (number : ℕ) (moment : Moment) (segment : Segment)
+      (p : VersionedPacket) (is_p : p ≡ arrived p.version number moment (Tcp segment))
       (conn after : Connection) (slot slot' : RecordUnderWay) (counts counts' : Counts) (step : Step) (past : RecordSoFar) (rest : Counts) where
     abbrev next : RecordSoFar
     next = continued_by app control_at p.arrival past
 
     abbrev Went : Type 0
-    Went = Stepping app keep (told conn.version) (control_at conn.version) rest (content conn.flow.forest) (content' after.flow.forest) interns interns' conn after slot slot' counts counts' number segment step past.history
+    Went = Stepping app keep (told conn.version) (control_at conn.version) rest (content conn.flow.forest) (content' after.flow.forest) interns
+        interns' conn after slot slot' counts counts' number segment step past.history
 
     abbrev Stepped : Type 0
-    Stepped = IsStep app keep (told conn.version) (control_at conn.version) (content conn.flow.forest) (content' after.flow.forest) interns interns' conn after slot slot' counts counts' number moment segment step
+    Stepped = IsStep app keep (told conn.version) (control_at conn.version) (content conn.flow.forest) (content' after.flow.forest) interns interns'
+        conn after slot slot' counts counts' number moment segment step
 
     next_is : IsOpen told content conn past → stepped app (control_at conn.version) conn number segment past.history ≡ next.history
     next_is is = next_history content number moment segment p is_p conn past is
@@ -149,13 +154,15 @@ module _ (app : Meaning) (control_at : ℕ → ControlState) (keep : Bool) (m : 
         ∙ ap (λ v. verdict app (control_at v) number (side_in past.first.sight segment) segment.head segment.scale past.history) is.version)
 
   -- the lane after a packet that an open connection takes
-  pub record Continued (content' : Shared → TreeLists) (interns interns' : Option ℕ) (after : Flows Connection) (slots' : List RecordUnderWay) (counts' : Counts) (p : VersionedPacket) (step : Step) (pasts : List RecordSoFar) : Type 0 where
+  pub record Continued (content' : Shared → TreeLists) (interns interns' : Option ℕ) (after : Flows Connection) (slots' : List RecordUnderWay)
+      (counts' : Counts) (p : VersionedPacket) (step : Step) (pasts : List RecordSoFar) : Type 0 where
     pub stands : AreKept keep told content' after slots' counts' (placed app control_at p pasts)
     pub interned : InternsWithin interns interns' (alterations pasts) (alterations (placed app control_at p pasts))
     pub verdict_is : step.verdict ≡ verdict_among app control_at p pasts
     pub dropped : drops_in (placed app control_at p pasts) ≡ drops_in pasts + length (drops_of step.verdict p.arrival.number)
 
-  pub continued : (content content' : Shared → TreeLists) (interns interns' : Option ℕ) (kept kept' : Kept) (key : EndpointPair) (version number : ℕ) (moment : Moment) (segment : Segment) (step : Step) (pasts : List RecordSoFar)
+  pub continued : (content content' : Shared → TreeLists) (interns interns' : Option ℕ) (kept kept' : Kept) (key : EndpointPair) (version number : ℕ)
+      (moment : Moment) (segment : Segment) (step : Step) (pasts : List RecordSoFar)
       → ((v : ℕ) → Tells m v (control_at v)) → ((k : EndpointPair) (x : Connection) → found kept.flows k ≡ Some x → content' x.flow.forest ≡ content x.flow.forest)
       → Keeps keep told content kept pasts → key ≡ key_of_segment segment
       → Follows app keep m content content' interns interns' kept kept' key number moment segment step
@@ -210,12 +217,14 @@ module _ (app : Meaning) (control_at : ℕ → ControlState) (keep : Bool) (m : 
         dropped =
             let longer : length next.history.drops ≡ length past.history.drops + length (drops_of step.verdict number) =
             ap (λ (h : History). length h.drops) (sym same) ∙ ap length went.drops ∙ length-append past.history.drops (drops_of step.verdict number) in
-            rw new (dropped_on (drops_in (set pasts i next)) (drops_in pasts) (others_of (λ r. length r.history.drops) pasts i) (length past.history.drops) (length next.history.drops) (length (drops_of step.verdict number))
+            rw new (dropped_on (drops_in (set pasts i next)) (drops_in pasts) (others_of (λ r. length r.history.drops) pasts i)
+                (length past.history.drops) (length next.history.drops) (length (drops_of step.verdict number))
             (others_with (λ r. length r.history.drops) pasts i next within) (others_and (λ r. length r.history.drops) pasts i d within) longer);
       }
 
   -- the open connection failed to take it
-  pub continued_costs : (content : Shared → TreeLists) (interns interns' : Option ℕ) (kept : Kept) (key : EndpointPair) (version number : ℕ) (moment : Moment) (segment : Segment) (pasts : List RecordSoFar)
+  pub continued_costs : (content : Shared → TreeLists) (interns interns' : Option ℕ) (kept : Kept) (key : EndpointPair) (version number : ℕ)
+      (moment : Moment) (segment : Segment) (pasts : List RecordSoFar)
       → ((v : ℕ) → Tells m v (control_at v)) → Keeps keep told content kept pasts → key ≡ key_of_segment segment
       → Failed app keep m content interns interns' kept key number moment segment
       → InternsWithin interns interns' (alterations pasts) (alterations (placed app control_at (arrived version number moment (Tcp segment)) pasts))
@@ -234,6 +243,7 @@ module _ (app : Meaning) (control_at : ℕ → ControlState) (keep : Bool) (m : 
       let is : IsOpen told content f.conn past = at.1 d in
       let within = place_by-within (is_open_at own) pasts i there in
       let slot_was : f.slot ≡ slot_of keep past = f.slot_is ∙ ap (λ ss. get_or ss i f.slot) stands.shown ∙ get_or-map (slot_of keep) pasts i d f.slot within in
-      let costs = (f.costs (control_at f.conn.version) (tells f.conn.version)).interned (others pasts i) past.history (connection_in content flows slots counts pasts i d f.conn f.slot stands within is slot_was) in
+      let costs = (f.costs (control_at f.conn.version) (tells f.conn.version)).interned (others pasts i) past.history
+          (connection_in content flows slots counts pasts i d f.conn f.slot stands within is slot_was) in
       altered_in interns interns' p pasts i d within ((joins app control_at p pasts i there).changed d)
       (subst (λ (h : History). InternsWithin interns interns' past.history.altered h.altered) (next_history content number moment segment p refl f.conn past is) costs)

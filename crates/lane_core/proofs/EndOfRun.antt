@@ -132,7 +132,8 @@ false_is_true true fails passes = cc
 false_is_true false fails passes = cc
 
 -- the one record that passes stands at its place
-place_by-there : (test : RecordSoFar → Bool) (pasts : List RecordSoFar) (i : ℕ) (d : RecordSoFar) → IsSingle test pasts → i < length pasts → test (get_or pasts i d) ≡ true → place_by test pasts ≡ Some i
+place_by-there : (test : RecordSoFar → Bool) (pasts : List RecordSoFar) (i : ℕ) (d : RecordSoFar) → IsSingle test pasts → i < length pasts
+    → test (get_or pasts i d) ≡ true → place_by test pasts ≡ Some i
 unfolding place_by IsSingle
 place_by-there test [] i d single within passes = absurd (omega arith)
 place_by-there test (past ∷ pasts) zero d single within passes = rw passes refl

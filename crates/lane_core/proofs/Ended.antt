@@ -107,7 +107,8 @@ module _ (test : RecordSoFar → Bool) (step : RecordSoFar → RecordSoFar) (les
   place_by-fewer (past ∷ pasts) none =
       none_still (test past) (test (step past)) (place_by test pasts) (place_by test (map step pasts)) (less past) none (place_by-fewer pasts)
 
-  single_still : (b c : Bool) (o after : Option ℕ) (S T : Type 0) → (c ≡ true → b ≡ true) → MatchBool b (o ≡ None) S → (o ≡ None → after ≡ None) → (o ≡ None → T) → (S → T) → MatchBool c (after ≡ None) T
+  single_still : (b c : Bool) (o after : Option ℕ) (S T : Type 0) → (c ≡ true → b ≡ true) → MatchBool b (o ≡ None) S → (o ≡ None → after ≡ None)
+      → (o ≡ None → T) → (S → T) → MatchBool c (after ≡ None) T
   single_still true true o after S T less single none alone rest = none single
   single_still true false o after S T less single none alone rest = alone single
   single_still false true o after S T less single none alone rest = absurd (let e = less refl in cc)

@@ -50,7 +50,8 @@ module _ (told : ℕ → ℕ → Option Reg) (content : Shared → TreeLists) wh
   opened_here false o place pasts past flow last is none within at = rw with_false (IsOpenAt-append o place pasts past within at)
 
   -- a record that is the open connection of its key, of which none was open
-  pub opened : (flows after : Flows Connection) (pasts : List RecordSoFar) (past : RecordSoFar) (flow : Connection) (own key : EndpointPair) → is_open_at key past ≡ same_key own key → place_of own pasts ≡ None
+  pub opened : (flows after : Flows Connection) (pasts : List RecordSoFar) (past : RecordSoFar) (flow : Connection) (own key : EndpointPair)
+      → is_open_at key past ≡ same_key own key → place_of own pasts ≡ None
       → found after key ≡ (if same_key own key then Some flow else found flows key) → flow.place ≡ length pasts → IsOpen told content flow past
       → IsOpenAt told content (found flows key) (place_of key pasts) pasts
       → IsOpenAt told content (found after key) (place_with (place_of key pasts) (is_open_at key past) (length pasts)) (pasts ++ past ∷ [])
@@ -65,7 +66,8 @@ module _ (told : ℕ → ℕ → Option Reg) (content : Shared → TreeLists) wh
   true_is_not_false false passes fails = cc
 
   -- the flow of another key
-  pub kept_flow : (key : EndpointPair) (o : Option Connection) (pasts : List RecordSoFar) (i : ℕ) (past d : RecordSoFar) → i < length pasts → is_open_at key (get_or pasts i d) ≡ false → is_open_at key past ≡ false
+  pub kept_flow : (key : EndpointPair) (o : Option Connection) (pasts : List RecordSoFar) (i : ℕ) (past d : RecordSoFar) → i < length pasts
+      → is_open_at key (get_or pasts i d) ≡ false → is_open_at key past ≡ false
       → IsOpenAt told content o (place_of key pasts) pasts → IsOpenAt told content o (place_of key (set pasts i past)) (set pasts i past)
   kept_flow key None pasts i past d within before after at = place_by-set (is_open_at key) pasts i past d within (after ∙ sym before) ∙ at
   kept_flow key (Some flow) pasts i past d within before after at =
@@ -74,7 +76,8 @@ module _ (told : ℕ → ℕ → Option Reg) (content : Shared → TreeLists) wh
       (same ∙ at.0, λ e. subst (λ p. IsOpen told content flow p) (sym (get_or-set_other pasts i flow.place past e other)) (at.1 e))
 
   -- the flow of the key itself, while its connection is open and once it is over
-  pub stepped_flow : (key : EndpointPair) (pasts : List RecordSoFar) (i : ℕ) (past : RecordSoFar) (flow : Connection) → place_of key pasts ≡ Some i → is_open_at key past ≡ true → flow.place ≡ i → IsOpen told content flow past
+  pub stepped_flow : (key : EndpointPair) (pasts : List RecordSoFar) (i : ℕ) (past : RecordSoFar) (flow : Connection) → place_of key pasts ≡ Some i
+      → is_open_at key past ≡ true → flow.place ≡ i → IsOpen told content flow past
       → IsOpenAt told content (Some flow) (place_of key (set pasts i past)) (set pasts i past)
   stepped_flow key pasts i past flow there passes at is =
       let within = place_by-within (is_open_at key) pasts i there in (

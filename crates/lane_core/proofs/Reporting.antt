@@ -19,7 +19,8 @@ use Rattle.lane_core.specs.Report.{end_text, totals_of}
 use Rattle.lane_core.specs.Shown.{callbacks_of}
 use Rattle.lane_core.proofs.Ending.{all_ended}
 
-module _ (keep : Bool) (app : Meaning) (so_far : List RecordSoFar) (slots : List RecordUnderWay) (callbacks drops : ℕ) (closed : IsClosed keep so_far slots callbacks drops) (packets len tail : ℕ) (is_len : len ≡ length slots) where
+module _ (keep : Bool) (app : Meaning) (so_far : List RecordSoFar) (slots : List RecordUnderWay) (callbacks drops : ℕ)
+    (closed : IsClosed keep so_far slots callbacks drops) (packets len tail : ℕ) (is_len : len ≡ length slots) where
   abbrev counted : Totals
   counted = record { packets = packets; records = len; callbacks = callbacks; drops = drops; tail = tail }
 

@@ -81,14 +81,16 @@ module _ (app : Meaning) (control_at : ℕ → ControlState) (keep : Bool) (m : 
   over past = ended app control_at past
 
   -- whether it was silent for too long, the open connection tells of its record
-  pub silent_as : (content : Shared → TreeLists) (conn : Connection) (past : RecordSoFar) (silent : Bool) → IsOpen told content conn past → IsSilent m conn now silent → is_silent app control_at now past ≡ silent
+  pub silent_as : (content : Shared → TreeLists) (conn : Connection) (past : RecordSoFar) (silent : Bool) → IsOpen told content conn past
+      → IsSilent m conn now silent → is_silent app control_at now past ≡ silent
   silent_as content conn past silent is so =
       ap (λ v. is_past (control_at v).idle past.last.moment now) (sym is.version)
       ∙ ap (λ t. is_past (control_at conn.version).idle t now) (sym is.heard)
       ∙ so (control_at conn.version) (tells conn.version)
 
   -- its history after the end
-  history_is : (content : Shared → TreeLists) (conn : Connection) (slot : RecordUnderWay) (past : RecordSoFar) → IsOpen told content conn past → slot.kind ≡ kind_of past.first.sight → opens past.first.sight ≡ true
+  history_is : (content : Shared → TreeLists) (conn : Connection) (slot : RecordUnderWay) (past : RecordSoFar) → IsOpen told content conn past
+      → slot.kind ≡ kind_of past.first.sight → opens past.first.sight ≡ true
       → silent_history app (control_at conn.version) conn slot past.history ≡ (over past).history
   history_is content conn slot past is kind opening =
       let h = past.history in
@@ -98,7 +100,8 @@ module _ (app : Meaning) (control_at : ℕ → ControlState) (keep : Bool) (m : 
       ∙ ap (λ n. silenced app (control_at past.version) past.last.number (raise_in (kind_of past.first.sight) n) h) is.kept.count
       ∙ ap (λ r. silenced app (control_at past.version) past.last.number r h) (raise_by_kind past.first.sight h.count opening)
 
-  module _ (content : Shared → TreeLists) (old : Flows Connection) (slots : List RecordUnderWay) (counts : Counts) (key : EndpointPair) (pasts : List RecordSoFar) (stands : AreKept keep told content old slots counts pasts) where
+  module _ (content : Shared → TreeLists) (old : Flows Connection) (slots : List RecordUnderWay) (counts : Counts) (key : EndpointPair)
+      (pasts : List RecordSoFar) (stands : AreKept keep told content old slots counts pasts) where
     -- the lane after the end of the open connection of a key
     pub record SilencedKept (new : Flows Connection) (slots' : List RecordUnderWay) (counts' : Counts) (conn : Connection) (d : RecordSoFar) : Type 0 where
       pub there : place_of key pasts ≡ Some conn.place
@@ -137,7 +140,8 @@ module _ (app : Meaning) (control_at : ℕ → ControlState) (keep : Bool) (m : 
           silent = silent_as content conn past true is s.silent;
           kept = record {
             shown = s.slots_are ∙ ap (λ t. set slots i t) shown ∙ ap (λ ss. set ss i (slot_of keep after)) stands.shown ∙ sym (map-set (slot_of keep) pasts i after);
-            placed = λ k. taken_at told content old new pasts i after d key k (same_key key k) refl (stands.single key) there (before k) (ended_shut app control_at k past) (s.left k) (stands.placed k);
+            placed = λ k. taken_at told content old new pasts i after d key k (same_key key k) refl (stands.single key) there (before k)
+                (ended_shut app control_at k past) (s.left k) (stands.placed k);
             single = λ k. IsSingle-set (is_open_at k) pasts i after d (stands.single k) within (λ e. absurd (false_is_true (sym (ended_shut app control_at k past) ∙ e)));
             counted = noted.callbacks ∙ ap (λ (h : History). others_of (λ r. length r.history.entries) pasts i + length h.entries) same
                 ∙ sym (others_with (λ r. length r.history.entries) pasts i after within);

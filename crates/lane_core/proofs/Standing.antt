@@ -162,7 +162,8 @@ command_stands app keep m after content content' kept kept' next events c r same
 }
 
 -- a lane that failed for this command
-pub command_failed : (app : Meaning) (keep : Bool) (m after : Versions) (content content' : Shared → TreeLists) (kept kept' : Kept) (next : ℕ) (failed : Option LaneError) (events : List LaneEvent) (c : Command)
+pub command_failed : (app : Meaning) (keep : Bool) (m after : Versions) (content content' : Shared
+    → TreeLists) (kept kept' : Kept) (next : ℕ) (failed : Option LaneError) (events : List LaneEvent) (c : Command)
     → IsRun app keep m content kept next failed events → IsRun app keep after content' kept' next (Some NoMemory) (with_event (Gave c) events)
 command_failed app keep m after content content' kept kept' next failed events c r = record {
   newest = newest-gave None events c ∙ r.newest;

@@ -62,7 +62,8 @@ fresh_connection app keep at tree flow notes counts s new is = record {
 }
 
 -- what the table has for a key, with one record more
-started_at : (told : ℕ → ℕ → Option Reg) (content : Shared → TreeLists) (flows after : Flows Connection) (pasts : List RecordSoFar) (past : RecordSoFar) (conn : Connection) (own key : EndpointPair) (over : Bool)
+started_at : (told : ℕ → ℕ → Option Reg) (content : Shared → TreeLists) (flows after : Flows Connection) (pasts : List RecordSoFar)
+    (past : RecordSoFar) (conn : Connection) (own key : EndpointPair) (over : Bool)
     → is_open_at key past ≡ (same_key own key && not over) → place_of own pasts ≡ None
     → found after key ≡ (if not over && same_key own key then Some conn else found flows key) → conn.place ≡ length pasts → IsOpen told content conn past
     → IsOpenAt told content (found flows key) (place_of key pasts) pasts
@@ -77,7 +78,8 @@ module _ (app : Meaning) (control_at : ℕ → ControlState) (keep : Bool) (m : 
   told = told_at m
 
   -- what is noted of a record's callbacks shows in its record
-  pub noted_slot : (name version : ℕ) (sight : Sight) (h : History) (notes : Notes) (others counts : Counts) (slot : RecordUnderWay) → slot.name ≡ name → slot.kind ≡ kind_of sight → slot.version ≡ version
+  pub noted_slot : (name version : ℕ) (sight : Sight) (h : History) (notes : Notes) (others counts : Counts) (slot : RecordUnderWay)
+      → slot.name ≡ name → slot.kind ≡ kind_of sight → slot.version ≡ version
       → slot.notes ≡ notes → slot.drops ≡ h.drops → IsNoted keep others h.tally h.entries notes counts
       → slot ≡ record { name = name; kind = kind_of sight; version = version; notes = record { tally = h.tally; entries = if keep then h.entries else [] }; drops = h.drops }
   noted_slot name version sight h notes others counts slot name_is kind_is version_is notes_are drops_are noted =
@@ -90,10 +92,12 @@ module _ (app : Meaning) (control_at : ℕ → ControlState) (keep : Bool) (m : 
       ∙ ap (λ ds. record { name = name; kind = kind_of sight; version = version; notes = record { tally = h.tally; entries = if keep then h.entries else [] }; drops = ds }) drops_are
 
   -- a packet that starts a record
-  started : (content : Shared → TreeLists) (flows after : Flows Connection) (slots : List RecordUnderWay) (slot : RecordUnderWay) (counts counts' : Counts) (p : VersionedPacket) (pasts : List RecordSoFar)
+  started : (content : Shared → TreeLists) (flows after : Flows Connection) (slots : List RecordUnderWay) (slot : RecordUnderWay)
+      (counts counts' : Counts) (p : VersionedPacket) (pasts : List RecordSoFar)
       → AreKept keep told content flows slots counts pasts → place_by (belongs_to p.arrival.sight) pasts ≡ None → slot ≡ slot_of keep (started_by app control_at p)
       → counts'.callbacks ≡ counts.callbacks + length (started_by app control_at p).history.entries → counts'.weight ≡ counts.weight + weight_of (started_by app control_at p).history.entries
-      → ((key : EndpointPair) → IsOpenAt told content (found after key) (place_with (place_of key pasts) (is_open_at key (started_by app control_at p)) (length pasts)) (pasts ++ started_by app control_at p ∷ []))
+      → ((key : EndpointPair) → IsOpenAt told content (found after key)
+          (place_with (place_of key pasts) (is_open_at key (started_by app control_at p)) (length pasts)) (pasts ++ started_by app control_at p ∷ []))
       → ((key : EndpointPair) → is_open_at key (started_by app control_at p) ≡ true → place_of key pasts ≡ None)
       → AreKept keep told content after (slots ++ slot ∷ []) counts' (placed app control_at p pasts)
   started content flows after slots slot counts counts' p pasts stands none is callbacks weight placed alone =
@@ -108,7 +112,8 @@ module _ (app : Meaning) (control_at : ℕ → ControlState) (keep : Bool) (m : 
       })
 
   -- the lane after a packet that starts a record
-  pub record Started (content : Shared → TreeLists) (interns interns' : Option ℕ) (after : Flows Connection) (slots : List RecordUnderWay) (counts : Counts) (p : VersionedPacket) (verdict : Verdict) (pasts : List RecordSoFar) : Type 0 where
+  pub record Started (content : Shared → TreeLists) (interns interns' : Option ℕ) (after : Flows Connection) (slots : List RecordUnderWay)
+      (counts : Counts) (p : VersionedPacket) (verdict : Verdict) (pasts : List RecordSoFar) : Type 0 where
     pub stands : AreKept keep told content after slots counts (placed app control_at p pasts)
     pub interned : InternsWithin interns interns' (alterations pasts) (alterations (placed app control_at p pasts))
     pub verdict_is : verdict ≡ verdict_among app control_at p pasts
@@ -120,7 +125,8 @@ module _ (app : Meaning) (control_at : ℕ → ControlState) (keep : Bool) (m : 
   altered_by interns interns' p pasts none costs =
       let r = started_by app control_at p in
       rw (placed-new app control_at p pasts none)
-      (InternsWithin-others interns interns' (alterations pasts) 0 r.history.altered (alterations pasts) (alterations (pasts ++ r ∷ [])) (omega arith) (total-append (λ q. q.history.altered) pasts r) costs)
+      (InternsWithin-others interns interns' (alterations pasts) 0 r.history.altered (alterations pasts) (alterations (pasts ++ r ∷ [])) (omega arith)
+          (total-append (λ q. q.history.altered) pasts r) costs)
 
   -- ---- a packet of no connection
 
@@ -134,7 +140,9 @@ module _ (app : Meaning) (control_at : ℕ → ControlState) (keep : Bool) (m : 
       → (started_by app control_at (arrived version number moment sight)).history ≡ orphan_history app (control_at version) number (orphan_raises_of sight)
   orphan_is version number moment sight shut = rw shut refl
 
-  pub orphan_started : (content : Shared → TreeLists) (interns : Option ℕ) (flows : Flows Connection) (slots : List RecordUnderWay) (slot slot' : RecordUnderWay) (counts counts' : Counts) (number : ℕ) (moment : Moment) (sight : Sight) (class : Class) (head : Option Head) (verdict : Verdict) (pasts : List RecordSoFar)
+  pub orphan_started : (content : Shared → TreeLists) (interns : Option ℕ) (flows : Flows Connection) (slots : List RecordUnderWay)
+      (slot slot' : RecordUnderWay) (counts counts' : Counts) (number : ℕ) (moment : Moment) (sight : Sight) (class : Class) (head : Option Head)
+      (verdict : Verdict) (pasts : List RecordSoFar)
       → control_at m.version ≡ m.now → IsOrphan sight class head pasts → AreKept keep told content flows slots counts pasts
       → slot ≡ record { name = number; kind = Orphan class; version = m.version; notes = record { tally = app.fresh; entries = [] }; drops = [] }
       → IsOrphanNoted app keep m.now slot slot' counts counts' number (orphan_raises class head) verdict
@@ -164,7 +172,8 @@ module _ (app : Meaning) (control_at : ℕ → ControlState) (keep : Bool) (m : 
       (as_noted.version ∙ ap (λ (t : RecordUnderWay). t.version) slot_was)
       refl
       (as_noted.drops ∙ ap (λ (t : RecordUnderWay). t.drops ++ drops_of verdict number) slot_was ∙ sym dropped) noted
-      ∙ ap (λ (g : History). record { name = number; kind = kind_of sight; version = version; notes = record { tally = g.tally; entries = if keep then g.entries else [] }; drops = g.drops }) (sym same) in
+      ∙ ap (λ (g : History). record { name = number; kind = kind_of sight; version = version; notes = record
+          { tally = g.tally; entries = if keep then g.entries else [] }; drops = g.drops }) (sym same) in
       record {
         stands = started content flows flows slots slot' counts counts' p pasts stands orphan.untaken slot_is
             (noted.callbacks ∙ ap (λ (g : History). counts.callbacks + length g.entries) (sym same))
@@ -180,7 +189,9 @@ module _ (app : Meaning) (control_at : ℕ → ControlState) (keep : Bool) (m : 
 
   -- ---- a segment that opens a connection
 
-  pub opening_started : (content content' : Shared → TreeLists) (interns interns' : Option ℕ) (flows after : Flows Connection) (slots : List RecordUnderWay) (conn' : Connection) (slot' : RecordUnderWay) (counts counts' : Counts) (key : EndpointPair) (number : ℕ) (moment : Moment) (segment : Segment) (step : Step) (pasts : List RecordSoFar)
+  pub opening_started : (content content' : Shared → TreeLists) (interns interns' : Option ℕ) (flows after : Flows Connection)
+      (slots : List RecordUnderWay) (conn' : Connection) (slot' : RecordUnderWay) (counts counts' : Counts) (key : EndpointPair) (number : ℕ)
+      (moment : Moment) (segment : Segment) (step : Step) (pasts : List RecordSoFar)
       → ((v : ℕ) → Tells m v (control_at v)) → control_at m.version ≡ m.now → ((k : EndpointPair) (x : Connection) → found flows k ≡ Some x → content' x.flow.forest ≡ content x.flow.forest)
       → AreKept keep told content flows slots counts pasts → key ≡ key_of_segment segment → found flows key ≡ None → opens (Tcp segment) ≡ true
       → (o : Opens app keep m content' interns interns' counts counts' (length pasts) number moment segment conn' slot' step)
@@ -216,7 +227,8 @@ module _ (app : Meaning) (control_at : ℕ → ControlState) (keep : Bool) (m : 
       refl
       (ap (λ (t : RecordUnderWay). t.drops) st.noted ∙ ap (λ (t : RecordUnderWay). t.drops ++ drops_of step.verdict number) slot_was ∙ sym went.drops)
       noted
-      ∙ ap (λ (g : History). record { name = number; kind = kind_of (Tcp segment); version = version; notes = record { tally = g.tally; entries = if keep then g.entries else [] }; drops = g.drops }) same in
+      ∙ ap (λ (g : History). record { name = number; kind = kind_of (Tcp segment); version = version; notes = record
+          { tally = g.tally; entries = if keep then g.entries else [] }; drops = g.drops }) same in
       let open_is : IsOpen told content' stepped_open r = record {
         sides = λ t. ap (λ c. side_of c t) (st.client ∙ client);
         version = st.version ∙ version_is;
@@ -244,13 +256,15 @@ module _ (app : Meaning) (control_at : ℕ → ControlState) (keep : Bool) (m : 
             (IsOpenAt-stored keep told content content' (found flows k) (place_of k pasts) pasts (stored k) (stands.placed k)))
             (λ k passes. subst (λ w. place_of w pasts ≡ None) (same_key-equal own k (left_of_and (same_key own k) (not step.over) (sym (own_key k) ∙ passes))) none);
         interned = altered_by interns interns' p pasts none (subst (λ (g : History). InternsWithin interns interns' 0 g.altered) same went.interned);
-        verdict_is = went.verdict_is ∙ ap (λ c. verdict app s number (side_of c segment) segment.head segment.scale h0) client ∙ sym (verdict_among-none app control_at p pasts none ∙ (rw opening refl));
+        verdict_is = went.verdict_is ∙ ap (λ c. verdict app s number (side_of c segment) segment.head segment.scale h0) client
+            ∙ sym (verdict_among-none app control_at p pasts none ∙ (rw opening refl));
         dropped = ap drops_in (placed-new app control_at p pasts none) ∙ total-append (λ q. length q.history.drops) pasts r
             ∙ ap (λ ds. drops_in pasts + length ds) (ap (λ (g : History). g.drops) (sym same) ∙ went.drops);
       }
 
   -- one that failed on its way
-  pub opening_costs : (content : Shared → TreeLists) (interns interns' : Option ℕ) (flows : Flows Connection) (slots : List RecordUnderWay) (counts : Counts) (key : EndpointPair) (number : ℕ) (moment : Moment) (segment : Segment) (pasts : List RecordSoFar)
+  pub opening_costs : (content : Shared → TreeLists) (interns interns' : Option ℕ) (flows : Flows Connection) (slots : List RecordUnderWay)
+      (counts : Counts) (key : EndpointPair) (number : ℕ) (moment : Moment) (segment : Segment) (pasts : List RecordSoFar)
       → control_at m.version ≡ m.now → AreKept keep told content flows slots counts pasts → key ≡ key_of_segment segment → found flows key ≡ None → opens (Tcp segment) ≡ true
       → InternsWithin interns interns' 0 (opened_by app m.now number segment).altered
       → InternsWithin interns interns' (alterations pasts) (alterations (placed app control_at (arrived m.version number moment (Tcp segment)) pasts))

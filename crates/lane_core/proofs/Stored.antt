@@ -16,7 +16,8 @@ use Rattle.lane_core.specs.Kept.{IsOpen, IsOpenAt, AreKept}
 
 module _ (keep : Bool) (told : ℕ → ℕ → Option Reg) where
   -- no packet yet
-  pub kept-empty : (content : Shared → TreeLists) (flows : Flows Connection) → ((key : EndpointPair) → found flows key ≡ None) → AreKept keep told content flows [] (record { callbacks = 0; weight = 0 }) []
+  pub kept-empty : (content : Shared → TreeLists) (flows : Flows Connection) → ((key : EndpointPair) → found flows key ≡ None)
+      → AreKept keep told content flows [] (record { callbacks = 0; weight = 0 }) []
   unfolding place_by total IsSingle
   kept-empty content flows none = record {
     shown = refl;
@@ -26,7 +27,8 @@ module _ (keep : Bool) (told : ℕ → ℕ → Option Reg) where
     weighed = refl;
   }
 
-  pub IsOpen-stored : (content content' : Shared → TreeLists) (conn : Connection) (past : RecordSoFar) → content' conn.flow.forest ≡ content conn.flow.forest → IsOpen told content conn past → IsOpen told content' conn past
+  pub IsOpen-stored : (content content' : Shared → TreeLists) (conn : Connection) (past : RecordSoFar)
+      → content' conn.flow.forest ≡ content conn.flow.forest → IsOpen told content conn past → IsOpen told content' conn past
   IsOpen-stored content content' conn past same is = record {
     sides = is.sides;
     version = is.version;
@@ -52,7 +54,8 @@ module _ (keep : Bool) (told : ℕ → ℕ → Option Reg) where
   }
 
 -- where no open connection took a packet, what was kept is kept still
-pub kept_unfollowed : {S : Type 0} (content : S → Shared → TreeLists) (keep : Bool) (told : ℕ → ℕ → Option Reg) (old new : S) (flows after : Flows Connection) (slots slots' : List RecordUnderWay) (counts counts' : Counts) (pasts : List RecordSoFar)
+pub kept_unfollowed : {S : Type 0} (content : S → Shared → TreeLists) (keep : Bool) (told : ℕ → ℕ
+    → Option Reg) (old new : S) (flows after : Flows Connection) (slots slots' : List RecordUnderWay) (counts counts' : Counts) (pasts : List RecordSoFar)
     → after ≡ flows → slots' ≡ slots → new ≡ old → counts' ≡ counts → AreKept keep told (content old) flows slots counts pasts → AreKept keep told (content new) after slots' counts' pasts
 kept_unfollowed content keep told old new flows after slots slots' counts counts' pasts flows_are slots_are store_is counts_are kept =
     subst (λ n. AreKept keep told (content new) after slots' n pasts) (sym counts_are)

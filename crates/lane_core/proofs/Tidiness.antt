@@ -161,7 +161,8 @@ record IsTidyHistory (n : ℕ) (h : History) : Type 0 where
 later_history : (n m : ℕ) (h : History) → n ≤ m → IsTidyHistory n h → IsTidyHistory m h
 later_history n m h less t = record { events = t.events; entries = t.entries; drops = later_below 0 n m h.drops less t.drops }
 
-unless_tidy : (n number : ℕ) (o : Option Reason) (s r : PacketUnderWay) (h : History) → n ≤ number → RisesBelow 0 n h.drops → IsTidyUnderWay s → IsTidyUnderWay r → IsTidyHistory (number + 1) (received_unless o number s r h)
+unless_tidy : (n number : ℕ) (o : Option Reason) (s r : PacketUnderWay) (h : History) → n ≤ number → RisesBelow 0 n h.drops → IsTidyUnderWay s
+    → IsTidyUnderWay r → IsTidyHistory (number + 1) (received_unless o number s r h)
 unless_tidy n number None s r h less drops ts tr = record { events = tr.events; entries = tr.entries; drops = later_below 0 n (number + 1) h.drops (omega arith) drops }
 unless_tidy n number (Some reason) s r h less drops ts tr = record { events = ts.events; entries = ts.entries; drops = one_below 0 n number reason h.drops less drops }
 

@@ -55,7 +55,8 @@ module _ (app : Meaning) (control : ControlState) (number : ℕ) (from : Side) w
 
   switched_same : (o : Option Reg) (on : Bool) (c : PacketUnderWay) → (switched control o on c).entries ≡ c.entries
   switched_same None on c = refl
-  switched_same (Some r) on c = elim (is_so (is_on r.number c.active) on) as (λ b. (if b then c else altered_to (edited control.defs c.active r on) c).entries ≡ c.entries) [ true ↦ refl | false ↦ refl ]
+  switched_same (Some r) on c = elim (is_so (is_on r.number c.active) on)
+      as (λ b. (if b then c else altered_to (edited control.defs c.active r on) c).entries ≡ c.entries) [ true ↦ refl | false ↦ refl ]
 
   changed_same : (changes : List Change1) (c : PacketUnderWay) → (changed_all control changes c).entries ≡ c.entries
   unfolding changed

@@ -53,7 +53,8 @@ IsOpenAt told content (Some conn) place so_far =
 
 -- the records under way are these, each open connection is in the table, a key has at most one, and the callbacks are counted and
 -- weighed
-pub record AreKept (keep : Bool) (told : ℕ → ℕ → Option Reg) (content : Shared → TreeLists) (flows : Flows Connection) (slots : List RecordUnderWay) (counts : Counts) (so_far : List RecordSoFar) : Type 0 where
+pub record AreKept (keep : Bool) (told : ℕ → ℕ → Option Reg) (content : Shared
+    → TreeLists) (flows : Flows Connection) (slots : List RecordUnderWay) (counts : Counts) (so_far : List RecordSoFar) : Type 0 where
   pub shown : slots ≡ map (slot_of keep) so_far
   pub placed : (key : EndpointPair) → IsOpenAt told content (found flows key) (place_of key so_far) so_far
   pub single : (key : EndpointPair) → IsSingle (is_open_at key) so_far

@@ -64,7 +64,8 @@ pub record StepCosts (app : Meaning) (keep : Bool) (at : ℕ → Option Reg) (co
       → InternsWithin interns interns_after h.altered (stepped app control conn number segment h).altered
 
 -- the same of a step, and of its cost, under whatever the master tells of the connection's version
-abbrev pub IsStepUnder : Meaning → Bool → Versions → TreeLists → TreeLists → Option ℕ → Option ℕ → Connection → Connection → RecordUnderWay → RecordUnderWay → Counts → Counts → ℕ → Moment → Segment → Step → Type 0
+abbrev pub IsStepUnder : Meaning → Bool → Versions → TreeLists → TreeLists → Option ℕ → Option ℕ → Connection → Connection → RecordUnderWay
+    → RecordUnderWay → Counts → Counts → ℕ → Moment → Segment → Step → Type 0
 IsStepUnder app keep m tree tree_after interns interns_after conn conn_after slot slot_after counts counts_after number moment segment step =
     (control : ControlState) → Tells m conn.version control
     → IsStep app keep (told_at m conn.version) control tree tree_after interns interns_after conn conn_after slot slot_after counts counts_after number moment segment step
@@ -81,7 +82,8 @@ opened_by app control number segment =
     segment.head segment.scale segment.payload (fresh app control)
 
 -- a packet of no connection was called for: `slot` is a record under way of no callback
-pub record IsOrphanNoted (app : Meaning) (keep : Bool) (control : ControlState) (slot slot_after : RecordUnderWay) (counts counts_after : Counts) (number : ℕ) (raises : List Raise) (verdict_is : Verdict) : Type 0 where
+pub record IsOrphanNoted (app : Meaning) (keep : Bool) (control : ControlState) (slot slot_after : RecordUnderWay) (counts counts_after : Counts)
+    (number : ℕ) (raises : List Raise) (verdict_is : Verdict) : Type 0 where
   pub name : slot_after.name ≡ slot.name
   pub kind : slot_after.kind ≡ slot.kind
   pub version : slot_after.version ≡ slot.version

@@ -23,11 +23,13 @@ returns-then-is_so-clause-made g c = λ s force.
     let tree = c.tree_of-tree.result.now in
     let list = active_in at (g.F.ForestView.content c.args.forests.now c.args.forest.now) in
     let forest : IsForestOf (defs_at c.args.in_force.now) list (listing tree) =
-    subst (λ (t : TreeLists). IsForestOf (defs_at c.args.in_force.now) list (listing t)) (sym c.tree_of-tree.ensures) (record { private = c.requires.forest.private; listed = c.requires.forest.listed }) in
+    subst (λ (t : TreeLists). IsForestOf (defs_at c.args.in_force.now) list (listing t)) (sym c.tree_of-tree.ensures)
+        (record { private = c.requires.forest.private; listed = c.requires.forest.listed }) in
     let r = c.in-Some.reg.now in
     alters_so s c.args.change r list (g.F.ForestView.interns c.args.forests.now)
     (sym (force.regs c.args.change.reg (omega arith)) ∙ sym c.reg_at.ensures.reg ∙ ap option_copied c.in-Some.is)
-    (so_by at c.args.change.reg r list c.args.change.on c.is_so.result tree.slots c.in-Some.ensures.number (c.slots_in_order.ensures.slots (defs_at c.args.in_force.now) list forest) c.is_so.ensures ∙ c.if-is_so.true)
+    (so_by at c.args.change.reg r list c.args.change.on c.is_so.result tree.slots c.in-Some.ensures.number
+        (c.slots_in_order.ensures.slots (defs_at c.args.in_force.now) list forest) c.is_so.ensures ∙ c.if-is_so.true)
 
 pub edit-requires-clause-forest : goal.edit-requires-clause-forest
 edit-requires-clause-forest g c =
@@ -40,7 +42,8 @@ edit-requires-clause-forest g c =
     let shown : IsForestOf c.defs-defs.result.now list (listing tree) = subst (λ (t : TreeLists). IsForestOf c.defs-defs.result.now list (listing t)) (sym c.tree_of-tree.ensures) forest in
     let r = c.in-Some.reg.now in
     let here : at r.number ≡ Some r = ap at c.in-Some.ensures.number ∙ sym c.reg_at.ensures.reg ∙ ap option_copied c.in-Some.is in
-    let so = so_by at c.args.change.reg r list c.args.change.on c.is_so.result tree.slots c.in-Some.ensures.number (c.slots_in_order.ensures.slots c.defs-defs.result.now list shown) c.is_so.ensures ∙ c.if-is_so.false in
+    let so = so_by at c.args.change.reg r list c.args.change.on c.is_so.result tree.slots c.in-Some.ensures.number
+        (c.slots_in_order.ensures.slots c.defs-defs.result.now list shown) c.is_so.ensures ∙ c.if-is_so.false in
     (list, forest, switchable_by at r list c.args.change.on here there.known so)
 
 pub returns-clause-forest : goal.returns-clause-forest
@@ -54,7 +57,8 @@ returns-clause-forest g c =
     let shown : IsForestOf c.defs-defs.result.now list (listing tree) = subst (λ (t : TreeLists). IsForestOf c.defs-defs.result.now list (listing t)) (sym c.tree_of-tree.ensures) forest in
     let r = c.in-Some.reg.now in
     let here : at r.number ≡ Some r = ap at c.in-Some.ensures.number ∙ sym c.reg_at.ensures.reg ∙ ap option_copied c.in-Some.is in
-    let so = so_by at c.args.change.reg r list c.args.change.on c.is_so.result tree.slots c.in-Some.ensures.number (c.slots_in_order.ensures.slots c.defs-defs.result.now list shown) c.is_so.ensures ∙ c.if-is_so.false in
+    let so = so_by at c.args.change.reg r list c.args.change.on c.is_so.result tree.slots c.in-Some.ensures.number
+        (c.slots_in_order.ensures.slots c.defs-defs.result.now list shown) c.is_so.ensures ∙ c.if-is_so.false in
     let after = c.in_ok-edited.ensures.listing list forest (switchable_by at r list c.args.change.on here there.known so) in
     let new = g.F.ForestView.content c.edit.new.f c.in_ok-edited.edited in
     let same : c.tree_of.result.now ≡ new = c.tree_of.ensures in
@@ -73,7 +77,8 @@ returns-clause-made g c = λ s force.
     let shown : IsForestOf c.defs-defs.result.now list (listing tree) = subst (λ (t : TreeLists). IsForestOf c.defs-defs.result.now list (listing t)) (sym c.tree_of-tree.ensures) forest in
     let r = c.in-Some.reg.now in
     let here : at r.number ≡ Some r = ap at c.in-Some.ensures.number ∙ sym c.reg_at.ensures.reg ∙ ap option_copied c.in-Some.is in
-    let so = so_by at c.args.change.reg r list c.args.change.on c.is_so.result tree.slots c.in-Some.ensures.number (c.slots_in_order.ensures.slots c.defs-defs.result.now list shown) c.is_so.ensures ∙ c.if-is_so.false in
+    let so = so_by at c.args.change.reg r list c.args.change.on c.is_so.result tree.slots c.in-Some.ensures.number
+        (c.slots_in_order.ensures.slots c.defs-defs.result.now list shown) c.is_so.ensures ∙ c.if-is_so.false in
     let after = c.in_ok-edited.ensures.listing list forest (switchable_by at r list c.args.change.on here there.known so) in
     let new = g.F.ForestView.content c.edit.new.f c.in_ok-edited.edited in
     let same : c.tree_of.result.now ≡ new = c.tree_of.ensures in

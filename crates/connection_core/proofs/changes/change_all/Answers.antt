@@ -37,7 +37,8 @@ loop-asked-preserved g c =
 pub returns-clause-made : goal.returns-clause-made
 returns-clause-made g c = λ s force.
     let whole : take c.loop-asked.asked-index c.args.changes.now ≡ c.args.changes.now = take_all c.loop-asked.asked-index c.args.changes.now c.loop-asked-test.false in
-    subst (λ l. Alters (active_in (told c.args.in_force.now) (g.F.ForestView.content c.args.forests.now c.args.forest.now)) (active_in (told c.args.in_force.now) (g.F.ForestView.content c.loop-asked.forests c.loop-asked.forest))
+    subst (λ l. Alters (active_in (told c.args.in_force.now) (g.F.ForestView.content c.args.forests.now c.args.forest.now))
+        (active_in (told c.args.in_force.now) (g.F.ForestView.content c.loop-asked.forests c.loop-asked.forest))
     (g.F.ForestView.interns c.args.forests.now) (g.F.ForestView.interns c.loop-asked.forests) (changed_all s l)) whole (c.loop-asked.invariant.made s force)
 
 pub returns-in_err-change-clause-failed : goal.returns-in_err-change-clause-failed

@@ -12,6 +12,7 @@ invariant-loop-asked g l = record {
   answered : g.F.ForestView.answered l.forests l.forest;
   forest : IsForestIn (defs_at l.in_force) (told l.in_force) (g.F.ForestView.content l.forests l.forest);
   kept : Keeps g.F.ForestView.answered g.F.ForestView.content l.fn.forests l.forests;
-  made : (s : ControlState) → IsInForce l.in_force s → Alters (active_in (told l.in_force) (g.F.ForestView.content l.fn.forests l.fn.forest)) (active_in (told l.in_force) (g.F.ForestView.content l.forests l.forest))
+  made : (s : ControlState) → IsInForce l.in_force s → Alters (active_in (told l.in_force) (g.F.ForestView.content l.fn.forests l.fn.forest))
+      (active_in (told l.in_force) (g.F.ForestView.content l.forests l.forest))
       (g.F.ForestView.interns l.fn.forests) (g.F.ForestView.interns l.forests) (changed_all s (take l.asked-index l.changes));
 }

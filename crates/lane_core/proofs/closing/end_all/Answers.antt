@@ -22,7 +22,8 @@ returns-then-weighs_too_much-clause-heavy g c = λ is.
           let content = g.F.ForestView.content c.args.forests.now in
           let i = c.loop-place.place in
           let lent = c.loop-place.invariant.ends control_at pasts tells stands in
-          let low : i < length kept.slots.items = let test = c.loop-place-test.true in let end = c.len-place-end.ensures in let len = c.loop-place.invariant.len in let ok = kept.slots.ok.0 in grind (arith, common_steps) in
+          let low : i < length kept.slots.items = let test = c.loop-place-test.true in let end = c.len-place-end.ensures in let len
+              = c.loop-place.invariant.len in let ok = kept.slots.ok.0 in grind (arith, common_steps) in
           let within = subst (λ n. i < n) (front_length app control_at c.args.now i pasts) (within_by settings.keep kept.slots.items (front app control_at c.args.now i pasts) i lent.shown low) in
           let now = front_step app control_at c.args.now (λ l. Keeps settings.keep (told_at settings.master) content c.end_one.new.kept l) i pasts within
           (λ d. c.in_ok-end_one.ensures.ends control_at (front app control_at c.args.now i pasts) d tells lent) in
@@ -41,7 +42,8 @@ loop-place-preserved g c = record {
       let content = g.F.ForestView.content c.args.forests.now in
       let i = c.loop-place.place in
       let lent = c.loop-place.invariant.ends control_at pasts tells stands in
-      let low : i < length kept.slots.items = let test = c.loop-place-test.true in let end = c.len-place-end.ensures in let len = c.loop-place.invariant.len in let ok = kept.slots.ok.0 in grind (arith, common_steps) in
+      let low : i < length kept.slots.items = let test = c.loop-place-test.true in let end = c.len-place-end.ensures in let len
+          = c.loop-place.invariant.len in let ok = kept.slots.ok.0 in grind (arith, common_steps) in
       let within = subst (λ n. i < n) (front_length app control_at c.args.now i pasts) (within_by settings.keep kept.slots.items (front app control_at c.args.now i pasts) i lent.shown low) in
       front_step app control_at c.args.now (λ l. Keeps settings.keep (told_at settings.master) content c.end_one.new.kept l) i pasts within
       (λ d. c.in_ok-end_one.ensures.ends control_at (front app control_at c.args.now i pasts) d tells lent);

@@ -24,8 +24,10 @@ returns-in_ok-receive-in-None-clause-stands g c = λ s others h under_way force 
     c.receive.new.self c.receive.new.notes c.args.ledger.now c.receive.new.ledger (g.F.ForestView.interns c.args.forests.now) (g.F.ForestView.interns c.receive.new.forests) arrived.number under_way
     (receiver_phase app s arrived.number arrived.from arrived.head.now arrived.payload.now h.count under_way) h
     c.args.self.now.count c.in-None.is u.drop count c.in_ok-receive-in-None.ensures.counted
-    (subst (λ n. Reached c.args.terms.now.keep others (active_in (told c.args.terms.now.in_force) (g.F.ForestView.content c.receive.new.forests c.receive.new.self.forest)) c.receive.new.self.socket c.receive.new.notes c.receive.new.ledger
-    (g.F.ForestView.interns c.args.forests.now) (g.F.ForestView.interns c.receive.new.forests) under_way.altered (receiver_phase app s arrived.number arrived.from arrived.head.now arrived.payload.now n under_way)) count
+    (subst (λ n. Reached c.args.terms.now.keep others (active_in (told c.args.terms.now.in_force)
+        (g.F.ForestView.content c.receive.new.forests c.receive.new.self.forest)) c.receive.new.self.socket c.receive.new.notes c.receive.new.ledger
+    (g.F.ForestView.interns c.args.forests.now) (g.F.ForestView.interns c.receive.new.forests) under_way.altered
+        (receiver_phase app s arrived.number arrived.from arrived.head.now arrived.payload.now n under_way)) count
     ((c.in_ok-receive-in-None.ensures.stands s force).stands others under_way u))
 
 pub returns-in_err-receive-in-None-clause-failed : goal.returns-in_err-receive-in-None-clause-failed

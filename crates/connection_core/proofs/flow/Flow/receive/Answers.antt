@@ -32,7 +32,8 @@ pub returns-clause-failed : goal.returns-clause-failed
 returns-clause-failed g c =
     on_err_weaker c.make.result (λ costs. λ s force. record {
       interned = λ others under_way u.
-          receiver_makes (g.A.App.meaning c.args.terms.now.app.now) s c.args.terms.now.keep others (active_in (told c.args.terms.now.in_force) (g.F.ForestView.content c.args.forests.now c.args.self.now.forest))
+          receiver_makes (g.A.App.meaning c.args.terms.now.app.now) s c.args.terms.now.keep others
+              (active_in (told c.args.terms.now.in_force) (g.F.ForestView.content c.args.forests.now c.args.self.now.forest))
           c.args.arrived.now.number c.args.arrived.now.from c.args.arrived.now.head.now c.args.arrived.now.payload.now c.args.self.now.count
           c.in_ok-got.got (raises_of c.raised_at_receiver.result) c.args.self.now.socket c.receive.new.self c.args.notes.now c.args.ledger.now under_way
           (λ before after. InternsWithin (g.F.ForestView.interns c.args.forests.now) (g.F.ForestView.interns c.make.new.forests) before.altered after.altered)
@@ -42,7 +43,8 @@ returns-clause-failed g c =
 
 pub returns-in_err-got-clause-failed : goal.returns-in_err-got-clause-failed
 returns-in_err-got-clause-failed g c = on_err_always c.from_residual.result (λ s force.
-    receiver_costs_none (g.A.App.meaning c.args.terms.now.app.now) s c.args.terms.now.keep (active_in (told c.args.terms.now.in_force) (g.F.ForestView.content c.args.forests.now c.args.self.now.forest))
+    receiver_costs_none (g.A.App.meaning c.args.terms.now.app.now) s c.args.terms.now.keep
+        (active_in (told c.args.terms.now.in_force) (g.F.ForestView.content c.args.forests.now c.args.self.now.forest))
     (g.F.ForestView.interns c.args.forests.now) c.args.arrived.now.number c.args.arrived.now.from c.args.arrived.now.head.now c.args.arrived.now.payload.now c.args.self.now.count
     c.args.self.now.socket c.args.notes.now c.args.ledger.now)
 

@@ -22,7 +22,8 @@ returns-clause-stands g c =
     c.send-sent.result (raises_of c.raised_at_sender-raised.result) c.args.self.now c.send-sent.new.self c.args.notes.now c.args.ledger.now c.begin.new.self h
     (λ before after. Reached keep others (active_in at (g.F.ForestView.content c.make.new.forests c.make.new.self.forest)) c.make.new.self.socket c.make.new.notes c.make.new.ledger
     (g.F.ForestView.interns c.args.forests.now) (g.F.ForestView.interns c.make.new.forests) before.altered after)
-    is c.send-sent.ensures.stands c.send-sent.ensures.answer c.raised_at_sender-raised.ensures.raises c.begin.ensures.changes c.begin.ensures.drop c.begin.ensures.counts ((makes s force).stands others))
+    is c.send-sent.ensures.stands c.send-sent.ensures.answer c.raised_at_sender-raised.ensures.raises c.begin.ensures.changes c.begin.ensures.drop
+        c.begin.ensures.counts ((makes s force).stands others))
     c.make.ensures.made
 
 pub returns-clause-failed : goal.returns-clause-failed
@@ -33,7 +34,8 @@ returns-clause-failed g c =
     c.args.arrived.now.number c.args.arrived.now.from c.args.arrived.now.head.now c.args.arrived.now.scale
     c.send-sent.result (raises_of c.raised_at_sender-raised.result) c.args.self.now c.send-sent.new.self c.args.notes.now c.args.ledger.now c.begin.new.self h
     (λ before after. InternsWithin (g.F.ForestView.interns c.args.forests.now) (g.F.ForestView.interns c.make.new.forests) before.altered after.altered)
-    is c.send-sent.ensures.stands c.send-sent.ensures.answer c.raised_at_sender-raised.ensures.raises c.begin.ensures.changes c.begin.ensures.drop c.begin.ensures.counts ((costs s force).interned others))
+    is c.send-sent.ensures.stands c.send-sent.ensures.answer c.raised_at_sender-raised.ensures.raises c.begin.ensures.changes c.begin.ensures.drop
+        c.begin.ensures.counts ((costs s force).interned others))
     c.make.ensures.failed
 
 -- nobody hears anything of it

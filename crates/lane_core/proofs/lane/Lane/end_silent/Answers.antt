@@ -85,5 +85,6 @@ returns-clause-absent g c =
     let met = c.end_silent.new in
     let told = c.tells_each_version.ensures in
     let e = c.in_ok-_ended.ensures in
-    none_open (g.A.App.meaning self.settings.app) (λ v. (told v).0) self.settings.keep m (λ v. (told v).1) c.args.moment (g.F.ForestView.content self.forests) self.kept.flows met.flows c.deref_mut.result.now met.slots
+    none_open (g.A.App.meaning self.settings.app) (λ v. (told v).0) self.settings.keep m (λ v. (told v).1) c.args.moment
+        (g.F.ForestView.content self.forests) self.kept.flows met.flows c.deref_mut.result.now met.slots
     self.kept.ledger.counts met.ledger.counts c.args.key.now c.in_ok-_ended._ended e.silences e.goes c.requires.gone

@@ -41,7 +41,8 @@ returns-else-is_opening-clause-costs g c = on_err_always c.orphan.result (λ con
     let own = key_of_segment segment in
     let p = arrived m.version c.args.number c.args.moment (Tcp segment) in
     let untaken : place_of own pasts ≡ None =
-    subst (λ o. IsOpenAt (told_at m) (g.F.ForestView.content self.forests) o (place_of own pasts) pasts) (ap (λ k. found self.kept.flows k) (sym c.requires.key) ∙ c.requires.absent) (stands.placed own) in
+    subst (λ o. IsOpenAt (told_at m) (g.F.ForestView.content self.forests) o (place_of own pasts) pasts)
+        (ap (λ k. found self.kept.flows k) (sym c.requires.key) ∙ c.requires.absent) (stands.placed own) in
     let interns = g.F.ForestView.interns in
     subst (λ f. InternsWithin (interns self.forests) (interns f) (alterations pasts) (alterations (placed app control_at p pasts))) (sym c.orphan.ensures.forests)
     (orphan_costs app control_at self.settings.keep m (interns self.forests) p pasts untaken))

@@ -17,7 +17,8 @@ returns-in_default-take-clause-stands g c = λ good events r.
     let new = c.take.new.self in
     let end = c.fail.new.self in
     rw (c.fail.ensures.settings, c.fail.ensures.failed, c.fail.ensures.next)
-    (packet_failed (g.A.App.meaning new.settings.app) new.settings.keep new.settings.master (g.F.ForestView.content self.forests) (g.F.ForestView.content end.forests) self.kept end.kept self.next new.next events
+    (packet_failed (g.A.App.meaning new.settings.app) new.settings.keep new.settings.master (g.F.ForestView.content self.forests)
+        (g.F.ForestView.content end.forests) self.kept end.kept self.next new.next events
     (arrival_of c.args.number c.args.frame.now) NoMemory c.take.ensures.next (λ is. absurd (cc)))
 
 pub returns-in_default-take-clause-interned : goal.returns-in_default-take-clause-interned
@@ -41,8 +42,10 @@ returns-then-is_heavy-clause-stands g c = λ good events r.
     let over = subst (λ (w : LaneSettings _). (w.keep && nat_lt 134217728 new.kept.ledger.counts.weight) ≡ true) c.take.ensures.settings (sym c.is_heavy.ensures ∙ c.if-is_heavy.true) in
     let fail = c.fail-then-is_heavy in
     rw (fail.ensures.settings, fail.ensures.failed, fail.ensures.next, c.take.ensures.settings)
-    (packet_failed app self.settings.keep self.settings.master (g.F.ForestView.content self.forests) (g.F.ForestView.content fail.new.self.forests) self.kept fail.new.self.kept self.next new.next events a Heavy c.take.ensures.next
-    (λ is. is_too_heavy app self.settings.keep self.settings.master (g.F.ForestView.content self.forests) (g.F.ForestView.content new.forests) self.kept new.kept self.next events a (g.F.ForestView.interns self.forests)
+    (packet_failed app self.settings.keep self.settings.master (g.F.ForestView.content self.forests) (g.F.ForestView.content fail.new.self.forests)
+        self.kept fail.new.self.kept self.next new.next events a Heavy c.take.ensures.next
+    (λ is. is_too_heavy app self.settings.keep self.settings.master (g.F.ForestView.content self.forests) (g.F.ForestView.content new.forests)
+        self.kept new.kept self.next events a (g.F.ForestView.interns self.forests)
     (g.F.ForestView.interns new.forests) c.in-Ok.verdict run c.in-Ok.ensures.stands over))
 
 pub returns-then-is_heavy-clause-heavy : goal.returns-then-is_heavy-clause-heavy
@@ -56,7 +59,8 @@ returns-then-is_heavy-clause-heavy g c = λ good is.
       λ events r.
           let run : IsRun app self.settings.keep self.settings.master (g.F.ForestView.content self.forests) self.kept self.next None events =
           subst (λ f. IsRun app self.settings.keep self.settings.master (g.F.ForestView.content self.forests) self.kept self.next f events) good r in
-          is_too_heavy app self.settings.keep self.settings.master (g.F.ForestView.content self.forests) (g.F.ForestView.content new.forests) self.kept new.kept self.next events a (g.F.ForestView.interns self.forests)
+          is_too_heavy app self.settings.keep self.settings.master (g.F.ForestView.content self.forests) (g.F.ForestView.content new.forests)
+              self.kept new.kept self.next events a (g.F.ForestView.interns self.forests)
           (g.F.ForestView.interns new.forests) c.in-Ok.verdict run c.in-Ok.ensures.stands over,
     )
 
@@ -70,7 +74,8 @@ returns-then-is_heavy-clause-interned g c = λ good events r.
     subst (λ f. IsRun app self.settings.keep self.settings.master (g.F.ForestView.content self.forests) self.kept self.next f events) good r in
     rw c.fail-then-is_heavy.ensures.forests
     (subst (λ rs. InternsWithin (g.F.ForestView.interns self.forests) (g.F.ForestView.interns new.forests) (alterations (lane_run app events)) (alterations rs)) (sym (packet_is_added app events a))
-    (run_added app self.settings.keep self.settings.master (g.F.ForestView.content self.forests) (g.F.ForestView.content new.forests) self.kept new.kept self.next events a (g.F.ForestView.interns self.forests)
+    (run_added app self.settings.keep self.settings.master (g.F.ForestView.content self.forests) (g.F.ForestView.content new.forests) self.kept
+        new.kept self.next events a (g.F.ForestView.interns self.forests)
     (g.F.ForestView.interns new.forests) c.in-Ok.verdict run c.in-Ok.ensures.stands).interned)
 
 pub returns-clause-stands : goal.returns-clause-stands
@@ -82,7 +87,8 @@ returns-clause-stands g c = λ good events r.
     let run : IsRun app self.settings.keep self.settings.master (g.F.ForestView.content self.forests) self.kept self.next None events =
     subst (λ f. IsRun app self.settings.keep self.settings.master (g.F.ForestView.content self.forests) self.kept self.next f events) good r in
     rw (c.take.ensures.settings, c.take.ensures.failed, good)
-    (packet_stands app self.settings.keep self.settings.master (g.F.ForestView.content self.forests) (g.F.ForestView.content new.forests) self.kept new.kept self.next events a (g.F.ForestView.interns self.forests)
+    (packet_stands app self.settings.keep self.settings.master (g.F.ForestView.content self.forests) (g.F.ForestView.content new.forests) self.kept
+        new.kept self.next events a (g.F.ForestView.interns self.forests)
     (g.F.ForestView.interns new.forests) c.in-Ok.verdict run c.in-Ok.ensures.stands new.next c.take.ensures.next c.in-Ok.ensures.dropped)
 
 pub returns-clause-light : goal.returns-clause-light
@@ -95,7 +101,8 @@ returns-clause-light g c = λ keeps events r heavy.
     let run : IsRun app self.settings.keep self.settings.master (g.F.ForestView.content self.forests) self.kept self.next None events =
     subst (λ f. IsRun app self.settings.keep self.settings.master (g.F.ForestView.content self.forests) self.kept self.next f events) good r in
     let under = subst (λ (w : LaneSettings _). (w.keep && nat_lt 134217728 new.kept.ledger.counts.weight) ≡ false) c.take.ensures.settings (sym c.is_heavy.ensures ∙ c.if-is_heavy.false) in
-    is_light app self.settings.keep self.settings.master (g.F.ForestView.content self.forests) (g.F.ForestView.content new.forests) self.kept new.kept self.next events a (g.F.ForestView.interns self.forests)
+    is_light app self.settings.keep self.settings.master (g.F.ForestView.content self.forests) (g.F.ForestView.content new.forests) self.kept new.kept
+        self.next events a (g.F.ForestView.interns self.forests)
     (g.F.ForestView.interns new.forests) c.in-Ok.verdict run c.in-Ok.ensures.stands under keeps heavy
 
 pub returns-clause-interned : goal.returns-clause-interned
@@ -107,5 +114,6 @@ returns-clause-interned g c = λ good events r.
     let run : IsRun app self.settings.keep self.settings.master (g.F.ForestView.content self.forests) self.kept self.next None events =
     subst (λ f. IsRun app self.settings.keep self.settings.master (g.F.ForestView.content self.forests) self.kept self.next f events) good r in
     subst (λ rs. InternsWithin (g.F.ForestView.interns self.forests) (g.F.ForestView.interns new.forests) (alterations (lane_run app events)) (alterations rs)) (sym (packet_is_added app events a))
-    (run_added app self.settings.keep self.settings.master (g.F.ForestView.content self.forests) (g.F.ForestView.content new.forests) self.kept new.kept self.next events a (g.F.ForestView.interns self.forests)
+    (run_added app self.settings.keep self.settings.master (g.F.ForestView.content self.forests) (g.F.ForestView.content new.forests) self.kept
+        new.kept self.next events a (g.F.ForestView.interns self.forests)
     (g.F.ForestView.interns new.forests) c.in-Ok.verdict run c.in-Ok.ensures.stands).interned
