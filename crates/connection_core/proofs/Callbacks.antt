@@ -63,7 +63,7 @@ called_under app s number from raise r keep others list socket socket_after note
     bytes tally reacts entries changes drop callbacks weight =
     let here = seen_by from r.peek c.emulation in
     let answer : reaction_of app s.rules r (record { reg = r.number; hook = raise.hook; event = r.event; facts = raise.facts; got = got })
-        notes.tally ≡ reaction_of app s.rules r (call_of raise r here) c.tally =
+    notes.tally ≡ reaction_of app s.rules r (call_of raise r here) c.tally =
     ap (λ n. reaction_of app s.rules r (record { reg = r.number; hook = raise.hook; event = r.event; facts = raise.facts; got = n }) notes.tally) bytes
     ∙ ap (λ t. reaction_of app s.rules r (call_of raise r here) t) u.noted.tally in
     let reaction_is : reaction ≡ (reaction_of app s.rules r (call_of raise r here) c.tally).1 = reacts ∙ ap (λ a. a.1) answer in

@@ -13,7 +13,7 @@ use Rattle.connection_core.specs.declared.ledger.Counts.{Counts}
 use Rattle.connection_core.specs.declared.ledger.Ledger.{Ledger}
 use Rattle.connection_core.specs.declared.ledger.Notes.{Notes}
 use Rattle.connection_core.specs.declared.arrival.Arrived.{Arrived}
-use Rattle.connection_core.specs.InForce.{told, IsInForce, ForControl}
+use Rattle.connection_core.specs.InForce.{registered, IsInForce, ForControl}
 use Rattle.connection_core.specs.PacketUnderWay.{PacketUnderWay}
 use Rattle.connection_core.specs.History.{History, sender_phase, receiver_phase, received_unless, followed}
 use Rattle.connection_core.specs.Standing.{IsNoted, IsConnection, IsUnder, Steps, Alters, Costs, CostsUnder, Makes}
@@ -85,7 +85,7 @@ state_in store at flow notes ledger =
 -- what holds of a connection, whatever history this state stands for
 abbrev pub ForConnection : Bool → InForce → FlowState → (ControlState → Counts → History → Type 0) → Type 0
 ForConnection keep lent state holds = (s : ControlState) (others : Counts) (h : History) → IsInForce lent s
-    → IsConnection keep others (told lent) state.tree state.flow state.notes state.ledger.counts h → holds s others h
+    → IsConnection keep others (registered lent) state.tree state.flow state.notes state.ledger.counts h → holds s others h
 
 -- what holds of a packet under way that follows a history, whatever this state stands for
 abbrev pub ForPacketUnderWay : Bool → InForce → FlowState → (ControlState → Counts → History → PacketUnderWay → Type 0) → Type 0

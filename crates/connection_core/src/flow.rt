@@ -5,7 +5,7 @@ ghost use Rattle.shared_forest.specs.Store.{Keeps};
 ghost use Rattle.app_api.specs.declared.reaction.Verdict.{Verdict as VerdictOf};
 ghost use Rattle.connection_core.specs.Trees.{list_in_force, IsForestInForce, InternsWithin};
 ghost use Rattle.forest_versions.specs.State.{ControlState, active as first_active};
-ghost use Rattle.connection_core.specs.InForce.{told, IsInForce};
+ghost use Rattle.connection_core.specs.InForce.{registered, IsInForce};
 ghost use Rattle.connection_core.specs.Reach.{Reaches};
 
 use crate::arrival::{Arrived, Phase, RaiseAt};
@@ -59,7 +59,7 @@ impl Flow {
         ensures count { result.count ≡ 0 }
         ensures opened { (s : ControlState) (tree : TreeLists) → IsInForce in_force.now s
             → list_in_force in_force.now tree ≡ first_active s
-            → (app : Meaning) → IsFlow (told in_force.now) tree result (fresh app s) }
+            → (app : Meaning) → IsFlow (registered in_force.now) tree result (fresh app s) }
     {
         Flow {
             socket: FlowSocket::new(alloc, in_force.rbuf(), in_force.policy()),
@@ -294,7 +294,7 @@ impl Flow {
         ensures stands { OnOk result (ForPacketUnderWay terms.now.keep terms.now.in_force
             (state_in F.ForestView forests.old self.old notes.old ledger.old)
             (λ s others h c. Stepped terms.now.keep others
-            (told terms.now.in_force) (F.content forests.new self.new.forest) self.new notes.new ledger.new.counts
+            (registered terms.now.in_force) (F.content forests.new self.new.forest) self.new notes.new ledger.new.counts
             (F.interns forests.old) (F.interns forests.new) c.altered (gone_on (A.meaning terms.now.app.now) s arrived.now h c))) }
         ensures failed { OnErr result (ForPacketUnderWay terms.now.keep terms.now.in_force
             (state_in F.ForestView forests.old self.old notes.old ledger.old)
@@ -336,7 +336,7 @@ impl Flow {
         ensures stands { OnOk result (ForConnection terms.now.keep terms.now.in_force
             (state_in F.ForestView forests.old self.old notes.old ledger.old)
             (λ s others h. IsConnection terms.now.keep others
-            (told terms.now.in_force) (F.content forests.new self.new.forest) self.new notes.new ledger.new.counts
+            (registered terms.now.in_force) (F.content forests.new self.new.forest) self.new notes.new ledger.new.counts
             (followed_by (A.meaning terms.now.app.now) s arrived.now h))) }
 
         // At most one intern for each change that alters the private list, also where memory is refused on the way.

@@ -22,7 +22,7 @@ module _ (app : Meaning) (control_at : ℕ → ControlState) where
 
   stepped_here : (s : VersionedPacket) (ss : List VersionedPacket) (past : RecordSoFar) (b : Bool)
       → (if b then continued_through app control_at (continued_by app control_at s.arrival past) ss else continued_through app control_at past
-          ss) ≡ continued_through app control_at (if b then continued_by app control_at s.arrival past else past) ss
+      ss) ≡ continued_through app control_at (if b then continued_by app control_at s.arrival past else past) ss
   stepped_here s ss past true = refl
   stepped_here s ss past false = refl
 
@@ -55,7 +55,7 @@ module _ (app : Meaning) (control_at : ℕ → ControlState) where
       → MatchBool b (o ≡ None) (IsSingle (belongs_to s.arrival.sight) pasts) → (if b then Some 0 else further o) ≡ Some i
       → ((k : ℕ) → IsSingle (belongs_to s.arrival.sight) pasts → o ≡ Some k → placed app control_at s pasts ≡ map (stepped s) pasts)
       → (if b then continued_by app control_at s.arrival past ∷ pasts else past ∷ placed app control_at s pasts) ≡ (if b then continued_by app
-          control_at s.arrival past else past) ∷ map (stepped s) pasts
+      control_at s.arrival past else past) ∷ map (stepped s) pasts
   placed_stepped_here s past pasts true o i is there single e later = ap (λ l. continued_by app control_at s.arrival past ∷ l) (sym (unstepped s pasts (there ∙ single)))
   placed_stepped_here s past pasts false None i is there single e later = absurd (cc)
   placed_stepped_here s past pasts false (Some k) i is there single e later = ap (λ l. past ∷ l) (later k single refl)
@@ -138,7 +138,7 @@ module _ (app : Meaning) (control_at : ℕ → ControlState) where
   grow_here : (s : VersionedPacket) (ss : List VersionedPacket) (pasts : List RecordSoFar) (o : Option ℕ)
       → place_by (belongs_to s.arrival.sight) (map (before s) pasts) ≡ o → Alone (map (before s) pasts)
       → (Alone (added app control_at s pasts) → records_from app control_at (added app control_at s pasts) ss ≡ map
-          (λ p. continued_through app control_at p ss) (added app control_at s pasts) ++ started_after app control_at (added app control_at s pasts) ss)
+      (λ p. continued_through app control_at p ss) (added app control_at s pasts) ++ started_after app control_at (added app control_at s pasts) ss)
       → records_from app control_at (added app control_at s pasts) ss ≡ map (λ p. continued_through app control_at p (s ∷ ss)) pasts ++ started_after app control_at pasts (s ∷ ss)
   unfolding started_after
   grow_here s ss pasts None there alone rest =

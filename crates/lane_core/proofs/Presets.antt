@@ -232,5 +232,9 @@ orphan_is_called number (Tcp segment) = (orphan_logs number Client (orphan_facts
 orphan_is_called number (Other class) = (orphan_logs number Client (orphan_facts class None) _ refl).entries
 
 pub presets_are_called : PresetsAreCalled
-presets_are_called = record { connection = λ number side segment h is. connection_called number side segment h is; stay = λ number side segment h
-    is. stays number side segment h is; orphan = orphan_is_called }
+presets_are_called = record {
+  connection = λ number side segment h is. connection_called number side segment h is;
+  stay = λ number side segment h
+      is. stays number side segment h is;
+  orphan = orphan_is_called;
+}

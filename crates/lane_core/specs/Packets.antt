@@ -3,7 +3,7 @@ use Rattle.std.specs.Prelude.{ℕ, List}
 use Rattle.app_api.specs.App.{Meaning}
 use Rattle.app_api.specs.declared.reaction.Verdict.{Verdict}
 use Rattle.shared_forest.specs.declared.store.ForestView.{Ghosts}
-use Rattle.connection_core.specs.InForce.{told_at}
+use Rattle.connection_core.specs.InForce.{registered_at}
 use Rattle.lane_core.specs.declared.kept.Kept.{Kept}
 use Rattle.lane_core.specs.declared.lane.Lane.{Lane}
 use Rattle.ip6_views.specs.declared.sight.SightTcp.{SightTcp}
@@ -20,12 +20,12 @@ segment_at number moment segment = arrival_at number moment (Tcp (seen segment))
 module _ {A F : Type 0} {store : Ghosts F} where
   -- a lane keeps these records
   abbrev pub KeepsRecords : Lane A F store → List RecordSoFar → Type 0
-  KeepsRecords lane so_far = Keeps lane.settings.keep (told_at lane.settings.master) (store.content lane.forests) lane.kept so_far
+  KeepsRecords lane so_far = Keeps lane.settings.keep (registered_at lane.settings.master) (store.content lane.forests) lane.kept so_far
 
   -- the records that it keeps could be kept in this way too
   abbrev pub KeepsAlike : Lane A F store → Kept → Type 0
   KeepsAlike lane kept = (so_far : List RecordSoFar) → KeepsRecords lane so_far
-      → Keeps lane.settings.keep (told_at lane.settings.master) (store.content lane.forests) kept so_far
+      → Keeps lane.settings.keep (registered_at lane.settings.master) (store.content lane.forests) kept so_far
 
   -- a packet, under the commands so far, was added to the records that a lane keeps
   abbrev pub AddsPacket : (A → Meaning) → Lane A F store → Lane A F store → Arrival → Verdict → Type 0

@@ -15,7 +15,7 @@ use Rattle.report_text.specs.declared.record.RecordKind.TheVariants.{Conn, Orpha
 use Rattle.forest_versions.specs.State.{ControlState}
 use Rattle.forest_versions.specs.Master.{Versions, Tells}
 use Rattle.connection_core.specs.declared.ledger.Counts.{Counts}
-use Rattle.connection_core.specs.InForce.{told_at}
+use Rattle.connection_core.specs.InForce.{registered_at}
 use Rattle.connection_core.specs.History.{History}
 use Rattle.connection_core.specs.Silence.{silenced}
 use Rattle.connection_core.specs.Standing.{IsConnection, IsNoted}
@@ -59,7 +59,7 @@ silent_history app control conn slot h = silenced app control conn.last (raise_i
 pub record Silenced (app : Meaning) (keep : Bool) (m : Versions) (tree : TreeLists) (conn : Connection) (slot slot_after : RecordUnderWay) (counts counts_after : Counts) : Type 0 where
   pub noted : slot_after ≡ record slot { notes = slot_after.notes }
   pub stands : (control : ControlState) (others : Counts) (h : History) → Tells m conn.version control
-      → IsConnection keep others (told_at m conn.version) tree conn.flow slot.notes counts h
+      → IsConnection keep others (registered_at m conn.version) tree conn.flow slot.notes counts h
       → IsNoted keep others (silent_history app control conn slot h).tally (silent_history app control conn slot h).entries slot_after.notes counts_after
 
 -- the open connection of a key was silent for too long: it ended, and all else is as it was

@@ -11,7 +11,7 @@ use Rattle.report_text.specs.declared.record.RecordKind.TheVariants.{Conn}
 use Rattle.forest_versions.specs.State.{ControlState}
 use Rattle.forest_versions.specs.Master.{Versions, Tells}
 use Rattle.app_api.specs.declared.reaction.Verdict.{Verdict}
-use Rattle.connection_core.specs.InForce.{told_at}
+use Rattle.connection_core.specs.InForce.{registered_at}
 use Rattle.connection_core.specs.declared.flow.Step.{Step}
 use Rattle.connection_core.specs.declared.ledger.Counts.{Counts}
 use Rattle.connection_core.specs.History.{History, fresh, followed, verdict, orphan_history, orphan_verdict, drops_of, is_over}
@@ -68,12 +68,12 @@ abbrev pub IsStepUnder : Meaning → Bool → Versions → TreeLists → TreeLis
     → RecordUnderWay → Counts → Counts → ℕ → Moment → Segment → Step → Type 0
 IsStepUnder app keep m tree tree_after interns interns_after conn conn_after slot slot_after counts counts_after number moment segment step =
     (control : ControlState) → Tells m conn.version control
-    → IsStep app keep (told_at m conn.version) control tree tree_after interns interns_after conn conn_after slot slot_after counts counts_after number moment segment step
+    → IsStep app keep (registered_at m conn.version) control tree tree_after interns interns_after conn conn_after slot slot_after counts counts_after number moment segment step
 
 abbrev pub StepCostsUnder : Meaning → Bool → Versions → TreeLists → Option ℕ → Option ℕ → Connection → RecordUnderWay → Counts → ℕ → Segment → Type 0
 StepCostsUnder app keep m tree interns interns_after conn slot counts number segment =
     (control : ControlState) → Tells m conn.version control
-    → StepCosts app keep (told_at m conn.version) control tree interns interns_after conn slot counts number segment
+    → StepCosts app keep (registered_at m conn.version) control tree interns interns_after conn slot counts number segment
 
 -- a connection's history after the segment that opens it
 abbrev pub opened_by : Meaning → ControlState → ℕ → Segment → History
@@ -143,5 +143,5 @@ pub record Opens (app : Meaning) (keep : Bool) (m : Versions) (content_after : S
   pub client : conn.client ≡ segment.sender
   pub version : conn.version ≡ m.version
   pub place_is : conn.place ≡ place
-  pub new : IsFlow (told_at m conn.version) tree conn.flow (fresh app m.now)
+  pub new : IsFlow (registered_at m conn.version) tree conn.flow (fresh app m.now)
   pub step_is : IsStepUnder app keep m tree (content_after conn_after.flow.forest) interns interns_after conn conn_after slot slot_after counts counts_after number moment segment step

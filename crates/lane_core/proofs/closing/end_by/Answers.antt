@@ -1,6 +1,6 @@
 use Rattle.std.proofs.Common.{Some, List, refl, sym, subst, map}
 use Rattle.std.specs.Prelude.{OnOk}
-use Rattle.connection_core.specs.InForce.{told_at}
+use Rattle.connection_core.specs.InForce.{registered_at}
 use Rattle.lane_core.specs.Closing.{EndsAll}
 use Rattle.lane_core.specs.Kept.{Keeps}
 use Rattle.lane_core.specs.Records.{RecordSoFar, ended_at}
@@ -13,7 +13,7 @@ pub returns-in_default-clause-ends : goal.returns-in_default-clause-ends
 returns-in_default-clause-ends g c = λ control_at pasts tells stands.
     let settings = c.args.settings.now in
     let app = g.A.App.meaning settings.app in
-    let P = λ (l : List RecordSoFar). Keeps settings.keep (told_at settings.master) (g.F.ForestView.content c.args.forests.now) c.args.kept.now l in
+    let P = λ (l : List RecordSoFar). Keeps settings.keep (registered_at settings.master) (g.F.ForestView.content c.args.forests.now) c.args.kept.now l in
     subst (λ last. P (map (ended_at app control_at last) pasts)) (sym c.in_default.is)
     (subst P (sym (all_same (λ past. past) (λ past. refl) pasts)) stands)
 
@@ -22,7 +22,7 @@ returns-then-not-is_timed-clause-ends g c = λ control_at pasts tells stands.
     let settings = c.args.settings.now in
     let app = g.A.App.meaning settings.app in
     let now = c.in-Some.now in
-    let P = λ (l : List RecordSoFar). Keeps settings.keep (told_at settings.master) (g.F.ForestView.content c.args.forests.now) c.args.kept.now l in
+    let P = λ (l : List RecordSoFar). Keeps settings.keep (registered_at settings.master) (g.F.ForestView.content c.args.forests.now) c.args.kept.now l in
     let never = c.is_timed.ensures.never c.if-not-is_timed.true in
     subst (λ last. P (map (ended_at app control_at last) pasts)) (sym c.in-Some.is)
     (subst P (sym (all_same (ended_at app control_at (Some now))

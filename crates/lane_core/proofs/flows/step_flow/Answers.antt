@@ -15,7 +15,7 @@ step_one-requires-clause-tree g c = c.requires.trees c.args.key.now c.in-Some.co
 pub returns-in_default-clause-trees : goal.returns-in_default-clause-trees
 returns-in_default-clause-trees g c =
     subst (λ (m : Flows Connection). (key : EndpointPair) (x : Connection) → found m key ≡ Some x
-        → IsTree c.args.settings.now.master x.version (g.F.ForestView.content c.args.forests.now x.flow.forest))
+    → IsTree c.args.settings.now.master x.version (g.F.ForestView.content c.args.forests.now x.flow.forest))
     (sym c.get_mut.follows.holds-at-none) c.requires.trees
 
 pub returns-then-is_silent-clause-same : goal.returns-then-is_silent-clause-same

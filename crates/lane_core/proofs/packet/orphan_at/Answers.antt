@@ -6,7 +6,7 @@ use Rattle.shared_forest.specs.Lists.{TreeLists}
 use Rattle.event_trees.specs.Edit.{IsForestOf}
 use Rattle.builtin_events.specs.Raised.{raises_of}
 use Rattle.connection_core.specs.History.{orphan_history, drops_of}
-use Rattle.connection_core.specs.InForce.{told_at}
+use Rattle.connection_core.specs.InForce.{registered_at}
 use Rattle.connection_core.specs.Standing.{IsNoted}
 use Rattle.connection_core.specs.Trees.{active_in, IsForestIn}
 use Rattle.lane_core.specs.declared.under_way.RecordUnderWay.{RecordUnderWay}
@@ -20,7 +20,7 @@ orphan-requires-clause-forest g c =
     let tells : Tells m c.version.result m.now = subst (λ v. Tells m v m.now) (sym c.version.ensures.version) c.tells_the_present.ensures in
     let shown : IsForestOf m.now.defs (active m.now) (listing c.tree_of.result.now) =
     subst (λ t. IsForestOf m.now.defs (active m.now) (listing t)) (sym (c.tree_of.ensures ∙ ap content c.forest-forest.ensures)) c.requires.tree in
-    subst (λ (t : TreeLists). IsForestIn m.now.defs (told_at m c.version.result) t) c.tree_of.ensures (c.first_tree_names_the_first_list.ensures.forest m.now tells shown)
+    subst (λ (t : TreeLists). IsForestIn m.now.defs (registered_at m c.version.result) t) c.tree_of.ensures (c.first_tree_names_the_first_list.ensures.forest m.now tells shown)
 
 pub returns-clause-stands : goal.returns-clause-stands
 returns-clause-stands g c =
@@ -30,8 +30,8 @@ returns-clause-stands g c =
     let tells : Tells m c.version.result m.now = subst (λ v. Tells m v m.now) (sym c.version.ensures.version) c.tells_the_present.ensures in
     let shown : IsForestOf m.now.defs (active m.now) (listing c.tree_of.result.now) =
     subst (λ t. IsForestOf m.now.defs (active m.now) (listing t)) (sym (c.tree_of.ensures ∙ ap content c.forest-forest.ensures)) c.requires.tree in
-    let first : active_in (told_at m c.version.result) (content c.forest-forest.result.now) ≡ active m.now =
-    subst (λ (t : TreeLists). active_in (told_at m c.version.result) t ≡ active m.now) c.tree_of.ensures (c.first_tree_names_the_first_list.ensures.list m.now tells shown) in
+    let first : active_in (registered_at m c.version.result) (content c.forest-forest.result.now) ≡ active m.now =
+    subst (λ (t : TreeLists). active_in (registered_at m c.version.result) t ≡ active m.now) c.tree_of.ensures (c.first_tree_names_the_first_list.ensures.list m.now tells shown) in
     let e = c.in_ok-verdict.ensures in
     let is = c.in_ok-note.ensures.noted in
     let made = orphan_history (g.A.App.meaning c.args.settings.now.app) m.now c.args.number (raises_of c.args.raised) in

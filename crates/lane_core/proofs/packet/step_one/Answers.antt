@@ -1,6 +1,6 @@
 use Rattle.std.proofs.Common.{◌≡◌, ◌++◌, refl, sym, subst}
 use Rattle.connection_core.specs.History.{followed, verdict, drops_of, is_over}
-use Rattle.connection_core.specs.InForce.{told_at}
+use Rattle.connection_core.specs.InForce.{registered_at}
 use Rattle.connection_core.specs.Standing.{IsConnection}
 use Rattle.connection_core.specs.Trees.{InternsWithin}
 use Rattle.connection_core.proofs.Errors.{on_err_always}
@@ -15,7 +15,7 @@ returns-clause-stands g c = rw (sym c.version_for.ensures) (λ control tells.
     let conn = c.args.conn.now in
     let slot = c.args.slot.now in
     let segment = seen c.args.segment.now in
-    let at = told_at c.args.settings.now.master c.version_for.result in
+    let at = registered_at c.args.settings.now.master c.version_for.result in
     let app = g.A.App.meaning c.args.settings.now.app in
     let number = c.args.number in
     let from = c.side_of.ensures in

@@ -1,7 +1,7 @@
 use Rattle.std.proofs.Common.{ℕ, ◌<◌, ◌≤◌, List, length, map, get_or, refl, subst, ap, ◌∙◌, arith}
 use Rattle.std.proofs.lemmas.List.{take_all}
 use Rattle.builtin_events.specs.declared.raise.Raise.{Raise}
-use Rattle.connection_core.specs.InForce.{told}
+use Rattle.connection_core.specs.InForce.{registered}
 use Rattle.connection_core.specs.Trees.{active_in}
 use Rattle.connection_core.specs.PacketUnderWay.{phase as phase_of}
 use Rattle.connection_core.specs.Standing.{Makes, CostsUnder, raise_of}
@@ -18,7 +18,7 @@ loop-event-init g c = record {
   forest = c.requires.forest;
   kept = record { still_answered = λ s a. a; same_content = λ s a. refl };
   made = λ s force. phase_begun (g.A.App.meaning c.args.terms.now.app.now) s c.args.terms.now.keep
-      (active_in (told c.args.terms.now.in_force) (g.F.ForestView.content c.args.forests.now c.args.self.now.forest)) (g.F.ForestView.interns c.args.forests.now)
+      (active_in (registered c.args.terms.now.in_force) (g.F.ForestView.content c.args.forests.now c.args.self.now.forest)) (g.F.ForestView.interns c.args.forests.now)
       c.args.phase.now.number c.args.phase.now.from c.args.self.now.socket c.args.notes.now c.args.ledger.now;
   rise = record { callbacks = omega arith; weight = omega arith };
   asked = c.requires.quiet;
@@ -40,7 +40,7 @@ loop-event-preserved g c =
           let keep = c.args.terms.now.keep in
           let interns = g.F.ForestView.interns in
           let content = g.F.ForestView.content in
-          let in_tree = active_in (told c.args.terms.now.in_force) in
+          let in_tree = active_in (registered c.args.terms.now.in_force) in
           let phase = c.args.phase.now in
           let at : ℕ → Raise = λ event. record { hook = phase.raised.hook; event = event; facts = phase.raised.facts } in
           let n = c.loop-event.event-index in
@@ -74,7 +74,7 @@ loop-event-preserved-then-not-hears g c =
           let app = g.A.App.meaning c.args.terms.now.app.now in
           let keep = c.args.terms.now.keep in
           let interns = g.F.ForestView.interns in
-          let in_tree = active_in (told c.args.terms.now.in_force) in
+          let in_tree = active_in (registered c.args.terms.now.in_force) in
           let phase = c.args.phase.now in
           let at : ℕ → Raise = λ event. record { hook = phase.raised.hook; event = event; facts = phase.raised.facts } in
           let n = c.loop-event.event-index in
@@ -99,7 +99,7 @@ pub returns-clause-made : goal.returns-clause-made
 returns-clause-made g c = λ s force.
     let phase = c.args.phase.now in
     let at : ℕ → Raise = λ event. record { hook = phase.raised.hook; event = event; facts = phase.raised.facts } in
-    let in_tree = active_in (told c.args.terms.now.in_force) in
+    let in_tree = active_in (registered c.args.terms.now.in_force) in
     let n = c.loop-event.event-index in
     let last : length phase.raised.events ≤ n = subst (λ (l : List ℕ). length l ≤ n) c.as_slice-event-items.ensures.items c.loop-event-test.false in
     subst (λ l. Makes c.args.terms.now.keep
@@ -112,7 +112,7 @@ returns-in_err-raise-clause-failed g c = on_err_always c.from_residual.result (�
     let app = g.A.App.meaning c.args.terms.now.app.now in
     let keep = c.args.terms.now.keep in
     let interns = g.F.ForestView.interns in
-    let in_tree = active_in (told c.args.terms.now.in_force) in
+    let in_tree = active_in (registered c.args.terms.now.in_force) in
     let phase = c.args.phase.now in
     let at : ℕ → Raise = λ event. record { hook = phase.raised.hook; event = event; facts = phase.raised.facts } in
     let n = c.loop-event.event-index in

@@ -1,7 +1,7 @@
 use Rattle.std.proofs.Common.{sym, subst}
 use Rattle.flow_socket.specs.View.{SocketView}
 use Rattle.shared_forest.specs.Lists.{TreeLists}
-use Rattle.connection_core.specs.InForce.{told}
+use Rattle.connection_core.specs.InForce.{registered}
 use Rattle.connection_core.specs.PacketUnderWay.{called_at}
 use Rattle.connection_core.specs.Trees.{active_in}
 use Rattle.connection_core.specs.Standing.{Steps, raise_of}
@@ -12,7 +12,7 @@ use Rattle.connection_core.proofs.flow.Flow.raise.Goals as goal
 pub returns-clause-made : goal.returns-clause-made
 returns-clause-made g c = λ s force.
     let app = g.A.App.meaning c.args.terms.now.app.now in
-    let at = told c.args.terms.now.in_force in
+    let at = registered c.args.terms.now.in_force in
     let keep = c.args.terms.now.keep in
     let step = called_at app s c.args.raise_at.now.number c.args.raise_at.now.from (raise_of c.args.raise_at.now) in
     let steps = subst (λ (t : TreeLists). Steps keep (active_in at t) c.args.self.now.socket c.args.notes.now c.make_room.new.self c.call_at.new.socket c.call_at.new.notes c.call_at.new.ledger step)
@@ -28,18 +28,18 @@ returns-clause-made g c = λ s force.
 
 pub returns-in_err-make_room-clause-failed : goal.returns-in_err-make_room-clause-failed
 returns-in_err-make_room-clause-failed g c = on_err_always c.from_residual.result (λ s force.
-    raise_costs_none (g.A.App.meaning c.args.terms.now.app.now) s c.args.terms.now.keep (active_in (told c.args.terms.now.in_force) (g.F.ForestView.content c.args.forests.now c.args.self.now.forest))
+    raise_costs_none (g.A.App.meaning c.args.terms.now.app.now) s c.args.terms.now.keep (active_in (registered c.args.terms.now.in_force) (g.F.ForestView.content c.args.forests.now c.args.self.now.forest))
     (g.F.ForestView.interns c.args.forests.now) c.args.raise_at.now.number c.args.raise_at.now.from (raise_of c.args.raise_at.now) c.args.self.now.socket c.args.notes.now c.args.ledger.now)
 
 pub returns-in_err-call_at-clause-failed : goal.returns-in_err-call_at-clause-failed
 returns-in_err-call_at-clause-failed g c = on_err_always c.from_residual-in_err-call_at.result (λ s force.
-    raise_costs_none (g.A.App.meaning c.args.terms.now.app.now) s c.args.terms.now.keep (active_in (told c.args.terms.now.in_force) (g.F.ForestView.content c.args.forests.now c.args.self.now.forest))
+    raise_costs_none (g.A.App.meaning c.args.terms.now.app.now) s c.args.terms.now.keep (active_in (registered c.args.terms.now.in_force) (g.F.ForestView.content c.args.forests.now c.args.self.now.forest))
     (g.F.ForestView.interns c.args.forests.now) c.args.raise_at.now.number c.args.raise_at.now.from (raise_of c.args.raise_at.now) c.args.self.now.socket c.args.notes.now c.args.ledger.now)
 
 pub returns-in_err-settle-clause-failed : goal.returns-in_err-settle-clause-failed
 returns-in_err-settle-clause-failed g c = on_err_always c.from_residual-in_err-settle.result (λ s force.
     let app = g.A.App.meaning c.args.terms.now.app.now in
-    let at = told c.args.terms.now.in_force in
+    let at = registered c.args.terms.now.in_force in
     let keep = c.args.terms.now.keep in
     let step = called_at app s c.args.raise_at.now.number c.args.raise_at.now.from (raise_of c.args.raise_at.now) in
     raise_costs app s keep (active_in at (g.F.ForestView.content c.args.forests.now c.args.self.now.forest)) (g.F.ForestView.interns c.args.forests.now) (g.F.ForestView.interns c.settle.new.forests)

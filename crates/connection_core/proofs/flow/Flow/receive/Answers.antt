@@ -1,6 +1,6 @@
 use Rattle.std.proofs.lemmas.Result.{on_ok_weaker, on_err_weaker}
 use Rattle.builtin_events.specs.Raised.{raises_of}
-use Rattle.connection_core.specs.InForce.{told}
+use Rattle.connection_core.specs.InForce.{registered}
 use Rattle.connection_core.specs.Standing.{Reached}
 use Rattle.connection_core.specs.Trees.{active_in, InternsWithin}
 use Rattle.connection_core.proofs.Errors.{on_err_always}
@@ -17,7 +17,7 @@ returns-clause-stands g c =
     on_ok_weaker c.make.result (λ makes. λ s force. record {
       stands = λ others under_way u.
           let app = g.A.App.meaning c.args.terms.now.app.now in
-          let at = told c.args.terms.now.in_force in
+          let at = registered c.args.terms.now.in_force in
           let keep = c.args.terms.now.keep in
           receiver_makes app s keep others (active_in at (g.F.ForestView.content c.args.forests.now c.args.self.now.forest))
           c.args.arrived.now.number c.args.arrived.now.from c.args.arrived.now.head.now c.args.arrived.now.payload.now c.args.self.now.count
@@ -33,7 +33,7 @@ returns-clause-failed g c =
     on_err_weaker c.make.result (λ costs. λ s force. record {
       interned = λ others under_way u.
           receiver_makes (g.A.App.meaning c.args.terms.now.app.now) s c.args.terms.now.keep others
-              (active_in (told c.args.terms.now.in_force) (g.F.ForestView.content c.args.forests.now c.args.self.now.forest))
+          (active_in (registered c.args.terms.now.in_force) (g.F.ForestView.content c.args.forests.now c.args.self.now.forest))
           c.args.arrived.now.number c.args.arrived.now.from c.args.arrived.now.head.now c.args.arrived.now.payload.now c.args.self.now.count
           c.in_ok-got.got (raises_of c.raised_at_receiver.result) c.args.self.now.socket c.receive.new.self c.args.notes.now c.args.ledger.now under_way
           (λ before after. InternsWithin (g.F.ForestView.interns c.args.forests.now) (g.F.ForestView.interns c.make.new.forests) before.altered after.altered)
@@ -44,7 +44,7 @@ returns-clause-failed g c =
 pub returns-in_err-got-clause-failed : goal.returns-in_err-got-clause-failed
 returns-in_err-got-clause-failed g c = on_err_always c.from_residual.result (λ s force.
     receiver_costs_none (g.A.App.meaning c.args.terms.now.app.now) s c.args.terms.now.keep
-        (active_in (told c.args.terms.now.in_force) (g.F.ForestView.content c.args.forests.now c.args.self.now.forest))
+    (active_in (registered c.args.terms.now.in_force) (g.F.ForestView.content c.args.forests.now c.args.self.now.forest))
     (g.F.ForestView.interns c.args.forests.now) c.args.arrived.now.number c.args.arrived.now.from c.args.arrived.now.head.now c.args.arrived.now.payload.now c.args.self.now.count
     c.args.self.now.socket c.args.notes.now c.args.ledger.now)
 
@@ -52,7 +52,7 @@ returns-in_err-got-clause-failed g c = on_err_always c.from_residual.result (λ 
 pub returns-then-not-hears_receiver-clause-stands : goal.returns-then-not-hears_receiver-clause-stands
 returns-then-not-hears_receiver-clause-stands g c = λ s force.
     let app = g.A.App.meaning c.args.terms.now.app.now in
-    let at = told c.args.terms.now.in_force in
+    let at = registered c.args.terms.now.in_force in
     let keep = c.args.terms.now.keep in
     let tree = g.F.ForestView.content c.args.forests.now c.args.self.now.forest in
     let interns = g.F.ForestView.interns c.args.forests.now in

@@ -4,7 +4,7 @@ use Rattle.std.proofs.lemmas.List.{length-map}
 use Rattle.shared_forest.specs.Listing.{listing}
 use Rattle.event_trees.specs.Edit.{IsForestOf}
 use Rattle.forest_versions.specs.State.{active}
-use Rattle.connection_core.specs.InForce.{told_at}
+use Rattle.connection_core.specs.InForce.{registered_at}
 use Rattle.lane_core.specs.declared.connection.Connection.{Connection}
 use Rattle.lane_core.specs.Records.{placed}
 use Rattle.lane_core.specs.Sight.{Tcp}
@@ -105,16 +105,16 @@ returns-clause-stands g c = λ control_at pasts tells now stands.
     let counts = c.start_one.new.ledger.counts in
     let place = c.len.ensures ∙ kept.slots.ok.0 ∙ ap length stands.shown ∙ length-map pasts (slot_of keep) in
     let opens = subst (λ n. Opens app keep m (g.F.ForestView.content new) (g.F.ForestView.interns old) (g.F.ForestView.interns new) kept.ledger.counts
-        counts n c.args.number c.args.moment segment opened.conn opened.slot opened.step)
+    counts n c.args.number c.args.moment segment opened.conn opened.slot opened.step)
     place c.in_ok-opened.ensures.stands in
     let s = opening_started app control_at keep m (g.F.ForestView.content old) (g.F.ForestView.content new) (g.F.ForestView.interns old)
-        (g.F.ForestView.interns new) kept.flows c.keep.new.flows kept.slots.items
+    (g.F.ForestView.interns new) kept.flows c.keep.new.flows kept.slots.items
     opened.conn opened.slot kept.ledger.counts counts c.args.key c.args.number c.args.moment segment opened.step pasts tells now
     (contents_kept g.F.ForestView.answered g.F.ForestView.content old new kept.flows c.start_one.ensures.kept self.answered) stands c.requires.key
-        c.requires.absent c.requires.opens opens c.in_ok-keep.ensures.left in
+    c.requires.absent c.requires.opens opens c.in_ok-keep.ensures.left in
     let p = arrived m.version c.args.number c.args.moment (Tcp segment) in
     record {
-      stands = subst (λ ss. AreKept keep (told_at m) (g.F.ForestView.content new) c.keep.new.flows ss counts (placed app control_at p pasts)) (sym c.in_ok-push.ensures.items) s.stands;
+      stands = subst (λ ss. AreKept keep (registered_at m) (g.F.ForestView.content new) c.keep.new.flows ss counts (placed app control_at p pasts)) (sym c.in_ok-push.ensures.items) s.stands;
       interned = s.interned;
       verdict_is = s.verdict_is;
       dropped = s.dropped;
@@ -125,24 +125,24 @@ returns-in_err-opened-clause-costs g c = on_err_always c.from_residual.result (�
     let self = c.args.self.now in
     let kept = self.kept in
     opening_costs (g.A.App.meaning self.settings.app) control_at self.settings.keep self.settings.master (g.F.ForestView.content self.forests)
-        (g.F.ForestView.interns self.forests) (g.F.ForestView.interns c.start_one.new.forests)
+    (g.F.ForestView.interns self.forests) (g.F.ForestView.interns c.start_one.new.forests)
     kept.flows kept.slots.items kept.ledger.counts c.args.key c.args.number c.args.moment (seen c.args.segment.now) pasts now stands c.requires.key
-        c.requires.absent c.requires.opens c.start_one.ensures.interned)
+    c.requires.absent c.requires.opens c.start_one.ensures.interned)
 
 pub returns-in_err-push-clause-costs : goal.returns-in_err-push-clause-costs
 returns-in_err-push-clause-costs g c = on_err_always c.from_residual-in_err-push.result (λ control_at pasts tells now stands.
     let self = c.args.self.now in
     let kept = self.kept in
     opening_costs (g.A.App.meaning self.settings.app) control_at self.settings.keep self.settings.master (g.F.ForestView.content self.forests)
-        (g.F.ForestView.interns self.forests) (g.F.ForestView.interns c.start_one.new.forests)
+    (g.F.ForestView.interns self.forests) (g.F.ForestView.interns c.start_one.new.forests)
     kept.flows kept.slots.items kept.ledger.counts c.args.key c.args.number c.args.moment (seen c.args.segment.now) pasts now stands c.requires.key
-        c.requires.absent c.requires.opens c.start_one.ensures.interned)
+    c.requires.absent c.requires.opens c.start_one.ensures.interned)
 
 pub returns-in_err-keep-clause-costs : goal.returns-in_err-keep-clause-costs
 returns-in_err-keep-clause-costs g c = on_err_always c.from_residual-in_err-keep.result (λ control_at pasts tells now stands.
     let self = c.args.self.now in
     let kept = self.kept in
     opening_costs (g.A.App.meaning self.settings.app) control_at self.settings.keep self.settings.master (g.F.ForestView.content self.forests)
-        (g.F.ForestView.interns self.forests) (g.F.ForestView.interns c.start_one.new.forests)
+    (g.F.ForestView.interns self.forests) (g.F.ForestView.interns c.start_one.new.forests)
     kept.flows kept.slots.items kept.ledger.counts c.args.key c.args.number c.args.moment (seen c.args.segment.now) pasts now stands c.requires.key
-        c.requires.absent c.requires.opens c.start_one.ensures.interned)
+    c.requires.absent c.requires.opens c.start_one.ensures.interned)

@@ -37,4 +37,4 @@ returns-clause-kept g c = λ so_far stands.
     let same = contents_kept g.F.ForestView.answered g.F.ForestView.content old new self.kept.flows c.give_to.ensures.kept self.answered in
     on_ok_always c.give_to.result
     (kept_on m after (g.F.ForestView.content old) (g.F.ForestView.content new) self.kept.flows same self.since self.trees self.settings.keep
-        self.kept.slots.items self.kept.ledger.counts so_far c.give_to.ensures.lists stands)
+    self.kept.slots.items self.kept.ledger.counts so_far c.give_to.ensures.lists stands)

@@ -45,7 +45,7 @@ returns-in-Some-clause-stands g c =
     let content = g.F.ForestView.content in
     let interns = g.F.ForestView.interns in
     let follows = subst (λ o. IfSome o (λ (s : Step). Follows app keep m (content old) (content new) (interns old) (interns new) kept
-        c.follow.new.kept c.args.key.now c.args.number c.args.moment segment s))
+    c.follow.new.kept c.args.key.now c.args.number c.args.moment segment s))
     c.in-Some.is c.in_ok-followed.ensures.some in
     followed_adds app keep m (content old) (content new) (interns old) (interns new) kept c.args.key.now m.version c.args.number c.args.moment segment c.requires.key
     c.follow.new.kept c.in-Some.step (contents_kept g.F.ForestView.answered content old new kept.flows c.follow.ensures.kept self.answered) follows
@@ -60,5 +60,5 @@ returns-in_err-followed-clause-costs g c =
     let interns = g.F.ForestView.interns in
     on_err_always c.from_residual.result
     (failed_costs (g.A.App.meaning self.settings.app) self.settings.keep m (content old) (content new) (interns old) (interns new) self.kept
-        c.args.key.now m.version c.args.number c.args.moment (seen c.args.segment.now) c.requires.key
+    c.args.key.now m.version c.args.number c.args.moment (seen c.args.segment.now) c.requires.key
     c.in_err-followed.ensures.failed)

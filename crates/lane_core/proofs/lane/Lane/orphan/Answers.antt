@@ -1,6 +1,6 @@
 use Rattle.std.proofs.Common.{[], sym, ap, subst, ◌∙◌, arith}
 use Rattle.std.specs.Option.{option_copied}
-use Rattle.connection_core.specs.InForce.{told_at}
+use Rattle.connection_core.specs.InForce.{registered_at}
 use Rattle.lane_core.specs.Records.{placed}
 use Rattle.lane_core.specs.Kept.{AreKept, arrived}
 use Rattle.lane_core.specs.Steps.{IsOrphanNoted}
@@ -41,11 +41,11 @@ returns-clause-stands g c = λ control_at pasts moment sight orphan tells now st
     ∙ ap (λ t. record { name = c.args.number; kind = Orphan class; version = c.version-version.result; notes = record { tally = t; entries = [] }; drops = [] }) c.fresh.ensures
     ∙ ap (λ v. record { name = c.args.number; kind = Orphan class; version = v; notes = record { tally = app.fresh; entries = [] }; drops = [] }) c.version-version.ensures.version in
     let s = orphan_started app control_at keep m (g.F.ForestView.content self.forests) (g.F.ForestView.interns self.forests) kept.flows
-        kept.slots.items c.new-slot.result c.orphan_at.new.slot kept.ledger.counts
+    kept.slots.items c.new-slot.result c.orphan_at.new.slot kept.ledger.counts
     c.orphan_at.new.ledger.counts c.args.number moment sight class head c.in_ok-verdict.verdict pasts now orphan stands slot as_noted in
     let p = arrived m.version c.args.number moment sight in
     record {
-      stands = subst (λ ss. AreKept keep (told_at m) (g.F.ForestView.content self.forests) kept.flows ss c.orphan_at.new.ledger.counts
+      stands = subst (λ ss. AreKept keep (registered_at m) (g.F.ForestView.content self.forests) kept.flows ss c.orphan_at.new.ledger.counts
           (placed app control_at p pasts)) (sym c.in_ok-push.ensures.items) s.stands;
       interned = s.interned;
       verdict_is = s.verdict_is;

@@ -1,5 +1,5 @@
 use Rattle.std.proofs.Common.{refl, sym, subst}
-use Rattle.connection_core.specs.InForce.{told_at}
+use Rattle.connection_core.specs.InForce.{registered_at}
 use Rattle.connection_core.specs.Trees.{InternsWithin}
 use Rattle.connection_core.proofs.Errors.{on_err_always}
 use Rattle.std.proofs.lemmas.Result.{IfOk-weaker}
@@ -23,11 +23,16 @@ returns-clause-stands g c =
     let moment = c.args.moment in
     let p = arrived m.version c.args.number moment (Other c.args.class) in
     let interns = g.F.ForestView.interns in
-    subst (λ l. Makes c.args.number pasts (placed app control_at p l) (verdict_among app control_at p l) self.settings.keep (told_at m)
-        (g.F.ForestView.content new.forests) new.kept (interns new.forests) (interns self.forests) verdict)
+    subst (λ l. Makes c.args.number pasts (placed app control_at p l) (verdict_among app control_at p l) self.settings.keep (registered_at m)
+    (g.F.ForestView.content new.forests) new.kept (interns new.forests) (interns self.forests) verdict)
     (sym (others_stay app control_at m.version c.args.number moment c.args.class pasts))
-    (any control_at pasts moment (Other c.args.class) (record { kind = refl; shut = refl; raises = refl; untaken = place_by-never
-        (belongs_to (Other c.args.class)) pasts (λ past. refl) }) tells now stands))
+    (any control_at pasts moment (Other c.args.class) (record {
+      kind = refl;
+      shut = refl;
+      raises = refl;
+      untaken = place_by-never
+          (belongs_to (Other c.args.class)) pasts (λ past. refl);
+    }) tells now stands))
     c.orphan.ensures.stands
 
 pub returns-clause-costs : goal.returns-clause-costs

@@ -3,7 +3,7 @@ use Rattle.std.proofs.lemmas.Result.{IfOk-weaker}
 use Rattle.packet_views.specs.declared.packet.Class.TheVariants as Class
 use Rattle.flow_table.specs.Table.{found}
 use Rattle.report_text.specs.declared.record.RecordKind.TheVariants.{Orphan}
-use Rattle.connection_core.specs.InForce.{told_at}
+use Rattle.connection_core.specs.InForce.{registered_at}
 use Rattle.connection_core.specs.Trees.{InternsWithin}
 use Rattle.connection_core.proofs.Errors.{on_err_always}
 use Rattle.ip6_views.specs.Seen.{seen}
@@ -28,7 +28,7 @@ returns-else-is_opening-clause-stands g c =
     let kind : kind_of p ≡ Orphan Class.Tcp = rw shut refl in
     IfOk-weaker c.orphan.result _ _ (λ verdict any. λ control_at pasts tells now stands.
     let untaken : place_of own pasts ≡ None =
-    subst (λ o. IsOpenAt (told_at m) content o (place_of own pasts) pasts) (ap (λ k. found self.kept.flows k) (sym c.requires.key) ∙ c.requires.absent) (stands.placed own) in
+    subst (λ o. IsOpenAt (registered_at m) content o (place_of own pasts) pasts) (ap (λ k. found self.kept.flows k) (sym c.requires.key) ∙ c.requires.absent) (stands.placed own) in
     any control_at pasts c.args.moment p (record { kind = kind; raises = refl; shut = shut; untaken = untaken }) tells now stands)
     c.orphan.ensures.stands
 
@@ -41,8 +41,8 @@ returns-else-is_opening-clause-costs g c = on_err_always c.orphan.result (λ con
     let own = key_of_segment segment in
     let p = arrived m.version c.args.number c.args.moment (Tcp segment) in
     let untaken : place_of own pasts ≡ None =
-    subst (λ o. IsOpenAt (told_at m) (g.F.ForestView.content self.forests) o (place_of own pasts) pasts)
-        (ap (λ k. found self.kept.flows k) (sym c.requires.key) ∙ c.requires.absent) (stands.placed own) in
+    subst (λ o. IsOpenAt (registered_at m) (g.F.ForestView.content self.forests) o (place_of own pasts) pasts)
+    (ap (λ k. found self.kept.flows k) (sym c.requires.key) ∙ c.requires.absent) (stands.placed own) in
     let interns = g.F.ForestView.interns in
     subst (λ f. InternsWithin (interns self.forests) (interns f) (alterations pasts) (alterations (placed app control_at p pasts))) (sym c.orphan.ensures.forests)
     (orphan_costs app control_at self.settings.keep m (interns self.forests) p pasts untaken))

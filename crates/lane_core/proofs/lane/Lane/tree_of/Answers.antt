@@ -1,5 +1,5 @@
 use Rattle.std.proofs.Common.{sym, subst}
-use Rattle.connection_core.specs.InForce.{told_at}
+use Rattle.connection_core.specs.InForce.{registered_at}
 use Rattle.lane_core.specs.Kept.{IsOpenAt}
 use Rattle.lane_core.specs.Places.{place_of}
 use Rattle.lane_core.specs.Run.{lane_run}
@@ -26,6 +26,6 @@ returns g c = record {
       let conn = c.in_ok-conn.conn.now in
       let there = sym c.in_ok-conn.ensures.value in
       let is = self.trees key conn there in
-      let at = subst (λ o. IsOpenAt (told_at m) content o (place_of key so_far) so_far) there ((r.records good).placed key) in
+      let at = subst (λ o. IsOpenAt (registered_at m) content o (place_of key so_far) so_far) there ((r.records good).placed key) in
       tree_is_found m content key conn so_far c.tree_of.result.now c.tree_of.ensures is at;
 }

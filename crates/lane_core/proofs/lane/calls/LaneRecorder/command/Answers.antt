@@ -1,6 +1,6 @@
 use Rattle.std.proofs.Common.{◌++◌, ◌∷◌, [], None, sym, subst, ◌∙◌}
 use Rattle.forest_versions.specs.Master.{StandsFor}
-use Rattle.connection_core.specs.InForce.{told_at}
+use Rattle.connection_core.specs.InForce.{registered_at}
 use Rattle.lane_core.specs.Lane.{IsRun}
 use Rattle.lane_core.specs.Kept.{Keeps}
 use Rattle.lane_core.proofs.Standing.{ok_value, command_stands, command_failed}
@@ -13,7 +13,7 @@ returns-then-is_err-clause-stands g c = λ good events r.
     let end = c.fail.new.self in
     rw (c.fail.ensures.settings, c.fail.ensures.failed, c.fail.ensures.next, c.give.ensures.app, c.give.ensures.keep, c.give.ensures.next)
     (command_failed (g.A.App.meaning self.settings.app) self.settings.keep self.settings.master new.settings.master
-        (g.F.ForestView.content self.forests) (g.F.ForestView.content end.forests) self.kept end.kept self.next self.failed events c.args.c.now r)
+    (g.F.ForestView.content self.forests) (g.F.ForestView.content end.forests) self.kept end.kept self.next self.failed events c.args.c.now r)
 
 pub returns-clause-stands : goal.returns-clause-stands
 returns-clause-stands g c = λ good events r.
@@ -26,7 +26,7 @@ returns-clause-stands g c = λ good events r.
     let given = sym c.is_err.ensures.value ∙ c.if-is_err.false in
     rw (c.give.ensures.app, c.give.ensures.keep, c.give.ensures.next, c.give.ensures.failed, good)
     (command_stands app keep self.settings.master new.settings.master (g.F.ForestView.content self.forests) (g.F.ForestView.content new.forests)
-        self.kept new.kept self.next events c.args.c.now run c.give.ensures.same
+    self.kept new.kept self.next events c.args.c.now run c.give.ensures.same
     (λ presets commands stands. ok_value (StandsFor new.settings.master presets (commands ++ c.args.c.now ∷ [])) c.give.result given (c.give.ensures.stands presets commands stands))
-    (λ so_far kept. subst (λ k. Keeps k (told_at new.settings.master) (g.F.ForestView.content new.forests) new.kept so_far) c.give.ensures.keep
-    (ok_value (Keeps new.settings.keep (told_at new.settings.master) (g.F.ForestView.content new.forests) new.kept so_far) c.give.result given (c.give.ensures.kept so_far kept))))
+    (λ so_far kept. subst (λ k. Keeps k (registered_at new.settings.master) (g.F.ForestView.content new.forests) new.kept so_far) c.give.ensures.keep
+    (ok_value (Keeps new.settings.keep (registered_at new.settings.master) (g.F.ForestView.content new.forests) new.kept so_far) c.give.result given (c.give.ensures.kept so_far kept))))

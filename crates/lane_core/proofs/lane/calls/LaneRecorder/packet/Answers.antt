@@ -18,7 +18,7 @@ returns-in_default-take-clause-stands g c = λ good events r.
     let end = c.fail.new.self in
     rw (c.fail.ensures.settings, c.fail.ensures.failed, c.fail.ensures.next)
     (packet_failed (g.A.App.meaning new.settings.app) new.settings.keep new.settings.master (g.F.ForestView.content self.forests)
-        (g.F.ForestView.content end.forests) self.kept end.kept self.next new.next events
+    (g.F.ForestView.content end.forests) self.kept end.kept self.next new.next events
     (arrival_of c.args.number c.args.frame.now) NoMemory c.take.ensures.next (λ is. absurd (cc)))
 
 pub returns-in_default-take-clause-interned : goal.returns-in_default-take-clause-interned
@@ -43,9 +43,9 @@ returns-then-is_heavy-clause-stands g c = λ good events r.
     let fail = c.fail-then-is_heavy in
     rw (fail.ensures.settings, fail.ensures.failed, fail.ensures.next, c.take.ensures.settings)
     (packet_failed app self.settings.keep self.settings.master (g.F.ForestView.content self.forests) (g.F.ForestView.content fail.new.self.forests)
-        self.kept fail.new.self.kept self.next new.next events a Heavy c.take.ensures.next
+    self.kept fail.new.self.kept self.next new.next events a Heavy c.take.ensures.next
     (λ is. is_too_heavy app self.settings.keep self.settings.master (g.F.ForestView.content self.forests) (g.F.ForestView.content new.forests)
-        self.kept new.kept self.next events a (g.F.ForestView.interns self.forests)
+    self.kept new.kept self.next events a (g.F.ForestView.interns self.forests)
     (g.F.ForestView.interns new.forests) c.in-Ok.verdict run c.in-Ok.ensures.stands over))
 
 pub returns-then-is_heavy-clause-heavy : goal.returns-then-is_heavy-clause-heavy
@@ -60,7 +60,7 @@ returns-then-is_heavy-clause-heavy g c = λ good is.
           let run : IsRun app self.settings.keep self.settings.master (g.F.ForestView.content self.forests) self.kept self.next None events =
           subst (λ f. IsRun app self.settings.keep self.settings.master (g.F.ForestView.content self.forests) self.kept self.next f events) good r in
           is_too_heavy app self.settings.keep self.settings.master (g.F.ForestView.content self.forests) (g.F.ForestView.content new.forests)
-              self.kept new.kept self.next events a (g.F.ForestView.interns self.forests)
+          self.kept new.kept self.next events a (g.F.ForestView.interns self.forests)
           (g.F.ForestView.interns new.forests) c.in-Ok.verdict run c.in-Ok.ensures.stands over,
     )
 
@@ -75,7 +75,7 @@ returns-then-is_heavy-clause-interned g c = λ good events r.
     rw c.fail-then-is_heavy.ensures.forests
     (subst (λ rs. InternsWithin (g.F.ForestView.interns self.forests) (g.F.ForestView.interns new.forests) (alterations (lane_run app events)) (alterations rs)) (sym (packet_is_added app events a))
     (run_added app self.settings.keep self.settings.master (g.F.ForestView.content self.forests) (g.F.ForestView.content new.forests) self.kept
-        new.kept self.next events a (g.F.ForestView.interns self.forests)
+    new.kept self.next events a (g.F.ForestView.interns self.forests)
     (g.F.ForestView.interns new.forests) c.in-Ok.verdict run c.in-Ok.ensures.stands).interned)
 
 pub returns-clause-stands : goal.returns-clause-stands
@@ -88,7 +88,7 @@ returns-clause-stands g c = λ good events r.
     subst (λ f. IsRun app self.settings.keep self.settings.master (g.F.ForestView.content self.forests) self.kept self.next f events) good r in
     rw (c.take.ensures.settings, c.take.ensures.failed, good)
     (packet_stands app self.settings.keep self.settings.master (g.F.ForestView.content self.forests) (g.F.ForestView.content new.forests) self.kept
-        new.kept self.next events a (g.F.ForestView.interns self.forests)
+    new.kept self.next events a (g.F.ForestView.interns self.forests)
     (g.F.ForestView.interns new.forests) c.in-Ok.verdict run c.in-Ok.ensures.stands new.next c.take.ensures.next c.in-Ok.ensures.dropped)
 
 pub returns-clause-light : goal.returns-clause-light
@@ -102,7 +102,7 @@ returns-clause-light g c = λ keeps events r heavy.
     subst (λ f. IsRun app self.settings.keep self.settings.master (g.F.ForestView.content self.forests) self.kept self.next f events) good r in
     let under = subst (λ (w : LaneSettings _). (w.keep && nat_lt 134217728 new.kept.ledger.counts.weight) ≡ false) c.take.ensures.settings (sym c.is_heavy.ensures ∙ c.if-is_heavy.false) in
     is_light app self.settings.keep self.settings.master (g.F.ForestView.content self.forests) (g.F.ForestView.content new.forests) self.kept new.kept
-        self.next events a (g.F.ForestView.interns self.forests)
+    self.next events a (g.F.ForestView.interns self.forests)
     (g.F.ForestView.interns new.forests) c.in-Ok.verdict run c.in-Ok.ensures.stands under keeps heavy
 
 pub returns-clause-interned : goal.returns-clause-interned
@@ -115,5 +115,5 @@ returns-clause-interned g c = λ good events r.
     subst (λ f. IsRun app self.settings.keep self.settings.master (g.F.ForestView.content self.forests) self.kept self.next f events) good r in
     subst (λ rs. InternsWithin (g.F.ForestView.interns self.forests) (g.F.ForestView.interns new.forests) (alterations (lane_run app events)) (alterations rs)) (sym (packet_is_added app events a))
     (run_added app self.settings.keep self.settings.master (g.F.ForestView.content self.forests) (g.F.ForestView.content new.forests) self.kept
-        new.kept self.next events a (g.F.ForestView.interns self.forests)
+    new.kept self.next events a (g.F.ForestView.interns self.forests)
     (g.F.ForestView.interns new.forests) c.in-Ok.verdict run c.in-Ok.ensures.stands).interned

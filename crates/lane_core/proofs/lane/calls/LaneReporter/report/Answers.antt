@@ -23,7 +23,7 @@ returns-in_err-write_slots-clause-text g c = λ good events r.
     ∙ ap (λ a. records_text (map (ended (g.A.App.meaning a)) lane.closed.slots.items)) lane.ensures.app in
     WriteAdds-err _ _ _ _ c.from_residual-in_err-write_slots.ensures.0
     (lines_in_part settings.keep (g.A.App.meaning settings.app) (ended_run (g.A.App.meaning settings.app) events c.args.greatest)
-        lane.closed.slots.items lane.closed.callbacks lane.closed.drops (lane.ensures.closed good events r)
+    lane.closed.slots.items lane.closed.callbacks lane.closed.drops (lane.ensures.closed good events r)
     c.args.packets c.len.result c.args.tail (c.len.ensures ∙ sym c.deref-2.ensures.len ∙ ap length c.deref-2.ensures.value)
     _ _ _ lines c.in_err-write_slots.ensures.text)
 
@@ -35,7 +35,7 @@ returns-in_err-write_totals-clause-text g c = λ good events r.
     ∙ ap (λ a. records_text (map (ended (g.A.App.meaning a)) lane.closed.slots.items)) lane.ensures.app in
     WriteAdds-err _ _ _ _ c.from_residual-in_err-write_totals.ensures.0
     (totals_in_part settings.keep (g.A.App.meaning settings.app) (ended_run (g.A.App.meaning settings.app) events c.args.greatest)
-        lane.closed.slots.items lane.closed.callbacks lane.closed.drops (lane.ensures.closed good events r)
+    lane.closed.slots.items lane.closed.callbacks lane.closed.drops (lane.ensures.closed good events r)
     c.args.packets c.len.result c.args.tail (c.len.ensures ∙ sym c.deref-2.ensures.len ∙ ap length c.deref-2.ensures.value)
     _ _ _ _ lines c.in_ok-write_slots.ensures.text c.in_err-write_totals.ensures.text)
 
@@ -46,7 +46,7 @@ returns-clause-text g c = λ good events r.
     let lines = ap (λ ss. records_text (map (ended (g.A.App.meaning lane.closed.app)) ss)) c.deref-2.ensures.value
     ∙ ap (λ a. records_text (map (ended (g.A.App.meaning a)) lane.closed.slots.items)) lane.ensures.app in
     all_written settings.keep (g.A.App.meaning settings.app) (ended_run (g.A.App.meaning settings.app) events c.args.greatest) lane.closed.slots.items
-        lane.closed.callbacks lane.closed.drops (lane.ensures.closed good events r)
+    lane.closed.callbacks lane.closed.drops (lane.ensures.closed good events r)
     c.args.packets c.len.result c.args.tail (c.len.ensures ∙ sym c.deref-2.ensures.len ∙ ap length c.deref-2.ensures.value)
     _ _ _ _ lines c.in_ok-write_slots.ensures.text c.in_ok-write_totals.ensures.text
 
