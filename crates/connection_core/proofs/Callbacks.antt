@@ -28,7 +28,7 @@ use Rattle.forest_versions.specs.State.{ControlState}
 use Rattle.connection_core.specs.declared.ledger.Notes.{Notes}
 use Rattle.connection_core.specs.declared.ledger.Counts.{Counts}
 use Rattle.connection_core.specs.declared.ledger.Ledger.{Ledger}
-use Rattle.connection_core.specs.Course.{Course, seen_by, after_seen, bytes_seen, call_of, entry_of, reaction_of, first_reason, called, called_all, called_at}
+use Rattle.connection_core.specs.PacketUnderWay.{PacketUnderWay, seen_by, after_seen, bytes_seen, call_of, entry_of, reaction_of, first_reason, called, called_all, called_at}
 use Rattle.connection_core.specs.History.{weight_of}
 use Rattle.connection_core.specs.Standing.{IsUnder, Steps}
 use Rattle.connection_core.specs.Numbers.{called_by, called_numbers}
@@ -45,7 +45,7 @@ kept-more true made kept after here seen before is same = is ∙ ap (λ l. l ++ 
 kept-more false made kept after here seen before is same = is ∙ before
 
 pub called_under : (app : Meaning) (s : ControlState) (number : ℕ) (from : Side) (raise : Raise) (r : Reg) (keep : Bool) (others : Counts) (list : List Reg)
-    (socket socket_after : SocketView) (notes notes_after : Notes) (ledger ledger_after : Ledger) (got : ℕ) (seen : Seen) (reaction : Reaction) (c : Course)
+    (socket socket_after : SocketView) (notes notes_after : Notes) (ledger ledger_after : Ledger) (got : ℕ) (seen : Seen) (reaction : Reaction) (c : PacketUnderWay)
     → IsUnder keep others list socket notes ledger c
     → SocketStandsFor socket_after (after_seen from r.peek c.emulation)
     → (keep ≡ true → seen ≡ seen_by from r.peek c.emulation)
@@ -59,9 +59,11 @@ pub called_under : (app : Meaning) (s : ControlState) (number : ℕ) (from : Sid
     → ledger_after.counts.weight ≡ ledger.counts.weight + (32 + got)
     → IsUnder keep others list socket_after notes_after ledger_after (called app s number from raise c r)
 unfolding called
-called_under app s number from raise r keep others list socket socket_after notes notes_after ledger ledger_after got seen reaction c u heard saw bytes tally reacts entries changes drop callbacks weight =
+called_under app s number from raise r keep others list socket socket_after notes notes_after ledger ledger_after got seen reaction c u heard saw
+    bytes tally reacts entries changes drop callbacks weight =
     let here = seen_by from r.peek c.emulation in
-    let answer : reaction_of app s.rules r (record { reg = r.number; hook = raise.hook; event = r.event; facts = raise.facts; got = got }) notes.tally ≡ reaction_of app s.rules r (call_of raise r here) c.tally =
+    let answer : reaction_of app s.rules r (record { reg = r.number; hook = raise.hook; event = r.event; facts = raise.facts; got = got })
+    notes.tally ≡ reaction_of app s.rules r (call_of raise r here) c.tally =
     ap (λ n. reaction_of app s.rules r (record { reg = r.number; hook = raise.hook; event = r.event; facts = raise.facts; got = n }) notes.tally) bytes
     ∙ ap (λ t. reaction_of app s.rules r (call_of raise r here) t) u.noted.tally in
     let reaction_is : reaction ≡ (reaction_of app s.rules r (call_of raise r here) c.tally).1 = reacts ∙ ap (λ a. a.1) answer in
@@ -84,9 +86,9 @@ called_under app s number from raise r keep others list socket socket_after note
 -- what the callbacks made so far have come to, so that those of the numbers left give what all give
 pub record CallsLeft (app : Meaning) (s : ControlState) (keep : Bool) (list : List Reg) (number : ℕ) (from : Side) (raise : Raise)
     (socket : SocketView) (notes : Notes) (ledger : Ledger) (all : List ℕ) (socket_now : SocketView) (notes_now : Notes) (ledger_now : Ledger) (left : List ℕ) : Type 0 where
-  pub so_far : Course → Course
+  pub so_far : PacketUnderWay → PacketUnderWay
   pub steps : Steps keep list socket notes ledger socket_now notes_now ledger_now so_far
-  pub whole : (c : Course) → called_numbers app s number from raise (so_far c) left ≡ called_numbers app s number from raise c all
+  pub whole : (c : PacketUnderWay) → called_numbers app s number from raise (so_far c) left ≡ called_numbers app s number from raise c all
 
 pub calls_begun : (app : Meaning) (s : ControlState) (keep : Bool) (list : List Reg) (number : ℕ) (from : Side) (raise : Raise)
     (socket : SocketView) (notes : Notes) (ledger : Ledger) (all : List ℕ)
@@ -107,7 +109,7 @@ calls_on app s keep list number from raise socket notes ledger all socket_now so
 }
 
 -- the numbers of registrations that are there call these
-calls_by_number : (app : Meaning) (s : ControlState) (number : ℕ) (from : Side) (raise : Raise) (list : List Reg) (c : Course)
+calls_by_number : (app : Meaning) (s : ControlState) (number : ℕ) (from : Side) (raise : Raise) (list : List Reg) (c : PacketUnderWay)
     → AllByRecursion (λ (r : Reg). reg_of s.regs r.number ≡ Some r) list
     → called_numbers app s number from raise c (numbers_of list) ≡ called_all app s number from raise c list
 calls_by_number app s number from raise [] c all = refl

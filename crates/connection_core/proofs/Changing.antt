@@ -20,7 +20,7 @@ use Rattle.event_trees.specs.Private.{reg_cmp, put_reg, edited}
 use Rattle.event_trees.specs.Canon.{slot_of}
 use Rattle.event_trees.specs.Edit.{IsForestOf, IsSwitchable}
 use Rattle.forest_versions.specs.State.{ControlState}
-use Rattle.connection_core.specs.Course.{Course, is_on, is_so, altered_to, switched, changed, changed_all}
+use Rattle.connection_core.specs.PacketUnderWay.{PacketUnderWay, is_on, is_so, altered_to, switched, changed, changed_all}
 use Rattle.connection_core.specs.Trees.{regs_named, active_in, IsTreeOf, IsForestIn, InternsWithin}
 use Rattle.connection_core.specs.Standing.{Alters, Costs}
 
@@ -127,7 +127,7 @@ pub number_found : (n : ℕ) (regs : List Reg) (r : Reg) → reg_of regs n ≡ S
 number_found n [] r is = cc
 number_found n (x ∷ regs) r is = number_by n x r (reg_of regs n) (x.number == n) refl is (number_found n regs r)
 
--- ---- what a change makes of a course
+-- ---- what a change makes of a packet under way
 
 pub within-same : (i : Option ℕ) (a : ℕ) → InternsWithin i i a a
 within-same None a = tt
@@ -155,7 +155,7 @@ within-up (Some m) (Some n) a b d up p = (p.0, omega (arith, p.1, up))
 
 -- ---- alterations are never taken back
 
-switched_rises : (s : ControlState) (o : Option Reg) (on : Bool) (c : Course) → c.altered ≤ (switched s o on c).altered
+switched_rises : (s : ControlState) (o : Option Reg) (on : Bool) (c : PacketUnderWay) → c.altered ≤ (switched s o on c).altered
 switched_rises s None on c = omega arith
 switched_rises s (Some r) on c =
     elim (is_so (is_on r.number c.active) on) as (λ b. c.altered ≤ (cond b c (altered_to (edited s.defs c.active r on) c)).altered) [
@@ -163,11 +163,11 @@ switched_rises s (Some r) on c =
       | false ↦ omega arith
     ]
 
-changed_rises : (s : ControlState) (change : Change1) (c : Course) → c.altered ≤ (changed s change c).altered
+changed_rises : (s : ControlState) (change : Change1) (c : PacketUnderWay) → c.altered ≤ (changed s change c).altered
 unfolding changed
 changed_rises s change c = switched_rises s (reg_of s.regs change.reg) change.on c
 
-pub changed_all_rises : (s : ControlState) (changes : List Change1) (c : Course) → c.altered ≤ (changed_all s changes c).altered
+pub changed_all_rises : (s : ControlState) (changes : List Change1) (c : PacketUnderWay) → c.altered ≤ (changed_all s changes c).altered
 changed_all_rises s [] c = omega arith
 changed_all_rises s (change ∷ changes) c =
     let one = changed_rises s change c in
@@ -183,10 +183,11 @@ alters_none s change list i none = record {
   interned = λ c is. subst (λ o. InternsWithin i i c.altered (switched s o change.on c).altered) (sym none) (within-same i c.altered);
 }
 
-pub so_stays : (s : ControlState) (r : Reg) (on so : Bool) (c : Course) → so ≡ true → (if so then c else altered_to (edited s.defs c.active r on) c) ≡ c
+pub so_stays : (s : ControlState) (r : Reg) (on so : Bool) (c : PacketUnderWay) → so ≡ true → (if so then c else altered_to (edited s.defs c.active r on) c) ≡ c
 so_stays s r on so c is = ap (λ b. if b then c else altered_to (edited s.defs c.active r on) c) is
 
-pub so_alters : (s : ControlState) (r : Reg) (on so : Bool) (c : Course) → so ≡ false → (if so then c else altered_to (edited s.defs c.active r on) c) ≡ altered_to (edited s.defs c.active r on) c
+pub so_alters : (s : ControlState) (r : Reg) (on so : Bool) (c : PacketUnderWay) → so ≡ false
+    → (if so then c else altered_to (edited s.defs c.active r on) c) ≡ altered_to (edited s.defs c.active r on) c
 so_alters s r on so c is = ap (λ b. if b then c else altered_to (edited s.defs c.active r on) c) is
 
 -- the change of a registration that is so already
@@ -194,10 +195,10 @@ pub alters_so : (s : ControlState) (change : Change1) (r : Reg) (list : List Reg
     → is_so (is_on r.number list) change.on ≡ true → Alters list list i i (changed s change)
 unfolding changed
 alters_so s change r list i there so =
-    let same : (c : Course) → c.active ≡ list → switched s (reg_of s.regs change.reg) change.on c ≡ c =
+    let same : (c : PacketUnderWay) → c.active ≡ list → switched s (reg_of s.regs change.reg) change.on c ≡ c =
     λ c is. ap (λ o. switched s o change.on c) there ∙ so_stays s r change.on (is_so (is_on r.number c.active) change.on) c (ap (λ l. is_so (is_on r.number l) change.on) is ∙ so) in record {
-      made = λ c is. ap (λ (w : Course). w.active) (same c is) ∙ is;
-      interned = λ c is. subst (λ (w : Course). InternsWithin i i c.altered w.altered) (sym (same c is)) (within-same i c.altered);
+      made = λ c is. ap (λ (w : PacketUnderWay). w.active) (same c is) ∙ is;
+      interned = λ c is. subst (λ (w : PacketUnderWay). InternsWithin i i c.altered w.altered) (sym (same c is)) (within-same i c.altered);
     }
 
 -- a change that alters the list
@@ -205,13 +206,13 @@ pub alters_edit : (s : ControlState) (change : Change1) (r : Reg) (list after : 
     → is_so (is_on r.number list) change.on ≡ false → after ≡ edited s.defs list r change.on → CountsAtMost i j → Alters list after i j (changed s change)
 unfolding changed
 alters_edit s change r list after i j there so is_after counted =
-    let same : (c : Course) → c.active ≡ list → switched s (reg_of s.regs change.reg) change.on c ≡ altered_to (edited s.defs c.active r change.on) c =
+    let same : (c : PacketUnderWay) → c.active ≡ list → switched s (reg_of s.regs change.reg) change.on c ≡ altered_to (edited s.defs c.active r change.on) c =
     λ c is. ap (λ o. switched s o change.on c) there ∙ so_alters s r change.on (is_so (is_on r.number c.active) change.on) c (ap (λ l. is_so (is_on r.number l) change.on) is ∙ so) in record {
-      made = λ c is. ap (λ (w : Course). w.active) (same c is) ∙ ap (λ l. edited s.defs l r change.on) is ∙ sym is_after;
-      interned = λ c is. subst (λ (w : Course). InternsWithin i j c.altered w.altered) (sym (same c is)) (within-one i j c.altered counted);
+      made = λ c is. ap (λ (w : PacketUnderWay). w.active) (same c is) ∙ ap (λ l. edited s.defs l r change.on) is ∙ sym is_after;
+      interned = λ c is. subst (λ (w : PacketUnderWay). InternsWithin i j c.altered w.altered) (sym (same c is)) (within-one i j c.altered counted);
     }
 
-changed_all-append : (s : ControlState) (xs ys : List Change1) (c : Course) → changed_all s (xs ++ ys) c ≡ changed_all s ys (changed_all s xs c)
+changed_all-append : (s : ControlState) (xs ys : List Change1) (c : PacketUnderWay) → changed_all s (xs ++ ys) c ≡ changed_all s ys (changed_all s xs c)
 changed_all-append s [] ys c = refl
 changed_all-append s (x ∷ xs) ys c = changed_all-append s xs ys (changed s x c)
 
@@ -224,10 +225,10 @@ pub alters_more : (s : ControlState) (changes : List Change1) (n : ℕ) (d : Cha
     → Alters list now i j (changed_all s (take n changes)) → Alters now after j k (changed s (get_or changes n d)) → Alters list after i k (changed_all s (take (n + 1) changes))
 alters_more s changes n d list now after i j k within so_far step =
     let change = get_or changes n d in
-    let same : (c : Course) → changed_all s (take (n + 1) changes) c ≡ changed s change (changed_all s (take n changes) c) =
+    let same : (c : PacketUnderWay) → changed_all s (take (n + 1) changes) c ≡ changed s change (changed_all s (take n changes) c) =
     λ c. ap (λ l. changed_all s l c) (take_more changes n d within) ∙ changed_all-append s (take n changes) (change ∷ []) c in record {
-      made = λ c is. ap (λ (w : Course). w.active) (same c) ∙ step.made (changed_all s (take n changes) c) (so_far.made c is);
-      interned = λ c is. subst (λ (w : Course). InternsWithin i k c.altered w.altered) (sym (same c))
+      made = λ c is. ap (λ (w : PacketUnderWay). w.active) (same c) ∙ step.made (changed_all s (take n changes) c) (so_far.made c is);
+      interned = λ c is. subst (λ (w : PacketUnderWay). InternsWithin i k c.altered w.altered) (sym (same c))
           (within-on i j k c.altered (changed_all s (take n changes) c).altered (changed s change (changed_all s (take n changes) c)).altered
           (so_far.interned c is) (step.interned (changed_all s (take n changes) c) (so_far.made c is)));
     }
@@ -236,11 +237,11 @@ alters_more s changes n d list now after i j k within so_far step =
 pub costs_of_front : (s : ControlState) (changes : List Change1) (n : ℕ) (list now : List Reg) (i j : Option ℕ)
     → Alters list now i j (changed_all s (take n changes)) → Costs list i j (changed_all s changes)
 costs_of_front s changes n list now i j so_far =
-    let same : (c : Course) → changed_all s changes c ≡ changed_all s (drop n changes) (changed_all s (take n changes) c) =
+    let same : (c : PacketUnderWay) → changed_all s changes c ≡ changed_all s (drop n changes) (changed_all s (take n changes) c) =
     λ c. ap (λ l. changed_all s l c) (sym (take-append-drop n changes)) ∙ changed_all-append s (take n changes) (drop n changes) c in record {
       interned = λ c is.
           let front = changed_all s (take n changes) c in
-          subst (λ (w : Course). InternsWithin i j c.altered w.altered) (sym (same c))
+          subst (λ (w : PacketUnderWay). InternsWithin i j c.altered w.altered) (sym (same c))
           (within-up i j c.altered front.altered (changed_all s (drop n changes) front).altered (changed_all_rises s (drop n changes) front) (so_far.interned c is));
     }
 

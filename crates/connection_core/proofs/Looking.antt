@@ -11,7 +11,7 @@ use Rattle.reassembly.specs.Receiver.{kept}
 use Rattle.reassembly.specs.Kept.{bytes_from, positions_in, AreWhole}
 use Rattle.flow_socket.specs.Emulation.{Emulation, direction_of}
 use Rattle.flow_socket.specs.Peek.{peeked, bytes_peeked, runs_at, pieces_at}
-use Rattle.connection_core.specs.Course.{bytes_in}
+use Rattle.connection_core.specs.PacketUnderWay.{bytes_in}
 
 -- ---- the next bytes
 

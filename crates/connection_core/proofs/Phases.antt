@@ -19,8 +19,8 @@ use Rattle.connection_core.specs.declared.flow.Flow.{Flow}
 use Rattle.connection_core.specs.declared.ledger.Notes.{Notes}
 use Rattle.connection_core.specs.declared.ledger.Counts.{Counts}
 use Rattle.connection_core.specs.declared.ledger.Ledger.{Ledger}
-use Rattle.connection_core.specs.Course.{Course, raised, phase}
-use Rattle.connection_core.specs.History.{History, fresh, lone_course, begin, go_on, done, sender_phase, receiver_phase, received_unless, followed, verdict_of, drops_of}
+use Rattle.connection_core.specs.PacketUnderWay.{PacketUnderWay, raised, phase}
+use Rattle.connection_core.specs.History.{History, fresh, orphan_under_way, begin, go_on, done, sender_phase, receiver_phase, received_unless, followed, verdict_of, drops_of}
 use Rattle.connection_core.specs.Trees.{active_in, InternsWithin}
 use Rattle.connection_core.specs.Standing.{IsNoted, IsConnection, IsUnder, Steps, CostsUnder, Reached, Stepped}
 use Rattle.connection_core.proofs.Changing.{within-same, within-up}
@@ -28,16 +28,16 @@ use Rattle.connection_core.proofs.Settling.{phase_rises}
 
 -- ---- the sender's phase
 
--- What a phase makes of each course that stands, that of the sender makes of the connection's. `R` is what is known of a course
+-- What a phase makes of each packet under way that stands, that of the sender makes of the connection's. `R` is what is known of one
 -- before and after.
 pub sender_makes : (app : Meaning) (s : ControlState) (keep : Bool) (others : Counts) (at : ℕ → Option Reg) (tree : TreeLists) (number : ℕ) (from : Side) (head : Head) (scale : Option ℕ)
-    (answer : Sent) (raises : List Raise) (flow : Flow) (socket : SocketView) (notes : Notes) (ledger begun : Ledger) (h : History) (R : Course → Course → Type 0)
+    (answer : Sent) (raises : List Raise) (flow : Flow) (socket : SocketView) (notes : Notes) (ledger begun : Ledger) (h : History) (R : PacketUnderWay → PacketUnderWay → Type 0)
     → IsConnection keep others at tree flow notes ledger.counts h
     → ((e : Emulation) → SocketStandsFor flow.socket e → SocketStandsFor socket (sent from head scale e))
     → ((e : Emulation) → SocketStandsFor flow.socket e → answer ≡ sent_answer from head e)
     → raises ≡ sender_raises head from flow.count (eqb flow.count 0) answer
     → begun.changes.items ≡ [] → begun.drop ≡ None → begun.counts ≡ ledger.counts
-    → ((c : Course) → IsUnder keep others (active_in at tree) socket notes begun c → R c (phase app s number from raises c))
+    → ((c : PacketUnderWay) → IsUnder keep others (active_in at tree) socket notes begun c → R c (phase app s number from raises c))
     → R (begin (sent from head scale h.emulation) h) (sender_phase app s number from head scale h)
 unfolding sender_phase
 sender_makes app s keep others at tree number from head scale answer raises flow socket notes ledger begun h R is heard answers raised_are none no_drop counts makes =
@@ -58,12 +58,12 @@ sender_makes app s keep others at tree number from head scale answer raises flow
 
 -- the same of the receiver's
 pub receiver_makes : (app : Meaning) (s : ControlState) (keep : Bool) (others : Counts) (list : List Reg) (number : ℕ) (from : Side) (head : Head) (payload : List ℕ) (count : ℕ)
-    (answer : Got) (raises : List Raise) (socket heard : SocketView) (notes : Notes) (ledger : Ledger) (c : Course) (R : Course → Course → Type 0)
+    (answer : Got) (raises : List Raise) (socket heard : SocketView) (notes : Notes) (ledger : Ledger) (c : PacketUnderWay) (R : PacketUnderWay → PacketUnderWay → Type 0)
     → IsUnder keep others list socket notes ledger c
     → ((e : Emulation) → SocketStandsFor socket e → SocketStandsFor heard (received from head payload e))
     → ((e : Emulation) → SocketStandsFor socket e → answer ≡ got_of from head payload e)
     → raises ≡ receiver_raises head from count answer
-    → ((d : Course) → IsUnder keep others list heard notes ledger d → R d (phase app s number from raises d))
+    → ((d : PacketUnderWay) → IsUnder keep others list heard notes ledger d → R d (phase app s number from raises d))
     → R (go_on (received from head payload c.emulation) c) (receiver_phase app s number from head payload count c)
 unfolding receiver_phase
 receiver_makes app s keep others list number from head payload count answer raises socket heard notes ledger c R u stands answers raised_are makes =
@@ -79,7 +79,7 @@ receiver_makes app s keep others list number from head payload count answer rais
     } in
     subst (λ l. R d (phase app s number from l d)) all (makes d under)
 
-receiver_rises : (app : Meaning) (s : ControlState) (number : ℕ) (from : Side) (head : Head) (payload : List ℕ) (count : ℕ) (c : Course)
+receiver_rises : (app : Meaning) (s : ControlState) (number : ℕ) (from : Side) (head : Head) (payload : List ℕ) (count : ℕ) (c : PacketUnderWay)
     → c.altered ≤ (receiver_phase app s number from head payload count c).altered
 unfolding receiver_phase
 receiver_rises app s number from head payload count c =
@@ -95,7 +95,7 @@ receiver_costs_none app s keep list i number from head payload count socket note
 
 -- ---- the packet
 
-done_stands : (keep : Bool) (others : Counts) (at : ℕ → Option Reg) (tree : TreeLists) (flow : Flow) (notes : Notes) (ledger : Ledger) (c : Course) (count : ℕ) (drops : List (ℕ × Reason))
+done_stands : (keep : Bool) (others : Counts) (at : ℕ → Option Reg) (tree : TreeLists) (flow : Flow) (notes : Notes) (ledger : Ledger) (c : PacketUnderWay) (count : ℕ) (drops : List (ℕ × Reason))
     → IsUnder keep others (active_in at tree) flow.socket notes ledger c → flow.count ≡ count
     → IsConnection keep others at tree flow notes ledger.counts (done count drops c)
 done_stands keep others at tree flow notes ledger c count drops u counted = record {
@@ -104,7 +104,8 @@ done_stands keep others at tree flow notes ledger c count drops u counted = reco
 }
 
 -- the packet was dropped
-pub dropped_stepped : (keep : Bool) (others : Counts) (at : ℕ → Option Reg) (tree : TreeLists) (flow : Flow) (notes : Notes) (ledger : Ledger) (i : Option ℕ) (number : ℕ) (c r : Course) (h : History)
+pub dropped_stepped : (keep : Bool) (others : Counts) (at : ℕ → Option Reg) (tree : TreeLists) (flow : Flow) (notes : Notes) (ledger : Ledger)
+    (i : Option ℕ) (number : ℕ) (c r : PacketUnderWay) (h : History)
     (count : ℕ) (reason : Reason) → ledger.drop ≡ Some reason → count ≡ h.count → flow.count ≡ count + 1
     → IsUnder keep others (active_in at tree) flow.socket notes ledger c
     → Stepped keep others at tree flow notes ledger.counts i i c.altered (received_unless c.drop number c r h)
@@ -117,7 +118,8 @@ dropped_stepped keep others at tree flow notes ledger i number c r h count reaso
     subst (λ o. Stepped keep others at tree flow notes ledger.counts i i c.altered (received_unless o number c r h)) drop is
 
 -- it came to its receiver
-pub received_stepped : (keep : Bool) (others : Counts) (at : ℕ → Option Reg) (tree : TreeLists) (flow : Flow) (notes : Notes) (before ledger : Ledger) (i j : Option ℕ) (number : ℕ) (c r : Course) (h : History)
+pub received_stepped : (keep : Bool) (others : Counts) (at : ℕ → Option Reg) (tree : TreeLists) (flow : Flow) (notes : Notes) (before ledger : Ledger)
+    (i j : Option ℕ) (number : ℕ) (c r : PacketUnderWay) (h : History)
     (count : ℕ) → before.drop ≡ None → before.drop ≡ c.drop → count ≡ h.count → flow.count ≡ count + 1
     → Reached keep others (active_in at tree) flow.socket notes ledger i j c.altered r
     → Stepped keep others at tree flow notes ledger.counts i j c.altered (received_unless c.drop number c r h)
@@ -130,13 +132,13 @@ received_stepped keep others at tree flow notes before ledger i j number c r h c
     subst (λ o. Stepped keep others at tree flow notes ledger.counts i j c.altered (received_unless o number c r h)) drop is
 
 -- it failed at its receiver
-pub received_costs : (i j : Option ℕ) (number : ℕ) (c r : Course) (h : History) (before : Ledger) → before.drop ≡ None → before.drop ≡ c.drop → InternsWithin i j c.altered r.altered
+pub received_costs : (i j : Option ℕ) (number : ℕ) (c r : PacketUnderWay) (h : History) (before : Ledger) → before.drop ≡ None → before.drop ≡ c.drop → InternsWithin i j c.altered r.altered
     → InternsWithin i j c.altered (received_unless c.drop number c r h).altered
 received_costs i j number c r h before none asked costs =
     let drop : None ≡ c.drop = sym none ∙ asked in
     subst (λ o. InternsWithin i j c.altered (received_unless o number c r h).altered) drop costs
 
-received_rises : (o : Option Reason) (number : ℕ) (c r : Course) (h : History) → c.altered ≤ r.altered → c.altered ≤ (received_unless o number c r h).altered
+received_rises : (o : Option Reason) (number : ℕ) (c r : PacketUnderWay) (h : History) → c.altered ≤ r.altered → c.altered ≤ (received_unless o number c r h).altered
 received_rises None number c r h up = up
 received_rises (Some reason) number c r h up = omega arith
 
@@ -150,20 +152,20 @@ sender_costs app s i j number from head scale payload h costs =
     within-up i j h.altered sent.altered (received_unless sent.drop number sent received h).altered
     (received_rises sent.drop number sent received h (receiver_rises app s number from head payload h.count sent)) costs
 
-pub drops_more : (o : Option Reason) (number : ℕ) (c r : Course) (h : History) → (received_unless o number c r h).drops ≡ h.drops ++ drops_of (verdict_of o) number
+pub drops_more : (o : Option Reason) (number : ℕ) (c r : PacketUnderWay) (h : History) → (received_unless o number c r h).drops ≡ h.drops ++ drops_of (verdict_of o) number
 drops_more None number c r h = sym (append-nil h.drops)
 drops_more (Some reason) number c r h = refl
 
 -- ---- a packet of no connection
 
-pub lone_under : (app : Meaning) (s : ControlState) (keep : Bool) (others : Counts) (list : List Reg) (number : ℕ) (raises : List Raise) (rbuf : ℕ) (policy : Policy)
+pub orphan_under : (app : Meaning) (s : ControlState) (keep : Bool) (others : Counts) (list : List Reg) (number : ℕ) (raises : List Raise) (rbuf : ℕ) (policy : Policy)
     (socket socket_after : SocketView) (notes notes_after : Notes) (ledger begun ledger_after : Ledger)
     → list ≡ first_active s → rbuf ≡ s.rbuf → policy ≡ s.policy → SocketStandsFor socket (unheard rbuf policy)
     → IsNoted keep others app.fresh [] notes ledger.counts
     → begun.changes.items ≡ [] → begun.drop ≡ None → begun.counts ≡ ledger.counts
     → Steps keep list socket notes begun socket_after notes_after ledger_after (raised app s number Client raises)
-    → IsUnder keep others list socket_after notes_after ledger_after (lone_course app s number raises)
-lone_under app s keep others list number raises rbuf policy socket socket_after notes notes_after ledger begun ledger_after first buffer overlap heard noted none no_drop counts steps =
+    → IsUnder keep others list socket_after notes_after ledger_after (orphan_under_way app s number raises)
+orphan_under app s keep others list number raises rbuf policy socket socket_after notes notes_after ledger begun ledger_after first buffer overlap heard noted none no_drop counts steps =
     steps.stands others (begin (unheard s.rbuf s.policy) (fresh app s)) (record {
       heard = subst (λ p. SocketStandsFor socket (unheard s.rbuf p)) overlap (subst (λ n. SocketStandsFor socket (unheard n policy)) buffer heard);
       active = sym first;

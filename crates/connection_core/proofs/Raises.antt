@@ -9,16 +9,16 @@ use Rattle.builtin_events.specs.declared.raise.Raise.{Raise}
 use Rattle.forest_versions.specs.State.{ControlState}
 use Rattle.connection_core.specs.declared.ledger.Notes.{Notes}
 use Rattle.connection_core.specs.declared.ledger.Ledger.{Ledger}
-use Rattle.connection_core.specs.Course.{Course, called_at, raised}
+use Rattle.connection_core.specs.PacketUnderWay.{PacketUnderWay, called_at, raised}
 use Rattle.connection_core.specs.Standing.{IsUnder, Steps}
 
-raised-append : (app : Meaning) (s : ControlState) (number : ℕ) (from : Side) (xs ys : List Raise) (c : Course)
+raised-append : (app : Meaning) (s : ControlState) (number : ℕ) (from : Side) (xs ys : List Raise) (c : PacketUnderWay)
     → raised app s number from (xs ++ ys) c ≡ raised app s number from ys (raised app s number from xs c)
 unfolding raised
 raised-append app s number from [] ys c = refl
 raised-append app s number from (x ∷ xs) ys c = raised-append app s number from xs ys (called_at app s number from x c)
 
-raised-one : (app : Meaning) (s : ControlState) (number : ℕ) (from : Side) (x : Raise) (c : Course)
+raised-one : (app : Meaning) (s : ControlState) (number : ℕ) (from : Side) (x : Raise) (c : PacketUnderWay)
     → raised app s number from (x ∷ []) c ≡ called_at app s number from x c
 unfolding raised
 raised-one app s number from x c = refl
@@ -45,7 +45,7 @@ raised_more app s keep list number from at events i event socket socket_now sock
           subst (λ w. IsUnder keep others list socket_after notes_after ledger_after w) same (step.stands others (raised app s number from (map at (take i events)) c) (so_far.stands others c u));
     }
 
--- the raise of a moment
+-- a raise at its packet
 pub raise_as : (app : Meaning) (s : ControlState) (keep : Bool) (list : List Reg) (number n : ℕ) (from side : Side) (raise x : Raise)
     (socket socket_after : SocketView) (notes notes_after : Notes) (ledger ledger_after : Ledger)
     → n ≡ number → side ≡ from → x ≡ raise

@@ -14,7 +14,7 @@ use Rattle.forest_versions.specs.State.{ControlState}
 use Rattle.connection_core.specs.declared.ledger.Notes.{Notes}
 use Rattle.connection_core.specs.declared.ledger.Counts.{Counts}
 use Rattle.connection_core.specs.declared.ledger.Ledger.{Ledger}
-use Rattle.connection_core.specs.Course.{Course, is_on, is_so, altered_to, called, called_all, called_at, switched, changed, changed_all, settled, raise_done, phase}
+use Rattle.connection_core.specs.PacketUnderWay.{PacketUnderWay, is_on, is_so, altered_to, called, called_all, called_at, switched, changed, changed_all, settled, raise_done, phase}
 use Rattle.connection_core.specs.Trees.{InternsWithin}
 use Rattle.connection_core.specs.Standing.{IsNoted, IsUnder, Steps, Alters, Costs, CostsUnder, Reached, Makes}
 use Rattle.connection_core.proofs.Changing.{within-same, within-on, within-up, changed_all_rises}
@@ -22,19 +22,19 @@ use Rattle.connection_core.proofs.Changing.{within-same, within-on, within-up, c
 -- ---- what callbacks and changes leave alone
 
 -- changes leave all but the private list
-pub record SameBut (c d : Course) : Type 0 where
+pub record SameBut (c d : PacketUnderWay) : Type 0 where
   pub emulation : d.emulation ≡ c.emulation
   pub tally : d.tally ≡ c.tally
   pub entries : d.entries ≡ c.entries
   pub drop : d.drop ≡ c.drop
 
-same : (c : Course) → SameBut c c
+same : (c : PacketUnderWay) → SameBut c c
 same c = record { emulation = refl; tally = refl; entries = refl; drop = refl }
 
-same-altered : (c : Course) (active : List Reg) → SameBut c (altered_to active c)
+same-altered : (c : PacketUnderWay) (active : List Reg) → SameBut c (altered_to active c)
 same-altered c active = record { emulation = refl; tally = refl; entries = refl; drop = refl }
 
-same-switched : (s : ControlState) (o : Option Reg) (on : Bool) (c : Course) → SameBut c (switched s o on c)
+same-switched : (s : ControlState) (o : Option Reg) (on : Bool) (c : PacketUnderWay) → SameBut c (switched s o on c)
 same-switched s None on c = same c
 same-switched s (Some r) on c =
     elim (is_so (is_on r.number c.active) on) as (λ b. SameBut c (cond b c (altered_to (edited s.defs c.active r on) c))) [
@@ -42,11 +42,11 @@ same-switched s (Some r) on c =
       | false ↦ same-altered c (edited s.defs c.active r on)
     ]
 
-same-changed : (s : ControlState) (change : Change1) (c : Course) → SameBut c (changed s change c)
+same-changed : (s : ControlState) (change : Change1) (c : PacketUnderWay) → SameBut c (changed s change c)
 unfolding changed
 same-changed s change c = same-switched s (reg_of s.regs change.reg) change.on c
 
-same-on : (c d e : Course) → SameBut c d → SameBut d e → SameBut c e
+same-on : (c d e : PacketUnderWay) → SameBut c d → SameBut d e → SameBut c e
 same-on c d e p q = record {
   emulation = q.emulation ∙ p.emulation;
   tally = q.tally ∙ p.tally;
@@ -54,29 +54,29 @@ same-on c d e p q = record {
   drop = q.drop ∙ p.drop;
 }
 
-pub same-changed_all : (s : ControlState) (changes : List Change1) (c : Course) → SameBut c (changed_all s changes c)
+pub same-changed_all : (s : ControlState) (changes : List Change1) (c : PacketUnderWay) → SameBut c (changed_all s changes c)
 same-changed_all s [] c = same c
 same-changed_all s (change ∷ changes) c =
     same-on c (changed s change c) (changed_all s changes (changed s change c)) (same-changed s change c) (same-changed_all s changes (changed s change c))
 
-altered-called : (app : Meaning) (s : ControlState) (number : ℕ) (from : Side) (raise : Raise) (c : Course) (r : Reg) → (called app s number from raise c r).altered ≡ c.altered
+altered-called : (app : Meaning) (s : ControlState) (number : ℕ) (from : Side) (raise : Raise) (c : PacketUnderWay) (r : Reg) → (called app s number from raise c r).altered ≡ c.altered
 unfolding called
 altered-called app s number from raise c r = refl
 
-altered-called_all : (app : Meaning) (s : ControlState) (number : ℕ) (from : Side) (raise : Raise) (c : Course) (list : List Reg)
+altered-called_all : (app : Meaning) (s : ControlState) (number : ℕ) (from : Side) (raise : Raise) (c : PacketUnderWay) (list : List Reg)
     → (called_all app s number from raise c list).altered ≡ c.altered
 altered-called_all app s number from raise c [] = refl
 altered-called_all app s number from raise c (r ∷ list) =
     altered-called_all app s number from raise (called app s number from raise c r) list ∙ altered-called app s number from raise c r
 
-altered-called_at : (app : Meaning) (s : ControlState) (number : ℕ) (from : Side) (raise : Raise) (c : Course) → (called_at app s number from raise c).altered ≡ c.altered
+altered-called_at : (app : Meaning) (s : ControlState) (number : ℕ) (from : Side) (raise : Raise) (c : PacketUnderWay) → (called_at app s number from raise c).altered ≡ c.altered
 unfolding called_at
 altered-called_at app s number from raise c = altered-called_all app s number from raise c (fires s.defs raise.facts raise.hook raise.event c.active)
 
 -- ---- a raise
 
 -- a ledger with the same content stands for the same
-under_room : (keep : Bool) (others : Counts) (list : List Reg) (socket : SocketView) (notes : Notes) (ledger roomy : Ledger) (c : Course)
+under_room : (keep : Bool) (others : Counts) (list : List Reg) (socket : SocketView) (notes : Notes) (ledger roomy : Ledger) (c : PacketUnderWay)
     → roomy.changes.items ≡ ledger.changes.items → roomy.drop ≡ ledger.drop → roomy.counts ≡ ledger.counts
     → IsUnder keep others list socket notes ledger c → IsUnder keep others list socket notes roomy c
 under_room keep others list socket notes ledger roomy c changes drop counts u = record {
@@ -87,7 +87,7 @@ under_room keep others list socket notes ledger roomy c changes drop counts u = 
   drop = drop ∙ u.drop;
 }
 
-settled_under : (s : ControlState) (keep : Bool) (others : Counts) (list after : List Reg) (i j : Option ℕ) (socket : SocketView) (notes : Notes) (ledger emptied : Ledger) (c : Course)
+settled_under : (s : ControlState) (keep : Bool) (others : Counts) (list after : List Reg) (i j : Option ℕ) (socket : SocketView) (notes : Notes) (ledger emptied : Ledger) (c : PacketUnderWay)
     → IsUnder keep others list socket notes ledger c → Alters list after i j (changed_all s ledger.changes.items)
     → emptied.changes.items ≡ [] → emptied.drop ≡ ledger.drop → emptied.counts ≡ ledger.counts
     → Reached keep others after socket notes emptied i j c.altered (settled s c)
@@ -123,7 +123,7 @@ raise_made app s keep list after i j number from raise socket socket_after notes
       subst (λ n. Reached keep others after socket_after notes_after emptied i j n (settled s made)) (altered-called_at app s number from raise c) reached;
 }
 
-raise_rises : (app : Meaning) (s : ControlState) (number : ℕ) (from : Side) (raise : Raise) (c : Course) → c.altered ≤ (raise_done app s number from raise c).altered
+raise_rises : (app : Meaning) (s : ControlState) (number : ℕ) (from : Side) (raise : Raise) (c : PacketUnderWay) → c.altered ≤ (raise_done app s number from raise c).altered
 unfolding raise_done settled
 raise_rises app s number from raise c =
     let made = called_at app s number from raise c in
@@ -154,28 +154,28 @@ raise_costs app s keep list i j number from raise socket socket_after notes note
       subst (λ n. InternsWithin i j n (changed_all s made.asked made).altered) (altered-called_at app s number from raise c) asked;
 }
 
--- the raise of a moment, whatever is known of it
-pub raise_as : (P : (Course → Course) → Type 0) (app : Meaning) (s : ControlState) (number n : ℕ) (from side : Side) (raise x : Raise)
+-- a raise at its packet, whatever is known of it
+pub raise_as : (P : (PacketUnderWay → PacketUnderWay) → Type 0) (app : Meaning) (s : ControlState) (number n : ℕ) (from side : Side) (raise x : Raise)
     → n ≡ number → side ≡ from → x ≡ raise → P (raise_done app s n side x) → P (raise_done app s number from raise)
 raise_as P app s number n from side raise x num who is made =
     subst (λ m. P (raise_done app s m from raise)) num (subst (λ w. P (raise_done app s n w raise)) who (subst (λ r. P (raise_done app s n side r)) is made))
 
 -- ---- the raises of a phase
 
-phase-append : (app : Meaning) (s : ControlState) (number : ℕ) (from : Side) (xs ys : List Raise) (c : Course)
+phase-append : (app : Meaning) (s : ControlState) (number : ℕ) (from : Side) (xs ys : List Raise) (c : PacketUnderWay)
     → phase app s number from (xs ++ ys) c ≡ phase app s number from ys (phase app s number from xs c)
 unfolding phase
 phase-append app s number from [] ys c = refl
 phase-append app s number from (x ∷ xs) ys c = phase-append app s number from xs ys (raise_done app s number from x c)
 
 -- one raise more
-pub phase-more : (app : Meaning) (s : ControlState) (number : ℕ) (from : Side) (raises : List Raise) (raise : Raise) (c : Course)
+pub phase-more : (app : Meaning) (s : ControlState) (number : ℕ) (from : Side) (raises : List Raise) (raise : Raise) (c : PacketUnderWay)
     → phase app s number from (raises ++ raise ∷ []) c ≡ raise_done app s number from raise (phase app s number from raises c)
 unfolding phase
 phase-more app s number from [] raise c = refl
 phase-more app s number from (x ∷ xs) raise c = phase-more app s number from xs raise (raise_done app s number from x c)
 
-pub phase_rises : (app : Meaning) (s : ControlState) (number : ℕ) (from : Side) (raises : List Raise) (c : Course) → c.altered ≤ (phase app s number from raises c).altered
+pub phase_rises : (app : Meaning) (s : ControlState) (number : ℕ) (from : Side) (raises : List Raise) (c : PacketUnderWay) → c.altered ≤ (phase app s number from raises c).altered
 unfolding phase
 phase_rises app s number from [] c = omega arith
 phase_rises app s number from (raise ∷ raises) c =
@@ -206,7 +206,7 @@ phase_on app s keep number from at events n list list_now list_after socket sock
       let next = one.stands others before reached.under in
       let same : raise_done app s number from raise before ≡ phase app s number from (map at (take (n + 1) events)) c =
       sym (ap (λ l. phase app s number from l c) (front_more at events n within) ∙ phase-more app s number from front raise c) in
-      subst (λ (w : Course). Reached keep others list_after socket_after notes_after ledger_after i k c.altered w) same
+      subst (λ (w : PacketUnderWay). Reached keep others list_after socket_after notes_after ledger_after i k c.altered w) same
       (record { under = next.under; interned = within-on i j k c.altered before.altered (raise_done app s number from raise before).altered reached.interned next.interned });
 }
 
@@ -231,6 +231,6 @@ phase_failed app s keep number from at events n list list_now socket socket_now 
       let same : phase app s number from (map at events) c ≡ phase app s number from left failed =
       ap (λ l. phase app s number from l c) all ∙ phase-append app s number from (map at (take (n + 1) events)) left c
       ∙ ap (phase app s number from left) (ap (λ l. phase app s number from l c) (front_more at events n within) ∙ phase-more app s number from front raise c) in
-      subst (λ (w : Course). InternsWithin i k c.altered w.altered) (sym same)
+      subst (λ (w : PacketUnderWay). InternsWithin i k c.altered w.altered) (sym same)
       (within-up i k c.altered failed.altered (phase app s number from left failed).altered (phase_rises app s number from left failed) up);
 }

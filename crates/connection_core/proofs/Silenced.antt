@@ -11,7 +11,7 @@ use Rattle.connection_core.specs.declared.flow.Flow.{Flow}
 use Rattle.connection_core.specs.declared.ledger.Notes.{Notes}
 use Rattle.connection_core.specs.declared.ledger.Counts.{Counts}
 use Rattle.connection_core.specs.declared.ledger.Ledger.{Ledger}
-use Rattle.connection_core.specs.Course.{called_at}
+use Rattle.connection_core.specs.PacketUnderWay.{called_at}
 use Rattle.connection_core.specs.History.{History, begin}
 use Rattle.connection_core.specs.Silence.{silenced}
 use Rattle.connection_core.specs.Trees.{active_in}

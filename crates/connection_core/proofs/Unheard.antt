@@ -23,22 +23,22 @@ use Rattle.forest_versions.specs.State.{ControlState}
 use Rattle.connection_core.specs.declared.ledger.Notes.{Notes}
 use Rattle.connection_core.specs.declared.ledger.Counts.{Counts}
 use Rattle.connection_core.specs.declared.ledger.Ledger.{Ledger}
-use Rattle.connection_core.specs.Course.{Course, called_all, called_at, changed_all, settled, raise_done, phase}
+use Rattle.connection_core.specs.PacketUnderWay.{PacketUnderWay, called_all, called_at, changed_all, settled, raise_done, phase}
 use Rattle.connection_core.specs.Standing.{IsUnder, Makes, Reached}
 use Rattle.connection_core.specs.Unheard.{CallsNothing, CallNothing}
 use Rattle.connection_core.proofs.Changing.{within-same}
 
 -- ---- a raise
 
-called-none : (app : Meaning) (s : ControlState) (number : ℕ) (from : Side) (raise : Raise) (c : Course) → CallsNothing s c.active raise → called_at app s number from raise c ≡ c
+called-none : (app : Meaning) (s : ControlState) (number : ℕ) (from : Side) (raise : Raise) (c : PacketUnderWay) → CallsNothing s c.active raise → called_at app s number from raise c ≡ c
 unfolding called_at
 called-none app s number from raise c none = ap (called_all app s number from raise c) none
 
-settled-none : (s : ControlState) (c : Course) → c.asked ≡ [] → settled s c ≡ c
+settled-none : (s : ControlState) (c : PacketUnderWay) → c.asked ≡ [] → settled s c ≡ c
 unfolding settled
 settled-none s c none = ap (λ l. record (changed_all s l c) { asked = [] }) none ∙ (λ i. record c { asked = sym none i })
 
-done-none : (app : Meaning) (s : ControlState) (number : ℕ) (from : Side) (raise : Raise) (c : Course) → CallsNothing s c.active raise → c.asked ≡ []
+done-none : (app : Meaning) (s : ControlState) (number : ℕ) (from : Side) (raise : Raise) (c : PacketUnderWay) → CallsNothing s c.active raise → c.asked ≡ []
     → raise_done app s number from raise c ≡ c
 unfolding raise_done
 done-none app s number from raise c silent none = ap (settled s) (called-none app s number from raise c silent) ∙ settled-none s c none
@@ -49,25 +49,26 @@ pub made_silent : (app : Meaning) (s : ControlState) (keep : Bool) (list : List 
 made_silent app s keep list i number from raise socket notes ledger silent none = record {
   stands = λ others c u.
       let here : CallsNothing s c.active raise = subst (λ l. CallsNothing s l raise) (sym u.active) silent in
-      subst (λ (d : Course). Reached keep others list socket notes ledger i i c.altered d) (sym (done-none app s number from raise c here (sym u.asked ∙ none)))
+      subst (λ (d : PacketUnderWay). Reached keep others list socket notes ledger i i c.altered d) (sym (done-none app s number from raise c here (sym u.asked ∙ none)))
       (record { under = u; interned = within-same i c.altered });
 }
 
 -- ---- a phase
 
-phase-none : (app : Meaning) (s : ControlState) (number : ℕ) (from : Side) (raises : List Raise) (c : Course) → CallNothing s c.active raises → c.asked ≡ []
+phase-none : (app : Meaning) (s : ControlState) (number : ℕ) (from : Side) (raises : List Raise) (c : PacketUnderWay) → CallNothing s c.active raises → c.asked ≡ []
     → phase app s number from raises c ≡ c
 unfolding phase
 phase-none app s number from [] c silent none = refl
 phase-none app s number from (raise ∷ raises) c silent none =
     ap (phase app s number from raises) (done-none app s number from raise c silent.0 none) ∙ phase-none app s number from raises c silent.1 none
 
-pub phase_silent : (app : Meaning) (s : ControlState) (keep : Bool) (others : Counts) (list : List Reg) (i : Option ℕ) (number : ℕ) (from : Side) (raises : List Raise) (socket : SocketView) (notes : Notes) (ledger : Ledger)
-    → CallNothing s list raises → ledger.changes.items ≡ [] → (c : Course) → IsUnder keep others list socket notes ledger c
+pub phase_silent : (app : Meaning) (s : ControlState) (keep : Bool) (others : Counts) (list : List Reg) (i : Option ℕ) (number : ℕ) (from : Side)
+    (raises : List Raise) (socket : SocketView) (notes : Notes) (ledger : Ledger)
+    → CallNothing s list raises → ledger.changes.items ≡ [] → (c : PacketUnderWay) → IsUnder keep others list socket notes ledger c
     → Reached keep others list socket notes ledger i i c.altered (phase app s number from raises c)
 phase_silent app s keep others list i number from raises socket notes ledger silent none c u =
     let here : CallNothing s c.active raises = subst (λ l. CallNothing s l raises) (sym u.active) silent in
-    subst (λ (d : Course). Reached keep others list socket notes ledger i i c.altered d) (sym (phase-none app s number from raises c here (sym u.asked ∙ none)))
+    subst (λ (d : PacketUnderWay). Reached keep others list socket notes ledger i i c.altered d) (sym (phase-none app s number from raises c here (sym u.asked ∙ none)))
     (record { under = u; interned = within-same i c.altered })
 
 -- ---- what is heard of a phase

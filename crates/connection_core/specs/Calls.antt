@@ -12,9 +12,9 @@ use Rattle.connection_core.specs.declared.in_force.InForce.{InForce}
 use Rattle.connection_core.specs.declared.ledger.Counts.{Counts}
 use Rattle.connection_core.specs.declared.ledger.Ledger.{Ledger}
 use Rattle.connection_core.specs.declared.ledger.Notes.{Notes}
-use Rattle.connection_core.specs.declared.moment.Arrived.{Arrived}
-use Rattle.connection_core.specs.InForce.{told, IsInForce, ForControl}
-use Rattle.connection_core.specs.Course.{Course}
+use Rattle.connection_core.specs.declared.arrival.Arrived.{Arrived}
+use Rattle.connection_core.specs.InForce.{registered, IsInForce, ForControl}
+use Rattle.connection_core.specs.PacketUnderWay.{PacketUnderWay}
 use Rattle.connection_core.specs.History.{History, sender_phase, receiver_phase, received_unless, followed}
 use Rattle.connection_core.specs.Standing.{IsNoted, IsConnection, IsUnder, Steps, Alters, Costs, CostsUnder, Makes}
 use Rattle.connection_core.specs.Trees.{list_in_force}
@@ -22,15 +22,15 @@ use Rattle.connection_core.specs.Trees.{list_in_force}
 -- ---- what an arrived packet makes of a connection
 
 -- its phase at its sender
-abbrev pub phase_sending : Meaning → ControlState → Arrived → History → Course
+abbrev pub phase_sending : Meaning → ControlState → Arrived → History → PacketUnderWay
 phase_sending app s arrived h = sender_phase app s arrived.number arrived.from arrived.head.now arrived.scale h
 
 -- its phase at its receiver
-abbrev pub phase_receiving : Meaning → ControlState → Arrived → ℕ → Course → Course
+abbrev pub phase_receiving : Meaning → ControlState → Arrived → ℕ → PacketUnderWay → PacketUnderWay
 phase_receiving app s arrived count c = receiver_phase app s arrived.number arrived.from arrived.head.now arrived.payload.now count c
 
--- what is left of it after its phase at its sender, which came to this course
-abbrev pub gone_on : Meaning → ControlState → Arrived → History → Course → History
+-- what is left of it after its phase at its sender, which came to this
+abbrev pub gone_on : Meaning → ControlState → Arrived → History → PacketUnderWay → History
 gone_on app s arrived h c = received_unless c.drop arrived.number c (phase_receiving app s arrived h.count c) h
 
 -- all of it
@@ -40,19 +40,19 @@ followed_by app s arrived h = followed app s arrived.number arrived.from arrived
 -- ---- changes of the tree at a place in a store
 
 -- this step makes one private list of another
-abbrev pub AltersTree : {S : Type 0} → Store S → InForce → S → Shared → S → Shared → (ControlState → Course → Course) → Type 0
+abbrev pub AltersTree : {S : Type 0} → Store S → InForce → S → Shared → S → Shared → (ControlState → PacketUnderWay → PacketUnderWay) → Type 0
 AltersTree store lent old forest new forest_after step = ForControl lent (λ s.
     Alters (list_in_force lent (store.content old forest)) (list_in_force lent (store.content new forest_after)) (store.interns old) (store.interns new) (step s))
 
 -- this step may have failed on its way
-abbrev pub CostsTree : {S : Type 0} → Store S → InForce → S → Shared → S → (ControlState → Course → Course) → Type 0
+abbrev pub CostsTree : {S : Type 0} → Store S → InForce → S → Shared → S → (ControlState → PacketUnderWay → PacketUnderWay) → Type 0
 CostsTree store lent old forest new step = ForControl lent (λ s.
     Costs (list_in_force lent (store.content old forest)) (store.interns old) (store.interns new) (step s))
 
 -- ---- callbacks
 
 -- they are this step of a packet under way, over this private list
-abbrev pub StepsInForce : Bool → InForce → List Reg → SocketView → Notes → Ledger → SocketView → Notes → Ledger → (ControlState → Course → Course) → Type 0
+abbrev pub StepsInForce : Bool → InForce → List Reg → SocketView → Notes → Ledger → SocketView → Notes → Ledger → (ControlState → PacketUnderWay → PacketUnderWay) → Type 0
 StepsInForce keep lent list socket notes ledger socket_after notes_after ledger_after step = ForControl lent (λ s.
     Steps keep list socket notes ledger socket_after notes_after ledger_after (step s))
 
@@ -85,20 +85,20 @@ state_in store at flow notes ledger =
 -- what holds of a connection, whatever history this state stands for
 abbrev pub ForConnection : Bool → InForce → FlowState → (ControlState → Counts → History → Type 0) → Type 0
 ForConnection keep lent state holds = (s : ControlState) (others : Counts) (h : History) → IsInForce lent s
-    → IsConnection keep others (told lent) state.tree state.flow state.notes state.ledger.counts h → holds s others h
+    → IsConnection keep others (registered lent) state.tree state.flow state.notes state.ledger.counts h → holds s others h
 
--- what holds of a packet under way that follows a history, whatever course this state stands for
-abbrev pub ForCourse : Bool → InForce → FlowState → (ControlState → Counts → History → Course → Type 0) → Type 0
-ForCourse keep lent state holds = (s : ControlState) (others : Counts) (h : History) (c : Course) → IsInForce lent s → state.flow.count ≡ h.count
+-- what holds of a packet under way that follows a history, whatever this state stands for
+abbrev pub ForPacketUnderWay : Bool → InForce → FlowState → (ControlState → Counts → History → PacketUnderWay → Type 0) → Type 0
+ForPacketUnderWay keep lent state holds = (s : ControlState) (others : Counts) (h : History) (c : PacketUnderWay) → IsInForce lent s → state.flow.count ≡ h.count
     → IsUnder keep others (list_in_force lent state.tree) state.flow.socket state.notes state.ledger c → holds s others h c
 
 -- a raise, or a phase, is this step of a packet under way
-abbrev pub MakesInForce : Bool → InForce → FlowState → FlowState → (ControlState → Course → Course) → Type 0
+abbrev pub MakesInForce : Bool → InForce → FlowState → FlowState → (ControlState → PacketUnderWay → PacketUnderWay) → Type 0
 MakesInForce keep lent old new step = ForControl lent (λ s.
     Makes keep (list_in_force lent old.tree) old.flow.socket old.notes old.ledger old.interns
     (list_in_force lent new.tree) new.flow.socket new.notes new.ledger new.interns (step s))
 
 -- it may have failed on its way
-abbrev pub CostsInForce : Bool → InForce → FlowState → Option ℕ → (ControlState → Course → Course) → Type 0
+abbrev pub CostsInForce : Bool → InForce → FlowState → Option ℕ → (ControlState → PacketUnderWay → PacketUnderWay) → Type 0
 CostsInForce keep lent old interns_after step = ForControl lent (λ s.
     CostsUnder keep (list_in_force lent old.tree) old.flow.socket old.notes old.ledger old.interns interns_after (step s))

@@ -15,7 +15,7 @@ use Rattle.app_api.specs.App.{Meaning}
 use Rattle.builtin_events.specs.declared.raise.Raise.{Raise}
 use Rattle.builtin_events.specs.Raises.{sender_raises, receiver_raises}
 use Rattle.forest_versions.specs.State.{ControlState, active as first_active}
-use Rattle.connection_core.specs.Course.{Course, raised, phase, bytes_seen}
+use Rattle.connection_core.specs.PacketUnderWay.{PacketUnderWay, raised, phase, bytes_seen}
 
 -- The emulated connection and its packets so far; its private list, and how often it was altered; what the application keeps; the
 -- callbacks in order; the dropped packets by their numbers, each with its reason.
@@ -41,7 +41,7 @@ fresh app control = record {
 }
 
 -- a packet's first phase begins where the connection stands, with nothing asked
-abbrev pub begin : Emulation → History → Course
+abbrev pub begin : Emulation → History → PacketUnderWay
 begin emulation h = record {
   emulation = emulation;
   active = h.active;
@@ -53,11 +53,11 @@ begin emulation h = record {
 }
 
 -- its second goes on from the first
-abbrev pub go_on : Emulation → Course → Course
+abbrev pub go_on : Emulation → PacketUnderWay → PacketUnderWay
 go_on emulation c = record c { emulation = emulation }
 
 -- what the connection has come to once the packet is done
-abbrev pub done : ℕ → List (ℕ × Reason) → Course → History
+abbrev pub done : ℕ → List (ℕ × Reason) → PacketUnderWay → History
 done count drops c = record {
   emulation = c.emulation;
   count = count;
@@ -69,21 +69,21 @@ done count drops c = record {
 }
 
 -- the packet's phase at its sender; `scale` is the window scale that it offers
-unfoldable pub sender_phase : Meaning → ControlState → ℕ → Side → Head → Option ℕ → History → Course
+unfoldable pub sender_phase : Meaning → ControlState → ℕ → Side → Head → Option ℕ → History → PacketUnderWay
 sender_phase app control number from head scale h =
     phase app control number from
     (sender_raises head from h.count (h.count == 0) (sent_answer from head h.emulation))
     (begin (sent from head scale h.emulation) h)
 
 -- its phase at its receiver; `count` is its place in the connection
-unfoldable pub receiver_phase : Meaning → ControlState → ℕ → Side → Head → List ℕ → ℕ → Course → Course
+unfoldable pub receiver_phase : Meaning → ControlState → ℕ → Side → Head → List ℕ → ℕ → PacketUnderWay → PacketUnderWay
 receiver_phase app control number from head payload count c =
     phase app control number from
     (receiver_raises head from count (got_of from head payload c.emulation))
     (go_on (received from head payload c.emulation) c)
 
 -- a packet that was dropped at its sender never comes to its receiver
-abbrev pub received_unless : Option Reason → ℕ → Course → Course → History → History
+abbrev pub received_unless : Option Reason → ℕ → PacketUnderWay → PacketUnderWay → History → History
 received_unless (Some reason) number sent received h = done (h.count + 1) (h.drops ++ (number, reason) ∷ []) sent
 received_unless None number sent received h = done (h.count + 1) h.drops received
 
@@ -108,16 +108,16 @@ drops_of (Drop reason) number = (number, reason) ∷ []
 
 -- The callbacks of a packet of no connection. It is a connection that heard nothing, so its peeks find nothing, whichever side they
 -- name; and the changes asked come to nothing, since it has no other packet.
-abbrev pub lone_course : Meaning → ControlState → ℕ → List Raise → Course
-lone_course app control number raises =
+abbrev pub orphan_under_way : Meaning → ControlState → ℕ → List Raise → PacketUnderWay
+orphan_under_way app control number raises =
     raised app control number Client raises (begin (unheard control.rbuf control.policy) (fresh app control))
 
-unfoldable pub orphaned : Meaning → ControlState → ℕ → List Raise → History
-orphaned app control number raises =
-    let c = lone_course app control number raises in done 0 (drops_of (verdict_of c.drop) number) c
+unfoldable pub orphan_history : Meaning → ControlState → ℕ → List Raise → History
+orphan_history app control number raises =
+    let c = orphan_under_way app control number raises in done 0 (drops_of (verdict_of c.drop) number) c
 
 unfoldable pub orphan_verdict : Meaning → ControlState → ℕ → List Raise → Verdict
-orphan_verdict app control number raises = verdict_of (lone_course app control number raises).drop
+orphan_verdict app control number raises = verdict_of (orphan_under_way app control number raises).drop
 
 -- both ends are in CLOSED or TIME_WAIT
 unfoldable pub is_over : History → Bool

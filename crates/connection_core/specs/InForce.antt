@@ -9,12 +9,12 @@ use Rattle.forest_versions.specs.Master.{Versions, Tells, defs_of}
 use Rattle.connection_core.specs.declared.in_force.InForce.{InForce}
 
 -- the registration of a number, as a master tells it of a version
-abbrev pub told_at : Versions → ℕ → ℕ → Option Reg
-told_at m v number = as_of (line_of m.past number) v
+abbrev pub registered_at : Versions → ℕ → ℕ → Option Reg
+registered_at m v number = as_of (line_of m.past number) v
 
 -- the registration of a number at the connection's version
-abbrev pub told : InForce → ℕ → Option Reg
-told lent number = told_at lent.master.now lent.version number
+abbrev pub registered : InForce → ℕ → Option Reg
+registered lent number = registered_at lent.master.now lent.version number
 
 -- the definitions by which registrations are called: the present ones, of which those of the version are a front
 abbrev pub defs_at : InForce → List EventDef

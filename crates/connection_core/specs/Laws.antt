@@ -12,7 +12,7 @@ use Rattle.event_trees.specs.declared.defs.EventDef.{EventDef}
 use Rattle.event_trees.specs.Private.{IsPrivate, reg_cmp}
 use Rattle.event_trees.specs.Fires.{fires}
 use Rattle.forest_versions.specs.State.{ControlState}
-use Rattle.connection_core.specs.Course.{Course, raise_done, phase}
+use Rattle.connection_core.specs.PacketUnderWay.{PacketUnderWay, raise_done, phase}
 
 -- a callback: the packet's number, the side, the registration and its event
 pub record Callback : Type 0 where
@@ -35,11 +35,11 @@ callbacks_at number defs list raise =
 -- Each raise of a phase calls those registrations that fire of the private list as it is when the raise begins; the
 -- next raise begins where it ended, with its changes made; and those that fire stand by path and then by number.
 pub record CallsWhatFires : Type 0 where
-  pub raise_calls : (app : Meaning) (s : ControlState) (number : ℕ) (from : Side) (raise : Raise) (c : Course)
+  pub raise_calls : (app : Meaning) (s : ControlState) (number : ℕ) (from : Side) (raise : Raise) (c : PacketUnderWay)
       → callbacks_in (raise_done app s number from raise c).entries
       ≡ callbacks_in c.entries ++ callbacks_at number s.defs c.active raise
   pub raise_by_raise : (app : Meaning) (s : ControlState) (number : ℕ) (from : Side)
-      (raises : List Raise) (raise : Raise) (c : Course)
+      (raises : List Raise) (raise : Raise) (c : PacketUnderWay)
       → phase app s number from (raises ++ raise ∷ []) c
       ≡ raise_done app s number from raise (phase app s number from raises c)
   pub in_order : (defs : List EventDef) (list : List Reg) (facts : Facts) (hook : Hook) (event : ℕ) → IsPrivate defs list

@@ -1,6 +1,6 @@
 pub mod Registered
 pub mod InForce
-pub mod Course
+pub mod PacketUnderWay
 pub mod History
 pub mod Silence
 pub mod Trees

@@ -4,7 +4,7 @@ use Rattle.tcp_emulation.specs.declared.segment.Side.TheVariants.{Client}
 use Rattle.app_api.specs.App.{Meaning}
 use Rattle.builtin_events.specs.declared.raise.Raise.{Raise}
 use Rattle.forest_versions.specs.State.{ControlState}
-use Rattle.connection_core.specs.Course.{called_at}
+use Rattle.connection_core.specs.PacketUnderWay.{called_at}
 use Rattle.connection_core.specs.History.{History, begin, done}
 
 -- The callbacks of one raise, which peek at the client's stream. They belong to no packet that could be dropped, and no other raise

@@ -1,4 +1,4 @@
--- What is kept for a connection and noted of its callbacks, and which histories and courses it stands for.
+-- What is kept for a connection and noted of its callbacks, and which histories and packets under way it stands for.
 use Rattle.std.specs.Prelude.{◌≡◌, ℕ, ◌+◌, ◌*◌, ◌≤◌, Bool, Option, List, [], ◌∷◌, ◌++◌, length, if◌then◌else◌}
 use Rattle.tcp_emulation.specs.declared.segment.Side.{Side}
 use Rattle.tcp_emulation.specs.declared.segment.Side.TheVariants.{Client, Server}
@@ -16,9 +16,9 @@ use Rattle.connection_core.specs.declared.ledger.Notes.{Notes}
 use Rattle.connection_core.specs.declared.ledger.Counts.{Counts}
 use Rattle.connection_core.specs.declared.ledger.Ledger.{Ledger}
 use Rattle.connection_core.specs.declared.flow.Flow.{Flow}
-use Rattle.connection_core.specs.declared.moment.Moment.{Moment}
-use Rattle.connection_core.specs.declared.moment.Phase.{Phase}
-use Rattle.connection_core.specs.Course.{Course, seen_by, after_seen, bytes_seen}
+use Rattle.connection_core.specs.declared.arrival.RaiseAt.{RaiseAt}
+use Rattle.connection_core.specs.declared.arrival.Phase.{Phase}
+use Rattle.connection_core.specs.PacketUnderWay.{PacketUnderWay, seen_by, after_seen, bytes_seen}
 use Rattle.connection_core.specs.History.{History, weight_of}
 use Rattle.connection_core.specs.Trees.{active_in, InternsWithin}
 
@@ -40,44 +40,47 @@ pub record IsConnection (keep : Bool) (others : Counts) (at : ℕ → Option Reg
   pub noted : IsNoted keep others h.tally h.entries notes counts
 
 -- a packet under way, over this private list
-pub record IsUnder (keep : Bool) (others : Counts) (list : List Reg) (socket : SocketView) (notes : Notes) (ledger : Ledger) (c : Course) : Type 0 where
+pub record IsUnder (keep : Bool) (others : Counts) (list : List Reg) (socket : SocketView) (notes : Notes) (ledger : Ledger) (c : PacketUnderWay) : Type 0 where
   pub heard : SocketStandsFor socket c.emulation
   pub active : c.active ≡ list
   pub noted : IsNoted keep others c.tally c.entries notes ledger.counts
   pub asked : ledger.changes.items ≡ c.asked
   pub drop : ledger.drop ≡ c.drop
 
--- what stood for a course stands for the one that this step makes of it
-pub record Steps (keep : Bool) (list : List Reg) (socket : SocketView) (notes : Notes) (ledger : Ledger) (socket_after : SocketView) (notes_after : Notes) (ledger_after : Ledger) (step : Course → Course) : Type 0 where
-  pub stands : (others : Counts) (c : Course) → IsUnder keep others list socket notes ledger c
+-- what stood for a packet under way stands for the one that this step makes of it
+pub record Steps (keep : Bool) (list : List Reg) (socket : SocketView) (notes : Notes) (ledger : Ledger) (socket_after : SocketView)
+    (notes_after : Notes) (ledger_after : Ledger) (step : PacketUnderWay → PacketUnderWay) : Type 0 where
+  pub stands : (others : Counts) (c : PacketUnderWay) → IsUnder keep others list socket notes ledger c
       → IsUnder keep others list socket_after notes_after ledger_after (step c)
 
 -- a step makes one private list of another, with at most one intern for each alteration
-pub record Alters (list list_after : List Reg) (interns interns_after : Option ℕ) (step : Course → Course) : Type 0 where
-  pub made : (c : Course) → c.active ≡ list → (step c).active ≡ list_after
-  pub interned : (c : Course) → c.active ≡ list → InternsWithin interns interns_after c.altered (step c).altered
+pub record Alters (list list_after : List Reg) (interns interns_after : Option ℕ) (step : PacketUnderWay → PacketUnderWay) : Type 0 where
+  pub made : (c : PacketUnderWay) → c.active ≡ list → (step c).active ≡ list_after
+  pub interned : (c : PacketUnderWay) → c.active ≡ list → InternsWithin interns interns_after c.altered (step c).altered
 
 -- a step over this private list, which may have failed on its way, cost at most one intern for each alteration that it makes
-pub record Costs (list : List Reg) (interns interns_after : Option ℕ) (step : Course → Course) : Type 0 where
-  pub interned : (c : Course) → c.active ≡ list → InternsWithin interns interns_after c.altered (step c).altered
+pub record Costs (list : List Reg) (interns interns_after : Option ℕ) (step : PacketUnderWay → PacketUnderWay) : Type 0 where
+  pub interned : (c : PacketUnderWay) → c.active ≡ list → InternsWithin interns interns_after c.altered (step c).altered
 
--- the same of a step of whatever course a ledger stands for
-pub record CostsUnder (keep : Bool) (list : List Reg) (socket : SocketView) (notes : Notes) (ledger : Ledger) (interns interns_after : Option ℕ) (step : Course → Course) : Type 0 where
-  pub interned : (others : Counts) (c : Course) → IsUnder keep others list socket notes ledger c → InternsWithin interns interns_after c.altered (step c).altered
+-- the same of a step of whatever a ledger stands for
+pub record CostsUnder (keep : Bool) (list : List Reg) (socket : SocketView) (notes : Notes) (ledger : Ledger) (interns interns_after : Option ℕ) (step : PacketUnderWay → PacketUnderWay) : Type 0 where
+  pub interned : (others : Counts) (c : PacketUnderWay) → IsUnder keep others list socket notes ledger c → InternsWithin interns interns_after c.altered (step c).altered
 
--- a packet has come to this course, with at most one intern for each alteration since the list was altered so often
-pub record Reached (keep : Bool) (others : Counts) (list : List Reg) (socket : SocketView) (notes : Notes) (ledger : Ledger) (interns interns_after : Option ℕ) (altered : ℕ) (c : Course) : Type 0 where
+-- a packet has come to this, with at most one intern for each alteration since the list was altered so often
+pub record Reached (keep : Bool) (others : Counts) (list : List Reg) (socket : SocketView) (notes : Notes) (ledger : Ledger)
+    (interns interns_after : Option ℕ) (altered : ℕ) (c : PacketUnderWay) : Type 0 where
   pub under : IsUnder keep others list socket notes ledger c
   pub interned : InternsWithin interns interns_after altered c.altered
 
--- a raise, or a phase, makes one private list of another, and what stood for a course stands for what it makes of it
+-- a raise, or a phase, makes one private list of another, and what stood for a packet under way stands for what it makes of it
 pub record Makes (keep : Bool) (list : List Reg) (socket : SocketView) (notes : Notes) (ledger : Ledger) (interns : Option ℕ)
-    (list_after : List Reg) (socket_after : SocketView) (notes_after : Notes) (ledger_after : Ledger) (interns_after : Option ℕ) (step : Course → Course) : Type 0 where
-  pub stands : (others : Counts) (c : Course) → IsUnder keep others list socket notes ledger c
+    (list_after : List Reg) (socket_after : SocketView) (notes_after : Notes) (ledger_after : Ledger) (interns_after : Option ℕ) (step : PacketUnderWay → PacketUnderWay) : Type 0 where
+  pub stands : (others : Counts) (c : PacketUnderWay) → IsUnder keep others list socket notes ledger c
       → Reached keep others list_after socket_after notes_after ledger_after interns interns_after c.altered (step c)
 
 -- a packet is done, and its connection has come to this history
-pub record Stepped (keep : Bool) (others : Counts) (at : ℕ → Option Reg) (tree : TreeLists) (flow : Flow) (notes : Notes) (counts : Counts) (interns interns_after : Option ℕ) (altered : ℕ) (h : History) : Type 0 where
+pub record Stepped (keep : Bool) (others : Counts) (at : ℕ → Option Reg) (tree : TreeLists) (flow : Flow) (notes : Notes) (counts : Counts)
+    (interns interns_after : Option ℕ) (altered : ℕ) (h : History) : Type 0 where
   pub stands : IsConnection keep others at tree flow notes counts h
   pub interned : InternsWithin interns interns_after altered h.altered
 
@@ -92,12 +95,12 @@ pub record RiseBy (n : ℕ) (old new : Counts) : Type 0 where
   pub callbacks : new.callbacks ≤ old.callbacks + n
   pub weight : new.weight ≤ old.weight + 288 * n
 
-abbrev pub raise_of : Moment → Raise
+abbrev pub raise_of : RaiseAt → Raise
 raise_of m = record { hook = m.hook; event = m.event; facts = m.facts.now }
 
--- a step of the packet with this number, sent by this side, for its raise at a moment
-abbrev pub at_moment : {T : Type 0} → (ℕ → Side → Raise → T) → Moment → T
-at_moment step m = step m.number m.from (raise_of m)
+-- a step of the packet with this number, sent by this side, for one of its raises
+abbrev pub at_raise : {T : Type 0} → (ℕ → Side → Raise → T) → RaiseAt → T
+at_raise step m = step m.number m.from (raise_of m)
 
 -- and for all raises of its phase
 abbrev pub in_phase : {T : Type 0} → (ℕ → Side → List Raise → T) → Phase → T

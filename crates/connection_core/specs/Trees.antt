@@ -14,7 +14,7 @@ use Rattle.event_trees.specs.Edit.{IsForestOf}
 use Rattle.forest_versions.specs.State.{ControlState, active as first_active}
 use Rattle.forest_versions.specs.Master.{Versions, defs_of}
 use Rattle.connection_core.specs.declared.in_force.InForce.{InForce}
-use Rattle.connection_core.specs.InForce.{told, defs_at}
+use Rattle.connection_core.specs.InForce.{registered, defs_at}
 
 -- the registrations with the numbers of a tree's slots
 abbrev pub regs_named : (ℕ → Option Reg) → List Slot → List Reg
@@ -51,11 +51,11 @@ AnswersAs at now = (number : ℕ) → number ≤ 255 → now number ≡ at numbe
 
 -- the private list that a tree names
 abbrev pub list_in_force : InForce → TreeLists → List Reg
-list_in_force lent tree = active_in (told lent) tree
+list_in_force lent tree = active_in (registered lent) tree
 
 -- a tree by which the registrations are called that it names
 abbrev pub IsForestInForce : InForce → TreeLists → Type 0
-IsForestInForce lent tree = IsForestIn (defs_at lent) (told lent) tree
+IsForestInForce lent tree = IsForestIn (defs_at lent) (registered lent) tree
 
 -- the tree of the registrations that are on at a connection's start
 abbrev pub IsFirstForest : InForce → ControlState → TreeLists → Type 0

@@ -3,15 +3,15 @@
 ghost use Rattle.std.specs.Prelude.{◌≡◌, ◌≤◌, ◌<◌, ◌+◌, ◌*◌, ◌^◌, IsTrue, OnOk, List, ℕ, length};
 ghost use Rattle.app_api.specs.Reg.{peek_fits, reg_of};
 ghost use Rattle.app_api.specs.declared.registration.Reg.{Reg as RegOf};
-ghost use Rattle.connection_core.specs.Course.{called, called_at, raised};
+ghost use Rattle.connection_core.specs.PacketUnderWay.{called, called_at, raised};
 ghost use Rattle.connection_core.specs.Trees.{list_in_force, IsForestInForce};
 ghost use Rattle.connection_core.specs.Numbers.{called_by};
-ghost use Rattle.connection_core.specs.Standing.{IsAsFar, RiseBy, raise_of, at_moment, in_phase};
+ghost use Rattle.connection_core.specs.Standing.{IsAsFar, RiseBy, raise_of, at_raise, in_phase};
 ghost use Rattle.connection_core.specs.Calls.{StepsInForce};
 
+use crate::arrival::{Phase, RaiseAt};
 use crate::ledger::{Ledger, Notes};
 use crate::look::look;
-use crate::moment::{Moment, Phase};
 use crate::terms::Terms;
 use app_api::{App, Call, Entry, Reg, Seen};
 use event_trees::{Walk, later_events_change_nothing, slots_in_order};
@@ -24,7 +24,7 @@ impl<A: App> Terms<'_, A> {
     fn call(
         &self,
         alloc: Global,
-        moment: &Moment,
+        raise_at: &RaiseAt,
         reg: &Reg,
         socket: &mut FlowSocket,
         notes: &mut Notes,
@@ -35,23 +35,23 @@ impl<A: App> Terms<'_, A> {
         requires weight { ledger.old.counts.weight < 2 ^ 63 }
         ensures stands { OnOk result ((list : List RegOf) → StepsInForce self.now.keep self.now.in_force list
             socket.old notes.old ledger.old socket.new notes.new ledger.new
-            (λ s c. at_moment (called (A.meaning self.now.app.now) s) moment.now c reg.now)) }
+            (λ s c. at_raise (called (A.meaning self.now.app.now) s) raise_at.now c reg.now)) }
         ensures rise { RiseBy 1 ledger.old.counts ledger.new.counts }
         ensures as_far { IsAsFar socket.old socket.new }
     {
-        let look = look(alloc, self.keep, socket, moment.from, &reg.peek)?;
-        let call = call_of(moment, reg, look.got);
+        let look = look(alloc, self.keep, socket, raise_at.from, &reg.peek)?;
+        let call = call_of(raise_at, reg, look.got);
         let reaction = self.react(reg, &call, &mut notes.tally);
         ledger.count(look.got);
         ledger.ask(&reaction)?;
-        notes.keep_entry(self.keep, entry_of(moment, reg, look.seen))
+        notes.keep_entry(self.keep, entry_of(raise_at, reg, look.seen))
     }
 
     // The callback of the registration with a number.
     fn call_number(
         &self,
         alloc: Global,
-        moment: &Moment,
+        raise_at: &RaiseAt,
         number: u8,
         socket: &mut FlowSocket,
         notes: &mut Notes,
@@ -61,12 +61,12 @@ impl<A: App> Terms<'_, A> {
         requires weight { ledger.old.counts.weight < 2 ^ 63 }
         ensures stands { OnOk result ((list : List RegOf) → StepsInForce self.now.keep self.now.in_force list
             socket.old notes.old ledger.old socket.new notes.new ledger.new
-            (λ s c. at_moment (called_by (A.meaning self.now.app.now) s) moment.now c (reg_of s.regs number))) }
+            (λ s c. at_raise (called_by (A.meaning self.now.app.now) s) raise_at.now c (reg_of s.regs number))) }
         ensures rise { RiseBy 1 ledger.old.counts ledger.new.counts }
         ensures as_far { IsAsFar socket.old socket.new }
     {
         match self.in_force.reg_at(number) {
-            Some(reg) => self.call(alloc, moment, reg, socket, notes, ledger),
+            Some(reg) => self.call(alloc, raise_at, reg, socket, notes, ledger),
             None => Ok(()),
         }
     }
@@ -76,7 +76,7 @@ impl<A: App> Terms<'_, A> {
         &self,
         alloc: Global,
         tree: &Tree,
-        moment: &Moment,
+        raise_at: &RaiseAt,
         socket: &mut FlowSocket,
         notes: &mut Notes,
         ledger: &mut Ledger,
@@ -86,16 +86,16 @@ impl<A: App> Terms<'_, A> {
         requires weight { ledger.old.counts.weight < 2 ^ 62 }
         ensures stands { OnOk result (StepsInForce self.now.keep self.now.in_force
             (list_in_force self.now.in_force tree.now) socket.old notes.old ledger.old socket.new notes.new ledger.new
-            (λ s. at_moment (called_at (A.meaning self.now.app.now) s) moment.now)) }
+            (λ s. at_raise (called_at (A.meaning self.now.app.now) s) raise_at.now)) }
         ensures rise { RiseBy 255 ledger.old.counts ledger.new.counts }
         ensures as_far { IsAsFar socket.old socket.new }
     {
         let defs = self.in_force.defs();
         slots_in_order(tree);
         later_events_change_nothing(defs);
-        let mut walk = Walk::start(tree, moment.hook, moment.event, moment.facts);
+        let mut walk = Walk::start(tree, raise_at.hook, raise_at.event, raise_at.facts);
         while let Some(number) = walk.next(defs, self.natives) {
-            self.call_number(alloc, moment, number, socket, notes, ledger)?;
+            self.call_number(alloc, raise_at, number, socket, notes, ledger)?;
         }
         Ok(())
     }
@@ -121,41 +121,41 @@ impl<A: App> Terms<'_, A> {
         ensures as_far { IsAsFar socket.old socket.new }
     {
         for event in phase.raised.events.as_slice() {
-            let moment = phase.moment(*event);
-            self.call_at(alloc, tree, &moment, socket, notes, ledger)?;
+            let raise_at = phase.raise_at(*event);
+            self.call_at(alloc, tree, &raise_at, socket, notes, ledger)?;
         }
         Ok(())
     }
 }
 
-ghost use Rattle.connection_core.specs.Course.{entry_of};
+ghost use Rattle.connection_core.specs.PacketUnderWay.{entry_of};
 
 // The call as the application sees it.
-fn call_of(moment: &Moment, reg: &Reg, got: u32) -> Call
+fn call_of(raise_at: &RaiseAt, reg: &Reg, got: u32) -> Call
     ensures { result ≡ record {
       reg = reg.now.number;
-      hook = moment.now.hook;
+      hook = raise_at.now.hook;
       event = reg.now.event;
-      facts = moment.now.facts.now;
+      facts = raise_at.now.facts.now;
       got = got;
     } }
 {
     Call {
         reg: reg.number,
-        hook: moment.hook,
+        hook: raise_at.hook,
         event: reg.event,
-        facts: *moment.facts,
+        facts: *raise_at.facts,
         got,
     }
 }
 
 // What the report tells of a callback.
-fn entry_of(moment: &Moment, called: &Reg, seen: Seen) -> Entry
-    ensures { result ≡ entry_of moment.now.number (raise_of moment.now) called.now seen }
+fn entry_of(raise_at: &RaiseAt, called: &Reg, seen: Seen) -> Entry
+    ensures { result ≡ entry_of raise_at.now.number (raise_of raise_at.now) called.now seen }
 {
     Entry {
-        index: moment.number,
-        hook: moment.hook,
+        index: raise_at.number,
+        hook: raise_at.hook,
         event: called.event,
         reg: called.number,
         seen,

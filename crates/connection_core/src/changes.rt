@@ -3,7 +3,7 @@
 ghost use Rattle.std.specs.Prelude.{◌≡◌, ◌==◌, OnOk, OnErr};
 ghost use Rattle.std.specs.List.{list_any};
 ghost use Rattle.shared_forest.specs.Store.{Keeps};
-ghost use Rattle.connection_core.specs.Course.{is_so, changed, changed_all};
+ghost use Rattle.connection_core.specs.PacketUnderWay.{is_so, changed, changed_all};
 ghost use Rattle.connection_core.specs.Trees.{IsForestInForce};
 ghost use Rattle.connection_core.specs.Calls.{AltersTree, CostsTree};
 

@@ -5,14 +5,14 @@ ghost use Rattle.shared_forest.specs.Store.{Keeps};
 ghost use Rattle.app_api.specs.declared.reaction.Verdict.{Verdict as VerdictOf};
 ghost use Rattle.connection_core.specs.Trees.{list_in_force, IsForestInForce, InternsWithin};
 ghost use Rattle.forest_versions.specs.State.{ControlState, active as first_active};
-ghost use Rattle.connection_core.specs.InForce.{told, IsInForce};
+ghost use Rattle.connection_core.specs.InForce.{registered, IsInForce};
 ghost use Rattle.connection_core.specs.Reach.{Reaches};
 
+use crate::arrival::{Arrived, Phase, RaiseAt};
 use crate::changes::change_all;
 use crate::hearing::{hears, hears_receiver, hears_sender};
 use crate::in_force::InForce;
 use crate::ledger::{Ledger, Notes};
-use crate::moment::{Arrived, Moment, Phase};
 use crate::terms::Terms;
 use app_api::{App, Reason, Verdict};
 use builtin_events::{raised_at_receiver, raised_at_sender};
@@ -47,11 +47,11 @@ const MOST: usize = 4 * 255;
 impl Flow {
     ghost use Rattle.app_api.specs.App.{Meaning};
     ghost use Rattle.shared_forest.specs.Lists.{TreeLists};
-    ghost use Rattle.connection_core.specs.Course.{changed_all, raise_done, phase as made};
+    ghost use Rattle.connection_core.specs.PacketUnderWay.{changed_all, raise_done, phase as made};
     ghost use Rattle.connection_core.specs.History.{fresh, verdict, drops_of, is_over};
-    ghost use Rattle.connection_core.specs.Standing.{IsFlow, IsConnection, RiseBy, Reached, Stepped, at_moment, in_phase};
+    ghost use Rattle.connection_core.specs.Standing.{IsFlow, IsConnection, RiseBy, Reached, Stepped, at_raise, in_phase};
     ghost use Rattle.connection_core.specs.Calls.{phase_sending, phase_receiving, gone_on, followed_by};
-    ghost use Rattle.connection_core.specs.Calls.{AltersTree, CostsTree, state_in, ForConnection, ForCourse, MakesInForce, CostsInForce};
+    ghost use Rattle.connection_core.specs.Calls.{AltersTree, CostsTree, state_in, ForConnection, ForPacketUnderWay, MakesInForce, CostsInForce};
 
     /// A connection before its first packet, with the tree of the registrations that are on at its start. It takes no memory.
     pub fn new(alloc: Global, in_force: &InForce, forest: Shared) -> Flow
@@ -59,7 +59,7 @@ impl Flow {
         ensures count { result.count ≡ 0 }
         ensures opened { (s : ControlState) (tree : TreeLists) → IsInForce in_force.now s
             → list_in_force in_force.now tree ≡ first_active s
-            → (app : Meaning) → IsFlow (told in_force.now) tree result (fresh app s) }
+            → (app : Meaning) → IsFlow (registered in_force.now) tree result (fresh app s) }
     {
         Flow {
             socket: FlowSocket::new(alloc, in_force.rbuf(), in_force.policy()),
@@ -110,7 +110,7 @@ impl Flow {
         alloc: Global,
         terms: &Terms<A>,
         forests: &mut F,
-        moment: &Moment,
+        raise_at: &RaiseAt,
         notes: &mut Notes,
         ledger: &mut Ledger,
     ) -> Result<(), AllocError>
@@ -124,17 +124,17 @@ impl Flow {
         ensures made { OnOk result (MakesInForce terms.now.keep terms.now.in_force
             (state_in F.ForestView forests.old self.old notes.old ledger.old)
             (state_in F.ForestView forests.new self.new notes.new ledger.new)
-            (λ s. at_moment (raise_done (A.meaning terms.now.app.now) s) moment.now)) }
+            (λ s. at_raise (raise_done (A.meaning terms.now.app.now) s) raise_at.now)) }
         ensures failed { OnErr result (CostsInForce terms.now.keep terms.now.in_force
             (state_in F.ForestView forests.old self.old notes.old ledger.old) (F.interns forests.new)
-            (λ s. at_moment (raise_done (A.meaning terms.now.app.now) s) moment.now)) }
+            (λ s. at_raise (raise_done (A.meaning terms.now.app.now) s) raise_at.now)) }
         ensures asked { OnOk result (ledger.new.changes.items ≡ []) }
         ensures rise { RiseBy 255 ledger.old.counts ledger.new.counts }
         ensures count { self.new.count ≡ self.old.count }
     {
         let tree = forests.tree_of(&self.forest);
         ledger.make_room(MOST)?;
-        terms.call_at(alloc, tree, moment, &mut self.socket, notes, ledger)?;
+        terms.call_at(alloc, tree, raise_at, &mut self.socket, notes, ledger)?;
         self.settle(alloc, &terms.in_force, forests, ledger)?;
         Ok(())
     }
@@ -174,8 +174,8 @@ impl Flow {
             if !hears(&terms.in_force, tree, phase.raised.hook, *event) {
                 continue;
             }
-            let moment = phase.moment(*event);
-            self.raise(alloc, terms, forests, &moment, notes, ledger)?;
+            let raise_at = phase.raise_at(*event);
+            self.raise(alloc, terms, forests, &raise_at, notes, ledger)?;
         }
         Ok(())
     }
@@ -291,12 +291,12 @@ impl Flow {
         ensures answered { F.answered forests.new self.new.forest }
         ensures forest { IsForestInForce terms.now.in_force (F.content forests.new self.new.forest) }
         ensures kept { Keeps F.answered F.content forests.old forests.new }
-        ensures stands { OnOk result (ForCourse terms.now.keep terms.now.in_force
+        ensures stands { OnOk result (ForPacketUnderWay terms.now.keep terms.now.in_force
             (state_in F.ForestView forests.old self.old notes.old ledger.old)
             (λ s others h c. Stepped terms.now.keep others
-            (told terms.now.in_force) (F.content forests.new self.new.forest) self.new notes.new ledger.new.counts
+            (registered terms.now.in_force) (F.content forests.new self.new.forest) self.new notes.new ledger.new.counts
             (F.interns forests.old) (F.interns forests.new) c.altered (gone_on (A.meaning terms.now.app.now) s arrived.now h c))) }
-        ensures failed { OnErr result (ForCourse terms.now.keep terms.now.in_force
+        ensures failed { OnErr result (ForPacketUnderWay terms.now.keep terms.now.in_force
             (state_in F.ForestView forests.old self.old notes.old ledger.old)
             (λ s others h c. InternsWithin (F.interns forests.old) (F.interns forests.new)
             c.altered (gone_on (A.meaning terms.now.app.now) s arrived.now h c).altered)) }
@@ -336,7 +336,7 @@ impl Flow {
         ensures stands { OnOk result (ForConnection terms.now.keep terms.now.in_force
             (state_in F.ForestView forests.old self.old notes.old ledger.old)
             (λ s others h. IsConnection terms.now.keep others
-            (told terms.now.in_force) (F.content forests.new self.new.forest) self.new notes.new ledger.new.counts
+            (registered terms.now.in_force) (F.content forests.new self.new.forest) self.new notes.new ledger.new.counts
             (followed_by (A.meaning terms.now.app.now) s arrived.now h))) }
 
         // At most one intern for each change that alters the private list, also where memory is refused on the way.

@@ -21,11 +21,11 @@ pub struct InForce<'a> {
 
 impl InForce<'_> {
     ghost use Rattle.forest_versions.specs.State.{ControlState};
-    ghost use Rattle.connection_core.specs.InForce.{told, defs_at, IsInForce};
+    ghost use Rattle.connection_core.specs.InForce.{registered, defs_at, IsInForce};
 
     /// The registration of a number.
     pub(crate) fn reg_at(&self, number: u8) -> Option<&Reg>
-        ensures reg { option_copied result ≡ told self.now number }
+        ensures reg { option_copied result ≡ registered self.now number }
         ensures number { IfSome result (λ r. r.now.number ≡ number) }
         ensures lawful { IfSome result (λ r. IsRegistered (defs_at self.now) r.now) }
     {

@@ -1,7 +1,7 @@
 //! What is noted of callbacks: in their record, and for the packet under way.
 
 ghost use Rattle.std.specs.Prelude.{◌≡◌, ◌+◌, ◌<◌, ◌≤◌, ◌^◌, ◌++◌, [], None, OnOk};
-ghost use Rattle.connection_core.specs.Course.{first_reason};
+ghost use Rattle.connection_core.specs.PacketUnderWay.{first_reason};
 ghost use Rattle.connection_core.specs.Standing.{kept_with};
 
 use app_api::{Change1, Entry, Reaction, Reason, Tally};

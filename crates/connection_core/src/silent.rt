@@ -8,9 +8,9 @@ ghost use Rattle.connection_core.specs.Silence.{silenced};
 ghost use Rattle.connection_core.specs.Standing.{RiseBy};
 ghost use Rattle.connection_core.specs.Calls.{state_in, ForConnection, IsNotedOf};
 
+use crate::arrival::RaiseAt;
 use crate::flow::Flow;
 use crate::ledger::{Ledger, Notes};
-use crate::moment::Moment;
 use crate::terms::Terms;
 use app_api::{App, TIMER};
 use native_filters::{Facts, Hook};
@@ -45,7 +45,7 @@ pub fn silence<A: App, F: ForestView>(
     ledger.begin();
     let Flow { socket, forest, .. } = flow;
     let mut socket = socket;
-    let moment = Moment {
+    let raise_at = RaiseAt {
         number,
         from: Side::Client,
         hook: Hook::Rcv,
@@ -53,5 +53,5 @@ pub fn silence<A: App, F: ForestView>(
         facts,
     };
     let tree = forests.tree_of(&forest);
-    terms.call_at(alloc, tree, &moment, &mut socket, notes, ledger)
+    terms.call_at(alloc, tree, &raise_at, &mut socket, notes, ledger)
 }

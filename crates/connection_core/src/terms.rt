@@ -2,7 +2,7 @@
 
 ghost use Rattle.std.specs.Prelude.{◌≡◌, IsTrue};
 ghost use Rattle.connection_core.specs.InForce.{ForControl};
-ghost use Rattle.connection_core.specs.Course.{reaction_of, asked_by};
+ghost use Rattle.connection_core.specs.PacketUnderWay.{reaction_of, asked_by};
 
 use crate::in_force::InForce;
 use app_api::{App, Call, Reaction, Reason, Reg, Tally};

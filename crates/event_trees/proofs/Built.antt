@@ -17,12 +17,14 @@ use Rattle.event_trees.specs.Build.{seen, all_seen, seen_slots, common, fresh, f
 use Rattle.event_trees.proofs.Reach.{common-left}
 use Rattle.event_trees.proofs.Growth.{Grown, grown-none, grown-push, Step, step, bare, newer}
 
-pub listing_after-append : (before : List ℕ) (ns ms : List Node) (slots : List Slot) → listing_after before (ns ++ ms) slots ≡ listing_after before ns slots ++ listing_after (end_path before ns) ms slots
+pub listing_after-append : (before : List ℕ) (ns ms : List Node) (slots : List Slot)
+    → listing_after before (ns ++ ms) slots ≡ listing_after before ns slots ++ listing_after (end_path before ns) ms slots
 listing_after-append before [] ms slots = refl
 listing_after-append before (n ∷ ns) ms slots = ap (λ (l : List Shown). record { path = path_after before n; slots = slots_of n slots } ∷ l) (listing_after-append (path_after before n) ns ms slots)
 
 -- fresh nodes after a path that begins with the front
-fresh-longer : (front before es : List ℕ) (first depth : ℕ) (slots : List Slot) → depth ≡ length front → take depth before ≡ front → listing_after before (fresh first depth es) slots ≡ map bare (longer front es)
+fresh-longer : (front before es : List ℕ) (first depth : ℕ) (slots : List Slot) → depth ≡ length front → take depth before ≡ front
+    → listing_after before (fresh first depth es) slots ≡ map bare (longer front es)
 fresh-longer front before [] first depth slots d t = refl
 fresh-longer front before (e ∷ es) first depth slots d t =
     let path : List ℕ = take ((depth + 1) - 1) before ++ e ∷ [] in
@@ -107,7 +109,8 @@ bumped-length [] = refl
 bumped-length (n ∷ []) = refl
 bumped-length (n ∷ m ∷ ns) = ap (λ (k : ℕ). suc k) (bumped-length (m ∷ ns))
 
-slots-more : (n : Node) (slots : List Slot) (d : Slot) (place : ℕ) → n.first + n.count ≡ place → place < length slots → slots_of (record n { count = n.count + 1 }) slots ≡ slots_of n slots ++ get_or slots place d ∷ []
+slots-more : (n : Node) (slots : List Slot) (d : Slot) (place : ℕ) → n.first + n.count ≡ place → place < length slots
+    → slots_of (record n { count = n.count + 1 }) slots ≡ slots_of n slots ++ get_or slots place d ∷ []
 slots-more n slots d place is within =
     let rest : List Slot = drop n.first slots in
     take_more rest n.count d (omega (arith, length-drop n.first slots)) ∙ ap (λ (s : Slot). take n.count rest ++ s ∷ []) (get_or-drop n.first slots n.count d ∙ ap (λ (k : ℕ). get_or slots k d) is)
@@ -137,7 +140,9 @@ bumped-first : (path : List ℕ) (m : Node) (rest : List Node) (slots : List Slo
 bumped-first path m [] slots = refl
 bumped-first path m (x ∷ rest) slots = refl
 
-bumped-shown : (path : List ℕ) (n : Node) (ns : List Node) (slots : List Slot) (front : List Shown) (p : List ℕ) (held : List Slot) (place end : ℕ) (d : Slot) → shown_from path n ns slots ≡ ending front p held → ArePacked place (n ∷ ns) end → end < length slots → shown_all path (bumped (n ∷ ns)) slots ≡ ending front p (held ++ get_or slots end d ∷ [])
+bumped-shown : (path : List ℕ) (n : Node) (ns : List Node) (slots : List Slot) (front : List Shown) (p : List ℕ) (held : List Slot) (place end : ℕ)
+    (d : Slot) → shown_from path n ns slots ≡ ending front p held → ArePacked place (n ∷ ns) end → end < length slots
+    → shown_all path (bumped (n ∷ ns)) slots ≡ ending front p (held ++ get_or slots end d ∷ [])
 bumped-shown path n [] slots [] p held place end d e packed within =
     let sn : Shown = record { path = path; slots = slots_of n slots } in
     let sp : Shown = record { path = p; slots = held } in
@@ -145,26 +150,31 @@ bumped-shown path n [] slots [] p held place end d e packed within =
     let paths : path ≡ p = ap (λ (s : Shown). s.path) same in
     let slots_same : slots_of n slots ≡ held = ap (λ (s : Shown). s.slots) same in
     let more : slots_of (record n { count = n.count + 1 }) slots ≡ slots_of n slots ++ get_or slots end d ∷ [] = slots-more n slots d end (omega (arith, packed.0, packed.1)) within in
-    ap (λ (l : List Slot). record { path = path; slots = l } ∷ []) (more ∙ ap (λ (l : List Slot). l ++ get_or slots end d ∷ []) slots_same) ∙ ap (λ (l : List ℕ). record { path = l; slots = held ++ get_or slots end d ∷ [] } ∷ []) paths
+    ap (λ (l : List Slot). record { path = path; slots = l } ∷ []) (more ∙ ap (λ (l : List Slot). l ++ get_or slots end d ∷ []) slots_same)
+        ∙ ap (λ (l : List ℕ). record { path = l; slots = held ++ get_or slots end d ∷ [] } ∷ []) paths
 bumped-shown path n [] slots (f ∷ fs) p held place end d e packed within =
     absurd (no_end fs (record { path = p; slots = held }) (sym (tail_of (record { path = path; slots = slots_of n slots }) f [] (ending fs p held) e)))
 bumped-shown path n (m ∷ rest) slots [] p held place end d e packed within =
-    let none : shown_from (path_after path m) m rest slots ≡ [] = tail_of (record { path = path; slots = slots_of n slots }) (record { path = p; slots = held }) (shown_from (path_after path m) m rest slots) [] e in
+    let none : shown_from (path_after path m) m rest slots ≡ [] = tail_of (record { path = path; slots = slots_of n slots })
+        (record { path = p; slots = held }) (shown_from (path_after path m) m rest slots) [] e in
     cc
 bumped-shown path n (m ∷ rest) slots (f ∷ fs) p held place end d e packed within =
     let sn : Shown = record { path = path; slots = slots_of n slots } in
     let first : sn ≡ f = head_of sn f (shown_from (path_after path m) m rest slots) (ending fs p held) e in
     let others : shown_from (path_after path m) m rest slots ≡ ending fs p held = tail_of sn f (shown_from (path_after path m) m rest slots) (ending fs p held) e in
-    let on : shown_all (path_after path m) (bumped (m ∷ rest)) slots ≡ ending fs p (held ++ get_or slots end d ∷ []) = bumped-shown (path_after path m) m rest slots fs p held (place + n.count) end d others packed.1 within in
+    let on : shown_all (path_after path m) (bumped (m ∷ rest)) slots ≡ ending fs p (held ++ get_or slots end d ∷ []) = bumped-shown
+        (path_after path m) m rest slots fs p held (place + n.count) end d others packed.1 within in
     ap (λ (l : List Shown). sn ∷ l) (bumped-first path m rest slots ∙ on) ∙ ap (λ (s : Shown). s ∷ ending fs p (held ++ get_or slots end d ∷ [])) first
 
-shown-end : (path : List ℕ) (n : Node) (ns : List Node) (slots : List Slot) (front : List Shown) (p : List ℕ) (held : List Slot) → shown_from path n ns slots ≡ ending front p held → end_path path ns ≡ p
+shown-end : (path : List ℕ) (n : Node) (ns : List Node) (slots : List Slot) (front : List Shown) (p : List ℕ) (held : List Slot)
+    → shown_from path n ns slots ≡ ending front p held → end_path path ns ≡ p
 shown-end path n [] slots [] p held e =
     ap (λ (s : Shown). s.path) (head_of (record { path = path; slots = slots_of n slots }) (record { path = p; slots = held }) [] [] e)
 shown-end path n [] slots (f ∷ fs) p held e =
     absurd (no_end fs (record { path = p; slots = held }) (sym (tail_of (record { path = path; slots = slots_of n slots }) f [] (ending fs p held) e)))
 shown-end path n (m ∷ rest) slots [] p held e =
-    let none : shown_from (path_after path m) m rest slots ≡ [] = tail_of (record { path = path; slots = slots_of n slots }) (record { path = p; slots = held }) (shown_from (path_after path m) m rest slots) [] e in
+    let none : shown_from (path_after path m) m rest slots ≡ [] = tail_of (record { path = path; slots = slots_of n slots })
+        (record { path = p; slots = held }) (shown_from (path_after path m) m rest slots) [] e in
     cc
 shown-end path n (m ∷ rest) slots (f ∷ fs) p held e =
     shown-end (path_after path m) m rest slots fs p held (tail_of (record { path = path; slots = slots_of n slots }) f (shown_from (path_after path m) m rest slots) (ending fs p held) e)
@@ -201,7 +211,8 @@ bumped-stepped n [] h = h
 bumped-stepped n (m ∷ ns) h = (h.0, h.1, bumped-steps 0 (m ∷ ns) h.2)
 
 -- with the last node known, its path is that of the last registration
-bumped-last : (n : Node) (ns : List Node) (slots : List Slot) (front : List Shown) (p : List ℕ) (held : List Slot) → listing_of (bumped (n ∷ ns)) slots ≡ ending front p held → last_path (bumped (n ∷ ns)) ≡ p
+bumped-last : (n : Node) (ns : List Node) (slots : List Slot) (front : List Shown) (p : List ℕ) (held : List Slot)
+    → listing_of (bumped (n ∷ ns)) slots ≡ ending front p held → last_path (bumped (n ∷ ns)) ≡ p
 bumped-last n [] slots front p held e = shown-end [] (record n { count = n.count + 1 }) [] slots front p held e
 bumped-last n (m ∷ ns) slots front p held e = shown-end [] n (bumped (m ∷ ns)) slots front p held e
 
@@ -209,7 +220,9 @@ bumped-listing : (n : Node) (ns : List Node) (slots : List Slot) → listing_of 
 bumped-listing n [] slots = refl
 bumped-listing n (m ∷ ns) slots = refl
 
-pub built-push : (slots : List Slot) (list : List Placed) (q : List ℕ) (nodes : List Node) (r : Placed) → Built slots list q nodes → IsUpTo q r.path → length list < length slots → get_or slots (length list) r.slot ≡ r.slot → length r.path ≤ 8 → Built slots (list ++ r ∷ []) r.path (bumped (nodes ++ fresh_nodes (length list) q r.path))
+pub built-push : (slots : List Slot) (list : List Placed) (q : List ℕ) (nodes : List Node) (r : Placed) → Built slots list q nodes → IsUpTo q r.path
+    → length list < length slots → get_or slots (length list) r.slot ≡ r.slot → length r.path ≤ 8
+    → Built slots (list ++ r ∷ []) r.path (bumped (nodes ++ fresh_nodes (length list) q r.path))
 built-push slots list q [] r b le within is short = absurd b.stepped
 built-push slots list q (top ∷ ns) r b le within is short =
     let s : Step list q r = step list q r b.grown le in
@@ -220,9 +233,11 @@ built-push slots list q (top ∷ ns) r b le within is short =
     (ap (λ (l : List Shown). listing_of (top ∷ ns) slots ++ l) (ap (λ (p : List ℕ). listing_after p new slots) b.ends ∙ listing-fresh q r.path (length list) slots) ∙
     (ap (λ (l : List Shown). l ++ map bare (newer [] q r.path)) b.listed ∙ s.was)) in
     let packed : ArePacked 0 (top ∷ (ns ++ new)) (length list) = packed-fresh 0 (length list) k (top ∷ ns) (drop k r.path) b.packed in
-    let steps : AreSteps 0 (ns ++ new) = steps-append [] ns new b.stepped.2 (fresh-steps (length list) k (length (end_path [] ns)) (drop k r.path) (omega (arith, common-left q r.path, ap length b.ends))) in
+    let steps : AreSteps 0 (ns ++ new) = steps-append [] ns new b.stepped.2
+        (fresh-steps (length list) k (length (end_path [] ns)) (drop k r.path) (omega (arith, common-left q r.path, ap length b.ends))) in
     let bump : listing_of (bumped (top ∷ (ns ++ new))) slots ≡ ending s.front r.path (s.slots ++ r.slot ∷ []) =
-    bumped-listing top (ns ++ new) slots ∙ (bumped-shown [] top (ns ++ new) slots s.front r.path s.slots 0 (length list) r.slot listed packed within ∙ ap (λ (x : Slot). ending s.front r.path (s.slots ++ x ∷ [])) is) in
+    bumped-listing top (ns ++ new) slots ∙ (bumped-shown [] top (ns ++ new) slots s.front r.path s.slots 0 (length list) r.slot listed packed within
+        ∙ ap (λ (x : Slot). ending s.front r.path (s.slots ++ x ∷ [])) is) in
     record {
       grown = grown-push list q r b.grown le;
       listed = bump ∙ sym s.becomes;
@@ -263,7 +278,8 @@ pub built-listing : (slots : List Slot) (list : List Placed) (q : List ℕ) (nod
 built-listing slots list q [] b = absurd b.stepped
 built-listing slots list q (top ∷ ns) b = ap (λ (l : List Shown). record { path = []; slots = slots_of top slots } ∷ l) (counted-after [] ns slots) ∙ b.listed
 
-pub built-tree : (slots : List Slot) (list : List Placed) (q : List ℕ) (nodes : List Node) → Built slots list q nodes → length list ≡ length slots → IsInOrder (canon_of list) → IsTree (counted nodes) slots
+pub built-tree : (slots : List Slot) (list : List Placed) (q : List ℕ) (nodes : List Node) → Built slots list q nodes → length list ≡ length slots
+    → IsInOrder (canon_of list) → IsTree (counted nodes) slots
 built-tree slots list q [] b all order = absurd b.stepped
 built-tree slots list q (top ∷ ns) b all order = record {
   topped = (b.stepped.0, b.stepped.1, ap (λ (d : ℕ). under d ns) b.stepped.1 ∙ (all-under 0 ns b.stepped.2 ∙ sym (counted-length ns)), counted-laid 0 ns b.stepped.2);
@@ -278,13 +294,16 @@ last-room place n (m ∷ ns) end d h =
     let at : length (n ∷ m ∷ ns) - 1 ≡ suc (length (m ∷ ns) - 1) = omega arith in
     subst (λ (k : ℕ). (get_or (n ∷ m ∷ ns) k d).count ≤ end) (sym at) (last-room (place + n.count) m ns end d h.1)
 
-pub built-room : (slots : List Slot) (list : List Placed) (q : List ℕ) (nodes : List Node) (p : List ℕ) (d : Node) → Built slots list q nodes → (get_or (nodes ++ fresh_nodes (length list) q p) (length (nodes ++ fresh_nodes (length list) q p) - 1) d).count ≤ length list
+pub built-room : (slots : List Slot) (list : List Placed) (q : List ℕ) (nodes : List Node) (p : List ℕ) (d : Node) → Built slots list q nodes
+    → (get_or (nodes ++ fresh_nodes (length list) q p) (length (nodes ++ fresh_nodes (length list) q p) - 1) d).count ≤ length list
 built-room slots list q [] p d b = absurd b.stepped
 built-room slots list q (top ∷ ns) p d b =
     last-room 0 top (ns ++ fresh_nodes (length list) q p) (length list) d (packed-fresh 0 (length list) (common q p) (top ∷ ns) (drop (common q p) p) b.packed)
 
 -- ---- one turn of the loop
-pub built-next : (slots : List Slot) (all : List Placed) (i : ℕ) (q : List ℕ) (nodes : List Node) (d : Placed) → i < length all → slots ≡ map (λ r. r.slot) all → length (get_or all i d).path ≤ 8 → Built slots (take i all) q nodes → Rises q (drop i all) → Built slots (take (i + 1) all) (get_or all i d).path (bumped (nodes ++ fresh_nodes i q (get_or all i d).path)) × Rises (get_or all i d).path (drop (i + 1) all)
+pub built-next : (slots : List Slot) (all : List Placed) (i : ℕ) (q : List ℕ) (nodes : List Node) (d : Placed) → i < length all
+    → slots ≡ map (λ r. r.slot) all → length (get_or all i d).path ≤ 8 → Built slots (take i all) q nodes → Rises q (drop i all)
+    → Built slots (take (i + 1) all) (get_or all i d).path (bumped (nodes ++ fresh_nodes i q (get_or all i d).path)) × Rises (get_or all i d).path (drop (i + 1) all)
 built-next slots all i q nodes d within same short b up =
     let r : Placed = get_or all i d in
     let long : length (take i all) ≡ i = length-take-le i all (omega arith) in
@@ -306,7 +325,8 @@ pub built-some : (slots : List Slot) (list : List Placed) (q : List ℕ) (nodes 
 built-some slots list q [] b = absurd b.stepped
 built-some slots list q (top ∷ ns) b = omega arith
 
-pub built-room_at : (slots : List Slot) (all : List Placed) (i : ℕ) (q : List ℕ) (nodes : List Node) (p : List ℕ) (d : Node) → i ≤ length all → Built slots (take i all) q nodes → (get_or (nodes ++ fresh_nodes i q p) (length (nodes ++ fresh_nodes i q p) - 1) d).count ≤ i
+pub built-room_at : (slots : List Slot) (all : List Placed) (i : ℕ) (q : List ℕ) (nodes : List Node) (p : List ℕ) (d : Node) → i ≤ length all
+    → Built slots (take i all) q nodes → (get_or (nodes ++ fresh_nodes i q p) (length (nodes ++ fresh_nodes i q p) - 1) d).count ≤ i
 built-room_at slots all i q nodes p d within b =
     let long : length (take i all) ≡ i = length-take-le i all within in
     subst (λ (k : ℕ). (get_or (nodes ++ fresh_nodes k q p) (length (nodes ++ fresh_nodes k q p) - 1) d).count ≤ k) long (built-room slots (take i all) q nodes p d b)
@@ -322,7 +342,10 @@ slots-seen : (regs : List PlacedReg) → seen_slots regs ≡ map (λ r. r.slot) 
 slots-seen [] = refl
 slots-seen (r ∷ regs) = ap (λ (l : List Slot). r.slot ∷ l) (slots-seen regs)
 
-pub built-turn : (regs : List PlacedReg) (i : ℕ) (d : PlacedReg) (q last p : List ℕ) (old pushed after : List Node) → i < length regs → last ≡ q → p ≡ path_of (get_or regs i d).path → length p ≤ 8 → pushed ≡ old ++ fresh_nodes i last p → after ≡ bumped pushed → Built (seen_slots regs) (take i (all_seen regs)) q old → Rises q (drop i (all_seen regs)) → Built (seen_slots regs) (take (i + 1) (all_seen regs)) (path_of (get_or regs i d).path) after × Rises (path_of (get_or regs i d).path) (drop (i + 1) (all_seen regs))
+pub built-turn : (regs : List PlacedReg) (i : ℕ) (d : PlacedReg) (q last p : List ℕ) (old pushed after : List Node) → i < length regs → last ≡ q
+    → p ≡ path_of (get_or regs i d).path → length p ≤ 8 → pushed ≡ old ++ fresh_nodes i last p → after ≡ bumped pushed
+    → Built (seen_slots regs) (take i (all_seen regs)) q old → Rises q (drop i (all_seen regs))
+    → Built (seen_slots regs) (take (i + 1) (all_seen regs)) (path_of (get_or regs i d).path) after × Rises (path_of (get_or regs i d).path) (drop (i + 1) (all_seen regs))
 built-turn regs i d q last p old pushed after within lasts paths short push bump b up =
     let r : PlacedReg = get_or regs i d in
     let all : List Placed = all_seen regs in
@@ -332,11 +355,13 @@ built-turn regs i d q last p old pushed after within lasts paths short push bump
     let next = built-next (seen_slots regs) all i q old (seen d) (omega (arith, length-map regs seen)) (slots-seen regs) small b up in
     let is : bumped (old ++ fresh_nodes i q (get_or all i (seen d)).path) ≡ after =
     ap (λ (l : List ℕ). bumped (old ++ fresh_nodes i q l)) (path ∙ sym paths) ∙ (ap (λ (l : List ℕ). bumped (old ++ fresh_nodes i l p)) (sym lasts) ∙ (ap bumped (sym push) ∙ sym bump)) in (
-      subst (λ (l : List ℕ). Built (seen_slots regs) (take (i + 1) all) l after) path (subst (λ (ns : List Node). Built (seen_slots regs) (take (i + 1) all) (get_or all i (seen d)).path ns) is next.0),
+      subst (λ (l : List ℕ). Built (seen_slots regs) (take (i + 1) all) l after) path
+          (subst (λ (ns : List Node). Built (seen_slots regs) (take (i + 1) all) (get_or all i (seen d)).path ns) is next.0),
       subst (λ (l : List ℕ). Rises l (drop (i + 1) all)) path next.1,
     )
 
-pub built-room_turn : (regs : List PlacedReg) (i : ℕ) (q last p : List ℕ) (old pushed : List Node) (d : Node) → i < length regs → last ≡ q → pushed ≡ old ++ fresh_nodes i last p → Built (seen_slots regs) (take i (all_seen regs)) q old → (get_or pushed (length pushed - 1) d).count ≤ i
+pub built-room_turn : (regs : List PlacedReg) (i : ℕ) (q last p : List ℕ) (old pushed : List Node) (d : Node) → i < length regs → last ≡ q
+    → pushed ≡ old ++ fresh_nodes i last p → Built (seen_slots regs) (take i (all_seen regs)) q old → (get_or pushed (length pushed - 1) d).count ≤ i
 built-room_turn regs i q last p old pushed d within lasts push b =
     let is : old ++ fresh_nodes i q p ≡ pushed = ap (λ (l : List ℕ). old ++ fresh_nodes i l p) (sym lasts) ∙ sym push in
     subst (λ (ns : List Node). (get_or ns (length ns - 1) d).count ≤ i) is (built-room_at (seen_slots regs) (all_seen regs) i q old p d (omega (arith, length-map regs seen)) b)

@@ -24,7 +24,8 @@ use Rattle.event_trees.proofs.Whole.{whole}
 
 pub edit-short : (defs : List EventDef) (list : List Reg) (shown : List Shown) → AreDefs defs → IsForestOf defs list shown → AreShort shown
 edit-short defs list shown are forest =
-    subst AreShort (sym forest.listed) (short-canon_of (placed defs list) (short-placed defs list (knows defs are) (recursion_from_All (λ (r : Reg). IsTrue (is_event defs r.event)) list forest.private.events)))
+    subst AreShort (sym forest.listed) (short-canon_of (placed defs list)
+        (short-placed defs list (knows defs are) (recursion_from_All (λ (r : Reg). IsTrue (is_event defs r.event)) list forest.private.events)))
 
 -- the listing is that of the registrations that are read off it
 pub edit-canon : (defs : List EventDef) (list : List Reg) (shown : List Shown) → IsForestOf defs list shown → shown ≡ canon_of (read_off shown)
@@ -32,7 +33,8 @@ edit-canon defs list shown forest =
     forest.listed ∙ ap canon_of (sym (ap read_off forest.listed ∙ whole (placed defs list) (rises defs list forest.private.sorted)))
 
 -- those after the edit are those of the edited list
-pub edit-list : (defs : List EventDef) (list : List Reg) (shown : List Shown) (r : Reg) (on : Bool) (p : Placed) → IsForestOf defs list shown → p ≡ placed_of defs r → switched p on (read_off shown) ≡ placed defs (edited defs list r on)
+pub edit-list : (defs : List EventDef) (list : List Reg) (shown : List Shown) (r : Reg) (on : Bool) (p : Placed) → IsForestOf defs list shown
+    → p ≡ placed_of defs r → switched p on (read_off shown) ≡ placed defs (edited defs list r on)
 edit-list defs list shown r on p forest at =
     let all : read_off shown ≡ placed defs list = ap read_off forest.listed ∙ whole (placed defs list) (rises defs list forest.private.sorted) in
     ap (switched p on) all ∙ (ap (λ (x : Placed). switched x on (placed defs list)) at ∙ sym (placed-edited defs r on list))
@@ -45,7 +47,8 @@ edit-few defs list more private same = omega (arith, ap length same, length-map 
 
 put-size : (r : Placed) (list : List Placed) → length (put_placed r list) ≡ length list + 1
 put-size r [] = refl
-put-size r (s ∷ list) = elim (is_lt (placed_cmp r s)) as (λ b. length (cond b (r ∷ s ∷ list) (s ∷ put_placed r list)) ≡ length (s ∷ list) + 1) [ true ↦ omega arith | false ↦ omega (arith, put-size r list) ]
+put-size r (s ∷ list) = elim (is_lt (placed_cmp r s)) as (λ b. length (cond b (r ∷ s ∷ list) (s ∷ put_placed r list)) ≡ length (s ∷ list) + 1)
+    [ true ↦ omega arith | false ↦ omega (arith, put-size r list) ]
 
 -- one more that makes at most 255
 pub put-few : (r : Placed) (on : Bool) (list : List Placed) → on ≡ true → length (switched r on list) ≤ 255 → length list < 255
@@ -75,10 +78,12 @@ there-at defs (r ∷ list) number (suc k) d within is =
     elim (r.number == number) as (λ b. (b || list_any (λ s. s.slot.number == number) (placed defs list)) ≡ true) [ true ↦ refl | false ↦ there-at defs list number k d (omega (arith, within)) is ]
 
 -- one that is switched off is there
-pub old-there : (defs : List EventDef) (list : List Reg) (shown : List Shown) (r : Reg) (on : Bool) (number : ℕ) → IsForestOf defs list shown → IsSwitchable list r on → number ≡ r.number → on ≡ false → list_any (λ s. s.slot.number == number) (read_off shown) ≡ true
+pub old-there : (defs : List EventDef) (list : List Reg) (shown : List Shown) (r : Reg) (on : Bool) (number : ℕ) → IsForestOf defs list shown
+    → IsSwitchable list r on → number ≡ r.number → on ≡ false → list_any (λ s. s.slot.number == number) (read_off shown) ≡ true
 old-there defs list shown r true number forest switch is off = cc
 old-there defs list shown r false number forest switch is off =
-    ap (λ (l : List Placed). list_any (λ s. s.slot.number == number) l) (read-list defs list shown forest) ∙ there-at defs list number switch.0 r switch.1 (ap (λ (x : Reg). x.number) switch.2 ∙ sym is)
+    ap (λ (l : List Placed). list_any (λ s. s.slot.number == number) l) (read-list defs list shown forest)
+        ∙ there-at defs list number switch.0 r switch.1 (ap (λ (x : Reg). x.number) switch.2 ∙ sym is)
 
 pub if_ok : {A E : Type 0} (result : Result A E) (P Q : A → Type 0) → IfOk result P → ((x : A) → P x → Q x) → IfOk result Q
 if_ok (Ok x) P Q h k = k x h

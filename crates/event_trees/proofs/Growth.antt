@@ -62,7 +62,8 @@ pub first_less : (a b : ℕ) (q p : List ℕ) → a ≢ b → IsUpTo (a ∷ q) (
 first_less a b q p other le =
     ⊎_elim (λ e. absurd (other e))
     (λ h. ⊎_elim (λ l. sym (nat_cmp_is a b Less l))
-    (λ g. let e : is_gt (path_cmp (a ∷ q) (b ∷ p)) ≡ true = ap (λ (o : Ordering). is_gt (ordering_then o (path_cmp q p))) (sym (nat_cmp_is a b Greater g)) in absurd (false≢true (sym le ∙ e))) h) (cases_order a b)
+    (λ g. let e : is_gt (path_cmp (a ∷ q) (b ∷ p)) ≡ true = ap (λ (o : Ordering). is_gt (ordering_then o (path_cmp q p)))
+        (sym (nat_cmp_is a b Greater g)) in absurd (false≢true (sym le ∙ e))) h) (cases_order a b)
 
 pub rest_up_to : (a b : ℕ) (q p : List ℕ) → a ≡ b → IsUpTo (a ∷ q) (b ∷ p) → IsUpTo q p
 rest_up_to a b q p same le =
@@ -89,7 +90,8 @@ puts front (a ∷ q) (b ∷ p) paths e le =
     ap (λ (l : List (List ℕ)). put_paths (longer f p) l) alone ∙ (rest ∙ ap (λ (c : Bool). paths ++ cond c (newer f q p) (longer front (b ∷ p))) (sym t.0)))
     (λ t.
     let less : path_cmp (front ++ a ∷ q) (front ++ b ∷ []) ≡ Less = cmp-front front (a ∷ q) (b ∷ []) ∙ ap (λ (o : Ordering). ordering_then o (path_cmp q [])) (first_less a b q p t.1 le) in
-    puts-above front b p paths (below_next paths (front ++ a ∷ q) (front ++ b ∷ []) e less) ∙ ap (λ (c : Bool). paths ++ cond c (newer (front ++ b ∷ []) q p) (longer front (b ∷ p))) (sym t.0)) (eqb_tells a b)
+    puts-above front b p paths (below_next paths (front ++ a ∷ q) (front ++ b ∷ []) e less)
+        ∙ ap (λ (c : Bool). paths ++ cond c (newer (front ++ b ∷ []) q p) (longer front (b ∷ p))) (sym t.0)) (eqb_tells a b)
 
 longer-ends : (front : List ℕ) (b : ℕ) (p : List ℕ) → (before : List (List ℕ)) × (longer front (b ∷ p) ≡ before ++ (front ++ b ∷ p) ∷ [])
 longer-ends front b [] = ([], refl)
@@ -118,7 +120,8 @@ prefixes-has p paths zero h = has-puts_old (prefixes p) paths [] h
 prefixes-has [] paths (suc k) h = h
 prefixes-has (b ∷ p) paths (suc k) h = has-puts_new (prefixes (b ∷ p)) paths (b ∷ take k p) (longer-has [] b p k)
 
-ends-next : (paths : List (List ℕ)) (q p : List ℕ) → EndsAt paths q → ((newer [] q p ≡ []) × (q ≡ p)) ⊎ ((before : List (List ℕ)) × (newer [] q p ≡ before ++ p ∷ [])) → (before : List (List ℕ)) × (paths ++ newer [] q p ≡ before ++ p ∷ [])
+ends-next : (paths : List (List ℕ)) (q p : List ℕ) → EndsAt paths q → ((newer [] q p ≡ []) × (q ≡ p))
+    ⊎ ((before : List (List ℕ)) × (newer [] q p ≡ before ++ p ∷ [])) → (before : List (List ℕ)) × (paths ++ newer [] q p ≡ before ++ p ∷ [])
 ends-next paths q p e h =
     ⊎_elim (λ t. (e.before, ap (λ (l : List (List ℕ)). paths ++ l) t.0 ∙ (append-nil paths ∙ (e.ends ∙ ap (λ (l : List ℕ). e.before ++ l ∷ []) t.1))))
     (λ t. (paths ++ t.0, ap (λ (l : List (List ℕ)). paths ++ l) t.1 ∙ sym (append_assoc paths t.0 (p ∷ [])))) h
@@ -167,10 +170,12 @@ grown-push list q r g le =
     let paths : List (List ℕ) = paths_with ([] ∷ []) list in
     let is : paths_with ([] ∷ []) (list ++ r ∷ []) ≡ put_paths (prefixes r.path) paths = paths_with-push ([] ∷ []) list r in
     let new : EndsAt (put_paths (prefixes r.path) paths) r.path = ends-puts paths q r.path g.ends le in
-    let here : Has r.path (put_paths (prefixes r.path) paths) = subst (λ (l : List ℕ). Has l (put_paths (prefixes r.path) paths)) (take_all (length r.path) r.path (omega arith)) (new.begun (length r.path)) in
+    let here : Has r.path (put_paths (prefixes r.path) paths) = subst (λ (l : List ℕ). Has l (put_paths (prefixes r.path) paths))
+        (take_all (length r.path) r.path (omega arith)) (new.begun (length r.path)) in
     record {
       ends = subst (λ (l : List (List ℕ)). EndsAt l r.path) (sym is) new;
-      held = subst (λ (l : List (List ℕ)). AllByRecursion (λ s. Has s.path l) (list ++ r ∷ [])) (sym is) (held-push (put_paths (prefixes r.path) paths) list r (held-more (prefixes r.path) paths list g.held) here);
+      held = subst (λ (l : List (List ℕ)). AllByRecursion (λ s. Has s.path l) (list ++ r ∷ [])) (sym is)
+          (held-push (put_paths (prefixes r.path) paths) list r (held-more (prefixes r.path) paths list g.held) here);
     }
 
 slots-none : (list : List Placed) (p : List ℕ) → AllByRecursion (λ r. path_cmp r.path p ≡ Less) list → slots_at list p ≡ []
@@ -198,7 +203,8 @@ shown-none list (p ∷ ps) h =
 slots-push_same : (list : List Placed) (r : Placed) → slots_at (list ++ r ∷ []) r.path ≡ slots_at list r.path ++ r.slot ∷ []
 slots-push_same [] r = ap (λ (o : Ordering). if is_eq o then r.slot ∷ [] else []) (itself r.path)
 slots-push_same (s ∷ list) r =
-    elim (is_eq (path_cmp s.path r.path)) as (λ b. cond b (s.slot ∷ slots_at (list ++ r ∷ []) r.path) (slots_at (list ++ r ∷ []) r.path) ≡ cond b (s.slot ∷ slots_at list r.path) (slots_at list r.path) ++ r.slot ∷ []) [
+    elim (is_eq (path_cmp s.path r.path)) as (λ b. cond b (s.slot ∷ slots_at (list ++ r ∷ []) r.path) (slots_at (list ++ r ∷ []) r.path) ≡ cond b
+        (s.slot ∷ slots_at list r.path) (slots_at list r.path) ++ r.slot ∷ []) [
       | true ↦ ap (λ (l : List Slot). s.slot ∷ l) (slots-push_same list r)
       | false ↦ slots-push_same list r
     ]
@@ -211,7 +217,8 @@ slots-push_other (s ∷ list) r p less =
 shown-push_other : (list : List Placed) (r : Placed) (ps : List (List ℕ)) → AllBelow ps r.path → shown_at (list ++ r ∷ []) ps ≡ shown_at list ps
 shown-push_other list r [] h = refl
 shown-push_other list r (p ∷ ps) h =
-    ap (λ (l : List Slot). record { path = p; slots = l } ∷ shown_at (list ++ r ∷ []) ps) (slots-push_other list r p h.0) ∙ ap (λ (l : List Shown). record { path = p; slots = slots_at list p } ∷ l) (shown-push_other list r ps h.1)
+    ap (λ (l : List Slot). record { path = p; slots = l } ∷ shown_at (list ++ r ∷ []) ps) (slots-push_other list r p h.0)
+        ∙ ap (λ (l : List Shown). record { path = p; slots = slots_at list p } ∷ l) (shown-push_other list r ps h.1)
 
 -- the new paths come to the end without registrations, and then the last path has one more
 pub record Step (list : List Placed) (q : List ℕ) (r : Placed) : Type 0 where
@@ -240,5 +247,8 @@ step list q r g le =
       front = shown_at list new.before;
       slots = slots_at list r.path;
       was = ap (λ (l : List Shown). shown_at list paths ++ l) (sym none) ∙ (sym (map-append (at list) paths more) ∙ (ap (shown_at list) split ∙ map-append (at list) new.before (r.path ∷ [])));
-      becomes = ap (shown_at (list ++ r ∷ [])) with ∙ (map-append (at (list ++ r ∷ [])) new.before (r.path ∷ []) ∙ (ap (λ (l : List Shown). l ++ at (list ++ r ∷ []) r.path ∷ []) (shown-push_other list r new.before (sorted-before new.before r.path sorted)) ∙ ap (λ (l : List Slot). shown_at list new.before ++ record { path = r.path; slots = l } ∷ []) (slots-push_same list r)));
+      becomes = ap (shown_at (list ++ r ∷ [])) with ∙ (map-append (at (list ++ r ∷ [])) new.before (r.path ∷ [])
+          ∙ (ap (λ (l : List Shown). l ++ at (list ++ r ∷ []) r.path ∷ [])
+          (shown-push_other list r new.before (sorted-before new.before r.path sorted))
+          ∙ ap (λ (l : List Slot). shown_at list new.before ++ record { path = r.path; slots = l } ∷ []) (slots-push_same list r)));
     }

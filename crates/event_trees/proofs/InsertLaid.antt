@@ -61,16 +61,20 @@ now_under size more c d u = cond (nat_le size u && nat_le d c) (u + more) u
 under-in_here : (d c first : ℕ) (es : List ℕ) (back : List Node) → IsShallow c back → under d (chain first c es ++ back) ≡ now_under 0 (length es) c d (under d back)
 under-in_here d c first es back s =
     let all : nat_le 0 (under d back) ≡ true = grind (arith, nat_tests) in
-    ⊎_elim (λ t. under-chain_above d c first es back t.1 ∙ sym (ap (λ (b : Bool). cond (b && nat_le d c) (under d back + length es) (under d back)) all ∙ ap (λ (b : Bool). cond b (under d back + length es) (under d back)) t.0))
-    (λ t. under-chain_below d c first es back s t.1 ∙ (sym (shallow-under c d back s t.1) ∙ sym (ap (λ (b : Bool). cond (b && nat_le d c) (under d back + length es) (under d back)) all ∙ ap (λ (b : Bool). cond b (under d back + length es) (under d back)) t.0)))
+    ⊎_elim (λ t. under-chain_above d c first es back t.1 ∙ sym (ap (λ (b : Bool). cond (b && nat_le d c) (under d back + length es) (under d back))
+        all ∙ ap (λ (b : Bool). cond b (under d back + length es) (under d back)) t.0))
+    (λ t. under-chain_below d c first es back s t.1 ∙ (sym (shallow-under c d back s t.1)
+        ∙ sym (ap (λ (b : Bool). cond (b && nat_le d c) (under d back + length es) (under d back)) all ∙ ap (λ (b : Bool). cond b (under d back + length es) (under d back)) t.0)))
     (leb_tells d c)
 
 step-in : (size more c d u : ℕ) → now_under size more c d u + 1 ≡ now_under (suc size) more c d (u + 1)
 step-in size more c d u =
     let same : nat_le size u ≡ nat_le (suc size) (u + 1) = grind (arith, nat_tests) in
     elim (nat_le d c) as (λ b. cond (nat_le size u && b) (u + more) u + 1 ≡ cond (nat_le (suc size) (u + 1) && b) (u + 1 + more) (u + 1)) [
-      | true ↦ ap (λ (b : Bool). cond (b && true) (u + more) u + 1) same ∙ elim (nat_le (suc size) (u + 1)) as (λ b. cond (b && true) (u + more) u + 1 ≡ cond (b && true) (u + 1 + more) (u + 1)) [ true ↦ omega arith | false ↦ omega arith ]
-      | false ↦ ap (λ (b : Bool). cond (b && false) (u + more) u + 1) same ∙ elim (nat_le (suc size) (u + 1)) as (λ b. cond (b && false) (u + more) u + 1 ≡ cond (b && false) (u + 1 + more) (u + 1)) [ true ↦ omega arith | false ↦ omega arith ]
+      | true ↦ ap (λ (b : Bool). cond (b && true) (u + more) u + 1) same
+          ∙ elim (nat_le (suc size) (u + 1)) as (λ b. cond (b && true) (u + more) u + 1 ≡ cond (b && true) (u + 1 + more) (u + 1)) [ true ↦ omega arith | false ↦ omega arith ]
+      | false ↦ ap (λ (b : Bool). cond (b && false) (u + more) u + 1) same
+          ∙ elim (nat_le (suc size) (u + 1)) as (λ b. cond (b && false) (u + more) u + 1 ≡ cond (b && false) (u + 1 + more) (u + 1)) [ true ↦ omega arith | false ↦ omega arith ]
     ]
 
 under-in : (d c first : ℕ) (es : List ℕ) (ns back : List Node) → IsShallow c back → under d (ns ++ (chain first c es ++ back)) ≡ now_under (length ns) (length es) c d (under d (ns ++ back))
@@ -86,7 +90,8 @@ under-raised : (d c more : ℕ) (ns rest : List Node) → under d (raised c more
 under-raised d c more [] rest = refl
 under-raised d c more (n ∷ ns) rest = ap (λ (u : ℕ). cond (nat_lt d n.depth) (u + 1) 0) (under-raised d c more ns rest)
 
-laid-in : (d0 c first : ℕ) (es : List ℕ) (ns back : List Node) → IsShallow c back → c ≤ end_depth d0 ns → AreLaidOut d0 (ns ++ back) → AreLaidOut d0 (raised c (length es) ns ++ (chain first c es ++ back))
+laid-in : (d0 c first : ℕ) (es : List ℕ) (ns back : List Node) → IsShallow c back → c ≤ end_depth d0 ns → AreLaidOut d0 (ns ++ back)
+    → AreLaidOut d0 (raised c (length es) ns ++ (chain first c es ++ back))
 laid-in d0 c first es [] back s h laid = laid-chain d0 c first es back s h laid
 laid-in d0 c first es (n ∷ ns) back s h laid = (
   laid.0,
@@ -137,7 +142,8 @@ chain-size : (first c : ℕ) (es : List ℕ) → length (chain first c es) ≡ l
 chain-size first c [] = refl
 chain-size first c (e ∷ es) = ap (λ (k : ℕ). suc k) (chain-size first (c + 1) es)
 
-pub topped-in : (c first : ℕ) (es : List ℕ) (top : Node) (ns back : List Node) → IsShallow c back → c ≤ end_depth 0 ns → AreTopped (top ∷ (ns ++ back)) → AreTopped (bumped (raised c (length es) (top ∷ ns) ++ chain first c es) ++ moved back)
+pub topped-in : (c first : ℕ) (es : List ℕ) (top : Node) (ns back : List Node) → IsShallow c back → c ≤ end_depth 0 ns
+    → AreTopped (top ∷ (ns ++ back)) → AreTopped (bumped (raised c (length es) (top ∷ ns) ++ chain first c es) ++ moved back)
 topped-in c first es top ns back s h topped =
     let reaches : nat_le (length ns) top.below ≡ true = (let long : length ns ≤ top.below = omega (arith, topped.2, length-append ns back) in grind (arith, nat_tests)) in
     let above : nat_le top.depth c ≡ true = (let low : top.depth ≤ c = omega (arith, topped.1) in grind (arith, nat_tests)) in
@@ -147,6 +153,7 @@ topped-in c first es top ns back s h topped =
     topped-bumped new (raised c (length es) ns ++ chain first c es) back (
       topped.0,
       topped.1,
-      omega (arith, more, topped.2, length-append ns back, length-append (raised c (length es) ns ++ chain first c es) back, length-append (raised c (length es) ns) (chain first c es), raised-size c (length es) ns, chain-size first c es),
+      omega (arith, more, topped.2, length-append ns back, length-append (raised c (length es) ns ++ chain first c es) back, length-append
+          (raised c (length es) ns) (chain first c es), raised-size c (length es) ns, chain-size first c es),
       rw append_assoc (laid-in 0 c first es ns back s h topped.3),
     )

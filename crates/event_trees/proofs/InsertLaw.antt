@@ -52,7 +52,8 @@ has_last p [] = inl refl
 has_last p (x ∷ xs) = inr (has_last p xs)
 
 -- the prefixes of the next node's path
-pub begun-next : (before : List ℕ) (n : Node) (xs : List (List ℕ)) → 1 ≤ n.depth → n.depth ≤ length before + 1 → ((k : ℕ) → Has (take k before) xs) → (k : ℕ) → Has (take k (path_after before n)) (xs ++ path_after before n ∷ [])
+pub begun-next : (before : List ℕ) (n : Node) (xs : List (List ℕ)) → 1 ≤ n.depth → n.depth ≤ length before + 1 → ((k : ℕ) → Has (take k before) xs)
+    → (k : ℕ) → Has (take k (path_after before n)) (xs ++ path_after before n ∷ [])
 begun-next before n xs low near h k =
     let path : List ℕ = path_after before n in
     let short : List ℕ = take (n.depth - 1) before in
@@ -63,7 +64,8 @@ begun-next before n xs low near h k =
     (λ g. subst (λ (p : List ℕ). Has p (xs ++ path ∷ [])) (sym (take_all k path (omega (arith, g, length-path_after before n low near, low)))) (has_last path xs)) (cases_lt k n.depth)
 
 -- each prefix of the path of the last node has a node
-begun : (before : List ℕ) (front : List (List ℕ)) (ns rest : List Node) (depth : ℕ) → length before ≡ depth → ((k : ℕ) → Has (take k before) front) → AreLaidOut depth (ns ++ rest) → (k : ℕ) → Has (take k (end_path before ns)) (front ++ node_paths before ns)
+begun : (before : List ℕ) (front : List (List ℕ)) (ns rest : List Node) (depth : ℕ) → length before ≡ depth → ((k : ℕ) → Has (take k before) front)
+    → AreLaidOut depth (ns ++ rest) → (k : ℕ) → Has (take k (end_path before ns)) (front ++ node_paths before ns)
 begun before front [] rest depth is h laid = λ k. subst (Has (take k before)) (sym (append-nil front)) (h k)
 begun before front (n ∷ ns) rest depth is h laid =
     let path : List ℕ = path_after before n in
@@ -115,23 +117,27 @@ listing-behind q p (n ∷ ns) slots s =
 -- ---- nodes without registrations
 listing-raised : (before : List ℕ) (c more : ℕ) (ns rest : List Node) (slots : List Slot) → listing_after before (raised c more ns ++ rest) slots ≡ listing_after before (ns ++ rest) slots
 listing-raised before c more [] rest slots = refl
-listing-raised before c more (n ∷ ns) rest slots = ap (λ (l : List Shown). record { path = path_after before n; slots = slots_of n slots } ∷ l) (listing-raised (path_after before n) c more ns rest slots)
+listing-raised before c more (n ∷ ns) rest slots = ap (λ (l : List Shown). record { path = path_after before n; slots = slots_of n slots } ∷ l)
+    (listing-raised (path_after before n) c more ns rest slots)
 
 read-chain : (before : List ℕ) (first d : ℕ) (es : List ℕ) (slots : List Slot) → read_off (listing_after before (chain first d es) slots) ≡ []
 read-chain before first d [] slots = refl
 read-chain before first d (e ∷ es) slots = read-chain (take ((d + 1) - 1) before ++ e ∷ []) first (d + 1) es slots
 
-read-path : (q p : List ℕ) (c more mid : ℕ) (ns back : List Node) (slots : List Slot) → c ≡ common q p → end_path [] ns ≡ q → IsUpTo q p → IsShallow c back → read_off (listing_after [] ((raised c more ns ++ chain mid c (drop c p)) ++ back) slots) ≡ read_off (listing_after [] (ns ++ back) slots)
+read-path : (q p : List ℕ) (c more mid : ℕ) (ns back : List Node) (slots : List Slot) → c ≡ common q p → end_path [] ns ≡ q → IsUpTo q p
+    → IsShallow c back → read_off (listing_after [] ((raised c more ns ++ chain mid c (drop c p)) ++ back) slots) ≡ read_off (listing_after [] (ns ++ back) slots)
 read-path q p c more mid ns back slots is ends le s =
     let ch : List Node = chain mid c (drop c p) in
     let front : List Shown = listing_after [] ns slots in
     let at_end : end_path q ch ≡ p = ap (λ (k : ℕ). end_path q (chain mid k (drop k p))) is ∙ end-chain q p mid le in
-    let behind : listing_after (end_path q ch) back slots ≡ listing_after q back slots = ap (λ (l : List ℕ). listing_after l back slots) at_end ∙ listing-behind q p back slots (subst (λ (k : ℕ). IsShallow k back) is s) in
+    let behind : listing_after (end_path q ch) back slots ≡ listing_after q back slots = ap (λ (l : List ℕ). listing_after l back slots) at_end
+        ∙ listing-behind q p back slots (subst (λ (k : ℕ). IsShallow k back) is s) in
     let middle : read_off (listing_after q (ch ++ back) slots) ≡ read_off (listing_after q back slots) =
     ap read_off (listing_after-append q ch back slots) ∙ (read_off-append (listing_after q ch slots) (listing_after (end_path q ch) back slots) ∙
     (ap (λ (l : List Placed). l ++ read_off (listing_after (end_path q ch) back slots)) (read-chain q mid c (drop c p) slots) ∙ ap read_off behind)) in
     let split : (rest : List Node) → read_off (listing_after [] (ns ++ rest) slots) ≡ read_off front ++ read_off (listing_after q rest slots) =
-    λ rest. ap read_off (listing_after-append [] ns rest slots) ∙ (read_off-append front (listing_after (end_path [] ns) rest slots) ∙ ap (λ (l : List ℕ). read_off front ++ read_off (listing_after l rest slots)) ends) in
+    λ rest. ap read_off (listing_after-append [] ns rest slots) ∙ (read_off-append front (listing_after (end_path [] ns) rest slots)
+        ∙ ap (λ (l : List ℕ). read_off front ++ read_off (listing_after l rest slots)) ends) in
     ap (λ (l : List Node). read_off (listing_after [] l slots)) (append_assoc (raised c more ns) ch back) ∙ (ap read_off (listing-raised [] c more ns (ch ++ back) slots) ∙
     (split (ch ++ back) ∙ (ap (λ (l : List Placed). read_off front ++ l) middle ∙ sym (split back))))
 
@@ -143,7 +149,8 @@ pub record IsPlaced (r : Placed) (c : ℕ) (n : Node) (slots : List Slot) (i : �
   pub new : c < length r.path → i ≡ n.first + n.count
   pub old : length r.path ≤ c → IsBetween r.slot.number (slots_of n slots) (i - n.first)
 
-final-raised : (c more : ℕ) (ns : List Node) (n m : Node) → n.first ≡ m.first → n.count ≡ m.count → ((final n (raised c more ns)).first ≡ (final m ns).first) × ((final n (raised c more ns)).count ≡ (final m ns).count)
+final-raised : (c more : ℕ) (ns : List Node) (n m : Node) → n.first ≡ m.first → n.count ≡ m.count
+    → ((final n (raised c more ns)).first ≡ (final m ns).first) × ((final n (raised c more ns)).count ≡ (final m ns).count)
 final-raised c more [] n m f g = (f, g)
 final-raised c more (x ∷ ns) n m f g = final-raised c more ns (record x { below = cond (nat_le (length ns) x.below && nat_le x.depth c) (x.below + more) x.below }) x refl refl
 
@@ -168,16 +175,20 @@ pub record AtFinal (number : ℕ) (n : Node) (slots : List Slot) (i mid : ℕ) :
   pub high : i ≤ mid
   pub between : IsBetween number (slots_of n slots) (i - n.first)
 
-same-between : (number : ℕ) (n m : Node) (slots : List Slot) (i : ℕ) → n.first ≡ m.first → n.count ≡ m.count → IsBetween number (slots_of n slots) (i - n.first) → IsBetween number (slots_of m slots) (i - m.first)
+same-between : (number : ℕ) (n m : Node) (slots : List Slot) (i : ℕ) → n.first ≡ m.first → n.count ≡ m.count
+    → IsBetween number (slots_of n slots) (i - n.first) → IsBetween number (slots_of m slots) (i - m.first)
 same-between number n m slots i f g h =
     subst (λ (k : ℕ). IsBetween number (take k (drop m.first slots)) (i - m.first)) g (subst (λ (k : ℕ). IsBetween number (take n.count (drop k slots)) (i - k)) f h)
 
 none-between : (number : ℕ) (n : Node) (slots : List Slot) (i : ℕ) → n.count ≡ 0 → i ≡ n.first → IsBetween number (slots_of n slots) (i - n.first)
 none-between number n slots i none is =
     let at : i - n.first ≡ 0 = omega (arith, is) in
-    subst (λ (k : ℕ). IsBetween number (take k (drop n.first slots)) (i - n.first)) (sym none) (subst (λ (k : ℕ). IsBetween number [] k) (sym at) (record { within = omega arith; low = tt; high = tt }))
+    subst (λ (k : ℕ). IsBetween number (take k (drop n.first slots)) (i - n.first)) (sym none)
+        (subst (λ (k : ℕ). IsBetween number [] k) (sym at) (record { within = omega arith; low = tt; high = tt }))
 
-at-final : (r : Placed) (c more mid : ℕ) (es : List ℕ) (top new : Node) (ns : List Node) (slots : List Slot) (i : ℕ) → new.first ≡ top.first → new.count ≡ top.count → es ≡ drop c r.path → c ≤ length r.path → ArePacked 0 (top ∷ ns) mid → IsPlaced r c (final top ns) slots i → AtFinal r.slot.number (final new (raised c more ns ++ chain mid c es)) slots i mid
+at-final : (r : Placed) (c more mid : ℕ) (es : List ℕ) (top new : Node) (ns : List Node) (slots : List Slot) (i : ℕ) → new.first ≡ top.first
+    → new.count ≡ top.count → es ≡ drop c r.path → c ≤ length r.path → ArePacked 0 (top ∷ ns) mid → IsPlaced r c (final top ns) slots i
+    → AtFinal r.slot.number (final new (raised c more ns ++ chain mid c es)) slots i mid
 at-final r c more mid [] top new ns slots i f g is short packed at =
     let l : Node = final new (raised c more ns) in
     let same = final-raised c more ns new top f g in
@@ -215,7 +226,13 @@ pub bumped-shown_all : (top : Node) (ms back : List Node) (slots : List Slot) �
 bumped-shown_all top [] back slots = refl
 bumped-shown_all top (m ∷ ms) back slots = refl
 
-pub inserted : (top : Node) (ns back : List Node) (slots : List Slot) (r : Placed) (c mid i : ℕ) → IsTree (top ∷ (ns ++ back)) slots → listing_of (top ∷ (ns ++ back)) slots ≡ canon_of (read_off (listing_of (top ∷ (ns ++ back)) slots)) → IsStrictlySortedBy placed_cmp (put_placed r (read_off (listing_of (top ∷ (ns ++ back)) slots))) → IsUpTo (end_path [] ns) r.path → c ≡ common (end_path [] ns) r.path → IsLater (end_path [] ns) r.path back → ArePacked 0 (top ∷ ns) mid → ArePacked mid back (length slots) → IsPlaced r c (final top ns) slots i → mid ≤ length slots → IsTreeOf (bumped (raised c (length (drop c r.path)) (top ∷ ns) ++ chain mid c (drop c r.path)) ++ moved back) (put_at i r.slot slots) (put_placed r (read_off (listing_of (top ∷ (ns ++ back)) slots)))
+pub inserted : (top : Node) (ns back : List Node) (slots : List Slot) (r : Placed) (c mid i : ℕ) → IsTree (top ∷ (ns ++ back)) slots
+    → listing_of (top ∷ (ns ++ back)) slots ≡ canon_of (read_off (listing_of (top ∷ (ns ++ back)) slots))
+    → IsStrictlySortedBy placed_cmp (put_placed r (read_off (listing_of (top ∷ (ns ++ back)) slots))) → IsUpTo (end_path [] ns) r.path
+    → c ≡ common (end_path [] ns) r.path → IsLater (end_path [] ns) r.path back → ArePacked 0 (top ∷ ns) mid → ArePacked mid back (length slots)
+    → IsPlaced r c (final top ns) slots i → mid ≤ length slots → IsTreeOf
+    (bumped (raised c (length (drop c r.path)) (top ∷ ns) ++ chain mid c (drop c r.path)) ++ moved back) (put_at i r.slot slots)
+    (put_placed r (read_off (listing_of (top ∷ (ns ++ back)) slots)))
 inserted top ns back slots r c mid i tree canon order le is later front behind at within =
     let p : List ℕ = r.path in
     let q : List ℕ = end_path [] ns in
@@ -235,21 +252,28 @@ inserted top ns back slots r c mid i tree canon order le is later front behind a
     let old_split : paths_of old ≡ ([] ∷ node_paths [] ns) ++ node_paths q back = old_paths ∙ ap (λ (l : List (List ℕ)). [] ∷ l) (node_paths-append [] ns back) in
     let old_sorted : IsStrictlySortedBy path_cmp ([] ∷ node_paths [] (ns ++ back)) = subst (IsStrictlySortedBy path_cmp) old_paths tree.order.paths in
     let ends : EndsAt ([] ∷ node_paths [] ns) q = ends-front ns back laid old_sorted in
-    let above : AllAbove p (node_paths q back) = above-behind q p back later (sorted-behind ([] ∷ node_paths [] ns) (node_paths q back) (subst (IsStrictlySortedBy path_cmp) old_split tree.order.paths)) in
+    let above : AllAbove p (node_paths q back) = above-behind q p back later
+        (sorted-behind ([] ∷ node_paths [] ns) (node_paths q back) (subst (IsStrictlySortedBy path_cmp) old_split tree.order.paths)) in
     let new_paths : [] ∷ node_paths [] (ms ++ moved back) ≡ put_paths (prefixes p) (paths_of old) =
-    ap (λ (l : List (List ℕ)). [] ∷ l) (paths-in q p c k mid ns back is refl le shallow) ∙ (sym (puts-in q p ([] ∷ node_paths [] ns) (node_paths q back) ends le above) ∙ ap (put_paths (prefixes p)) (sym old_split)) in
+    ap (λ (l : List (List ℕ)). [] ∷ l) (paths-in q p c k mid ns back is refl le shallow)
+        ∙ (sym (puts-in q p ([] ∷ node_paths [] ns) (node_paths q back) ends le above) ∙ ap (put_paths (prefixes p)) (sym old_split)) in
     let sorted : IsStrictlySortedBy path_cmp ([] ∷ node_paths [] (ms ++ moved back)) = subst (IsStrictlySortedBy path_cmp) (sym new_paths) (sorted-puts (prefixes p) (paths_of old) tree.order.paths) in
     let listed_paths : paths_of (listing_of new slots_new) ≡ [] ∷ node_paths [] (ms ++ moved back) = paths-with_path c k mid es top ns back slots_new in
-    let chain_end : end_path [] ms ≡ p = end_path-append [] (raised c k ns) (chain mid c es) ∙ (ap (λ (l : List ℕ). end_path l (chain mid c es)) (end-raised [] c k ns) ∙ (ap (λ (x : ℕ). end_path q (chain mid x (drop x p))) is ∙ end-chain q p mid le)) in
-    let both : node_paths [] (ms ++ moved back) ≡ node_paths [] ms ++ node_paths p back = node_paths-append [] ms (moved back) ∙ (ap (λ (l : List ℕ). node_paths [] ms ++ node_paths l (moved back)) chain_end ∙ ap (λ (l : List (List ℕ)). node_paths [] ms ++ l) (paths-moved p back)) in
+    let chain_end : end_path [] ms ≡ p = end_path-append [] (raised c k ns) (chain mid c es)
+        ∙ (ap (λ (l : List ℕ). end_path l (chain mid c es)) (end-raised [] c k ns) ∙ (ap (λ (x : ℕ). end_path q (chain mid x (drop x p))) is ∙ end-chain q p mid le)) in
+    let both : node_paths [] (ms ++ moved back) ≡ node_paths [] ms ++ node_paths p back = node_paths-append [] ms (moved back)
+        ∙ (ap (λ (l : List ℕ). node_paths [] ms ++ node_paths l (moved back)) chain_end ∙ ap (λ (l : List (List ℕ)). node_paths [] ms ++ l) (paths-moved p back)) in
     let fin : AtFinal r.slot.number (final high ms) slots i mid = at-final r c k mid es top high ns slots i refl refl refl (omega (arith, is, common-right q p)) front at in
     let put : Put (read_off (shown_from [] high (ms ++ back) slots)) (read_off (shown_all [] new slots_new)) r =
-    put-listing [] high ms back slots r i 0 mid chain_end (packed-path c k mid es top ns front) behind within fin.low fin.high fin.between (subst (λ (l : List (List ℕ)). IsStrictlySortedBy path_cmp ([] ∷ l)) both sorted) in
+    put-listing [] high ms back slots r i 0 mid chain_end (packed-path c k mid es top ns front) behind within fin.low fin.high fin.between
+        (subst (λ (l : List (List ℕ)). IsStrictlySortedBy path_cmp ([] ∷ l)) both sorted) in
     let read_old : read_off (shown_from [] high (ms ++ back) slots) ≡ list = ap (λ (l : List Placed). all_at [] (slots_of top slots) ++ l) (read-path q p c k mid ns back slots is refl le shallow) in
-    let read : read_off (listing_of new slots_new) ≡ put_placed r list = ap read_off (sym (bumped-shown_all high ms (moved back) slots_new)) ∙ (put-is (read_off (shown_from [] high (ms ++ back) slots)) (read_off (shown_all [] new slots_new)) r put ∙ ap (put_placed r) read_old) in
+    let read : read_off (listing_of new slots_new) ≡ put_placed r list = ap read_off (sym (bumped-shown_all high ms (moved back) slots_new))
+        ∙ (put-is (read_off (shown_from [] high (ms ++ back) slots)) (read_off (shown_all [] new slots_new)) r put ∙ ap (put_placed r) read_old) in
     let all_paths : paths_of (listing_of new slots_new) ≡ paths_with ([] ∷ []) (put_placed r list) =
     listed_paths ∙ (new_paths ∙ (ap (put_paths (prefixes p)) (ap paths_of canon ∙ paths-canon list) ∙ sym (paths-put ([] ∷ []) r list))) in
-    let listed : listing_of new slots_new ≡ canon_of (put_placed r list) = canon-from (put_placed r list) (listing_of new slots_new) (subst (IsStrictlySortedBy path_cmp) (sym listed_paths) sorted) all_paths read in
+    let listed : listing_of new slots_new ≡ canon_of (put_placed r list) = canon-from (put_placed r list) (listing_of new slots_new)
+        (subst (IsStrictlySortedBy path_cmp) (sym listed_paths) sorted) all_paths read in
     record {
       tree = record {
         topped = topped-in c mid es top ns back shallow (omega (arith, is, common-left q p, depth)) tree.topped;

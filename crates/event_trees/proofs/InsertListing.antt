@@ -31,7 +31,8 @@ slots-before n slots s i within before =
     let front : List Slot = take i slots in
     let long : length front ≡ i = length-take-le i slots within in
     let left : drop n.first (put_at i s slots) ≡ drop n.first front ++ s ∷ drop i slots = drop-append-le n.first front (s ∷ drop i slots) (omega (arith, long, before)) in
-    let right : drop n.first slots ≡ drop n.first front ++ drop i slots = ap (drop n.first) (sym (take-append-drop i slots)) ∙ drop-append-le n.first front (drop i slots) (omega (arith, long, before)) in
+    let right : drop n.first slots ≡ drop n.first front ++ drop i slots = ap (drop n.first) (sym (take-append-drop i slots))
+        ∙ drop-append-le n.first front (drop i slots) (omega (arith, long, before)) in
     let room : n.count ≤ length (drop n.first front) = omega (arith, long, before, length-drop n.first front) in
     ap (take n.count) left ∙ (take-append-le n.count (drop n.first front) (s ∷ drop i slots) room ∙ sym (ap (take n.count) right ∙ take-append-le n.count (drop n.first front) (drop i slots) room))
 
@@ -43,7 +44,8 @@ slots-behind n slots s i within behind =
     let one : put_at i s slots ≡ (front ++ s ∷ []) ++ rest = sym (append_assoc front (s ∷ []) rest) in
     let left : drop (i + 1) (put_at i s slots) ≡ rest = ap (drop (i + 1)) one ∙ drop_at (front ++ s ∷ []) rest (i + 1) long in
     let far : drop (n.first + 1) (put_at i s slots) ≡ drop (n.first - i) rest =
-    ap (λ (k : ℕ). drop k (put_at i s slots)) (let k : n.first + 1 ≡ (i + 1) + (n.first - i) = omega (arith, behind) in k) ∙ (sym (drop-drop (n.first - i) (i + 1) (put_at i s slots)) ∙ ap (drop (n.first - i)) left) in
+    ap (λ (k : ℕ). drop k (put_at i s slots)) (let k : n.first + 1 ≡ (i + 1) + (n.first - i) = omega (arith, behind) in k)
+        ∙ (sym (drop-drop (n.first - i) (i + 1) (put_at i s slots)) ∙ ap (drop (n.first - i)) left) in
     let near : drop n.first slots ≡ drop (n.first - i) rest = ap (λ (k : ℕ). drop k slots) (let k : n.first ≡ i + (n.first - i) = omega (arith, behind) in k) ∙ sym (drop-drop (n.first - i) i slots) in
     ap (take n.count) (far ∙ sym near)
 
@@ -54,9 +56,11 @@ take-put zero (suc count) s rest h k = ap (λ (m : ℕ). take m (s ∷ rest)) (l
 take-put (suc j) zero s rest h k = absurd (omega (arith, h))
 take-put (suc j) (suc count) s [] h k = absurd (omega (arith, k))
 take-put (suc j) (suc count) s (x ∷ xs) h k =
-    ap (λ (m : ℕ). take m (x ∷ put_at j s xs)) (let m : suc count + 1 ≡ suc (count + 1) = omega arith in m) ∙ ap (λ (l : List Slot). x ∷ l) (take-put j count s xs (omega (arith, h)) (omega (arith, k)))
+    ap (λ (m : ℕ). take m (x ∷ put_at j s xs)) (let m : suc count + 1 ≡ suc (count + 1) = omega arith in m)
+        ∙ ap (λ (l : List Slot). x ∷ l) (take-put j count s xs (omega (arith, h)) (omega (arith, k)))
 
-pub slots-at : (n : Node) (slots : List Slot) (s : Slot) (i : ℕ) → n.first ≤ i → i ≤ n.first + n.count → n.first + n.count ≤ length slots → slots_of (record n { count = n.count + 1 }) (put_at i s slots) ≡ put_at (i - n.first) s (slots_of n slots)
+pub slots-at : (n : Node) (slots : List Slot) (s : Slot) (i : ℕ) → n.first ≤ i → i ≤ n.first + n.count → n.first + n.count ≤ length slots
+    → slots_of (record n { count = n.count + 1 }) (put_at i s slots) ≡ put_at (i - n.first) s (slots_of n slots)
 slots-at n slots s i low high within =
     let j : ℕ = i - n.first in
     let rest : List Slot = drop n.first slots in
@@ -119,16 +123,20 @@ number_later r (s ∷ slots) h =
     ap (λ (o : Ordering). is_lt (ordering_then o (nat_cmp r.slot.number s.number))) (itself r.path) ∙ ap is_lt (sym (nat_cmp_is r.slot.number s.number Less h))
 
 -- ---- the nodes behind
-pub moved-after : (before : List ℕ) (place end : ℕ) (ns : List Node) (slots : List Slot) (s : Slot) (i : ℕ) → ArePacked place ns end → i ≤ place → i ≤ length slots → listing_after before (moved ns) (put_at i s slots) ≡ listing_after before ns slots
+pub moved-after : (before : List ℕ) (place end : ℕ) (ns : List Node) (slots : List Slot) (s : Slot) (i : ℕ) → ArePacked place ns end → i ≤ place
+    → i ≤ length slots → listing_after before (moved ns) (put_at i s slots) ≡ listing_after before ns slots
 moved-after before place end [] slots s i packed behind within = refl
 moved-after before place end (n ∷ ns) slots s i packed behind within =
-    ap (λ (l : List Slot). record { path = path_after before n; slots = l } ∷ listing_after (path_after before n) (moved ns) (put_at i s slots)) (slots-behind n slots s i within (omega (arith, packed.0, behind))) ∙
-    ap (λ (l : List Shown). record { path = path_after before n; slots = slots_of n slots } ∷ l) (moved-after (path_after before n) (place + n.count) end ns slots s i packed.1 (omega (arith, behind)) within)
+    ap (λ (l : List Slot). record { path = path_after before n; slots = l } ∷ listing_after (path_after before n) (moved ns) (put_at i s slots))
+        (slots-behind n slots s i within (omega (arith, packed.0, behind))) ∙
+    ap (λ (l : List Shown). record { path = path_after before n; slots = slots_of n slots } ∷ l)
+        (moved-after (path_after before n) (place + n.count) end ns slots s i packed.1 (omega (arith, behind)) within)
 
 behind-later : (r : Placed) (before : List ℕ) (ns : List Node) (slots : List Slot) → AllAbove r.path (node_paths before ns) → StartsLater r (read_off (listing_after before ns slots))
 behind-later r before [] slots all = tt
 behind-later r before (n ∷ ns) slots all =
-    starts_later-both r (all_at (path_after before n) (slots_of n slots)) (read_off (listing_after (path_after before n) ns slots)) (path_later r (path_after before n) (slots_of n slots) all.0) (behind-later r (path_after before n) ns slots all.1)
+    starts_later-both r (all_at (path_after before n) (slots_of n slots)) (read_off (listing_after (path_after before n) ns slots))
+        (path_later r (path_after before n) (slots_of n slots) all.0) (behind-later r (path_after before n) ns slots all.1)
 
 -- ---- node by node
 -- the last node
@@ -174,7 +182,10 @@ pub above_front : (x : List ℕ) (xs ys : List (List ℕ)) → AllAbove x (xs ++
 above_front x [] ys h = tt
 above_front x (z ∷ xs) ys h = (h.0, above_front x xs ys h.1)
 
-at_final : (n : Node) (back : List Node) (slots : List Slot) (r : Placed) (i mid : ℕ) → n.first + n.count ≡ mid → n.first ≤ i → i ≤ mid → ArePacked mid back (length slots) → mid ≤ length slots → IsBetween r.slot.number (slots_of n slots) (i - n.first) → AllAbove r.path (node_paths r.path back) → Put (read_off (shown_from r.path n back slots)) (read_off (shown_from r.path (record n { count = n.count + 1 }) (moved back) (put_at i r.slot slots))) r
+at_final : (n : Node) (back : List Node) (slots : List Slot) (r : Placed) (i mid : ℕ) → n.first + n.count ≡ mid → n.first ≤ i → i ≤ mid
+    → ArePacked mid back (length slots) → mid ≤ length slots → IsBetween r.slot.number (slots_of n slots) (i - n.first)
+    → AllAbove r.path (node_paths r.path back) → Put (read_off (shown_from r.path n back slots))
+    (read_off (shown_from r.path (record n { count = n.count + 1 }) (moved back) (put_at i r.slot slots))) r
 at_final n back slots r i mid ends low high packed within between above =
     let p : List ℕ = r.path in
     let j : ℕ = i - n.first in
@@ -185,9 +196,12 @@ at_final n back slots r i mid ends low high packed within between above =
     record {
       front = all_at p (take j held);
       rest = all_at p (drop j held) ++ rest;
-      was = ap (λ (l : List Slot). all_at p l ++ rest) (sym (take-append-drop j held)) ∙ (ap (λ (l : List Placed). l ++ rest) (map-append (λ (x : Slot). record { path = p; slot = x }) (take j held) (drop j held)) ∙ append_assoc (all_at p (take j held)) (all_at p (drop j held)) rest);
+      was = ap (λ (l : List Slot). all_at p l ++ rest) (sym (take-append-drop j held))
+          ∙ (ap (λ (l : List Placed). l ++ rest) (map-append (λ (x : Slot). record { path = p; slot = x }) (take j held) (drop j held))
+          ∙ append_assoc (all_at p (take j held)) (all_at p (drop j held)) rest);
       is = ap (λ (l : List Slot). all_at p l ++ read_off (listing_after p (moved back) (put_at i r.slot slots))) here ∙ (ap (λ (l : List Shown). all_at p (put_at j r.slot held) ++ read_off l) behind ∙
-          (ap (λ (l : List Placed). l ++ rest) (map-append (λ (x : Slot). record { path = p; slot = x }) (take j held) (r.slot ∷ drop j held)) ∙ append_assoc (all_at p (take j held)) (r ∷ all_at p (drop j held)) rest));
+          (ap (λ (l : List Placed). l ++ rest) (map-append (λ (x : Slot). record { path = p; slot = x }) (take j held) (r.slot ∷ drop j held))
+              ∙ append_assoc (all_at p (take j held)) (r ∷ all_at p (drop j held)) rest));
       before = number_before r (take j held) between.low;
       after = starts_later-both r (all_at p (drop j held)) rest (number_later r (drop j held) between.high) (behind-later r p back slots above);
     }
@@ -196,11 +210,16 @@ pub first-le : (place : ℕ) (n : Node) (ns : List Node) (mid : ℕ) → ArePack
 first-le place n [] mid h = omega (arith, h.0)
 first-le place n (m ∷ ns) mid h = omega (arith, first-le (place + n.count) m ns mid h.1)
 
-pub bumped-on : (path : List ℕ) (m : Node) (ns rest : List Node) (slots : List Slot) → listing_after path (bumped (m ∷ ns) ++ rest) slots ≡ shown_all (path_after path m) (bumped (m ∷ ns) ++ rest) slots
+pub bumped-on : (path : List ℕ) (m : Node) (ns rest : List Node) (slots : List Slot)
+    → listing_after path (bumped (m ∷ ns) ++ rest) slots ≡ shown_all (path_after path m) (bumped (m ∷ ns) ++ rest) slots
 bumped-on path m [] rest slots = refl
 bumped-on path m (x ∷ ns) rest slots = refl
 
-pub put-listing : (path : List ℕ) (n : Node) (ns back : List Node) (slots : List Slot) (r : Placed) (i place mid : ℕ) → end_path path ns ≡ r.path → ArePacked place (n ∷ ns) mid → ArePacked mid back (length slots) → mid ≤ length slots → (final n ns).first ≤ i → i ≤ mid → IsBetween r.slot.number (slots_of (final n ns) slots) (i - (final n ns).first) → IsStrictlySortedBy path_cmp (path ∷ (node_paths path ns ++ node_paths r.path back)) → Put (read_off (shown_from path n (ns ++ back) slots)) (read_off (shown_all path (bumped (n ∷ ns) ++ moved back) (put_at i r.slot slots))) r
+pub put-listing : (path : List ℕ) (n : Node) (ns back : List Node) (slots : List Slot) (r : Placed) (i place mid : ℕ) → end_path path ns ≡ r.path
+    → ArePacked place (n ∷ ns) mid → ArePacked mid back (length slots) → mid ≤ length slots → (final n ns).first ≤ i → i ≤ mid
+    → IsBetween r.slot.number (slots_of (final n ns) slots) (i - (final n ns).first)
+    → IsStrictlySortedBy path_cmp (path ∷ (node_paths path ns ++ node_paths r.path back))
+    → Put (read_off (shown_from path n (ns ++ back) slots)) (read_off (shown_all path (bumped (n ∷ ns) ++ moved back) (put_at i r.slot slots))) r
 unfolding IsStrictlySortedBy
 put-listing path n [] back slots r i place mid ends packed behind within low high between sorted =
     subst (λ (p : List ℕ). Put (read_off (shown_from p n back slots)) (read_off (shown_from p (record n { count = n.count + 1 }) (moved back) (put_at i r.slot slots))) r) (sym ends)
@@ -214,6 +233,8 @@ put-listing path n (m ∷ ns) back slots r i place mid ends packed behind within
     let less : path_cmp path r.path ≡ Less = has_above path (node_paths path (m ∷ ns)) r.path (above_front path (node_paths path (m ∷ ns)) (node_paths r.path back) sorted.0) has in
     let here : slots_of n new ≡ slots_of n slots = slots-before n slots r.slot i (omega (arith, high, within)) (omega (arith, packed.0, low, first-le (place + n.count) m ns mid packed.1)) in
     let same : read_off (shown_all path (n ∷ (bumped (m ∷ ns) ++ moved back)) new) ≡ all_at path (slots_of n slots) ++ read_off (shown_all on (bumped (m ∷ ns) ++ moved back) new) =
-    ap (λ (l : List Slot). all_at path l ++ read_off (listing_after path (bumped (m ∷ ns) ++ moved back) new)) here ∙ ap (λ (l : List Shown). all_at path (slots_of n slots) ++ read_off l) (bumped-on path m ns (moved back) new) in
+    ap (λ (l : List Slot). all_at path l ++ read_off (listing_after path (bumped (m ∷ ns) ++ moved back) new)) here
+        ∙ ap (λ (l : List Shown). all_at path (slots_of n slots) ++ read_off l) (bumped-on path m ns (moved back) new) in
     subst (λ (l : List Placed). Put (all_at path (slots_of n slots) ++ read_off (shown_from on m (ns ++ back) slots)) l r) (sym same)
-    (put-more (read_off (shown_from on m (ns ++ back) slots)) (read_off (shown_all on (bumped (m ∷ ns) ++ moved back) new)) r (all_at path (slots_of n slots)) (path_before r path (slots_of n slots) less) rest)
+    (put-more (read_off (shown_from on m (ns ++ back) slots)) (read_off (shown_all on (bumped (m ∷ ns) ++ moved back) new)) r
+        (all_at path (slots_of n slots)) (path_before r path (slots_of n slots) less) rest)

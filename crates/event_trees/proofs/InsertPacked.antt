@@ -37,6 +37,7 @@ pub packed-path : (c more mid : ℕ) (es : List ℕ) (top : Node) (ns : List Nod
 packed-path c more mid es top ns h =
     packed-both 0 mid (raised c more (top ∷ ns)) (chain mid c es) mid (packed-raised c more 0 (top ∷ ns) mid h) (packed-chain mid mid c es refl)
 
-pub packed-in : (c more mid end : ℕ) (es : List ℕ) (top : Node) (ns back : List Node) → ArePacked 0 (top ∷ ns) mid → ArePacked mid back end → ArePacked 0 (bumped (raised c more (top ∷ ns) ++ chain mid c es) ++ moved back) (end + 1)
+pub packed-in : (c more mid end : ℕ) (es : List ℕ) (top : Node) (ns back : List Node) → ArePacked 0 (top ∷ ns) mid → ArePacked mid back end
+    → ArePacked 0 (bumped (raised c more (top ∷ ns) ++ chain mid c es) ++ moved back) (end + 1)
 packed-in c more mid end es top ns back h k =
     packed-both 0 (mid + 1) (bumped (raised c more (top ∷ ns) ++ chain mid c es)) (moved back) (end + 1) (bumped-packed 0 mid _ _ (packed-path c more mid es top ns h)) (packed-moved mid back end k)

@@ -104,7 +104,8 @@ paths-behind q p (n ∷ ns) s =
     let front : take (n.depth - 1) q ≡ take (n.depth - 1) p = take-common (n.depth - 1) q p (omega (arith, s)) in
     ap (λ (l : List ℕ). (l ++ n.event ∷ []) ∷ node_paths (l ++ n.event ∷ []) ns) (sym front)
 
-pub paths-in : (q p : List ℕ) (c more mid : ℕ) (ns back : List Node) → c ≡ common q p → end_path [] ns ≡ q → IsUpTo q p → IsShallow c back → node_paths [] ((raised c more ns ++ chain mid c (drop c p)) ++ moved back) ≡ node_paths [] ns ++ (newer [] q p ++ node_paths q back)
+pub paths-in : (q p : List ℕ) (c more mid : ℕ) (ns back : List Node) → c ≡ common q p → end_path [] ns ≡ q → IsUpTo q p → IsShallow c back
+    → node_paths [] ((raised c more ns ++ chain mid c (drop c p)) ++ moved back) ≡ node_paths [] ns ++ (newer [] q p ++ node_paths q back)
 paths-in q p c more mid ns back is ends le s =
     let ch : List Node = chain mid c (drop c p) in
     let chain_is : ch ≡ chain mid (common q p) (drop (common q p) p) = ap (λ (k : ℕ). chain mid k (drop k p)) is in
@@ -112,7 +113,8 @@ paths-in q p c more mid ns back is ends le s =
     let behind : node_paths (end_path q ch) (moved back) ≡ node_paths q back =
     ap (λ (l : List ℕ). node_paths l (moved back)) at_end ∙ (paths-moved p back ∙ paths-behind q p back (subst (λ (k : ℕ). IsShallow k back) is s)) in
     let middle : node_paths q (ch ++ moved back) ≡ newer [] q p ++ node_paths q back =
-    node_paths-append q ch (moved back) ∙ (ap (λ (l : List (List ℕ)). l ++ node_paths (end_path q ch) (moved back)) (ap (node_paths q) chain_is ∙ paths-chain q p mid) ∙ ap (λ (l : List (List ℕ)). newer [] q p ++ l) behind) in
+    node_paths-append q ch (moved back) ∙ (ap (λ (l : List (List ℕ)). l ++ node_paths (end_path q ch) (moved back)) (ap (node_paths q) chain_is
+        ∙ paths-chain q p mid) ∙ ap (λ (l : List (List ℕ)). newer [] q p ++ l) behind) in
     ap (node_paths []) (append_assoc (raised c more ns) ch (moved back)) ∙ (paths-raised [] c more ns (ch ++ moved back) ∙ (node_paths-append [] ns (ch ++ moved back) ∙
     (ap (λ (l : List ℕ). node_paths [] ns ++ node_paths l (ch ++ moved back)) ends ∙ ap (λ (l : List (List ℕ)). node_paths [] ns ++ l) middle)))
 
@@ -121,7 +123,9 @@ pub after-bump : (top : Node) (ms back : List Node) (slots : List Slot) → map 
 after-bump top [] back slots = ap (λ (l : List (List ℕ)). [] ∷ l) (paths-after [] (moved back) slots)
 after-bump top (m ∷ ms) back slots = ap (λ (l : List (List ℕ)). [] ∷ l) (paths-after [] (bumped (m ∷ ms) ++ moved back) slots ∙ paths-bumped [] (m ∷ ms) (moved back))
 
-pub paths-with_path : (c more mid : ℕ) (es : List ℕ) (top : Node) (ns back : List Node) (slots : List Slot) → map (λ s. s.path) (listing_of (bumped (raised c more (top ∷ ns) ++ chain mid c es) ++ moved back) slots) ≡ [] ∷ node_paths [] ((raised c more ns ++ chain mid c es) ++ moved back)
+pub paths-with_path : (c more mid : ℕ) (es : List ℕ) (top : Node) (ns back : List Node) (slots : List Slot)
+    → map (λ s. s.path) (listing_of (bumped (raised c more (top ∷ ns) ++ chain mid c es) ++ moved back) slots) ≡ [] ∷ node_paths []
+    ((raised c more ns ++ chain mid c es) ++ moved back)
 paths-with_path c more mid es top ns back slots = after-bump _ (raised c more ns ++ chain mid c es) back slots
 
 -- ---- put among paths that are all later, a path and its prefixes come to the end of those before

@@ -67,18 +67,21 @@ pub record SoFar (path : List ℕ) (n : Node) (so_far all : List (List ℕ)) : T
   pub sorted : IsStrictlySortedBy path_cmp all
   pub puts : put_paths (prefixes path) so_far ≡ all
 
-next-deeper : (path : List ℕ) (n m : Node) (so_far all : List (List ℕ)) → SoFar path n so_far all → n.depth < m.depth → m.depth ≤ length path + 1 → AllBelow all (path_after path m) → put_paths (prefixes (path_after path m)) so_far ≡ all ++ path_after path m ∷ []
+next-deeper : (path : List ℕ) (n m : Node) (so_far all : List (List ℕ)) → SoFar path n so_far all → n.depth < m.depth → m.depth ≤ length path + 1
+    → AllBelow all (path_after path m) → put_paths (prefixes (path_after path m)) so_far ≡ all ++ path_after path m ∷ []
 next-deeper path n m so_far all s deeper near below =
     let whole : take (m.depth - 1) path ≡ path = take_all (m.depth - 1) path (omega (arith, s.long, deeper)) in
     let is : path_after path m ≡ path ++ m.event ∷ [] = ap (λ (l : List ℕ). l ++ m.event ∷ []) whole in
-    ap (λ (p : List ℕ). put_paths (prefixes p) so_far) is ∙ (prefixes-push [] path m.event so_far ∙ (ap (put_path (path ++ m.event ∷ [])) s.puts ∙ (ap (λ (p : List ℕ). put_path p all) (sym is) ∙ put-above (path_after path m) all below)))
+    ap (λ (p : List ℕ). put_paths (prefixes p) so_far) is ∙ (prefixes-push [] path m.event so_far
+        ∙ (ap (put_path (path ++ m.event ∷ [])) s.puts ∙ (ap (λ (p : List ℕ). put_path p all) (sym is) ∙ put-above (path_after path m) all below)))
 
 shorter : (path : List ℕ) (xs : List (List ℕ)) (d k : ℕ) → ((j : ℕ) → Has (take j path) xs) → Has (take k (take d path)) xs
 shorter path xs d k h =
     ⊎_elim (λ l. subst (λ (p : List ℕ). Has p xs) (sym (take-take k d path (omega (arith, l)))) (h k))
     (λ g. subst (λ (p : List ℕ). Has p xs) (sym (take_all k (take d path) (omega (arith, g, length-take d path)))) (h d)) (cases_lt k d)
 
-next-held : (path : List ℕ) (n m : Node) (so_far all : List (List ℕ)) → SoFar path n so_far all → AllBelow all (path_after path m) → put_paths (prefixes (path_after path m)) all ≡ all ++ path_after path m ∷ []
+next-held : (path : List ℕ) (n m : Node) (so_far all : List (List ℕ)) → SoFar path n so_far all → AllBelow all (path_after path m)
+    → put_paths (prefixes (path_after path m)) all ≡ all ++ path_after path m ∷ []
 next-held path n m so_far all s below =
     let short : List ℕ = take (m.depth - 1) path in
     let held : put_paths (prefixes short) all ≡ all = held-puts [] short all s.sorted (λ k. shorter path all (m.depth - 1) k s.begun) in
@@ -87,10 +90,13 @@ next-held path n m so_far all s below =
 held-all : (path : List ℕ) (n : Node) (so_far all : List (List ℕ)) → SoFar path n so_far all → put_paths (prefixes path) all ≡ all
 held-all path n so_far all s = held-puts [] path all s.sorted s.begun
 
-pub paths-needed : (path : List ℕ) (n : Node) (ns : List Node) (slots : List Slot) (so_far all : List (List ℕ)) (place : ℕ) → SoFar path n so_far all → IsNeeded n ns → AreLaidOut (length path) ns → ArePacked place (n ∷ ns) (length slots) → IsStrictlySortedBy path_cmp (all ++ node_paths path ns) → paths_with so_far (all_at path (slots_of n slots) ++ read_off (listing_after path ns slots)) ≡ all ++ node_paths path ns
+pub paths-needed : (path : List ℕ) (n : Node) (ns : List Node) (slots : List Slot) (so_far all : List (List ℕ)) (place : ℕ) → SoFar path n so_far all
+    → IsNeeded n ns → AreLaidOut (length path) ns → ArePacked place (n ∷ ns) (length slots) → IsStrictlySortedBy path_cmp (all ++ node_paths path ns)
+    → paths_with so_far (all_at path (slots_of n slots) ++ read_off (listing_after path ns slots)) ≡ all ++ node_paths path ns
 paths-needed path n [] slots so_far all place s needed laid packed sorted =
     let within : n.first + n.count ≤ length slots = omega (arith, packed.0, packed.1) in
-    ap (paths_with so_far) (append-nil (all_at path (slots_of n slots))) ∙ (with-some path (slots_of n slots) so_far all (slots-some n slots within needed) s.puts (held-all path n so_far all s) ∙ sym (append-nil all))
+    ap (paths_with so_far) (append-nil (all_at path (slots_of n slots)))
+        ∙ (with-some path (slots_of n slots) so_far all (slots-some n slots within needed) s.puts (held-all path n so_far all s) ∙ sym (append-nil all))
 paths-needed path n (m ∷ ns) slots so_far all place s needed laid packed sorted =
     let on : List ℕ = path_after path m in
     let here : List Placed = all_at path (slots_of n slots) in
@@ -124,12 +130,15 @@ top-needed top [] is laid needed some = absurd (omega (arith, some))
 top-needed top (m ∷ ns) is laid needed some = (λ _. omega (arith, is, laid.0), needed)
 
 -- the listing of such a tree is that of its registrations
-pub listing-needed : (top : Node) (ns : List Node) (slots : List Slot) → top.depth ≡ 0 → AreLaidOut 0 ns → ArePacked 0 (top ∷ ns) (length slots) → IsStrictlySortedBy path_cmp ([] ∷ node_paths [] ns) → AreNeeded ns → listing_of (top ∷ ns) slots ≡ canon_of (read_off (listing_of (top ∷ ns) slots))
-listing-needed top [] slots is laid packed sorted needed = canon-from (read_off (listing_of (top ∷ []) slots)) (listing_of (top ∷ []) slots) one_path (sym (ap (paths_with ([] ∷ [])) (append-nil (all_at [] (slots_of top slots))) ∙ with-more [] (slots_of top slots) ([] ∷ []) refl)) refl
+pub listing-needed : (top : Node) (ns : List Node) (slots : List Slot) → top.depth ≡ 0 → AreLaidOut 0 ns → ArePacked 0 (top ∷ ns) (length slots)
+    → IsStrictlySortedBy path_cmp ([] ∷ node_paths [] ns) → AreNeeded ns → listing_of (top ∷ ns) slots ≡ canon_of (read_off (listing_of (top ∷ ns) slots))
+listing-needed top [] slots is laid packed sorted needed = canon-from (read_off (listing_of (top ∷ []) slots)) (listing_of (top ∷ []) slots) one_path
+    (sym (ap (paths_with ([] ∷ [])) (append-nil (all_at [] (slots_of top slots))) ∙ with-more [] (slots_of top slots) ([] ∷ []) refl)) refl
 listing-needed top (m ∷ ns) slots is laid packed sorted needed =
     let paths : paths_of (listing_of (top ∷ m ∷ ns) slots) ≡ [] ∷ node_paths [] (m ∷ ns) = ap (λ (l : List (List ℕ)). [] ∷ l) (paths-after [] (m ∷ ns) slots) in
     let held : paths_with ([] ∷ []) (read_off (listing_of (top ∷ m ∷ ns) slots)) ≡ ([] ∷ []) ++ node_paths [] (m ∷ ns) =
-    paths-needed [] top (m ∷ ns) slots ([] ∷ []) ([] ∷ []) 0 (record { long = sym is; begun = λ k. inl (sym (take_none k)); sorted = one_path; puts = refl }) (top-needed top (m ∷ ns) is laid needed (omega arith)) laid packed sorted in
+    paths-needed [] top (m ∷ ns) slots ([] ∷ []) ([] ∷ []) 0 (record { long = sym is; begun = λ k. inl (sym (take_none k)); sorted = one_path;
+        puts = refl }) (top-needed top (m ∷ ns) is laid needed (omega arith)) laid packed sorted in
     canon-from (read_off (listing_of (top ∷ m ∷ ns) slots)) (listing_of (top ∷ m ∷ ns) slots) (subst (IsStrictlySortedBy path_cmp) (sym paths) sorted) (paths ∙ sym held) refl
 
 -- ---- in the listing of a list a path without registrations goes on at once
@@ -166,7 +175,8 @@ newer-longer front (a ∷ q) (b ∷ p) =
     (λ t. inr (record { front = front; event = b; events = p; is = ap (λ (c : Bool). cond c (newer (front ++ b ∷ []) q p) (longer front (b ∷ p))) t.0 })) (eqb_tells a b)
 
 -- a last path that has registrations, or is the empty one, may be followed by longer ones
-goes_on-both : (front : List Shown) (q : List ℕ) (slots : List Slot) (f : List ℕ) (b : ℕ) (es : List ℕ) → GoesOn (ended front q slots) → (slots ≡ [] → q ≡ []) → GoesOn (ended front q slots ++ map bare (longer f (b ∷ es)))
+goes_on-both : (front : List Shown) (q : List ℕ) (slots : List Slot) (f : List ℕ) (b : ℕ) (es : List ℕ) → GoesOn (ended front q slots)
+    → (slots ≡ [] → q ≡ []) → GoesOn (ended front q slots ++ map bare (longer f (b ∷ es)))
 goes_on-both [] q slots f b es h top = (λ none. omega (arith, ap length (top none), length_push f b), goes_on-longer f b es)
 goes_on-both (x ∷ []) q slots f b es h top = (h.0, goes_on-both [] q slots f b es tt top)
 goes_on-both (x ∷ y ∷ front) q slots f b es h top = (h.0, goes_on-both (y ∷ front) q slots f b es h.1 top)
@@ -186,8 +196,11 @@ no_slots_end (y ∷ xs) x e = cc
 
 ending-next : (list : List Placed) (q : List ℕ) (r : Placed) → Ending list q → Step list q r → Ending (list ++ r ∷ []) r.path
 ending-next list q r e s =
-    let more : GoesOn (canon_of list ++ map bare (newer [] q r.path)) = ⊎_elim (λ none. subst GoesOn (sym (ap (λ (l : List (List ℕ)). canon_of list ++ map bare l) none ∙ append-nil (canon_of list))) e.goes_on)
-    (λ l. subst (λ (x : List (List ℕ)). GoesOn (canon_of list ++ map bare x)) (sym l.is) (subst (λ (x : List Shown). GoesOn (x ++ map bare (longer l.front (l.event ∷ l.events)))) (sym e.is) (goes_on-both e.front q e.slots l.front l.event l.events (subst GoesOn e.is e.goes_on) e.top))) (newer-longer [] q r.path) in
+    let more : GoesOn (canon_of list ++ map bare (newer [] q r.path)) = ⊎_elim
+        (λ none. subst GoesOn (sym (ap (λ (l : List (List ℕ)). canon_of list ++ map bare l) none ∙ append-nil (canon_of list))) e.goes_on)
+    (λ l. subst (λ (x : List (List ℕ)). GoesOn (canon_of list ++ map bare x)) (sym l.is)
+        (subst (λ (x : List Shown). GoesOn (x ++ map bare (longer l.front (l.event ∷ l.events)))) (sym e.is)
+        (goes_on-both e.front q e.slots l.front l.event l.events (subst GoesOn e.is e.goes_on) e.top))) (newer-longer [] q r.path) in
     record {
       front = s.front;
       slots = s.slots ++ r.slot ∷ [];
@@ -218,7 +231,9 @@ head_is : (x y : Shown) (xs ys : List Shown) → x ∷ xs ≡ y ∷ ys → x ≡
 head_is x y xs ys e = cc
 
 -- the nodes of a listing that goes on
-needed-from : (path : List ℕ) (n : Node) (ns : List Node) (slots : List Slot) (front : List Shown) (q : List ℕ) (held : List Slot) → length path ≡ n.depth → AreLaidOut (length path) ns → GoesOn (record { path = path; slots = slots_of n slots } ∷ listing_after path ns slots) → record { path = path; slots = slots_of n slots } ∷ listing_after path ns slots ≡ front ++ record { path = q; slots = held } ∷ [] → held ≢ [] → IsNeeded n ns
+needed-from : (path : List ℕ) (n : Node) (ns : List Node) (slots : List Slot) (front : List Shown) (q : List ℕ) (held : List Slot)
+    → length path ≡ n.depth → AreLaidOut (length path) ns → GoesOn (record { path = path; slots = slots_of n slots } ∷ listing_after path ns slots)
+    → record { path = path; slots = slots_of n slots } ∷ listing_after path ns slots ≡ front ++ record { path = q; slots = held } ∷ [] → held ≢ [] → IsNeeded n ns
 needed-from path n [] slots [] q held long laid on is some =
     ⊎_elim (λ none.
     let zero_count : n.count ≡ 0 = omega (arith, none) in
@@ -238,7 +253,8 @@ needed-from path n (m ∷ ns) slots (f ∷ front) q held long laid on is some =
     )
 
 -- the tree of a list that isn't empty
-pub needed-canon : (top : Node) (ns : List Node) (slots : List Slot) (list : List Placed) → IsTree (top ∷ ns) slots → listing_of (top ∷ ns) slots ≡ canon_of list → Rises [] list → list ≢ [] → IsNeeded top ns
+pub needed-canon : (top : Node) (ns : List Node) (slots : List Slot) (list : List Placed) → IsTree (top ∷ ns) slots
+    → listing_of (top ∷ ns) slots ≡ canon_of list → Rises [] list → list ≢ [] → IsNeeded top ns
 needed-canon top ns slots list tree canon up some =
     let e : Ending list (last_of [] list) = ending-all list up in
     needed-from [] top ns slots e.front (last_of [] list) e.slots (sym tree.topped.1) tree.topped.3 (subst GoesOn (sym canon) e.goes_on) (canon ∙ e.is) (λ none. some (e.some none))

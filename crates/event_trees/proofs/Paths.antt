@@ -18,7 +18,8 @@ eqb_other m n h = grind (arith, nat_tests, h)
 folded-unfound : (paths : ℕ → List ℕ) (defs : List EventDef) (event : ℕ) → found defs event ≡ None → fold defining paths defs event ≡ paths event
 folded-unfound paths [] event h = refl
 folded-unfound paths (d ∷ ds) event h =
-    elim (eqb d.number event) as (λ b. cond b (Some d) (found ds event) ≡ None → (defining paths d event ≡ cond b (paths d.parent ++ event ∷ []) (paths event)) → fold defining (defining paths d) ds event ≡ paths event) [
+    elim (eqb d.number event) as (λ b. cond b (Some d) (found ds event) ≡ None
+        → (defining paths d event ≡ cond b (paths d.parent ++ event ∷ []) (paths event)) → fold defining (defining paths d) ds event ≡ paths event) [
       | true ↦ λ e s. cc
       | false ↦ λ e s. folded-unfound (defining paths d) ds event e ∙ s
     ] h refl
@@ -91,7 +92,8 @@ not_event defs event low absent h =
 
 pub is_event-push : (defs : List EventDef) (d : EventDef) (event : ℕ) → found defs d.number ≡ None → IsTrue (is_event defs event) → IsTrue (is_event (defs ++ d ∷ []) event)
 is_event-push defs d event absent h =
-    ⊎_elim (λ t. subst (λ (e : ℕ). IsTrue (is_event (defs ++ d ∷ []) e)) t.1 (subst (λ (o : Option EventDef). IsTrue (is_root d.number || is_some o)) (sym (found-push_same defs d absent)) (or_true (is_root d.number))))
+    ⊎_elim (λ t. subst (λ (e : ℕ). IsTrue (is_event (defs ++ d ∷ []) e)) t.1
+        (subst (λ (o : Option EventDef). IsTrue (is_root d.number || is_some o)) (sym (found-push_same defs d absent)) (or_true (is_root d.number))))
     (λ t. subst (λ (o : Option EventDef). IsTrue (is_root event || is_some o)) (sym (found-push_other defs d event t.1)) h) (eqb_tells d.number event)
 
 -- an event that is there isn't the one that is added
@@ -104,7 +106,8 @@ found-is_event defs event h = subst (λ (b : Bool). IsTrue (is_root event || b))
 defined-push : (defs : List EventDef) (d : EventDef) (event : ℕ) → IsAddable defs d → IsTrue (is_some (found defs event)) → IsTrue (is_some (found (defs ++ d ∷ []) event))
 defined-push defs d event a h = subst (λ (o : Option EventDef). IsTrue (is_some o)) (sym (found-push_other defs d event (apart defs d event a (found-is_event defs event h)))) h
 
-all-push : (defs : List EventDef) (d : EventDef) (events : List ℕ) → IsAddable defs d → AllByRecursion (λ e. IsTrue (is_some (found defs e))) events → AllByRecursion (λ e. IsTrue (is_some (found (defs ++ d ∷ []) e))) events
+all-push : (defs : List EventDef) (d : EventDef) (events : List ℕ) → IsAddable defs d → AllByRecursion (λ e. IsTrue (is_some (found defs e))) events
+    → AllByRecursion (λ e. IsTrue (is_some (found (defs ++ d ∷ []) e))) events
 all-push defs d [] a h = tt
 all-push defs d (e ∷ es) a h = (defined-push defs d e a h.0, all-push defs d es a h.1)
 
@@ -131,7 +134,8 @@ none_known = record {
 }
 
 -- one definition more, for an event that was there
-law-old : (defs : List EventDef) (d : EventDef) → IsAddable defs d → KnowsPaths defs → (event : ℕ) (e : EventDef) → d.number ≢ event → found defs event ≡ Some e → path (defs ++ d ∷ []) event ≡ path (defs ++ d ∷ []) e.parent ++ event ∷ []
+law-old : (defs : List EventDef) (d : EventDef) → IsAddable defs d → KnowsPaths defs → (event : ℕ) (e : EventDef) → d.number ≢ event
+    → found defs event ≡ Some e → path (defs ++ d ∷ []) event ≡ path (defs ++ d ∷ []) e.parent ++ event ∷ []
 law-old defs d a k event e other is =
     let parent : d.number ≢ e.parent = apart defs d e.parent a (k.parents event e is) in
     path-push_other defs d event other ∙ (k.law event e is ∙ ap (λ (p : List ℕ). p ++ event ∷ []) (sym (path-push_other defs d e.parent parent)))
@@ -149,7 +153,8 @@ is_new defs d event e absent same is =
     cc
 
 -- for a fact of each event and its definition: at the new event, and at one that was there
-by_event : (P : ℕ → EventDef → Type 0) (defs : List EventDef) (d : EventDef) → found defs d.number ≡ None → P d.number d → ((event : ℕ) (e : EventDef) → d.number ≢ event → found defs event ≡ Some e → P event e) → (event : ℕ) (e : EventDef) → found (defs ++ d ∷ []) event ≡ Some e → P event e
+by_event : (P : ℕ → EventDef → Type 0) (defs : List EventDef) (d : EventDef) → found defs d.number ≡ None → P d.number d
+    → ((event : ℕ) (e : EventDef) → d.number ≢ event → found defs event ≡ Some e → P event e) → (event : ℕ) (e : EventDef) → found (defs ++ d ∷ []) event ≡ Some e → P event e
 by_event P defs d absent new old event e is =
     ⊎_elim (λ t. subst (λ (n : ℕ). P n e) t.1 (subst (λ (x : EventDef). P d.number x) (is_new defs d event e absent t.1 is) new))
     (λ t. old event e t.1 (was_found defs d event e t.1 is)) (eqb_tells d.number event)
@@ -157,7 +162,8 @@ by_event P defs d absent new old event e is =
 was_event : (defs : List EventDef) (d : EventDef) (event : ℕ) → d.number ≢ event → IsTrue (is_event (defs ++ d ∷ []) event) → IsTrue (is_event defs event)
 was_event defs d event other h = subst (λ (o : Option EventDef). IsTrue (is_root event || is_some o)) (found-push_other defs d event other) h
 
-at_event : (P : ℕ → Type 0) (defs : List EventDef) (d : EventDef) → P d.number → ((event : ℕ) → d.number ≢ event → IsTrue (is_event defs event) → P event) → (event : ℕ) → IsTrue (is_event (defs ++ d ∷ []) event) → P event
+at_event : (P : ℕ → Type 0) (defs : List EventDef) (d : EventDef) → P d.number
+    → ((event : ℕ) → d.number ≢ event → IsTrue (is_event defs event) → P event) → (event : ℕ) → IsTrue (is_event (defs ++ d ∷ []) event) → P event
 at_event P defs d new old event h =
     ⊎_elim (λ t. subst P t.1 new) (λ t. old event t.1 (was_event defs d event t.1 h)) (eqb_tells d.number event)
 
@@ -173,10 +179,13 @@ short-new defs d a = omega (arith, ap length (path-push_same defs d), length_pus
 pub knows-push : (defs : List EventDef) (d : EventDef) → IsAddable defs d → KnowsPaths defs → KnowsPaths (defs ++ d ∷ [])
 knows-push defs d a k = record {
   law = by_event (λ event e. path (defs ++ d ∷ []) event ≡ path (defs ++ d ∷ []) e.parent ++ event ∷ []) defs d a.absent (law-new defs d a) (λ event e other is. law-old defs d a k event e other is);
-  parents = by_event (λ event e. IsTrue (is_event (defs ++ d ∷ []) e.parent)) defs d a.absent (is_event-push defs d d.parent a.absent a.parent) (λ event e other is. is_event-push defs d e.parent a.absent (k.parents event e is));
+  parents = by_event (λ event e. IsTrue (is_event (defs ++ d ∷ []) e.parent)) defs d a.absent (is_event-push defs d d.parent a.absent a.parent)
+      (λ event e other is. is_event-push defs d e.parent a.absent (k.parents event e is));
   numbers = by_event (λ event e. event ≤ 255) defs d a.absent a.high (λ event e other is. k.numbers event e is);
-  rooted = at_event (λ event. IsRooted (defs ++ d ∷ []) (path (defs ++ d ∷ []) event)) defs d (rooted-new defs d a k) (λ event other h. subst (λ (p : List ℕ). IsRooted (defs ++ d ∷ []) p) (sym (path-push_other defs d event other)) (rooted-push defs d (path defs event) a (k.rooted event h)));
-  short = at_event (λ event. length (path (defs ++ d ∷ []) event) ≤ 8) defs d (short-new defs d a) (λ event other h. subst (λ (p : List ℕ). length p ≤ 8) (sym (path-push_other defs d event other)) (k.short event h));
+  rooted = at_event (λ event. IsRooted (defs ++ d ∷ []) (path (defs ++ d ∷ []) event)) defs d (rooted-new defs d a k)
+      (λ event other h. subst (λ (p : List ℕ). IsRooted (defs ++ d ∷ []) p) (sym (path-push_other defs d event other)) (rooted-push defs d (path defs event) a (k.rooted event h)));
+  short = at_event (λ event. length (path (defs ++ d ∷ []) event) ≤ 8) defs d (short-new defs d a)
+      (λ event other h. subst (λ (p : List ℕ). length p ≤ 8) (sym (path-push_other defs d event other)) (k.short event h));
 }
 
 knows-all : (before ds : List EventDef) → KnowsPaths before → AreAddable before ds → KnowsPaths (before ++ ds)
@@ -188,5 +197,6 @@ knows defs a = knows-all [] defs none_known a
 
 pub found-push : (defs : List EventDef) (d : EventDef) (event : ℕ) → found defs d.number ≡ None → found (defs ++ d ∷ []) event ≡ cond (eqb d.number event) (Some d) (found defs event)
 found-push defs d event absent =
-    ⊎_elim (λ t. subst (λ (b : Bool). found (defs ++ d ∷ []) event ≡ cond b (Some d) (found defs event)) (sym t.0) (subst (λ (n : ℕ). found (defs ++ d ∷ []) n ≡ Some d) t.1 (found-push_same defs d absent)))
+    ⊎_elim (λ t. subst (λ (b : Bool). found (defs ++ d ∷ []) event ≡ cond b (Some d) (found defs event)) (sym t.0)
+        (subst (λ (n : ℕ). found (defs ++ d ∷ []) n ≡ Some d) t.1 (found-push_same defs d absent)))
     (λ t. subst (λ (b : Bool). found (defs ++ d ∷ []) event ≡ cond b (Some d) (found defs event)) (sym t.0) (found-push_other defs d event t.1)) (eqb_tells d.number event)

@@ -33,7 +33,8 @@ pub record Stands (rows : List Row) (event place : ℕ) : Type 0 where
   pub within : place < length rows
   pub is : (d : Row) → row_of rows event ≡ Some (get_or rows place d)
 
-stands-next : (r : Row) (rs : List Row) (event : ℕ) (o : Option ℕ) (place : ℕ) → eqb r.def.number event ≡ false → option_map suc o ≡ Some place → ((k : ℕ) → o ≡ Some k → Stands rs event k) → Stands (r ∷ rs) event place
+stands-next : (r : Row) (rs : List Row) (event : ℕ) (o : Option ℕ) (place : ℕ) → eqb r.def.number event ≡ false → option_map suc o ≡ Some place
+    → ((k : ℕ) → o ≡ Some k → Stands rs event k) → Stands (r ∷ rs) event place
 stands-next r rs event None place other is h = cc
 stands-next r rs event (Some k) place other is h =
     let same : suc k ≡ place = cc in
@@ -51,7 +52,8 @@ stands (r ∷ rs) event place h =
     let same : 0 ≡ place = cc in
     subst (Stands (r ∷ rs) event) same (record { within = omega arith; is = λ d. ap (λ (b : Bool). cond b (Some r) (row_of rs event)) t.0 }))
     (λ t. let other : eqb r.def.number event ≡ false = t.0 in
-    stands-next r rs event (place_of rs event) place other (sym (ap (λ (b : Bool). cond b (Some 0) (option_map suc (place_of rs event))) other) ∙ h) (λ k e. stands rs event k e)) (eqb_tells r.def.number event)
+    stands-next r rs event (place_of rs event) place other (sym (ap (λ (b : Bool). cond b (Some 0) (option_map suc (place_of rs event))) other)
+        ∙ h) (λ k e. stands rs event k e)) (eqb_tells r.def.number event)
 
 -- no event has a number over 255
 pub high : (rows : List Row) (event : ℕ) → AreRows rows → 256 ≤ event → row_of rows event ≡ None
@@ -88,7 +90,8 @@ eqb_equiv = record {
 distinct-all : (before ds : List EventDef) → AreAddable before ds → IsDistinct eqb (numbers before) → IsDistinct eqb (numbers (before ++ ds))
 distinct-all before [] are d = subst (λ (l : List EventDef). IsDistinct eqb (numbers l)) (sym (append-nil before)) d
 distinct-all before (x ∷ ds) are d =
-    let one : IsDistinct eqb (numbers (before ++ x ∷ [])) = subst (IsDistinct eqb) (sym (map-append (λ (y : EventDef). y.number) before (x ∷ []))) (IsDistinct-push eqb_equiv (numbers before) x.number d (unmet before x.number are.0.absent)) in
+    let one : IsDistinct eqb (numbers (before ++ x ∷ [])) = subst (IsDistinct eqb) (sym (map-append (λ (y : EventDef). y.number) before (x ∷ [])))
+        (IsDistinct-push eqb_equiv (numbers before) x.number d (unmet before x.number are.0.absent)) in
     subst (λ (l : List EventDef). IsDistinct eqb (numbers l)) (append_assoc before (x ∷ []) ds) (distinct-all (before ++ x ∷ []) ds are.1 one)
 
 none_distinct : IsDistinct eqb (numbers [])
@@ -140,7 +143,8 @@ unfound-row rows event h = by (row_of rows event) (sym (found-rows rows event) �
     by None e = refl
     by (Some r) e = cc
 
-pub places-push : (rows : List Row) (defs : List EventDef) (r : Row) (places : List (Option ℕ)) (count : ℕ) → defs_of rows ≡ defs → ArePlaces rows places → count ≡ length defs → r.def.number ≤ 255 → found defs r.def.number ≡ None → ArePlaces (rows ++ r ∷ []) (set places r.def.number (Some count))
+pub places-push : (rows : List Row) (defs : List EventDef) (r : Row) (places : List (Option ℕ)) (count : ℕ) → defs_of rows ≡ defs
+    → ArePlaces rows places → count ≡ length defs → r.def.number ≤ 255 → found defs r.def.number ≡ None → ArePlaces (rows ++ r ∷ []) (set places r.def.number (Some count))
 places-push rows defs r places count same are counted most absent =
     let n : count ≡ length rows = omega (arith, counted, ap length same, length-map rows (λ (x : Row). x.def)) in
     let none : found (defs_of rows) r.def.number ≡ None = subst (λ (l : List EventDef). found l r.def.number ≡ None) (sym same) absent in
@@ -148,14 +152,16 @@ places-push rows defs r places count same are counted most absent =
     let now : (event : ℕ) → event < 256 → get_or after event None ≡ place_of (rows ++ r ∷ []) event =
     λ event within. ⊎_elim (λ e. subst (λ (k : ℕ). get_or after k None ≡ place_of (rows ++ r ∷ []) k) e
     (get_or-set_same places r.def.number (Some (length rows)) None (omega (arith, are.0, most)) ∙ sym (place-push_same rows r (unfound-row rows r.def.number none))))
-    (λ other. get_or-set_other places r.def.number event (Some (length rows)) None (λ e. other (sym e)) ∙ (are.1 event within ∙ sym (place-push_other rows r event other))) (cases_eq r.def.number event) in
+    (λ other. get_or-set_other places r.def.number event (Some (length rows)) None (λ e. other (sym e))
+        ∙ (are.1 event within ∙ sym (place-push_other rows r event other))) (cases_eq r.def.number event) in
     subst (λ (k : ℕ). ArePlaces (rows ++ r ∷ []) (set places r.def.number (Some k))) (sym n) (length-set places r.def.number (Some (length rows)) ∙ are.0, now)
 
 -- nothing is there at first
 pub none-indexed : (rows : List Row) → rows ≡ [] → AreRows rows × ArePlaces rows (replicate 256 None)
 none-indexed rows is =
     let none : Option ℕ = None in
-    subst (λ (l : List Row). AreRows l × ArePlaces l (replicate 256 none)) (sym is) (record { addable = tt; paths = tt }, (length-replicate 256 none, λ event within. get_or-replicate 256 event none none within))
+    subst (λ (l : List Row). AreRows l × ArePlaces l (replicate 256 none)) (sym is)
+        (record { addable = tt; paths = tt }, (length-replicate 256 none, λ event within. get_or-replicate 256 event none none within))
 
 -- what is read at a number's place
 pub read : (rows : List Row) (places : List (Option ℕ)) (number : ℕ) (d o : Option ℕ) → ArePlaces rows places → number < length places → get_or places number d ≡ o → place_of rows number ≡ o

@@ -32,7 +32,8 @@ absent (r ∷ list) n h =
 numbers-drop : (list : List Reg) (i : ℕ) (d : Reg) → i < length list → numbers_of (drop i list) ≡ (get_or list i d).number ∷ numbers_of (drop (i + 1) list)
 numbers-drop list i d within = ap numbers_of (drop_more list i d within)
 
-pub distinct-on : (list : List Reg) (i : ℕ) (d : Reg) → i < length list → list_any (eqb (get_or list i d).number) (numbers_of (drop (i + 1) list)) ≡ false → IsDistinct eqb (numbers_of (drop (i + 1) list)) ↔ IsDistinct eqb (numbers_of (drop i list))
+pub distinct-on : (list : List Reg) (i : ℕ) (d : Reg) → i < length list
+    → list_any (eqb (get_or list i d).number) (numbers_of (drop (i + 1) list)) ≡ false → IsDistinct eqb (numbers_of (drop (i + 1) list)) ↔ IsDistinct eqb (numbers_of (drop i list))
 distinct-on list i d within absent =
     let n : ℕ = (get_or list i d).number in
     let rest : List ℕ = numbers_of (drop (i + 1) list) in
@@ -41,7 +42,8 @@ distinct-on list i d within absent =
       λ h. IsDistinct-tail eqb n rest (subst (IsDistinct eqb) at h),
     )
 
-pub distinct-off : (list : List Reg) (i : ℕ) (d : Reg) → i < length list → list_any (eqb (get_or list i d).number) (numbers_of (drop (i + 1) list)) ≡ true → IsDistinct eqb (numbers_of (drop i list)) → ⊥
+pub distinct-off : (list : List Reg) (i : ℕ) (d : Reg) → i < length list
+    → list_any (eqb (get_or list i d).number) (numbers_of (drop (i + 1) list)) ≡ true → IsDistinct eqb (numbers_of (drop i list)) → ⊥
 distinct-off list i d within there h =
     let n : ℕ = (get_or list i d).number in
     let rest : List ℕ = numbers_of (drop (i + 1) list) in
@@ -51,14 +53,16 @@ pub distinct-end : (list : List Reg) (i : ℕ) → length list ≤ i → IsDisti
 unfolding IsDistinct
 distinct-end list i past = subst (λ (l : List Reg). IsDistinct eqb (numbers_of l)) (sym (drop_all i list past)) tt
 
-pub falls : (defs : List EventDef) (list : List Reg) (i : ℕ) (a b : Reg) → 1 ≤ i → i < length list → a ≡ get_or list (i - 1) a → b ≡ get_or list i b → is_lt (reg_cmp defs a b) ≡ false → IsStrictlySortedBy (reg_cmp defs) list → ⊥
+pub falls : (defs : List EventDef) (list : List Reg) (i : ℕ) (a b : Reg) → 1 ≤ i → i < length list → a ≡ get_or list (i - 1) a → b ≡ get_or list i b
+    → is_lt (reg_cmp defs a b) ≡ false → IsStrictlySortedBy (reg_cmp defs) list → ⊥
 falls defs list i a b low within first second no_less sorted =
     let less : reg_cmp defs (get_or list (i - 1) a) (get_or list i a) ≡ Less = Less-from_sorted (reg_cmp defs) list (i - 1) i a sorted (omega arith) within in
     let same : get_or list i a ≡ b = get_or_default list i a b within ∙ sym second in
     let both : reg_cmp defs a b ≡ Less = ap (λ (x : Reg). reg_cmp defs x b) first ∙ (ap (λ (x : Reg). reg_cmp defs (get_or list (i - 1) a) x) (sym same) ∙ less) in
     cc
 
-pub rises-all : (defs : List EventDef) (list : List Reg) (i : ℕ) → length list ≤ i → ((k : ℕ) (d : Reg) → k + 1 < i → reg_cmp defs (get_or list k d) (get_or list (k + 1) d) ≡ Less) → IsStrictlySortedBy (reg_cmp defs) list
+pub rises-all : (defs : List EventDef) (list : List Reg) (i : ℕ) → length list ≤ i
+    → ((k : ℕ) (d : Reg) → k + 1 < i → reg_cmp defs (get_or list k d) (get_or list (k + 1) d) ≡ Less) → IsStrictlySortedBy (reg_cmp defs) list
 unfolding IsStrictlySortedBy
 rises-all defs [] i past h = tt
 rises-all defs (r ∷ list) i past h = sorted_from_all_adjacent (reg_total defs) (r ∷ list) r (λ k within. h k r (omega (arith, within)))

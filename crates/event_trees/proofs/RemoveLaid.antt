@@ -110,7 +110,9 @@ laid-out d0 (n ∷ ns) run back is laid =
     let f : Fewer n.depth ns run back = fewer n.depth n.depth ns run back is laid.3 in (
       laid.0,
       laid.1,
-      ap (λ (u : ℕ). cond (nat_lt (length ns) u) (u - length run) u) laid.2 ∙ (lower-is (length ns) (under n.depth (ns ++ (run ++ back))) (under n.depth (ns ++ back)) (length run) f.past f.short ∙ sym (under-lowered n.depth (length run) ns back)),
+      ap (λ (u : ℕ). cond (nat_lt (length ns) u) (u - length run) u) laid.2
+          ∙ (lower-is (length ns) (under n.depth (ns ++ (run ++ back))) (under n.depth (ns ++ back)) (length run) f.past f.short
+          ∙ sym (under-lowered n.depth (length run) ns back)),
       laid-out n.depth ns run back is laid.3,
     )
 

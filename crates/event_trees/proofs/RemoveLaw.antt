@@ -66,7 +66,8 @@ lower-needed n less behind [] h = h
 lower-needed n less behind (b ∷ bs) h = h
 
 -- without the run
-needed-out : (n : Node) (fs : List Node) (m : Node) (rs back : List Node) (less : ℕ) → AreNeeded (bumped (n ∷ (fs ++ m ∷ rs)) ++ moved back) → Stays (n ∷ fs) back → IsNeeded n (lowered less fs ++ back)
+needed-out : (n : Node) (fs : List Node) (m : Node) (rs back : List Node) (less : ℕ) → AreNeeded (bumped (n ∷ (fs ++ m ∷ rs)) ++ moved back)
+    → Stays (n ∷ fs) back → IsNeeded n (lowered less fs ++ back)
 needed-out n [] m [] back less h stays = held-needed n back stays (are_needed-moved back (bumped-needed n (m ∷ []) (moved back) h))
 needed-out n [] m (r ∷ rs) back less h stays = held-needed n back stays (are_needed-moved back (bumped-needed n (m ∷ r ∷ rs) (moved back) h))
 needed-out n (f ∷ []) m rs back less h stays = (h.0, lower-needed f less 0 back (needed-out f [] m rs back less h.1 stays))
@@ -120,11 +121,13 @@ pub record Cleared (top : Node) (ns back : List Node) (slots : List Slot) (s : S
   pub needed : AreNeeded (bumped ns ++ moved back)
   pub cut : Cut (read_off (listing_of (top ∷ (ns ++ back)) slots)) all (record { path = end_path [] ns; slot = s })
 
-bumped-cons : (top : Node) (ns rest : List Node) (slots : List Slot) (list : List Placed) → IsTree (bumped (top ∷ ns) ++ rest) slots → listing_of (bumped (top ∷ ns) ++ rest) slots ≡ canon_of list → IsStrictlySortedBy placed_cmp list → list ≢ [] → AreNeeded (bumped (top ∷ ns) ++ rest)
+bumped-cons : (top : Node) (ns rest : List Node) (slots : List Slot) (list : List Placed) → IsTree (bumped (top ∷ ns) ++ rest) slots
+    → listing_of (bumped (top ∷ ns) ++ rest) slots ≡ canon_of list → IsStrictlySortedBy placed_cmp list → list ≢ [] → AreNeeded (bumped (top ∷ ns) ++ rest)
 bumped-cons top [] rest slots list tree canon order some = needed-canon (record top { count = top.count + 1 }) rest slots list tree canon (strict-rises list order) some
 bumped-cons top (m ∷ ns) rest slots list tree canon order some = needed-canon top (bumped (m ∷ ns) ++ rest) slots list tree canon (strict-rises list order) some
 
-pub cleared : (top : Node) (ns back : List Node) (slots : List Slot) (s : Slot) (i mid : ℕ) → Before top ns back slots s i mid → Cleared top ns back slots s (read_off (listing_of (bumped (top ∷ ns) ++ moved back) (put_at i s slots)))
+pub cleared : (top : Node) (ns back : List Node) (slots : List Slot) (s : Slot) (i mid : ℕ) → Before top ns back slots s i mid
+    → Cleared top ns back slots s (read_off (listing_of (bumped (top ∷ ns) ++ moved back) (put_at i s slots)))
 cleared top ns back slots s i mid b =
     let old : List Node = bumped (top ∷ ns) ++ moved back in
     let old_slots : List Slot = put_at i s slots in
@@ -133,36 +136,46 @@ cleared top ns back slots s i mid b =
     subst (λ (l : List Shown). Cut (read_off (listing_of (top ∷ (ns ++ back)) slots)) (read_off l) (record { path = end_path [] ns; slot = s })) (bumped-shown_all top ns (moved back) old_slots)
     (cut-listing [] top ns back slots s i 0 mid b.packed b.behind b.within b.low b.high) in
     let paths : paths_of (listing_of old old_slots) ≡ [] ∷ node_paths [] (ns ++ moved back) = after-bump top ns back old_slots in
-    let unmoved : node_paths [] (ns ++ moved back) ≡ node_paths [] (ns ++ back) = node_paths-append [] ns (moved back) ∙ (ap (λ (l : List (List ℕ)). node_paths [] ns ++ l) (paths-moved (end_path [] ns) back) ∙ sym (node_paths-append [] ns back)) in
+    let unmoved : node_paths [] (ns ++ moved back) ≡ node_paths [] (ns ++ back) = node_paths-append [] ns (moved back)
+        ∙ (ap (λ (l : List (List ℕ)). node_paths [] ns ++ l) (paths-moved (end_path [] ns) back) ∙ sym (node_paths-append [] ns back)) in
     record {
       topped = topped-back top ns back b.tree.topped;
       packed = packed-both 0 mid (top ∷ ns) back (length slots) b.packed b.behind;
       sorted = subst (IsStrictlySortedBy path_cmp) (paths ∙ ap (λ (l : List (List ℕ)). [] ∷ l) unmoved) b.tree.order.paths;
-      needed = tail_needed top ns back (bumped-cons top ns (moved back) old_slots all b.tree b.canon b.order (cut_some (read_off (listing_of (top ∷ (ns ++ back)) slots)) all (record { path = end_path [] ns; slot = s }) cut));
+      needed = tail_needed top ns back (bumped-cons top ns (moved back) old_slots all b.tree b.canon b.order
+          (cut_some (read_off (listing_of (top ∷ (ns ++ back)) slots)) all (record { path = end_path [] ns; slot = s }) cut));
       cut = cut;
     }
 
-outcome : (top : Node) (ns : List Node) (slots : List Slot) (all : List Placed) (s : Slot) (path : List ℕ) → AreTopped (top ∷ ns) → ArePacked 0 (top ∷ ns) (length slots) → IsStrictlySortedBy path_cmp ([] ∷ node_paths [] ns) → AreNeeded ns → Cut (read_off (listing_of (top ∷ ns) slots)) all (record { path = path; slot = s }) → IsStrictlySortedBy placed_cmp all → Outcome (top ∷ ns) slots all s path
+outcome : (top : Node) (ns : List Node) (slots : List Slot) (all : List Placed) (s : Slot) (path : List ℕ) → AreTopped (top ∷ ns)
+    → ArePacked 0 (top ∷ ns) (length slots) → IsStrictlySortedBy path_cmp ([] ∷ node_paths [] ns) → AreNeeded ns
+    → Cut (read_off (listing_of (top ∷ ns) slots)) all (record { path = path; slot = s }) → IsStrictlySortedBy placed_cmp all → Outcome (top ∷ ns) slots all s path
 outcome top ns slots all s path topped packed sorted needed cut order =
     let listed : listing_of (top ∷ ns) slots ≡ canon_of (read_off (listing_of (top ∷ ns) slots)) = listing-needed top ns slots topped.1 topped.3 packed sorted needed in
     record {
       tree = record {
         topped = topped;
         packed = packed;
-        order = subst IsInOrder (sym listed) (canon-order (read_off (listing_of (top ∷ ns) slots)) (order-cut (read_off (listing_of (top ∷ ns) slots)) all (record { path = path; slot = s }) cut order));
+        order = subst IsInOrder (sym listed) (canon-order (read_off (listing_of (top ∷ ns) slots))
+            (order-cut (read_off (listing_of (top ∷ ns) slots)) all (record { path = path; slot = s }) cut order));
       };
       listed = listed;
       cut = cut;
     }
 
 -- the node of the registration stays
-pub out-kept : (top : Node) (ns back : List Node) (slots : List Slot) (s : Slot) (i mid : ℕ) → Before top ns back slots s i mid → Stays ns back → Outcome (top ∷ (ns ++ back)) slots (read_off (listing_of (bumped (top ∷ ns) ++ moved back) (put_at i s slots))) s (end_path [] ns)
+pub out-kept : (top : Node) (ns back : List Node) (slots : List Slot) (s : Slot) (i mid : ℕ) → Before top ns back slots s i mid → Stays ns back
+    → Outcome (top ∷ (ns ++ back)) slots (read_off (listing_of (bumped (top ∷ ns) ++ moved back) (put_at i s slots))) s (end_path [] ns)
 out-kept top ns back slots s i mid b stays =
     let c = cleared top ns back slots s i mid b in
-    outcome top (ns ++ back) slots (read_off (listing_of (bumped (top ∷ ns) ++ moved back) (put_at i s slots))) s (end_path [] ns) c.topped c.packed c.sorted (are_needed-less ns back c.needed stays) c.cut b.order
+    outcome top (ns ++ back) slots (read_off (listing_of (bumped (top ∷ ns) ++ moved back) (put_at i s slots))) s (end_path [] ns) c.topped c.packed
+        c.sorted (are_needed-less ns back c.needed stays) c.cut b.order
 
 -- the nodes that nothing needs go
-pub out-run : (top : Node) (fs : List Node) (m : Node) (rs back : List Node) (slots : List Slot) (s : Slot) (i mid : ℕ) → Before top (fs ++ m ∷ rs) back slots s i mid → m.below ≡ length rs → HaveNone (m ∷ rs) → Stays fs back → Outcome (lowered (length (m ∷ rs)) (top ∷ fs) ++ back) slots (read_off (listing_of (bumped (top ∷ (fs ++ m ∷ rs)) ++ moved back) (put_at i s slots))) s (end_path [] (fs ++ m ∷ rs))
+pub out-run : (top : Node) (fs : List Node) (m : Node) (rs back : List Node) (slots : List Slot) (s : Slot) (i mid : ℕ)
+    → Before top (fs ++ m ∷ rs) back slots s i mid → m.below ≡ length rs → HaveNone (m ∷ rs) → Stays fs back
+    → Outcome (lowered (length (m ∷ rs)) (top ∷ fs) ++ back) slots (read_off
+    (listing_of (bumped (top ∷ (fs ++ m ∷ rs)) ++ moved back) (put_at i s slots))) s (end_path [] (fs ++ m ∷ rs))
 out-run top fs m rs back slots s i mid b is none stays =
     let run : List Node = m ∷ rs in
     let k : ℕ = length run in
@@ -174,5 +187,7 @@ out-run top fs m rs back slots s i mid b is none stays =
     let read : read_off (listing_of (lowered k (top ∷ fs) ++ back) slots) ≡ read_off (listing_of (top ∷ ((fs ++ run) ++ back)) slots) =
     ap (λ (l : List Placed). all_at [] (slots_of top slots) ++ l) (read-out fs m rs back slots k topped.3 is none ∙ ap (λ (l : List Node). read_off (listing_after [] l slots)) (sym one)) in
     let all : List Placed = read_off (listing_of (bumped (top ∷ (fs ++ run)) ++ moved back) (put_at i s slots)) in
-    outcome (record top { below = cond (nat_lt (length fs) top.below) (top.below - k) top.below }) (lowered k fs ++ back) slots all s (end_path [] (fs ++ run)) (topped-out top fs run back is topped) (packed-out 0 k (top ∷ fs) run back (length slots) none packed) (sorted-out fs m rs back k topped.3 is sorted) (are_needed-out fs m rs back k c.needed stays)
+    outcome (record top { below = cond (nat_lt (length fs) top.below) (top.below - k) top.below }) (lowered k fs ++ back) slots all s
+        (end_path [] (fs ++ run)) (topped-out top fs run back is topped) (packed-out 0 k (top ∷ fs) run back (length slots) none packed)
+        (sorted-out fs m rs back k topped.3 is sorted) (are_needed-out fs m rs back k c.needed stays)
     (subst (λ (l : List Placed). Cut l all (record { path = end_path [] (fs ++ run); slot = s })) (sym read) c.cut) b.order

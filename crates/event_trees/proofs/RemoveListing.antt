@@ -40,7 +40,9 @@ cut-more less all r xs c = record {
   was = ap (λ (l : List Placed). xs ++ l) c.was ∙ sym (append_assoc xs c.front (r ∷ c.rest));
 }
 
-cut-here : (path : List ℕ) (n : Node) (back : List Node) (slots : List Slot) (s : Slot) (i mid : ℕ) → n.first + n.count ≡ mid → n.first ≤ i → i ≤ mid → ArePacked mid back (length slots) → mid ≤ length slots → Cut (read_off (shown_from path n back slots)) (read_off (shown_from path (record n { count = n.count + 1 }) (moved back) (put_at i s slots))) (record { path = path; slot = s })
+cut-here : (path : List ℕ) (n : Node) (back : List Node) (slots : List Slot) (s : Slot) (i mid : ℕ) → n.first + n.count ≡ mid → n.first ≤ i → i ≤ mid
+    → ArePacked mid back (length slots) → mid ≤ length slots → Cut (read_off (shown_from path n back slots))
+    (read_off (shown_from path (record n { count = n.count + 1 }) (moved back) (put_at i s slots))) (record { path = path; slot = s })
 cut-here path n back slots s i mid ends low high packed within =
     let j : ℕ = i - n.first in
     let held : List Slot = slots_of n slots in
@@ -50,12 +52,18 @@ cut-here path n back slots s i mid ends low high packed within =
     record {
       front = all_at path (take j held);
       rest = all_at path (drop j held) ++ rest;
-      is = ap (λ (l : List Slot). all_at path l ++ rest) (sym (take-append-drop j held)) ∙ (ap (λ (l : List Placed). l ++ rest) (map-append (λ (x : Slot). record { path = path; slot = x }) (take j held) (drop j held)) ∙ append_assoc (all_at path (take j held)) (all_at path (drop j held)) rest);
+      is = ap (λ (l : List Slot). all_at path l ++ rest) (sym (take-append-drop j held))
+          ∙ (ap (λ (l : List Placed). l ++ rest) (map-append (λ (x : Slot). record { path = path; slot = x }) (take j held) (drop j held))
+          ∙ append_assoc (all_at path (take j held)) (all_at path (drop j held)) rest);
       was = ap (λ (l : List Slot). all_at path l ++ read_off (listing_after path (moved back) (put_at i s slots))) here ∙ (ap (λ (l : List Shown). all_at path (put_at j s held) ++ read_off l) behind ∙
-          (ap (λ (l : List Placed). l ++ rest) (map-append (λ (x : Slot). record { path = path; slot = x }) (take j held) (s ∷ drop j held)) ∙ append_assoc (all_at path (take j held)) (record { path = path; slot = s } ∷ all_at path (drop j held)) rest));
+          (ap (λ (l : List Placed). l ++ rest) (map-append (λ (x : Slot). record { path = path; slot = x }) (take j held) (s ∷ drop j held))
+              ∙ append_assoc (all_at path (take j held)) (record { path = path; slot = s } ∷ all_at path (drop j held)) rest));
     }
 
-pub cut-listing : (path : List ℕ) (n : Node) (ns back : List Node) (slots : List Slot) (s : Slot) (i place mid : ℕ) → ArePacked place (n ∷ ns) mid → ArePacked mid back (length slots) → mid ≤ length slots → (final n ns).first ≤ i → i ≤ mid → Cut (read_off (shown_from path n (ns ++ back) slots)) (read_off (shown_all path (bumped (n ∷ ns) ++ moved back) (put_at i s slots))) (record { path = end_path path ns; slot = s })
+pub cut-listing : (path : List ℕ) (n : Node) (ns back : List Node) (slots : List Slot) (s : Slot) (i place mid : ℕ) → ArePacked place (n ∷ ns) mid
+    → ArePacked mid back (length slots) → mid ≤ length slots → (final n ns).first ≤ i → i ≤ mid
+    → Cut (read_off (shown_from path n (ns ++ back) slots)) (read_off (shown_all path (bumped (n ∷ ns) ++ moved back) (put_at i s slots)))
+    (record { path = end_path path ns; slot = s })
 cut-listing path n [] back slots s i place mid packed behind within low high = cut-here path n back slots s i mid (omega (arith, packed.0, packed.1)) low high behind within
 cut-listing path n (m ∷ ns) back slots s i place mid packed behind within low high =
     let on : List ℕ = path_after path m in
@@ -63,9 +71,11 @@ cut-listing path n (m ∷ ns) back slots s i place mid packed behind within low 
     let rest = cut-listing on m ns back slots s i (place + n.count) mid packed.1 behind within low high in
     let here : slots_of n new ≡ slots_of n slots = slots-before n slots s i (omega (arith, high, within)) (omega (arith, packed.0, low, first-le (place + n.count) m ns mid packed.1)) in
     let same : read_off (shown_all path (n ∷ (bumped (m ∷ ns) ++ moved back)) new) ≡ all_at path (slots_of n slots) ++ read_off (shown_all on (bumped (m ∷ ns) ++ moved back) new) =
-    ap (λ (l : List Slot). all_at path l ++ read_off (listing_after path (bumped (m ∷ ns) ++ moved back) new)) here ∙ ap (λ (l : List Shown). all_at path (slots_of n slots) ++ read_off l) (bumped-on path m ns (moved back) new) in
+    ap (λ (l : List Slot). all_at path l ++ read_off (listing_after path (bumped (m ∷ ns) ++ moved back) new)) here
+        ∙ ap (λ (l : List Shown). all_at path (slots_of n slots) ++ read_off l) (bumped-on path m ns (moved back) new) in
     subst (λ (l : List Placed). Cut (all_at path (slots_of n slots) ++ read_off (shown_from on m (ns ++ back) slots)) l (record { path = end_path on ns; slot = s })) (sym same)
-    (cut-more (read_off (shown_from on m (ns ++ back) slots)) (read_off (shown_all on (bumped (m ∷ ns) ++ moved back) new)) (record { path = end_path on ns; slot = s }) (all_at path (slots_of n slots)) rest)
+    (cut-more (read_off (shown_from on m (ns ++ back) slots)) (read_off (shown_all on (bumped (m ∷ ns) ++ moved back) new))
+        (record { path = end_path on ns; slot = s }) (all_at path (slots_of n slots)) rest)
 
 -- with numbers of their own the others are those with other numbers
 eqb-turned : (a b : ℕ) → eqb a b ≡ false → eqb b a ≡ false
@@ -83,9 +93,11 @@ at_last n (x ∷ xs) r ys h = at_last n xs r ys h.1
 
 pub cut-without : (xs : List Placed) (r : Placed) (ys : List Placed) → IsDistinct eqb (map (λ x. x.slot.number) (xs ++ r ∷ ys)) → without_placed r.slot.number (xs ++ r ∷ ys) ≡ xs ++ ys
 unfolding IsDistinct
-cut-without [] r ys d = ap (λ (b : Bool). cond (not b) (r ∷ without_placed r.slot.number ys) (without_placed r.slot.number ys)) (eq-eqb r.slot.number r.slot.number refl) ∙ filter-others r.slot.number ys d.0
+cut-without [] r ys d = ap (λ (b : Bool). cond (not b) (r ∷ without_placed r.slot.number ys) (without_placed r.slot.number ys))
+    (eq-eqb r.slot.number r.slot.number refl) ∙ filter-others r.slot.number ys d.0
 cut-without (x ∷ xs) r ys d =
-    ap (λ (b : Bool). cond (not b) (x ∷ without_placed r.slot.number (xs ++ r ∷ ys)) (without_placed r.slot.number (xs ++ r ∷ ys))) (at_last x.slot.number xs r ys d.0) ∙ ap (λ (l : List Placed). x ∷ l) (cut-without xs r ys d.1)
+    ap (λ (b : Bool). cond (not b) (x ∷ without_placed r.slot.number (xs ++ r ∷ ys)) (without_placed r.slot.number (xs ++ r ∷ ys)))
+        (at_last x.slot.number xs r ys d.0) ∙ ap (λ (l : List Placed). x ∷ l) (cut-without xs r ys d.1)
 
 -- ---- in order without one, or some
 above-cut : {X : Type 0} (c : X → X → Ordering) (x : X) (xs ys zs : List X) → AllByRecursion (λ y. c x y ≡ Less) (xs ++ (ys ++ zs)) → AllByRecursion (λ y. c x y ≡ Less) (xs ++ zs)
@@ -114,7 +126,8 @@ listing-same q p [] slots s = refl
 listing-same q p (n ∷ ns) slots s = ap (λ (l : List ℕ). record { path = l ++ n.event ∷ []; slots = slots_of n slots } ∷ listing_after (l ++ n.event ∷ []) ns slots) (sym s)
 
 -- deeper nodes leave the beginning of the path as it is
-deep-take : (e j : ℕ) (before : List ℕ) (xs ys : List Node) → under e (xs ++ ys) ≡ length xs → j ≤ e → e ≤ length before → AreLaidOut (length before) (xs ++ ys) → take j (end_path before xs) ≡ take j before
+deep-take : (e j : ℕ) (before : List ℕ) (xs ys : List Node) → under e (xs ++ ys) ≡ length xs → j ≤ e → e ≤ length before
+    → AreLaidOut (length before) (xs ++ ys) → take j (end_path before xs) ≡ take j before
 deep-take e j before [] ys h le within laid = refl
 deep-take e j before (x ∷ xs) ys h le within laid =
     ⊎_elim (λ deeper.
@@ -122,7 +135,8 @@ deep-take e j before (x ∷ xs) ys h le within laid =
     let rest : under e (xs ++ ys) ≡ length xs = omega (arith, h, ap (λ (b : Bool). cond b (under e (xs ++ ys) + 1) 0) test) in
     let long : length (path_after before x) ≡ x.depth = length-path_after before x laid.0 laid.1 in
     let size : length (take (x.depth - 1) before) ≡ x.depth - 1 = length-take-le (x.depth - 1) before (omega (arith, laid.1)) in
-    deep-take e j (path_after before x) xs ys rest le (omega (arith, long, deeper)) (subst (λ (k : ℕ). AreLaidOut k (xs ++ ys)) (sym long) laid.3) ∙ (take-append-le j (take (x.depth - 1) before) (x.event ∷ []) (omega (arith, size, le, deeper)) ∙ take-take j (x.depth - 1) before (omega (arith, le, deeper))))
+    deep-take e j (path_after before x) xs ys rest le (omega (arith, long, deeper)) (subst (λ (k : ℕ). AreLaidOut k (xs ++ ys)) (sym long) laid.3)
+        ∙ (take-append-le j (take (x.depth - 1) before) (x.event ∷ []) (omega (arith, size, le, deeper)) ∙ take-take j (x.depth - 1) before (omega (arith, le, deeper))))
     (λ g.
     let test : nat_lt e x.depth ≡ false = grind (arith, nat_tests) in
     absurd (omega (arith, h, ap (λ (b : Bool). cond b (under e (xs ++ ys) + 1) 0) test))) (cases_lt e x.depth)
@@ -139,7 +153,8 @@ run-same q m rs (b ∷ bs) is laid =
 
 listing-lowered : (before : List ℕ) (less : ℕ) (ns rest : List Node) (slots : List Slot) → listing_after before (lowered less ns ++ rest) slots ≡ listing_after before (ns ++ rest) slots
 listing-lowered before less [] rest slots = refl
-listing-lowered before less (n ∷ ns) rest slots = ap (λ (l : List Shown). record { path = path_after before n; slots = slots_of n slots } ∷ l) (listing-lowered (path_after before n) less ns rest slots)
+listing-lowered before less (n ∷ ns) rest slots = ap (λ (l : List Shown). record { path = path_after before n; slots = slots_of n slots } ∷ l)
+    (listing-lowered (path_after before n) less ns rest slots)
 
 paths-lowered : (before : List ℕ) (less : ℕ) (ns rest : List Node) → node_paths before (lowered less ns ++ rest) ≡ node_paths before (ns ++ rest)
 paths-lowered before less [] rest = refl
@@ -159,7 +174,8 @@ length-ends before [] rest laid = laid
 length-ends before (n ∷ ns) rest laid = length-ends (path_after before n) ns rest (subst (λ (k : ℕ). AreLaidOut k (ns ++ rest)) (sym (length-path_after before n laid.0 laid.1)) laid.3)
 
 -- the same registrations
-pub read-out : (fs : List Node) (m : Node) (rs back : List Node) (slots : List Slot) (less : ℕ) → AreLaidOut 0 (fs ++ ((m ∷ rs) ++ back)) → m.below ≡ length rs → HaveNone (m ∷ rs) → read_off (listing_after [] (lowered less fs ++ back) slots) ≡ read_off (listing_after [] (fs ++ ((m ∷ rs) ++ back)) slots)
+pub read-out : (fs : List Node) (m : Node) (rs back : List Node) (slots : List Slot) (less : ℕ) → AreLaidOut 0 (fs ++ ((m ∷ rs) ++ back))
+    → m.below ≡ length rs → HaveNone (m ∷ rs) → read_off (listing_after [] (lowered less fs ++ back) slots) ≡ read_off (listing_after [] (fs ++ ((m ∷ rs) ++ back)) slots)
 read-out fs m rs back slots less laid is none =
     let q : List ℕ = end_path [] fs in
     let run : List Node = m ∷ rs in
@@ -173,7 +189,8 @@ read-out fs m rs back slots less laid is none =
     ap read_off (listing-lowered [] less fs back slots) ∙ (split back ∙ (ap (λ (l : List Placed). read_off front ++ l) (sym middle) ∙ sym (split (run ++ back))))
 
 -- the paths are still in order
-pub sorted-out : (fs : List Node) (m : Node) (rs back : List Node) (less : ℕ) → AreLaidOut 0 (fs ++ ((m ∷ rs) ++ back)) → m.below ≡ length rs → IsStrictlySortedBy path_cmp ([] ∷ node_paths [] (fs ++ ((m ∷ rs) ++ back))) → IsStrictlySortedBy path_cmp ([] ∷ node_paths [] (lowered less fs ++ back))
+pub sorted-out : (fs : List Node) (m : Node) (rs back : List Node) (less : ℕ) → AreLaidOut 0 (fs ++ ((m ∷ rs) ++ back)) → m.below ≡ length rs
+    → IsStrictlySortedBy path_cmp ([] ∷ node_paths [] (fs ++ ((m ∷ rs) ++ back))) → IsStrictlySortedBy path_cmp ([] ∷ node_paths [] (lowered less fs ++ back))
 sorted-out fs m rs back less laid is sorted =
     let q : List ℕ = end_path [] fs in
     let run : List Node = m ∷ rs in
@@ -181,11 +198,13 @@ sorted-out fs m rs back less laid is sorted =
     let was : node_paths [] (fs ++ (run ++ back)) ≡ node_paths [] fs ++ (node_paths q run ++ node_paths q back) =
     node_paths-append [] fs (run ++ back) ∙ ap (λ (l : List (List ℕ)). node_paths [] fs ++ l) (node_paths-append q run back ∙ ap (λ (l : List (List ℕ)). node_paths q run ++ l) same) in
     let now : node_paths [] (lowered less fs ++ back) ≡ node_paths [] fs ++ node_paths q back = paths-lowered [] less fs back ∙ node_paths-append [] fs back in
-    subst (λ (l : List (List ℕ)). IsStrictlySortedBy path_cmp ([] ∷ l)) (sym now) (sorted-cut path_cmp ([] ∷ node_paths [] fs) (node_paths q run) (node_paths q back) (subst (λ (l : List (List ℕ)). IsStrictlySortedBy path_cmp ([] ∷ l)) was sorted))
+    subst (λ (l : List (List ℕ)). IsStrictlySortedBy path_cmp ([] ∷ l)) (sym now)
+        (sorted-cut path_cmp ([] ∷ node_paths [] fs) (node_paths q run) (node_paths q back) (subst (λ (l : List (List ℕ)). IsStrictlySortedBy path_cmp ([] ∷ l)) was sorted))
 
 packed-bare : (place : ℕ) (run back : List Node) (end : ℕ) → HaveNone run → ArePacked place (run ++ back) end → ArePacked place back end
 packed-bare place [] back end none h = h
-packed-bare place (n ∷ ns) back end none h = subst (λ (k : ℕ). ArePacked k back end) (let k : place + n.count ≡ place = omega (arith, none.0) in k) (packed-bare (place + n.count) ns back end none.1 h.1)
+packed-bare place (n ∷ ns) back end none h = subst (λ (k : ℕ). ArePacked k back end) (let k : place + n.count ≡ place = omega (arith, none.0) in k)
+    (packed-bare (place + n.count) ns back end none.1 h.1)
 
 pub packed-out : (place less : ℕ) (fs run back : List Node) (end : ℕ) → HaveNone run → ArePacked place (fs ++ (run ++ back)) end → ArePacked place (lowered less fs ++ back) end
 packed-out place less [] run back end none h = packed-bare place run back end none h

@@ -101,7 +101,9 @@ pub record Old (top : Node) (fs back : List Node) (slots : List Slot) (i : ℕ) 
   pub low : (final top fs).first ≤ i
   pub high : i < (final top fs).first + (final top fs).count
 
-before-old : (top : Node) (fs back : List Node) (slots : List Slot) (i : ℕ) (d : Slot) → Old top fs back slots i → (mid : ℕ) × Before (head_less top fs) (tail_less fs) (moved_back back) (take i slots ++ drop (i + 1) slots) (get_or slots i d) i mid × (bumped (head_less top fs ∷ tail_less fs) ++ moved (moved_back back) ≡ top ∷ (fs ++ back))
+before-old : (top : Node) (fs back : List Node) (slots : List Slot) (i : ℕ) (d : Slot) → Old top fs back slots i → (mid : ℕ)
+    × Before (head_less top fs) (tail_less fs) (moved_back back) (take i slots ++ drop (i + 1) slots) (get_or slots i d) i mid
+    × (bumped (head_less top fs ∷ tail_less fs) ++ moved (moved_back back) ≡ top ∷ (fs ++ back))
 before-old top fs back slots i d o =
     let parts = packed-front 0 (top ∷ fs) back (length slots) o.tree.packed in
     let some : 1 ≤ (final top fs).count = omega (arith, o.low, o.high) in
@@ -113,14 +115,18 @@ before-old top fs back slots i d o =
     let behind : ArePacked (mid + 1) back (length fewer_slots + 1) = subst (λ (k : ℕ). ArePacked k back (length fewer_slots + 1)) mid_is (subst (ArePacked parts.0 back) size parts.1.1) in
     let front : bumped (head_less top fs ∷ tail_less fs) ≡ top ∷ fs = ap bumped (sym (less-cons top fs)) ∙ more-less top fs some in
     let rest : moved (moved_back back) ≡ back = moved-back (mid + 1) back (length fewer_slots + 1) (omega arith) behind in
-    let nodes_is : bumped (head_less top fs ∷ tail_less fs) ++ moved (moved_back back) ≡ top ∷ (fs ++ back) = ap (λ (l : List Node). l ++ moved (moved_back back)) front ∙ ap (λ (l : List Node). top ∷ (fs ++ l)) rest in
+    let nodes_is : bumped (head_less top fs ∷ tail_less fs) ++ moved (moved_back back) ≡ top ∷ (fs ++ back) = ap
+        (λ (l : List Node). l ++ moved (moved_back back)) front ∙ ap (λ (l : List Node). top ∷ (fs ++ l)) rest in
     let slots_is : put_at i (get_or slots i d) fewer_slots ≡ slots = slots-back i slots d o.within in
     let back_behind : ArePacked mid (moved_back back) (length fewer_slots) = packed-back mid back (length fewer_slots) behind in (
       mid,
       record {
         tree = subst (λ (l : List Node). IsTree l (put_at i (get_or slots i d) fewer_slots)) (sym nodes_is) (subst (λ (l : List Slot). IsTree (top ∷ (fs ++ back)) l) (sym slots_is) o.tree);
-        canon = subst (λ (l : List Node). listing_of l (put_at i (get_or slots i d) fewer_slots) ≡ canon_of (read_off (listing_of l (put_at i (get_or slots i d) fewer_slots)))) (sym nodes_is) (subst (λ (l : List Slot). listing_of (top ∷ (fs ++ back)) l ≡ canon_of (read_off (listing_of (top ∷ (fs ++ back)) l))) (sym slots_is) o.canon);
-        order = subst (λ (l : List Node). IsStrictlySortedBy placed_cmp (read_off (listing_of l (put_at i (get_or slots i d) fewer_slots)))) (sym nodes_is) (subst (λ (l : List Slot). IsStrictlySortedBy placed_cmp (read_off (listing_of (top ∷ (fs ++ back)) l))) (sym slots_is) o.order);
+        canon = subst (λ (l : List Node). listing_of l (put_at i (get_or slots i d) fewer_slots) ≡ canon_of
+            (read_off (listing_of l (put_at i (get_or slots i d) fewer_slots)))) (sym nodes_is)
+            (subst (λ (l : List Slot). listing_of (top ∷ (fs ++ back)) l ≡ canon_of (read_off (listing_of (top ∷ (fs ++ back)) l))) (sym slots_is) o.canon);
+        order = subst (λ (l : List Node). IsStrictlySortedBy placed_cmp (read_off (listing_of l (put_at i (get_or slots i d) fewer_slots))))
+            (sym nodes_is) (subst (λ (l : List Slot). IsStrictlySortedBy placed_cmp (read_off (listing_of (top ∷ (fs ++ back)) l))) (sym slots_is) o.order);
         packed = subst (λ (l : List Node). ArePacked 0 l mid) (less-cons top fs) (packed-less 0 top fs mid (subst (ArePacked 0 (top ∷ fs)) mid_is parts.1.0) some);
         behind = back_behind;
         low = omega (arith, first-less top fs, o.low);
@@ -131,9 +137,13 @@ before-old top fs back slots i d o =
     )
 
 -- the list that is read off, once the nodes and registrations are those of the tree
-old-all : (top : Node) (fs back : List Node) (slots : List Slot) (i : ℕ) (d : Slot) → i < length slots → bumped (head_less top fs ∷ tail_less fs) ++ moved (moved_back back) ≡ top ∷ (fs ++ back) → read_off (listing_of (bumped (head_less top fs ∷ tail_less fs) ++ moved (moved_back back)) (put_at i (get_or slots i d) (take i slots ++ drop (i + 1) slots))) ≡ read_off (listing_of (top ∷ (fs ++ back)) slots)
+old-all : (top : Node) (fs back : List Node) (slots : List Slot) (i : ℕ) (d : Slot) → i < length slots
+    → bumped (head_less top fs ∷ tail_less fs) ++ moved (moved_back back) ≡ top ∷ (fs ++ back)
+    → read_off (listing_of (bumped (head_less top fs ∷ tail_less fs) ++ moved (moved_back back))
+    (put_at i (get_or slots i d) (take i slots ++ drop (i + 1) slots))) ≡ read_off (listing_of (top ∷ (fs ++ back)) slots)
 old-all top fs back slots i d within is =
-    ap (λ (l : List Slot). read_off (listing_of (bumped (head_less top fs ∷ tail_less fs) ++ moved (moved_back back)) l)) (slots-back i slots d within) ∙ ap (λ (l : List Node). read_off (listing_of l slots)) is
+    ap (λ (l : List Slot). read_off (listing_of (bumped (head_less top fs ∷ tail_less fs) ++ moved (moved_back back)) l))
+        (slots-back i slots d within) ∙ ap (λ (l : List Node). read_off (listing_of l slots)) is
 
 -- ---- which nodes stay
 held-under : (n : Node) (back : List Node) → 0 < under n.depth back → IsHeld n (moved_back back)
@@ -149,14 +159,16 @@ held-some n (b ∷ bs) h = λ none. absurd (omega (arith, h, none))
 
 less-held : (n : Node) (back : List Node) → (n.count ≤ 1 → 0 < under n.depth back) → IsHeld (record n { count = n.count - 1 }) (moved_back back)
 less-held n back h =
-    ⊎_elim (λ one. held-under (record n { count = n.count - 1 }) back (h (omega (arith, one)))) (λ more. held-some (record n { count = n.count - 1 }) (moved_back back) (omega (arith, more))) (cases_lt n.count 2)
+    ⊎_elim (λ one. held-under (record n { count = n.count - 1 }) back (h (omega (arith, one))))
+        (λ more. held-some (record n { count = n.count - 1 }) (moved_back back) (omega (arith, more))) (cases_lt n.count 2)
 
 stays-kept : (d0 : ℕ) (n : Node) (ns back : List Node) → AreLaidOut d0 ((n ∷ ns) ++ back) → ((final n ns).count ≤ 1 → 0 < (final n ns).below) → Stays (uncounted (n ∷ ns)) (moved_back back)
 stays-kept d0 n [] back laid h = less-held n back (λ one. omega (arith, h one, laid.2))
 stays-kept d0 n (m ∷ []) back laid h = stays-kept n.depth m [] back laid.3 h
 stays-kept d0 n (m ∷ x ∷ ns) back laid h = stays-kept n.depth m (x ∷ ns) back laid.3 h
 
-stays-run : (d0 : ℕ) (f : Node) (fs : List Node) (m : Node) (rs back : List Node) → AreLaidOut d0 ((f ∷ fs) ++ ((m ∷ rs) ++ back)) → m.below ≡ length rs → IsNeeded f (fs ++ ((m ∷ rs) ++ back)) → ((final f fs).count ≡ 0 → (final f fs).below ≢ length (m ∷ rs)) → Stays (f ∷ fs) (moved_back back)
+stays-run : (d0 : ℕ) (f : Node) (fs : List Node) (m : Node) (rs back : List Node) → AreLaidOut d0 ((f ∷ fs) ++ ((m ∷ rs) ++ back))
+    → m.below ≡ length rs → IsNeeded f (fs ++ ((m ∷ rs) ++ back)) → ((final f fs).count ≡ 0 → (final f fs).below ≢ length (m ∷ rs)) → Stays (f ∷ fs) (moved_back back)
 stays-run d0 f [] m rs back laid is needed stop =
     ⊎_elim (λ none.
     let zero_count : f.count ≡ 0 = omega (arith, none) in
@@ -177,18 +189,23 @@ bare-none n (m ∷ ns) h = (h.0, bare-none m ns h.1)
 abbrev pub Removed : List Node → List Slot → ℕ → List Placed → Type 0
 Removed nodes slots number all = IsTreeOf nodes slots (without_placed number all)
 
-removed-from : (nodes : List Node) (slots : List Slot) (all : List Placed) (s : Slot) (path : List ℕ) → Outcome nodes slots all s path → IsDistinct eqb (map (λ r. r.slot.number) all) → Removed nodes slots s.number all
+removed-from : (nodes : List Node) (slots : List Slot) (all : List Placed) (s : Slot) (path : List ℕ) → Outcome nodes slots all s path
+    → IsDistinct eqb (map (λ r. r.slot.number) all) → Removed nodes slots s.number all
 removed-from nodes slots all s path o distinct =
     let c = o.cut in
     let others : without_placed s.number all ≡ read_off (listing_of nodes slots) =
-    ap (without_placed s.number) c.was ∙ (cut-without c.front (record { path = path; slot = s }) c.rest (subst (λ (l : List Placed). IsDistinct eqb (map (λ r. r.slot.number) l)) c.was distinct) ∙ sym c.is) in
+    ap (without_placed s.number) c.was ∙ (cut-without c.front (record { path = path; slot = s }) c.rest
+        (subst (λ (l : List Placed). IsDistinct eqb (map (λ r. r.slot.number) l)) c.was distinct) ∙ sym c.is) in
     record { tree = o.tree; listed = o.listed ∙ ap canon_of (sym others) }
 
 tail-stays : (top : Node) (fs back : List Node) → AreLaidOut 0 (fs ++ back) → (1 ≤ length fs → (final top fs).count ≤ 1 → 0 < (final top fs).below) → Stays (tail_less fs) (moved_back back)
 tail-stays top [] back laid h = tt
 tail-stays top (m ∷ ns) back laid h = stays-kept 0 m ns back laid (h (omega arith))
 
-pub removed-kept : (top : Node) (fs back : List Node) (slots : List Slot) (i : ℕ) (d : Slot) → Old top fs back slots i → IsDistinct eqb (map (λ r. r.slot.number) (read_off (listing_of (top ∷ (fs ++ back)) slots))) → (1 ≤ length fs → (final top fs).count ≤ 1 → 0 < (final top fs).below) → Removed (uncounted (top ∷ fs) ++ moved_back back) (take i slots ++ drop (i + 1) slots) (get_or slots i d).number (read_off (listing_of (top ∷ (fs ++ back)) slots))
+pub removed-kept : (top : Node) (fs back : List Node) (slots : List Slot) (i : ℕ) (d : Slot) → Old top fs back slots i
+    → IsDistinct eqb (map (λ r. r.slot.number) (read_off (listing_of (top ∷ (fs ++ back)) slots)))
+    → (1 ≤ length fs → (final top fs).count ≤ 1 → 0 < (final top fs).below)
+    → Removed (uncounted (top ∷ fs) ++ moved_back back) (take i slots ++ drop (i + 1) slots) (get_or slots i d).number (read_off (listing_of (top ∷ (fs ++ back)) slots))
 removed-kept top fs back slots i d o distinct keeps =
     let b = before-old top fs back slots i d o in
     let fewer_slots : List Slot = take i slots ++ drop (i + 1) slots in
@@ -196,7 +213,8 @@ removed-kept top fs back slots i d o distinct keeps =
     let out = out-kept (head_less top fs) (tail_less fs) (moved_back back) fewer_slots (get_or slots i d) i b.0 b.1 (tail-stays top fs back o.tree.topped.3 keeps) in
     let out_old = subst (λ (l : List Placed). Outcome (head_less top fs ∷ (tail_less fs ++ moved_back back)) fewer_slots l (get_or slots i d) (end_path [] (tail_less fs))) all_is out in
     subst (λ (l : List Node). Removed (l ++ moved_back back) fewer_slots (get_or slots i d).number (read_off (listing_of (top ∷ (fs ++ back)) slots))) (sym (less-cons top fs))
-    (removed-from (head_less top fs ∷ (tail_less fs ++ moved_back back)) fewer_slots (read_off (listing_of (top ∷ (fs ++ back)) slots)) (get_or slots i d) (end_path [] (tail_less fs)) out_old distinct)
+    (removed-from (head_less top fs ∷ (tail_less fs ++ moved_back back)) fewer_slots (read_off (listing_of (top ∷ (fs ++ back)) slots))
+        (get_or slots i d) (end_path [] (tail_less fs)) out_old distinct)
 
 -- the nodes that stay before the run, and the run
 less-both : (fs : List Node) (m : Node) (rs : List Node) → uncounted (fs ++ m ∷ rs) ≡ fs ++ (head_less m rs ∷ tail_less rs)
@@ -216,11 +234,17 @@ head-below : (m : Node) (rs : List Node) → (head_less m rs).below ≡ m.below
 head-below m [] = refl
 head-below m (r ∷ rs) = refl
 
-front-stays : (top : Node) (fs : List Node) (m : Node) (rs back : List Node) → AreLaidOut 0 (fs ++ ((m ∷ rs) ++ back)) → m.below ≡ length rs → IsNeeded top (fs ++ ((m ∷ rs) ++ back)) → (1 ≤ length fs → (final top fs).count ≡ 0 → (final top fs).below ≢ length (m ∷ rs)) → Stays fs (moved_back back)
+front-stays : (top : Node) (fs : List Node) (m : Node) (rs back : List Node) → AreLaidOut 0 (fs ++ ((m ∷ rs) ++ back)) → m.below ≡ length rs
+    → IsNeeded top (fs ++ ((m ∷ rs) ++ back)) → (1 ≤ length fs → (final top fs).count ≡ 0 → (final top fs).below ≢ length (m ∷ rs)) → Stays fs (moved_back back)
 front-stays top [] m rs back laid is needed stop = tt
 front-stays top (f ∷ fs) m rs back laid is needed stop = stays-run 0 f fs m rs back laid is needed.1 (stop (omega arith))
 
-pub removed-run : (top : Node) (fs : List Node) (m : Node) (rs back : List Node) (slots : List Slot) (i : ℕ) (d : Slot) → Old top (fs ++ m ∷ rs) back slots i → IsDistinct eqb (map (λ r. r.slot.number) (read_off (listing_of (top ∷ ((fs ++ m ∷ rs) ++ back)) slots))) → read_off (listing_of (top ∷ ((fs ++ m ∷ rs) ++ back)) slots) ≢ [] → IsBare (m ∷ rs) → m.below ≡ length rs → (1 ≤ length fs → (final top fs).count ≡ 0 → (final top fs).below ≢ length (m ∷ rs)) → Removed (lowered (length (m ∷ rs)) (top ∷ fs) ++ moved_back back) (take i slots ++ drop (i + 1) slots) (get_or slots i d).number (read_off (listing_of (top ∷ ((fs ++ m ∷ rs) ++ back)) slots))
+pub removed-run : (top : Node) (fs : List Node) (m : Node) (rs back : List Node) (slots : List Slot) (i : ℕ) (d : Slot)
+    → Old top (fs ++ m ∷ rs) back slots i → IsDistinct eqb (map (λ r. r.slot.number) (read_off (listing_of (top ∷ ((fs ++ m ∷ rs) ++ back)) slots)))
+    → read_off (listing_of (top ∷ ((fs ++ m ∷ rs) ++ back)) slots) ≢ [] → IsBare (m ∷ rs) → m.below ≡ length rs
+    → (1 ≤ length fs → (final top fs).count ≡ 0 → (final top fs).below ≢ length (m ∷ rs))
+    → Removed (lowered (length (m ∷ rs)) (top ∷ fs) ++ moved_back back) (take i slots ++ drop (i + 1) slots) (get_or slots i d).number
+    (read_off (listing_of (top ∷ ((fs ++ m ∷ rs) ++ back)) slots))
 removed-run top fs m rs back slots i d o distinct some bare is stop =
     let ms : List Node = fs ++ m ∷ rs in
     let b = before-old top ms back slots i d o in
@@ -231,9 +255,11 @@ removed-run top fs m rs back slots i d o distinct some bare is stop =
     let h : Node = head_less m rs in
     let t : List Node = tail_less rs in
     let before : Before top (fs ++ h ∷ t) (moved_back back) fewer_slots s i b.0 =
-    subst (λ (l : List Node). Before top l (moved_back back) fewer_slots s i b.0) (tail-both fs m rs) (subst (λ (n : Node). Before n (tail_less ms) (moved_back back) fewer_slots s i b.0) (head-both top fs m rs) b.1) in
+    subst (λ (l : List Node). Before top l (moved_back back) fewer_slots s i b.0) (tail-both fs m rs)
+        (subst (λ (n : Node). Before n (tail_less ms) (moved_back back) fewer_slots s i b.0) (head-both top fs m rs) b.1) in
     let same : read_off (listing_of (bumped (top ∷ (fs ++ h ∷ t)) ++ moved (moved_back back)) (put_at i s fewer_slots)) ≡ all =
-    ap (λ (l : List Node). read_off (listing_of (bumped (top ∷ l) ++ moved (moved_back back)) (put_at i s fewer_slots))) (sym (tail-both fs m rs)) ∙ (ap (λ (n : Node). read_off (listing_of (bumped (n ∷ tail_less ms) ++ moved (moved_back back)) (put_at i s fewer_slots))) (sym (head-both top fs m rs)) ∙ all_is) in
+    ap (λ (l : List Node). read_off (listing_of (bumped (top ∷ l) ++ moved (moved_back back)) (put_at i s fewer_slots))) (sym (tail-both fs m rs))
+        ∙ (ap (λ (n : Node). read_off (listing_of (bumped (n ∷ tail_less ms) ++ moved (moved_back back)) (put_at i s fewer_slots))) (sym (head-both top fs m rs)) ∙ all_is) in
     let none : HaveNone (h ∷ t) = subst HaveNone (less-cons m rs) (bare-none m rs bare) in
     let below : h.below ≡ length t = head-below m rs ∙ (is ∙ sym (tail-size rs)) in
     let one : ms ++ back ≡ fs ++ ((m ∷ rs) ++ back) = append_assoc fs (m ∷ rs) back in
@@ -242,10 +268,16 @@ removed-run top fs m rs back slots i d o distinct some bare is stop =
     let out = out-run top fs h t (moved_back back) fewer_slots s i b.0 before below none stays in
     let size : length (h ∷ t) ≡ length (m ∷ rs) = ap (λ (k : ℕ). suc k) (tail-size rs) in
     subst (λ (k : ℕ). Removed (lowered k (top ∷ fs) ++ moved_back back) fewer_slots s.number all) size
-    (removed-from (lowered (length (h ∷ t)) (top ∷ fs) ++ moved_back back) fewer_slots all s (end_path [] (fs ++ h ∷ t)) (subst (λ (l : List Placed). Outcome (lowered (length (h ∷ t)) (top ∷ fs) ++ moved_back back) fewer_slots l s (end_path [] (fs ++ h ∷ t))) same out) distinct)
+    (removed-from (lowered (length (h ∷ t)) (top ∷ fs) ++ moved_back back) fewer_slots all s (end_path [] (fs ++ h ∷ t))
+        (subst (λ (l : List Placed). Outcome (lowered (length (h ∷ t)) (top ∷ fs) ++ moved_back back) fewer_slots l s (end_path [] (fs ++ h ∷ t))) same out) distinct)
 
 -- ---- by places
-run-case : (top : Node) (fs run back : List Node) (slots : List Slot) (i : ℕ) (d : Slot) → 1 ≤ length run → Old top (fs ++ run) back slots i → IsDistinct eqb (map (λ r. r.slot.number) (read_off (listing_of (top ∷ ((fs ++ run) ++ back)) slots))) → read_off (listing_of (top ∷ ((fs ++ run) ++ back)) slots) ≢ [] → IsBare run → IsRun run → (1 ≤ length fs → (final top fs).count ≡ 0 → (final top fs).below ≢ length run) → Removed (lowered (length run) (top ∷ fs) ++ moved_back back) (take i slots ++ drop (i + 1) slots) (get_or slots i d).number (read_off (listing_of (top ∷ ((fs ++ run) ++ back)) slots))
+run-case : (top : Node) (fs run back : List Node) (slots : List Slot) (i : ℕ) (d : Slot) → 1 ≤ length run → Old top (fs ++ run) back slots i
+    → IsDistinct eqb (map (λ r. r.slot.number) (read_off (listing_of (top ∷ ((fs ++ run) ++ back)) slots)))
+    → read_off (listing_of (top ∷ ((fs ++ run) ++ back)) slots) ≢ [] → IsBare run → IsRun run
+    → (1 ≤ length fs → (final top fs).count ≡ 0 → (final top fs).below ≢ length run)
+    → Removed (lowered (length run) (top ∷ fs) ++ moved_back back) (take i slots ++ drop (i + 1) slots) (get_or slots i d).number
+    (read_off (listing_of (top ∷ ((fs ++ run) ++ back)) slots))
 run-case top fs [] back slots i d long o distinct some bare is stop = absurd (omega (arith, long))
 run-case top fs (m ∷ rs) back slots i d long o distinct some bare is stop = removed-run top fs m rs back slots i d o distinct some bare is stop
 
@@ -260,7 +292,8 @@ pub record Whole (nodes : List Node) (slots : List Slot) : Type 0 where
 old-of : (top : Node) (ns : List Node) (slots : List Slot) (i j : ℕ) → Whole (top ∷ ns) slots → i < length slots → IsOwner (top ∷ ns) i j → Old top (take j ns) (drop j ns) slots i
 old-of top ns slots i j w within owner =
     let split : take j ns ++ drop j ns ≡ ns = take-append-drop j ns in
-    let last : get_or (top ∷ ns) j (record { event = 0; depth = 0; below = 0; first = 0; count = 0 }) ≡ final top (take j ns) = final-get j top ns (record { event = 0; depth = 0; below = 0; first = 0; count = 0 }) (omega (arith, owner.within)) in
+    let last : get_or (top ∷ ns) j (record { event = 0; depth = 0; below = 0; first = 0; count = 0 }) ≡ final top (take j ns) = final-get j top ns
+        (record { event = 0; depth = 0; below = 0; first = 0; count = 0 }) (omega (arith, owner.within)) in
     record {
       tree = subst (λ (l : List Node). IsTree (top ∷ l) slots) (sym split) w.tree;
       canon = subst (λ (l : List Node). listing_of (top ∷ l) slots ≡ canon_of (read_off (listing_of (top ∷ l) slots))) (sym split) w.canon;
@@ -270,7 +303,10 @@ old-of top ns slots i j w within owner =
       high = subst (λ (n : Node). i < n.first + n.count) last owner.high;
     }
 
-by_run : (top : Node) (ns : List Node) (slots : List Slot) (i j keep : ℕ) (d : Slot) → Whole (top ∷ ns) slots → i < length slots → IsOwner (top ∷ ns) i j → IsBareFrom (top ∷ ns) (suc j) keep → Old top (take j ns) (drop j ns) slots i → IsDistinct eqb (map (λ r. r.slot.number) (read_off (listing_of (top ∷ (take j ns ++ drop j ns)) slots))) → Removed (without_nodes keep (suc j) (top ∷ ns)) (take i slots ++ drop (i + 1) slots) (get_or slots i d).number (read_off (listing_of (top ∷ ns) slots))
+by_run : (top : Node) (ns : List Node) (slots : List Slot) (i j keep : ℕ) (d : Slot) → Whole (top ∷ ns) slots → i < length slots
+    → IsOwner (top ∷ ns) i j → IsBareFrom (top ∷ ns) (suc j) keep → Old top (take j ns) (drop j ns) slots i
+    → IsDistinct eqb (map (λ r. r.slot.number) (read_off (listing_of (top ∷ (take j ns ++ drop j ns)) slots)))
+    → Removed (without_nodes keep (suc j) (top ∷ ns)) (take i slots ++ drop (i + 1) slots) (get_or slots i d).number (read_off (listing_of (top ∷ ns) slots))
 by_run top ns slots i j zero d w within owner bare o distinct = absurd (omega (arith, bare.low))
 by_run top ns slots i j (suc k) d w within owner bare o distinct =
     let none : Node = record { event = 0; depth = 0; below = 0; first = 0; count = 0 } in
@@ -288,21 +324,31 @@ by_run top ns slots i j (suc k) d w within owner bare o distinct =
     let last : get_or (top ∷ ns) k none ≡ final top (take k ns) = final-get k top ns none (omega (arith, owner.within, less)) in
     let at : suc k - 1 ≡ k = omega arith in
     let stop : 1 ≤ length (take k ns) → (final top (take k ns)).count ≡ 0 → (final top (take k ns)).below ≢ length run = λ more zero_count same.
-    bare.stop (omega (arith, more, long)) (ap (λ (n : ℕ). (get_or (top ∷ ns) n none).count) at ∙ (ap (λ (n : Node). n.count) last ∙ zero_count)) (ap (λ (n : ℕ). (get_or (top ∷ ns) n none).below) at ∙ (ap (λ (n : Node). n.below) last ∙ (same ∙ (size ∙ sym gone)))) in
-    let law = run-case top (take k ns) run (drop j ns) slots i d (omega (arith, size, less)) (subst (λ (l : List Node). Old top l (drop j ns) slots i) front o) (subst (λ (l : List Node). IsDistinct eqb (map (λ r. r.slot.number) (read_off (listing_of (top ∷ l) slots)))) (sym split_run) w.distinct) (subst (λ (l : List Node). read_off (listing_of (top ∷ l) slots) ≢ []) (sym split_run) w.some) (subst IsBare run_is bare.bare) (subst IsRun run_is bare.run) stop in
+    bare.stop (omega (arith, more, long)) (ap (λ (n : ℕ). (get_or (top ∷ ns) n none).count) at
+        ∙ (ap (λ (n : Node). n.count) last ∙ zero_count)) (ap (λ (n : ℕ). (get_or (top ∷ ns) n none).below) at ∙ (ap (λ (n : Node). n.below) last ∙ (same ∙ (size ∙ sym gone)))) in
+    let law = run-case top (take k ns) run (drop j ns) slots i d (omega (arith, size, less))
+        (subst (λ (l : List Node). Old top l (drop j ns) slots i) front o)
+        (subst (λ (l : List Node). IsDistinct eqb (map (λ r. r.slot.number) (read_off (listing_of (top ∷ l) slots)))) (sym split_run) w.distinct)
+        (subst (λ (l : List Node). read_off (listing_of (top ∷ l) slots) ≢ []) (sym split_run) w.some) (subst IsBare run_is bare.bare) (subst IsRun run_is bare.run) stop in
     let test : nat_lt (suc k) (suc j) ≡ true = grind (arith, nat_tests) in
-    subst (λ (b : Bool). Removed (cond b (lowered (suc j - suc k) (top ∷ take k ns)) (uncounted (top ∷ take j ns)) ++ moved_back (drop j ns)) (take i slots ++ drop (i + 1) slots) (get_or slots i d).number (read_off (listing_of (top ∷ ns) slots))) (sym test)
-    (subst (λ (n : ℕ). Removed (lowered n (top ∷ take k ns) ++ moved_back (drop j ns)) (take i slots ++ drop (i + 1) slots) (get_or slots i d).number (read_off (listing_of (top ∷ ns) slots))) (size ∙ sym gone)
-    (subst (λ (l : List Node). Removed (lowered (length run) (top ∷ take k ns) ++ moved_back (drop j ns)) (take i slots ++ drop (i + 1) slots) (get_or slots i d).number (read_off (listing_of (top ∷ l) slots))) split_run law))
+    subst (λ (b : Bool). Removed (cond b (lowered (suc j - suc k) (top ∷ take k ns)) (uncounted (top ∷ take j ns)) ++ moved_back (drop j ns))
+        (take i slots ++ drop (i + 1) slots) (get_or slots i d).number (read_off (listing_of (top ∷ ns) slots))) (sym test)
+    (subst (λ (n : ℕ). Removed (lowered n (top ∷ take k ns) ++ moved_back (drop j ns)) (take i slots ++ drop (i + 1) slots) (get_or slots i d).number
+        (read_off (listing_of (top ∷ ns) slots))) (size ∙ sym gone)
+    (subst (λ (l : List Node). Removed (lowered (length run) (top ∷ take k ns) ++ moved_back (drop j ns)) (take i slots ++ drop (i + 1) slots)
+        (get_or slots i d).number (read_off (listing_of (top ∷ l) slots))) split_run law))
 
-by_keep : (top : Node) (ns : List Node) (slots : List Slot) (i j keep : ℕ) (d : Slot) → Whole (top ∷ ns) slots → i < length slots → IsOwner (top ∷ ns) i j → IsKeep (top ∷ ns) (suc j) keep → Removed (without_nodes keep (suc j) (top ∷ ns)) (take i slots ++ drop (i + 1) slots) (get_or slots i d).number (read_off (listing_of (top ∷ ns) slots))
+by_keep : (top : Node) (ns : List Node) (slots : List Slot) (i j keep : ℕ) (d : Slot) → Whole (top ∷ ns) slots → i < length slots
+    → IsOwner (top ∷ ns) i j → IsKeep (top ∷ ns) (suc j) keep → Removed (without_nodes keep (suc j) (top ∷ ns)) (take i slots ++ drop (i + 1) slots)
+    (get_or slots i d).number (read_off (listing_of (top ∷ ns) slots))
 by_keep top ns slots i j keep d w within owner keeps =
     let none : Node = record { event = 0; depth = 0; below = 0; first = 0; count = 0 } in
     let split : take j ns ++ drop j ns ≡ ns = take-append-drop j ns in
     let long : length (take j ns) ≡ j = length-take-le j ns (omega (arith, owner.within)) in
     let last : get_or (top ∷ ns) j none ≡ final top (take j ns) = final-get j top ns none (omega (arith, owner.within)) in
     let o : Old top (take j ns) (drop j ns) slots i = old-of top ns slots i j w within owner in
-    let distinct : IsDistinct eqb (map (λ r. r.slot.number) (read_off (listing_of (top ∷ (take j ns ++ drop j ns)) slots))) = subst (λ (l : List Node). IsDistinct eqb (map (λ r. r.slot.number) (read_off (listing_of (top ∷ l) slots)))) (sym split) w.distinct in
+    let distinct : IsDistinct eqb (map (λ r. r.slot.number) (read_off (listing_of (top ∷ (take j ns ++ drop j ns)) slots))) = subst
+        (λ (l : List Node). IsDistinct eqb (map (λ r. r.slot.number) (read_off (listing_of (top ∷ l) slots)))) (sym split) w.distinct in
     ⊎_elim (λ less.
     by_run top ns slots i j keep d w within owner (keeps.some less) o distinct)
     (λ all.
@@ -310,12 +356,16 @@ by_keep top ns slots i j keep d w within owner keeps =
     let test : nat_lt keep (suc j) ≡ false = grind (arith, nat_tests) in
     let at : suc j - 1 ≡ j = omega arith in
     let stays : 1 ≤ length (take j ns) → (final top (take j ns)).count ≤ 1 → 0 < (final top (take j ns)).below = λ more one.
-    subst (λ (n : Node). 0 < n.below) last (subst (λ (k : ℕ). 0 < (get_or (top ∷ ns) k none).below) at (keeps.all whole (omega (arith, more, long)) (subst (λ (k : ℕ). (get_or (top ∷ ns) k none).count ≤ 1) (sym at) (subst (λ (n : Node). n.count ≤ 1) (sym last) one)))) in
+    subst (λ (n : Node). 0 < n.below) last (subst (λ (k : ℕ). 0 < (get_or (top ∷ ns) k none).below) at
+        (keeps.all whole (omega (arith, more, long)) (subst (λ (k : ℕ). (get_or (top ∷ ns) k none).count ≤ 1) (sym at) (subst (λ (n : Node). n.count ≤ 1) (sym last) one)))) in
     let law = removed-kept top (take j ns) (drop j ns) slots i d o distinct stays in
-    subst (λ (b : Bool). Removed (cond b (lowered (suc j - keep) (take keep (top ∷ ns))) (uncounted (top ∷ take j ns)) ++ moved_back (drop j ns)) (take i slots ++ drop (i + 1) slots) (get_or slots i d).number (read_off (listing_of (top ∷ ns) slots))) (sym test)
-    (subst (λ (l : List Node). Removed (uncounted (top ∷ take j ns) ++ moved_back (drop j ns)) (take i slots ++ drop (i + 1) slots) (get_or slots i d).number (read_off (listing_of (top ∷ l) slots))) split law)) (cases_lt keep (suc j))
+    subst (λ (b : Bool). Removed (cond b (lowered (suc j - keep) (take keep (top ∷ ns))) (uncounted (top ∷ take j ns)) ++ moved_back (drop j ns))
+        (take i slots ++ drop (i + 1) slots) (get_or slots i d).number (read_off (listing_of (top ∷ ns) slots))) (sym test)
+    (subst (λ (l : List Node). Removed (uncounted (top ∷ take j ns) ++ moved_back (drop j ns)) (take i slots ++ drop (i + 1) slots)
+        (get_or slots i d).number (read_off (listing_of (top ∷ l) slots))) split law)) (cases_lt keep (suc j))
 
-pub tree-removed : (nodes : List Node) (slots : List Slot) (i j keep : ℕ) (d : Slot) → Whole nodes slots → i < length slots → IsOwner nodes i j → IsKeep nodes (j + 1) keep → Removed (without_nodes keep (j + 1) nodes) (take i slots ++ drop (i + 1) slots) (get_or slots i d).number (read_off (listing_of nodes slots))
+pub tree-removed : (nodes : List Node) (slots : List Slot) (i j keep : ℕ) (d : Slot) → Whole nodes slots → i < length slots → IsOwner nodes i j
+    → IsKeep nodes (j + 1) keep → Removed (without_nodes keep (j + 1) nodes) (take i slots ++ drop (i + 1) slots) (get_or slots i d).number (read_off (listing_of nodes slots))
 tree-removed [] slots i j keep d w within owner keeps = absurd w.tree.topped
 tree-removed (top ∷ ns) slots i j keep d w within owner keeps =
     let one : j + 1 ≡ suc j = omega arith in
@@ -334,12 +384,19 @@ list_other [] number h e = cc
 list_other (r ∷ list) number h e = cc
 
 -- the same for lists that equal the tree's
-pub removed-made : (nodes ns : List Node) (slots ss : List Slot) (i j keep number : ℕ) (more : List Node) (rest : List Slot) → ns ≡ nodes → ss ≡ slots → IsTree nodes slots → listing_of nodes slots ≡ canon_of (read_off (listing_of nodes slots)) → IsStrictlySortedBy placed_cmp (read_off (listing_of nodes slots)) → IsDistinct eqb (map (λ r. r.slot.number) (read_off (listing_of nodes slots))) → list_any (λ r. r.slot.number == number) (read_off (listing_of nodes slots)) ≡ true → IsPlaceOf number ss i → i < length slots → IsOwner nodes i j → IsKeep ns (j + 1) keep → more ≡ without_nodes keep (j + 1) ns → rest ≡ take i ss ++ drop (i + 1) ss → Removed more rest number (read_off (listing_of nodes slots))
+pub removed-made : (nodes ns : List Node) (slots ss : List Slot) (i j keep number : ℕ) (more : List Node) (rest : List Slot) → ns ≡ nodes → ss ≡ slots
+    → IsTree nodes slots → listing_of nodes slots ≡ canon_of (read_off (listing_of nodes slots))
+    → IsStrictlySortedBy placed_cmp (read_off (listing_of nodes slots))
+    → IsDistinct eqb (map (λ r. r.slot.number) (read_off (listing_of nodes slots)))
+    → list_any (λ r. r.slot.number == number) (read_off (listing_of nodes slots)) ≡ true → IsPlaceOf number ss i → i < length slots
+    → IsOwner nodes i j → IsKeep ns (j + 1) keep → more ≡ without_nodes keep (j + 1) ns → rest ≡ take i ss ++ drop (i + 1) ss
+    → Removed more rest number (read_off (listing_of nodes slots))
 removed-made nodes ns slots ss i j keep number more rest nodes_is slots_is tree canon order distinct there place within owner keeps more_is rest_is =
     let d : Slot = slot_of_some i slots within in
     let all : List Placed = read_off (listing_of nodes slots) in
     let law : Removed (without_nodes keep (j + 1) nodes) (take i slots ++ drop (i + 1) slots) (get_or slots i d).number all =
-    tree-removed nodes slots i j keep d (record { tree = tree; canon = canon; order = order; distinct = distinct; some = list_other all number there }) within owner (subst (λ (l : List Node). IsKeep l (j + 1) keep) nodes_is keeps) in
+    tree-removed nodes slots i j keep d (record { tree = tree; canon = canon; order = order; distinct = distinct; some = list_other all number there
+        }) within owner (subst (λ (l : List Node). IsKeep l (j + 1) keep) nodes_is keeps) in
     let same : (get_or slots i d).number ≡ number = place-number number slots i d (subst (λ (l : List Slot). IsPlaceOf number l i) slots_is place) within in
     subst (λ (l : List Node). Removed l rest number all) (sym (more_is ∙ ap (without_nodes keep (j + 1)) nodes_is))
     (subst (λ (l : List Slot). Removed (without_nodes keep (j + 1) nodes) l number all) (sym (rest_is ∙ ap (λ (l : List Slot). take i l ++ drop (i + 1) l) slots_is))
@@ -354,18 +411,23 @@ none-there : (number : ℕ) (list : List Placed) → AllByRecursion (λ s. s.num
 none-there number [] h = refl
 none-there number (r ∷ list) h = ap (λ (b : Bool). b || list_any (λ r. r.slot.number == number) list) (ne_eqb r.slot.number number h.0) ∙ none-there number list h.1
 
-pub bare-step : (nodes : List Node) (end keep : ℕ) (d : Node) → 1 < keep → keep < end → end ≤ length nodes → (get_or nodes (keep - 1) d).count ≡ 0 → (get_or nodes (keep - 1) d).below ≡ end - keep → IsBare (take (end - keep) (drop keep nodes)) → IsBare (take (end - (keep - 1)) (drop (keep - 1) nodes)) × IsRun (take (end - (keep - 1)) (drop (keep - 1) nodes))
+pub bare-step : (nodes : List Node) (end keep : ℕ) (d : Node) → 1 < keep → keep < end → end ≤ length nodes → (get_or nodes (keep - 1) d).count ≡ 0
+    → (get_or nodes (keep - 1) d).below ≡ end - keep → IsBare (take (end - keep) (drop keep nodes))
+    → IsBare (take (end - (keep - 1)) (drop (keep - 1) nodes)) × IsRun (take (end - (keep - 1)) (drop (keep - 1) nodes))
 bare-step nodes end keep d low high within none below bare =
     let n : Node = get_or nodes (keep - 1) d in
     let run : List Node = take (end - keep) (drop keep nodes) in
     let size : length run ≡ end - keep = length-take-le (end - keep) (drop keep nodes) (omega (arith, length-drop keep nodes, within)) in
-    let at : drop (keep - 1) nodes ≡ n ∷ drop keep nodes = drop_more nodes (keep - 1) d (omega (arith, high, within, low)) ∙ ap (λ (k : ℕ). n ∷ drop k nodes) (let k : (keep - 1) + 1 ≡ keep = omega (arith, low) in k) in
-    let is : take (end - (keep - 1)) (drop (keep - 1) nodes) ≡ n ∷ run = ap (take (end - (keep - 1))) at ∙ ap (λ (k : ℕ). take k (n ∷ drop keep nodes)) (let k : end - (keep - 1) ≡ suc (end - keep) = omega (arith, low, high) in k) in (
+    let at : drop (keep - 1) nodes ≡ n ∷ drop keep nodes = drop_more nodes (keep - 1) d (omega (arith, high, within, low))
+        ∙ ap (λ (k : ℕ). n ∷ drop k nodes) (let k : (keep - 1) + 1 ≡ keep = omega (arith, low) in k) in
+    let is : take (end - (keep - 1)) (drop (keep - 1) nodes) ≡ n ∷ run = ap (take (end - (keep - 1))) at
+        ∙ ap (λ (k : ℕ). take k (n ∷ drop keep nodes)) (let k : end - (keep - 1) ≡ suc (end - keep) = omega (arith, low, high) in k) in (
       subst IsBare (sym is) (bare-cons n run (omega (arith, size, high)) none bare),
       subst IsRun (sym is) (below ∙ sym size),
     )
 
-pub place-there : (number : ℕ) (slots : List Slot) (list : List Placed) (place : ℕ) → map (λ r. r.slot) list ≡ slots → IsPlaceOf number slots place → list_any (λ r. r.slot.number == number) list ≡ true → place < length slots
+pub place-there : (number : ℕ) (slots : List Slot) (list : List Placed) (place : ℕ) → map (λ r. r.slot) list ≡ slots → IsPlaceOf number slots place
+    → list_any (λ r. r.slot.number == number) list ≡ true → place < length slots
 place-there number slots list place is p there =
     ⊎_elim (λ l. l) (λ g.
     let all : AllByRecursion (λ s. s.number ≢ number) slots = subst (AllByRecursion (λ (s : Slot). s.number ≢ number)) (take_all place slots g) p.before in

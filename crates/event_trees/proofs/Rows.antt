@@ -82,6 +82,7 @@ rows-push rows r are is held =
       paths = subst (λ (l : List EventDef). HavePaths l (rows ++ r ∷ [])) (sym (defs_of-push rows r)) (paths-push more rows r old new);
     }
 
-pub rows-push_at : (rows : List Row) (defs : List EventDef) (r : Row) → defs_of rows ≡ defs → AreRows rows → IsAddable defs r.def → path_of r.path ≡ path defs r.def.parent ++ r.def.number ∷ [] → AreRows (rows ++ r ∷ [])
+pub rows-push_at : (rows : List Row) (defs : List EventDef) (r : Row) → defs_of rows ≡ defs → AreRows rows → IsAddable defs r.def
+    → path_of r.path ≡ path defs r.def.parent ++ r.def.number ∷ [] → AreRows (rows ++ r ∷ [])
 rows-push_at rows defs r same are is held =
     rows-push rows r are (subst (λ (l : List EventDef). IsAddable l r.def) (sym same) is) (subst (λ (l : List EventDef). path_of r.path ≡ path l r.def.parent ++ r.def.number ∷ []) (sym same) held)

@@ -22,7 +22,8 @@ then_less Less n h = refl
 then_less Equal n h = refl
 then_less Greater n h = cc
 
-rises-from : (defs : List EventDef) (r : Reg) (list : List Reg) → AllByRecursion (λ s. reg_cmp defs r s ≡ Less) list → IsStrictlySortedBy (reg_cmp defs) list → Rises (path defs r.event) (placed defs list)
+rises-from : (defs : List EventDef) (r : Reg) (list : List Reg) → AllByRecursion (λ s. reg_cmp defs r s ≡ Less) list
+    → IsStrictlySortedBy (reg_cmp defs) list → Rises (path defs r.event) (placed defs list)
 unfolding IsStrictlySortedBy
 rises-from defs r [] h s = tt
 rises-from defs r (t ∷ list) h s =

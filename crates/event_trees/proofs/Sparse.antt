@@ -56,7 +56,9 @@ pub size-slots : (nodes : List Node) (slots : List Slot) → IsTree nodes slots 
 size-slots nodes slots tree = sym (ap length (slots-tree nodes slots tree)) ∙ length-map (read_off (listing_of nodes slots)) (λ (r : Placed). r.slot)
 
 -- at most 8 nodes for each registration, and the top node
-pub size-nodes : (nodes : List Node) (slots : List Slot) → listing_of nodes slots ≡ canon_of (read_off (listing_of nodes slots)) → AreShort (listing_of nodes slots) → length nodes ≤ 1 + 8 * length (read_off (listing_of nodes slots))
+pub size-nodes : (nodes : List Node) (slots : List Slot) → listing_of nodes slots ≡ canon_of (read_off (listing_of nodes slots))
+    → AreShort (listing_of nodes slots) → length nodes ≤ 1 + 8 * length (read_off (listing_of nodes slots))
 size-nodes nodes slots canon short =
     let list : List Placed = read_off (listing_of nodes slots) in
-    omega (arith, size-listing nodes slots, ap length canon, length-map (canon_of list) (λ (s : Shown). s.path), ap length (paths-canon list), size-with ([] ∷ []) list (short-read (listing_of nodes slots) short))
+    omega (arith, size-listing nodes slots, ap length canon, length-map (canon_of list) (λ (s : Shown). s.path), ap length (paths-canon list),
+        size-with ([] ∷ []) list (short-read (listing_of nodes slots) short))

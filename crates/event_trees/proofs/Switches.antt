@@ -20,7 +20,8 @@ use Rattle.event_trees.specs.Edit.{put_placed, without_placed, IsSwitchable}
 pub placed-put : (defs : List EventDef) (r : Reg) (list : List Reg) → placed defs (put_reg defs r list) ≡ put_placed (placed_of defs r) (placed defs list)
 placed-put defs r [] = refl
 placed-put defs r (s ∷ list) =
-    elim (is_lt (reg_cmp defs r s)) as (λ b. placed defs (cond b (r ∷ s ∷ list) (s ∷ put_reg defs r list)) ≡ cond b (placed_of defs r ∷ placed_of defs s ∷ placed defs list) (placed_of defs s ∷ put_placed (placed_of defs r) (placed defs list))) [
+    elim (is_lt (reg_cmp defs r s)) as (λ b. placed defs (cond b (r ∷ s ∷ list) (s ∷ put_reg defs r list)) ≡ cond b
+        (placed_of defs r ∷ placed_of defs s ∷ placed defs list) (placed_of defs s ∷ put_placed (placed_of defs r) (placed defs list))) [
       | true ↦ refl
       | false ↦ ap (λ (l : List Placed). placed_of defs s ∷ l) (placed-put defs r list)
     ]
@@ -28,7 +29,8 @@ placed-put defs r (s ∷ list) =
 pub placed-without : (defs : List EventDef) (number : ℕ) (list : List Reg) → placed defs (without number list) ≡ without_placed number (placed defs list)
 placed-without defs number [] = refl
 placed-without defs number (s ∷ list) =
-    elim (not (eqb s.number number)) as (λ b. placed defs (cond b (s ∷ without number list) (without number list)) ≡ cond b (placed_of defs s ∷ without_placed number (placed defs list)) (without_placed number (placed defs list))) [
+    elim (not (eqb s.number number)) as (λ b. placed defs (cond b (s ∷ without number list) (without number list)) ≡ cond b
+        (placed_of defs s ∷ without_placed number (placed defs list)) (without_placed number (placed defs list))) [
       | true ↦ ap (λ (l : List Placed). placed_of defs s ∷ l) (placed-without defs number list)
       | false ↦ placed-without defs number list
     ]
@@ -54,7 +56,8 @@ greater_of Greater e h = refl
 -- registrations with other numbers don't tie
 after_it : (defs : List EventDef) (r s : Reg) → s.number ≢ r.number → is_lt (reg_cmp defs r s) ≡ false → reg_cmp defs s r ≡ Less
 after_it defs r s other no_less =
-    let greater : reg_cmp defs r s ≡ Greater = greater_of (reg_cmp defs r s) no_less (λ e. other (sym (nat_cmp-IsAntisymmetric r.number s.number (then_equal (path_cmp (path defs r.event) (path defs s.event)) (nat_cmp r.number s.number) e)))) in
+    let greater : reg_cmp defs r s ≡ Greater = greater_of (reg_cmp defs r s) no_less
+        (λ e. other (sym (nat_cmp-IsAntisymmetric r.number s.number (then_equal (path_cmp (path defs r.event) (path defs s.event)) (nat_cmp r.number s.number) e)))) in
     (reg_total defs).antisymm s r ∙ ap ordering_reverse greater
 
 all-put : (P : Reg → Type 0) (defs : List EventDef) (r : Reg) (list : List Reg) → AllByRecursion P list → P r → AllByRecursion P (put_reg defs r list)
@@ -69,7 +72,8 @@ less-all : (defs : List EventDef) (r s : Reg) (list : List Reg) → reg_cmp defs
 less-all defs r s [] e all = tt
 less-all defs r s (t ∷ list) e all = ((reg_total defs).trans r s t e all.0, less-all defs r s list e all.1)
 
-sorted-put : (defs : List EventDef) (r : Reg) (list : List Reg) → AllByRecursion (λ s. s.number ≢ r.number) list → IsStrictlySortedBy (reg_cmp defs) list → IsStrictlySortedBy (reg_cmp defs) (put_reg defs r list)
+sorted-put : (defs : List EventDef) (r : Reg) (list : List Reg) → AllByRecursion (λ s. s.number ≢ r.number) list
+    → IsStrictlySortedBy (reg_cmp defs) list → IsStrictlySortedBy (reg_cmp defs) (put_reg defs r list)
 unfolding IsStrictlySortedBy
 sorted-put defs r [] other s = (tt, tt)
 sorted-put defs r (t ∷ list) other s =
@@ -90,7 +94,8 @@ unlike : (r : Reg) (list : List Reg) → AllByRecursion (λ s. s.number ≢ r.nu
 unlike r [] other = tt
 unlike r (s ∷ list) other = (ne_eqb r.number s.number (λ e. other.0 (sym e)), unlike r list other.1)
 
-distinct-put : (defs : List EventDef) (r : Reg) (list : List Reg) → AllByRecursion (λ s. s.number ≢ r.number) list → IsDistinct eqb (numbers_of list) → IsDistinct eqb (numbers_of (put_reg defs r list))
+distinct-put : (defs : List EventDef) (r : Reg) (list : List Reg) → AllByRecursion (λ s. s.number ≢ r.number) list → IsDistinct eqb (numbers_of list)
+    → IsDistinct eqb (numbers_of (put_reg defs r list))
 unfolding IsDistinct
 distinct-put defs r [] other d = (tt, tt)
 distinct-put defs r (s ∷ list) other d =
@@ -136,12 +141,14 @@ distinct-without number (s ∷ list) d =
 abbrev numbered : Reg → Type 0
 numbered r = (1 ≤ r.number) × (r.number ≤ 255)
 
-pub private-put : (defs : List EventDef) (r : Reg) (list : List Reg) → IsPrivate defs list → All (λ s. s.number ≢ r.number) list → 1 ≤ r.number → r.number ≤ 255 → IsTrue (is_event defs r.event) → IsPrivate defs (put_reg defs r list)
+pub private-put : (defs : List EventDef) (r : Reg) (list : List Reg) → IsPrivate defs list → All (λ s. s.number ≢ r.number) list → 1 ≤ r.number
+    → r.number ≤ 255 → IsTrue (is_event defs r.event) → IsPrivate defs (put_reg defs r list)
 private-put defs r list p absent low high event =
     let other : AllByRecursion (λ s. s.number ≢ r.number) list = recursion_from_All (λ (s : Reg). s.number ≢ r.number) list absent in
     record {
       numbers = All-from_recursion numbered (put_reg defs r list) (all-put numbered defs r list (recursion_from_All numbered list p.numbers) (low, high));
-      events = All-from_recursion (λ (s : Reg). IsTrue (is_event defs s.event)) (put_reg defs r list) (all-put (λ s. IsTrue (is_event defs s.event)) defs r list (recursion_from_All (λ (s : Reg). IsTrue (is_event defs s.event)) list p.events) event);
+      events = All-from_recursion (λ (s : Reg). IsTrue (is_event defs s.event)) (put_reg defs r list)
+          (all-put (λ s. IsTrue (is_event defs s.event)) defs r list (recursion_from_All (λ (s : Reg). IsTrue (is_event defs s.event)) list p.events) event);
       distinct = distinct-put defs r list other p.distinct;
       sorted = sorted-put defs r list other p.sorted;
     }
@@ -149,15 +156,18 @@ private-put defs r list p absent low high event =
 pub private-without : (defs : List EventDef) (number : ℕ) (list : List Reg) → IsPrivate defs list → IsPrivate defs (without number list)
 private-without defs number list p = record {
   numbers = All-from_recursion numbered (without number list) (all-without numbered number list (recursion_from_All numbered list p.numbers));
-  events = All-from_recursion (λ (s : Reg). IsTrue (is_event defs s.event)) (without number list) (all-without (λ s. IsTrue (is_event defs s.event)) number list (recursion_from_All (λ (s : Reg). IsTrue (is_event defs s.event)) list p.events));
+  events = All-from_recursion (λ (s : Reg). IsTrue (is_event defs s.event)) (without number list)
+      (all-without (λ s. IsTrue (is_event defs s.event)) number list (recursion_from_All (λ (s : Reg). IsTrue (is_event defs s.event)) list p.events));
   distinct = distinct-without number list p.distinct;
   sorted = sorted-without defs number list p.sorted;
 }
 
-pub private-edited : (defs : List EventDef) (r : Reg) (on : Bool) (list : List Reg) → IsPrivate defs list → IsSwitchable list r on → 1 ≤ r.number → r.number ≤ 255 → IsTrue (is_event defs r.event) → IsPrivate defs (edited defs list r on)
+pub private-edited : (defs : List EventDef) (r : Reg) (on : Bool) (list : List Reg) → IsPrivate defs list → IsSwitchable list r on → 1 ≤ r.number
+    → r.number ≤ 255 → IsTrue (is_event defs r.event) → IsPrivate defs (edited defs list r on)
 private-edited defs r true list p s low high event = private-put defs r list p s low high event
 private-edited defs r false list p s low high event = private-without defs r.number list p
 
-pub placed-edited : (defs : List EventDef) (r : Reg) (on : Bool) (list : List Reg) → placed defs (edited defs list r on) ≡ cond on (put_placed (placed_of defs r) (placed defs list)) (without_placed r.number (placed defs list))
+pub placed-edited : (defs : List EventDef) (r : Reg) (on : Bool) (list : List Reg)
+    → placed defs (edited defs list r on) ≡ cond on (put_placed (placed_of defs r) (placed defs list)) (without_placed r.number (placed defs list))
 placed-edited defs r true list = placed-put defs r list
 placed-edited defs r false list = placed-without defs r.number list

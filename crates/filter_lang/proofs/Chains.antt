@@ -51,17 +51,21 @@ behind_conj-other Either cs os h = absurd (h refl)
 behind_conj-other _ cs os h = refl
 
 -- one member more of an `&&` chain
-pub and_more : (l m n : Lexer) (depth : ℕ) (us : List Shape) (s : Shape) → l.token ≡ Both → later l ≡ ahead m → ReadsUnit depth m n s → (cs : List Shape) (os : List Level) → opened os ≡ depth → reads l (behind_unit (record { conjs = cs; units = us; bangs = 0 }) os) ≡ reads n (behind_unit (record { conjs = cs; units = us ++ s ∷ []; bangs = 0 }) os)
+pub and_more : (l m n : Lexer) (depth : ℕ) (us : List Shape) (s : Shape) → l.token ≡ Both → later l ≡ ahead m → ReadsUnit depth m n s
+    → (cs : List Shape) (os : List Level) → opened os ≡ depth → reads l (behind_unit (record { conjs = cs; units = us; bangs = 0 }) os) ≡ reads n
+    (behind_unit (record { conjs = cs; units = us ++ s ∷ []; bangs = 0 }) os)
 and_more l m n depth us s both next unit cs os e =
     let level : Level = record { conjs = cs; units = us; bangs = 0 } in
     ap (λ t. steps (read (later l)) l.at (next_behind level os t)) both ∙ ap (λ ts. read ts (unit_place level os)) next ∙ unit.same level os (zero-add (opened os) ∙ e)
 
-pub and_end : (l : Lexer) (us : List Shape) (s : Shape) → (l.token ≡ Both → ⊥) → all_of us ≡ s → (cs : List Shape) (os : List Level) → reads l (behind_unit (record { conjs = cs; units = us; bangs = 0 }) os) ≡ takes l (behind_conj (cs ++ s ∷ []) os l.token)
+pub and_end : (l : Lexer) (us : List Shape) (s : Shape) → (l.token ≡ Both → ⊥) → all_of us ≡ s → (cs : List Shape) (os : List Level)
+    → reads l (behind_unit (record { conjs = cs; units = us; bangs = 0 }) os) ≡ takes l (behind_conj (cs ++ s ∷ []) os l.token)
 and_end l us s other whole cs os =
     ap (takes l) (next_behind-other l.token (record { conjs = cs; units = us; bangs = 0 }) os other) ∙ ap (λ x. takes l (behind_conj (cs ++ x ∷ []) os l.token)) whole
 
 -- one member more of an `||` chain
-pub or_more : (l m n : Lexer) (depth : ℕ) (cs : List Shape) (s : Shape) → l.token ≡ Either → later l ≡ ahead m → ReadsConjunction depth m n s → (os : List Level) → opened os ≡ depth → takes l (behind_conj cs os l.token) ≡ takes n (behind_conj (cs ++ s ∷ []) os n.token)
+pub or_more : (l m n : Lexer) (depth : ℕ) (cs : List Shape) (s : Shape) → l.token ≡ Either → later l ≡ ahead m → ReadsConjunction depth m n s
+    → (os : List Level) → opened os ≡ depth → takes l (behind_conj cs os l.token) ≡ takes n (behind_conj (cs ++ s ∷ []) os n.token)
 or_more l m n depth cs s either next conj os e =
     ap (λ t. takes l (behind_conj cs os t)) either ∙ ap (λ ts. read ts (unit_place (behind_conjs cs) os)) next ∙ conj.same cs os e
 
@@ -69,7 +73,8 @@ pub or_end : (l : Lexer) (cs : List Shape) (s : Shape) → (l.token ≡ Either �
 or_end l cs s other whole os =
     ap (takes l) (behind_conj-other l.token cs os other) ∙ ap (λ x. takes l (behind_expr x os l.token)) whole
 
-next_unit-other : (t : Token) (l : Level) (os : List Level) → (t ≡ Bang → ⊥) → (t ≡ Open → ⊥) → (t ≡ TrueWord → ⊥) → (t ≡ FalseWord → ⊥) → (t ≡ NativeWord → ⊥) → next_unit l os t ≡ next_atom left alone l os t
+next_unit-other : (t : Token) (l : Level) (os : List Level) → (t ≡ Bang → ⊥) → (t ≡ Open → ⊥) → (t ≡ TrueWord → ⊥) → (t ≡ FalseWord → ⊥)
+    → (t ≡ NativeWord → ⊥) → next_unit l os t ≡ next_atom left alone l os t
 next_unit-other Bang l os a b c d e = absurd (a refl)
 next_unit-other Open l os a b c d e = absurd (b refl)
 next_unit-other TrueWord l os a b c d e = absurd (c refl)
@@ -78,12 +83,14 @@ next_unit-other NativeWord l os a b c d e = absurd (e refl)
 next_unit-other _ l os a b c d e = refl
 
 -- a unit that begins with an atom is a comparison
-pub comparison_read : (depth : ℕ) (l m : Lexer) (r : Result Term FilterError) → (l.token ≡ Bang → ⊥) → (l.token ≡ Open → ⊥) → (l.token ≡ TrueWord → ⊥) → (l.token ≡ FalseWord → ⊥) → (l.token ≡ NativeWord → ⊥) → IfOk r (λ t. ReadsComparison l m (shape t)) → IfOk r (λ t. ReadsUnit depth l m (shape t))
+pub comparison_read : (depth : ℕ) (l m : Lexer) (r : Result Term FilterError) → (l.token ≡ Bang → ⊥) → (l.token ≡ Open → ⊥) → (l.token ≡ TrueWord → ⊥)
+    → (l.token ≡ FalseWord → ⊥) → (l.token ≡ NativeWord → ⊥) → IfOk r (λ t. ReadsComparison l m (shape t)) → IfOk r (λ t. ReadsUnit depth l m (shape t))
 comparison_read depth l m (Ok t) a b c d e h =
     record { same = λ level os at. ap (takes l) (next_unit-other l.token level os a b c d e) ∙ h.same level os }
 comparison_read depth l m (Err x) a b c d e h = tt
 
-pub comparison_refused : (depth : ℕ) (l : Lexer) (r : Result Term FilterError) → (l.token ≡ Bang → ⊥) → (l.token ≡ Open → ⊥) → (l.token ≡ TrueWord → ⊥) → (l.token ≡ FalseWord → ⊥) → (l.token ≡ NativeWord → ⊥) → IfErr r (λ x. RefusesComparison l x) → IfErr r (λ x. RefusesUnit depth l x)
+pub comparison_refused : (depth : ℕ) (l : Lexer) (r : Result Term FilterError) → (l.token ≡ Bang → ⊥) → (l.token ≡ Open → ⊥)
+    → (l.token ≡ TrueWord → ⊥) → (l.token ≡ FalseWord → ⊥) → (l.token ≡ NativeWord → ⊥) → IfErr r (λ x. RefusesComparison l x) → IfErr r (λ x. RefusesUnit depth l x)
 comparison_refused depth l (Ok t) a b c d e h = tt
 comparison_refused depth l (Err x) a b c d e h =
     record { same = λ level os at memory. ap (takes l) (next_unit-other l.token level os a b c d e) ∙ h.same level os memory }

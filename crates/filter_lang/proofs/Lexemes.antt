@@ -81,7 +81,8 @@ token_at-sound bs =
     (lexeme_if (is_ascii_lowercase (slice_index bs 0)) (name_at bs) (sign_at bs) (word_token-sound (take name bs)) (sign_at-sound bs))
 
 -- blanks make no token
-blank_step : (t : Bool) (at b : ℕ) (bs : List ℕ) (n : ℕ) → is_blank b ≡ t → suc n ≡ cond t (1 + prefix_len is_blank bs) 0 → (n ≡ prefix_len is_blank bs → tokens_behind 0 (at + 1) bs ≡ tokens_behind 0 (at + 1 + n) (drop n bs)) → tokens_behind 0 at (b ∷ bs) ≡ tokens_behind 0 (at + suc n) (drop n bs)
+blank_step : (t : Bool) (at b : ℕ) (bs : List ℕ) (n : ℕ) → is_blank b ≡ t → suc n ≡ cond t (1 + prefix_len is_blank bs) 0
+    → (n ≡ prefix_len is_blank bs → tokens_behind 0 (at + 1) bs ≡ tokens_behind 0 (at + 1 + n) (drop n bs)) → tokens_behind 0 at (b ∷ bs) ≡ tokens_behind 0 (at + suc n) (drop n bs)
 blank_step true at b bs n blank e more = rw blank (more (omega arith) ∙ ap (λ m. tokens_behind 0 m (drop n bs)) (omega arith))
 blank_step false at b bs n blank e more = absurd (omega arith)
 
@@ -98,7 +99,8 @@ tokens_behind-inside (suc k) at (b ∷ bs) h =
     tokens_behind-inside k (at + 1) bs (omega arith) ∙ ap (λ n. tokens_behind 0 n (drop k bs)) (omega arith)
 
 -- a text that begins with no blank begins with a token
-pub tokens_behind-front : (at : ℕ) (bs : List ℕ) (len : ℕ) → 0 < length bs → is_blank (get_or bs 0 0) ≡ false → len ≡ (token_at bs).len → 0 < len → len ≤ length bs → tokens_behind 0 at bs ≡ record { token = (token_at bs).token; at = at } ∷ tokens_behind 0 (at + len) (drop len bs)
+pub tokens_behind-front : (at : ℕ) (bs : List ℕ) (len : ℕ) → 0 < length bs → is_blank (get_or bs 0 0) ≡ false → len ≡ (token_at bs).len → 0 < len
+    → len ≤ length bs → tokens_behind 0 at bs ≡ record { token = (token_at bs).token; at = at } ∷ tokens_behind 0 (at + len) (drop len bs)
 tokens_behind-front at [] len some blank e long within = absurd (omega arith)
 tokens_behind-front at (b ∷ bs) zero some blank e long within = absurd (omega arith)
 tokens_behind-front at (b ∷ bs) (suc k) some blank e long within =
@@ -108,7 +110,9 @@ tokens_behind-front at (b ∷ bs) (suc k) some blank e long within =
     rw blank (ap (λ ts. record { token = (token_at (b ∷ bs)).token; at = at } ∷ ts) rest)
 
 -- the same behind blanks, in a text from an offset on
-pub tokens_behind-found : (text : List ℕ) (place at len : ℕ) → place ≤ length text → at ≡ place + prefix_len is_blank (drop place text) → at < length text → len ≡ (token_at (drop at text)).len → 0 < len → at + len ≤ length text → tokens_behind 0 place (drop place text) ≡ record { token = (token_at (drop at text)).token; at = at } ∷ tokens_behind 0 (at + len) (drop (at + len) text)
+pub tokens_behind-found : (text : List ℕ) (place at len : ℕ) → place ≤ length text → at ≡ place + prefix_len is_blank (drop place text)
+    → at < length text → len ≡ (token_at (drop at text)).len → 0 < len → at + len ≤ length text
+    → tokens_behind 0 place (drop place text) ≡ record { token = (token_at (drop at text)).token; at = at } ∷ tokens_behind 0 (at + len) (drop (at + len) text)
 tokens_behind-found text place at len inside start some e long within =
     let n = prefix_len is_blank (drop place text) in
     let short : n < length (drop place text) = omega (arith, length-drop place text) in
@@ -120,7 +124,8 @@ tokens_behind-found text place at len inside start some e long within =
     ∙ tokens_behind-front at (drop at text) len (omega (arith, length-drop at text)) blank e long (omega (arith, length-drop at text))
     ∙ ap (λ xs. record { token = (token_at (drop at text)).token; at = at } ∷ tokens_behind 0 (at + len) xs) (drop-drop len at text)
 
-pub tokens_behind-ended : (text : List ℕ) (place at : ℕ) → at ≡ place + prefix_len is_blank (drop place text) → length text ≤ at → tokens_behind 0 place (drop place text) ≡ record { token = End; at = at } ∷ []
+pub tokens_behind-ended : (text : List ℕ) (place at : ℕ) → at ≡ place + prefix_len is_blank (drop place text) → length text ≤ at
+    → tokens_behind 0 place (drop place text) ≡ record { token = End; at = at } ∷ []
 tokens_behind-ended text place at start ended =
     let n = prefix_len is_blank (drop place text) in
     let same : drop n (drop place text) ≡ [] = drop-drop n place text ∙ drop_all (place + n) text (omega arith) in

@@ -100,7 +100,8 @@ get_or-behind : (ws rest : List ℕ) → slice_index (ws ++ rest) (length ws) �
 get_or-behind [] rest = refl
 get_or-behind (w ∷ ws) rest = get_or-behind ws rest
 
-decimal_is : (bs : List ℕ) (len : ℕ) (ds : List ℕ) (n : ℕ) → prefix_len is_ascii_digit bs ≡ len → (slice_index bs len == 46) ≡ false → take len bs ≡ ds → digits_value 10 ds ≡ n → nat_lt n (2 ^ 64) ≡ true → decimal_at bs ≡ lexeme (Numeral n) len
+decimal_is : (bs : List ℕ) (len : ℕ) (ds : List ℕ) (n : ℕ) → prefix_len is_ascii_digit bs ≡ len → (slice_index bs len == 46) ≡ false
+    → take len bs ≡ ds → digits_value 10 ds ≡ n → nat_lt n (2 ^ 64) ≡ true → decimal_at bs ≡ lexeme (Numeral n) len
 decimal_is bs len ds n e plain whole value small =
     let made = λ (k : ℕ). if slice_index bs k == 46 then quad_from 3 0 0 bs else lexeme (numeral_token (digits_value 10 (take k bs))) k in
     ap made e
@@ -148,7 +149,8 @@ fact_read (suc (suc (suc (suc (suc (suc (suc (suc (suc (suc (suc (suc (suc (suc 
 fact_read (suc (suc (suc (suc (suc (suc (suc (suc (suc (suc (suc (suc (suc (suc (suc (suc zero)))))))))))))))) rest h stop = name_read 114 (101 ∷ 120 ∷ 100 ∷ 105 ∷ 102 ∷ 102 ∷ []) rest refl refl stop
 fact_read (suc (suc (suc (suc (suc (suc (suc (suc (suc (suc (suc (suc (suc (suc (suc (suc (suc zero))))))))))))))))) rest h stop = name_read 102 (97 ∷ 117 ∷ 108 ∷ 116 ∷ []) rest refl refl stop
 fact_read (suc (suc (suc (suc (suc (suc (suc (suc (suc (suc (suc (suc (suc (suc (suc (suc (suc (suc zero)))))))))))))))))) rest h stop = name_read 110 (101 ∷ 120 ∷ 116 ∷ []) rest refl refl stop
-fact_read (suc (suc (suc (suc (suc (suc (suc (suc (suc (suc (suc (suc (suc (suc (suc (suc (suc (suc (suc zero))))))))))))))))))) rest h stop = name_read 99 (108 ∷ 97 ∷ 115 ∷ 115 ∷ []) rest refl refl stop
+fact_read (suc (suc (suc (suc (suc (suc (suc (suc (suc (suc (suc (suc (suc (suc (suc (suc (suc (suc (suc zero))))))))))))))))))) rest h
+    stop = name_read 99 (108 ∷ 97 ∷ 115 ∷ 115 ∷ []) rest refl refl stop
 fact_read (suc (suc (suc (suc (suc (suc (suc (suc (suc (suc (suc (suc (suc (suc (suc (suc (suc (suc (suc (suc place)))))))))))))))))))) rest h stop = absurd (omega arith)
 
 pub atom_read : (a : Atom) (rest : List ℕ) → AtomIsWithin a → IsStop rest → kinds 0 (atom_text a ++ rest) ≡ atom_token a ∷ kinds 0 rest

@@ -39,14 +39,18 @@ length-or_texts : (ts : List Term) → length (or_texts (shapes ts)) ≡ length 
 length-or_texts [] = refl
 length-or_texts (t ∷ ts) = ap suc (length-or_texts ts)
 
-pub all_more : (old : List ℕ) (sep : List ℕ) (ts : List Term) (t : Term) → ((old ++ joined_text sep (and_texts (shapes ts))) ++ separator_text (length ts) sep) ++ wrap (is_chain (shape t)) (printed (shape t)) ≡ old ++ joined_text sep (and_texts (shapes (ts ++ t ∷ [])))
+pub all_more : (old : List ℕ) (sep : List ℕ) (ts : List Term) (t : Term)
+    → ((old ++ joined_text sep (and_texts (shapes ts))) ++ separator_text (length ts) sep) ++ wrap (is_chain (shape t))
+    (printed (shape t)) ≡ old ++ joined_text sep (and_texts (shapes (ts ++ t ∷ [])))
 all_more old sep ts t =
     let one = wrap (is_chain (shape t)) (printed (shape t)) in
     let more = ap (joined_text sep) (and_texts-push ts t) ∙ joined_text-push sep (and_texts (shapes ts)) one
     ∙ ap (λ n. joined_text sep (and_texts (shapes ts)) ++ (separator_text n sep ++ one)) (length-and_texts ts) in
     simp append_assoc (ap (λ xs. old ++ xs) (sym more))
 
-pub any_more : (old : List ℕ) (sep : List ℕ) (ts : List Term) (t : Term) → ((old ++ joined_text sep (or_texts (shapes ts))) ++ separator_text (length ts) sep) ++ wrap (is_or (shape t)) (printed (shape t)) ≡ old ++ joined_text sep (or_texts (shapes (ts ++ t ∷ [])))
+pub any_more : (old : List ℕ) (sep : List ℕ) (ts : List Term) (t : Term)
+    → ((old ++ joined_text sep (or_texts (shapes ts))) ++ separator_text (length ts) sep) ++ wrap (is_or (shape t))
+    (printed (shape t)) ≡ old ++ joined_text sep (or_texts (shapes (ts ++ t ∷ [])))
 any_more old sep ts t =
     let one = wrap (is_or (shape t)) (printed (shape t)) in
     let more = ap (joined_text sep) (or_texts-push ts t) ∙ joined_text-push sep (or_texts (shapes ts)) one

@@ -66,14 +66,17 @@ EndsConjs f = follow_token f ≡ Either → ⊥
 
 -- what a text reads as where a unit stands, within so many constructs more
 pub record ReadsAsUnit (text : List ℕ) (depth : ℕ) (s : Shape) : Type 0 where
-  pub same : (f : Follow) (l : Level) (os : List Level) → l.bangs + opened os + depth ≤ 32 → run (kinds 0 (text ++ follow_text f)) (unit_place l os) ≡ run (kinds 0 (follow_text f)) (behind_unit (with_unit s l) os)
+  pub same : (f : Follow) (l : Level) (os : List Level) → l.bangs + opened os + depth ≤ 32
+      → run (kinds 0 (text ++ follow_text f)) (unit_place l os) ≡ run (kinds 0 (follow_text f)) (behind_unit (with_unit s l) os)
 
 -- and where a conjunction, or a whole expression, stands
 pub record ReadsAsConj (text : List ℕ) (depth : ℕ) (s : Shape) : Type 0 where
-  pub same : (f : Follow) (cs : List Shape) (os : List Level) → EndsUnits f → opened os + depth ≤ 32 → run (kinds 0 (text ++ follow_text f)) (unit_place (behind_conjs cs) os) ≡ taken f (behind_conj (cs ++ s ∷ []) os (follow_token f))
+  pub same : (f : Follow) (cs : List Shape) (os : List Level) → EndsUnits f → opened os + depth ≤ 32
+      → run (kinds 0 (text ++ follow_text f)) (unit_place (behind_conjs cs) os) ≡ taken f (behind_conj (cs ++ s ∷ []) os (follow_token f))
 
 pub record ReadsAsExpr (text : List ℕ) (depth : ℕ) (s : Shape) : Type 0 where
-  pub same : (f : Follow) (os : List Level) → EndsUnits f → EndsConjs f → opened os + depth ≤ 32 → run (kinds 0 (text ++ follow_text f)) (unit_place fresh os) ≡ taken f (behind_expr s os (follow_token f))
+  pub same : (f : Follow) (os : List Level) → EndsUnits f → EndsConjs f → opened os + depth ≤ 32
+      → run (kinds 0 (text ++ follow_text f)) (unit_place fresh os) ≡ taken f (behind_expr s os (follow_token f))
 
 conj_of_unit : (text : List ℕ) (depth : ℕ) (s : Shape) → ReadsAsUnit text depth s → ReadsAsConj text depth s
 conj_of_unit text depth s unit = record {
@@ -138,7 +141,9 @@ and_follow-text none f = refl
 and_follow-text (more s ss) f =
     ap (λ xs. codes " && " ++ xs) (sym (append_assoc (wrap (is_chain s) (printed s)) (behind_text (codes " && ") (and_texts ss)) (follow_text f)))
 
-units_read : (ss : Shapes) → AllRead ss → (f : Follow) (cs us : List Shape) (os : List Level) → opened os + and_nesting ss ≤ 32 → run (kinds 0 (follow_text (and_follow ss f))) (behind_unit (record { conjs = cs; units = us; bangs = 0 }) os) ≡ run (kinds 0 (follow_text f)) (behind_unit (record { conjs = cs; units = us ++ list ss; bangs = 0 }) os)
+units_read : (ss : Shapes) → AllRead ss → (f : Follow) (cs us : List Shape) (os : List Level) → opened os + and_nesting ss ≤ 32
+    → run (kinds 0 (follow_text (and_follow ss f))) (behind_unit (record { conjs = cs; units = us; bangs = 0 }) os) ≡ run (kinds 0 (follow_text f))
+    (behind_unit (record { conjs = cs; units = us ++ list ss; bangs = 0 }) os)
 units_read none all f cs us os deep =
     ap (λ xs. run (kinds 0 (follow_text f)) (behind_unit (record { conjs = cs; units = xs; bangs = 0 }) os)) (sym (append-nil us))
 units_read (more s ss) all f cs us os deep =
@@ -189,7 +194,8 @@ or_follow-ends : (ss : Shapes) (f : Follow) → EndsUnits f → EndsUnits (or_fo
 or_follow-ends none f ends = ends
 or_follow-ends (more s ss) f ends = λ e. cc
 
-conjs_read : (ss : Shapes) → AllRead ss → (f : Follow) (cs : List Shape) (os : List Level) → EndsUnits f → opened os + or_nesting ss ≤ 32 → taken (or_follow ss f) (behind_conj cs os (follow_token (or_follow ss f))) ≡ taken f (behind_conj (cs ++ list ss) os (follow_token f))
+conjs_read : (ss : Shapes) → AllRead ss → (f : Follow) (cs : List Shape) (os : List Level) → EndsUnits f → opened os + or_nesting ss ≤ 32
+    → taken (or_follow ss f) (behind_conj cs os (follow_token (or_follow ss f))) ≡ taken f (behind_conj (cs ++ list ss) os (follow_token f))
 conjs_read none all f cs os ends deep = ap (λ xs. taken f (behind_conj xs os (follow_token f))) (sym (append-nil cs))
 conjs_read (more s ss) all f cs os ends deep =
     let text = wrap (is_or s) (printed s) in
@@ -237,7 +243,8 @@ stop_before_op Ge rest = inl refl
 stop_before_op Has rest = inl refl
 
 -- behind a comparison no atom is joined on
-compared_follow : (f : Follow) (s : Sum) (op : Op) (r : Sum) (l : Level) (os : List Level) → next (behind_atom (right s op) r l os) (follow_token f) ≡ next (behind_unit (with_unit (Compare s op r) l) os) (follow_token f)
+compared_follow : (f : Follow) (s : Sum) (op : Op) (r : Sum) (l : Level) (os : List Level)
+    → next (behind_atom (right s op) r l os) (follow_token f) ≡ next (behind_unit (with_unit (Compare s op r) l) os) (follow_token f)
 compared_follow ended s op r l os = refl
 compared_follow (closed bs) s op r l os = refl
 compared_follow (both bs) s op r l os = refl

@@ -52,7 +52,9 @@ goes_on (behind_atom side s l os) = atom_ends side s l os
 goes_on (behind_unit l os) = unit_ends l os
 
 -- the tokens before a place are passed over
-read_step : (n : Next) (before after : List Placed) (at : ℕ) (p : Place) → ((q : Place) → place_behind before q ≡ Some p → read (before ++ after) q ≡ read after p) → going (place_behind before) n ≡ Some p → steps (read (before ++ after)) at n ≡ read after p
+read_step : (n : Next) (before after : List Placed) (at : ℕ) (p : Place)
+    → ((q : Place) → place_behind before q ≡ Some p → read (before ++ after) q ≡ read after p) → going (place_behind before) n ≡ Some p
+    → steps (read (before ++ after)) at n ≡ read after p
 read_step (go q) before after at p more e = more q e
 read_step (done s) before after at p more e = absurd (cc)
 read_step (stop refusal) before after at p more e = absurd (cc)
@@ -64,7 +66,8 @@ read-behind (t ∷ before) after q p e = read_step (next q t.token) before after
 pub some_goes_on : (before : List Placed) (q p : Place) → place_behind before q ≡ Some p → (after : List Placed) × (s : Shape) × (read (before ++ after) q ≡ Ok s)
 some_goes_on before q p e = let g = goes_on p in (g.0, g.1, read-behind before g.0 q p e ∙ g.2)
 
-pub none_goes_on : (before : List Placed) (q p : Place) (t : Placed) (refusal : ℕ → FilterError) → place_behind before q ≡ Some p → next p t.token ≡ stop refusal → (after : List Placed) → read (before ++ t ∷ after) q ≡ Err (refusal t.at)
+pub none_goes_on : (before : List Placed) (q p : Place) (t : Placed) (refusal : ℕ → FilterError) → place_behind before q ≡ Some p
+    → next p t.token ≡ stop refusal → (after : List Placed) → read (before ++ t ∷ after) q ≡ Err (refusal t.at)
 none_goes_on before q p t refusal e stops after = read-behind before (t ∷ after) q p e ∙ ap (steps (read after) t.at) stops
 
 -- the last token of a text is its end, behind which nothing goes on
@@ -99,7 +102,8 @@ end_stays (behind_atom (right r op) s l (o ∷ os)) q e = cc
 end_stays (behind_unit l []) q e = cc
 end_stays (behind_unit l (o ∷ os)) q e = cc
 
-refused_step : (n : Next) (t : Placed) (ts : List Placed) (q : Place) (e : FilterError) → next q t.token ≡ n → IsEnded (t ∷ ts) → ((p : Place) → IsEnded ts → read ts p ≡ Err e → IsRefused ts p e) → steps (read ts) t.at n ≡ Err e → IsRefused (t ∷ ts) q e
+refused_step : (n : Next) (t : Placed) (ts : List Placed) (q : Place) (e : FilterError) → next q t.token ≡ n → IsEnded (t ∷ ts)
+    → ((p : Place) → IsEnded ts → read ts p ≡ Err e → IsRefused ts p e) → steps (read ts) t.at n ≡ Err e → IsRefused (t ∷ ts) q e
 refused_step (go p) t [] q e is end more r = absurd (end_stays q p (ap (next q) (sym end) ∙ is))
 refused_step (go p) t (u ∷ ts) q e is end more r =
     let later = more p end r in

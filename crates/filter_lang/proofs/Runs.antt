@@ -11,7 +11,8 @@ kinds inside [] = End ∷ []
 kinds (suc inside) (b ∷ bs) = kinds inside bs
 kinds zero (b ∷ bs) = cond (is_blank b) (kinds zero bs) ((token_at (b ∷ bs)).token ∷ kinds ((token_at (b ∷ bs)).len - 1) bs)
 
-kinds-step : (t : Bool) (b at : ℕ) (bs : List ℕ) (len : ℕ) → is_blank b ≡ t → ((i n : ℕ) → map (λ x. x.token) (tokens_behind i n bs) ≡ kinds i bs) → map (λ x. x.token) (tokens_behind 0 at (b ∷ bs)) ≡ kinds 0 (b ∷ bs)
+kinds-step : (t : Bool) (b at : ℕ) (bs : List ℕ) (len : ℕ) → is_blank b ≡ t → ((i n : ℕ) → map (λ x. x.token) (tokens_behind i n bs) ≡ kinds i bs)
+    → map (λ x. x.token) (tokens_behind 0 at (b ∷ bs)) ≡ kinds 0 (b ∷ bs)
 kinds-step true b at bs len blank more = rw blank (more 0 (at + 1))
 kinds-step false b at bs len blank more = rw blank (ap (λ ts. (token_at (b ∷ bs)).token ∷ ts) (more ((token_at (b ∷ bs)).len - 1) (at + 1)))
 
@@ -31,7 +32,8 @@ abbrev pub run : List Token → Place → Option Shape
 run [] p = None
 run (t ∷ ts) p = on (run ts) (next p t)
 
-read-step : (n : Next) (ts : List Placed) (at : ℕ) (s : Shape) → ((p : Place) → run (map (λ x. x.token) ts) p ≡ Some s → read ts p ≡ Ok s) → on (run (map (λ x. x.token) ts)) n ≡ Some s → steps (read ts) at n ≡ Ok s
+read-step : (n : Next) (ts : List Placed) (at : ℕ) (s : Shape) → ((p : Place) → run (map (λ x. x.token) ts) p ≡ Some s → read ts p ≡ Ok s)
+    → on (run (map (λ x. x.token) ts)) n ≡ Some s → steps (read ts) at n ≡ Ok s
 read-step (go p) ts at s more e = more p e
 read-step (done r) ts at s more e = let same : r ≡ s = cc in ap Ok same
 read-step (stop refusal) ts at s more e = absurd (cc)

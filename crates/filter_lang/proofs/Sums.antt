@@ -31,7 +31,8 @@ stop_before_steps (s ∷ ss) rest stop = stop_before_join s.0 _ where
 abbrev AreSteps : List (Join × Atom) → Type 0
 AreSteps = All (λ s. AtomIsWithin s.1)
 
-steps_read : (ss : List (Join × Atom)) → AreSteps ss → (acc : Sum) (side : Side) (l : Level) (os : List Level) (rest : List ℕ) → IsStop rest → run (kinds 0 (steps_text ss ++ rest)) (behind_atom side acc l os) ≡ run (kinds 0 rest) (behind_atom side (record { first = acc.first; rest = acc.rest ++ ss }) l os)
+steps_read : (ss : List (Join × Atom)) → AreSteps ss → (acc : Sum) (side : Side) (l : Level) (os : List Level) (rest : List ℕ) → IsStop rest
+    → run (kinds 0 (steps_text ss ++ rest)) (behind_atom side acc l os) ≡ run (kinds 0 rest) (behind_atom side (record { first = acc.first; rest = acc.rest ++ ss }) l os)
 steps_read [] within acc side l os rest stop =
     ap (λ ys. run (kinds 0 rest) (behind_atom side (record { first = acc.first; rest = ys }) l os)) (sym (append-nil acc.rest))
 steps_read (s ∷ ss) within acc side l os rest stop =
@@ -46,7 +47,8 @@ steps_read (s ∷ ss) within acc side l os rest stop =
     ∙ steps_read ss (All-tail (λ x. AtomIsWithin x.1) s ss within) more side l os rest stop
     ∙ ap (λ ys. run (kinds 0 rest) (behind_atom side (record { first = acc.first; rest = ys }) l os)) (append_assoc acc.rest (s ∷ []) ss)
 
-pub sum_read : (s : Sum) → SumIsWithin s → (side : Side) (l : Level) (os : List Level) (rest : List ℕ) → IsStop rest → run (kinds 0 (sum_text s ++ rest)) (atom_place side alone l os) ≡ run (kinds 0 rest) (behind_atom side s l os)
+pub sum_read : (s : Sum) → SumIsWithin s → (side : Side) (l : Level) (os : List Level) (rest : List ℕ) → IsStop rest
+    → run (kinds 0 (sum_text s ++ rest)) (atom_place side alone l os) ≡ run (kinds 0 rest) (behind_atom side s l os)
 sum_read s within side l os rest stop =
     let later = steps_text s.rest ++ rest in
     ap (λ xs. run (kinds 0 xs) (atom_place side alone l os)) (append_assoc (atom_text s.first) (steps_text s.rest) rest)
@@ -55,7 +57,8 @@ sum_read s within side l os rest stop =
     ∙ steps_read s.rest within.1 (alone s.first) side l os rest stop
 
 -- the same where a unit begins
-pub sum_begun : (s : Sum) → SumIsWithin s → (l : Level) (os : List Level) (rest : List ℕ) → IsStop rest → run (kinds 0 (sum_text s ++ rest)) (unit_place l os) ≡ run (kinds 0 rest) (behind_atom left s l os)
+pub sum_begun : (s : Sum) → SumIsWithin s → (l : Level) (os : List Level) (rest : List ℕ) → IsStop rest
+    → run (kinds 0 (sum_text s ++ rest)) (unit_place l os) ≡ run (kinds 0 rest) (behind_atom left s l os)
 sum_begun s within l os rest stop =
     let later = steps_text s.rest ++ rest in
     ap (λ xs. run (kinds 0 xs) (unit_place l os)) (append_assoc (atom_text s.first) (steps_text s.rest) rest)

@@ -37,7 +37,8 @@ rest_after buf len wanted within = sym (drop-append-le len (take wanted buf) (dr
 -- a run of at most n bytes
 pub read_within : (at : ℕ → Option ℕ) (p n : ℕ) → length (bytes_from at p n) ≤ n
 read_within at p zero = omega arith
-read_within at p (suc n) = elim (at p) as (λ o. length (byte_then o (bytes_from at (p + 1) n)) ≤ suc n) [ Some b ↦ (let rest : length (bytes_from at (p + 1) n) ≤ n = read_within at (p + 1) n in omega arith) | None ↦ omega arith ]
+read_within at p (suc n) = elim (at p) as (λ o. length (byte_then o (bytes_from at (p + 1) n)) ≤ suc n)
+    [ Some b ↦ (let rest : length (bytes_from at (p + 1) n) ≤ n = read_within at (p + 1) n in omega arith) | None ↦ omega arith ]
 
 -- from the lowest kept position on, all is kept up to next
 pub kept_up_to_next : (cells : List (Option ℕ)) (rbuf p : ℕ) → low_of cells rbuf ≤ p → p < next_of cells → is_some (kept cells rbuf p) ≡ true

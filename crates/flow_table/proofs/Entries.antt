@@ -51,11 +51,14 @@ module _ {T : Type 0} where
   len-opened flows key value absent = len-insert keys_total flows key value ∙ ap (λ o. cond (is_some o) (map.len flows) (map.len flows + 1)) absent
 
   -- entries that differ from others at one key make maps that differ there
-  pub inserted : (es fs : List (EndpointPair × T)) (key : EndpointPair) (value : T) → ((q : EndpointPair) → lookup (ends.eq q) fs ≡ cond (ends.eq key q) (Some value) (lookup (ends.eq q) es)) → map.from_entries {R = key_cmp} fs ≡ map.insert (map.from_entries es) key value
+  pub inserted : (es fs : List (EndpointPair × T)) (key : EndpointPair) (value : T)
+      → ((q : EndpointPair) → lookup (ends.eq q) fs ≡ cond (ends.eq key q) (Some value) (lookup (ends.eq q) es))
+      → map.from_entries {R = key_cmp} fs ≡ map.insert (map.from_entries es) key value
   inserted es fs key value h = same_map keys_total exact_keys _ _ (λ q.
       found_is fs q ∙ h q ∙ (λ i. cond (eq_key key q i) (Some value) (sym (found_is es q) i)) ∙ sym (found-insert (map.from_entries es) key value q))
 
-  pub removed : (es fs : List (EndpointPair × T)) (key : EndpointPair) → ((q : EndpointPair) → lookup (ends.eq q) fs ≡ cond (ends.eq key q) None (lookup (ends.eq q) es)) → map.from_entries {R = key_cmp} fs ≡ map.remove (map.from_entries es) key
+  pub removed : (es fs : List (EndpointPair × T)) (key : EndpointPair)
+      → ((q : EndpointPair) → lookup (ends.eq q) fs ≡ cond (ends.eq key q) None (lookup (ends.eq q) es)) → map.from_entries {R = key_cmp} fs ≡ map.remove (map.from_entries es) key
   removed es fs key h = same_map keys_total exact_keys _ _ (λ q.
       found_is fs q ∙ h q ∙ (λ i. cond (eq_key key q i) None (sym (found_is es q) i)) ∙ sym (found-remove (map.from_entries es) key q))
 

@@ -33,7 +33,8 @@ forest-off s t r shown is private off h =
     let list : active (with_put s r) ≡ active s = active-put s.defs r s.regs private.sorted ∙ ap (λ (b : Bool). cond b (put_reg s.defs r (active s)) (active s)) off in
     subst (λ (u : ControlState). IsTreeOf u shown) (sym is) (subst (λ (l : List Reg). IsForestOf s.defs l shown) (sym list) h)
 
-pub forest-on : (s t : ControlState) (r : Reg) (shown : List Shown) → t ≡ with_put s r → IsPrivate s.defs s.regs → r.on ≡ true → IsForestOf s.defs (edited s.defs (active s) r true) shown → IsTreeOf t shown
+pub forest-on : (s t : ControlState) (r : Reg) (shown : List Shown) → t ≡ with_put s r → IsPrivate s.defs s.regs → r.on ≡ true
+    → IsForestOf s.defs (edited s.defs (active s) r true) shown → IsTreeOf t shown
 forest-on s t r shown is private on h =
     let list : active (with_put s r) ≡ put_reg s.defs r (active s) = active-put s.defs r s.regs private.sorted ∙ ap (λ (b : Bool). cond b (put_reg s.defs r (active s)) (active s)) on in
     subst (λ (u : ControlState). IsTreeOf u shown) (sym is) (subst (λ (l : List Reg). IsForestOf s.defs l shown) (sym list) h)
@@ -42,7 +43,8 @@ pub forest-without : (s t : ControlState) (number : ℕ) (shown : List Shown) �
 forest-without s t number shown is h =
     subst (λ (u : ControlState). IsTreeOf u shown) (sym is) (subst (λ (l : List Reg). IsForestOf s.defs l shown) (sym (active-without number s.regs)) h)
 
-pub forest-absent : (s t : ControlState) (number : ℕ) (shown : List Shown) → t ≡ less s number → IsPrivate s.defs s.regs → ((r : Reg) → reg_of s.regs number ≡ Some r → r.on ≡ false) → IsTreeOf s shown → IsTreeOf t shown
+pub forest-absent : (s t : ControlState) (number : ℕ) (shown : List Shown) → t ≡ less s number → IsPrivate s.defs s.regs
+    → ((r : Reg) → reg_of s.regs number ≡ Some r → r.on ≡ false) → IsTreeOf s shown → IsTreeOf t shown
 forest-absent s t number shown is private off h =
     subst (λ (u : ControlState). IsTreeOf u shown) (sym is) (subst (λ (l : List Reg). IsForestOf s.defs l shown) (sym (active-without_none number s.regs off private.distinct)) h)
 
@@ -62,4 +64,8 @@ some-or (Some d) b h = h
 -- an event that is there stays there
 pub event-later : (earlier defs : List EventDef) (event : ℕ) → IsEarlier earlier defs → IsTrue (is_event earlier event) → IsTrue (is_event defs event)
 event-later earlier defs event more there =
-    subst (λ (l : List EventDef). IsTrue (is_event l event)) more.1 (⊎_elim (λ r. or_left (is_root event) (is_some (found (earlier ++ more.0) event)) r) (λ f. or_right (is_root event) (is_some (found (earlier ++ more.0) event)) (ap is_some (find-append (λ (d : EventDef). d.number == event) earlier more.0) ∙ some-or (found earlier event) (found more.0 event) f)) (or_cases (is_root event) (is_some (found earlier event)) there))
+    subst (λ (l : List EventDef). IsTrue (is_event l event)) more.1 (⊎_elim
+        (λ r. or_left (is_root event) (is_some (found (earlier ++ more.0) event)) r)
+        (λ f. or_right (is_root event) (is_some (found (earlier ++ more.0) event))
+        (ap is_some (find-append (λ (d : EventDef). d.number == event) earlier more.0) ∙ some-or (found earlier event) (found more.0 event) f))
+        (or_cases (is_root event) (is_some (found earlier event)) there))

@@ -134,7 +134,8 @@ tells-still old new c v s next le told =
 -- from the command on the state after it is told
 tells-next : (old new : Versions) (c : Command) (v : ℕ) → IsNext old new c → old.version + 1 ≤ v → Tells old v old.now → Tells new v (after old.now c)
 tells-next old new c v next since told =
-    let later = tells-later old.now old.past (old.version + 1) v c next.lawful next.whole since (record { regs = told.regs; policy = told.policy; rbuf = told.rbuf; rules = told.rules; idle = told.idle }) in
+    let later = tells-later old.now old.past (old.version + 1) v c next.lawful next.whole since
+        (record { regs = told.regs; policy = told.policy; rbuf = told.rbuf; rules = told.rules; idle = told.idle }) in
     record {
       defs = subst (λ (t : ControlState). IsEarlier (after old.now c).defs t.defs) (sym next.now) (same-defs (after old.now c).defs);
       regs = λ n high. ap (λ (p : PastLines). as_of (line_of p n) v) next.past ∙ later.regs n high;
@@ -158,7 +159,8 @@ stands-next old new c presets commands next stands =
           let le : v ≤ old.version = (let version = stands.version in omega arith) in
           let same : master presets (commands ++ c ∷ []) v ≡ master presets commands v = ap (control presets) (take-append-le v commands (c ∷ []) (let version = stands.version in omega arith)) in
           subst (Tells new v) (sym same) (tells-still old new c v (master presets commands v) next le (stands.told v))) (λ since.
-          let all : master presets (commands ++ c ∷ []) v ≡ control presets (commands ++ c ∷ []) = ap (control presets) (take_all v (commands ++ c ∷ []) (let version = stands.version in omega arith)) in
+          let all : master presets (commands ++ c ∷ []) v ≡ control presets (commands ++ c ∷ []) = ap (control presets)
+              (take_all v (commands ++ c ∷ []) (let version = stands.version in omega arith)) in
           let old-all : master presets commands v ≡ old.now = ap (control presets) (take_all v commands (let version = stands.version in omega arith)) ∙ sym stands.now in
           subst (Tells new v) (now ∙ sym all) (tells-next old new c v next since (subst (Tells old v) old-all (stands.told v)))) (cases_lt v (old.version + 1));
     }
@@ -166,7 +168,9 @@ stands-next old new c presets commands next stands =
 pub master-next : (old new : Versions) (c : Command) → IsNext old new c → old.version + 1 ≤ 4096 → IsMaster old → IsMaster new
 master-next old new c next below is = record {
   most = (let version = next.version in omega arith);
-  before = subst (λ (n : ℕ). AreBefore new.past (n + 1)) (sym next.version) (subst (λ (p : PastLines). AreBefore p (old.version + 1 + 1)) (sym next.past) (before-noted old.now old.past (old.version + 1) old.now.rules c next.lawful next.whole is.before));
+  before = subst (λ (n : ℕ). AreBefore new.past (n + 1)) (sym next.version)
+      (subst (λ (p : PastLines). AreBefore p (old.version + 1 + 1)) (sym next.past)
+      (before-noted old.now old.past (old.version + 1) old.now.rules c next.lawful next.whole is.before));
   history = (is.history.0, (is.history.1.0 ++ c ∷ [], stands-next old new c is.history.0 is.history.1.0 next is.history.1.1));
 }
 
@@ -210,7 +214,8 @@ pub master-first : (m : Versions) (presets : List Reg) → IsFirst m presets →
 master-first m presets first = record {
   most = (let version = first.version in omega arith);
   before = record {
-    regs = λ n. ⊎_elim (λ past. unchanged-before (line_of m.past n) _ (m.version + 1) (first.past.past_end n past)) (λ within. unchanged-before (line_of m.past n) _ (m.version + 1) (first.past.regs n within)) (cases_lt 255 n);
+    regs = λ n. ⊎_elim (λ past. unchanged-before (line_of m.past n) _ (m.version + 1) (first.past.past_end n past))
+        (λ within. unchanged-before (line_of m.past n) _ (m.version + 1) (first.past.regs n within)) (cases_lt 255 n);
     policy = unchanged-before m.past.policy _ (m.version + 1) first.past.policy;
     rbuf = unchanged-before m.past.rbuf _ (m.version + 1) first.past.rbuf;
     rules = unchanged-before m.past.rules _ (m.version + 1) first.past.rules;

@@ -43,11 +43,19 @@ line-other past n k from reg other = get_or-set_other past.regs n k (stepped (li
 
 earlier-reg : (past : PastLines) (n from v : ℕ) (reg : Option Reg) (k : ℕ) → n < length past.regs → v < from → as_of (line_of (with_reg past n from reg) k) v ≡ as_of (line_of past k) v
 earlier-reg past n from v reg k within before =
-    ⊎_elim (λ same. ap (λ (j : ℕ). as_of (line_of (with_reg past n from reg) j) v) same ∙ (ap (λ (l : Line (Option Reg)). as_of l v) (line-same past n from reg within) ∙ (as_of-earlier (line_of past n) from v reg before ∙ ap (λ (j : ℕ). as_of (line_of past j) v) (sym same)))) (λ other. ap (λ (l : Line (Option Reg)). as_of l v) (line-other past n k from reg other)) (cases_eq k n)
+    ⊎_elim (λ same. ap (λ (j : ℕ). as_of (line_of (with_reg past n from reg) j) v) same
+        ∙ (ap (λ (l : Line (Option Reg)). as_of l v) (line-same past n from reg within)
+        ∙ (as_of-earlier (line_of past n) from v reg before ∙ ap (λ (j : ℕ). as_of (line_of past j) v) (sym same))))
+        (λ other. ap (λ (l : Line (Option Reg)). as_of l v) (line-other past n k from reg other)) (cases_eq k n)
 
-later-reg : (past : PastLines) (n from v : ℕ) (reg : Option Reg) (k : ℕ) → n < length past.regs → from ≤ v → as_of (line_of (with_reg past n from reg) k) v ≡ cond (eqb n k) reg (as_of (line_of past k) v)
+later-reg : (past : PastLines) (n from v : ℕ) (reg : Option Reg) (k : ℕ) → n < length past.regs → from ≤ v
+    → as_of (line_of (with_reg past n from reg) k) v ≡ cond (eqb n k) reg (as_of (line_of past k) v)
 later-reg past n from v reg k within since =
-    ⊎_elim (λ same. ap (λ (j : ℕ). as_of (line_of (with_reg past n from reg) j) v) same ∙ (ap (λ (l : Line (Option Reg)). as_of l v) (line-same past n from reg within) ∙ (as_of-from (line_of past n) from v reg since ∙ ap (λ b. cond b reg (as_of (line_of past k) v)) (sym (eq-eqb n k (sym same)))))) (λ other. ap (λ (l : Line (Option Reg)). as_of l v) (line-other past n k from reg other) ∙ ap (λ b. cond b reg (as_of (line_of past k) v)) (sym (ne_eqb n k (λ e. other (sym e))))) (cases_eq k n)
+    ⊎_elim (λ same. ap (λ (j : ℕ). as_of (line_of (with_reg past n from reg) j) v) same
+        ∙ (ap (λ (l : Line (Option Reg)). as_of l v) (line-same past n from reg within)
+        ∙ (as_of-from (line_of past n) from v reg since ∙ ap (λ b. cond b reg (as_of (line_of past k) v)) (sym (eq-eqb n k (sym same))))))
+        (λ other. ap (λ (l : Line (Option Reg)). as_of l v) (line-other past n k from reg other)
+        ∙ ap (λ b. cond b reg (as_of (line_of past k) v)) (sym (ne_eqb n k (λ e. other (sym e))))) (cases_eq k n)
 
 -- two pasts tell the same at a version
 pub record TellTheSame (old new : PastLines) (v : ℕ) : Type 0 where
@@ -58,7 +66,8 @@ pub record TellTheSame (old new : PastLines) (v : ℕ) : Type 0 where
   pub idle : as_of new.idle v ≡ as_of old.idle v
 
 -- a command changes nothing before it
-pub same-earlier : (s : ControlState) (past : PastLines) (from v : ℕ) (rules : List Rule) (c : Command) → IsTrue (is_lawful s c) → length past.regs ≡ 256 → v < from → TellTheSame past (noted from rules c past) v
+pub same-earlier : (s : ControlState) (past : PastLines) (from v : ℕ) (rules : List Rule) (c : Command) → IsTrue (is_lawful s c)
+    → length past.regs ≡ 256 → v < from → TellTheSame past (noted from rules c past) v
 unfolding noted
 same-earlier s past from v rules (Event d) lawful whole before = record { regs = λ n. refl; policy = refl; rbuf = refl; rules = refl; idle = refl }
 same-earlier s past from v rules (Register r) lawful whole before =
@@ -82,13 +91,15 @@ pub record TellsOf (past : PastLines) (v : ℕ) (s : ControlState) : Type 0 wher
   pub idle : as_of past.idle v ≡ s.idle
 
 -- from a command on, the past tells the state after it
-pub tells-later : (s : ControlState) (past : PastLines) (from v : ℕ) (c : Command) → IsTrue (is_lawful s c) → length past.regs ≡ 256 → from ≤ v → TellsOf past v s → TellsOf (noted from s.rules c past) v (after s c)
+pub tells-later : (s : ControlState) (past : PastLines) (from v : ℕ) (c : Command) → IsTrue (is_lawful s c) → length past.regs ≡ 256 → from ≤ v
+    → TellsOf past v s → TellsOf (noted from s.rules c past) v (after s c)
 unfolding noted after
 tells-later s past from v (Event d) lawful whole since told = record { regs = told.regs; policy = told.policy; rbuf = told.rbuf; rules = told.rules; idle = told.idle }
 tells-later s past from v (Register r) lawful whole since told =
     let fits = lawful-register s r lawful in
     record {
-      regs = λ k high. later-reg past r.number from v (Some r) k (omega (arith, fits.high)) since ∙ (ap (λ (o : Option Reg). cond (eqb r.number k) (Some r) o) (told.regs k high) ∙ sym (reg_of-put s.defs r s.regs k (unlike s.regs r.number fits.absent)));
+      regs = λ k high. later-reg past r.number from v (Some r) k (omega (arith, fits.high)) since
+          ∙ (ap (λ (o : Option Reg). cond (eqb r.number k) (Some r) o) (told.regs k high) ∙ sym (reg_of-put s.defs r s.regs k (unlike s.regs r.number fits.absent)));
       policy = told.policy;
       rbuf = told.rbuf;
       rules = told.rules;
@@ -97,17 +108,22 @@ tells-later s past from v (Register r) lawful whole since told =
 tells-later s past from v (Unregister number) lawful whole since told =
     let within = lawful-withdraw s number lawful in
     record {
-      regs = λ k high. later-reg past number from v None k (omega (arith, within)) since ∙ (ap (λ (o : Option Reg). cond (eqb number k) None o) (told.regs k high) ∙ sym (reg_of-without s.regs number k));
+      regs = λ k high. later-reg past number from v None k (omega (arith, within)) since
+          ∙ (ap (λ (o : Option Reg). cond (eqb number k) None o) (told.regs k high) ∙ sym (reg_of-without s.regs number k));
       policy = told.policy;
       rbuf = told.rbuf;
       rules = told.rules;
       idle = told.idle;
     }
-tells-later s past from v (Buffer bytes) lawful whole since told = record { regs = told.regs; policy = told.policy; rbuf = as_of-from past.rbuf from v bytes since; rules = told.rules; idle = told.idle }
-tells-later s past from v (Overlap policy) lawful whole since told = record { regs = told.regs; policy = as_of-from past.policy from v policy since; rbuf = told.rbuf; rules = told.rules; idle = told.idle }
+tells-later s past from v (Buffer bytes) lawful whole since told = record
+    { regs = told.regs; policy = told.policy; rbuf = as_of-from past.rbuf from v bytes since; rules = told.rules; idle = told.idle }
+tells-later s past from v (Overlap policy) lawful whole since told = record
+    { regs = told.regs; policy = as_of-from past.policy from v policy since; rbuf = told.rbuf; rules = told.rules; idle = told.idle }
 tells-later s past from v (AddRule r) lawful whole since told = record { regs = told.regs; policy = told.policy; rbuf = told.rbuf; rules = as_of-from past.rules from v _ since; idle = told.idle }
-tells-later s past from v (RemoveRule number) lawful whole since told = record { regs = told.regs; policy = told.policy; rbuf = told.rbuf; rules = as_of-from past.rules from v _ since; idle = told.idle }
-tells-later s past from v (Idle seconds) lawful whole since told = record { regs = told.regs; policy = told.policy; rbuf = told.rbuf; rules = told.rules; idle = as_of-from past.idle from v (Some seconds) since }
+tells-later s past from v (RemoveRule number) lawful whole since told = record
+    { regs = told.regs; policy = told.policy; rbuf = told.rbuf; rules = as_of-from past.rules from v _ since; idle = told.idle }
+tells-later s past from v (Idle seconds) lawful whole since told = record
+    { regs = told.regs; policy = told.policy; rbuf = told.rbuf; rules = told.rules; idle = as_of-from past.idle from v (Some seconds) since }
 
 before-more : {T : Type 0} (line : Line T) (v : ℕ) → IsBefore line v → IsBefore line (v + 1)
 before-more {T} line v h = All-weaker (λ (s : ℕ × T). s.0 < v) (λ (s : ℕ × T). s.0 < v + 1) (λ s below. omega arith) line.steps h
@@ -117,30 +133,45 @@ before-stepped {T} line v x h = All-push (λ (s : ℕ × T). s.0 < v + 1) line.s
 
 before-reg : (past : PastLines) (n v : ℕ) (reg : Option Reg) (k : ℕ) → n < length past.regs → ((number : ℕ) → IsBefore (line_of past number) v) → IsBefore (line_of (with_reg past n v reg) k) (v + 1)
 before-reg past n v reg k within h =
-    ⊎_elim (λ same. subst (λ (l : Line (Option Reg)). IsBefore l (v + 1)) (sym (ap (λ (j : ℕ). line_of (with_reg past n v reg) j) same ∙ line-same past n v reg within)) (before-stepped (line_of past n) v reg (h n))) (λ other. subst (λ (l : Line (Option Reg)). IsBefore l (v + 1)) (sym (line-other past n k v reg other)) (before-more (line_of past k) v (h k))) (cases_eq k n)
+    ⊎_elim (λ same. subst (λ (l : Line (Option Reg)). IsBefore l (v + 1))
+        (sym (ap (λ (j : ℕ). line_of (with_reg past n v reg) j) same ∙ line-same past n v reg within)) (before-stepped (line_of past n) v reg (h n)))
+        (λ other. subst (λ (l : Line (Option Reg)). IsBefore l (v + 1)) (sym (line-other past n k v reg other)) (before-more (line_of past k) v (h k))) (cases_eq k n)
 
 -- after a note each change is before the version after it
-pub before-noted : (s : ControlState) (past : PastLines) (v : ℕ) (rules : List Rule) (c : Command) → IsTrue (is_lawful s c) → length past.regs ≡ 256 → AreBefore past v → AreBefore (noted v rules c past) (v + 1)
+pub before-noted : (s : ControlState) (past : PastLines) (v : ℕ) (rules : List Rule) (c : Command) → IsTrue (is_lawful s c) → length past.regs ≡ 256
+    → AreBefore past v → AreBefore (noted v rules c past) (v + 1)
 unfolding noted
-before-noted s past v rules (Event d) lawful whole h = record { regs = λ k. before-more (line_of past k) v (h.regs k); policy = before-more past.policy v h.policy; rbuf = before-more past.rbuf v h.rbuf; rules = before-more past.rules v h.rules; idle = before-more past.idle v h.idle }
+before-noted s past v rules (Event d) lawful whole h = record { regs = λ k. before-more (line_of past k) v (h.regs k); policy = before-more
+    past.policy v h.policy; rbuf = before-more past.rbuf v h.rbuf; rules = before-more past.rules v h.rules; idle = before-more past.idle v h.idle }
 before-noted s past v rules (Register r) lawful whole h =
     let fits = lawful-register s r lawful in
-    record { regs = λ k. before-reg past r.number v (Some r) k (omega (arith, fits.high)) h.regs; policy = before-more past.policy v h.policy; rbuf = before-more past.rbuf v h.rbuf; rules = before-more past.rules v h.rules; idle = before-more past.idle v h.idle }
+    record { regs = λ k. before-reg past r.number v (Some r) k (omega (arith, fits.high)) h.regs; policy = before-more past.policy v h.policy;
+        rbuf = before-more past.rbuf v h.rbuf; rules = before-more past.rules v h.rules; idle = before-more past.idle v h.idle }
 before-noted s past v rules (Unregister number) lawful whole h =
     let high = lawful-withdraw s number lawful in
-    record { regs = λ k. before-reg past number v None k (omega (arith, high)) h.regs; policy = before-more past.policy v h.policy; rbuf = before-more past.rbuf v h.rbuf; rules = before-more past.rules v h.rules; idle = before-more past.idle v h.idle }
-before-noted s past v rules (Buffer bytes) lawful whole h = record { regs = λ k. before-more (line_of past k) v (h.regs k); policy = before-more past.policy v h.policy; rbuf = before-stepped past.rbuf v bytes h.rbuf; rules = before-more past.rules v h.rules; idle = before-more past.idle v h.idle }
-before-noted s past v rules (Overlap policy) lawful whole h = record { regs = λ k. before-more (line_of past k) v (h.regs k); policy = before-stepped past.policy v policy h.policy; rbuf = before-more past.rbuf v h.rbuf; rules = before-more past.rules v h.rules; idle = before-more past.idle v h.idle }
-before-noted s past v rules (AddRule r) lawful whole h = record { regs = λ k. before-more (line_of past k) v (h.regs k); policy = before-more past.policy v h.policy; rbuf = before-more past.rbuf v h.rbuf; rules = before-stepped past.rules v _ h.rules; idle = before-more past.idle v h.idle }
-before-noted s past v rules (RemoveRule number) lawful whole h = record { regs = λ k. before-more (line_of past k) v (h.regs k); policy = before-more past.policy v h.policy; rbuf = before-more past.rbuf v h.rbuf; rules = before-stepped past.rules v _ h.rules; idle = before-more past.idle v h.idle }
-before-noted s past v rules (Idle seconds) lawful whole h = record { regs = λ k. before-more (line_of past k) v (h.regs k); policy = before-more past.policy v h.policy; rbuf = before-more past.rbuf v h.rbuf; rules = before-more past.rules v h.rules; idle = before-stepped past.idle v (Some seconds) h.idle }
+    record { regs = λ k. before-reg past number v None k (omega (arith, high)) h.regs; policy = before-more past.policy v h.policy; rbuf = before-more
+        past.rbuf v h.rbuf; rules = before-more past.rules v h.rules; idle = before-more past.idle v h.idle }
+before-noted s past v rules (Buffer bytes) lawful whole h = record { regs = λ k. before-more (line_of past k) v (h.regs k); policy = before-more
+    past.policy v h.policy; rbuf = before-stepped past.rbuf v bytes h.rbuf; rules = before-more past.rules v h.rules; idle = before-more past.idle v h.idle }
+before-noted s past v rules (Overlap policy) lawful whole h = record { regs = λ k. before-more (line_of past k) v (h.regs k); policy = before-stepped
+    past.policy v policy h.policy; rbuf = before-more past.rbuf v h.rbuf; rules = before-more past.rules v h.rules; idle = before-more past.idle v h.idle }
+before-noted s past v rules (AddRule r) lawful whole h = record { regs = λ k. before-more (line_of past k) v (h.regs k); policy = before-more
+    past.policy v h.policy; rbuf = before-more past.rbuf v h.rbuf; rules = before-stepped past.rules v _ h.rules; idle = before-more past.idle v h.idle }
+before-noted s past v rules (RemoveRule number) lawful whole h = record
+    { regs = λ k. before-more (line_of past k) v (h.regs k); policy = before-more past.policy v h.policy; rbuf = before-more past.rbuf v h.rbuf;
+    rules = before-stepped past.rules v _ h.rules; idle = before-more past.idle v h.idle }
+before-noted s past v rules (Idle seconds) lawful whole h = record { regs = λ k. before-more (line_of past k) v (h.regs k); policy = before-more
+    past.policy v h.policy; rbuf = before-more past.rbuf v h.rbuf; rules = before-more past.rules v h.rules; idle = before-stepped past.idle v (Some seconds) h.idle }
 
 -- a note that is taken back leaves the past as it was
-pub take-back : (old past : PastLines) (n from : ℕ) (reg : Option Reg) (back : Line (Option Reg)) → n < length old.regs → old ≡ with_reg past n from reg → ((line : Line (Option Reg)) (v : ℕ) (x : Option Reg) → line_of old n ≡ stepped line v x → back ≡ line) → record old { regs = set old.regs n back } ≡ past
+pub take-back : (old past : PastLines) (n from : ℕ) (reg : Option Reg) (back : Line (Option Reg)) → n < length old.regs
+    → old ≡ with_reg past n from reg → ((line : Line (Option Reg)) (v : ℕ) (x : Option Reg) → line_of old n ≡ stepped line v x → back ≡ line)
+    → record old { regs = set old.regs n back } ≡ past
 take-back old past n from reg back within is undo =
     let regs : old.regs ≡ set past.regs n (stepped (line_of past n) from reg) = ap (λ (p : PastLines). p.regs) is in
     let long : length old.regs ≡ length past.regs = ap length regs ∙ length-set past.regs n (stepped (line_of past n) from reg) in
     let line : line_of old n ≡ stepped (line_of past n) from reg = ap (λ (p : PastLines). line_of p n) is ∙ line-same past n from reg (omega arith) in
     let same : back ≡ line_of past n = undo (line_of past n) from reg line in
-    let whole : set old.regs n back ≡ past.regs = ap (λ (l : List (Line (Option Reg))). set l n back) regs ∙ (set-set past.regs n (stepped (line_of past n) from reg) back ∙ (ap (set past.regs n) same ∙ set-get_or past.regs n never)) in
+    let whole : set old.regs n back ≡ past.regs = ap (λ (l : List (Line (Option Reg))). set l n back) regs
+        ∙ (set-set past.regs n (stepped (line_of past n) from reg) back ∙ (ap (set past.regs n) same ∙ set-get_or past.regs n never)) in
     ap (λ (p : PastLines). record p { regs = set old.regs n back }) is ∙ ap (λ (l : List (Line (Option Reg))). record past { regs = l }) whole

@@ -40,7 +40,8 @@ absent-in n (m ∷ ns) h =
       | false ↦ λ e h. (λ same. eqb-false m n e (sym same), absent-in n ns h)
     ] refl h
 
-still-apart : (defs : List EventDef) (regs : List Reg) (r : Reg) (presets : List Reg) → AllByRecursion (λ m. r.number ≢ m) (numbers_of presets) → AllByRecursion (λ q. AllByRecursion (λ s. s.number ≢ q.number) regs) presets → AllByRecursion (λ q. AllByRecursion (λ s. s.number ≢ q.number) (put_reg defs r regs)) presets
+still-apart : (defs : List EventDef) (regs : List Reg) (r : Reg) (presets : List Reg) → AllByRecursion (λ m. r.number ≢ m) (numbers_of presets)
+    → AllByRecursion (λ q. AllByRecursion (λ s. s.number ≢ q.number) regs) presets → AllByRecursion (λ q. AllByRecursion (λ s. s.number ≢ q.number) (put_reg defs r regs)) presets
 still-apart defs regs r [] other apart = tt
 still-apart defs regs r (q ∷ presets) other apart =
     (all-put (λ (s : Reg). s.number ≢ q.number) defs r regs apart.0 other.0, still-apart defs regs r presets other.1 apart.1)
@@ -53,7 +54,8 @@ pub puttable-next : (defs : List EventDef) (regs : List Reg) (r : Reg) (presets 
 puttable-next defs regs r presets h =
     let fit = and_parts (is_preset r) (list_all is_preset presets) h.fit in
     let differ = and_parts (not (list_any (λ m. m == r.number) (numbers_of presets))) (all_differ (numbers_of presets)) h.differ in
-    record { fit = fit.1; differ = differ.1; apart = still-apart defs regs r presets (absent-in r.number (numbers_of presets) (not-true (list_any (λ m. m == r.number) (numbers_of presets)) differ.0)) h.apart.1 }
+    record { fit = fit.1; differ = differ.1; apart = still-apart defs regs r presets
+        (absent-in r.number (numbers_of presets) (not-true (list_any (λ m. m == r.number) (numbers_of presets)) differ.0)) h.apart.1 }
 
 -- what a preset is known to be
 pub record IsFit (r : Reg) : Type 0 where
@@ -78,8 +80,13 @@ at-root event k low high e =
 
 one-side : (event : ℕ) (hook : Hook) → cond (eqb event 258 || eqb event 259 || eqb event 260 || eqb event 262 || eqb event 264) (is_rcv hook) false ≡ true → is_root event ≡ true
 one-side event hook h =
-    elim (eqb event 258 || eqb event 259 || eqb event 260 || eqb event 262 || eqb event 264) as (λ b. (eqb event 258 || eqb event 259 || eqb event 260 || eqb event 262 || eqb event 264) ≡ b → cond b (is_rcv hook) false ≡ true → is_root event ≡ true) [
-      | true ↦ λ e h. ⊎_elim (λ c. ⊎_elim (λ d. ⊎_elim (λ k. ⊎_elim (at-root event 258 (omega arith) (omega arith)) (at-root event 259 (omega arith) (omega arith)) (or_cases (eqb event 258) (eqb event 259) k)) (at-root event 260 (omega arith) (omega arith)) (or_cases (eqb event 258 || eqb event 259) (eqb event 260) d)) (at-root event 262 (omega arith) (omega arith)) (or_cases (eqb event 258 || eqb event 259 || eqb event 260) (eqb event 262) c)) (at-root event 264 (omega arith) (omega arith)) (or_cases (eqb event 258 || eqb event 259 || eqb event 260 || eqb event 262) (eqb event 264) e)
+    elim (eqb event 258 || eqb event 259 || eqb event 260 || eqb event 262 || eqb event 264)
+        as (λ b. (eqb event 258 || eqb event 259 || eqb event 260 || eqb event 262 || eqb event 264) ≡ b → cond b (is_rcv hook) false ≡ true → is_root event ≡ true) [
+      | true ↦ λ e h. ⊎_elim (λ c. ⊎_elim (λ d. ⊎_elim (λ k. ⊎_elim (at-root event 258 (omega arith) (omega arith))
+          (at-root event 259 (omega arith) (omega arith)) (or_cases (eqb event 258) (eqb event 259) k))
+          (at-root event 260 (omega arith) (omega arith)) (or_cases (eqb event 258 || eqb event 259) (eqb event 260) d))
+          (at-root event 262 (omega arith) (omega arith)) (or_cases (eqb event 258 || eqb event 259 || eqb event 260) (eqb event 262) c))
+          (at-root event 264 (omega arith) (omega arith)) (or_cases (eqb event 258 || eqb event 259 || eqb event 260 || eqb event 262) (eqb event 264) e)
       | false ↦ λ e h. cc
     ] refl h
 
@@ -116,7 +123,8 @@ placing-fits defs presets regs i r h within is = preset-fits regs r (drop (i + 1
 pub placing-first : (defs : List EventDef) (presets : List Reg) → IsTrue (are_presets presets) → Placing defs presets [] 0
 placing-first defs presets lawful = record { listed = refl; puttable = puttable-first presets lawful; private = private-none defs; peeks = All-nil (λ (r : Reg). IsTrue (peek_fits r.peek)) }
 
-pub placing-next : (defs : List EventDef) (presets regs : List Reg) (i : ℕ) (r : Reg) → defs ≡ [] → Placing defs presets regs i → i < length presets → r ≡ get_or presets i r → IsPrivate defs (put_reg defs r regs) → Placing defs presets (put_reg defs r regs) (i + 1)
+pub placing-next : (defs : List EventDef) (presets regs : List Reg) (i : ℕ) (r : Reg) → defs ≡ [] → Placing defs presets regs i → i < length presets
+    → r ≡ get_or presets i r → IsPrivate defs (put_reg defs r regs) → Placing defs presets (put_reg defs r regs) (i + 1)
 placing-next defs presets regs i r none h within is private =
     let rest : drop i presets ≡ r ∷ drop (i + 1) presets = here presets i r within is in
     let fits = placing-fits defs presets regs i r h within is in

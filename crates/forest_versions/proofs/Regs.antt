@@ -83,7 +83,8 @@ without-put defs r (s ∷ list) others =
       | false ↦ rw (ne_eqb s.number r.number others.0) (ap (λ (l : List Reg). s ∷ l) (without-put defs r list others.1))
     ]
 
-swapped : (r s : Reg) (n : ℕ) (rest put : Option Reg) → s.number ≢ r.number → put ≡ cond (eqb r.number n) (Some r) rest → cond (eqb s.number n) (Some s) put ≡ cond (eqb r.number n) (Some r) (cond (eqb s.number n) (Some s) rest)
+swapped : (r s : Reg) (n : ℕ) (rest put : Option Reg) → s.number ≢ r.number → put ≡ cond (eqb r.number n) (Some r) rest
+    → cond (eqb s.number n) (Some s) put ≡ cond (eqb r.number n) (Some r) (cond (eqb s.number n) (Some s) rest)
 swapped r s n rest put other ih =
     elim (eqb s.number n) as (λ b. eqb s.number n ≡ b → cond b (Some s) put ≡ cond (eqb r.number n) (Some r) (cond b (Some s) rest)) [
       | true ↦ λ e. rw (ne_eqb r.number n (λ h. other (eqb-true s.number n e ∙ sym h)))
@@ -91,7 +92,8 @@ swapped r s n rest put other ih =
     ] refl
 
 -- what is found after one registration more
-pub reg_of-put : (defs : List EventDef) (r : Reg) (list : List Reg) (n : ℕ) → AllByRecursion (λ s. s.number ≢ r.number) list → reg_of (put_reg defs r list) n ≡ cond (eqb r.number n) (Some r) (reg_of list n)
+pub reg_of-put : (defs : List EventDef) (r : Reg) (list : List Reg) (n : ℕ) → AllByRecursion (λ s. s.number ≢ r.number) list
+    → reg_of (put_reg defs r list) n ≡ cond (eqb r.number n) (Some r) (reg_of list n)
 reg_of-put defs r [] n others = refl
 reg_of-put defs r (s ∷ list) n others =
     elim (is_lt (reg_cmp defs r s)) as (λ b. reg_of (cond b (r ∷ s ∷ list) (s ∷ put_reg defs r list)) n ≡ cond (eqb r.number n) (Some r) (cond (eqb s.number n) (Some s) (reg_of list n))) [
@@ -106,7 +108,8 @@ same-left s number n rest same =
       | false ↦ λ e. rw (ap (λ (k : ℕ). eqb k n) same ∙ e)
     ] refl
 
-other-left : (s : Reg) (number n : ℕ) (rest less : Option Reg) → s.number ≢ number → less ≡ cond (eqb number n) None rest → cond (eqb s.number n) (Some s) less ≡ cond (eqb number n) None (cond (eqb s.number n) (Some s) rest)
+other-left : (s : Reg) (number n : ℕ) (rest less : Option Reg) → s.number ≢ number → less ≡ cond (eqb number n) None rest
+    → cond (eqb s.number n) (Some s) less ≡ cond (eqb number n) None (cond (eqb s.number n) (Some s) rest)
 other-left s number n rest less other ih =
     elim (eqb s.number n) as (λ b. eqb s.number n ≡ b → cond b (Some s) less ≡ cond (eqb number n) None (cond b (Some s) rest)) [
       | true ↦ λ e. rw (ne_eqb number n (λ h. other (eqb-true s.number n e ∙ sym h)))
@@ -122,7 +125,8 @@ pub reg_of-without : (list : List Reg) (number n : ℕ) → reg_of (without numb
 reg_of-without [] number n = none-either (eqb number n)
 reg_of-without (s ∷ list) number n =
     let ih : reg_of (without number list) n ≡ cond (eqb number n) None (reg_of list n) = reg_of-without list number n in
-    elim (eqb s.number number) as (λ b. eqb s.number number ≡ b → reg_of (cond (not b) (s ∷ without number list) (without number list)) n ≡ cond (eqb number n) None (cond (eqb s.number n) (Some s) (reg_of list n))) [
+    elim (eqb s.number number) as (λ b. eqb s.number number ≡ b → reg_of (cond (not b) (s ∷ without number list) (without number list)) n ≡ cond
+        (eqb number n) None (cond (eqb s.number n) (Some s) (reg_of list n))) [
       | true ↦ λ e. ih ∙ same-left s number n (reg_of list n) (eqb-true s.number number e)
       | false ↦ λ e. other-left s number n (reg_of list n) (reg_of (without number list) n) (eqb-false s.number number e) ih
     ] refl
@@ -148,7 +152,8 @@ less_of Equal e = cc
 less_of Greater e = cc
 
 -- one more behind t, seen through what is on
-on-behind : (defs : List EventDef) (r t : Reg) (some put : List Reg) → is_lt (reg_cmp defs r t) ≡ false → put ≡ cond r.on (put_reg defs r some) some → cond t.on (t ∷ put) put ≡ cond r.on (put_reg defs r (cond t.on (t ∷ some) some)) (cond t.on (t ∷ some) some)
+on-behind : (defs : List EventDef) (r t : Reg) (some put : List Reg) → is_lt (reg_cmp defs r t) ≡ false → put ≡ cond r.on (put_reg defs r some) some
+    → cond t.on (t ∷ put) put ≡ cond r.on (put_reg defs r (cond t.on (t ∷ some) some)) (cond t.on (t ∷ some) some)
 on-behind defs r t some put later ih =
     elim t.on as (λ b. cond b (t ∷ put) put ≡ cond r.on (put_reg defs r (cond b (t ∷ some) some)) (cond b (t ∷ some) some)) [
       | true ↦ rw later (ap (λ (l : List Reg). t ∷ l) ih ∙ elim r.on as (λ b. t ∷ cond b (put_reg defs r some) some ≡ cond b (t ∷ put_reg defs r some) (t ∷ some)) [ true ↦ refl | false ↦ refl ])
@@ -156,7 +161,8 @@ on-behind defs r t some put later ih =
     ]
 
 -- those that are on after one registration more
-pub active-put : (defs : List EventDef) (r : Reg) (list : List Reg) → IsStrictlySortedBy (reg_cmp defs) list → filter on (put_reg defs r list) ≡ cond r.on (put_reg defs r (filter on list)) (filter on list)
+pub active-put : (defs : List EventDef) (r : Reg) (list : List Reg) → IsStrictlySortedBy (reg_cmp defs) list
+    → filter on (put_reg defs r list) ≡ cond r.on (put_reg defs r (filter on list)) (filter on list)
 unfolding IsStrictlySortedBy
 active-put defs r [] sorted = refl
 active-put defs r (t ∷ list) sorted =
@@ -198,7 +204,8 @@ pub active-without_off : (number : ℕ) (list : List Reg) (r : Reg) → reg_of l
 unfolding IsDistinct
 active-without_off number [] r found off d = cc
 active-without_off number (s ∷ list) r found off d =
-    elim (eqb s.number number) as (λ b. eqb s.number number ≡ b → cond b (Some s) (reg_of list number) ≡ Some r → filter on (cond (not b) (s ∷ without number list) (without number list)) ≡ cond s.on (s ∷ filter on list) (filter on list)) [
+    elim (eqb s.number number) as (λ b. eqb s.number number ≡ b → cond b (Some s) (reg_of list number) ≡ Some r
+        → filter on (cond (not b) (s ∷ without number list) (without number list)) ≡ cond s.on (s ∷ filter on list) (filter on list)) [
       | true ↦ λ e found.
           let same : s ≡ r = cc in
           rw (ap on same ∙ off) (ap (filter on) (without-unlike list number (apart s.number number list (eqb-true s.number number e) d.0)))
@@ -206,7 +213,8 @@ active-without_off number (s ∷ list) r found off d =
     ] refl found
 
 -- those that are on when a number that isn't there and on is taken out
-pub active-without_none : (number : ℕ) (list : List Reg) → ((r : Reg) → reg_of list number ≡ Some r → r.on ≡ false) → IsDistinct eqb (numbers_of list) → filter on (without number list) ≡ filter on list
+pub active-without_none : (number : ℕ) (list : List Reg) → ((r : Reg) → reg_of list number ≡ Some r → r.on ≡ false) → IsDistinct eqb (numbers_of list)
+    → filter on (without number list) ≡ filter on list
 active-without_none number list off d =
     elim (reg_of list number) as (λ (o : Option Reg). reg_of list number ≡ o → filter on (without number list) ≡ filter on list) [
       | None ↦ λ e. ap (filter on) (without-unlike list number (unlike list number e))

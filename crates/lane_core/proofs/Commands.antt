@@ -6,10 +6,10 @@ use Rattle.shared_forest.specs.declared.store.Shared.{Shared}
 use Rattle.shared_forest.specs.Lists.{TreeLists}
 use Rattle.forest_versions.specs.Master.{Versions}
 use Rattle.connection_core.specs.declared.ledger.Counts.{Counts}
-use Rattle.connection_core.specs.InForce.{told_at}
+use Rattle.connection_core.specs.InForce.{registered_at}
 use Rattle.connection_core.specs.Trees.{active_in}
 use Rattle.lane_core.specs.declared.connection.Connection.{Connection}
-use Rattle.lane_core.specs.declared.slot.Slot.{Slot}
+use Rattle.lane_core.specs.declared.under_way.RecordUnderWay.{RecordUnderWay}
 use Rattle.lane_core.specs.Records.{RecordSoFar}
 use Rattle.lane_core.specs.Places.{place_of}
 use Rattle.lane_core.specs.Kept.{IsOpenAt, AreKept}
@@ -23,9 +23,10 @@ module _ (m after : Versions) (content content' : Shared → TreeLists) (flows :
   trees_on stay key x is = subst (IsTree after x.version) (sym (same key x is)) (stay x.version (content x.flow.forest) (since key x is) (trees key x is))
 
   abbrev Lists : Type 0
-  Lists = (v : ℕ) (tree : TreeLists) → v ≤ m.version → IsTree m v tree → active_in (told_at after v) tree ≡ active_in (told_at m v) tree
+  Lists = (v : ℕ) (tree : TreeLists) → v ≤ m.version → IsTree m v tree → active_in (registered_at after v) tree ≡ active_in (registered_at m v) tree
 
-  open_on : (key : EndpointPair) (o : Option Connection) (place : Option ℕ) (pasts : List RecordSoFar) → Lists → found flows key ≡ o → IsOpenAt (told_at m) content o place pasts → IsOpenAt (told_at after) content' o place pasts
+  open_on : (key : EndpointPair) (o : Option Connection) (place : Option ℕ) (pasts : List RecordSoFar) → Lists → found flows key ≡ o
+      → IsOpenAt (registered_at m) content o place pasts → IsOpenAt (registered_at after) content' o place pasts
   open_on key None place pasts lists there none = none
   open_on key (Some x) place pasts lists there at = (
     at.0,
@@ -39,13 +40,14 @@ module _ (m after : Versions) (content content' : Shared → TreeLists) (flows :
         count = is.kept.count;
         active = is.kept.active
             ∙ sym (lists x.version (content x.flow.forest) (since key x there) (trees key x there))
-            ∙ ap (active_in (told_at after x.version)) (sym (same key x there));
+            ∙ ap (active_in (registered_at after x.version)) (sym (same key x there));
       };
     },
   )
 
   -- and the lane stands for the same records
-  pub kept_on : (keep : Bool) (slots : List Slot) (counts : Counts) (pasts : List RecordSoFar) → Lists → AreKept keep (told_at m) content flows slots counts pasts → AreKept keep (told_at after) content' flows slots counts pasts
+  pub kept_on : (keep : Bool) (slots : List RecordUnderWay) (counts : Counts) (pasts : List RecordSoFar) → Lists
+      → AreKept keep (registered_at m) content flows slots counts pasts → AreKept keep (registered_at after) content' flows slots counts pasts
   kept_on keep slots counts pasts lists stands = record {
     shown = stands.shown;
     placed = λ key. open_on key (found flows key) (place_of key pasts) pasts lists refl (stands.placed key);

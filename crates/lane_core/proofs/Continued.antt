@@ -14,11 +14,11 @@ use Rattle.forest_versions.specs.Master.{Versions, Tells}
 use Rattle.connection_core.specs.declared.flow.Step.{Step}
 use Rattle.connection_core.specs.declared.ledger.Counts.{Counts}
 use Rattle.connection_core.specs.History.{History, followed, verdict, drops_of, is_over, weight_of}
-use Rattle.connection_core.specs.InForce.{told_at}
+use Rattle.connection_core.specs.InForce.{registered_at}
 use Rattle.connection_core.specs.Standing.{IsFlow, IsConnection}
 use Rattle.connection_core.specs.Trees.{InternsWithin}
 use Rattle.lane_core.specs.declared.connection.Connection.{Connection}
-use Rattle.lane_core.specs.declared.slot.Slot.{Slot}
+use Rattle.lane_core.specs.declared.under_way.RecordUnderWay.{RecordUnderWay}
 use Rattle.lane_core.specs.declared.kept.Kept.{Kept}
 use Rattle.lane_core.specs.Sight.{Segment, Tcp, Moment, key_of_segment}
 use Rattle.lane_core.specs.Records.{RecordSoFar, VersionedPacket, is_open_at, side_of, side_in, history_after, verdict_after, verdict_among, started_by, continued_by, placed}
@@ -34,30 +34,31 @@ use Rattle.lane_core.proofs.Stored.{IsOpenAt-stored}
 use Rattle.lane_core.proofs.Verdicts.{verdict_among-some}
 
 -- what the table has for a key, after a step of one connection
-continued_at : (told : ℕ → ℕ → Option Reg) (content : Shared → TreeLists) (flows after : Flows Connection) (pasts : List RecordSoFar) (i : ℕ) (past d : RecordSoFar) (conn : Connection) (own key : EndpointPair) (same over : Bool)
+continued_at : (registered : ℕ → ℕ → Option Reg) (content : Shared → TreeLists) (flows after : Flows Connection) (pasts : List RecordSoFar) (i : ℕ)
+    (past d : RecordSoFar) (conn : Connection) (own key : EndpointPair) (same over : Bool)
     → same_key own key ≡ same → IsSingle (is_open_at own) pasts → place_of own pasts ≡ Some i → ((k : EndpointPair) → is_open_at k (get_or pasts i d) ≡ same_key own k)
-    → ((k : EndpointPair) → is_open_at k past ≡ (same_key own k && not over)) → conn.place ≡ i → IsOpen told content conn past
+    → ((k : EndpointPair) → is_open_at k past ≡ (same_key own k && not over)) → conn.place ≡ i → IsOpen registered content conn past
     → found after key ≡ (if same then (if over then None else Some conn) else found flows key)
-    → IsOpenAt told content (found flows key) (place_of key pasts) pasts → IsOpenAt told content (found after key) (place_of key (set pasts i past)) (set pasts i past)
-continued_at told content flows after pasts i past d conn own key true true same single there before afterwards at is left was =
+    → IsOpenAt registered content (found flows key) (place_of key pasts) pasts → IsOpenAt registered content (found after key) (place_of key (set pasts i past)) (set pasts i past)
+continued_at registered content flows after pasts i past d conn own key true true same single there before afterwards at is left was =
     let one : own ≡ key = same_key-equal own key same in
     let fails : is_open_at key past ≡ false = afterwards key ∙ ap (λ b. b && false) same in
-    rw left (over_flow told content key pasts i past (subst (λ k. IsSingle (is_open_at k) pasts) one single) (subst (λ k. place_of k pasts ≡ Some i) one there) fails)
-continued_at told content flows after pasts i past d conn own key true false same single there before afterwards at is left was =
+    rw left (over_flow registered content key pasts i past (subst (λ k. IsSingle (is_open_at k) pasts) one single) (subst (λ k. place_of k pasts ≡ Some i) one there) fails)
+continued_at registered content flows after pasts i past d conn own key true false same single there before afterwards at is left was =
     let one : own ≡ key = same_key-equal own key same in
     let passes : is_open_at key past ≡ true = afterwards key ∙ ap (λ b. b && true) same in
-    rw left (stepped_flow told content key pasts i past conn (subst (λ k. place_of k pasts ≡ Some i) one there) passes at is)
-continued_at told content flows after pasts i past d conn own key false over same single there before afterwards at is left was =
+    rw left (stepped_flow registered content key pasts i past conn (subst (λ k. place_of k pasts ≡ Some i) one there) passes at is)
+continued_at registered content flows after pasts i past d conn own key false over same single there before afterwards at is left was =
     let out : is_open_at key (get_or pasts i d) ≡ false = before key ∙ same in
     let still_out : is_open_at key past ≡ false = afterwards key ∙ ap (λ b. b && not over) same in
-    rw left (kept_flow told content key (found flows key) pasts i past d (place_by-within (is_open_at own) pasts i there) out still_out was)
+    rw left (kept_flow registered content key (found flows key) pasts i past d (place_by-within (is_open_at own) pasts i there) out still_out was)
 
 dropped_on : (after before others was is more : ℕ) → after ≡ others + is → before ≡ others + was → is ≡ was + more → after ≡ before + more
 dropped_on after before others was is more a b c = omega arith
 
 module _ (app : Meaning) (control_at : ℕ → ControlState) (keep : Bool) (m : Versions) where
-  abbrev told : ℕ → ℕ → Option Reg
-  told = told_at m
+  abbrev registered : ℕ → ℕ → Option Reg
+  registered = registered_at m
 
   -- the counts of all other records
   abbrev pub others : List RecordSoFar → ℕ → Counts
@@ -67,14 +68,15 @@ module _ (app : Meaning) (control_at : ℕ → ControlState) (keep : Bool) (m : 
   }
 
   -- what stands for one record stands for its history
-  pub connection_in : (content : Shared → TreeLists) (flows : Flows Connection) (slots : List Slot) (counts : Counts) (pasts : List RecordSoFar) (i : ℕ) (d : RecordSoFar) (conn : Connection) (slot : Slot)
-      → AreKept keep told content flows slots counts pasts → i < length pasts → IsOpen told content conn (get_or pasts i d) → slot ≡ slot_of keep (get_or pasts i d)
-      → IsConnection keep (others pasts i) (told conn.version) (content conn.flow.forest) conn.flow slot.notes counts (get_or pasts i d).history
+  pub connection_in : (content : Shared → TreeLists) (flows : Flows Connection) (slots : List RecordUnderWay) (counts : Counts)
+      (pasts : List RecordSoFar) (i : ℕ) (d : RecordSoFar) (conn : Connection) (slot : RecordUnderWay)
+      → AreKept keep registered content flows slots counts pasts → i < length pasts → IsOpen registered content conn (get_or pasts i d) → slot ≡ slot_of keep (get_or pasts i d)
+      → IsConnection keep (others pasts i) (registered conn.version) (content conn.flow.forest) conn.flow slot.notes counts (get_or pasts i d).history
   connection_in content flows slots counts pasts i d conn slot stands within is slot_is = record {
     kept = is.kept;
     noted = record {
-      tally = ap (λ (s : Slot). s.notes.tally) slot_is;
-      entries = ap (λ (s : Slot). s.notes.entries) slot_is;
+      tally = ap (λ (s : RecordUnderWay). s.notes.tally) slot_is;
+      entries = ap (λ (s : RecordUnderWay). s.notes.entries) slot_is;
       callbacks = stands.counted ∙ others_and (λ r. length r.history.entries) pasts i d within;
       weight = stands.weighed ∙ others_and (λ r. weight_of r.history.entries) pasts i d within;
     };
@@ -82,7 +84,7 @@ module _ (app : Meaning) (control_at : ℕ → ControlState) (keep : Bool) (m : 
 
   -- the history of the record that takes a packet is that of its connection's step
   next_history : (content : Shared → TreeLists) (number : ℕ) (moment : Moment) (segment : Segment) (p : VersionedPacket) → p ≡ arrived p.version number moment (Tcp segment)
-      → (conn : Connection) (past : RecordSoFar) → IsOpen told content conn past
+      → (conn : Connection) (past : RecordSoFar) → IsOpen registered content conn past
       → stepped app (control_at conn.version) conn number segment past.history ≡ (continued_by app control_at p.arrival past).history
   unfolding history_after
   next_history content number moment segment p is_p conn past is =
@@ -100,34 +102,37 @@ module _ (app : Meaning) (control_at : ℕ → ControlState) (keep : Bool) (m : 
       rw new (InternsWithin-others interns interns' (others_of (λ r. r.history.altered) pasts i) past.history.altered next.history.altered (alterations pasts) (alterations (set pasts i next))
       (others_and (λ r. r.history.altered) pasts i d within) (others_with (λ r. r.history.altered) pasts i next within) costs)
 
-  module _ (content content' : Shared → TreeLists) (interns interns' : Option ℕ) (number : ℕ) (moment : Moment) (segment : Segment) (p : VersionedPacket) (is_p : p ≡ arrived p.version number moment (Tcp segment))
-      (conn after : Connection) (slot slot' : Slot) (counts counts' : Counts) (step : Step) (past : RecordSoFar) (rest : Counts) where
+  module _ (content content' : Shared → TreeLists) (interns interns' : Option ℕ) (number : ℕ) (moment : Moment) (segment : Segment)
+      (p : VersionedPacket) (is_p : p ≡ arrived p.version number moment (Tcp segment))
+      (conn after : Connection) (slot slot' : RecordUnderWay) (counts counts' : Counts) (step : Step) (past : RecordSoFar) (rest : Counts) where
     abbrev next : RecordSoFar
     next = continued_by app control_at p.arrival past
 
     abbrev Went : Type 0
-    Went = Stepping app keep (told conn.version) (control_at conn.version) rest (content conn.flow.forest) (content' after.flow.forest) interns interns' conn after slot slot' counts counts' number segment step past.history
+    Went = Stepping app keep (registered conn.version) (control_at conn.version) rest (content conn.flow.forest) (content' after.flow.forest) interns
+        interns' conn after slot slot' counts counts' number segment step past.history
 
     abbrev Stepped : Type 0
-    Stepped = IsStep app keep (told conn.version) (control_at conn.version) (content conn.flow.forest) (content' after.flow.forest) interns interns' conn after slot slot' counts counts' number moment segment step
+    Stepped = IsStep app keep (registered conn.version) (control_at conn.version) (content conn.flow.forest) (content' after.flow.forest) interns interns'
+        conn after slot slot' counts counts' number moment segment step
 
-    next_is : IsOpen told content conn past → stepped app (control_at conn.version) conn number segment past.history ≡ next.history
+    next_is : IsOpen registered content conn past → stepped app (control_at conn.version) conn number segment past.history ≡ next.history
     next_is is = next_history content number moment segment p is_p conn past is
 
-    open_is : IsOpen told content conn past → Stepped → Went → IsOpen told content' after next
+    open_is : IsOpen registered content conn past → Stepped → Went → IsOpen registered content' after next
     open_is is st went = record {
       sides = λ h. ap (λ c. side_of c h) st.client ∙ is.sides h;
       version = st.version ∙ is.version;
       last = st.last ∙ ap (λ (q : VersionedPacket). q.arrival.number) (sym is_p);
       heard = st.heard ∙ ap (λ (q : VersionedPacket). q.arrival.moment) (sym is_p);
-      kept = subst (λ v. IsFlow (told v) (content' after.flow.forest) after.flow next.history) (sym st.version)
-          (subst (λ h. IsFlow (told conn.version) (content' after.flow.forest) after.flow h) (next_is is) went.stands.kept);
+      kept = subst (λ v. IsFlow (registered v) (content' after.flow.forest) after.flow next.history) (sym st.version)
+          (subst (λ h. IsFlow (registered conn.version) (content' after.flow.forest) after.flow h) (next_is is) went.stands.kept);
     }
 
-    over_is : IsOpen told content conn past → Went → is_over next.history ≡ step.over
+    over_is : IsOpen registered content conn past → Went → is_over next.history ≡ step.over
     over_is is went = sym (went.over ∙ ap is_over (next_is is))
 
-    slot_is : IsOpen told content conn past → slot ≡ slot_of keep past → Stepped → Went → slot' ≡ slot_of keep next
+    slot_is : IsOpen registered content conn past → slot ≡ slot_of keep past → Stepped → Went → slot' ≡ slot_of keep next
     slot_is is was st went =
         let same = next_is is in
         let noted = went.stands.noted in
@@ -135,13 +140,13 @@ module _ (app : Meaning) (control_at : ℕ → ControlState) (keep : Bool) (m : 
         ap (λ t. record { tally = t; entries = slot'.notes.entries }) (noted.tally ∙ ap (λ (h : History). h.tally) same)
         ∙ ap (λ es. record { tally = next.history.tally; entries = es }) (noted.entries ∙ ap (λ (h : History). if keep then h.entries else []) same) in
         let drops_are : slot.drops ++ drops_of step.verdict number ≡ next.history.drops =
-        ap (λ (s : Slot). s.drops ++ drops_of step.verdict number) was ∙ sym went.drops ∙ ap (λ (h : History). h.drops) same in
+        ap (λ (s : RecordUnderWay). s.drops ++ drops_of step.verdict number) was ∙ sym went.drops ∙ ap (λ (h : History). h.drops) same in
         st.noted
-        ∙ ap (λ (s : Slot). record { name = s.name; kind = s.kind; version = s.version; notes = slot'.notes; drops = slot.drops ++ drops_of step.verdict number }) was
+        ∙ ap (λ (s : RecordUnderWay). record { name = s.name; kind = s.kind; version = s.version; notes = slot'.notes; drops = slot.drops ++ drops_of step.verdict number }) was
         ∙ ap (λ n. record (slot_of keep past) { notes = n; drops = slot.drops ++ drops_of step.verdict number }) notes_are
         ∙ ap (λ ds. record (slot_of keep past) { notes = (slot_of keep next).notes; drops = ds }) drops_are
 
-    verdict_in : IsOpen told content conn past → Went → step.verdict ≡ verdict_after app (control_at past.version) past.first.sight p.arrival past.history
+    verdict_in : IsOpen registered content conn past → Went → step.verdict ≡ verdict_after app (control_at past.version) past.first.sight p.arrival past.history
     unfolding verdict_after
     verdict_in is went =
         rw is_p (went.verdict_is
@@ -149,15 +154,17 @@ module _ (app : Meaning) (control_at : ℕ → ControlState) (keep : Bool) (m : 
         ∙ ap (λ v. verdict app (control_at v) number (side_in past.first.sight segment) segment.head segment.scale past.history) is.version)
 
   -- the lane after a packet that an open connection takes
-  pub record Continued (content' : Shared → TreeLists) (interns interns' : Option ℕ) (after : Flows Connection) (slots' : List Slot) (counts' : Counts) (p : VersionedPacket) (step : Step) (pasts : List RecordSoFar) : Type 0 where
-    pub stands : AreKept keep told content' after slots' counts' (placed app control_at p pasts)
+  pub record Continued (content' : Shared → TreeLists) (interns interns' : Option ℕ) (after : Flows Connection) (slots' : List RecordUnderWay)
+      (counts' : Counts) (p : VersionedPacket) (step : Step) (pasts : List RecordSoFar) : Type 0 where
+    pub stands : AreKept keep registered content' after slots' counts' (placed app control_at p pasts)
     pub interned : InternsWithin interns interns' (alterations pasts) (alterations (placed app control_at p pasts))
     pub verdict_is : step.verdict ≡ verdict_among app control_at p pasts
     pub dropped : drops_in (placed app control_at p pasts) ≡ drops_in pasts + length (drops_of step.verdict p.arrival.number)
 
-  pub continued : (content content' : Shared → TreeLists) (interns interns' : Option ℕ) (kept kept' : Kept) (key : EndpointPair) (version number : ℕ) (moment : Moment) (segment : Segment) (step : Step) (pasts : List RecordSoFar)
+  pub continued : (content content' : Shared → TreeLists) (interns interns' : Option ℕ) (kept kept' : Kept) (key : EndpointPair) (version number : ℕ)
+      (moment : Moment) (segment : Segment) (step : Step) (pasts : List RecordSoFar)
       → ((v : ℕ) → Tells m v (control_at v)) → ((k : EndpointPair) (x : Connection) → found kept.flows k ≡ Some x → content' x.flow.forest ≡ content x.flow.forest)
-      → Keeps keep told content kept pasts → key ≡ key_of_segment segment
+      → Keeps keep registered content kept pasts → key ≡ key_of_segment segment
       → Follows app keep m content content' interns interns' kept kept' key number moment segment step
       → Continued content' interns interns' kept'.flows kept'.slots.items kept'.ledger.counts (arrived version number moment (Tcp segment)) step pasts
   continued content content' interns interns' kept kept' key version number moment segment step pasts tells stored stands key_is f =
@@ -171,11 +178,11 @@ module _ (app : Meaning) (control_at : ℕ → ControlState) (keep : Bool) (m : 
       let i = f.conn.place in
       let d = started_by app control_at p in
       let was : found flows own ≡ Some f.conn = ap (λ k. found flows k) (sym key_is) ∙ f.was in
-      let at = subst (λ o. IsOpenAt told content o (place_of own pasts) pasts) was (stands.placed own) in
+      let at = subst (λ o. IsOpenAt registered content o (place_of own pasts) pasts) was (stands.placed own) in
       let there : place_of own pasts ≡ Some i = at.0 in
       let past = get_or pasts i d in
       let next = continued_by app control_at p.arrival past in
-      let is : IsOpen told content f.conn past = at.1 d in
+      let is : IsOpen registered content f.conn past = at.1 d in
       let within = place_by-within (is_open_at own) pasts i there in
       let passes = place_by-passes (is_open_at own) pasts i d there in
       let slot_was : f.slot ≡ slot_of keep past = f.slot_is ∙ ap (λ ss. get_or ss i f.slot) stands.shown ∙ get_or-map (slot_of keep) pasts i d f.slot within in
@@ -193,10 +200,10 @@ module _ (app : Meaning) (control_at : ℕ → ControlState) (keep : Bool) (m : 
       record {
         stands = rw new (record {
           shown = f.noted ∙ ap (λ s. set slots i s) shown ∙ ap (λ ss. set ss i (slot_of keep next)) stands.shown ∙ sym (map-set (slot_of keep) pasts i next);
-          placed = λ k. continued_at told content' flows after pasts i next d f.conn_after own k (same_key own k) step.over refl (stands.single own) there before afterwards
+          placed = λ k. continued_at registered content' flows after pasts i next d f.conn_after own k (same_key own k) step.over refl (stands.single own) there before afterwards
               st.place conn_after
               (f.left k ∙ ap (λ w. if same_key w k then (if step.over then None else Some f.conn_after) else found flows k) key_is)
-              (IsOpenAt-stored keep told content content' (found flows k) (place_of k pasts) pasts (stored k) (stands.placed k));
+              (IsOpenAt-stored keep registered content content' (found flows k) (place_of k pasts) pasts (stored k) (stands.placed k));
           single = λ k. IsSingle-set (is_open_at k) pasts i next d (stands.single k) within
               (λ e. before k ∙ left_of_and (same_key own k) (not step.over) (sym (afterwards k) ∙ e));
           counted = noted.callbacks ∙ ap (λ (h : History). others_of (λ r. length r.history.entries) pasts i + length h.entries) same
@@ -210,13 +217,15 @@ module _ (app : Meaning) (control_at : ℕ → ControlState) (keep : Bool) (m : 
         dropped =
             let longer : length next.history.drops ≡ length past.history.drops + length (drops_of step.verdict number) =
             ap (λ (h : History). length h.drops) (sym same) ∙ ap length went.drops ∙ length-append past.history.drops (drops_of step.verdict number) in
-            rw new (dropped_on (drops_in (set pasts i next)) (drops_in pasts) (others_of (λ r. length r.history.drops) pasts i) (length past.history.drops) (length next.history.drops) (length (drops_of step.verdict number))
+            rw new (dropped_on (drops_in (set pasts i next)) (drops_in pasts) (others_of (λ r. length r.history.drops) pasts i)
+            (length past.history.drops) (length next.history.drops) (length (drops_of step.verdict number))
             (others_with (λ r. length r.history.drops) pasts i next within) (others_and (λ r. length r.history.drops) pasts i d within) longer);
       }
 
   -- the open connection failed to take it
-  pub continued_costs : (content : Shared → TreeLists) (interns interns' : Option ℕ) (kept : Kept) (key : EndpointPair) (version number : ℕ) (moment : Moment) (segment : Segment) (pasts : List RecordSoFar)
-      → ((v : ℕ) → Tells m v (control_at v)) → Keeps keep told content kept pasts → key ≡ key_of_segment segment
+  pub continued_costs : (content : Shared → TreeLists) (interns interns' : Option ℕ) (kept : Kept) (key : EndpointPair) (version number : ℕ)
+      (moment : Moment) (segment : Segment) (pasts : List RecordSoFar)
+      → ((v : ℕ) → Tells m v (control_at v)) → Keeps keep registered content kept pasts → key ≡ key_of_segment segment
       → Failed app keep m content interns interns' kept key number moment segment
       → InternsWithin interns interns' (alterations pasts) (alterations (placed app control_at (arrived version number moment (Tcp segment)) pasts))
   continued_costs content interns interns' kept key version number moment segment pasts tells stands key_is f =
@@ -228,12 +237,13 @@ module _ (app : Meaning) (control_at : ℕ → ControlState) (keep : Bool) (m : 
       let i = f.conn.place in
       let d = started_by app control_at p in
       let was : found flows own ≡ Some f.conn = ap (λ k. found flows k) (sym key_is) ∙ f.was in
-      let at = subst (λ o. IsOpenAt told content o (place_of own pasts) pasts) was (stands.placed own) in
+      let at = subst (λ o. IsOpenAt registered content o (place_of own pasts) pasts) was (stands.placed own) in
       let there : place_of own pasts ≡ Some i = at.0 in
       let past = get_or pasts i d in
-      let is : IsOpen told content f.conn past = at.1 d in
+      let is : IsOpen registered content f.conn past = at.1 d in
       let within = place_by-within (is_open_at own) pasts i there in
       let slot_was : f.slot ≡ slot_of keep past = f.slot_is ∙ ap (λ ss. get_or ss i f.slot) stands.shown ∙ get_or-map (slot_of keep) pasts i d f.slot within in
-      let costs = (f.costs (control_at f.conn.version) (tells f.conn.version)).interned (others pasts i) past.history (connection_in content flows slots counts pasts i d f.conn f.slot stands within is slot_was) in
+      let costs = (f.costs (control_at f.conn.version) (tells f.conn.version)).interned (others pasts i) past.history
+      (connection_in content flows slots counts pasts i d f.conn f.slot stands within is slot_was) in
       altered_in interns interns' p pasts i d within ((joins app control_at p pasts i there).changed d)
       (subst (λ (h : History). InternsWithin interns interns' past.history.altered h.altered) (next_history content number moment segment p refl f.conn past is) costs)

@@ -15,10 +15,10 @@ use Rattle.shared_forest.specs.Lists.{TreeLists}
 use Rattle.forest_versions.specs.State.{ControlState}
 use Rattle.forest_versions.specs.Master.{Versions, Tells}
 use Rattle.connection_core.specs.declared.ledger.Counts.{Counts}
-use Rattle.connection_core.specs.InForce.{told_at}
+use Rattle.connection_core.specs.InForce.{registered_at}
 use Rattle.flow_table.specs.declared.endpoint.Endpoint.{Endpoint}
 use Rattle.lane_core.specs.declared.connection.Connection.{Connection}
-use Rattle.lane_core.specs.declared.slot.Slot.{Slot}
+use Rattle.lane_core.specs.declared.under_way.RecordUnderWay.{RecordUnderWay}
 use Rattle.lane_core.specs.Sight.{Segment, Sight, Tcp, Other, Moment, key_of_segment}
 use Rattle.lane_core.specs.Records.{RecordSoFar, opens, is_between, is_shut, is_open_at, is_silent, ended_at}
 use Rattle.lane_core.specs.Shown.{kind_of, total, weight}
@@ -132,7 +132,8 @@ false_is_true true fails passes = cc
 false_is_true false fails passes = cc
 
 -- the one record that passes stands at its place
-place_by-there : (test : RecordSoFar → Bool) (pasts : List RecordSoFar) (i : ℕ) (d : RecordSoFar) → IsSingle test pasts → i < length pasts → test (get_or pasts i d) ≡ true → place_by test pasts ≡ Some i
+place_by-there : (test : RecordSoFar → Bool) (pasts : List RecordSoFar) (i : ℕ) (d : RecordSoFar) → IsSingle test pasts → i < length pasts
+    → test (get_or pasts i d) ≡ true → place_by test pasts ≡ Some i
 unfolding place_by IsSingle
 place_by-there test [] i d single within passes = absurd (omega arith)
 place_by-there test (past ∷ pasts) zero d single within passes = rw passes refl
@@ -178,19 +179,19 @@ either_so : (b : Bool) (P : Type 0) → (b ≡ true → P) → (b ≡ false → 
 either_so true P so otherwise = so refl
 either_so false P so otherwise = otherwise refl
 
-pub within_by : (keep : Bool) (slots : List Slot) (pasts : List RecordSoFar) (i : ℕ) → slots ≡ map (slot_of keep) pasts → i < length slots → i < length pasts
+pub within_by : (keep : Bool) (slots : List RecordUnderWay) (pasts : List RecordSoFar) (i : ℕ) → slots ≡ map (slot_of keep) pasts → i < length slots → i < length pasts
 within_by keep slots pasts i shown within = subst (λ n. i < n) (ap length shown ∙ length-map pasts (slot_of keep)) within
 
 module _ (app : Meaning) (control_at : ℕ → ControlState) (keep : Bool) (m : Versions) (tells : (v : ℕ) → Tells m v (control_at v)) (now : Moment) (content : Shared → TreeLists)
-    (flows : Flows Connection) (slots : List Slot) (counts : Counts) (pasts : List RecordSoFar) (stands : AreKept keep (told_at m) content flows slots counts pasts)
+    (flows : Flows Connection) (slots : List RecordUnderWay) (counts : Counts) (pasts : List RecordSoFar) (stands : AreKept keep (registered_at m) content flows slots counts pasts)
     (i : ℕ) (d : RecordSoFar) (within : i < length pasts) where
   abbrev here : RecordSoFar
   here = get_or pasts i d
 
   -- its record under way has its kind
-  pub kind_there : (slot : Slot) → slot ≡ get_or slots i slot → slot.kind ≡ kind_of here.first.sight
+  pub kind_there : (slot : RecordUnderWay) → slot ≡ get_or slots i slot → slot.kind ≡ kind_of here.first.sight
   kind_there slot at =
-      ap (λ (s : Slot). s.kind) (at ∙ ap (λ ss. get_or ss i slot) stands.shown ∙ get_or-map (slot_of keep) pasts i d slot within)
+      ap (λ (s : RecordUnderWay). s.kind) (at ∙ ap (λ ss. get_or ss i slot) stands.shown ∙ get_or-map (slot_of keep) pasts i d slot within)
 
   stays : at_end app control_at now here ≡ here → set pasts i (at_end app control_at now here) ≡ pasts
   stays same = ap (set pasts i) same ∙ set-get_or pasts i d
@@ -209,7 +210,7 @@ module _ (app : Meaning) (control_at : ℕ → ControlState) (keep : Bool) (m : 
         place_by-there (is_open_at key) pasts i d (stands.single key) within
         (all_three (opens here.first.sight) (is_between key here.first.sight) (not (is_shut here)) is (conn_between here.first.sight client server kind))
 
-    at_place : (o : Option Connection) → IsOpenAt (told_at m) content o (place_of key pasts) pasts → place_of key pasts ≡ Some i → is_at i o ≡ true
+    at_place : (o : Option Connection) → IsOpenAt (registered_at m) content o (place_of key pasts) pasts → place_of key pasts ≡ Some i → is_at i o ≡ true
     at_place None none there = absurd (let e = sym none ∙ there in cc)
     at_place (Some conn) at there =
         let e = sym at.0 ∙ there in let same : conn.place ≡ i = cc in rw same (eq-eqb i i refl)
@@ -221,7 +222,7 @@ module _ (app : Meaning) (control_at : ℕ → ControlState) (keep : Bool) (m : 
         (λ is. absurd (false_is_true (is_at i (found flows key)) other (at_place (found flows key) (stands.placed key) (open_there is))))
         (λ shut. shut_stays app control_at now here shut))
 
-    heard_at : (o : Option Connection) → is_at i o ≡ true → IsHeard m now o → IsOpenAt (told_at m) content o (place_of key pasts) pasts → at_end app control_at now here ≡ here
+    heard_at : (o : Option Connection) → is_at i o ≡ true → IsHeard m now o → IsOpenAt (registered_at m) content o (place_of key pasts) pasts → at_end app control_at now here ≡ here
     heard_at None is heard at = absurd (cc)
     heard_at (Some conn) is heard at =
         let same : conn.place ≡ i = eqb-true conn.place i is in
@@ -230,17 +231,17 @@ module _ (app : Meaning) (control_at : ℕ → ControlState) (keep : Bool) (m : 
         (silent_as app control_at keep m tells now content conn (get_or pasts conn.place d) false (at.1 d) heard))
 
     -- the one that has its key's open connection, whether that was silent for too long or not
-    pub one_kept : (new : Flows Connection) (slots' : List Slot) (counts' : Counts) (ended : Bool) → is_at i (found flows key) ≡ true
+    pub one_kept : (new : Flows Connection) (slots' : List RecordUnderWay) (counts' : Counts) (ended : Bool) → is_at i (found flows key) ≡ true
         → (ended ≡ true → Silences app keep m content flows new slots slots' counts counts' key now) → (ended ≡ false → Goes m flows new slots slots' counts counts' key now)
-        → AreKept keep (told_at m) content new slots' counts' (set pasts i (at_end app control_at now here))
+        → AreKept keep (registered_at m) content new slots' counts' (set pasts i (at_end app control_at now here))
     one_kept new slots' counts' true is silences goes =
         let s = silences refl in
         let k = silenced_kept app control_at keep m tells now content flows slots counts key pasts stands new slots' counts' d s in
         let same : s.conn.place ≡ i = eqb-true s.conn.place i (subst (λ o. is_at i o ≡ true) s.was is) in
         let passes = place_by-passes (is_open_at key) pasts s.conn.place d k.there in
-        subst (λ j. AreKept keep (told_at m) content new slots' counts' (set pasts j (at_end app control_at now (get_or pasts j d)))) same
-        (subst (λ q. AreKept keep (told_at m) content new slots' counts' (set pasts s.conn.place q)) (sym (silent_ends app control_at now (get_or pasts s.conn.place d) key passes k.silent)) k.kept)
+        subst (λ j. AreKept keep (registered_at m) content new slots' counts' (set pasts j (at_end app control_at now (get_or pasts j d)))) same
+        (subst (λ q. AreKept keep (registered_at m) content new slots' counts' (set pasts s.conn.place q)) (sym (silent_ends app control_at now (get_or pasts s.conn.place d) key passes k.silent)) k.kept)
     one_kept new slots' counts' false is silences goes =
         let n = goes refl in
-        subst (λ l. AreKept keep (told_at m) content new slots' counts' l) (sym (stays (heard_at (found flows key) is n.heard (stands.placed key))))
+        subst (λ l. AreKept keep (registered_at m) content new slots' counts' l) (sym (stays (heard_at (found flows key) is n.heard (stands.placed key))))
         (kept_same app control_at keep m tells now content flows slots counts key pasts stands new slots' counts' n)

@@ -8,7 +8,7 @@ use Rattle.app_api.specs.declared.registration.Reg.{Reg}
 use Rattle.builtin_events.specs.declared.raise.Raise.{Raise}
 use Rattle.event_trees.specs.Fires.{fires}
 use Rattle.forest_versions.specs.State.{ControlState}
-use Rattle.connection_core.specs.Course.{Course, called, called_all, called_at}
+use Rattle.connection_core.specs.PacketUnderWay.{PacketUnderWay, called, called_all, called_at}
 use Rattle.connection_core.specs.History.{History, begin}
 use Rattle.connection_core.specs.Silence.{silenced}
 use Rattle.lane_core.specs.Sight.{Sight, Tcp, Other, Moment, key_of_segment}
@@ -21,7 +21,7 @@ use Rattle.lane_core.proofs.Places.{none_here, IsSingle-none}
 -- ---- the history
 
 module _ (app : Meaning) (control : ControlState) (number : ℕ) (raise : Raise) where
-  called_all-altered : (c : Course) (rs : List Reg) → (called_all app control number Client raise c rs).altered ≡ c.altered
+  called_all-altered : (c : PacketUnderWay) (rs : List Reg) → (called_all app control number Client raise c rs).altered ≡ c.altered
   unfolding called
   called_all-altered c [] = refl
   called_all-altered c (r ∷ rs) = called_all-altered (called app control number Client raise c r) rs
@@ -107,7 +107,8 @@ module _ (test : RecordSoFar → Bool) (step : RecordSoFar → RecordSoFar) (les
   place_by-fewer (past ∷ pasts) none =
       none_still (test past) (test (step past)) (place_by test pasts) (place_by test (map step pasts)) (less past) none (place_by-fewer pasts)
 
-  single_still : (b c : Bool) (o after : Option ℕ) (S T : Type 0) → (c ≡ true → b ≡ true) → MatchBool b (o ≡ None) S → (o ≡ None → after ≡ None) → (o ≡ None → T) → (S → T) → MatchBool c (after ≡ None) T
+  single_still : (b c : Bool) (o after : Option ℕ) (S T : Type 0) → (c ≡ true → b ≡ true) → MatchBool b (o ≡ None) S → (o ≡ None → after ≡ None)
+      → (o ≡ None → T) → (S → T) → MatchBool c (after ≡ None) T
   single_still true true o after S T less single none alone rest = none single
   single_still true false o after S T less single none alone rest = alone single
   single_still false true o after S T less single none alone rest = absurd (let e = less refl in cc)

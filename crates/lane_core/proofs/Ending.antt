@@ -8,7 +8,7 @@ use Rattle.packet_views.specs.declared.packet.Class.TheVariants as Class
 use Rattle.lane_core.specs.Sight.{Segment, Sight, Tcp, Other}
 use Rattle.lane_core.specs.Records.{RecordSoFar, opens}
 use Rattle.lane_core.specs.Shown.{kind_of}
-use Rattle.lane_core.specs.declared.slot.Slot.{Slot}
+use Rattle.lane_core.specs.declared.under_way.RecordUnderWay.{RecordUnderWay}
 use Rattle.lane_core.specs.Kept.{slot_of}
 use Rattle.report_text.specs.Kept.{is_conn}
 use Rattle.report_text.specs.Report.{record_text, records_text}
@@ -43,7 +43,7 @@ version_of_all keep [] = refl
 version_of_all keep (one ∷ others) = ap (λ vs. one.version ∷ vs) (version_of_all keep others)
 
 -- the text of records under way from a place on, one record at a time
-pub slots_text-drop : (app : Meaning) (ss : List Slot) (i : ℕ) (s : Slot) → i < length ss → s ≡ get_or ss i s
+pub slots_text-drop : (app : Meaning) (ss : List RecordUnderWay) (i : ℕ) (s : RecordUnderWay) → i < length ss → s ≡ get_or ss i s
     → records_text (map (ended app) (drop i ss)) ≡ record_text (ended app s) ++ records_text (map (ended app) (drop (i + 1) ss))
 slots_text-drop app ss i s within is =
     at_drop_more (λ rest. records_text (map (ended app) rest)) ss i s within

@@ -21,7 +21,8 @@ module _ (app : Meaning) (control_at : ℕ → ControlState) where
   stepped s past = if belongs_to s.arrival.sight past then continued_by app control_at s.arrival past else past
 
   stepped_here : (s : VersionedPacket) (ss : List VersionedPacket) (past : RecordSoFar) (b : Bool)
-      → (if b then continued_through app control_at (continued_by app control_at s.arrival past) ss else continued_through app control_at past ss) ≡ continued_through app control_at (if b then continued_by app control_at s.arrival past else past) ss
+      → (if b then continued_through app control_at (continued_by app control_at s.arrival past) ss else continued_through app control_at past
+      ss) ≡ continued_through app control_at (if b then continued_by app control_at s.arrival past else past) ss
   stepped_here s ss past true = refl
   stepped_here s ss past false = refl
 
@@ -29,7 +30,8 @@ module _ (app : Meaning) (control_at : ℕ → ControlState) where
   abbrev before : VersionedPacket → RecordSoFar → RecordSoFar
   before s past = ended_before app control_at s past
 
-  grown_stepped : (s : VersionedPacket) (ss : List VersionedPacket) (past : RecordSoFar) → continued_through app control_at past (s ∷ ss) ≡ continued_through app control_at (stepped s (before s past)) ss
+  grown_stepped : (s : VersionedPacket) (ss : List VersionedPacket) (past : RecordSoFar)
+      → continued_through app control_at past (s ∷ ss) ≡ continued_through app control_at (stepped s (before s past)) ss
   unfolding continued_through
   grown_stepped s ss past = stepped_here s ss (before s past) (belongs_to s.arrival.sight (before s past))
 
@@ -48,16 +50,19 @@ module _ (app : Meaning) (control_at : ℕ → ControlState) where
       let here = none_here (belongs_to s.arrival.sight past) (place_by (belongs_to s.arrival.sight) pasts) none in
       let fails = here.0 in rw fails (ap (λ l. past ∷ l) (unstepped s pasts here.1))
 
-  placed_stepped_here : (s : VersionedPacket) (past : RecordSoFar) (pasts : List RecordSoFar) (b : Bool) (o : Option ℕ) (i : ℕ) → belongs_to s.arrival.sight past ≡ b → place_by (belongs_to s.arrival.sight) pasts ≡ o
+  placed_stepped_here : (s : VersionedPacket) (past : RecordSoFar) (pasts : List RecordSoFar) (b : Bool) (o : Option ℕ) (i : ℕ)
+      → belongs_to s.arrival.sight past ≡ b → place_by (belongs_to s.arrival.sight) pasts ≡ o
       → MatchBool b (o ≡ None) (IsSingle (belongs_to s.arrival.sight) pasts) → (if b then Some 0 else further o) ≡ Some i
       → ((k : ℕ) → IsSingle (belongs_to s.arrival.sight) pasts → o ≡ Some k → placed app control_at s pasts ≡ map (stepped s) pasts)
-      → (if b then continued_by app control_at s.arrival past ∷ pasts else past ∷ placed app control_at s pasts) ≡ (if b then continued_by app control_at s.arrival past else past) ∷ map (stepped s) pasts
+      → (if b then continued_by app control_at s.arrival past ∷ pasts else past ∷ placed app control_at s pasts) ≡ (if b then continued_by app
+      control_at s.arrival past else past) ∷ map (stepped s) pasts
   placed_stepped_here s past pasts true o i is there single e later = ap (λ l. continued_by app control_at s.arrival past ∷ l) (sym (unstepped s pasts (there ∙ single)))
   placed_stepped_here s past pasts false None i is there single e later = absurd (cc)
   placed_stepped_here s past pasts false (Some k) i is there single e later = ap (λ l. past ∷ l) (later k single refl)
 
   -- a packet that a record takes: of the records one takes it
-  placed_stepped : (s : VersionedPacket) (pasts : List RecordSoFar) (i : ℕ) → IsSingle (belongs_to s.arrival.sight) pasts → place_by (belongs_to s.arrival.sight) pasts ≡ Some i → placed app control_at s pasts ≡ map (stepped s) pasts
+  placed_stepped : (s : VersionedPacket) (pasts : List RecordSoFar) (i : ℕ) → IsSingle (belongs_to s.arrival.sight) pasts
+      → place_by (belongs_to s.arrival.sight) pasts ≡ Some i → placed app control_at s pasts ≡ map (stepped s) pasts
   unfolding placed place_by IsSingle
   placed_stepped s [] i single there = absurd (cc)
   placed_stepped s (past ∷ pasts) i single there =
@@ -91,7 +96,8 @@ module _ (app : Meaning) (control_at : ℕ → ControlState) where
   false_is_true : false ≡ true → ⊥
   false_is_true e = cc
 
-  begun_alone : (s : VersionedPacket) (sight : Sight) (pasts : List RecordSoFar) (key : EndpointPair) → s.arrival.sight ≡ sight → place_by (belongs_to sight) pasts ≡ None → is_open_at key (started_by app control_at s) ≡ true → place_of key pasts ≡ None
+  begun_alone : (s : VersionedPacket) (sight : Sight) (pasts : List RecordSoFar) (key : EndpointPair) → s.arrival.sight ≡ sight
+      → place_by (belongs_to sight) pasts ≡ None → is_open_at key (started_by app control_at s) ≡ true → place_of key pasts ≡ None
   unfolding is_between
   begun_alone s (Tcp segment) pasts key is none passes =
       let between = middle (opens s.arrival.sight) (is_between key s.arrival.sight) (not (is_shut (started_by app control_at s))) passes in
@@ -129,8 +135,10 @@ module _ (app : Meaning) (control_at : ℕ → ControlState) where
   any_before s [] = refl
   any_before s (past ∷ pasts) = ap (λ b. belongs_to s.arrival.sight (before s past) || b) (any_before s pasts)
 
-  grow_here : (s : VersionedPacket) (ss : List VersionedPacket) (pasts : List RecordSoFar) (o : Option ℕ) → place_by (belongs_to s.arrival.sight) (map (before s) pasts) ≡ o → Alone (map (before s) pasts)
-      → (Alone (added app control_at s pasts) → records_from app control_at (added app control_at s pasts) ss ≡ map (λ p. continued_through app control_at p ss) (added app control_at s pasts) ++ started_after app control_at (added app control_at s pasts) ss)
+  grow_here : (s : VersionedPacket) (ss : List VersionedPacket) (pasts : List RecordSoFar) (o : Option ℕ)
+      → place_by (belongs_to s.arrival.sight) (map (before s) pasts) ≡ o → Alone (map (before s) pasts)
+      → (Alone (added app control_at s pasts) → records_from app control_at (added app control_at s pasts) ss ≡ map
+      (λ p. continued_through app control_at p ss) (added app control_at s pasts) ++ started_after app control_at (added app control_at s pasts) ss)
       → records_from app control_at (added app control_at s pasts) ss ≡ map (λ p. continued_through app control_at p (s ∷ ss)) pasts ++ started_after app control_at pasts (s ∷ ss)
   unfolding started_after
   grow_here s ss pasts None there alone rest =
@@ -166,7 +174,8 @@ module _ (app : Meaning) (control_at : ℕ → ControlState) where
   grown_none [] = refl
   grown_none (past ∷ pasts) = ap (λ l. past ∷ l) (grown_none pasts)
 
-  pub records_grown : (ss : List VersionedPacket) (pasts : List RecordSoFar) → Alone pasts → records_from app control_at pasts ss ≡ map (λ p. continued_through app control_at p ss) pasts ++ started_after app control_at pasts ss
+  pub records_grown : (ss : List VersionedPacket) (pasts : List RecordSoFar) → Alone pasts
+      → records_from app control_at pasts ss ≡ map (λ p. continued_through app control_at p ss) pasts ++ started_after app control_at pasts ss
   unfolding records_from started_after
   records_grown [] pasts alone = grown_none pasts ∙ sym (append-nil (map (λ p. continued_through app control_at p []) pasts))
   records_grown (s ∷ ss) pasts alone =

@@ -20,7 +20,19 @@ use Rattle.lane_core.proofs.kept.Kept.TheSendSync as kept
 use Rattle.lane_core.proofs.errors.LaneError.TheSendSync as error
 
 pub master_send : IsSend master.the_row
-master_send = search (sendable, crosses, active.the_send, term.send-Term, sum.the_field_send, op.the_field_send, path.the_field_send, policy.the_field_send, rules.the_send, past.the_send, shared.the_field_send) depth 60
+master_send = search (
+  sendable,
+  crosses,
+  active.the_send,
+  term.send-Term,
+  sum.the_field_send,
+  op.the_field_send,
+  path.the_field_send,
+  policy.the_field_send,
+  rules.the_send,
+  past.the_send,
+  shared.the_field_send,
+) depth 60
 
 pub lane_send : (A F : RattleType) (g : Ghosts F.Denot) → IsSend A → IsSend F → IsSend (lane.the_row A F g)
 lane_send A F g a f = let t = lane.the_type A F g in recorded_send (Struct (shape t)) t.D t.to t.to_one (struct_send (shape t) (

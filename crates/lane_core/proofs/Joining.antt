@@ -11,7 +11,7 @@ use Rattle.forest_versions.specs.State.{ControlState}
 use Rattle.forest_versions.specs.Master.{Versions, Tells}
 use Rattle.connection_core.specs.declared.flow.Step.{Step}
 use Rattle.connection_core.specs.History.{drops_of}
-use Rattle.connection_core.specs.InForce.{told_at}
+use Rattle.connection_core.specs.InForce.{registered_at}
 use Rattle.connection_core.specs.Trees.{InternsWithin}
 use Rattle.lane_core.specs.declared.connection.Connection.{Connection}
 use Rattle.lane_core.specs.declared.kept.Kept.{Kept}
@@ -25,7 +25,7 @@ use Rattle.lane_core.specs.Kept.{Keeps, Makes, AddsTo, SetsAmong, CostsAtMost, C
 use Rattle.lane_core.proofs.Continued.{continued, continued_costs}
 use Rattle.lane_core.proofs.Silencing.{heard_before_is}
 use Rattle.lane_core.proofs.Ended.{ends_before, drops-kept, alterations-kept}
-use Rattle.lane_core.proofs.Started.{stray_costs}
+use Rattle.lane_core.proofs.Started.{orphan_costs}
 
 -- a packet without a key ends nothing
 pub others_stay : (app : Meaning) (control_at : ℕ → ControlState) (version number : ℕ) (moment : Moment) (class : Class) (pasts : List RecordSoFar)
@@ -67,7 +67,7 @@ module _ (app : Meaning) (keep : Bool) (m : Versions) (content content' : Shared
   none_left_costs none = λ control_at pasts tells now stands.
       let before = map (ended_before app control_at packet) pasts in
       altered_since control_at pasts interns interns
-      (stray_costs app control_at keep m interns packet before
+      (orphan_costs app control_at keep m interns packet before
       (subst (λ k. place_of k before ≡ None) key_is (none control_at pasts version number segment tells key_is stands)))
 
 -- ---- a packet of an open connection that wasn't silent for too long
@@ -78,7 +78,7 @@ module _ (app : Meaning) (keep : Bool) (m : Versions) (content content' : Shared
   heard_packet = arrived version number moment (Tcp segment)
 
   -- no record ends before it
-  none_ends : (control_at : ℕ → ControlState) (pasts : List RecordSoFar) → ((v : ℕ) → Tells m v (control_at v)) → Keeps keep (told_at m) content kept pasts
+  none_ends : (control_at : ℕ → ControlState) (pasts : List RecordSoFar) → ((v : ℕ) → Tells m v (control_at v)) → Keeps keep (registered_at m) content kept pasts
       → (conn : Connection) → found kept.flows key ≡ Some conn → IsSilent m conn moment false → map (ended_before app control_at heard_packet) pasts ≡ pasts
   none_ends control_at pasts tells stands conn was heard =
       heard_before_is app control_at keep m tells moment content kept.flows kept.slots.items kept.ledger.counts key pasts stands version number segment key_is
@@ -90,7 +90,7 @@ module _ (app : Meaning) (keep : Bool) (m : Versions) (content content' : Shared
       → AddsTo app keep m heard_packet content interns kept content' interns' kept' step.verdict
   followed_adds kept' step stored f = λ control_at pasts tells now stands.
       let s = continued app control_at keep m content content' interns interns' kept kept' key version number moment segment step pasts tells stored stands key_is f in
-      subst (λ l. Makes number pasts (placed app control_at heard_packet l) (verdict_among app control_at heard_packet l) keep (told_at m) content' kept' interns' interns step.verdict)
+      subst (λ l. Makes number pasts (placed app control_at heard_packet l) (verdict_among app control_at heard_packet l) keep (registered_at m) content' kept' interns' interns step.verdict)
       (sym (none_ends control_at pasts tells stands f.conn f.was f.heard))
       (record { stands = s.stands; interned = s.interned; verdict_is = s.verdict_is; dropped = s.dropped })
 

@@ -9,7 +9,7 @@ use Rattle.event_trees.specs.Private.{IsPrivate}
 use Rattle.event_trees.specs.Canon.{canon}
 use Rattle.event_trees.specs.Edit.{IsForestOf}
 use Rattle.forest_versions.specs.Master.{Versions, defs_of}
-use Rattle.connection_core.specs.InForce.{told_at}
+use Rattle.connection_core.specs.InForce.{registered_at}
 use Rattle.lane_core.specs.declared.connection.Connection.{Connection}
 use Rattle.lane_core.specs.Records.{RecordSoFar, is_open_at, open_at}
 use Rattle.lane_core.specs.Places.{further, place_by, place_of}
@@ -49,12 +49,12 @@ none_is_open key (past ∷ pasts) none =
     rw here.0 (none_is_open key pasts here.1)
 
 module _ (m : Versions) (content : Shared → TreeLists) where
-  pub none_is_found : (key : EndpointPair) (o : Option Connection) (pasts : List RecordSoFar) → o ≡ None → IsOpenAt (told_at m) content o (place_of key pasts) pasts
+  pub none_is_found : (key : EndpointPair) (o : Option Connection) (pasts : List RecordSoFar) → o ≡ None → IsOpenAt (registered_at m) content o (place_of key pasts) pasts
       → IsTreeFound (defs_of m) (open_at key pasts) None
   none_is_found key None pasts none at = rw (none_is_open key pasts at) tt
   none_is_found key (Some conn) pasts none at = absurd (cc)
 
-  tree_is : (conn : Connection) (past : RecordSoFar) → IsOpen (told_at m) content conn past → IsTree m conn.version (content conn.flow.forest)
+  tree_is : (conn : Connection) (past : RecordSoFar) → IsOpen (registered_at m) content conn past → IsTree m conn.version (content conn.flow.forest)
       → IsForestOf (defs_of m) past.history.active (listing (content conn.flow.forest))
   tree_is conn past is tree = record {
     private = subst (IsPrivate (defs_of m)) (sym is.kept.active) tree.private;
@@ -62,7 +62,7 @@ module _ (m : Versions) (content : Shared → TreeLists) where
   }
 
   pub tree_is_found : (key : EndpointPair) (conn : Connection) (pasts : List RecordSoFar) (tree : TreeLists) → tree ≡ content conn.flow.forest → IsTree m conn.version (content conn.flow.forest)
-      → IsOpenAt (told_at m) content (Some conn) (place_of key pasts) pasts → IsTreeFound (defs_of m) (open_at key pasts) (Some tree)
+      → IsOpenAt (registered_at m) content (Some conn) (place_of key pasts) pasts → IsTreeFound (defs_of m) (open_at key pasts) (Some tree)
   tree_is_found key conn pasts tree same is at =
       let here = is_at key pasts conn.place at.0 in
-      rw (here.is_open, same) (tree_is conn here.past (subst (IsOpen (told_at m) content conn) (here.placed here.past) (at.1 here.past)) is)
+      rw (here.is_open, same) (tree_is conn here.past (subst (IsOpen (registered_at m) content conn) (here.placed here.past) (at.1 here.past)) is)

@@ -26,7 +26,8 @@ module _ (app : Meaning) (control_at : ℕ → ControlState) where
     pub within : i < length pasts
     pub changed : (d : RecordSoFar) → placed app control_at s pasts ≡ set pasts i (continued_by app control_at s.arrival (get_or pasts i d))
 
-  joins_here : (s : VersionedPacket) (past : RecordSoFar) (pasts : List RecordSoFar) (b : Bool) (o : Option ℕ) (i : ℕ) → belongs_to s.arrival.sight past ≡ b → place_by (belongs_to s.arrival.sight) pasts ≡ o
+  joins_here : (s : VersionedPacket) (past : RecordSoFar) (pasts : List RecordSoFar) (b : Bool) (o : Option ℕ) (i : ℕ)
+      → belongs_to s.arrival.sight past ≡ b → place_by (belongs_to s.arrival.sight) pasts ≡ o
       → ((k : ℕ) → o ≡ Some k → Joins s pasts k) → (if b then Some 0 else further o) ≡ Some i → Joins s (past ∷ pasts) i
   unfolding placed
   joins_here s past pasts true o zero is there later e = record { within = omega arith; changed = λ d. rw is refl }
@@ -107,7 +108,8 @@ append_single true o false n after R S is single new later = is ∙ rw single re
 append_single false o c n after R S is single new later = later single (λ e. (none_here false o (new e)).1)
 
 -- one record more, which passes only where none did
-pub IsSingle-append : (test : RecordSoFar → Bool) (pasts : List RecordSoFar) (past : RecordSoFar) → IsSingle test pasts → (test past ≡ true → place_by test pasts ≡ None) → IsSingle test (pasts ++ past ∷ [])
+pub IsSingle-append : (test : RecordSoFar → Bool) (pasts : List RecordSoFar) (past : RecordSoFar) → IsSingle test pasts
+    → (test past ≡ true → place_by test pasts ≡ None) → IsSingle test (pasts ++ past ∷ [])
 unfolding place_by IsSingle
 IsSingle-append test [] past single new = elim (test past) as (λ b. MatchBool b (place_by test [] ≡ None) (Unit {0})) [ true ↦ refl | false ↦ tt ]
 IsSingle-append test (first ∷ pasts) past single new =

@@ -22,8 +22,8 @@ use Rattle.builtin_events.specs.Raises.{raise_if, is_changed, sender_raises, rec
 use Rattle.event_trees.specs.Defs.{path}
 use Rattle.event_trees.specs.Fires.{fires}
 use Rattle.forest_versions.specs.State.{ControlState, start, active as first_active}
-use Rattle.connection_core.specs.Course.{Course, first_reason, called, called_all, called_at, raised, changed_all, settled, raise_done, phase}
-use Rattle.connection_core.specs.History.{History, followed, sender_phase, receiver_phase, received_unless, begin, go_on, orphaned}
+use Rattle.connection_core.specs.PacketUnderWay.{PacketUnderWay, first_reason, called, called_all, called_at, raised, changed_all, settled, raise_done, phase}
+use Rattle.connection_core.specs.History.{History, followed, sender_phase, receiver_phase, received_unless, begin, go_on, orphan_history}
 use Rattle.lane_core.specs.Sight.{Segment, Sight, Tcp, Other}
 use Rattle.lane_core.specs.Records.{orphan_raises_of}
 use Rattle.lane_core.specs.Laws.{at_sender, at_receiver, at_orphan, PresetsAreCalled}
@@ -37,18 +37,18 @@ on = first_active from_start
 abbrev raise_of : Hook → Facts → ℕ → Raise
 raise_of hook facts event = record { hook = hook; event = event; facts = facts }
 
--- ---- what a callback of the log does to a course: it leaves an entry, and asks nothing
+-- ---- what a callback of the log does to a packet under way: it leaves an entry, and asks nothing
 
-record Logs (c d : Course) (more : List Entry) : Type 0 where
+record Logs (c d : PacketUnderWay) (more : List Entry) : Type 0 where
   active : d.active ≡ c.active
   entries : d.entries ≡ c.entries ++ more
   asked : d.asked ≡ c.asked
   drop : d.drop ≡ c.drop
 
-logs-none : (c : Course) → Logs c c []
+logs-none : (c : PacketUnderWay) → Logs c c []
 logs-none c = record { active = refl; entries = sym (append-nil c.entries); asked = refl; drop = refl }
 
-logs-then : (c d e : Course) (es fs : List Entry) → Logs c d es → Logs d e fs → Logs c e (es ++ fs)
+logs-then : (c d e : PacketUnderWay) (es fs : List Entry) → Logs c d es → Logs d e fs → Logs c e (es ++ fs)
 logs-then c d e es fs one two = record {
   active = two.active ∙ one.active;
   entries = two.entries ∙ ap (λ l. l ++ fs) one.entries ∙ append_assoc c.entries es fs;
@@ -61,30 +61,30 @@ same_reason None = refl
 same_reason (Some reason) = refl
 
 module _ (number : ℕ) (from : Side) where
-  silent : (raise : Raise) (c : Course) → c.active ≡ on → fires from_start.defs raise.facts raise.hook raise.event on ≡ [] → Logs c (called_at log from_start number from raise c) []
+  silent : (raise : Raise) (c : PacketUnderWay) → c.active ≡ on → fires from_start.defs raise.facts raise.hook raise.event on ≡ [] → Logs c (called_at log from_start number from raise c) []
   unfolding called_at
   silent raise c is none =
       subst (λ l. Logs c (called_all log from_start number from raise c l) []) (sym (ap (fires from_start.defs raise.facts raise.hook raise.event) is ∙ none)) (logs-none c)
 
-  logged : (raise : Raise) (c : Course) (r : Reg) (entry : Entry) → Logs c (called log from_start number from raise c r) (entry ∷ []) → c.active ≡ on
+  logged : (raise : Raise) (c : PacketUnderWay) (r : Reg) (entry : Entry) → Logs c (called log from_start number from raise c r) (entry ∷ []) → c.active ≡ on
       → fires from_start.defs raise.facts raise.hook raise.event on ≡ r ∷ [] → Logs c (called_at log from_start number from raise c) (entry ∷ [])
   unfolding called_at
   logged raise c r entry made is one =
       subst (λ l. Logs c (called_all log from_start number from raise c l) (entry ∷ [])) (sym (ap (fires from_start.defs raise.facts raise.hook raise.event) is ∙ one)) made
 
-  sender_logs : (facts : Facts) (c : Course) → c.active ≡ on → Logs c (called_at log from_start number from (raise_of Snd facts PKT_IN) c) (at_sender number ∷ [])
+  sender_logs : (facts : Facts) (c : PacketUnderWay) → c.active ≡ on → Logs c (called_at log from_start number from (raise_of Snd facts PKT_IN) c) (at_sender number ∷ [])
   unfolding called log start path
   sender_logs facts c is =
       logged (raise_of Snd facts PKT_IN) c (preset_reg 1 PKT_IN Snd true) (at_sender number)
       (record { active = refl; entries = refl; asked = append-nil c.asked; drop = same_reason c.drop }) is refl
 
-  receiver_logs : (facts : Facts) (c : Course) → c.active ≡ on → Logs c (called_at log from_start number from (raise_of Rcv facts PKT_IN) c) (at_receiver number ∷ [])
+  receiver_logs : (facts : Facts) (c : PacketUnderWay) → c.active ≡ on → Logs c (called_at log from_start number from (raise_of Rcv facts PKT_IN) c) (at_receiver number ∷ [])
   unfolding called log start path
   receiver_logs facts c is =
       logged (raise_of Rcv facts PKT_IN) c (preset_reg 2 PKT_IN Rcv true) (at_receiver number)
       (record { active = refl; entries = refl; asked = append-nil c.asked; drop = same_reason c.drop }) is refl
 
-  orphan_logs : (facts : Facts) (c : Course) → c.active ≡ on → Logs c (called_at log from_start number from (raise_of Snd facts ORPHAN) c) (at_orphan number ∷ [])
+  orphan_logs : (facts : Facts) (c : PacketUnderWay) → c.active ≡ on → Logs c (called_at log from_start number from (raise_of Snd facts ORPHAN) c) (at_orphan number ∷ [])
   unfolding called log start path
   orphan_logs facts c is =
       logged (raise_of Snd facts ORPHAN) c (preset_reg 3 ORPHAN Snd true) (at_orphan number)
@@ -93,9 +93,9 @@ module _ (number : ℕ) (from : Side) where
   -- ---- raises, one after the other
 
   abbrev LogsOn : List Raise → List Entry → Type 0
-  LogsOn raises entries = (c : Course) → c.active ≡ on → c.asked ≡ [] → Logs c (phase log from_start number from raises c) entries
+  LogsOn raises entries = (c : PacketUnderWay) → c.active ≡ on → c.asked ≡ [] → Logs c (phase log from_start number from raises c) entries
 
-  phase-append : (xs ys : List Raise) (c : Course) → phase log from_start number from (xs ++ ys) c ≡ phase log from_start number from ys (phase log from_start number from xs c)
+  phase-append : (xs ys : List Raise) (c : PacketUnderWay) → phase log from_start number from (xs ++ ys) c ≡ phase log from_start number from ys (phase log from_start number from xs c)
   unfolding phase
   phase-append [] ys c = refl
   phase-append (x ∷ xs) ys c = phase-append xs ys (raise_done log from_start number from x c)
@@ -108,7 +108,7 @@ module _ (number : ℕ) (from : Side) where
       (logs-then c d (phase log from_start number from ys d) es fs first (two d (first.active ∙ is) (first.asked ∙ asked)))
 
   -- where nothing is asked at a raise, nothing is changed at its end
-  done_logs : (raise : Raise) (entries : List Entry) (c : Course) → c.asked ≡ [] → Logs c (called_at log from_start number from raise c) entries
+  done_logs : (raise : Raise) (entries : List Entry) (c : PacketUnderWay) → c.asked ≡ [] → Logs c (called_at log from_start number from raise c) entries
       → Logs c (raise_done log from_start number from raise c) entries
   unfolding raise_done settled
   done_logs raise entries c asked l =
@@ -117,40 +117,40 @@ module _ (number : ℕ) (from : Side) where
       subst (λ cs. Logs c (record (changed_all from_start cs d) { asked = [] }) entries) (sym nothing)
       (record { active = l.active; entries = l.entries; asked = sym asked; drop = l.drop })
 
-  quiet : (b : Bool) (raise : Raise) → ((c : Course) → c.active ≡ on → Logs c (called_at log from_start number from raise c) []) → LogsOn (raise_if b raise) []
+  quiet : (b : Bool) (raise : Raise) → ((c : PacketUnderWay) → c.active ≡ on → Logs c (called_at log from_start number from raise c) []) → LogsOn (raise_if b raise) []
   unfolding phase
   quiet true raise none c is asked = done_logs raise [] c asked (none c is)
   quiet false raise none c is asked = logs-none c
 
-  loud : (raise : Raise) (entry : Entry) → ((c : Course) → c.active ≡ on → Logs c (called_at log from_start number from raise c) (entry ∷ [])) → LogsOn (raise_if true raise) (entry ∷ [])
+  loud : (raise : Raise) (entry : Entry) → ((c : PacketUnderWay) → c.active ≡ on → Logs c (called_at log from_start number from raise c) (entry ∷ [])) → LogsOn (raise_if true raise) (entry ∷ [])
   unfolding phase
   loud raise entry one c is asked = done_logs raise (entry ∷ []) c asked (one c is)
 
-  quiet_start : (facts : Facts) (c : Course) → c.active ≡ on → Logs c (called_at log from_start number from (raise_of Snd facts START) c) []
+  quiet_start : (facts : Facts) (c : PacketUnderWay) → c.active ≡ on → Logs c (called_at log from_start number from (raise_of Snd facts START) c) []
   unfolding log start path
   quiet_start facts c is = silent (raise_of Snd facts START) c is refl
 
-  quiet_sender_state : (facts : Facts) (c : Course) → c.active ≡ on → Logs c (called_at log from_start number from (raise_of Snd facts STATE) c) []
+  quiet_sender_state : (facts : Facts) (c : PacketUnderWay) → c.active ≡ on → Logs c (called_at log from_start number from (raise_of Snd facts STATE) c) []
   unfolding log start path
   quiet_sender_state facts c is = silent (raise_of Snd facts STATE) c is refl
 
-  quiet_rexmit : (facts : Facts) (c : Course) → c.active ≡ on → Logs c (called_at log from_start number from (raise_of Rcv facts REXMIT) c) []
+  quiet_rexmit : (facts : Facts) (c : PacketUnderWay) → c.active ≡ on → Logs c (called_at log from_start number from (raise_of Rcv facts REXMIT) c) []
   unfolding log start path
   quiet_rexmit facts c is = silent (raise_of Rcv facts REXMIT) c is refl
 
-  quiet_new_data : (facts : Facts) (c : Course) → c.active ≡ on → Logs c (called_at log from_start number from (raise_of Rcv facts NEW_DATA) c) []
+  quiet_new_data : (facts : Facts) (c : PacketUnderWay) → c.active ≡ on → Logs c (called_at log from_start number from (raise_of Rcv facts NEW_DATA) c) []
   unfolding log start path
   quiet_new_data facts c is = silent (raise_of Rcv facts NEW_DATA) c is refl
 
-  quiet_error : (facts : Facts) (c : Course) → c.active ≡ on → Logs c (called_at log from_start number from (raise_of Rcv facts ERROR) c) []
+  quiet_error : (facts : Facts) (c : PacketUnderWay) → c.active ≡ on → Logs c (called_at log from_start number from (raise_of Rcv facts ERROR) c) []
   unfolding log start path
   quiet_error facts c is = silent (raise_of Rcv facts ERROR) c is refl
 
-  quiet_state : (facts : Facts) (c : Course) → c.active ≡ on → Logs c (called_at log from_start number from (raise_of Rcv facts STATE) c) []
+  quiet_state : (facts : Facts) (c : PacketUnderWay) → c.active ≡ on → Logs c (called_at log from_start number from (raise_of Rcv facts STATE) c) []
   unfolding log start path
   quiet_state facts c is = silent (raise_of Rcv facts STATE) c is refl
 
-  quiet_end : (facts : Facts) (c : Course) → c.active ≡ on → Logs c (called_at log from_start number from (raise_of Rcv facts END) c) []
+  quiet_end : (facts : Facts) (c : PacketUnderWay) → c.active ≡ on → Logs c (called_at log from_start number from (raise_of Rcv facts END) c) []
   unfolding log start path
   quiet_end facts c is = silent (raise_of Rcv facts END) c is refl
 
@@ -196,10 +196,10 @@ module _ (number : ℕ) (from : Side) where
 -- ---- both phases of a packet
 
 module _ (number : ℕ) (from : Side) (segment : Segment) (h : History) (is : h.active ≡ on) where
-  abbrev at_s : Course
+  abbrev at_s : PacketUnderWay
   at_s = sender_phase log from_start number from segment.head segment.scale h
 
-  abbrev at_r : Course
+  abbrev at_r : PacketUnderWay
   at_r = receiver_phase log from_start number from segment.head segment.payload h.count at_s
 
   sent_logs : Logs (begin (sent from segment.head segment.scale h.emulation) h) at_s (at_sender number ∷ [])
@@ -226,10 +226,15 @@ module _ (number : ℕ) (from : Side) (segment : Segment) (h : History) (is : h.
   stays : (followed log from_start number from segment.head segment.scale segment.payload h).active ≡ h.active
   stays = ap (λ (g : History). g.active) followed_is ∙ received_logs.active ∙ sent_logs.active
 
-orphan_is_called : (number : ℕ) (sight : Sight) → (orphaned log from_start number (orphan_raises_of sight)).entries ≡ at_orphan number ∷ []
-unfolding orphaned orphan_raises raised
+orphan_is_called : (number : ℕ) (sight : Sight) → (orphan_history log from_start number (orphan_raises_of sight)).entries ≡ at_orphan number ∷ []
+unfolding orphan_history orphan_raises raised
 orphan_is_called number (Tcp segment) = (orphan_logs number Client (orphan_facts Class.Tcp (Some segment.head)) _ refl).entries
 orphan_is_called number (Other class) = (orphan_logs number Client (orphan_facts class None) _ refl).entries
 
 pub presets_are_called : PresetsAreCalled
-presets_are_called = record { connection = λ number side segment h is. connection_called number side segment h is; stay = λ number side segment h is. stays number side segment h is; orphan = orphan_is_called }
+presets_are_called = record {
+  connection = λ number side segment h is. connection_called number side segment h is;
+  stay = λ number side segment h
+      is. stays number side segment h is;
+  orphan = orphan_is_called;
+}

@@ -9,7 +9,7 @@ use Rattle.app_api.specs.App.{Meaning}
 use Rattle.report_text.specs.declared.record.Totals.{Totals}
 use Rattle.report_text.specs.Lines.{totals_line}
 use Rattle.report_text.specs.Report.{records_text, report_text}
-use Rattle.lane_core.specs.declared.slot.Slot.{Slot}
+use Rattle.lane_core.specs.declared.under_way.RecordUnderWay.{RecordUnderWay}
 use Rattle.lane_core.specs.Closing.{IsClosed}
 use Rattle.lane_core.specs.End.{ended}
 use Rattle.lane_core.specs.Kept.{slot_of}
@@ -19,7 +19,8 @@ use Rattle.lane_core.specs.Report.{end_text, totals_of}
 use Rattle.lane_core.specs.Shown.{callbacks_of}
 use Rattle.lane_core.proofs.Ending.{all_ended}
 
-module _ (keep : Bool) (app : Meaning) (so_far : List RecordSoFar) (slots : List Slot) (callbacks drops : ℕ) (closed : IsClosed keep so_far slots callbacks drops) (packets len tail : ℕ) (is_len : len ≡ length slots) where
+module _ (keep : Bool) (app : Meaning) (so_far : List RecordSoFar) (slots : List RecordUnderWay) (callbacks drops : ℕ)
+    (closed : IsClosed keep so_far slots callbacks drops) (packets len tail : ℕ) (is_len : len ≡ length slots) where
   abbrev counted : Totals
   counted = record { packets = packets; records = len; callbacks = callbacks; drops = drops; tail = tail }
 

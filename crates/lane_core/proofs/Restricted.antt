@@ -33,7 +33,8 @@ module _ (app : Meaning) (control_at : ℕ → ControlState) (keys : EndpointPai
   taken_key (Tcp segment) past taken = between_key past.first.sight (key_of_segment segment) (second_of _ _ _ taken)
   taken_key (Other class) past taken = absurd (cc)
 
-  outside_here : (s : VersionedPacket) (past : RecordSoFar) (pasts after : List RecordSoFar) (b : Bool) → belongs_to s.arrival.sight past ≡ b → packet_in s ≡ false → filter record_in after ≡ filter record_in pasts
+  outside_here : (s : VersionedPacket) (past : RecordSoFar) (pasts after : List RecordSoFar) (b : Bool) → belongs_to s.arrival.sight past ≡ b
+      → packet_in s ≡ false → filter record_in after ≡ filter record_in pasts
       → filter record_in (if b then continued_by app control_at s.arrival past ∷ pasts else past ∷ after) ≡ filter record_in (past ∷ pasts)
   outside_here s past pasts after true taken out rest = let fails : record_in past ≡ false = taken_key s.arrival.sight past taken ∙ out in rw fails refl
   outside_here s past pasts after false taken out rest = ap (λ l. cond (record_in past) (past ∷ l) l) rest
@@ -44,13 +45,15 @@ module _ (app : Meaning) (control_at : ℕ → ControlState) (keys : EndpointPai
   outside s [] out = rw out refl
   outside s (past ∷ pasts) out = outside_here s past pasts (placed app control_at s pasts) (belongs_to s.arrival.sight past) refl out (outside s pasts out)
 
-  inside_there : (s : VersionedPacket) (past : RecordSoFar) (pasts after : List RecordSoFar) (c : Bool) → record_in past ≡ c → belongs_to s.arrival.sight past ≡ false → filter record_in after ≡ placed app control_at s (filter record_in pasts)
+  inside_there : (s : VersionedPacket) (past : RecordSoFar) (pasts after : List RecordSoFar) (c : Bool) → record_in past ≡ c
+      → belongs_to s.arrival.sight past ≡ false → filter record_in after ≡ placed app control_at s (filter record_in pasts)
       → cond c (past ∷ filter record_in after) (filter record_in after) ≡ placed app control_at s (cond c (past ∷ filter record_in pasts) (filter record_in pasts))
   unfolding placed
   inside_there s past pasts after true is untaken rest = rw untaken (ap (λ l. past ∷ l) rest)
   inside_there s past pasts after false is untaken rest = rest
 
-  inside_here : (s : VersionedPacket) (past : RecordSoFar) (pasts after : List RecordSoFar) (b : Bool) → belongs_to s.arrival.sight past ≡ b → packet_in s ≡ true → filter record_in after ≡ placed app control_at s (filter record_in pasts)
+  inside_here : (s : VersionedPacket) (past : RecordSoFar) (pasts after : List RecordSoFar) (b : Bool) → belongs_to s.arrival.sight past ≡ b
+      → packet_in s ≡ true → filter record_in after ≡ placed app control_at s (filter record_in pasts)
       → filter record_in (if b then continued_by app control_at s.arrival past ∷ pasts else past ∷ after) ≡ placed app control_at s (filter record_in (past ∷ pasts))
   unfolding placed
   inside_here s past pasts after true taken has rest =
@@ -115,7 +118,8 @@ module _ (app : Meaning) (control_at : ℕ → ControlState) (keys : EndpointPai
   restricted_here s ss pasts true is rest = ap (λ l. records_from app control_at l (filter packet_in ss)) (sym (added_inside s pasts is)) ∙ rest
   restricted_here s ss pasts false is rest = ap (λ l. records_from app control_at l (filter packet_in ss)) (sym (added_outside s pasts is)) ∙ rest
 
-  pub restricted : (pasts : List RecordSoFar) (ss : List VersionedPacket) → records_from app control_at (filter record_in pasts) (filter packet_in ss) ≡ filter record_in (records_from app control_at pasts ss)
+  pub restricted : (pasts : List RecordSoFar) (ss : List VersionedPacket)
+      → records_from app control_at (filter record_in pasts) (filter packet_in ss) ≡ filter record_in (records_from app control_at pasts ss)
   unfolding records_from
   restricted pasts [] = refl
   restricted pasts (s ∷ ss) = restricted_here s ss pasts (packet_in s) refl (restricted (added app control_at s pasts) ss)

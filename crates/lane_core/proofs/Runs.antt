@@ -123,7 +123,8 @@ module _ (app : Meaning) (most : ℕ) (one two : ℕ → ControlState) (agree : 
       let rest = placed-agrees p rs low all.1 in
       let same : continued_by app one p.arrival r ≡ continued_by app two p.arrival r =
       ap (λ c. record { first = r.first; version = r.version; last = p.arrival; ended = r.ended; history = history_after app c r.first.sight p.arrival r.history }) (agree r.version all.0) in
-      elim (belongs_to p.arrival.sight r) as (λ b. (if b then continued_by app one p.arrival r ∷ rs else r ∷ placed app one p rs) ≡ (if b then continued_by app two p.arrival r ∷ rs else r ∷ placed app two p rs)) [
+      elim (belongs_to p.arrival.sight r) as (λ b. (if b then continued_by app one p.arrival r ∷ rs else r ∷ placed app one p rs) ≡ (if
+      b then continued_by app two p.arrival r ∷ rs else r ∷ placed app two p rs)) [
         | true ↦ ap (λ x. x ∷ rs) same
         | false ↦ ap (λ l. r ∷ l) rest
       ]
@@ -198,7 +199,9 @@ pub packet_is_added : (app : Meaning) (es : List LaneEvent) (a : Arrival)
 unfolding lane_run
 packet_is_added app es a =
     ap (λ cs. records_from app (master app.presets cs) [] (versioned_from 0 (es ++ Arrived a ∷ []))) (commands-arrived es a)
-    ∙ ap (records_from app (control_of app es) []) (versioned-arrived 0 es a ∙ ap (λ n. versioned_from 0 es ++ record { version = n; arrival = a } ∷ []) (let none_more : 0 + length (commands_of es) ≡ length (commands_of es) = omega arith in none_more))
+    ∙ ap (records_from app (control_of app es) []) (versioned-arrived 0 es a
+    ∙ ap (λ n. versioned_from 0 es ++ record { version = n; arrival = a } ∷ [])
+    (let none_more : 0 + length (commands_of es) ≡ length (commands_of es) = omega arith in none_more))
     ∙ records-last app (control_of app es) [] (versioned_from 0 es) (record { version = length (commands_of es); arrival = a })
 
 pub later_records : (app : Meaning) (es : List LaneEvent) (more : List Command)
@@ -250,7 +253,11 @@ heavy_stays = record { one_more = one_more_heavy; at_end = heavy_at_end }
 pub one_event_more : OneEventMore
 one_event_more = record {
   command = λ es c. (commands-gave es c, versioned-gave 0 es c);
-  packet = λ es a. (commands-arrived es a, versioned-arrived 0 es a ∙ ap (λ n. versioned_from 0 es ++ record { version = n; arrival = a } ∷ []) (let none_more : 0 + length (commands_of es) ≡ length (commands_of es) = omega arith in none_more));
+  packet = λ es a. (
+    commands-arrived es a,
+    versioned-arrived 0 es a ∙ ap (λ n. versioned_from 0 es ++ record { version = n; arrival = a } ∷ [])
+        (let none_more : 0 + length (commands_of es) ≡ length (commands_of es) = omega arith in none_more),
+  );
 }
 
 pub newest_is_the_last : NewestIsTheLast

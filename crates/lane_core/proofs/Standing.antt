@@ -12,7 +12,7 @@ use Rattle.forest_versions.specs.declared.command.Command.{Command}
 use Rattle.forest_versions.specs.State.{control, master}
 use Rattle.forest_versions.specs.Master.{Versions, StandsFor}
 use Rattle.connection_core.specs.History.{drops_of}
-use Rattle.connection_core.specs.InForce.{told_at}
+use Rattle.connection_core.specs.InForce.{registered_at}
 use Rattle.connection_core.specs.Trees.{InternsWithin}
 use Rattle.lane_core.specs.declared.errors.LaneError.{LaneError}
 use Rattle.lane_core.specs.declared.errors.LaneError.TheVariants.{Heavy, NoMemory}
@@ -83,17 +83,17 @@ module _ (app : Meaning) (keep : Bool) (m : Versions) where
       (r : IsRun app keep m content kept next None events)
       (adds : AddsTo app keep m (record { version = m.version; arrival = a }) content interns kept content' interns' kept' verdict) where
     abbrev Added : Type 0
-    Added = Adds app (control_of app events) (record { version = length (commands_of events); arrival = a }) (lane_run app events) keep (told_at m) content' kept' interns' interns verdict
+    Added = Adds app (control_of app events) (record { version = length (commands_of events); arrival = a }) (lane_run app events) keep (registered_at m) content' kept' interns' interns verdict
 
     -- the packet is added to the run's records
     pub run_added : Added
     run_added =
         let commands = r.commands refl in
-        subst (λ v. Adds app (control_of app events) (record { version = v; arrival = a }) (lane_run app events) keep (told_at m) content' kept' interns' interns verdict) commands.version
+        subst (λ v. Adds app (control_of app events) (record { version = v; arrival = a }) (lane_run app events) keep (registered_at m) content' kept' interns' interns verdict) commands.version
         (adds (control_of app events) (lane_run app events) commands.told (now_is (commands_of events) commands) (r.records refl))
 
-    pub packet_kept : Keeps keep (told_at m) content' kept' (lane_run app (with_event (Arrived a) events))
-    packet_kept = subst (Keeps keep (told_at m) content' kept') (sym (packet_is_added app events a)) run_added.stands
+    pub packet_kept : Keeps keep (registered_at m) content' kept' (lane_run app (with_event (Arrived a) events))
+    packet_kept = subst (Keeps keep (registered_at m) content' kept') (sym (packet_is_added app events a)) run_added.stands
 
     -- a lane that goes on
     pub packet_stands : (next' : ℕ) → next' ≡ a.number + 1 → kept'.dropped ≡ kept.dropped + length (drops_of verdict 0) → IsRun app keep m content' kept' next' None (with_event (Arrived a) events)
@@ -151,18 +151,19 @@ module _ (app : Meaning) (keep : Bool) (m : Versions) where
 pub command_stands : (app : Meaning) (keep : Bool) (m after : Versions) (content content' : Shared → TreeLists) (kept kept' : Kept) (next : ℕ) (events : List LaneEvent) (c : Command)
     → IsRun app keep m content kept next None events → kept' ≡ kept
     → ((presets : List _) (commands : List Command) → StandsFor m presets commands → StandsFor after presets (commands ++ c ∷ []))
-    → ((so_far : List RecordSoFar) → Keeps keep (told_at m) content kept so_far → Keeps keep (told_at after) content' kept' so_far)
+    → ((so_far : List RecordSoFar) → Keeps keep (registered_at m) content kept so_far → Keeps keep (registered_at after) content' kept' so_far)
     → IsRun app keep after content' kept' next None (with_event (Gave c) events)
 command_stands app keep m after content content' kept kept' next events c r same gives keeps = record {
   newest = newest-gave None events c ∙ r.newest;
   commands = λ none. subst (StandsFor after app.presets) (sym (commands-gave events c)) (gives app.presets (commands_of events) (r.commands refl));
-  records = λ none. subst (Keeps keep (told_at after) content' kept') (sym (command_changes_none app events c)) (keeps (lane_run app events) (r.records refl));
+  records = λ none. subst (Keeps keep (registered_at after) content' kept') (sym (command_changes_none app events c)) (keeps (lane_run app events) (r.records refl));
   dropped = λ none. ap (λ (k : Kept). k.dropped) same ∙ r.dropped refl ∙ ap drops_in (sym (command_changes_none app events c));
   heavy = none_is_heavy;
 }
 
 -- a lane that failed for this command
-pub command_failed : (app : Meaning) (keep : Bool) (m after : Versions) (content content' : Shared → TreeLists) (kept kept' : Kept) (next : ℕ) (failed : Option LaneError) (events : List LaneEvent) (c : Command)
+pub command_failed : (app : Meaning) (keep : Bool) (m after : Versions) (content content' : Shared
+    → TreeLists) (kept kept' : Kept) (next : ℕ) (failed : Option LaneError) (events : List LaneEvent) (c : Command)
     → IsRun app keep m content kept next failed events → IsRun app keep after content' kept' next (Some NoMemory) (with_event (Gave c) events)
 command_failed app keep m after content content' kept kept' next failed events c r = record {
   newest = newest-gave None events c ∙ r.newest;

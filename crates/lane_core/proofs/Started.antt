@@ -21,18 +21,18 @@ use Rattle.connection_core.specs.declared.flow.Flow.{Flow}
 use Rattle.connection_core.specs.declared.flow.Step.{Step}
 use Rattle.connection_core.specs.declared.ledger.Counts.{Counts}
 use Rattle.connection_core.specs.declared.ledger.Notes.{Notes}
-use Rattle.connection_core.specs.History.{History, fresh, followed, verdict, orphaned, orphan_verdict, drops_of, is_over, weight_of}
-use Rattle.connection_core.specs.InForce.{told_at}
+use Rattle.connection_core.specs.History.{History, fresh, followed, verdict, orphan_history, orphan_verdict, drops_of, is_over, weight_of}
+use Rattle.connection_core.specs.InForce.{registered_at}
 use Rattle.connection_core.specs.Standing.{IsFlow, IsNoted, IsConnection}
 use Rattle.connection_core.specs.Trees.{InternsWithin}
 use Rattle.lane_core.specs.declared.connection.Connection.{Connection}
-use Rattle.lane_core.specs.declared.slot.Slot.{Slot}
+use Rattle.lane_core.specs.declared.under_way.RecordUnderWay.{RecordUnderWay}
 use Rattle.lane_core.specs.Sight.{Segment, Sight, Tcp, Moment, key_of_segment}
 use Rattle.lane_core.specs.Records.{RecordSoFar, VersionedPacket, opens, is_between, is_open_at, belongs_to, side_of, history_after, verdict_after, verdict_among, orphan_raises_of, started_by, placed}
 use Rattle.lane_core.specs.Shown.{kind_of, alterations, drops_of as drops_in}
 use Rattle.lane_core.specs.Places.{place_by, place_of}
-use Rattle.lane_core.specs.Steps.{stepped, IsLone, Opens, opened_by}
-use Rattle.lane_core.specs.Kept.{IsOpen, IsOpenAt, AreKept, IsStray, slot_of, arrived}
+use Rattle.lane_core.specs.Steps.{stepped, IsOrphanNoted, Opens, opened_by}
+use Rattle.lane_core.specs.Kept.{IsOpen, IsOpenAt, AreKept, IsOrphan, slot_of, arrived}
 use Rattle.lane_core.proofs.Places.{place_with, place_by-append, placed-new, IsSingle-append}
 use Rattle.lane_core.proofs.Holding.{and_true, and_false, left_of_and}
 use Rattle.lane_core.proofs.Totals.{total-append, InternsWithin-others, InternsWithin-none}
@@ -62,22 +62,24 @@ fresh_connection app keep at tree flow notes counts s new is = record {
 }
 
 -- what the table has for a key, with one record more
-started_at : (told : ℕ → ℕ → Option Reg) (content : Shared → TreeLists) (flows after : Flows Connection) (pasts : List RecordSoFar) (past : RecordSoFar) (conn : Connection) (own key : EndpointPair) (over : Bool)
+started_at : (registered : ℕ → ℕ → Option Reg) (content : Shared → TreeLists) (flows after : Flows Connection) (pasts : List RecordSoFar)
+    (past : RecordSoFar) (conn : Connection) (own key : EndpointPair) (over : Bool)
     → is_open_at key past ≡ (same_key own key && not over) → place_of own pasts ≡ None
-    → found after key ≡ (if not over && same_key own key then Some conn else found flows key) → conn.place ≡ length pasts → IsOpen told content conn past
-    → IsOpenAt told content (found flows key) (place_of key pasts) pasts
-    → IsOpenAt told content (found after key) (place_with (place_of key pasts) (is_open_at key past) (length pasts)) (pasts ++ past ∷ [])
-started_at told content flows after pasts past conn own key true own_key absent there last is at =
-    unopened told content flows after pasts past key (own_key ∙ and_false (same_key own key)) there at
-started_at told content flows after pasts past conn own key false own_key absent there last is at =
-    opened told content flows after pasts past conn own key (own_key ∙ and_true (same_key own key)) absent there last is at
+    → found after key ≡ (if not over && same_key own key then Some conn else found flows key) → conn.place ≡ length pasts → IsOpen registered content conn past
+    → IsOpenAt registered content (found flows key) (place_of key pasts) pasts
+    → IsOpenAt registered content (found after key) (place_with (place_of key pasts) (is_open_at key past) (length pasts)) (pasts ++ past ∷ [])
+started_at registered content flows after pasts past conn own key true own_key absent there last is at =
+    unopened registered content flows after pasts past key (own_key ∙ and_false (same_key own key)) there at
+started_at registered content flows after pasts past conn own key false own_key absent there last is at =
+    opened registered content flows after pasts past conn own key (own_key ∙ and_true (same_key own key)) absent there last is at
 
 module _ (app : Meaning) (control_at : ℕ → ControlState) (keep : Bool) (m : Versions) where
-  abbrev told : ℕ → ℕ → Option Reg
-  told = told_at m
+  abbrev registered : ℕ → ℕ → Option Reg
+  registered = registered_at m
 
-  -- what is noted of a record's callbacks shows in its slot
-  pub noted_slot : (name version : ℕ) (sight : Sight) (h : History) (notes : Notes) (others counts : Counts) (slot : Slot) → slot.name ≡ name → slot.kind ≡ kind_of sight → slot.version ≡ version
+  -- what is noted of a record's callbacks shows in its record
+  pub noted_slot : (name version : ℕ) (sight : Sight) (h : History) (notes : Notes) (others counts : Counts) (slot : RecordUnderWay)
+      → slot.name ≡ name → slot.kind ≡ kind_of sight → slot.version ≡ version
       → slot.notes ≡ notes → slot.drops ≡ h.drops → IsNoted keep others h.tally h.entries notes counts
       → slot ≡ record { name = name; kind = kind_of sight; version = version; notes = record { tally = h.tally; entries = if keep then h.entries else [] }; drops = h.drops }
   noted_slot name version sight h notes others counts slot name_is kind_is version_is notes_are drops_are noted =
@@ -90,26 +92,29 @@ module _ (app : Meaning) (control_at : ℕ → ControlState) (keep : Bool) (m : 
       ∙ ap (λ ds. record { name = name; kind = kind_of sight; version = version; notes = record { tally = h.tally; entries = if keep then h.entries else [] }; drops = ds }) drops_are
 
   -- a packet that starts a record
-  started : (content : Shared → TreeLists) (flows after : Flows Connection) (slots : List Slot) (slot : Slot) (counts counts' : Counts) (p : VersionedPacket) (pasts : List RecordSoFar)
-      → AreKept keep told content flows slots counts pasts → place_by (belongs_to p.arrival.sight) pasts ≡ None → slot ≡ slot_of keep (started_by app control_at p)
+  started : (content : Shared → TreeLists) (flows after : Flows Connection) (slots : List RecordUnderWay) (slot : RecordUnderWay)
+      (counts counts' : Counts) (p : VersionedPacket) (pasts : List RecordSoFar)
+      → AreKept keep registered content flows slots counts pasts → place_by (belongs_to p.arrival.sight) pasts ≡ None → slot ≡ slot_of keep (started_by app control_at p)
       → counts'.callbacks ≡ counts.callbacks + length (started_by app control_at p).history.entries → counts'.weight ≡ counts.weight + weight_of (started_by app control_at p).history.entries
-      → ((key : EndpointPair) → IsOpenAt told content (found after key) (place_with (place_of key pasts) (is_open_at key (started_by app control_at p)) (length pasts)) (pasts ++ started_by app control_at p ∷ []))
+      → ((key : EndpointPair) → IsOpenAt registered content (found after key)
+      (place_with (place_of key pasts) (is_open_at key (started_by app control_at p)) (length pasts)) (pasts ++ started_by app control_at p ∷ []))
       → ((key : EndpointPair) → is_open_at key (started_by app control_at p) ≡ true → place_of key pasts ≡ None)
-      → AreKept keep told content after (slots ++ slot ∷ []) counts' (placed app control_at p pasts)
+      → AreKept keep registered content after (slots ++ slot ∷ []) counts' (placed app control_at p pasts)
   started content flows after slots slot counts counts' p pasts stands none is callbacks weight placed alone =
       let new = placed-new app control_at p pasts none in
       let r = started_by app control_at p in
       rw new (record {
         shown = rw is (ap (λ ss. ss ++ slot_of keep r ∷ []) stands.shown ∙ sym (map-append (slot_of keep) pasts (r ∷ [])));
-        placed = λ key. subst (λ o. IsOpenAt told content (found after key) o (pasts ++ r ∷ [])) (sym (place_by-append (is_open_at key) pasts r)) (placed key);
+        placed = λ key. subst (λ o. IsOpenAt registered content (found after key) o (pasts ++ r ∷ [])) (sym (place_by-append (is_open_at key) pasts r)) (placed key);
         single = λ key. IsSingle-append (is_open_at key) pasts r (stands.single key) (alone key);
         counted = callbacks ∙ ap (λ n. n + length r.history.entries) stands.counted ∙ sym (total-append (λ q. length q.history.entries) pasts r);
         weighed = weight ∙ ap (λ n. n + weight_of r.history.entries) stands.weighed ∙ sym (total-append (λ q. weight_of q.history.entries) pasts r);
       })
 
   -- the lane after a packet that starts a record
-  pub record Started (content : Shared → TreeLists) (interns interns' : Option ℕ) (after : Flows Connection) (slots : List Slot) (counts : Counts) (p : VersionedPacket) (verdict : Verdict) (pasts : List RecordSoFar) : Type 0 where
-    pub stands : AreKept keep told content after slots counts (placed app control_at p pasts)
+  pub record Started (content : Shared → TreeLists) (interns interns' : Option ℕ) (after : Flows Connection) (slots : List RecordUnderWay)
+      (counts : Counts) (p : VersionedPacket) (verdict : Verdict) (pasts : List RecordSoFar) : Type 0 where
+    pub stands : AreKept keep registered content after slots counts (placed app control_at p pasts)
     pub interned : InternsWithin interns interns' (alterations pasts) (alterations (placed app control_at p pasts))
     pub verdict_is : verdict ≡ verdict_among app control_at p pasts
     pub dropped : drops_in (placed app control_at p pasts) ≡ drops_in pasts + length (drops_of verdict p.arrival.number)
@@ -120,69 +125,81 @@ module _ (app : Meaning) (control_at : ℕ → ControlState) (keep : Bool) (m : 
   altered_by interns interns' p pasts none costs =
       let r = started_by app control_at p in
       rw (placed-new app control_at p pasts none)
-      (InternsWithin-others interns interns' (alterations pasts) 0 r.history.altered (alterations pasts) (alterations (pasts ++ r ∷ [])) (omega arith) (total-append (λ q. q.history.altered) pasts r) costs)
+      (InternsWithin-others interns interns' (alterations pasts) 0 r.history.altered (alterations pasts) (alterations (pasts ++ r ∷ [])) (omega arith)
+      (total-append (λ q. q.history.altered) pasts r) costs)
 
   -- ---- a packet of no connection
 
   -- it costs no intern
-  pub stray_costs : (interns : Option ℕ) (p : VersionedPacket) (pasts : List RecordSoFar) → place_by (belongs_to p.arrival.sight) pasts ≡ None
+  pub orphan_costs : (interns : Option ℕ) (p : VersionedPacket) (pasts : List RecordSoFar) → place_by (belongs_to p.arrival.sight) pasts ≡ None
       → InternsWithin interns interns (alterations pasts) (alterations (placed app control_at p pasts))
-  stray_costs interns p pasts none = altered_by interns interns p pasts none (InternsWithin-none interns 0 (started_by app control_at p).history.altered (omega arith))
+  orphan_costs interns p pasts none = altered_by interns interns p pasts none (InternsWithin-none interns 0 (started_by app control_at p).history.altered (omega arith))
 
   -- the record of a packet of no connection
-  stray_is : (version number : ℕ) (moment : Moment) (sight : Sight) → opens sight ≡ false
-      → (started_by app control_at (arrived version number moment sight)).history ≡ orphaned app (control_at version) number (orphan_raises_of sight)
-  stray_is version number moment sight shut = rw shut refl
+  orphan_is : (version number : ℕ) (moment : Moment) (sight : Sight) → opens sight ≡ false
+      → (started_by app control_at (arrived version number moment sight)).history ≡ orphan_history app (control_at version) number (orphan_raises_of sight)
+  orphan_is version number moment sight shut = rw shut refl
 
-  pub stray_started : (content : Shared → TreeLists) (interns : Option ℕ) (flows : Flows Connection) (slots : List Slot) (slot slot' : Slot) (counts counts' : Counts) (number : ℕ) (moment : Moment) (sight : Sight) (class : Class) (head : Option Head) (verdict : Verdict) (pasts : List RecordSoFar)
-      → control_at m.version ≡ m.now → IsStray sight class head pasts → AreKept keep told content flows slots counts pasts
+  pub orphan_started : (content : Shared → TreeLists) (interns : Option ℕ) (flows : Flows Connection) (slots : List RecordUnderWay)
+      (slot slot' : RecordUnderWay) (counts counts' : Counts) (number : ℕ) (moment : Moment) (sight : Sight) (class : Class) (head : Option Head)
+      (verdict : Verdict) (pasts : List RecordSoFar)
+      → control_at m.version ≡ m.now → IsOrphan sight class head pasts → AreKept keep registered content flows slots counts pasts
       → slot ≡ record { name = number; kind = Orphan class; version = m.version; notes = record { tally = app.fresh; entries = [] }; drops = [] }
-      → IsLone app keep m.now slot slot' counts counts' number (orphan_raises class head) verdict
+      → IsOrphanNoted app keep m.now slot slot' counts counts' number (orphan_raises class head) verdict
       → Started content interns interns flows (slots ++ slot' ∷ []) counts' (arrived m.version number moment sight) verdict pasts
-  stray_started content interns flows slots slot slot' counts counts' number moment sight class head verdict pasts now_is stray stands slot_was lone =
+  orphan_started content interns flows slots slot slot' counts counts' number moment sight class head verdict pasts now_is orphan stands slot_was as_noted =
       let version = m.version in
       let p = arrived version number moment sight in
       let r = started_by app control_at p in
-      let h = orphaned app m.now number (orphan_raises class head) in
-      let notes_were = ap (λ (t : Slot). t.notes) slot_was in
+      let h = orphan_history app m.now number (orphan_raises class head) in
+      let notes_were = ap (λ (t : RecordUnderWay). t.notes) slot_was in
       let before : IsNoted keep counts app.fresh [] slot.notes counts = record {
         tally = ap (λ (n : Notes). n.tally) notes_were;
         entries = none_kept keep slot.notes.entries (ap (λ (n : Notes). n.entries) notes_were);
         callbacks = omega arith;
         weight = omega arith;
       } in
-      let noted = lone.noted counts before in
-      let dropped = lone.dropped counts before in
+      let noted = as_noted.noted counts before in
+      let dropped = as_noted.dropped counts before in
       let same : r.history ≡ h =
-      stray_is version number moment sight stray.shut ∙ ap (orphaned app (control_at version) number) stray.raises
-      ∙ ap (λ c. orphaned app c number (orphan_raises class head)) now_is in
-      let shut_at : (key : EndpointPair) → is_open_at key r ≡ false = λ key. ap (λ b. b && is_between key sight && not (is_over r.history)) stray.shut in
+      orphan_is version number moment sight orphan.shut ∙ ap (orphan_history app (control_at version) number) orphan.raises
+      ∙ ap (λ c. orphan_history app c number (orphan_raises class head)) now_is in
+      let shut_at : (key : EndpointPair) → is_open_at key r ≡ false = λ key. ap (λ b. b && is_between key sight && not (is_over r.history)) orphan.shut in
       let slot_is : slot' ≡ slot_of keep r =
       noted_slot number version sight h slot'.notes counts counts' slot'
-      (lone.name ∙ ap (λ (t : Slot). t.name) slot_was)
-      (lone.kind ∙ ap (λ (t : Slot). t.kind) slot_was ∙ sym stray.kind)
-      (lone.version ∙ ap (λ (t : Slot). t.version) slot_was)
+      (as_noted.name ∙ ap (λ (t : RecordUnderWay). t.name) slot_was)
+      (as_noted.kind ∙ ap (λ (t : RecordUnderWay). t.kind) slot_was ∙ sym orphan.kind)
+      (as_noted.version ∙ ap (λ (t : RecordUnderWay). t.version) slot_was)
       refl
-      (lone.drops ∙ ap (λ (t : Slot). t.drops ++ drops_of verdict number) slot_was ∙ sym dropped) noted
-      ∙ ap (λ (g : History). record { name = number; kind = kind_of sight; version = version; notes = record { tally = g.tally; entries = if keep then g.entries else [] }; drops = g.drops }) (sym same) in
+      (as_noted.drops ∙ ap (λ (t : RecordUnderWay). t.drops ++ drops_of verdict number) slot_was ∙ sym dropped) noted
+      ∙ ap (λ (g : History). record {
+        name = number;
+        kind = kind_of sight;
+        version = version;
+        notes = record
+            { tally = g.tally; entries = if keep then g.entries else [] };
+        drops = g.drops;
+      }) (sym same) in
       record {
-        stands = started content flows flows slots slot' counts counts' p pasts stands stray.untaken slot_is
+        stands = started content flows flows slots slot' counts counts' p pasts stands orphan.untaken slot_is
             (noted.callbacks ∙ ap (λ (g : History). counts.callbacks + length g.entries) (sym same))
             (noted.weight ∙ ap (λ (g : History). counts.weight + weight_of g.entries) (sym same))
-            (λ key. unopened told content flows flows pasts r key (shut_at key) refl (stands.placed key))
+            (λ key. unopened registered content flows flows pasts r key (shut_at key) refl (stands.placed key))
             (λ key passes. absurd (is_false_true (is_open_at key r) (shut_at key) passes));
-        interned = stray_costs interns p pasts stray.untaken;
-        verdict_is = lone.passes counts before ∙ ap (orphan_verdict app m.now number) (sym stray.raises) ∙ ap (λ c. orphan_verdict app c number (orphan_raises_of sight)) (sym now_is)
-            ∙ sym (verdict_among-none app control_at p pasts stray.untaken ∙ (rw stray.shut refl));
-        dropped = ap drops_in (placed-new app control_at p pasts stray.untaken) ∙ total-append (λ q. length q.history.drops) pasts r
+        interned = orphan_costs interns p pasts orphan.untaken;
+        verdict_is = as_noted.passes counts before ∙ ap (orphan_verdict app m.now number) (sym orphan.raises) ∙ ap (λ c. orphan_verdict app c number (orphan_raises_of sight)) (sym now_is)
+            ∙ sym (verdict_among-none app control_at p pasts orphan.untaken ∙ (rw orphan.shut refl));
+        dropped = ap drops_in (placed-new app control_at p pasts orphan.untaken) ∙ total-append (λ q. length q.history.drops) pasts r
             ∙ ap (λ ds. drops_in pasts + length ds) (ap (λ (g : History). g.drops) same ∙ dropped);
       }
 
   -- ---- a segment that opens a connection
 
-  pub opening_started : (content content' : Shared → TreeLists) (interns interns' : Option ℕ) (flows after : Flows Connection) (slots : List Slot) (conn' : Connection) (slot' : Slot) (counts counts' : Counts) (key : EndpointPair) (number : ℕ) (moment : Moment) (segment : Segment) (step : Step) (pasts : List RecordSoFar)
+  pub opening_started : (content content' : Shared → TreeLists) (interns interns' : Option ℕ) (flows after : Flows Connection)
+      (slots : List RecordUnderWay) (conn' : Connection) (slot' : RecordUnderWay) (counts counts' : Counts) (key : EndpointPair) (number : ℕ)
+      (moment : Moment) (segment : Segment) (step : Step) (pasts : List RecordSoFar)
       → ((v : ℕ) → Tells m v (control_at v)) → control_at m.version ≡ m.now → ((k : EndpointPair) (x : Connection) → found flows k ≡ Some x → content' x.flow.forest ≡ content x.flow.forest)
-      → AreKept keep told content flows slots counts pasts → key ≡ key_of_segment segment → found flows key ≡ None → opens (Tcp segment) ≡ true
+      → AreKept keep registered content flows slots counts pasts → key ≡ key_of_segment segment → found flows key ≡ None → opens (Tcp segment) ≡ true
       → (o : Opens app keep m content' interns interns' counts counts' (length pasts) number moment segment conn' slot' step)
       → ((other : EndpointPair) → found after other ≡ (if not step.over && same_key key other then Some conn' else found flows other))
       → Started content' interns interns' after (slots ++ slot' ∷ []) counts' (arrived m.version number moment (Tcp segment)) step.verdict pasts
@@ -195,35 +212,42 @@ module _ (app : Meaning) (control_at : ℕ → ControlState) (keep : Bool) (m : 
       let client = o.client in
       let version_is = o.version in
       let last = o.place_is in
-      let new : IsFlow (told conn.version) o.tree conn.flow (fresh app (control_at version)) = subst (λ c. IsFlow (told conn.version) o.tree conn.flow (fresh app c)) (sym now_is) o.new in
+      let new : IsFlow (registered conn.version) o.tree conn.flow (fresh app (control_at version)) = subst (λ c. IsFlow (registered conn.version) o.tree conn.flow (fresh app c)) (sym now_is) o.new in
       let p = arrived version number moment (Tcp segment) in
       let own = key_of_segment segment in
       let r = started_by app control_at p in
       let s = control_at version in
       let h0 = fresh app s in
-      let none : place_of own pasts ≡ None = subst (λ o. IsOpenAt told content o (place_of own pasts) pasts) (ap (λ k. found flows k) (sym key_is) ∙ absent) (stands.placed own) in
+      let none : place_of own pasts ≡ None = subst (λ o. IsOpenAt registered content o (place_of own pasts) pasts) (ap (λ k. found flows k) (sym key_is) ∙ absent) (stands.placed own) in
       let st = o.step_is s (subst (λ v. Tells m v s) (sym version_is) (tells version)) in
-      let notes_were = ap (λ (t : Slot). t.notes) slot_was in
-      let went = st.stands counts h0 (fresh_connection app keep (told conn.version) o.tree conn.flow slot.notes counts s new notes_were) in
+      let notes_were = ap (λ (t : RecordUnderWay). t.notes) slot_was in
+      let went = st.stands counts h0 (fresh_connection app keep (registered conn.version) o.tree conn.flow slot.notes counts s new notes_were) in
       let h1 = stepped app s conn number segment h0 in
       let same : h1 ≡ r.history = rw opening (ap (λ c. followed app s number (side_of c segment) segment.head segment.scale segment.payload h0) client) in
       let noted = went.stands.noted in
       let slot_is : slot' ≡ slot_of keep r =
       noted_slot number version (Tcp segment) h1 slot'.notes counts counts' slot'
-      (ap (λ (t : Slot). t.name) st.noted ∙ ap (λ (t : Slot). t.name) slot_was)
-      (ap (λ (t : Slot). t.kind) st.noted ∙ ap (λ (t : Slot). t.kind) slot_was ∙ ap (λ b. if b then Conn segment.sender segment.receiver else Orphan Class.Tcp) (sym opening))
-      (ap (λ (t : Slot). t.version) st.noted ∙ ap (λ (t : Slot). t.version) slot_was)
+      (ap (λ (t : RecordUnderWay). t.name) st.noted ∙ ap (λ (t : RecordUnderWay). t.name) slot_was)
+      (ap (λ (t : RecordUnderWay). t.kind) st.noted ∙ ap (λ (t : RecordUnderWay). t.kind) slot_was ∙ ap (λ b. if b then Conn segment.sender segment.receiver else Orphan Class.Tcp) (sym opening))
+      (ap (λ (t : RecordUnderWay). t.version) st.noted ∙ ap (λ (t : RecordUnderWay). t.version) slot_was)
       refl
-      (ap (λ (t : Slot). t.drops) st.noted ∙ ap (λ (t : Slot). t.drops ++ drops_of step.verdict number) slot_was ∙ sym went.drops)
+      (ap (λ (t : RecordUnderWay). t.drops) st.noted ∙ ap (λ (t : RecordUnderWay). t.drops ++ drops_of step.verdict number) slot_was ∙ sym went.drops)
       noted
-      ∙ ap (λ (g : History). record { name = number; kind = kind_of (Tcp segment); version = version; notes = record { tally = g.tally; entries = if keep then g.entries else [] }; drops = g.drops }) same in
-      let open_is : IsOpen told content' stepped_open r = record {
+      ∙ ap (λ (g : History). record {
+        name = number;
+        kind = kind_of (Tcp segment);
+        version = version;
+        notes = record
+            { tally = g.tally; entries = if keep then g.entries else [] };
+        drops = g.drops;
+      }) same in
+      let open_is : IsOpen registered content' stepped_open r = record {
         sides = λ t. ap (λ c. side_of c t) (st.client ∙ client);
         version = st.version ∙ version_is;
         last = st.last;
         heard = st.heard;
-        kept = subst (λ v. IsFlow (told v) (content' stepped_open.flow.forest) stepped_open.flow r.history) (sym st.version)
-            (subst (λ g. IsFlow (told conn.version) (content' stepped_open.flow.forest) stepped_open.flow g) same went.stands.kept);
+        kept = subst (λ v. IsFlow (registered v) (content' stepped_open.flow.forest) stepped_open.flow r.history) (sym st.version)
+            (subst (λ g. IsFlow (registered conn.version) (content' stepped_open.flow.forest) stepped_open.flow g) same went.stands.kept);
       } in
       let own_key : (k : EndpointPair) → is_open_at k r ≡ (same_key own k && not step.over) = λ k.
       rw opening (ap (λ b. same_key own k && not b) (ap is_over (sym (ap (λ c. followed app s number (side_of c segment) segment.head segment.scale segment.payload h0) client)) ∙ sym went.over)) in
@@ -231,7 +255,7 @@ module _ (app : Meaning) (control_at : ℕ → ControlState) (keep : Bool) (m : 
         stands = started content' flows after slots slot' counts counts' p pasts
             (record {
               shown = stands.shown;
-              placed = λ k. IsOpenAt-stored keep told content content' (found flows k) (place_of k pasts) pasts (stored k) (stands.placed k);
+              placed = λ k. IsOpenAt-stored keep registered content content' (found flows k) (place_of k pasts) pasts (stored k) (stands.placed k);
               single = stands.single;
               counted = stands.counted;
               weighed = stands.weighed;
@@ -239,25 +263,27 @@ module _ (app : Meaning) (control_at : ℕ → ControlState) (keep : Bool) (m : 
             none slot_is
             (noted.callbacks ∙ ap (λ (g : History). counts.callbacks + length g.entries) same)
             (noted.weight ∙ ap (λ (g : History). counts.weight + weight_of g.entries) same)
-            (λ k. started_at told content' flows after pasts r stepped_open own k step.over (own_key k) none
+            (λ k. started_at registered content' flows after pasts r stepped_open own k step.over (own_key k) none
             (left k ∙ ap (λ w. if not step.over && same_key w k then Some stepped_open else found flows k) key_is) (st.place ∙ last) open_is
-            (IsOpenAt-stored keep told content content' (found flows k) (place_of k pasts) pasts (stored k) (stands.placed k)))
+            (IsOpenAt-stored keep registered content content' (found flows k) (place_of k pasts) pasts (stored k) (stands.placed k)))
             (λ k passes. subst (λ w. place_of w pasts ≡ None) (same_key-equal own k (left_of_and (same_key own k) (not step.over) (sym (own_key k) ∙ passes))) none);
         interned = altered_by interns interns' p pasts none (subst (λ (g : History). InternsWithin interns interns' 0 g.altered) same went.interned);
-        verdict_is = went.verdict_is ∙ ap (λ c. verdict app s number (side_of c segment) segment.head segment.scale h0) client ∙ sym (verdict_among-none app control_at p pasts none ∙ (rw opening refl));
+        verdict_is = went.verdict_is ∙ ap (λ c. verdict app s number (side_of c segment) segment.head segment.scale h0) client
+            ∙ sym (verdict_among-none app control_at p pasts none ∙ (rw opening refl));
         dropped = ap drops_in (placed-new app control_at p pasts none) ∙ total-append (λ q. length q.history.drops) pasts r
             ∙ ap (λ ds. drops_in pasts + length ds) (ap (λ (g : History). g.drops) (sym same) ∙ went.drops);
       }
 
   -- one that failed on its way
-  pub opening_costs : (content : Shared → TreeLists) (interns interns' : Option ℕ) (flows : Flows Connection) (slots : List Slot) (counts : Counts) (key : EndpointPair) (number : ℕ) (moment : Moment) (segment : Segment) (pasts : List RecordSoFar)
-      → control_at m.version ≡ m.now → AreKept keep told content flows slots counts pasts → key ≡ key_of_segment segment → found flows key ≡ None → opens (Tcp segment) ≡ true
+  pub opening_costs : (content : Shared → TreeLists) (interns interns' : Option ℕ) (flows : Flows Connection) (slots : List RecordUnderWay)
+      (counts : Counts) (key : EndpointPair) (number : ℕ) (moment : Moment) (segment : Segment) (pasts : List RecordSoFar)
+      → control_at m.version ≡ m.now → AreKept keep registered content flows slots counts pasts → key ≡ key_of_segment segment → found flows key ≡ None → opens (Tcp segment) ≡ true
       → InternsWithin interns interns' 0 (opened_by app m.now number segment).altered
       → InternsWithin interns interns' (alterations pasts) (alterations (placed app control_at (arrived m.version number moment (Tcp segment)) pasts))
   unfolding history_after
   opening_costs content interns interns' flows slots counts key number moment segment pasts now_is stands key_is absent opening costs =
       let p = arrived m.version number moment (Tcp segment) in
       let own = key_of_segment segment in
-      let none : place_of own pasts ≡ None = subst (λ o. IsOpenAt told content o (place_of own pasts) pasts) (ap (λ k. found flows k) (sym key_is) ∙ absent) (stands.placed own) in
+      let none : place_of own pasts ≡ None = subst (λ o. IsOpenAt registered content o (place_of own pasts) pasts) (ap (λ k. found flows k) (sym key_is) ∙ absent) (stands.placed own) in
       let same : opened_by app m.now number segment ≡ (started_by app control_at p).history = rw opening (ap (λ c. opened_by app c number segment) (sym now_is)) in
       altered_by interns interns' p pasts none (subst (λ (g : History). InternsWithin interns interns' 0 g.altered) same costs)

@@ -8,41 +8,43 @@ use Rattle.shared_forest.specs.Lists.{TreeLists}
 use Rattle.connection_core.specs.declared.ledger.Counts.{Counts}
 use Rattle.connection_core.specs.Standing.{IsFlow}
 use Rattle.lane_core.specs.declared.connection.Connection.{Connection}
-use Rattle.lane_core.specs.declared.slot.Slot.{Slot}
+use Rattle.lane_core.specs.declared.under_way.RecordUnderWay.{RecordUnderWay}
 use Rattle.lane_core.specs.Records.{RecordSoFar}
 use Rattle.lane_core.specs.Shown.{total}
 use Rattle.lane_core.specs.Places.{place_by, place_of, IsSingle}
 use Rattle.lane_core.specs.Kept.{IsOpen, IsOpenAt, AreKept}
 
-module _ (keep : Bool) (told : ℕ → ℕ → Option Reg) where
+module _ (keep : Bool) (registered : ℕ → ℕ → Option Reg) where
   -- no packet yet
-  pub kept-empty : (content : Shared → TreeLists) (flows : Flows Connection) → ((key : EndpointPair) → found flows key ≡ None) → AreKept keep told content flows [] (record { callbacks = 0; weight = 0 }) []
+  pub kept-empty : (content : Shared → TreeLists) (flows : Flows Connection) → ((key : EndpointPair) → found flows key ≡ None)
+      → AreKept keep registered content flows [] (record { callbacks = 0; weight = 0 }) []
   unfolding place_by total IsSingle
   kept-empty content flows none = record {
     shown = refl;
-    placed = λ key. subst (λ o. IsOpenAt told content o (place_of key []) []) (sym (none key)) refl;
+    placed = λ key. subst (λ o. IsOpenAt registered content o (place_of key []) []) (sym (none key)) refl;
     single = λ key. tt;
     counted = refl;
     weighed = refl;
   }
 
-  pub IsOpen-stored : (content content' : Shared → TreeLists) (conn : Connection) (past : RecordSoFar) → content' conn.flow.forest ≡ content conn.flow.forest → IsOpen told content conn past → IsOpen told content' conn past
+  pub IsOpen-stored : (content content' : Shared → TreeLists) (conn : Connection) (past : RecordSoFar)
+      → content' conn.flow.forest ≡ content conn.flow.forest → IsOpen registered content conn past → IsOpen registered content' conn past
   IsOpen-stored content content' conn past same is = record {
     sides = is.sides;
     version = is.version;
     last = is.last;
     heard = is.heard;
-    kept = subst (λ t. IsFlow (told conn.version) t conn.flow past.history) (sym same) is.kept;
+    kept = subst (λ t. IsFlow (registered conn.version) t conn.flow past.history) (sym same) is.kept;
   }
 
   pub IsOpenAt-stored : (content content' : Shared → TreeLists) (o : Option Connection) (place : Option ℕ) (pasts : List RecordSoFar)
-      → ((conn : Connection) → o ≡ Some conn → content' conn.flow.forest ≡ content conn.flow.forest) → IsOpenAt told content o place pasts → IsOpenAt told content' o place pasts
+      → ((conn : Connection) → o ≡ Some conn → content' conn.flow.forest ≡ content conn.flow.forest) → IsOpenAt registered content o place pasts → IsOpenAt registered content' o place pasts
   IsOpenAt-stored content content' None place pasts same none = none
   IsOpenAt-stored content content' (Some conn) place pasts same at = (at.0, λ d. IsOpen-stored content content' conn _ (same conn refl) (at.1 d))
 
-  pub kept-stored : (content content' : Shared → TreeLists) (flows : Flows Connection) (slots : List Slot) (counts : Counts) (pasts : List RecordSoFar)
+  pub kept-stored : (content content' : Shared → TreeLists) (flows : Flows Connection) (slots : List RecordUnderWay) (counts : Counts) (pasts : List RecordSoFar)
       → ((key : EndpointPair) (conn : Connection) → found flows key ≡ Some conn → content' conn.flow.forest ≡ content conn.flow.forest)
-      → AreKept keep told content flows slots counts pasts → AreKept keep told content' flows slots counts pasts
+      → AreKept keep registered content flows slots counts pasts → AreKept keep registered content' flows slots counts pasts
   kept-stored content content' flows slots counts pasts same stands = record {
     shown = stands.shown;
     placed = λ key. IsOpenAt-stored content content' (found flows key) (place_of key pasts) pasts (same key) (stands.placed key);
@@ -52,10 +54,11 @@ module _ (keep : Bool) (told : ℕ → ℕ → Option Reg) where
   }
 
 -- where no open connection took a packet, what was kept is kept still
-pub kept_unfollowed : {S : Type 0} (content : S → Shared → TreeLists) (keep : Bool) (told : ℕ → ℕ → Option Reg) (old new : S) (flows after : Flows Connection) (slots slots' : List Slot) (counts counts' : Counts) (pasts : List RecordSoFar)
-    → after ≡ flows → slots' ≡ slots → new ≡ old → counts' ≡ counts → AreKept keep told (content old) flows slots counts pasts → AreKept keep told (content new) after slots' counts' pasts
-kept_unfollowed content keep told old new flows after slots slots' counts counts' pasts flows_are slots_are store_is counts_are kept =
-    subst (λ n. AreKept keep told (content new) after slots' n pasts) (sym counts_are)
-    (subst (λ s. AreKept keep told (content s) after slots' counts pasts) (sym store_is)
-    (subst (λ ss. AreKept keep told (content old) after ss counts pasts) (sym slots_are)
-    (subst (λ (f : Flows Connection). AreKept keep told (content old) f slots counts pasts) (sym flows_are) kept)))
+pub kept_unfollowed : {S : Type 0} (content : S → Shared → TreeLists) (keep : Bool) (registered : ℕ → ℕ
+    → Option Reg) (old new : S) (flows after : Flows Connection) (slots slots' : List RecordUnderWay) (counts counts' : Counts) (pasts : List RecordSoFar)
+    → after ≡ flows → slots' ≡ slots → new ≡ old → counts' ≡ counts → AreKept keep registered (content old) flows slots counts pasts → AreKept keep registered (content new) after slots' counts' pasts
+kept_unfollowed content keep registered old new flows after slots slots' counts counts' pasts flows_are slots_are store_is counts_are kept =
+    subst (λ n. AreKept keep registered (content new) after slots' n pasts) (sym counts_are)
+    (subst (λ s. AreKept keep registered (content s) after slots' counts pasts) (sym store_is)
+    (subst (λ ss. AreKept keep registered (content old) after ss counts pasts) (sym slots_are)
+    (subst (λ (f : Flows Connection). AreKept keep registered (content old) f slots counts pasts) (sym flows_are) kept)))

@@ -18,7 +18,8 @@ stepped_case P true o after x here others is = subst P (same_Some after x is) he
 stepped_case P false o after x here others is = others x is
 
 -- one makes a step: it has what it has after, and the others what they have then
-pub all_stepped : (P Q : Connection → Type 0) (old new : Flows Connection) (key : EndpointPair) (after : Connection) → ((other : EndpointPair) → found new other ≡ (if same_key key other then Some after else found old other))
+pub all_stepped : (P Q : Connection → Type 0) (old new : Flows Connection) (key : EndpointPair) (after : Connection)
+    → ((other : EndpointPair) → found new other ≡ (if same_key key other then Some after else found old other))
     → Q after → ((key : EndpointPair) (x : Connection) → found old key ≡ Some x → P x → Q x) → AllOpen P old → AllOpen Q new
 all_stepped P Q old new key after left here others all q x is =
     stepped_case Q (same_key key q) (found old q) after x here (λ y there. others q y there (all q y there)) (sym (left q) ∙ is)
@@ -68,13 +69,15 @@ trees_kept m answered content old new flows kept there all q x is =
 
 -- ---- a step of one connection
 
-pub answered_stepped : {S : Type 0} (answered : S → Shared → Type 0) (content : S → Shared → TreeLists) (store store_after : S) (old new : Flows Connection) (key : EndpointPair) (after : Connection) → Keeps answered content store store_after
+pub answered_stepped : {S : Type 0} (answered : S → Shared → Type 0) (content : S → Shared
+    → TreeLists) (store store_after : S) (old new : Flows Connection) (key : EndpointPair) (after : Connection) → Keeps answered content store store_after
     → ((other : EndpointPair) → found new other ≡ (if same_key key other then Some after else found old other)) → answered store_after after.flow.forest
     → AreAnswered (answered store) old → AreAnswered (answered store_after) new
 answered_stepped answered content store store_after old new key after kept left here all =
     all_stepped (λ x. answered store x.flow.forest) (λ x. answered store_after x.flow.forest) old new key after left here (λ q x there a. kept.still_answered x.flow.forest a) all
 
-pub trees_stepped : {S : Type 0} (m : Versions) (answered : S → Shared → Type 0) (content : S → Shared → TreeLists) (store store_after : S) (old new : Flows Connection) (key : EndpointPair) (after : Connection) → Keeps answered content store store_after
+pub trees_stepped : {S : Type 0} (m : Versions) (answered : S → Shared → Type 0) (content : S → Shared
+    → TreeLists) (store store_after : S) (old new : Flows Connection) (key : EndpointPair) (after : Connection) → Keeps answered content store store_after
     → ((other : EndpointPair) → found new other ≡ (if same_key key other then Some after else found old other)) → IsTree m after.version (content store_after after.flow.forest)
     → AreAnswered (answered store) old → AreTrees m (content store) old → AreTrees m (content store_after) new
 trees_stepped m answered content store store_after old new key after kept left here there all =
@@ -88,7 +91,8 @@ short_longer n m flows less all q x is = let short = all q x is in omega (arith,
 short_on : (n count count_after : ℕ) → count ≤ n → count_after ≤ count + 1 → count_after ≤ n + 1
 short_on n count count_after short one = omega arith
 
-pub short_stepped : (n : ℕ) (old new : Flows Connection) (key : EndpointPair) (conn after : Connection) → ((other : EndpointPair) → found new other ≡ (if same_key key other then Some after else found old other))
+pub short_stepped : (n : ℕ) (old new : Flows Connection) (key : EndpointPair) (conn after : Connection)
+    → ((other : EndpointPair) → found new other ≡ (if same_key key other then Some after else found old other))
     → found old key ≡ Some conn → after.flow.count ≤ conn.flow.count + 1 → AreShort n old → AreShort (n + 1) new
 short_stepped n old new key conn after left was one all =
     all_stepped (λ x. x.flow.count ≤ n) (λ x. x.flow.count ≤ n + 1) old new key after left

@@ -28,8 +28,8 @@ use Rattle.event_trees.specs.Fires.{is_called, fires}
 use Rattle.report_text.specs.declared.record.RecordKind.TheVariants.{Conn, Orphan}
 use Rattle.report_text.specs.Tidy.{is_event, is_tidy_seen, is_tidy_entry, may_have, are_named, is_tidy_record, tidy}
 use Rattle.forest_versions.specs.State.{ControlState}
-use Rattle.connection_core.specs.Course.{Course, seen_by, is_on, is_so, altered_to, switched, changed, changed_all, settled, called, called_all, called_at, raised, raise_done, phase}
-use Rattle.connection_core.specs.History.{History, fresh, begin, go_on, sender_phase, receiver_phase, received_unless, followed, lone_course, orphaned, verdict_of, drops_of}
+use Rattle.connection_core.specs.PacketUnderWay.{PacketUnderWay, seen_by, is_on, is_so, altered_to, switched, changed, changed_all, settled, called, called_all, called_at, raised, raise_done, phase}
+use Rattle.connection_core.specs.History.{History, fresh, begin, go_on, sender_phase, receiver_phase, received_unless, followed, orphan_under_way, orphan_history, verdict_of, drops_of}
 use Rattle.connection_core.specs.Silence.{silenced}
 use Rattle.lane_core.specs.Sight.{Sight, Tcp, Other, Moment, Arrival}
 use Rattle.lane_core.specs.Records.{RecordSoFar, VersionedPacket, opens, belongs_to, side_in, history_after, orphan_raises_of, timer_raise_of, continued_by, ended_before, ended_at, placed, added, records_from}
@@ -81,54 +81,54 @@ seen_tidy from (At place n) e = pieces_have_bytes from place n e
 -- ---- the callbacks of a packet
 
 -- the private list is of events, and the callbacks are tidy
-record IsTidyCourse (c : Course) : Type 0 where
+record IsTidyUnderWay (c : PacketUnderWay) : Type 0 where
   events : AreEvents c.active
   entries : list_all is_tidy_entry c.entries ≡ true
 
 module _ (app : Meaning) (control : ControlState) (are : AreEvents control.regs) (number : ℕ) (from : Side) where
-  called_tidy : (raise : Raise) (c : Course) (r : Reg) → is_event r.event ≡ true → IsTidyCourse c → IsTidyCourse (called app control number from raise c r)
+  called_tidy : (raise : Raise) (c : PacketUnderWay) (r : Reg) → is_event r.event ≡ true → IsTidyUnderWay c → IsTidyUnderWay (called app control number from raise c r)
   unfolding called
   called_tidy raise c r event t = record {
     events = t.events;
     entries = list_all-append is_tidy_entry c.entries _ ∙ both _ _ t.entries (rw (event, seen_tidy from r.peek c.emulation) refl);
   }
 
-  all_tidy : (raise : Raise) (rs : List Reg) (c : Course) → AreEvents rs → IsTidyCourse c → IsTidyCourse (called_all app control number from raise c rs)
+  all_tidy : (raise : Raise) (rs : List Reg) (c : PacketUnderWay) → AreEvents rs → IsTidyUnderWay c → IsTidyUnderWay (called_all app control number from raise c rs)
   all_tidy raise [] c events t = t
   all_tidy raise (r ∷ rs) c events t =
       all_tidy raise rs (called app control number from raise c r) (rest_of (is_event r.event) _ events) (called_tidy raise c r (first_of (is_event r.event) _ events) t)
 
-  called_at_tidy : (raise : Raise) (c : Course) → IsTidyCourse c → IsTidyCourse (called_at app control number from raise c)
+  called_at_tidy : (raise : Raise) (c : PacketUnderWay) → IsTidyUnderWay c → IsTidyUnderWay (called_at app control number from raise c)
   unfolding called_at
   called_at_tidy raise c t =
       all_tidy raise (fires control.defs raise.facts raise.hook raise.event c.active) c (filtered (is_called control.defs raise.facts raise.hook raise.event) c.active t.events) t
 
-  raised_tidy : (raises : List Raise) (c : Course) → IsTidyCourse c → IsTidyCourse (raised app control number from raises c)
+  raised_tidy : (raises : List Raise) (c : PacketUnderWay) → IsTidyUnderWay c → IsTidyUnderWay (raised app control number from raises c)
   unfolding raised
   raised_tidy [] c t = t
   raised_tidy (raise ∷ raises) c t = raised_tidy raises (called_at app control number from raise c) (called_at_tidy raise c t)
 
-  switched_tidy : (o : Option Reg) (on : Bool) (c : Course) → ((r : Reg) → o ≡ Some r → is_event r.event ≡ true) → IsTidyCourse c → IsTidyCourse (switched control o on c)
+  switched_tidy : (o : Option Reg) (on : Bool) (c : PacketUnderWay) → ((r : Reg) → o ≡ Some r → is_event r.event ≡ true) → IsTidyUnderWay c → IsTidyUnderWay (switched control o on c)
   switched_tidy None on c event t = t
   switched_tidy (Some r) on c event t =
-      elim (is_so (is_on r.number c.active) on) as (λ b. IsTidyCourse (if b then c else altered_to (edited control.defs c.active r on) c)) [
+      elim (is_so (is_on r.number c.active) on) as (λ b. IsTidyUnderWay (if b then c else altered_to (edited control.defs c.active r on) c)) [
         | true ↦ t
         | false ↦ record { events = edits control.defs r c.active on (event r refl) t.events; entries = t.entries }
       ]
 
-  changed_tidy : (changes : List Change1) (c : Course) → IsTidyCourse c → IsTidyCourse (changed_all control changes c)
+  changed_tidy : (changes : List Change1) (c : PacketUnderWay) → IsTidyUnderWay c → IsTidyUnderWay (changed_all control changes c)
   unfolding changed
   changed_tidy [] c t = t
   changed_tidy (change ∷ changes) c t =
       changed_tidy changes (changed control change c) (switched_tidy (reg_of control.regs change.reg) change.on c (λ r is. looked_up change.reg control.regs r are is) t)
 
-  raise_tidy : (raise : Raise) (c : Course) → IsTidyCourse c → IsTidyCourse (raise_done app control number from raise c)
+  raise_tidy : (raise : Raise) (c : PacketUnderWay) → IsTidyUnderWay c → IsTidyUnderWay (raise_done app control number from raise c)
   unfolding raise_done settled
   raise_tidy raise c t =
       let called = called_at app control number from raise c in
       let d = changed_tidy called.asked called (called_at_tidy raise c t) in record { events = d.events; entries = d.entries }
 
-  phase_tidy : (raises : List Raise) (c : Course) → IsTidyCourse c → IsTidyCourse (phase app control number from raises c)
+  phase_tidy : (raises : List Raise) (c : PacketUnderWay) → IsTidyUnderWay c → IsTidyUnderWay (phase app control number from raises c)
   unfolding phase
   phase_tidy [] c t = t
   phase_tidy (raise ∷ raises) c t = phase_tidy raises (raise_done app control number from raise c) (raise_tidy raise c t)
@@ -161,7 +161,8 @@ record IsTidyHistory (n : ℕ) (h : History) : Type 0 where
 later_history : (n m : ℕ) (h : History) → n ≤ m → IsTidyHistory n h → IsTidyHistory m h
 later_history n m h less t = record { events = t.events; entries = t.entries; drops = later_below 0 n m h.drops less t.drops }
 
-unless_tidy : (n number : ℕ) (o : Option Reason) (s r : Course) (h : History) → n ≤ number → RisesBelow 0 n h.drops → IsTidyCourse s → IsTidyCourse r → IsTidyHistory (number + 1) (received_unless o number s r h)
+unless_tidy : (n number : ℕ) (o : Option Reason) (s r : PacketUnderWay) (h : History) → n ≤ number → RisesBelow 0 n h.drops → IsTidyUnderWay s
+    → IsTidyUnderWay r → IsTidyHistory (number + 1) (received_unless o number s r h)
 unless_tidy n number None s r h less drops ts tr = record { events = tr.events; entries = tr.entries; drops = later_below 0 n (number + 1) h.drops (omega arith) drops }
 unless_tidy n number (Some reason) s r h less drops ts tr = record { events = ts.events; entries = ts.entries; drops = one_below 0 n number reason h.drops less drops }
 
@@ -193,10 +194,10 @@ module _ (app : Meaning) (control : ControlState) (are : AreEvents control.regs)
   fresh_tidy : IsTidyHistory 0 (fresh app control)
   fresh_tidy = record { events = filtered (λ r. r.on) control.regs are; entries = refl; drops = omega arith }
 
-  orphaned_tidy : (number : ℕ) (raises : List Raise) → IsTidyHistory (number + 1) (orphaned app control number raises)
-  unfolding orphaned
-  orphaned_tidy number raises =
-      let c = lone_course app control number raises in
+  orphan_tidy : (number : ℕ) (raises : List Raise) → IsTidyHistory (number + 1) (orphan_history app control number raises)
+  unfolding orphan_history
+  orphan_tidy number raises =
+      let c = orphan_under_way app control number raises in
       let t = raised_tidy app control are number _ raises _ (record { events = fresh_tidy.events; entries = refl }) in
       record { events = t.events; entries = t.entries; drops = drops_below number (verdict_of c.drop) }
 
@@ -207,9 +208,9 @@ module _ (app : Meaning) (control : ControlState) (are : AreEvents control.regs)
       record { events = c.events; entries = c.entries; drops = t.drops }
 
   first_tidy : (a : Arrival) (opening : Bool)
-      → IsTidyHistory (a.number + 1) (if opening then history_after app control a.sight a (fresh app control) else orphaned app control a.number (orphan_raises_of a.sight))
+      → IsTidyHistory (a.number + 1) (if opening then history_after app control a.sight a (fresh app control) else orphan_history app control a.number (orphan_raises_of a.sight))
   first_tidy a true = after_tidy 0 a.sight a (fresh app control) (omega arith) fresh_tidy
-  first_tidy a false = orphaned_tidy a.number (orphan_raises_of a.sight)
+  first_tidy a false = orphan_tidy a.number (orphan_raises_of a.sight)
 
 -- ---- the records
 

@@ -9,7 +9,8 @@ use Rattle.lane_core.specs.Places.{further, place_by}
 use Rattle.lane_core.proofs.Places.{none_here}
 
 module _ (app : Meaning) (control_at : ℕ → ControlState) where
-  pub verdict_among-none : (s : VersionedPacket) (pasts : List RecordSoFar) → place_by (belongs_to s.arrival.sight) pasts ≡ None → verdict_among app control_at s pasts ≡ first_verdict app (control_at s.version) s.arrival
+  pub verdict_among-none : (s : VersionedPacket) (pasts : List RecordSoFar) → place_by (belongs_to s.arrival.sight) pasts ≡ None
+      → verdict_among app control_at s pasts ≡ first_verdict app (control_at s.version) s.arrival
   unfolding verdict_among place_by
   verdict_among-none s [] none = refl
   verdict_among-none s (past ∷ pasts) none =

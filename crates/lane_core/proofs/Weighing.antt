@@ -14,7 +14,7 @@ use Rattle.builtin_events.specs.declared.raise.Raise.{Raise}
 use Rattle.event_trees.specs.Fires.{fires}
 use Rattle.event_trees.specs.Private.{edited}
 use Rattle.forest_versions.specs.State.{ControlState}
-use Rattle.connection_core.specs.Course.{Course, is_on, is_so, altered_to, switched, changed, changed_all, settled, called, called_all, called_at, raise_done, phase}
+use Rattle.connection_core.specs.PacketUnderWay.{PacketUnderWay, is_on, is_so, altered_to, switched, changed, changed_all, settled, called, called_all, called_at, raise_done, phase}
 use Rattle.connection_core.specs.History.{History, begin, sender_phase, receiver_phase, received_unless, followed, weight_of}
 use Rattle.connection_core.specs.Silence.{silenced}
 use Rattle.lane_core.specs.Sight.{Sight, Tcp, Other, Moment, Arrival}
@@ -43,40 +43,41 @@ heavier es fs more =
     let sum = ap weight_of more.1 ∙ weight_of-append es more.0 in omega (arith, sum)
 
 module _ (app : Meaning) (control : ControlState) (number : ℕ) (from : Side) where
-  called_more : (raise : Raise) (c : Course) (r : Reg) → Extends c.entries (called app control number from raise c r).entries
+  called_more : (raise : Raise) (c : PacketUnderWay) (r : Reg) → Extends c.entries (called app control number from raise c r).entries
   unfolding called
   called_more raise c r = (_, refl)
 
-  all_more : (raise : Raise) (rs : List Reg) (c : Course) → Extends c.entries (called_all app control number from raise c rs).entries
+  all_more : (raise : Raise) (rs : List Reg) (c : PacketUnderWay) → Extends c.entries (called_all app control number from raise c rs).entries
   all_more raise [] c = same c.entries
   all_more raise (r ∷ rs) c =
       let d = called app control number from raise c r in
       following c.entries d.entries (called_all app control number from raise d rs).entries (called_more raise c r) (all_more raise rs d)
 
-  switched_same : (o : Option Reg) (on : Bool) (c : Course) → (switched control o on c).entries ≡ c.entries
+  switched_same : (o : Option Reg) (on : Bool) (c : PacketUnderWay) → (switched control o on c).entries ≡ c.entries
   switched_same None on c = refl
-  switched_same (Some r) on c = elim (is_so (is_on r.number c.active) on) as (λ b. (if b then c else altered_to (edited control.defs c.active r on) c).entries ≡ c.entries) [ true ↦ refl | false ↦ refl ]
+  switched_same (Some r) on c = elim (is_so (is_on r.number c.active) on)
+      as (λ b. (if b then c else altered_to (edited control.defs c.active r on) c).entries ≡ c.entries) [ true ↦ refl | false ↦ refl ]
 
-  changed_same : (changes : List Change1) (c : Course) → (changed_all control changes c).entries ≡ c.entries
+  changed_same : (changes : List Change1) (c : PacketUnderWay) → (changed_all control changes c).entries ≡ c.entries
   unfolding changed
   changed_same [] c = refl
   changed_same (change ∷ changes) c =
       changed_same changes (changed control change c) ∙ switched_same (reg_of control.regs change.reg) change.on c
 
-  raise_more : (raise : Raise) (c : Course) → Extends c.entries (raise_done app control number from raise c).entries
+  raise_more : (raise : Raise) (c : PacketUnderWay) → Extends c.entries (raise_done app control number from raise c).entries
   unfolding raise_done settled called_at
   raise_more raise c =
       let d = called_at app control number from raise c in
       subst (Extends c.entries) (sym (changed_same d.asked d)) (all_more raise (fires control.defs raise.facts raise.hook raise.event c.active) c)
 
-  phase_more : (raises : List Raise) (c : Course) → Extends c.entries (phase app control number from raises c).entries
+  phase_more : (raises : List Raise) (c : PacketUnderWay) → Extends c.entries (phase app control number from raises c).entries
   unfolding phase
   phase_more [] c = same c.entries
   phase_more (raise ∷ raises) c =
       let d = raise_done app control number from raise c in
       following c.entries d.entries (phase app control number from raises d).entries (raise_more raise c) (phase_more raises d)
 
-  unless_more : (o : Option Reason) (s r : Course) (h : History) → Extends h.entries s.entries → Extends s.entries r.entries → Extends h.entries (received_unless o number s r h).entries
+  unless_more : (o : Option Reason) (s r : PacketUnderWay) (h : History) → Extends h.entries s.entries → Extends s.entries r.entries → Extends h.entries (received_unless o number s r h).entries
   unless_more None s r h one two = following h.entries s.entries r.entries one two
   unless_more (Some reason) s r h one two = one
 

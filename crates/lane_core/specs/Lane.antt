@@ -9,7 +9,7 @@ use Rattle.event_trees.specs.declared.defs.EventDef.{EventDef}
 use Rattle.event_trees.specs.Edit.{IsForestOf}
 use Rattle.report_text.specs.declared.record.Record.{Record}
 use Rattle.forest_versions.specs.Master.{Versions, StandsFor}
-use Rattle.connection_core.specs.InForce.{told_at}
+use Rattle.connection_core.specs.InForce.{registered_at}
 use Rattle.lane_core.specs.declared.errors.LaneError.{LaneError}
 use Rattle.lane_core.specs.declared.errors.LaneError.TheVariants.{Heavy}
 use Rattle.lane_core.specs.declared.kept.Kept.{Kept}
@@ -80,7 +80,7 @@ IsTreeFound defs (Some connection) (Some tree) = IsForestOf defs connection.hist
 pub record IsRun (app : Meaning) (keep : Bool) (m : Versions) (content : Shared → TreeLists) (kept : Kept) (next : ℕ) (failed : Option LaneError) (events : List LaneEvent) : Type 0 where
   pub newest : newest_of events ≡ newest_by next
   pub commands : failed ≡ None → StandsFor m app.presets (commands_of events)
-  pub records : failed ≡ None → Keeps keep (told_at m) content kept (lane_run app events)
+  pub records : failed ≡ None → Keeps keep (registered_at m) content kept (lane_run app events)
   pub dropped : failed ≡ None → kept.dropped ≡ drops_of (lane_run app events)
   pub heavy : failed ≡ Some Heavy → IsHeavy app events
 

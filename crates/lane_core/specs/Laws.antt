@@ -13,7 +13,7 @@ use Rattle.app_api.specs.declared.registration.Reg.{Reg}
 use Rattle.report_text.specs.Tidy.{is_event, tidy}
 use Rattle.flow_table.specs.Key.{EndpointPair}
 use Rattle.forest_versions.specs.State.{ControlState, start, master, active as first_active}
-use Rattle.connection_core.specs.History.{History, followed, orphaned}
+use Rattle.connection_core.specs.History.{History, followed, orphan_history}
 use Rattle.forest_versions.specs.declared.command.Command.{Command}
 use Rattle.lane_core.specs.Sight.{Segment, Sight, Tcp, Other, Moment, Arrival, key_of_segment}
 use Rattle.lane_core.specs.Run.{LaneEvent, Gave, Arrived, commands_of, packets_of, versioned_from, control_of, lane_run, ended_run, newest_of}
@@ -80,7 +80,7 @@ pub record PresetsAreCalled : Type 0 where
   pub stay : (number : ℕ) (side : Side) (segment : Segment) (h : History) → h.active ≡ first_active (start log.presets)
       → (followed log (start log.presets) number side segment.head segment.scale segment.payload h).active ≡ h.active
   pub orphan : (number : ℕ) (sight : Sight)
-      → (orphaned log (start log.presets) number (orphan_raises_of sight)).entries ≡ at_orphan number ∷ []
+      → (orphan_history log (start log.presets) number (orphan_raises_of sight)).entries ≡ at_orphan number ∷ []
 
 -- ---- the records of a lawful application
 

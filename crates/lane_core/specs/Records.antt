@@ -19,7 +19,7 @@ use Rattle.flow_timers.specs.Moments.{is_idle}
 use Rattle.builtin_events.specs.declared.raise.Raise.{Raise}
 use Rattle.builtin_events.specs.Raises.{orphan_raises, timer_raise}
 use Rattle.forest_versions.specs.State.{ControlState}
-use Rattle.connection_core.specs.History.{History, fresh, followed, verdict, orphaned, orphan_verdict, is_over}
+use Rattle.connection_core.specs.History.{History, fresh, followed, verdict, orphan_history, orphan_verdict, is_over}
 use Rattle.connection_core.specs.Silence.{silenced}
 use Rattle.lane_core.specs.Sight.{Segment, Sight, Tcp, Other, Moment, Arrival, key_of_segment}
 
@@ -102,7 +102,7 @@ history_after app control opener a h = elim a.sight [
 abbrev pub first_history : Meaning → ControlState → Arrival → History
 first_history app control a =
     if opens a.sight then history_after app control a.sight a (fresh app control)
-    else orphaned app control a.number (orphan_raises_of a.sight)
+    else orphan_history app control a.number (orphan_raises_of a.sight)
 
 -- what becomes of a packet of the connection that a packet opened
 unfoldable pub verdict_after : Meaning → ControlState → Sight → Arrival → History → Verdict

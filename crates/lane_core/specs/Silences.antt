@@ -15,12 +15,12 @@ use Rattle.report_text.specs.declared.record.RecordKind.TheVariants.{Conn, Orpha
 use Rattle.forest_versions.specs.State.{ControlState}
 use Rattle.forest_versions.specs.Master.{Versions, Tells}
 use Rattle.connection_core.specs.declared.ledger.Counts.{Counts}
-use Rattle.connection_core.specs.InForce.{told_at}
+use Rattle.connection_core.specs.InForce.{registered_at}
 use Rattle.connection_core.specs.History.{History}
 use Rattle.connection_core.specs.Silence.{silenced}
 use Rattle.connection_core.specs.Standing.{IsConnection, IsNoted}
 use Rattle.lane_core.specs.declared.connection.Connection.{Connection}
-use Rattle.lane_core.specs.declared.slot.Slot.{Slot}
+use Rattle.lane_core.specs.declared.under_way.RecordUnderWay.{RecordUnderWay}
 use Rattle.lane_core.specs.Sight.{Moment}
 use Rattle.lane_core.specs.Records.{is_past}
 
@@ -52,22 +52,22 @@ abbrev pub IsPutWhere : Bool → Flows Connection → Flows Connection → Endpo
 IsPutWhere is old new key entry = (other : EndpointPair) → found new other ≡ (if is && same_key key other then entry else found old other)
 
 -- a history after its end by idleness
-abbrev pub silent_history : Meaning → ControlState → Connection → Slot → History → History
+abbrev pub silent_history : Meaning → ControlState → Connection → RecordUnderWay → History → History
 silent_history app control conn slot h = silenced app control conn.last (raise_in slot.kind conn.flow.count) h
 
 -- the record under way of a connection was called for
-pub record Silenced (app : Meaning) (keep : Bool) (m : Versions) (tree : TreeLists) (conn : Connection) (slot slot_after : Slot) (counts counts_after : Counts) : Type 0 where
+pub record Silenced (app : Meaning) (keep : Bool) (m : Versions) (tree : TreeLists) (conn : Connection) (slot slot_after : RecordUnderWay) (counts counts_after : Counts) : Type 0 where
   pub noted : slot_after ≡ record slot { notes = slot_after.notes }
   pub stands : (control : ControlState) (others : Counts) (h : History) → Tells m conn.version control
-      → IsConnection keep others (told_at m conn.version) tree conn.flow slot.notes counts h
+      → IsConnection keep others (registered_at m conn.version) tree conn.flow slot.notes counts h
       → IsNoted keep others (silent_history app control conn slot h).tally (silent_history app control conn slot h).entries slot_after.notes counts_after
 
 -- the open connection of a key was silent for too long: it ended, and all else is as it was
 pub record Silences (app : Meaning) (keep : Bool) (m : Versions) (content : Shared → TreeLists) (old new : Flows Connection)
-    (slots slots_after : List Slot) (counts counts_after : Counts) (key : EndpointPair) (now : Moment) : Type 0 where
+    (slots slots_after : List RecordUnderWay) (counts counts_after : Counts) (key : EndpointPair) (now : Moment) : Type 0 where
   pub conn : Connection
-  pub slot : Slot
-  pub slot_after : Slot
+  pub slot : RecordUnderWay
+  pub slot_after : RecordUnderWay
   pub was : found old key ≡ Some conn
   pub silent : IsSilent m conn now true
   pub slot_is : slot ≡ get_or slots conn.place slot
@@ -76,7 +76,7 @@ pub record Silences (app : Meaning) (keep : Bool) (m : Versions) (content : Shar
   pub slots_are : slots_after ≡ slice_set slots conn.place slot_after
 
 -- no open connection of a key was silent for too long, and all is as it was
-pub record Goes (m : Versions) (old new : Flows Connection) (slots slots_after : List Slot) (counts counts_after : Counts) (key : EndpointPair) (now : Moment) : Type 0 where
+pub record Goes (m : Versions) (old new : Flows Connection) (slots slots_after : List RecordUnderWay) (counts counts_after : Counts) (key : EndpointPair) (now : Moment) : Type 0 where
   pub heard : IsHeard m now (found old key)
   pub flows_are : new ≡ old
   pub slots_are : slots_after ≡ slots

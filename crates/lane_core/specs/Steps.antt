@@ -11,14 +11,14 @@ use Rattle.report_text.specs.declared.record.RecordKind.TheVariants.{Conn}
 use Rattle.forest_versions.specs.State.{ControlState}
 use Rattle.forest_versions.specs.Master.{Versions, Tells}
 use Rattle.app_api.specs.declared.reaction.Verdict.{Verdict}
-use Rattle.connection_core.specs.InForce.{told_at}
+use Rattle.connection_core.specs.InForce.{registered_at}
 use Rattle.connection_core.specs.declared.flow.Step.{Step}
 use Rattle.connection_core.specs.declared.ledger.Counts.{Counts}
-use Rattle.connection_core.specs.History.{History, fresh, followed, verdict, orphaned, orphan_verdict, drops_of, is_over}
+use Rattle.connection_core.specs.History.{History, fresh, followed, verdict, orphan_history, orphan_verdict, drops_of, is_over}
 use Rattle.connection_core.specs.Standing.{IsFlow, IsConnection, IsNoted}
 use Rattle.connection_core.specs.Trees.{InternsWithin}
 use Rattle.lane_core.specs.declared.connection.Connection.{Connection}
-use Rattle.lane_core.specs.declared.slot.Slot.{Slot}
+use Rattle.lane_core.specs.declared.under_way.RecordUnderWay.{RecordUnderWay}
 use Rattle.lane_core.specs.declared.kept.Kept.{Kept}
 use Rattle.lane_core.specs.Sight.{Segment, Moment}
 use Rattle.lane_core.specs.End.{new_slot}
@@ -32,7 +32,7 @@ stepped app control conn number segment h =
 
 -- a connection's step, of which nothing else is known than the registrations by their numbers, the trees, and the interns
 pub record Stepping (app : Meaning) (keep : Bool) (at : ℕ → Option Reg) (control : ControlState) (others : Counts)
-    (tree tree_after : TreeLists) (interns interns_after : Option ℕ) (conn conn_after : Connection) (slot slot_after : Slot) (counts counts_after : Counts)
+    (tree tree_after : TreeLists) (interns interns_after : Option ℕ) (conn conn_after : Connection) (slot slot_after : RecordUnderWay) (counts counts_after : Counts)
     (number : ℕ) (segment : Segment) (step : Step) (h : History) : Type 0 where
   pub stands : IsConnection keep others at tree_after conn_after.flow slot_after.notes counts_after (stepped app control conn number segment h)
   pub interned : InternsWithin interns interns_after h.altered (stepped app control conn number segment h).altered
@@ -41,12 +41,12 @@ pub record Stepping (app : Meaning) (keep : Bool) (at : ℕ → Option Reg) (con
   pub drops : (stepped app control conn number segment h).drops ≡ h.drops ++ drops_of step.verdict number
 
 -- a record under way with other notes, and with what this verdict adds to its dropped packets
-abbrev pub noted_in : Slot → Slot → Step → ℕ → Slot
+abbrev pub noted_in : RecordUnderWay → RecordUnderWay → Step → ℕ → RecordUnderWay
 noted_in slot after step number = record slot { notes = after.notes; drops = slot.drops ++ drops_of step.verdict number }
 
 -- an open connection and its record under way after one more packet
 pub record IsStep (app : Meaning) (keep : Bool) (at : ℕ → Option Reg) (control : ControlState)
-    (tree tree_after : TreeLists) (interns interns_after : Option ℕ) (conn conn_after : Connection) (slot slot_after : Slot) (counts counts_after : Counts)
+    (tree tree_after : TreeLists) (interns interns_after : Option ℕ) (conn conn_after : Connection) (slot slot_after : RecordUnderWay) (counts counts_after : Counts)
     (number : ℕ) (moment : Moment) (segment : Segment) (step : Step) : Type 0 where
   pub place : conn_after.place ≡ conn.place
   pub client : conn_after.client ≡ conn.client
@@ -59,20 +59,21 @@ pub record IsStep (app : Meaning) (keep : Bool) (at : ℕ → Option Reg) (contr
 
 -- a connection's step, which may have failed on its way, cost at most one intern for each alteration that it makes
 pub record StepCosts (app : Meaning) (keep : Bool) (at : ℕ → Option Reg) (control : ControlState) (tree : TreeLists) (interns interns_after : Option ℕ)
-    (conn : Connection) (slot : Slot) (counts : Counts) (number : ℕ) (segment : Segment) : Type 0 where
+    (conn : Connection) (slot : RecordUnderWay) (counts : Counts) (number : ℕ) (segment : Segment) : Type 0 where
   pub interned : (others : Counts) (h : History) → IsConnection keep others at tree conn.flow slot.notes counts h
       → InternsWithin interns interns_after h.altered (stepped app control conn number segment h).altered
 
 -- the same of a step, and of its cost, under whatever the master tells of the connection's version
-abbrev pub IsStepUnder : Meaning → Bool → Versions → TreeLists → TreeLists → Option ℕ → Option ℕ → Connection → Connection → Slot → Slot → Counts → Counts → ℕ → Moment → Segment → Step → Type 0
+abbrev pub IsStepUnder : Meaning → Bool → Versions → TreeLists → TreeLists → Option ℕ → Option ℕ → Connection → Connection → RecordUnderWay
+    → RecordUnderWay → Counts → Counts → ℕ → Moment → Segment → Step → Type 0
 IsStepUnder app keep m tree tree_after interns interns_after conn conn_after slot slot_after counts counts_after number moment segment step =
     (control : ControlState) → Tells m conn.version control
-    → IsStep app keep (told_at m conn.version) control tree tree_after interns interns_after conn conn_after slot slot_after counts counts_after number moment segment step
+    → IsStep app keep (registered_at m conn.version) control tree tree_after interns interns_after conn conn_after slot slot_after counts counts_after number moment segment step
 
-abbrev pub StepCostsUnder : Meaning → Bool → Versions → TreeLists → Option ℕ → Option ℕ → Connection → Slot → Counts → ℕ → Segment → Type 0
+abbrev pub StepCostsUnder : Meaning → Bool → Versions → TreeLists → Option ℕ → Option ℕ → Connection → RecordUnderWay → Counts → ℕ → Segment → Type 0
 StepCostsUnder app keep m tree interns interns_after conn slot counts number segment =
     (control : ControlState) → Tells m conn.version control
-    → StepCosts app keep (told_at m conn.version) control tree interns interns_after conn slot counts number segment
+    → StepCosts app keep (registered_at m conn.version) control tree interns interns_after conn slot counts number segment
 
 -- a connection's history after the segment that opens it
 abbrev pub opened_by : Meaning → ControlState → ℕ → Segment → History
@@ -80,24 +81,25 @@ opened_by app control number segment =
     followed app control number (side_of segment.sender segment)
     segment.head segment.scale segment.payload (fresh app control)
 
--- a packet of no connection was called for: `slot` is a record of no callback
-pub record IsLone (app : Meaning) (keep : Bool) (control : ControlState) (slot slot_after : Slot) (counts counts_after : Counts) (number : ℕ) (raises : List Raise) (verdict_is : Verdict) : Type 0 where
+-- a packet of no connection was called for: `slot` is a record under way of no callback
+pub record IsOrphanNoted (app : Meaning) (keep : Bool) (control : ControlState) (slot slot_after : RecordUnderWay) (counts counts_after : Counts)
+    (number : ℕ) (raises : List Raise) (verdict_is : Verdict) : Type 0 where
   pub name : slot_after.name ≡ slot.name
   pub kind : slot_after.kind ≡ slot.kind
   pub version : slot_after.version ≡ slot.version
   pub drops : slot_after.drops ≡ slot.drops ++ drops_of verdict_is number
   pub noted : (others : Counts) → IsNoted keep others app.fresh [] slot.notes counts
-      → IsNoted keep others (orphaned app control number raises).tally (orphaned app control number raises).entries slot_after.notes counts_after
+      → IsNoted keep others (orphan_history app control number raises).tally (orphan_history app control number raises).entries slot_after.notes counts_after
   pub passes : (others : Counts) → IsNoted keep others app.fresh [] slot.notes counts → verdict_is ≡ orphan_verdict app control number raises
-  pub dropped : (others : Counts) → IsNoted keep others app.fresh [] slot.notes counts → (orphaned app control number raises).drops ≡ drops_of verdict_is number
+  pub dropped : (others : Counts) → IsNoted keep others app.fresh [] slot.notes counts → (orphan_history app control number raises).drops ≡ drops_of verdict_is number
 
 -- the open connection of a key, which wasn't silent for too long, made a step, and all else is as it was
 pub record Steps (app : Meaning) (keep : Bool) (m : Versions) (content content_after : Shared → TreeLists) (interns interns_after : Option ℕ)
     (kept kept_after : Kept) (key : EndpointPair) (number : ℕ) (moment : Moment) (segment : Segment) (step : Step) : Type 0 where
   pub conn : Connection
   pub conn_after : Connection
-  pub slot : Slot
-  pub slot_after : Slot
+  pub slot : RecordUnderWay
+  pub slot_after : RecordUnderWay
   pub was : found kept.flows key ≡ Some conn
   pub heard : IsSilent m conn moment false
   pub slot_is : slot ≡ get_or kept.slots.items conn.place slot
@@ -110,7 +112,7 @@ pub record Steps (app : Meaning) (keep : Bool) (m : Versions) (content content_a
 pub record Failed (app : Meaning) (keep : Bool) (m : Versions) (content : Shared → TreeLists) (interns interns_after : Option ℕ)
     (kept : Kept) (key : EndpointPair) (number : ℕ) (moment : Moment) (segment : Segment) : Type 0 where
   pub conn : Connection
-  pub slot : Slot
+  pub slot : RecordUnderWay
   pub was : found kept.flows key ≡ Some conn
   pub heard : IsSilent m conn moment false
   pub slot_is : slot ≡ get_or kept.slots.items conn.place slot
@@ -121,8 +123,8 @@ pub record Follows (app : Meaning) (keep : Bool) (m : Versions) (content content
     (kept kept_after : Kept) (key : EndpointPair) (number : ℕ) (moment : Moment) (segment : Segment) (step : Step) : Type 0 where
   pub conn : Connection
   pub conn_after : Connection
-  pub slot : Slot
-  pub slot_after : Slot
+  pub slot : RecordUnderWay
+  pub slot_after : RecordUnderWay
   pub was : found kept.flows key ≡ Some conn
   pub heard : IsSilent m conn moment false
   pub slot_is : slot ≡ get_or kept.slots.items conn.place slot
@@ -133,13 +135,13 @@ pub record Follows (app : Meaning) (keep : Bool) (m : Versions) (content content
 
 -- a connection that a segment opened, after this segment; `conn` and `slot` are as they were before it
 pub record Opens (app : Meaning) (keep : Bool) (m : Versions) (content_after : Shared → TreeLists) (interns interns_after : Option ℕ) (counts counts_after : Counts)
-    (place number : ℕ) (moment : Moment) (segment : Segment) (conn_after : Connection) (slot_after : Slot) (step : Step) : Type 0 where
+    (place number : ℕ) (moment : Moment) (segment : Segment) (conn_after : Connection) (slot_after : RecordUnderWay) (step : Step) : Type 0 where
   pub conn : Connection
-  pub slot : Slot
+  pub slot : RecordUnderWay
   pub tree : TreeLists
   pub slot_is : slot ≡ new_slot number (Conn segment.sender segment.receiver) m.version app.fresh
   pub client : conn.client ≡ segment.sender
   pub version : conn.version ≡ m.version
   pub place_is : conn.place ≡ place
-  pub new : IsFlow (told_at m conn.version) tree conn.flow (fresh app m.now)
+  pub new : IsFlow (registered_at m conn.version) tree conn.flow (fresh app m.now)
   pub step_is : IsStepUnder app keep m tree (content_after conn_after.flow.forest) interns interns_after conn conn_after slot slot_after counts counts_after number moment segment step

@@ -6,13 +6,13 @@ use Rattle.flow_table.specs.Table.{Flows, found}
 use Rattle.shared_forest.specs.declared.store.Shared.{Shared}
 use Rattle.shared_forest.specs.Lists.{TreeLists}
 use Rattle.forest_versions.specs.Master.{Versions, defs_of}
-use Rattle.connection_core.specs.InForce.{told_at}
+use Rattle.connection_core.specs.InForce.{registered_at}
 use Rattle.connection_core.specs.Trees.{IsForestIn}
 use Rattle.lane_core.specs.declared.connection.Connection.{Connection}
 
 -- a tree by which the registrations of a version are called that it names
 abbrev pub IsTree : Versions → ℕ → TreeLists → Type 0
-IsTree m version tree = IsForestIn (defs_of m) (told_at m version) tree
+IsTree m version tree = IsForestIn (defs_of m) (registered_at m version) tree
 
 -- this holds of each such tree, of any version so far
 abbrev pub ForTrees : Versions → (ℕ → TreeLists → Type 0) → Type 0

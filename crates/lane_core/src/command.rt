@@ -4,10 +4,10 @@ ghost use Rattle.std.specs.Prelude.{◌≡◌, ◌+◌, ◌<◌, ◌≤◌, OnOk
 ghost use Rattle.shared_forest.specs.Store.{Keeps, CountsAtMost};
 ghost use Rattle.forest_versions.specs.Lawful.{is_lawful};
 ghost use Rattle.forest_versions.specs.State.{after};
-ghost use Rattle.connection_core.specs.InForce.{told_at};
+ghost use Rattle.connection_core.specs.InForce.{registered_at};
 ghost use Rattle.connection_core.specs.Trees.{active_in};
 ghost use Rattle.lane_core.specs.Trees.{IsTree, ForTrees};
-ghost use Rattle.lane_core.specs.World.{HoldsTree, TakesCommand};
+ghost use Rattle.lane_core.specs.Settings.{HoldsTree, TakesCommand};
 
 use connection_core::laws::trees_stay;
 use forest_versions::{Command, Master};
@@ -35,7 +35,7 @@ pub(crate) fn give_to<F: Forests>(
     ensures counted { CountsAtMost (F.interns forests.old) (F.interns forests.new) }
     ensures trees { ForTrees master.old (IsTree master.new) }
     ensures lists { ForTrees master.old (λ v tree.
-        active_in (told_at master.new v) tree ≡ active_in (told_at master.old v) tree) }
+        active_in (registered_at master.new v) tree ≡ active_in (registered_at master.old v) tree) }
     ensures unchanged { OnErr result (master.new ≡ master.old) }
     ensures store_unchanged { OnErr result (forests.new ≡ forests.old) }
 {

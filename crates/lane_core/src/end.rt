@@ -4,7 +4,7 @@ ghost use Rattle.std.specs.Prelude.{◌≡◌, IfOk, map, if◌then◌else◌, [
 ghost use Rattle.report_text.specs.Kept.{is_conn};
 ghost use Rattle.lane_core.specs.End.{ended};
 
-use crate::slot::Slot;
+use crate::under_way::RecordUnderWay;
 use app_api::{App, FieldList, Tally, fields_of};
 use report_text::{Record, RecordKind, RecordList};
 use std::alloc::{AllocError, Global};
@@ -62,7 +62,7 @@ pub struct LaneCounts {
 pub(crate) struct Closed<A> {
     pub(crate) app: A,
     /// The records in order of name.
-    pub(crate) slots: Vec<Slot>,
+    pub(crate) slots: Vec<RecordUnderWay>,
     /// The callbacks of all records.
     pub(crate) callbacks: u64,
     /// The dropped packets of all records.
@@ -87,11 +87,11 @@ fn fields_in<A: App>(
 }
 
 // A record that goes on no more.
-fn ended<A: App>(alloc: Global, app: &A, slot: Slot) -> Result<Record, AllocError>
+fn ended<A: App>(alloc: Global, app: &A, slot: RecordUnderWay) -> Result<Record, AllocError>
     ensures { IfOk result (λ r. r ≡ ended (A.meaning app.now) slot) }
 {
     let fields = fields_in(alloc, app, slot.kind, &slot.notes.tally)?;
-    let Slot {
+    let RecordUnderWay {
         name,
         kind,
         version,
@@ -112,7 +112,7 @@ fn ended<A: App>(alloc: Global, app: &A, slot: Slot) -> Result<Record, AllocErro
 pub(crate) fn records_of<A: App>(
     alloc: Global,
     app: &A,
-    slots: Vec<Slot>,
+    slots: Vec<RecordUnderWay>,
 ) -> Result<RecordList, AllocError>
     ensures { IfOk result (λ records. records ≡ map (ended (A.meaning app.now)) slots.items) }
 {
@@ -124,7 +124,10 @@ pub(crate) fn records_of<A: App>(
 }
 
 /// The name of each record, with its version.
-pub(crate) fn versions_of(alloc: Global, slots: &[Slot]) -> Result<VersionOfList, AllocError>
+pub(crate) fn versions_of(
+    alloc: Global,
+    slots: &[RecordUnderWay],
+) -> Result<VersionOfList, AllocError>
     ensures { IfOk result (λ versions. versions ≡ map (λ s. (s.name, s.version)) slots.now) }
 {
     let mut items = Vec::with_capacity(alloc, slots.len())?;

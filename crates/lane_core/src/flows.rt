@@ -8,13 +8,13 @@ ghost use Rattle.ip6_views.specs.Seen.{seen};
 ghost use Rattle.lane_core.specs.Trees.{AreAnswered, AreTrees, ArePlaced, AreSince, AreShort};
 ghost use Rattle.lane_core.specs.Silences.{IsGone, IsPutWhere};
 ghost use Rattle.lane_core.specs.Steps.{Steps, Follows, Failed};
-ghost use Rattle.lane_core.specs.World.{Under};
+ghost use Rattle.lane_core.specs.Settings.{Under};
 
 use crate::connection::Connection;
 use crate::kept::Kept;
 use crate::packet::step_one;
+use crate::settings::LaneSettings;
 use crate::silent::is_silent;
-use crate::world::World;
 use app_api::App;
 use connection_core::Step;
 use flow_table::{FlowTable, Key};
@@ -27,7 +27,7 @@ use std::alloc::{AllocError, Global};
 // Steps the open connection of a key, where there is one that wasn't silent for too long.
 fn step_flow<A: App, F: Forests>(
     alloc: Global,
-    world: &World<A>,
+    settings: &LaneSettings<A>,
     natives: &NativeBook,
     forests: &mut F,
     kept: &mut Kept,
@@ -38,22 +38,22 @@ fn step_flow<A: App, F: Forests>(
 ) -> Result<Option<Step>, AllocError>
     requires placed { ArePlaced (vec_len kept.old.slots) kept.old.flows }
     requires answered { AreAnswered (F.answered forests.old) kept.old.flows }
-    requires trees { AreTrees world.now.master (F.content forests.old) kept.old.flows }
+    requires trees { AreTrees settings.now.master (F.content forests.old) kept.old.flows }
     requires counts { AreShort 1048576 kept.old.flows }
     requires callbacks { kept.old.ledger.counts.callbacks < 2 ^ 60 }
     requires weight { kept.old.ledger.counts.weight < 2 ^ 60 }
-    ensures gone { result ≡ Ok None → IsGone world.now.master moment (found kept.old.flows key.now) }
+    ensures gone { result ≡ Ok None → IsGone settings.now.master moment (found kept.old.flows key.now) }
     ensures same { result ≡ Ok None → kept.new ≡ kept.old }
     ensures same_forests { result ≡ Ok None → forests.new ≡ forests.old }
-    ensures some { IfOk result (λ step. IfSome step (λ s. Under A.meaning world.now Steps
+    ensures some { IfOk result (λ step. IfSome step (λ s. Under A.meaning settings.now Steps
         (F.content forests.old) (F.content forests.new) (F.interns forests.old) (F.interns forests.new)
         kept.old kept.new key.now number moment (seen segment.now) s)) }
-    ensures failed { OnErr result (Under A.meaning world.now Failed
+    ensures failed { OnErr result (Under A.meaning settings.now Failed
         (F.content forests.old) (F.interns forests.old) (F.interns forests.new)
         kept.old key.now number moment (seen segment.now)) }
     ensures placed { ArePlaced (vec_len kept.new.slots) kept.new.flows }
     ensures answered { AreAnswered (F.answered forests.new) kept.new.flows }
-    ensures trees { AreTrees world.now.master (F.content forests.new) kept.new.flows }
+    ensures trees { AreTrees settings.now.master (F.content forests.new) kept.new.flows }
     ensures since { (version : ℕ) → AreSince version kept.old.flows → AreSince version kept.new.flows }
     ensures counts { (packets : ℕ) → AreShort packets kept.old.flows → AreShort (packets + 1) kept.new.flows }
     ensures kept { Keeps F.answered F.content forests.old forests.new }
@@ -64,13 +64,13 @@ fn step_flow<A: App, F: Forests>(
     let Some(conn) = kept.flows.get_mut(key) else {
         return Ok(None);
     };
-    if is_silent(world, conn, moment) {
+    if is_silent(settings, conn, moment) {
         return Ok(None);
     }
     let slot = &mut kept.slots[conn.place];
     let ledger = &mut kept.ledger;
     let step = step_one(
-        alloc, world, natives, forests, conn, slot, ledger, number, moment, segment,
+        alloc, settings, natives, forests, conn, slot, ledger, number, moment, segment,
     )?;
     Ok(Some(step))
 }
@@ -88,7 +88,7 @@ fn settle(flows: &mut FlowTable<Connection>, key: &Key, over: bool)
 /// `None` leaves all as it was.
 pub(crate) fn follow<A: App, F: Forests>(
     alloc: Global,
-    world: &World<A>,
+    settings: &LaneSettings<A>,
     natives: &NativeBook,
     forests: &mut F,
     kept: &mut Kept,
@@ -99,22 +99,22 @@ pub(crate) fn follow<A: App, F: Forests>(
 ) -> Result<Option<Step>, AllocError>
     requires placed { ArePlaced (vec_len kept.old.slots) kept.old.flows }
     requires answered { AreAnswered (F.answered forests.old) kept.old.flows }
-    requires trees { AreTrees world.now.master (F.content forests.old) kept.old.flows }
+    requires trees { AreTrees settings.now.master (F.content forests.old) kept.old.flows }
     requires counts { AreShort 1048576 kept.old.flows }
     requires callbacks { kept.old.ledger.counts.callbacks < 2 ^ 60 }
     requires weight { kept.old.ledger.counts.weight < 2 ^ 60 }
-    ensures gone { result ≡ Ok None → IsGone world.now.master moment (found kept.old.flows key.now) }
+    ensures gone { result ≡ Ok None → IsGone settings.now.master moment (found kept.old.flows key.now) }
     ensures same { result ≡ Ok None → kept.new ≡ kept.old }
     ensures same_forests { result ≡ Ok None → forests.new ≡ forests.old }
-    ensures some { IfOk result (λ step. IfSome step (λ s. Under A.meaning world.now Follows
+    ensures some { IfOk result (λ step. IfSome step (λ s. Under A.meaning settings.now Follows
         (F.content forests.old) (F.content forests.new) (F.interns forests.old) (F.interns forests.new)
         kept.old kept.new key.now number moment (seen segment.now) s)) }
-    ensures failed { OnErr result (Under A.meaning world.now Failed
+    ensures failed { OnErr result (Under A.meaning settings.now Failed
         (F.content forests.old) (F.interns forests.old) (F.interns forests.new)
         kept.old key.now number moment (seen segment.now)) }
     ensures placed { ArePlaced (vec_len kept.new.slots) kept.new.flows }
     ensures answered { AreAnswered (F.answered forests.new) kept.new.flows }
-    ensures trees { AreTrees world.now.master (F.content forests.new) kept.new.flows }
+    ensures trees { AreTrees settings.now.master (F.content forests.new) kept.new.flows }
     ensures since { (version : ℕ) → AreSince version kept.old.flows → AreSince version kept.new.flows }
     ensures counts { (packets : ℕ) → AreShort packets kept.old.flows → AreShort (packets + 1) kept.new.flows }
     ensures kept { Keeps F.answered F.content forests.old forests.new }
@@ -123,7 +123,7 @@ pub(crate) fn follow<A: App, F: Forests>(
     ensures dropped { kept.new.dropped ≡ kept.old.dropped }
 {
     let stepped = step_flow(
-        alloc, world, natives, forests, kept, key, number, moment, segment,
+        alloc, settings, natives, forests, kept, key, number, moment, segment,
     )?;
     if let Some(step) = stepped {
         settle(&mut kept.flows, key, step.over);

@@ -5,7 +5,7 @@ ghost use Rattle.flow_table.specs.Key.{EndpointPair};
 ghost use Rattle.flow_table.specs.Table.{found};
 
 use crate::connection::Connection;
-use crate::slot::Slot;
+use crate::under_way::RecordUnderWay;
 use connection_core::Ledger;
 use flow_table::FlowTable;
 use std::alloc::Global;
@@ -14,7 +14,7 @@ use std::alloc::Global;
 #[derive(Drop)]
 pub(crate) struct Kept {
     pub(crate) flows: FlowTable<Connection>,
-    pub(crate) slots: Vec<Slot>,
+    pub(crate) slots: Vec<RecordUnderWay>,
     /// What the callbacks of the packet under way ask, and the counts of all callbacks.
     pub(crate) ledger: Ledger,
     /// The dropped packets of all records.

@@ -14,10 +14,10 @@ pub mod limits;
 mod packet;
 pub mod recorder;
 pub mod report;
+mod settings;
 mod sides;
 mod silent;
-mod slot;
-mod world;
+mod under_way;
 
 pub use end::{LaneCounts, LaneEnd, VersionOfList};
 pub use errors::LaneError;

@@ -7,17 +7,17 @@ ghost use Rattle.connection_core.specs.Standing.{RiseBy};
 ghost use Rattle.connection_core.specs.Trees.{InternsWithin};
 ghost use Rattle.ip6_views.specs.Seen.{seen};
 ghost use Rattle.lane_core.specs.Trees.{IsTree};
-ghost use Rattle.lane_core.specs.Steps.{IsStepUnder, StepCostsUnder, IsLone, Opens, opened_by};
-ghost use Rattle.lane_core.specs.World.{Under, HoldsTree};
+ghost use Rattle.lane_core.specs.Steps.{IsStepUnder, StepCostsUnder, IsOrphanNoted, Opens, opened_by};
+ghost use Rattle.lane_core.specs.Settings.{Under, HoldsTree};
 
 use crate::connection::Connection;
+use crate::settings::LaneSettings;
 use crate::sides::side_of;
-use crate::slot::Slot;
-use crate::world::World;
+use crate::under_way::RecordUnderWay;
 use app_api::{App, Verdict};
 use builtin_events::Raised;
 use connection_core::laws::first_tree_names_the_first_list;
-use connection_core::{Arrived, Flow, InForce, Ledger, Step, Terms, lone};
+use connection_core::{Arrived, Flow, InForce, Ledger, Step, Terms, orphan};
 use flow_timers::Moment;
 use ip6_views::SightTcp;
 use native_filters::NativeBook;
@@ -29,12 +29,12 @@ use std::alloc::{AllocError, Global};
 #[derive(Drop)]
 pub(crate) struct Opened {
     pub(crate) conn: Connection,
-    pub(crate) slot: Slot,
+    pub(crate) slot: RecordUnderWay,
     pub(crate) step: Step,
 }
 
 // The version under which a connection lives, whatever commands came since it began.
-fn version_for<A>(_world: &World<A>, conn: &Connection) -> u32
+fn version_for<A>(_settings: &LaneSettings<A>, conn: &Connection) -> u32
     ensures { result ≡ conn.now.version }
 {
     conn.version
@@ -43,11 +43,11 @@ fn version_for<A>(_world: &World<A>, conn: &Connection) -> u32
 /// Steps an open connection, and notes in its record what became of the packet.
 pub(crate) fn step_one<A: App, F: Forests>(
     alloc: Global,
-    world: &World<A>,
+    settings: &LaneSettings<A>,
     natives: &NativeBook,
     forests: &mut F,
     conn: &mut Connection,
-    slot: &mut Slot,
+    slot: &mut RecordUnderWay,
     ledger: &mut Ledger,
     number: u64,
     moment: Moment,
@@ -55,32 +55,32 @@ pub(crate) fn step_one<A: App, F: Forests>(
 ) -> Result<Step, AllocError>
     requires count { conn.old.flow.count < 2 ^ 30 }
     requires answered { F.answered forests.old conn.old.flow.forest }
-    requires tree { IsTree world.now.master conn.old.version (F.content forests.old conn.old.flow.forest) }
+    requires tree { IsTree settings.now.master conn.old.version (F.content forests.old conn.old.flow.forest) }
     requires callbacks { ledger.old.counts.callbacks < 2 ^ 60 }
     requires weight { ledger.old.counts.weight < 2 ^ 60 }
     ensures place { conn.new.place ≡ conn.old.place }
     ensures version { conn.new.version ≡ conn.old.version }
     ensures count { conn.new.flow.count ≤ conn.old.flow.count + 1 }
     ensures answered { F.answered forests.new conn.new.flow.forest }
-    ensures tree { IsTree world.now.master conn.new.version (F.content forests.new conn.new.flow.forest) }
+    ensures tree { IsTree settings.now.master conn.new.version (F.content forests.new conn.new.flow.forest) }
     ensures kept { Keeps F.answered F.content forests.old forests.new }
     ensures rise { RiseBy 3060 ledger.old.counts ledger.new.counts }
-    ensures stands { IfOk result (λ step. Under A.meaning world.now IsStepUnder
+    ensures stands { IfOk result (λ step. Under A.meaning settings.now IsStepUnder
         (F.content forests.old conn.old.flow.forest) (F.content forests.new conn.new.flow.forest)
         (F.interns forests.old) (F.interns forests.new)
         conn.old conn.new slot.old slot.new ledger.old.counts ledger.new.counts number moment (seen segment.now) step) }
-    ensures costs { OnErr result (Under A.meaning world.now StepCostsUnder
+    ensures costs { OnErr result (Under A.meaning settings.now StepCostsUnder
         (F.content forests.old conn.old.flow.forest) (F.interns forests.old) (F.interns forests.new)
         conn.old slot.old ledger.old.counts number (seen segment.now)) }
 {
     let terms = Terms {
-        app: &world.app,
+        app: &settings.app,
         in_force: InForce {
-            master: &world.master,
-            version: version_for(world, conn),
+            master: &settings.master,
+            version: version_for(settings, conn),
         },
         natives,
-        keep: world.keep,
+        keep: settings.keep,
     };
     let arrived = Arrived {
         number,
@@ -101,7 +101,7 @@ pub(crate) fn step_one<A: App, F: Forests>(
 /// A connection that a segment opens: its record will stand at a place.
 pub(crate) fn start_one<A: App, F: Forests>(
     alloc: Global,
-    world: &World<A>,
+    settings: &LaneSettings<A>,
     natives: &NativeBook,
     forests: &mut F,
     ledger: &mut Ledger,
@@ -110,37 +110,37 @@ pub(crate) fn start_one<A: App, F: Forests>(
     moment: Moment,
     segment: &SightTcp<'_>,
 ) -> Result<Opened, AllocError>
-    requires answered { F.answered forests.old world.now.master.forest }
-    requires tree { HoldsTree world.now.master (F.content forests.old) }
+    requires answered { F.answered forests.old settings.now.master.forest }
+    requires tree { HoldsTree settings.now.master (F.content forests.old) }
     requires callbacks { ledger.old.counts.callbacks < 2 ^ 60 }
     requires weight { ledger.old.counts.weight < 2 ^ 60 }
     ensures kept { Keeps F.answered F.content forests.old forests.new }
     ensures rise { RiseBy 3060 ledger.old.counts ledger.new.counts }
     ensures place { IfOk result (λ opened. opened.conn.place ≡ place) }
-    ensures version { IfOk result (λ opened. opened.conn.version ≡ world.now.master.version) }
+    ensures version { IfOk result (λ opened. opened.conn.version ≡ settings.now.master.version) }
     ensures count { IfOk result (λ opened. opened.conn.flow.count ≤ 1) }
     ensures answered { IfOk result (λ opened. F.answered forests.new opened.conn.flow.forest) }
     ensures tree { IfOk result (λ opened.
-        IsTree world.now.master opened.conn.version (F.content forests.new opened.conn.flow.forest)) }
-    ensures stands { IfOk result (λ opened. Under A.meaning world.now Opens
+        IsTree settings.now.master opened.conn.version (F.content forests.new opened.conn.flow.forest)) }
+    ensures stands { IfOk result (λ opened. Under A.meaning settings.now Opens
         (F.content forests.new) (F.interns forests.old) (F.interns forests.new)
         ledger.old.counts ledger.new.counts place number moment (seen segment.now) opened.conn opened.slot opened.step) }
     ensures interned { InternsWithin (F.interns forests.old) (F.interns forests.new) 0
-        (opened_by (A.meaning world.now.app) world.now.master.now number (seen segment.now)).altered }
+        (opened_by (A.meaning settings.now.app) settings.now.master.now number (seen segment.now)).altered }
 {
-    let version = world.master.version();
+    let version = settings.master.version();
     let kind = RecordKind::Conn {
         client: segment.from,
         server: segment.to,
     };
-    let mut slot = Slot::new(alloc, number, kind, version, world.app.fresh());
+    let mut slot = RecordUnderWay::new(alloc, number, kind, version, settings.app.fresh());
     let in_force = InForce {
-        master: &world.master,
+        master: &settings.master,
         version,
     };
-    let forest = forests.again(alloc, world.master.forest())?;
+    let forest = forests.again(alloc, settings.master.forest())?;
     first_tree_names_the_first_list(&in_force, forests.tree_of(&forest));
-    world.master.tells_the_present();
+    settings.master.tells_the_present();
     let mut conn = Connection {
         place,
         client: segment.from,
@@ -150,44 +150,44 @@ pub(crate) fn start_one<A: App, F: Forests>(
         flow: Flow::new(alloc, &in_force, forest),
     };
     let step = step_one(
-        alloc, world, natives, forests, &mut conn, &mut slot, ledger, number, moment, segment,
+        alloc, settings, natives, forests, &mut conn, &mut slot, ledger, number, moment, segment,
     )?;
     Ok(Opened { conn, slot, step })
 }
 
 /// The callbacks of a packet of no connection, noted in a record that has none before.
-pub(crate) fn lone_at<A: App, F: Forests>(
+pub(crate) fn orphan_at<A: App, F: Forests>(
     alloc: Global,
-    world: &World<A>,
+    settings: &LaneSettings<A>,
     natives: &NativeBook,
     forests: &F,
     number: u64,
     raised: Raised,
-    slot: &mut Slot,
+    slot: &mut RecordUnderWay,
     ledger: &mut Ledger,
 ) -> Result<Verdict, AllocError>
-    requires answered { F.answered forests.now world.now.master.forest }
-    requires tree { HoldsTree world.now.master (F.content forests.now) }
+    requires answered { F.answered forests.now settings.now.master.forest }
+    requires tree { HoldsTree settings.now.master (F.content forests.now) }
     requires callbacks { ledger.old.counts.callbacks < 2 ^ 60 }
     requires weight { ledger.old.counts.weight < 2 ^ 60 }
     ensures rise { RiseBy 1530 ledger.old.counts ledger.new.counts }
-    ensures stands { IfOk result (λ verdict. Under A.meaning world.now (λ app keep m. IsLone app keep m.now)
+    ensures stands { IfOk result (λ verdict. Under A.meaning settings.now (λ app keep m. IsOrphanNoted app keep m.now)
         slot.old slot.new ledger.old.counts ledger.new.counts number (raises_of raised) verdict) }
 {
     let terms = Terms {
-        app: &world.app,
+        app: &settings.app,
         in_force: InForce {
-            master: &world.master,
-            version: world.master.version(),
+            master: &settings.master,
+            version: settings.master.version(),
         },
         natives,
-        keep: world.keep,
+        keep: settings.keep,
     };
-    let forest = world.master.forest();
+    let forest = settings.master.forest();
     first_tree_names_the_first_list(&terms.in_force, forests.tree_of(forest));
-    world.master.tells_the_present();
+    settings.master.tells_the_present();
     let notes = &mut slot.notes;
-    let verdict = lone(
+    let verdict = orphan(
         alloc, &terms, forests, forest, number, raised, notes, ledger,
     )?;
     slot.note(number, verdict)?;

@@ -14,7 +14,7 @@ ghost use Rattle.lane_core.specs.Run.{ended_run};
 use crate::end::LaneCounts;
 use crate::errors::LaneError;
 use crate::recorder::Recorder;
-use crate::slot::Slot;
+use crate::under_way::RecordUnderWay;
 use app_api::App;
 use flow_timers::Moment;
 use mos_bytes::Sink;
@@ -118,7 +118,10 @@ pub trait Reporter: Recorder {
 }
 
 /// The version of each record.
-pub(crate) fn version_of_each(alloc: Global, slots: &[Slot]) -> Result<Vec<u32>, AllocError>
+pub(crate) fn version_of_each(
+    alloc: Global,
+    slots: &[RecordUnderWay],
+) -> Result<Vec<u32>, AllocError>
     ensures { IfOk result (λ versions. versions.items ≡ map (λ s. s.version) slots.now) }
 {
     let mut versions = Vec::with_capacity(alloc, slots.len())?;
@@ -133,7 +136,7 @@ pub(crate) fn write_slots<A: App, O: Sink>(
     alloc: Global,
     app: &A,
     out: &mut O,
-    slots: &[Slot],
+    slots: &[RecordUnderWay],
 ) -> Result<(), TextError>
     ensures text { WriteAdds (O.taken out.old) (O.taken out.new) result
         (records_text (map (ended (A.meaning app.now)) slots.now)) }

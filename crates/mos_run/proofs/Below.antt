@@ -24,7 +24,7 @@ use Rattle.mos_run.specs.Apps.{meaning_of}
 use Rattle.mos_run.specs.Records.{packets_with, records_of}
 use Rattle.mos_run.specs.Forward.{forwarded}
 use Rattle.mos_run.specs.Outcome.{is_heavy, refused, outcome_by, followed, weighed, ended, output_of, outcome}
-use Rattle.mos_run.specs.Told.{Told, Refused, Asked, outcome_under}
+use Rattle.mos_run.specs.Request.{Request, Refused, Asked, outcome_under}
 use Rattle.mos_run.specs.Run.{FinishesUnder, StopsAs, UnderSome}
 use Rattle.mos_run.proofs.Closing.{some-closing}
 
@@ -69,13 +69,13 @@ module _ (app : Meaning) (script : List Stamped) (given : List Captured → List
   some_text (b ∷ bytes) behind ends = some_by (take 24 (b ∷ bytes)) (capture_of (b ∷ bytes)) behind (λ none. cc) ends
 
 -- what ends well isn't empty
-pub writes_some : (t : Told) (vs versions : List ℕ) → (outcome_under vs t).ends ≡ Ok versions → (outcome_under vs t).text ≢ []
+pub writes_some : (t : Request) (vs versions : List ℕ) → (outcome_under vs t).ends ≡ Ok versions → (outcome_under vs t).text ≢ []
 writes_some (Refused e) vs versions ends = absurd (cc)
 writes_some (Asked s commands file) vs versions ends =
     some_text (meaning_of s.app) commands (packets_with (meaning_of s.app) commands vs) (output_of s) versions file.bytes file.refusal ends
 
 -- so it may end by a fault of writing
-pub may_fail : (t : Told) (e : RunError) (versions : List ℕ) (old new : Option (List ℕ)) → FinishesUnder t versions old new
+pub may_fail : (t : Request) (e : RunError) (versions : List ℕ) (old new : Option (List ℕ)) → FinishesUnder t versions old new
     → (e ≡ Run.WriteFault) ⊎ (e ≡ Run.NoMemory) → UnderSome t (λ o. StopsAs o e)
 may_fail t e versions old new done (inl fault) = record {
   versions = versions;
@@ -99,7 +99,7 @@ front_below taken out start first given handed now text same none part kept betw
     AppendsFront-between (taken out) now handed text more (subst (λ s. IsBetween (taken s) now handed) same between)
 
 -- all of it, once nothing is held
-pub done_below : (t : Told) (versions : List ℕ) (start first given handed now : Option (List ℕ)) → first ≡ start → FinishesUnder t versions first given → Keeps given handed → now ≡ handed
+pub done_below : (t : Request) (versions : List ℕ) (start first given handed now : Option (List ℕ)) → first ≡ start → FinishesUnder t versions first given → Keeps given handed → now ≡ handed
     → FinishesUnder t versions start now
 done_below t versions start first given handed now none done kept same = record {
   allowed = done.allowed;

@@ -30,7 +30,7 @@ use Rattle.mos_run.specs.Records.{packets_of, packets_with, records_of, verdicts
 use Rattle.worker_pool.specs.Forward.{left_by_all}
 use Rattle.mos_run.specs.Refusal.{file_refusal}
 use Rattle.mos_run.specs.Outcome.{Outcome, refused, is_forward, closing, followed, outcome_by, outcome}
-use Rattle.mos_run.specs.Told.{frames_in}
+use Rattle.mos_run.specs.Request.{frames_in}
 use Rattle.mos_run.specs.Laws.{ceilings_of}
 
 -- ---- what is said of all lists

@@ -29,7 +29,7 @@ use Rattle.mos_run.specs.Apps.{meaning_of}
 use Rattle.mos_run.specs.Records.{packets_with}
 use Rattle.mos_run.specs.Outcome.{Outcome, cut_off, ended, followed, is_forward, is_heavy, outcome, outcome_by, output_of, refused, streamed, weighed}
 use Rattle.mos_run.specs.Refusal.{explained, file_refusal, met_in, status_of}
-use Rattle.mos_run.specs.Told.{Asked, bytes_under, given_under}
+use Rattle.mos_run.specs.Request.{Asked, bytes_under, given_under}
 use Rattle.mos_run.specs.Run.{RunsUnder, StopsAs}
 use Rattle.mos_run.specs.Runs.{AreUnrefused}
 use Rattle.mos_run.proofs.Ends.{err_same}

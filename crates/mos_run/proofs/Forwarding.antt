@@ -22,7 +22,7 @@ use Rattle.mos_run.specs.Records.{packets_with}
 use Rattle.mos_run.specs.Forward.{forwarded}
 use Rattle.mos_run.specs.Outcome.{is_forward, followed, outcome_by, outcome, outcome_over}
 use Rattle.mos_run.specs.Refusal.{pool_refusal}
-use Rattle.mos_run.specs.Told.{frames_in}
+use Rattle.mos_run.specs.Request.{frames_in}
 use Rattle.mos_run.specs.Run.{Finishes, StopsAs}
 use Rattle.mos_run.specs.Lanes.{FinishesWith, StopsWith}
 use Rattle.mos_run.specs.Laws.{ceilings_of, CeilingsMayBeHad}

@@ -10,7 +10,7 @@ use Rattle.mos_bytes.specs.declared.sink.Sink.{Ghosts as Sink}
 use Rattle.mos_run.specs.declared.ended.Ended.{Ended}
 use Rattle.mos_run.specs.declared.refusal.RunError.TheVariants as Run
 use Rattle.mos_run.specs.Refusal.{refusal_text}
-use Rattle.mos_run.specs.Told.{Told, told, outcome_under}
+use Rattle.mos_run.specs.Request.{Request, request_of, outcome_under}
 use Rattle.mos_run.specs.Run.{EndsAs, FinishesUnder, MosRun, StopsAs, TellsOf, WritesText}
 use Rattle.mos_run.proofs.Below.{may_fail}
 use Rattle.mos_run.proofs.Outcomes.{HasSome, ends_as, stops_or_memory, under_more}
@@ -80,7 +80,7 @@ module _ {S H O E : Type 0} (source : Source S) (shelf : Shelf H) (sink : Sink O
 
   -- what had ended well, where its last bytes couldn't be handed on
   pub ran_failed : (e f g : E) (ended after : Ended) (given handed : Option (List ℕ)) → MosRun source shelf sink err words s t h i o p e f ended → ended.status ≡ 0
-      → ((x : Told) → told words (shelf.content h) (source.left s) ≡ Some x → FinishesUnder x ended.versions given handed) → Rose (sink.faults o) (sink.faults p)
+      → ((x : Request) → request_of words (shelf.content h) (source.left s) ≡ Some x → FinishesUnder x ended.versions given handed) → Rose (sink.faults o) (sink.faults p)
       → (after.status ≡ 5) ⊎ (after.status ≡ 6) → after.versions ≡ [] → TellsOf Run.WriteFault after.status (err.taken f) (err.taken g) (err.faults f) (err.faults g) → err.lasting g ≡ err.lasting f
       → MosRun source shelf sink err words s t h i o p e g after
   ran_failed e f g ended after given handed ran whole done rose which none tells lasts =
@@ -122,7 +122,7 @@ module _ {S H O E : Type 0} (source : Source S) (shelf : Shelf H) (sink : Sink O
 
 -- a run for which there was no memory before it began
 module _ {S H O E : Type 0} (source : Source S) (shelf : Shelf H) (sink : Sink O) (err : Sink E) (words : List (List ℕ)) (s : S) (h : H) (o p : O) where
-  pub ran_without_memory : (e f : E) (ended : Ended) → ((x : Told) → told words (shelf.content h) (source.left s) ≡ Some x → HasSome x) → p ≡ o → ended.status ≡ 6 → ended.versions ≡ []
+  pub ran_without_memory : (e f : E) (ended : Ended) → ((x : Request) → request_of words (shelf.content h) (source.left s) ≡ Some x → HasSome x) → p ≡ o → ended.status ≡ 6 → ended.versions ≡ []
       → TellsOf Run.NoMemory ended.status (err.taken e) (err.taken f) (err.faults e) (err.faults f) → err.lasting f ≡ err.lasting e → MosRun source shelf sink err words s s h h o p e f ended
   ran_without_memory e f ended some same six none tells lasts = record {
     read = λ is. absurd (omega (arith, six, is));

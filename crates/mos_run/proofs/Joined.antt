@@ -32,7 +32,7 @@ use Rattle.mos_run.specs.Records.{control_at, packets_with, records_of}
 use Rattle.mos_run.specs.Forward.{forwarded}
 use Rattle.mos_run.specs.Outcome.{is_forward, is_heavy, streamed, closing, ended, followed, weighed, refused, outcome_by, outcome, outcome_over}
 use Rattle.mos_run.specs.Refusal.{pool_refusal}
-use Rattle.mos_run.specs.Told.{frames_in}
+use Rattle.mos_run.specs.Request.{frames_in}
 use Rattle.mos_run.specs.Run.{Finishes, StopsAs, RunsAs}
 use Rattle.mos_run.specs.Lanes.{FinishesWith, StopsWith}
 use Rattle.mos_run.specs.Laws.{ceilings_of, CeilingsMayBeHad}

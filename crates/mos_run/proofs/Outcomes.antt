@@ -21,63 +21,63 @@ use Rattle.mos_run.specs.declared.refusal.RunError.TheVariants as Run
 use Rattle.mos_run.specs.Apps.{meaning_of}
 use Rattle.mos_run.specs.Records.{packets_of, records_of, versions_of}
 use Rattle.mos_run.specs.Outcome.{Outcome, refused, outcome_by, followed, ended, is_heavy, output_of, outcome, outcome_over}
-use Rattle.mos_run.specs.Told.{Told, Refused, Asked, Allows, AreAllowed, commands_in, text_under, given_under, asked, chosen, told, frames_in, outcome_under}
+use Rattle.mos_run.specs.Request.{Request, Refused, Asked, Allows, AreAllowed, commands_in, text_under, given_under, asked, chosen, request_of, frames_in, outcome_under}
 use Rattle.mos_run.specs.Refusal.{status_of, words_refusal}
 use Rattle.mos_run.specs.Run.{Finishes, FinishesUnder, StopsAs, RunsAs, RunsUnder, EndsAs, EndsWell, UnderSome}
 use Rattle.mos_run.specs.Lanes.{RunsWith}
 use Rattle.mos_run.specs.Laws.{ceilings_of, CeilingsMayBeHad, CeilingsAreOneWorkers}
 use Rattle.mos_run.proofs.Scripts.{commands_order}
 
-told-by : (words : List (List ℕ)) (content : List ℕ → Option (List ℕ)) (left : Option (List ℕ)) (settings : Option Settings) → words_settings words ≡ settings → told words content left ≡ chosen settings content left
-unfolding told
-told-by words content left settings is = ap (λ s. chosen s content left) is
+request-by : (words : List (List ℕ)) (content : List ℕ → Option (List ℕ)) (left : Option (List ℕ)) (settings : Option Settings) → words_settings words ≡ settings → request_of words content left ≡ chosen settings content left
+unfolding request_of
+request-by words content left settings is = ap (λ s. chosen s content left) is
 
 -- ---- what is told, step by step
 
 -- accepted words have a text that was told, under which it is told what to do
-pub record IsUnderText (s : Settings) (content : List ℕ → Option (List ℕ)) (left : Option (List ℕ)) (t : Told) : Type 0 where
+pub record IsUnderText (s : Settings) (content : List ℕ → Option (List ℕ)) (left : Option (List ℕ)) (t : Request) : Type 0 where
   pub text : List ℕ
   pub told_so : text_under s.script content ≡ Some text
   pub comes_to : asked s left (commands_in s.app text) ≡ Some t
 
-under-by : (s : Settings) (content : List ℕ → Option (List ℕ)) (left : Option (List ℕ)) (t : Told) (text : Option (List ℕ)) → text_under s.script content ≡ text
+under-by : (s : Settings) (content : List ℕ → Option (List ℕ)) (left : Option (List ℕ)) (t : Request) (text : Option (List ℕ)) → text_under s.script content ≡ text
     → option_and_then (λ text. asked s left (commands_in s.app text)) text ≡ Some t → IsUnderText s content left t
 under-by s content left t None is comes = absurd (cc)
 under-by s content left t (Some text) is comes = record { text = text; told_so = is; comes_to = comes }
 
-pub under_text : (words : List (List ℕ)) (content : List ℕ → Option (List ℕ)) (left : Option (List ℕ)) (t : Told) (s : Settings) → words_settings words ≡ Some s → told words content left ≡ Some t → IsUnderText s content left t
+pub under_text : (words : List (List ℕ)) (content : List ℕ → Option (List ℕ)) (left : Option (List ℕ)) (t : Request) (s : Settings) → words_settings words ≡ Some s → request_of words content left ≡ Some t → IsUnderText s content left t
 under_text words content left t s accepted is =
-    under-by s content left t (text_under s.script content) refl (sym (told-by words content left (Some s) accepted) ∙ is)
+    under-by s content left t (text_under s.script content) refl (sym (request-by words content left (Some s) accepted) ∙ is)
 
 -- an accepted script has a capture that was told
-pub record IsOver (s : Settings) (left : Option (List ℕ)) (commands : List Stamped) (t : Told) : Type 0 where
+pub record IsOver (s : Settings) (left : Option (List ℕ)) (commands : List Stamped) (t : Request) : Type 0 where
   pub file : Given
   pub told_so : given_under s.make left ≡ Some file
   pub comes_to : Asked s commands file ≡ t
 
-over-by : (s : Settings) (left : Option (List ℕ)) (commands : List Stamped) (t : Told) (g : Option Given) → given_under s.make left ≡ g
+over-by : (s : Settings) (left : Option (List ℕ)) (commands : List Stamped) (t : Request) (g : Option Given) → given_under s.make left ≡ g
     → option_map (Asked s commands) g ≡ Some t → IsOver s left commands t
 over-by s left commands t None is comes = absurd (cc)
 over-by s left commands t (Some file) is comes = record { file = file; told_so = is; comes_to = cc }
 
-pub over_file : (s : Settings) (content : List ℕ → Option (List ℕ)) (left : Option (List ℕ)) (t : Told) (commands : List Stamped) → (u : IsUnderText s content left t) → commands_in s.app u.text ≡ Ok commands → IsOver s left commands t
+pub over_file : (s : Settings) (content : List ℕ → Option (List ℕ)) (left : Option (List ℕ)) (t : Request) (commands : List Stamped) → (u : IsUnderText s content left t) → commands_in s.app u.text ≡ Ok commands → IsOver s left commands t
 over_file s content left t commands u accepted =
     over-by s left commands t (given_under s.make left) refl (sym (ap (asked s left) accepted) ∙ u.comes_to)
 
 -- a refused script
-pub refused_text : (s : Settings) (content : List ℕ → Option (List ℕ)) (left : Option (List ℕ)) (t : Told) (e : RunError) → (u : IsUnderText s content left t) → commands_in s.app u.text ≡ Err e → Refused e ≡ t
+pub refused_text : (s : Settings) (content : List ℕ → Option (List ℕ)) (left : Option (List ℕ)) (t : Request) (e : RunError) → (u : IsUnderText s content left t) → commands_in s.app u.text ≡ Err e → Refused e ≡ t
 refused_text s content left t e u refusal = let same = sym (ap (asked s left) refusal) ∙ u.comes_to in cc
 
 -- ---- there are versions that a run may have
 
-pub record HasSome (t : Told) : Type 0 where
+pub record HasSome (t : Request) : Type 0 where
   pub versions : List ℕ
   pub allowed : Allows t versions
 
 pub ceilings_are_allowed : CeilingsMayBeHad → (s : Settings) (commands : List Stamped) (bytes : List ℕ) → are_in_order commands ≡ true → AreAllowed s commands bytes (ceilings_of (meaning_of s.app) commands bytes)
 ceilings_are_allowed law s commands bytes ordered = record { may_have = law (meaning_of s.app) commands s.workers bytes ordered; with_one = λ one. refl }
 
-some-under : CeilingsMayBeHad → (s : Settings) (content : List ℕ → Option (List ℕ)) (left : Option (List ℕ)) (t : Told) (commands : Result (List Stamped) RunError) → (u : IsUnderText s content left t)
+some-under : CeilingsMayBeHad → (s : Settings) (content : List ℕ → Option (List ℕ)) (left : Option (List ℕ)) (t : Request) (commands : Result (List Stamped) RunError) → (u : IsUnderText s content left t)
     → commands_in s.app u.text ≡ commands → HasSome t
 some-under law s content left t (Err e) u is = subst HasSome (refused_text s content left t e u is) (record { versions = []; allowed = tt })
 some-under law s content left t (Ok commands) u is =
@@ -87,35 +87,35 @@ some-under law s content left t (Ok commands) u is =
       allowed = ceilings_are_allowed law s commands over.file.bytes (commands_order s.app u.text commands is);
     })
 
-some-by : CeilingsMayBeHad → (words : List (List ℕ)) (content : List ℕ → Option (List ℕ)) (left : Option (List ℕ)) (t : Told) (settings : Option Settings) → words_settings words ≡ settings → told words content left ≡ Some t → HasSome t
+some-by : CeilingsMayBeHad → (words : List (List ℕ)) (content : List ℕ → Option (List ℕ)) (left : Option (List ℕ)) (t : Request) (settings : Option Settings) → words_settings words ≡ settings → request_of words content left ≡ Some t → HasSome t
 some-by law words content left t None accepted is =
-    let same : Refused Run.Usage ≡ t = let both = sym (told-by words content left None accepted) ∙ is in cc in
+    let same : Refused Run.Usage ≡ t = let both = sym (request-by words content left None accepted) ∙ is in cc in
     subst HasSome same (record { versions = []; allowed = tt })
 some-by law words content left t (Some s) accepted is =
     let u = under_text words content left t s accepted is in
     some-under law s content left t (commands_in s.app u.text) u refl
 
-pub has_some : CeilingsMayBeHad → (words : List (List ℕ)) (content : List ℕ → Option (List ℕ)) (left : Option (List ℕ)) (t : Told) → told words content left ≡ Some t → HasSome t
+pub has_some : CeilingsMayBeHad → (words : List (List ℕ)) (content : List ℕ → Option (List ℕ)) (left : Option (List ℕ)) (t : Request) → request_of words content left ≡ Some t → HasSome t
 has_some law words content left t is = some-by law words content left t (words_settings words) refl is
 
 -- ---- runs that end before a packet is read
 
-pub stops_early : (t : Told) (old : Option (List ℕ)) (e : RunError) → HasSome t → (e ≡ Run.ReadFault) ⊎ (e ≡ Run.NoMemory) → RunsUnder t old old (Err e)
+pub stops_early : (t : Request) (old : Option (List ℕ)) (e : RunError) → HasSome t → (e ≡ Run.ReadFault) ⊎ (e ≡ Run.NoMemory) → RunsUnder t old old (Err e)
 stops_early t old e some (inl fault) = record { versions = some.versions; allowed = some.allowed; holds = (inr (inl fault), AppendsFront-nil old _) }
 stops_early t old e some (inr memory) = record { versions = some.versions; allowed = some.allowed; holds = (inr (inr (inl memory)), AppendsFront-nil old _) }
 
-stops-refused : (t : Told) (old : Option (List ℕ)) (e : RunError) → Refused e ≡ t → RunsUnder t old old (Err e)
+stops-refused : (t : Request) (old : Option (List ℕ)) (e : RunError) → Refused e ≡ t → RunsUnder t old old (Err e)
 stops-refused t old e same = subst (λ x. RunsUnder x old old (Err e)) same (record { versions = []; allowed = tt; holds = (inl refl, AppendsFront-nil old []) })
 
 -- words that are refused, or for which there is no memory
-pub refused_words : CeilingsMayBeHad → (words : List (List ℕ)) (content : List ℕ → Option (List ℕ)) (left old : Option (List ℕ)) (t : Told) (e : WordsError) → (e ≡ Words.Usage → words_settings words ≡ None) → told words content left ≡ Some t
+pub refused_words : CeilingsMayBeHad → (words : List (List ℕ)) (content : List ℕ → Option (List ℕ)) (left old : Option (List ℕ)) (t : Request) (e : WordsError) → (e ≡ Words.Usage → words_settings words ≡ None) → request_of words content left ≡ Some t
     → RunsUnder t old old (Err (words_refusal e))
 refused_words law words content left old t Words.Usage usage is =
-    stops-refused t old Run.Usage (let both = sym (told-by words content left None (usage refl)) ∙ is in cc)
+    stops-refused t old Run.Usage (let both = sym (request-by words content left None (usage refl)) ∙ is in cc)
 refused_words law words content left old t Words.NoMemory usage is = stops_early t old Run.NoMemory (has_some law words content left t is) (inr refl)
 
 -- a script that is refused, or can't be fetched
-pub refused_script : (s : Settings) (content : List ℕ → Option (List ℕ)) (left old : Option (List ℕ)) (t : Told) (e : RunError) → HasSome t → (u : IsUnderText s content left t)
+pub refused_script : (s : Settings) (content : List ℕ → Option (List ℕ)) (left old : Option (List ℕ)) (t : Request) (e : RunError) → HasSome t → (u : IsUnderText s content left t)
     → (commands_in s.app u.text ≡ Err e) ⊎ (e ≡ Run.ReadFault) ⊎ (e ≡ Run.NoMemory) → RunsUnder t old old (Err e)
 refused_script s content left old t e some u (inl refusal) = stops-refused t old e (refused_text s content left t e u refusal)
 refused_script s content left old t e some u (inr other) = stops_early t old e some other
@@ -174,7 +174,7 @@ module _ (s : Settings) (commands : List Stamped) (bytes : List ℕ) (old new : 
 -- ---- the status
 
 -- what holds of an outcome holds of it under some versions
-pub under_more : (t : Told) (P Q : Outcome → Type 0) → ((o : Outcome) → P o → Q o) → UnderSome t P → UnderSome t Q
+pub under_more : (t : Request) (P Q : Outcome → Type 0) → ((o : Outcome) → P o → Q o) → UnderSome t P → UnderSome t Q
 under_more t P Q more u = record { versions = u.versions; allowed = u.allowed; holds = more (outcome_under u.versions t) u.holds }
 
 -- what was told of an error, or want of memory in its place
@@ -191,7 +191,7 @@ pub whole_front : (o : Outcome) (versions : List ℕ) (old new : Option (List �
 whole_front o versions old new done = subst (AppendsFront old new) (append-nil o.text) (AppendsFront-whole old new o.text [] done.written)
 
 -- a run that finished has ended well
-pub ends_well : (t : Told) (versions : List ℕ) (old new : Option (List ℕ)) (status : ℕ) → status ≡ 0 → FinishesUnder t versions old new → UnderSome t (λ o. EndsAs o status)
+pub ends_well : (t : Request) (versions : List ℕ) (old new : Option (List ℕ)) (status : ℕ) → status ≡ 0 → FinishesUnder t versions old new → UnderSome t (λ o. EndsAs o status)
 ends_well t versions old new status zero done = record {
   versions = versions;
   allowed = done.allowed;
@@ -199,7 +199,7 @@ ends_well t versions old new status zero done = record {
 }
 
 -- what ends well stops only by a fault, or for want of memory
-pub ends_whole : (t : Told) (e : RunError) (status : ℕ) (P : Outcome → Type 0) → EndsWell t → UnderSome t (λ o. StopsAs o e × P o) → (e ≡ Run.ReadFault → ⊥) → (e ≡ Run.WriteFault → ⊥)
+pub ends_whole : (t : Request) (e : RunError) (status : ℕ) (P : Outcome → Type 0) → EndsWell t → UnderSome t (λ o. StopsAs o e × P o) → (e ≡ Run.ReadFault → ⊥) → (e ≡ Run.WriteFault → ⊥)
     → (status ≡ status_of e) ⊎ (status ≡ 6) → (status ≡ 0) ⊎ (status ≡ 6)
 ends_whole t e status P well u read write (inr memory) = inr memory
 ends_whole t e status P well u read write (inl is) = by u.holds.0

@@ -17,7 +17,7 @@ use Rattle.words.specs.declared.settings.AppKind.{AppKind}
 use Rattle.mos_run.specs.declared.refusal.RunError.TheVariants as Run
 use Rattle.mos_run.specs.Apps.{meaning_of}
 use Rattle.mos_run.specs.Refusal.{script_refusal}
-use Rattle.mos_run.specs.Told.{commands_in, read_as}
+use Rattle.mos_run.specs.Request.{commands_in, read_as}
 use Rattle.mos_run.proofs.Following.{both}
 
 -- no text has no commands

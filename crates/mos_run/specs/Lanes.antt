@@ -9,7 +9,7 @@ use Rattle.mos_run.specs.declared.output.Output.{Output}
 use Rattle.mos_run.specs.declared.refusal.RunError.{RunError}
 use Rattle.mos_run.specs.Records.{packets_with}
 use Rattle.mos_run.specs.Outcome.{Outcome, outcome_over}
-use Rattle.mos_run.specs.Told.{frames_in}
+use Rattle.mos_run.specs.Request.{frames_in}
 use Rattle.mos_run.specs.Run.{Finishes, StopsAs}
 
 module _ (app : Meaning) (script : List Stamped) (lanes : ℕ) (output : Output) (bytes : List ℕ) where

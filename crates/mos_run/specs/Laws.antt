@@ -11,7 +11,7 @@ use Rattle.worker_pool.specs.Run.{MayHave}
 use Rattle.mos_run.specs.declared.output.Output.{Output}
 use Rattle.mos_run.specs.Records.{packets_of, packets_with, records_of, versions_of}
 use Rattle.mos_run.specs.Outcome.{outcome}
-use Rattle.mos_run.specs.Told.{frames_in}
+use Rattle.mos_run.specs.Request.{frames_in}
 
 -- the versions that the records of these bytes have with one worker: each the ceiling of its first packet
 abbrev pub ceilings_of : Meaning → List Stamped → List ℕ → List ℕ

@@ -4,7 +4,7 @@ pub mod Forward
 pub mod Summary
 pub mod Refusal
 pub mod Outcome
-pub mod Told
+pub mod Request
 pub mod Reading
 pub mod Run
 pub mod Runs

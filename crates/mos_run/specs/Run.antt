@@ -13,7 +13,7 @@ use Rattle.mos_run.specs.declared.refusal.RunError.{RunError}
 use Rattle.mos_run.specs.declared.refusal.RunError.TheVariants.{ReadFault, WriteFault, NoMemory}
 use Rattle.mos_run.specs.Outcome.{Outcome, is_forward, output_of}
 use Rattle.mos_run.specs.Refusal.{status_of, refusal_text}
-use Rattle.mos_run.specs.Told.{Told, Allows, outcome_under, told as told_by}
+use Rattle.mos_run.specs.Request.{Request, Allows, outcome_under, request_of}
 
 -- the run ends well, under these versions, and all of its text was written, and nothing else
 pub record Finishes (o : Outcome) (versions : List ℕ) (old new : Option (List ℕ)) : Type 0 where
@@ -39,30 +39,30 @@ abbrev pub WritesText : Option (List ℕ) → Option (List ℕ) → ℕ → ℕ 
 WritesText old new before now text = Appends old new text ⊎ (Rose before now × AppendsFront old new text)
 
 -- something holds of the outcome of a run under versions that it may have
-pub record UnderSome (told : Told) (P : Outcome → Type 0) : Type 0 where
+pub record UnderSome (request : Request) (P : Outcome → Type 0) : Type 0 where
   pub versions : List ℕ
-  pub allowed : Allows told versions
-  pub holds : P (outcome_under versions told)
+  pub allowed : Allows request versions
+  pub holds : P (outcome_under versions request)
 
 -- the run ends well under these versions, which it may have
-pub record FinishesUnder (told : Told) (versions : List ℕ) (old new : Option (List ℕ)) : Type 0 where
-  pub allowed : Allows told versions
-  pub finishes : Finishes (outcome_under versions told) versions old new
+pub record FinishesUnder (request : Request) (versions : List ℕ) (old new : Option (List ℕ)) : Type 0 where
+  pub allowed : Allows request versions
+  pub finishes : Finishes (outcome_under versions request) versions old new
 
 -- a run ends well under all versions that it may have
-abbrev pub EndsWell : Told → Type 0
-EndsWell told = (versions : List ℕ) → Allows told versions → IsOk (outcome_under versions told).ends
+abbrev pub EndsWell : Request → Type 0
+EndsWell request = (versions : List ℕ) → Allows request versions → IsOk (outcome_under versions request).ends
 
 -- a run that answers versions, or why it stopped, with a front of its text
-abbrev pub RunsUnder : Told → Option (List ℕ) → Option (List ℕ) → Result (List ℕ) RunError → Type 0
-RunsUnder told old new (Ok versions) = FinishesUnder told versions old new
-RunsUnder told old new (Err e) = UnderSome told (λ o. StopsAs o e × AppendsFront old new o.text)
+abbrev pub RunsUnder : Request → Option (List ℕ) → Option (List ℕ) → Result (List ℕ) RunError → Type 0
+RunsUnder request old new (Ok versions) = FinishesUnder request versions old new
+RunsUnder request old new (Err e) = UnderSome request (λ o. StopsAs o e × AppendsFront old new o.text)
 
 -- the refusal of this status was told on err: one that stops a run as it was told, where that is known
-pub record Tells (told : Option Told) (status : ℕ) (old new : Option (List ℕ)) (before now : ℕ) : Type 0 where
+pub record Tells (request : Option Request) (status : ℕ) (old new : Option (List ℕ)) (before now : ℕ) : Type 0 where
   pub refusal : RunError
   pub status_is : status ≡ status_of refusal
-  pub of_run : (t : Told) → told ≡ Some t → UnderSome t (λ o. StopsAs o refusal)
+  pub of_run : (t : Request) → request ≡ Some t → UnderSome t (λ o. StopsAs o refusal)
   pub text : WritesText old new before now (refusal_text refusal)
 
 -- a refusal was told on err with its status, or want of memory for its line in its place
@@ -100,7 +100,7 @@ module _ {S H O E : Type 0} (source : Source S) (shelf : Shelf H) (sink : Sink O
     -- where all was written, the capture was read whole
     pub read : ended.status ≡ 0 → ReadsCapture words (source.left s) (source.left t)
     -- every other status has its cause; only want of memory has none
-    pub ends : (x : Told) → told_by words (shelf.content h) (source.left s) ≡ Some x → UnderSome x (λ outcome. EndsAs outcome ended.status)
+    pub ends : (x : Request) → request_of words (shelf.content h) (source.left s) ≡ Some x → UnderSome x (λ outcome. EndsAs outcome ended.status)
     pub usage : words_settings words ≡ None → ((ended.status ≡ 1) ⊎ (ended.status ≡ 6)) × (t ≡ s) × (i ≡ h) × (p ≡ o)
     pub only_usage : ended.status ≡ 1 → words_settings words ≡ None
     pub read_fault : ended.status ≡ 4 → Rose (source.faults s) (source.faults t) ⊎ Rose (shelf.faults h) (shelf.faults i)
@@ -113,14 +113,14 @@ module _ {S H O E : Type 0} (source : Source S) (shelf : Shelf H) (sink : Sink O
     pub unasked : NamesNone words → (i ≡ h) × (ended.status ≢ 2)
     -- what is written where the output isn't whole
     pub silent : forwards (words_settings words) ≡ false → ComesBefore ended.status → p ≡ o
-    pub front : (x : Told) → told_by words (shelf.content h) (source.left s) ≡ Some x
+    pub front : (x : Request) → request_of words (shelf.content h) (source.left s) ≡ Some x
         → UnderSome x (λ outcome. AppendsFront (sink.taken o) (sink.taken p) outcome.text)
     pub no_versions : ended.status ≢ 0 → ended.versions ≡ []
     -- what is told on err
     pub told_nothing : ended.status ≡ 0 → f ≡ e
-    pub told : ended.status ≢ 0 → Tells (told_by words (shelf.content h) (source.left s)) ended.status (err.taken e) (err.taken f) (err.faults e) (err.faults f)
+    pub told : ended.status ≢ 0 → Tells (request_of words (shelf.content h) (source.left s)) ended.status (err.taken e) (err.taken f) (err.faults e) (err.faults f)
     -- what ends well under all versions that it may have is written whole, or memory is refused, unless the outside fails
-    pub complete : (x : Told) → told_by words (shelf.content h) (source.left s) ≡ Some x → EndsWell x
+    pub complete : (x : Request) → request_of words (shelf.content h) (source.left s) ≡ Some x → EndsWell x
         → ¬ Rose (source.faults s) (source.faults t) → ¬ Rose (shelf.faults h) (shelf.faults i) → ¬ Rose (sink.faults o) (sink.faults p)
         → (ended.status ≡ 0) ⊎ (ended.status ≡ 6)
     -- what no call of the outside changes stays

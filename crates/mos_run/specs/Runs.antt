@@ -22,7 +22,7 @@ use Rattle.mos_run.specs.Records.{packets_of}
 use Rattle.mos_run.specs.Outcome.{is_forward, outcome_over, output_of, weighed}
 use Rattle.mos_bytes.specs.Outside.{Reads, Writes}
 use Rattle.mos_run.specs.Refusal.{status_of}
-use Rattle.mos_run.specs.Told.{Asked, bytes_under, given_under}
+use Rattle.mos_run.specs.Request.{Asked, bytes_under, given_under}
 use Rattle.mos_run.specs.Run.{RunsAs, RunsUnder, ReadsCapture, Makes, NamesNone, forwards}
 
 -- an application may run under a script

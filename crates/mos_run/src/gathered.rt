@@ -1,7 +1,7 @@
 //! The top call over an output of which each call costs much, as a file or a pipe.
 
 ghost use Rattle.std.specs.Prelude.{◌≡◌, map, Some, string_bytes};
-ghost use Rattle.mos_run.specs.Told.{Told, told};
+ghost use Rattle.mos_run.specs.Request.{Request, request_of};
 ghost use Rattle.mos_run.specs.Run.{FinishesUnder, MosRun};
 
 use crate::ended::{Ended, handed_on, refuse};
@@ -48,7 +48,7 @@ pub fn run_gathered<
 ) -> GatheredRun<O>
     // On status 0 exactly the text of the run's outcome was added to out, under the versions answered, which the run may have.
     ensures done { result.ended.status ≡ 0
-        → (t : Told) → told (map string_bytes words.now) (H.content shelf.old) (S.left capture.old) ≡ Some t
+        → (t : Request) → request_of (map string_bytes words.now) (H.content shelf.old) (S.left capture.old) ≡ Some t
         → FinishesUnder t result.ended.versions (O.taken out) (O.taken result.out) }
     ensures ran { MosRun S.Source H.Shelf O.Sink E.Sink (map string_bytes words.now)
         capture.old capture.new shelf.old shelf.new out result.out err.old err.new result.ended }

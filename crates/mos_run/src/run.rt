@@ -3,7 +3,7 @@
 ghost use Rattle.std.specs.Prelude.{◌≡◌, ◌≤◌, map, Some, IfSome, string_bytes};
 ghost use Rattle.pcapng_source.specs.Given.{whole};
 ghost use Rattle.mos_run.specs.Apps.{meaning_of};
-ghost use Rattle.mos_run.specs.Told.{Told, Asked, told};
+ghost use Rattle.mos_run.specs.Request.{Request, Asked, request_of};
 ghost use Rattle.mos_run.specs.Run.{FinishesUnder, MosRun, RunsUnder};
 ghost use Rattle.mos_run.specs.Runs.{IsJob, RunsOverFile, RunsUnderSettings, RunsUnderWords};
 
@@ -95,8 +95,8 @@ fn run<
     out: &mut O,
     natives: &NativeBook,
 ) -> Result<VersionList, RunError>
-    ensures runs { (t : Told)
-        → told (map string_bytes words.now) (H.content shelf.old) (S.left capture.old) ≡ Some t
+    ensures runs { (t : Request)
+        → request_of (map string_bytes words.now) (H.content shelf.old) (S.left capture.old) ≡ Some t
         → RunsUnder t (O.taken out.old) (O.taken out.new) result }
     ensures ran { RunsUnderWords S.Source H.Shelf O.Sink (map string_bytes words.now)
         capture.old capture.new shelf.old shelf.new out.old out.new result }
@@ -152,7 +152,7 @@ pub fn run_mos<
 ) -> Ended
     // On status 0 exactly the text of the run's outcome was added to out, under the versions answered, which the run may have.
     ensures done { result.status ≡ 0
-        → (t : Told) → told (map string_bytes words.now) (H.content shelf.old) (S.left capture.old) ≡ Some t
+        → (t : Request) → request_of (map string_bytes words.now) (H.content shelf.old) (S.left capture.old) ≡ Some t
         → FinishesUnder t result.versions (O.taken out.old) (O.taken out.new) }
     ensures ran { MosRun S.Source H.Shelf O.Sink E.Sink (map string_bytes words.now)
         capture.old capture.new shelf.old shelf.new out.old out.new err.old err.new result }

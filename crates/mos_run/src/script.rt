@@ -4,7 +4,7 @@ ghost use Rattle.std.specs.Prelude.{◌≡◌, ◌⊎◌, ◌<◌, ◌≤◌, �
 ghost use Rattle.control_script.specs.Order.{are_in_order};
 ghost use Rattle.mos_run.specs.Apps.{meaning_of};
 ghost use Rattle.mos_bytes.specs.Outside.{Fetches};
-ghost use Rattle.mos_run.specs.Told.{commands_in, text_under};
+ghost use Rattle.mos_run.specs.Request.{commands_in, text_under};
 ghost use Rattle.mos_run.specs.Refusal.{status_of};
 ghost use Rattle.mos_run.specs.Runs.{MayRun};
 

@@ -9,7 +9,8 @@ use Rattle.pcap_source.specs.Reading.{IsRecord}
 use Rattle.pcap_source.specs.declared.order.Order.{Order}
 
 -- head and data were copied, and the numbers of the head were read
-module _ (order : Order) (n : ℕ) (lent : List ℕ) (copied frame : Captured) (head : copied.head ≡ take 16 lent) (bytes : copied.bytes ≡ take n (drop 16 lent)) (is : frame ≡ record_of order copied.head copied.bytes) where
+module _ (order : Order) (n : ℕ) (lent : List ℕ) (copied frame : Captured) (head : copied.head ≡ take 16 lent)
+    (bytes : copied.bytes ≡ take n (drop 16 lent)) (is : frame ≡ record_of order copied.head copied.bytes) where
   pub is_record : 16 + n ≤ length lent → n ≤ 262144 → n ≡ number_in order 4 (drop 8 (take 16 lent)) → IsRecord order frame
   is_record within bounded told =
       let len : length copied.bytes ≡ n = ap length bytes ∙ length-take-le n (drop 16 lent) (omega (arith, length-drop 16 lent)) in
@@ -22,4 +23,5 @@ module _ (order : Order) (n : ℕ) (lent : List ℕ) (copied frame : Captured) (
 
   pub is_consumed : (old new : Option (List ℕ)) → Consumes old new (take (16 + n) lent) → Consumes old new (frame.head ++ frame.bytes)
   is_consumed old new consumed =
-      subst (Consumes old new) (take-add 16 n lent ∙ ap (λ h. h ++ take n (drop 16 lent)) (sym head) ∙ ap (λ b. copied.head ++ b) (sym bytes) ∙ ap (λ (f : Captured). f.head ++ f.bytes) (sym is)) consumed
+      subst (Consumes old new) (take-add 16 n lent ∙ ap (λ h. h ++ take n (drop 16 lent)) (sym head) ∙ ap (λ b. copied.head ++ b) (sym bytes)
+          ∙ ap (λ (f : Captured). f.head ++ f.bytes) (sym is)) consumed

@@ -47,8 +47,10 @@ count-by order a b options false false is_past is_told fits within again =
 
 -- how many options are counted makes no difference where there aren't more bytes
 pub resolution-count : (order : Order) (a b : ℕ) (options : List ℕ) → length options ≤ a → length options ≤ b → resolution_in order a options ≡ resolution_in order b options
-resolution-count order zero b options fits within = resolution-none order zero options (past-short order options (omega arith)) ∙ sym (resolution-none order b options (past-short order options (omega arith)))
-resolution-count order (suc a) zero options fits within = resolution-none order (suc a) options (past-short order options (omega arith)) ∙ sym (resolution-none order zero options (past-short order options (omega arith)))
+resolution-count order zero b options fits within = resolution-none order zero options (past-short order options (omega arith))
+    ∙ sym (resolution-none order b options (past-short order options (omega arith)))
+resolution-count order (suc a) zero options fits within = resolution-none order (suc a) options (past-short order options (omega arith))
+    ∙ sym (resolution-none order zero options (past-short order options (omega arith)))
 resolution-count order (suc a) (suc b) options fits within =
     count-by order a b options (is_past_options order options) (is_resolution order options) refl refl fits within (resolution-count order a b)
 

@@ -61,7 +61,8 @@ is_free w fin rbuf p laid bounded r h =
     ap is_some (receiver_cell w fin rbuf laid r h k (omega arith))
     ∙ some_of_cond (is_accepted w.next (runs_of w.runs) k) (byte_at w k) ∙ bounded_cell w p k bounded (omega arith))
 
-pub is_taken : (w : Window) (fin : Option ℕ) (rbuf p q : ℕ) → IsLaid w → p ≤ q → is_accepted w.next (runs_of w.runs) q ≡ true → (r : Receiver) → StandsFor (view_of w fin rbuf) r → false ≡ is_free_from r.cells p
+pub is_taken : (w : Window) (fin : Option ℕ) (rbuf p q : ℕ) → IsLaid w → p ≤ q → is_accepted w.next (runs_of w.runs) q ≡ true → (r : Receiver)
+    → StandsFor (view_of w fin rbuf) r → false ≡ is_free_from r.cells p
 is_taken w fin rbuf p q laid l accepted r h =
     let next : w.next ≡ next_of r.cells = h.next in
     let filled : is_some (held r.cells q) ≡ true = ⊎_elim
@@ -84,7 +85,8 @@ refused_is r (pos x) edge e = absurd (cc e)
 refused_is r (negsuc n) edge e = refl
 
 -- only a noted FIN changes the stream
-pub stands_noted : (s n : StreamView) (r : Receiver) (q : ℤ) (edge : ℕ) → StandsFor s r → n.next ≡ s.next → n.kept ≡ s.kept → n.rbuf ≡ s.rbuf → n.fin ≡ fin_after r q (note_of r q edge) → StandsFor n (noted r q edge)
+pub stands_noted : (s n : StreamView) (r : Receiver) (q : ℤ) (edge : ℕ) → StandsFor s r → n.next ≡ s.next → n.kept ≡ s.kept → n.rbuf ≡ s.rbuf
+    → n.fin ≡ fin_after r q (note_of r q edge) → StandsFor n (noted r q edge)
 unfolding noted
 stands_noted s n r q edge h next cells rbuf fin = record {
   next = next ∙ h.next;

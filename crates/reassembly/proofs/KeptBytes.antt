@@ -24,7 +24,8 @@ none_here None e rest = refl
 none_here (Some x) e rest = absurd (true≢false e)
 
 -- bytes that stand at the run's positions, up to its end or to the n-th, are the run
-pub bytes_are : (at : ℕ → Option ℕ) (xs : List ℕ) (n p : ℕ) → length xs ≤ n → ((i : ℕ) → i < length xs → at (p + i) ≡ Some (slice_index xs i)) → (length xs < n → is_some (at (p + length xs)) ≡ false) → bytes_from at p n ≡ xs
+pub bytes_are : (at : ℕ → Option ℕ) (xs : List ℕ) (n p : ℕ) → length xs ≤ n → ((i : ℕ) → i < length xs → at (p + i) ≡ Some (slice_index xs i))
+    → (length xs < n → is_some (at (p + length xs)) ≡ false) → bytes_from at p n ≡ xs
 bytes_are at [] zero p l here stops = refl
 bytes_are at [] (suc n) p l here stops = none_here (at p) (ap (λ x. is_some (at x)) (sym (add-zero p)) ∙ stops (omega arith)) (bytes_from at (p + 1) n)
 bytes_are at (x ∷ xs) zero p l here stops = absurd (omega arith)

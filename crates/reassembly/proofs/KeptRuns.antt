@@ -61,7 +61,8 @@ run_to_end w rbuf p run laid over item from below =
     let runs : List Run = runs_of w.runs in
     record {
       order = omega arith;
-      run = λ x l h. kept_some w rbuf x (omega arith) (accepted_from_next w.next runs x (omega arith) ∙ covered_by runs item.at x item.within (rw item.is (let m : run.start ≤ x = omega arith in m)) (rw item.is h));
+      run = λ x l h. kept_some w rbuf x (omega arith) (accepted_from_next w.next runs x (omega arith)
+          ∙ covered_by runs item.at x item.within (rw item.is (let m : run.start ≤ x = omega arith in m)) (rw item.is h));
       stops = gap_open w rbuf run.end (omega arith) (end_open runs run laid.ordered item);
     }
 
@@ -83,10 +84,12 @@ first_above w rbuf p run laid over gap item above least =
           (λ (b : p < other.start). let up : run.start ≤ other.start = least other there b in absurd (omega arith))
           (λ (b : other.start ≤ p). b)
           (cases_lt p other.start)));
-      here = kept_some w rbuf run.start (omega arith) (accepted_from_next w.next runs run.start (omega arith) ∙ covered_by runs item.at run.start item.within (rw item.is (let m : run.start ≤ run.start = omega arith in m)) (rw item.is filled));
+      here = kept_some w rbuf run.start (omega arith) (accepted_from_next w.next runs run.start (omega arith)
+          ∙ covered_by runs item.at run.start item.within (rw item.is (let m : run.start ≤ run.start = omega arith in m)) (rw item.is filled));
     }
 
-pub none_past : (w : Window) (rbuf p : ℕ) → w.next ≤ p → is_covered (runs_of w.runs) p ≡ false → ((other : Run) → HasItem (runs_of w.runs) other → other.start ≤ p) → (x : ℕ) → p ≤ x → is_some (kept_at w rbuf x) ≡ false
+pub none_past : (w : Window) (rbuf p : ℕ) → w.next ≤ p → is_covered (runs_of w.runs) p ≡ false
+    → ((other : Run) → HasItem (runs_of w.runs) other → other.start ≤ p) → (x : ℕ) → p ≤ x → is_some (kept_at w rbuf x) ≡ false
 none_past w rbuf p over gap before x l = gap_open w rbuf x (omega arith) (still_open (runs_of w.runs) p x gap l (λ other there from. before other there))
 
 -- a search that found nothing

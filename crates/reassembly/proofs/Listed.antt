@@ -158,7 +158,8 @@ pub kept_item : (test : ℕ × ℕ → Bool) (es : List (ℕ × ℕ)) (run : Run
 kept_item test [] run item passes = let w : item.at < 0 = item.within in absurd (omega arith)
 kept_item test (e ∷ es) run item passes = at_place (λ it. kept_item test es run it passes) item.at item.within item.is
   where
-    at_place : (HasItem (map run_of es) run → HasItem (map run_of (filter test es)) run) → (k : ℕ) → k < suc (length (map run_of es)) → run_at (run_of e ∷ map run_of es) k ≡ run → HasItem (map run_of (filter test (e ∷ es))) run
+    at_place : (HasItem (map run_of es) run → HasItem (map run_of (filter test es)) run) → (k : ℕ) → k < suc (length (map run_of es))
+        → run_at (run_of e ∷ map run_of es) k ≡ run → HasItem (map run_of (filter test (e ∷ es))) run
     at_place later zero l is =
         let same : e ≡ (run.start, run.end) = ap (λ (r : Run). (r.start, r.end)) is in
         let yes : test e ≡ true = ap test same ∙ passes in
@@ -184,13 +185,15 @@ pub kept_from : (test : ℕ × ℕ → Bool) (es : List (ℕ × ℕ)) (run : Run
 kept_from test [] run item = let w : item.at < 0 = item.within in absurd (omega arith)
 kept_from test (e ∷ es) run item = by_test (λ it. kept_later test e es run (kept_from test es run it)) (test e) refl item
   where
-    at_place : (HasItem (map run_of (filter test es)) run → IsKept test (e ∷ es) run) → (k : ℕ) → test e ≡ true → k < suc (length (map run_of (filter test es))) → run_at (run_of e ∷ map run_of (filter test es)) k ≡ run → IsKept test (e ∷ es) run
+    at_place : (HasItem (map run_of (filter test es)) run → IsKept test (e ∷ es) run) → (k : ℕ) → test e ≡ true
+        → k < suc (length (map run_of (filter test es))) → run_at (run_of e ∷ map run_of (filter test es)) k ≡ run → IsKept test (e ∷ es) run
     at_place later zero t l is =
         let same : e ≡ (run.start, run.end) = ap (λ (r : Run). (r.start, r.end)) is in
         record { item = record { at = 0; within = omega arith; is = is }; passes = ap test (sym same) ∙ t }
     at_place later (suc k) t l is = later (record { at = k; within = omega arith; is = is })
 
-    by_test : (HasItem (map run_of (filter test es)) run → IsKept test (e ∷ es) run) → (b : Bool) → test e ≡ b → HasItem (map run_of (cond b (e ∷ filter test es) (filter test es))) run → IsKept test (e ∷ es) run
+    by_test : (HasItem (map run_of (filter test es)) run → IsKept test (e ∷ es) run) → (b : Bool) → test e ≡ b
+        → HasItem (map run_of (cond b (e ∷ filter test es) (filter test es))) run → IsKept test (e ∷ es) run
     by_test later true is item = at_place later item.at is item.within item.is
     by_test later false is item = later item
 

@@ -105,7 +105,8 @@ cells_taken old ready met new low bytes policy is_laid from t p reach =
     (λ e. refl)
 
 -- what is accepted is held
-pub held_taken : (old : Window) (ready : Pages) (met : List Run) (new : Window) (low : ℕ) (bytes : List ℕ) (policy : Policy) → IsLaid old → IsReady ready low (low + length bytes) → IsTaken old ready met new low bytes policy
+pub held_taken : (old : Window) (ready : Pages) (met : List Run) (new : Window) (low : ℕ) (bytes : List ℕ) (policy : Policy) → IsLaid old
+    → IsReady ready low (low + length bytes) → IsTaken old ready met new low bytes policy
     → (p : ℕ) → new.bytes.base ≤ p → is_accepted new.next (runs_of new.runs) p ≡ true → IsHeld new.bytes p
 held_taken old ready met new low bytes policy is_laid is_ready t p reach e = t.place.held p (⊎_elim
     (λ (was : is_accepted old.next (runs_of old.runs) p ≡ true). t.grown.held p (is_laid.held p (rw (t.place.base ∙ t.grown.base) at reach) was))

@@ -42,7 +42,8 @@ tail_path x y xs ys e = cc
 head_path : {A : Type 0} (x y : A) (xs ys : List A) → x ∷ xs ≡ y ∷ ys → x ≡ y
 head_path x y xs ys e = cc
 
-pub same_nodes : (before : List ℕ) (place : ℕ) (ns ms : List Node) (slots : List Slot) → AreLaidOut (length before) ns → AreLaidOut (length before) ms → ArePacked place ns (length slots) → ArePacked place ms (length slots) → listing_after before ns slots ≡ listing_after before ms slots → ns ≡ ms
+pub same_nodes : (before : List ℕ) (place : ℕ) (ns ms : List Node) (slots : List Slot) → AreLaidOut (length before) ns → AreLaidOut (length before) ms
+    → ArePacked place ns (length slots) → ArePacked place ms (length slots) → listing_after before ns slots ≡ listing_after before ms slots → ns ≡ ms
 same_nodes before place [] [] slots ln lm pn pm e = refl
 same_nodes before place [] (m ∷ ms) slots ln lm pn pm e = cc
 same_nodes before place (n ∷ ns) [] slots ln lm pn pm e = cc
@@ -61,7 +62,9 @@ same_nodes before place (n ∷ ns) (m ∷ ms) slots ln lm pn pm e =
     let events : n.event ≡ m.event = (same_from_push (take (n.depth - 1) before) (take (m.depth - 1) before) n.event m.event paths).1 in
     let firsts : n.first ≡ m.first = pn.0 ∙ sym pm.0 in
     let counts : n.count ≡ m.count = sym (length-slots_of place n ns slots pn) ∙ (ap length held ∙ length-slots_of place m ms slots pm) in
-    let rest : ns ≡ ms = same_nodes (path_after before n) (place + n.count) ns ms slots (subst (λ (d : ℕ). AreLaidOut d ns) (sym dn) ln.3) (subst (λ (d : ℕ). AreLaidOut d ms) (sym dm ∙ ap length (sym paths)) lm.3) pn.1 (subst (λ (c : ℕ). ArePacked (place + c) ms (length slots)) (sym counts) pm.1) (tail ∙ ap (λ (p : List ℕ). listing_after p ms slots) (sym paths)) in
+    let rest : ns ≡ ms = same_nodes (path_after before n) (place + n.count) ns ms slots (subst (λ (d : ℕ). AreLaidOut d ns) (sym dn) ln.3)
+        (subst (λ (d : ℕ). AreLaidOut d ms) (sym dm ∙ ap length (sym paths)) lm.3) pn.1
+        (subst (λ (c : ℕ). ArePacked (place + c) ms (length slots)) (sym counts) pm.1) (tail ∙ ap (λ (p : List ℕ). listing_after p ms slots) (sym paths)) in
     let belows : n.below ≡ m.below = ln.2 ∙ (ap (λ (d : ℕ). under d ns) depths ∙ (ap (λ (l : List Node). under m.depth l) rest ∙ sym lm.2)) in
     let heads : n ≡ m = same_node n m events depths belows firsts counts in
     cc
@@ -102,5 +105,6 @@ same_topped (n ∷ ns) (m ∷ ms) slots ta tb e =
 pub one_listing : (a b : TreeLists) → IsTree a.nodes a.slots → IsTree b.nodes b.slots → listing a ≡ listing b → a ≡ b
 one_listing a b ta tb e =
     let slots : a.slots ≡ b.slots = same_slots a.nodes b.nodes a.slots b.slots ta tb e in
-    let nodes : a.nodes ≡ b.nodes = same_topped a.nodes b.nodes a.slots ta (subst (λ (s : List Slot). IsTree b.nodes s) (sym slots) tb) (e ∙ ap (λ (s : List Slot). listing_of b.nodes s) (sym slots)) in
+    let nodes : a.nodes ≡ b.nodes = same_topped a.nodes b.nodes a.slots ta (subst (λ (s : List Slot). IsTree b.nodes s) (sym slots) tb) (e
+        ∙ ap (λ (s : List Slot). listing_of b.nodes s) (sym slots)) in
     same_lists a b nodes slots

@@ -9,9 +9,9 @@ use Rattle.app_api.specs.declared.reaction.Verdict.{Verdict}
 use Rattle.app_api.specs.declared.reaction.Verdict.TheVariants.{Pass, Drop}
 use Rattle.builtin_events.specs.declared.raise.Raise.{Raise}
 use Rattle.forest_versions.specs.State.{ControlState}
-use Rattle.connection_core.specs.Course.{Course}
+use Rattle.connection_core.specs.PacketUnderWay.{PacketUnderWay}
 use Rattle.connection_core.specs.Silence.{silenced}
-use Rattle.connection_core.specs.History.{History, fresh, followed, received_unless, orphaned, verdict_of, lone_course, drops_of as drops_by, weight_of}
+use Rattle.connection_core.specs.History.{History, fresh, followed, received_unless, orphan_history, verdict_of, orphan_under_way, drops_of as drops_by, weight_of}
 use Rattle.lane_core.specs.Sight.{Sight, Tcp, Other, Moment, Arrival}
 use Rattle.lane_core.specs.Records.{VersionedPacket, RecordSoFar, belongs_to, side_in, history_after, opens, orphan_raises_of, timer_raise_of, is_shut, is_silent, ended_by_silence, ended_before, ended_at, continued_by, placed, added, records_from}
 use Rattle.lane_core.specs.Shown.{total, weight, callbacks_of, drops_of}
@@ -33,7 +33,7 @@ callbacks_weigh (r ∷ run) = let here = entries_weigh r.history.entries in let 
 
 -- ---- dropped packets: at most one with each packet
 
-drops_unless : (o : Option Reason) (number : ℕ) (s r : Course) (h : History) → length (received_unless o number s r h).drops ≤ length h.drops + 1
+drops_unless : (o : Option Reason) (number : ℕ) (s r : PacketUnderWay) (h : History) → length (received_unless o number s r h).drops ≤ length h.drops + 1
 drops_unless None number s r h = omega arith
 drops_unless (Some reason) number s r h = let one = length_push h.drops (number, reason) in omega arith
 
@@ -52,12 +52,12 @@ drops_by_verdict : (v : Verdict) (number : ℕ) → length (drops_by v number) �
 drops_by_verdict Pass number = omega arith
 drops_by_verdict (Drop reason) number = omega arith
 
-drops_alone : (app : Meaning) (control : ControlState) (number : ℕ) (raises : List Raise) → length (orphaned app control number raises).drops ≤ 1
-unfolding orphaned
-drops_alone app control number raises = drops_by_verdict (verdict_of (lone_course app control number raises).drop) number
+drops_alone : (app : Meaning) (control : ControlState) (number : ℕ) (raises : List Raise) → length (orphan_history app control number raises).drops ≤ 1
+unfolding orphan_history
+drops_alone app control number raises = drops_by_verdict (verdict_of (orphan_under_way app control number raises).drop) number
 
 first_drop : (app : Meaning) (control : ControlState) (a : Arrival) (b : Bool)
-    → length (if b then history_after app control a.sight a (fresh app control) else orphaned app control a.number (orphan_raises_of a.sight)).drops ≤ 1
+    → length (if b then history_after app control a.sight a (fresh app control) else orphan_history app control a.number (orphan_raises_of a.sight)).drops ≤ 1
 first_drop app control a true = one_drop app control a.sight a (fresh app control)
 first_drop app control a false = drops_alone app control a.number (orphan_raises_of a.sight)
 

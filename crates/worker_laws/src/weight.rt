@@ -1,7 +1,7 @@
 //! Whether the callbacks of records weigh more than a report may.
 
 ghost use Rattle.std.specs.Prelude.{◌≡◌, ◌+◌, ◌-◌, ◌^◌, min};
-ghost use Rattle.connection_core.specs.Course.{bytes_in, bytes_seen};
+ghost use Rattle.connection_core.specs.PacketUnderWay.{bytes_in, bytes_seen};
 ghost use Rattle.connection_core.specs.History.{weight_of};
 ghost use Rattle.worker_laws.specs.Weight.{weight_in, weighs_too_much};
 

@@ -16,7 +16,7 @@ use crate::kept::Kept;
 use crate::lane::Lane;
 use crate::recorder::Recorder;
 use crate::report::{ReportError, Reporter, version_of_each, write_slots};
-use crate::world::World;
+use crate::settings::LaneSettings;
 use app_api::{App, Verdict, presets_of};
 use flow_table::Key;
 use flow_timers::Moment;
@@ -45,9 +45,9 @@ impl<A: App + Drop, F: Forests + Drop> Lane<A, F> {
         let mut forests = forests;
         let presets = presets_of(alloc, &app)?;
         let master = Master::new(alloc, &mut forests, &presets)?;
-        let world = World { app, master, keep };
+        let settings = LaneSettings { app, master, keep };
         Ok(Lane {
-            world,
+            settings,
             forests,
             kept: Kept::new(alloc),
             next: 0,
@@ -63,18 +63,18 @@ impl<A: App + Drop, F: Forests + Drop> Lane<A, F> {
         natives: &NativeBook,
     ) -> Result<Closed<A>, LaneError>
         ensures failed { HadFailed self.failed (λ e. result ≡ Err e) }
-        ensures app { IfOk result (λ closed. closed.app ≡ self.world.app) }
+        ensures app { IfOk result (λ closed. closed.app ≡ self.settings.app) }
         ensures closed { self.failed ≡ None → IfOk result (λ closed.
             ForEvents (⟦<Lane<A, F> as Recorder>⟧.stands self) (λ events.
-            IsClosed self.world.keep (ended_run (A.meaning self.world.app) events greatest)
+            IsClosed self.settings.keep (ended_run (A.meaning self.settings.app) events greatest)
             closed.slots.items closed.callbacks closed.drops)) }
-        ensures light { OnOk result (self.world.keep ≡ true → ForEvents (⟦<Lane<A, F> as Recorder>⟧.stands self)
-            (λ events. IsHeavyAtEnd (A.meaning self.world.app) events greatest → ⊥)) }
-        ensures heavy { self.failed ≡ None → result ≡ Err LaneError.Heavy → (self.world.keep ≡ true)
-            × ForEvents (⟦<Lane<A, F> as Recorder>⟧.stands self) (IsHeavyBy greatest (A.meaning self.world.app)) }
+        ensures light { OnOk result (self.settings.keep ≡ true → ForEvents (⟦<Lane<A, F> as Recorder>⟧.stands self)
+            (λ events. IsHeavyAtEnd (A.meaning self.settings.app) events greatest → ⊥)) }
+        ensures heavy { self.failed ≡ None → result ≡ Err LaneError.Heavy → (self.settings.keep ≡ true)
+            × ForEvents (⟦<Lane<A, F> as Recorder>⟧.stands self) (IsHeavyBy greatest (A.meaning self.settings.app)) }
     {
         let Lane {
-            world,
+            settings,
             forests,
             kept,
             failed,
@@ -84,14 +84,14 @@ impl<A: App + Drop, F: Forests + Drop> Lane<A, F> {
             return Err(error);
         }
         let mut kept = kept;
-        close(alloc, &world, natives, &forests, &mut kept, greatest)?;
+        close(alloc, &settings, natives, &forests, &mut kept, greatest)?;
         let Kept {
             slots,
             ledger,
             dropped,
             ..
         } = kept;
-        let World { app, .. } = world;
+        let LaneSettings { app, .. } = settings;
         Ok(Closed {
             app,
             slots,
@@ -123,15 +123,15 @@ impl<A: App + Drop, F: Forests + Drop> Lane<A, F> {
 impl<A: App + Drop, F: Forests + Drop> Recorder for Lane<A, F> {
     ghost use Rattle.lane_core.specs.Lane.{IsRun, newest_by};
 
-    ghost stands = { λ lane events. IsRun (A.meaning lane.world.app) lane.world.keep lane.world.master (F.content lane.forests) lane.kept lane.next lane.failed events };
+    ghost stands = { λ lane events. IsRun (A.meaning lane.settings.app) lane.settings.keep lane.settings.master (F.content lane.forests) lane.kept lane.next lane.failed events };
 
-    ghost app = { λ lane. A.meaning lane.world.app };
+    ghost app = { λ lane. A.meaning lane.settings.app };
 
-    ghost keeps = { λ lane. lane.world.keep };
+    ghost keeps = { λ lane. lane.settings.keep };
 
-    ghost control = { λ lane. lane.world.master.now };
+    ghost control = { λ lane. lane.settings.master.now };
 
-    ghost given = { λ lane. lane.world.master.version };
+    ghost given = { λ lane. lane.settings.master.version };
 
     ghost last = { λ lane. newest_by lane.next };
 
@@ -169,7 +169,7 @@ impl<A: App + Drop, F: Forests + Drop> Recorder for Lane<A, F> {
     }
 
     fn version(&self) -> u32 {
-        self.world.master.version()
+        self.settings.master.version()
     }
 
     fn newest(&self) -> Option<u64> {
@@ -177,7 +177,7 @@ impl<A: App + Drop, F: Forests + Drop> Recorder for Lane<A, F> {
     }
 
     fn in_force(&self) -> &Control {
-        self.world.master.control()
+        self.settings.master.control()
     }
 
     fn has_failed(&self) -> bool {

@@ -9,11 +9,11 @@ ghost use Rattle.forest_versions.specs.State.{after};
 ghost use Rattle.lane_core.specs.Sight.{Tcp, Other, arrival_at, arrival_of, key_of_segment};
 ghost use Rattle.ip6_views.specs.Seen.{seen};
 ghost use Rattle.lane_core.specs.Records.{RecordSoFar, opens};
-ghost use Rattle.lane_core.specs.Kept.{SetsStray, EndsSilent, LeavesNone, CountsDrop};
+ghost use Rattle.lane_core.specs.Kept.{SetsOrphan, EndsSilent, LeavesNone, CountsDrop};
 ghost use Rattle.lane_core.specs.Packets.{segment_at, AddsPacket, PlacesPacket, CostsToAdd, CostsToPlace, KeepsRecords, KeepsAlike};
 ghost use Rattle.lane_core.specs.Silences.{IsGone};
 ghost use Rattle.lane_core.specs.Trees.{AreShort};
-ghost use Rattle.lane_core.specs.World.{Under, TakesCommand};
+ghost use Rattle.lane_core.specs.Settings.{Under, TakesCommand};
 
 use crate::command::give_to;
 use crate::errors::LaneError;
@@ -21,10 +21,10 @@ use crate::flows::{follow, keep};
 use crate::kept::Kept;
 use crate::lane::Lane;
 use crate::limits::weighs_too_much;
-use crate::packet::{Opened, lone_at, start_one};
+use crate::packet::{Opened, orphan_at, start_one};
 use crate::sides::is_opening;
 use crate::silent::end_silent;
-use crate::slot::Slot;
+use crate::under_way::RecordUnderWay;
 use app_api::{App, Verdict};
 use builtin_events::raised_by_orphan;
 use flow_table::{FlowTable, Key, seed_of};
@@ -59,14 +59,14 @@ impl<A: App + Drop, F: Forests + Drop> Lane<A, F> {
         ensures stands { IfOk result (λ verdict.
             PlacesPacket A.meaning self.old self.new (segment_at number moment segment.now) verdict) }
         ensures costs { OnErr result (CostsToPlace A.meaning self.old self.new (segment_at number moment segment.now)) }
-        ensures world { self.new.world ≡ self.old.world }
+        ensures settings { self.new.settings ≡ self.old.settings }
         ensures next { self.new.next ≡ self.old.next }
         ensures failed { self.new.failed ≡ self.old.failed }
         ensures dropped { self.new.kept.dropped ≡ self.old.kept.dropped }
     {
         let opened = start_one(
             alloc,
-            &self.world,
+            &self.settings,
             natives,
             &mut self.forests,
             &mut self.kept.ledger,
@@ -82,7 +82,7 @@ impl<A: App + Drop, F: Forests + Drop> Lane<A, F> {
     }
 
     // A packet of no connection; of class tcp it has a head.
-    fn stray(
+    fn orphan(
         &mut self,
         alloc: Global,
         natives: &NativeBook,
@@ -94,21 +94,21 @@ impl<A: App + Drop, F: Forests + Drop> Lane<A, F> {
         requires weight { self.old.kept.ledger.counts.weight + 881280 ≤ 954720 * self.old.next }
         requires room { vec_len self.old.kept.slots < self.old.next }
         ensures stands { IfOk result (λ verdict.
-            Under A.meaning self.old.world SetsStray number class (option_copied head.entry)
+            Under A.meaning self.old.settings SetsOrphan number class (option_copied head.entry)
             (F.content self.old.forests) (F.interns self.old.forests) self.old.kept
             (F.content self.new.forests) (F.interns self.new.forests) self.new.kept verdict) }
         ensures forests { self.new.forests ≡ self.old.forests }
-        ensures world { self.new.world ≡ self.old.world }
+        ensures settings { self.new.settings ≡ self.old.settings }
         ensures next { self.new.next ≡ self.old.next }
         ensures failed { self.new.failed ≡ self.old.failed }
         ensures dropped { self.new.kept.dropped ≡ self.old.kept.dropped }
     {
-        let version = self.world.master.version();
+        let version = self.settings.master.version();
         let kind = RecordKind::Orphan { class };
-        let mut slot = Slot::new(alloc, number, kind, version, self.world.app.fresh());
-        let verdict = lone_at(
+        let mut slot = RecordUnderWay::new(alloc, number, kind, version, self.settings.app.fresh());
+        let verdict = orphan_at(
             alloc,
-            &self.world,
+            &self.settings,
             natives,
             &self.forests,
             number,
@@ -128,30 +128,30 @@ impl<A: App + Drop, F: Forests + Drop> Lane<A, F> {
         key: &Key,
         moment: Moment,
     ) -> Result<(), AllocError>
-        requires gone { IsGone self.old.world.master moment (found self.old.kept.flows key.now) }
+        requires gone { IsGone self.old.settings.master moment (found self.old.kept.flows key.now) }
         requires callbacks { self.old.kept.ledger.counts.callbacks + 3315 ≤ 3315 * self.old.next }
         requires weight { self.old.kept.ledger.counts.weight + 954720 ≤ 954720 * self.old.next }
-        ensures ends { OnOk result (Under A.meaning self.old.world EndsSilent key.now moment
+        ensures ends { OnOk result (Under A.meaning self.old.settings EndsSilent key.now moment
             (F.content self.old.forests) self.old.kept self.new.kept) }
-        ensures fails { OnErr result (Under A.meaning self.old.world LeavesNone key.now moment
+        ensures fails { OnErr result (Under A.meaning self.old.settings LeavesNone key.now moment
             (F.content self.old.forests) self.old.kept) }
         ensures absent { OnOk result (found self.new.kept.flows key.now ≡ None) }
         ensures callbacks { self.new.kept.ledger.counts.callbacks + 3060 ≤ 3315 * self.old.next }
         ensures weight { self.new.kept.ledger.counts.weight + 881280 ≤ 954720 * self.old.next }
         ensures records { vec_len self.new.kept.slots ≡ vec_len self.old.kept.slots }
         ensures forests { self.new.forests ≡ self.old.forests }
-        ensures world { self.new.world ≡ self.old.world }
+        ensures settings { self.new.settings ≡ self.old.settings }
         ensures next { self.new.next ≡ self.old.next }
         ensures failed { self.new.failed ≡ self.old.failed }
         ensures dropped { self.new.kept.dropped ≡ self.old.kept.dropped }
     {
-        self.world.master.tells_each_version();
-        if !self.world.master.is_timed() {
+        self.settings.master.tells_each_version();
+        if !self.settings.master.is_timed() {
             return Ok(());
         }
         let _ended = end_silent(
             alloc,
-            &self.world,
+            &self.settings,
             natives,
             &self.forests,
             &mut self.kept.flows,
@@ -182,7 +182,7 @@ impl<A: App + Drop, F: Forests + Drop> Lane<A, F> {
         ensures stands { IfOk result (λ verdict.
             PlacesPacket A.meaning self.old self.new (segment_at number moment segment.now) verdict) }
         ensures costs { OnErr result (CostsToPlace A.meaning self.old self.new (segment_at number moment segment.now)) }
-        ensures world { self.new.world ≡ self.old.world }
+        ensures settings { self.new.settings ≡ self.old.settings }
         ensures next { self.new.next ≡ self.old.next }
         ensures failed { self.new.failed ≡ self.old.failed }
         ensures dropped { self.new.kept.dropped ≡ self.old.kept.dropped }
@@ -190,7 +190,7 @@ impl<A: App + Drop, F: Forests + Drop> Lane<A, F> {
         if is_opening(segment) {
             self.begin(alloc, natives, key, number, moment, segment)
         } else {
-            self.stray(alloc, natives, number, Class::Tcp, Some(&segment.head))
+            self.orphan(alloc, natives, number, Class::Tcp, Some(&segment.head))
         }
     }
 
@@ -205,7 +205,7 @@ impl<A: App + Drop, F: Forests + Drop> Lane<A, F> {
         segment: &SightTcp<'_>,
     ) -> Result<Verdict, AllocError>
         requires key { key ≡ key_of_segment (seen segment.now) }
-        requires gone { IsGone self.old.world.master moment (found self.old.kept.flows key) }
+        requires gone { IsGone self.old.settings.master moment (found self.old.kept.flows key) }
         requires next { 0 < self.old.next }
         requires callbacks { self.old.kept.ledger.counts.callbacks + 3315 ≤ 3315 * self.old.next }
         requires weight { self.old.kept.ledger.counts.weight + 954720 ≤ 954720 * self.old.next }
@@ -213,7 +213,7 @@ impl<A: App + Drop, F: Forests + Drop> Lane<A, F> {
         ensures stands { IfOk result (λ verdict.
             AddsPacket A.meaning self.old self.new (segment_at number moment segment.now) verdict) }
         ensures costs { OnErr result (CostsToAdd A.meaning self.old self.new (segment_at number moment segment.now)) }
-        ensures world { self.new.world ≡ self.old.world }
+        ensures settings { self.new.settings ≡ self.old.settings }
         ensures next { self.new.next ≡ self.old.next }
         ensures failed { self.new.failed ≡ self.old.failed }
         ensures dropped { self.new.kept.dropped ≡ self.old.kept.dropped }
@@ -237,20 +237,20 @@ impl<A: App + Drop, F: Forests + Drop> Lane<A, F> {
         requires short { AreShort number self.old.kept.flows }
         requires callbacks { self.old.kept.ledger.counts.callbacks + 3315 ≤ 3315 * self.old.next }
         requires weight { self.old.kept.ledger.counts.weight + 954720 ≤ 954720 * self.old.next }
-        ensures gone { result ≡ Ok None → IsGone self.old.world.master moment (found self.old.kept.flows key.now) }
+        ensures gone { result ≡ Ok None → IsGone self.old.settings.master moment (found self.old.kept.flows key.now) }
         ensures same { result ≡ Ok None → self.new.kept ≡ self.old.kept }
         ensures same_forests { result ≡ Ok None → self.new.forests ≡ self.old.forests }
         ensures stands { IfOk result (λ found. IfSome found (λ verdict.
             AddsPacket A.meaning self.old self.new (segment_at number moment segment.now) verdict)) }
         ensures costs { OnErr result (CostsToAdd A.meaning self.old self.new (segment_at number moment segment.now)) }
-        ensures world { self.new.world ≡ self.old.world }
+        ensures settings { self.new.settings ≡ self.old.settings }
         ensures next { self.new.next ≡ self.old.next }
         ensures failed { self.new.failed ≡ self.old.failed }
         ensures dropped { self.new.kept.dropped ≡ self.old.kept.dropped }
     {
         let followed = follow(
             alloc,
-            &self.world,
+            &self.settings,
             natives,
             &mut self.forests,
             &mut self.kept,
@@ -279,7 +279,7 @@ impl<A: App + Drop, F: Forests + Drop> Lane<A, F> {
         ensures stands { IfOk result (λ verdict.
             AddsPacket A.meaning self.old self.new (segment_at number moment segment.now) verdict) }
         ensures costs { OnErr result (CostsToAdd A.meaning self.old self.new (segment_at number moment segment.now)) }
-        ensures world { self.new.world ≡ self.old.world }
+        ensures settings { self.new.settings ≡ self.old.settings }
         ensures next { self.new.next ≡ number + 1 }
         ensures failed { self.new.failed ≡ self.old.failed }
         ensures dropped { self.new.kept.dropped ≡ self.old.kept.dropped }
@@ -307,20 +307,20 @@ impl<A: App + Drop, F: Forests + Drop> Lane<A, F> {
         ensures stands { IfOk result (λ verdict.
             AddsPacket A.meaning self.old self.new (arrival_at number moment (Other class)) verdict) }
         ensures costs { OnErr result (CostsToAdd A.meaning self.old self.new (arrival_at number moment (Other class))) }
-        ensures world { self.new.world ≡ self.old.world }
+        ensures settings { self.new.settings ≡ self.old.settings }
         ensures next { self.new.next ≡ number + 1 }
         ensures failed { self.new.failed ≡ self.old.failed }
         ensures dropped { self.new.kept.dropped ≡ self.old.kept.dropped }
     {
         self.next = number + 1;
-        self.stray(alloc, natives, number, class, None)
+        self.orphan(alloc, natives, number, class, None)
     }
 
     // A table that begins its hashes with a seed of the first frame, in place of the one without a connection.
     fn draw_seed(&mut self, alloc: Global, frame: &Frame)
         requires none { self.old.kept.slots.items ≡ [] }
         ensures stands { KeepsAlike self.old self.new.kept }
-        ensures world { self.new.world ≡ self.old.world }
+        ensures settings { self.new.settings ≡ self.old.settings }
         ensures forests { self.new.forests ≡ self.old.forests }
         ensures next { self.new.next ≡ self.old.next }
         ensures failed { self.new.failed ≡ self.old.failed }
@@ -334,7 +334,7 @@ impl<A: App + Drop, F: Forests + Drop> Lane<A, F> {
     // and so can't choose endpoints that collide.
     fn prepare(&mut self, alloc: Global, frame: &Frame)
         ensures stands { KeepsAlike self.old self.new.kept }
-        ensures world { self.new.world ≡ self.old.world }
+        ensures settings { self.new.settings ≡ self.old.settings }
         ensures forests { self.new.forests ≡ self.old.forests }
         ensures next { self.new.next ≡ self.old.next }
         ensures failed { self.new.failed ≡ self.old.failed }
@@ -358,7 +358,7 @@ impl<A: App + Drop, F: Forests + Drop> Lane<A, F> {
         ensures stands { IfOk result (λ verdict.
             AddsPacket A.meaning self.old self.new (arrival_of number frame.now) verdict) }
         ensures costs { OnErr result (CostsToAdd A.meaning self.old self.new (arrival_of number frame.now)) }
-        ensures world { self.new.world ≡ self.old.world }
+        ensures settings { self.new.settings ≡ self.old.settings }
         ensures next { self.new.next ≡ number + 1 }
         ensures failed { self.new.failed ≡ self.old.failed }
         ensures dropped { self.new.kept.dropped ≡ self.old.kept.dropped }
@@ -378,7 +378,7 @@ impl<A: App + Drop, F: Forests + Drop> Lane<A, F> {
         requires room { self.old.kept.dropped < self.old.next }
         ensures dropped { CountsDrop self.old.kept self.new.kept verdict }
         ensures kept { self.new.kept ≡ record self.old.kept { dropped = self.new.kept.dropped } }
-        ensures world { self.new.world ≡ self.old.world }
+        ensures settings { self.new.settings ≡ self.old.settings }
         ensures forests { self.new.forests ≡ self.old.forests }
         ensures next { self.new.next ≡ self.old.next }
         ensures failed { self.new.failed ≡ self.old.failed }
@@ -402,7 +402,7 @@ impl<A: App + Drop, F: Forests + Drop> Lane<A, F> {
             AddsPacket A.meaning self.old self.new (arrival_of number frame.now) verdict) }
         ensures costs { OnErr result (CostsToAdd A.meaning self.old self.new (arrival_of number frame.now)) }
         ensures dropped { IfOk result (λ verdict. CountsDrop self.old.kept self.new.kept verdict) }
-        ensures world { self.new.world ≡ self.old.world }
+        ensures settings { self.new.settings ≡ self.old.settings }
         ensures next { self.new.next ≡ number + 1 }
         ensures failed { self.new.failed ≡ self.old.failed }
     {
@@ -414,16 +414,16 @@ impl<A: App + Drop, F: Forests + Drop> Lane<A, F> {
 
     /// Whether the entries that are kept weigh too much.
     pub(crate) fn is_heavy(&self) -> bool
-        ensures { result ≡ (self.now.world.keep && nat_lt 134217728 self.now.kept.ledger.counts.weight) }
+        ensures { result ≡ (self.now.settings.keep && nat_lt 134217728 self.now.kept.ledger.counts.weight) }
     {
-        weighs_too_much(&self.world, &self.kept)
+        weighs_too_much(&self.settings, &self.kept)
     }
 
     /// Fails for good, and answers why. What was kept is asked for no more, so its memory goes back at once.
     pub(crate) fn fail(&mut self, alloc: Global, error: LaneError) -> LaneError
         ensures answer { result ≡ error }
         ensures failed { self.new.failed ≡ Some error }
-        ensures world { self.new.world ≡ self.old.world }
+        ensures settings { self.new.settings ≡ self.old.settings }
         ensures forests { self.new.forests ≡ self.old.forests }
         ensures next { self.new.next ≡ self.old.next }
     {
@@ -434,22 +434,22 @@ impl<A: App + Drop, F: Forests + Drop> Lane<A, F> {
 
     /// One more command. An error leaves what is in force and the store as they were.
     pub(crate) fn give(&mut self, alloc: Global, c: &Command) -> Result<(), AllocError>
-        requires lawful { IsTrue (is_lawful self.old.world.master.now c.now) }
-        requires below { self.old.world.master.version < 4096 }
-        ensures stands { TakesCommand result self.old.world.master self.new.world.master c.now }
+        requires lawful { IsTrue (is_lawful self.old.settings.master.now c.now) }
+        requires below { self.old.settings.master.version < 4096 }
+        ensures stands { TakesCommand result self.old.settings.master self.new.settings.master c.now }
         ensures kept { (so_far : List RecordSoFar) → KeepsRecords self.old so_far
             → OnOk result (KeepsRecords self.new so_far) }
-        ensures now { OnOk result (self.new.world.master.now ≡ after self.old.world.master.now c.now) }
-        ensures version { OnOk result (self.new.world.master.version ≡ self.old.world.master.version + 1) }
-        ensures app { self.new.world.app ≡ self.old.world.app }
-        ensures keep { self.new.world.keep ≡ self.old.world.keep }
+        ensures now { OnOk result (self.new.settings.master.now ≡ after self.old.settings.master.now c.now) }
+        ensures version { OnOk result (self.new.settings.master.version ≡ self.old.settings.master.version + 1) }
+        ensures app { self.new.settings.app ≡ self.old.settings.app }
+        ensures keep { self.new.settings.keep ≡ self.old.settings.keep }
         ensures same { self.new.kept ≡ self.old.kept }
         ensures interned { CountsAtMost (F.interns self.old.forests) (F.interns self.new.forests) }
-        ensures world_stays { OnErr result (self.new.world ≡ self.old.world) }
+        ensures world_stays { OnErr result (self.new.settings ≡ self.old.settings) }
         ensures forests_stay { OnErr result (self.new.forests ≡ self.old.forests) }
         ensures next { self.new.next ≡ self.old.next }
         ensures failed { self.new.failed ≡ self.old.failed }
     {
-        give_to(alloc, &mut self.world.master, &mut self.forests, c)
+        give_to(alloc, &mut self.settings.master, &mut self.forests, c)
     }
 }

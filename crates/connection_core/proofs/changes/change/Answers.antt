@@ -6,7 +6,7 @@ use Rattle.shared_forest.specs.Lists.{TreeLists}
 use Rattle.event_trees.specs.Canon.{slot_of}
 use Rattle.event_trees.specs.Edit.{IsForestOf}
 use Rattle.event_trees.specs.Later.{IsEarlier}
-use Rattle.connection_core.specs.InForce.{told, defs_at}
+use Rattle.connection_core.specs.InForce.{registered, defs_at}
 use Rattle.connection_core.specs.Trees.{active_in, IsTreeOf, IsForestIn}
 use Rattle.connection_core.proofs.Earlier.{events_known, known_in, private_earlier, event_found}
 use Rattle.connection_core.proofs.Changing.{alters_none, alters_so, alters_edit, switchable_by, so_by, edited_names, edited_forest}
@@ -14,24 +14,26 @@ use Rattle.connection_core.proofs.changes.change.Goals as goal
 
 pub returns-in_default-clause-made : goal.returns-in_default-clause-made
 returns-in_default-clause-made g c = λ s force.
-    alters_none s c.args.change (active_in (told c.args.in_force.now) (g.F.ForestView.content c.args.forests.now c.args.forest.now)) (g.F.ForestView.interns c.args.forests.now)
+    alters_none s c.args.change (active_in (registered c.args.in_force.now) (g.F.ForestView.content c.args.forests.now c.args.forest.now)) (g.F.ForestView.interns c.args.forests.now)
     (sym (force.regs c.args.change.reg (omega arith)) ∙ sym c.reg_at.ensures.reg ∙ ap option_copied c.in_default.is)
 
 pub returns-then-is_so-clause-made : goal.returns-then-is_so-clause-made
 returns-then-is_so-clause-made g c = λ s force.
-    let at = told c.args.in_force.now in
+    let at = registered c.args.in_force.now in
     let tree = c.tree_of-tree.result.now in
     let list = active_in at (g.F.ForestView.content c.args.forests.now c.args.forest.now) in
     let forest : IsForestOf (defs_at c.args.in_force.now) list (listing tree) =
-    subst (λ (t : TreeLists). IsForestOf (defs_at c.args.in_force.now) list (listing t)) (sym c.tree_of-tree.ensures) (record { private = c.requires.forest.private; listed = c.requires.forest.listed }) in
+    subst (λ (t : TreeLists). IsForestOf (defs_at c.args.in_force.now) list (listing t)) (sym c.tree_of-tree.ensures)
+    (record { private = c.requires.forest.private; listed = c.requires.forest.listed }) in
     let r = c.in-Some.reg.now in
     alters_so s c.args.change r list (g.F.ForestView.interns c.args.forests.now)
     (sym (force.regs c.args.change.reg (omega arith)) ∙ sym c.reg_at.ensures.reg ∙ ap option_copied c.in-Some.is)
-    (so_by at c.args.change.reg r list c.args.change.on c.is_so.result tree.slots c.in-Some.ensures.number (c.slots_in_order.ensures.slots (defs_at c.args.in_force.now) list forest) c.is_so.ensures ∙ c.if-is_so.true)
+    (so_by at c.args.change.reg r list c.args.change.on c.is_so.result tree.slots c.in-Some.ensures.number
+    (c.slots_in_order.ensures.slots (defs_at c.args.in_force.now) list forest) c.is_so.ensures ∙ c.if-is_so.true)
 
 pub edit-requires-clause-forest : goal.edit-requires-clause-forest
 edit-requires-clause-forest g c =
-    let at = told c.args.in_force.now in
+    let at = registered c.args.in_force.now in
     let tree = c.tree_of-tree.result.now in
     let content = g.F.ForestView.content c.args.forests.now c.args.forest.now in
     let list = active_in at content in
@@ -40,12 +42,13 @@ edit-requires-clause-forest g c =
     let shown : IsForestOf c.defs-defs.result.now list (listing tree) = subst (λ (t : TreeLists). IsForestOf c.defs-defs.result.now list (listing t)) (sym c.tree_of-tree.ensures) forest in
     let r = c.in-Some.reg.now in
     let here : at r.number ≡ Some r = ap at c.in-Some.ensures.number ∙ sym c.reg_at.ensures.reg ∙ ap option_copied c.in-Some.is in
-    let so = so_by at c.args.change.reg r list c.args.change.on c.is_so.result tree.slots c.in-Some.ensures.number (c.slots_in_order.ensures.slots c.defs-defs.result.now list shown) c.is_so.ensures ∙ c.if-is_so.false in
+    let so = so_by at c.args.change.reg r list c.args.change.on c.is_so.result tree.slots c.in-Some.ensures.number
+    (c.slots_in_order.ensures.slots c.defs-defs.result.now list shown) c.is_so.ensures ∙ c.if-is_so.false in
     (list, forest, switchable_by at r list c.args.change.on here there.known so)
 
 pub returns-clause-forest : goal.returns-clause-forest
 returns-clause-forest g c =
-    let at = told c.args.in_force.now in
+    let at = registered c.args.in_force.now in
     let tree = c.tree_of-tree.result.now in
     let content = g.F.ForestView.content c.args.forests.now c.args.forest.now in
     let list = active_in at content in
@@ -54,7 +57,8 @@ returns-clause-forest g c =
     let shown : IsForestOf c.defs-defs.result.now list (listing tree) = subst (λ (t : TreeLists). IsForestOf c.defs-defs.result.now list (listing t)) (sym c.tree_of-tree.ensures) forest in
     let r = c.in-Some.reg.now in
     let here : at r.number ≡ Some r = ap at c.in-Some.ensures.number ∙ sym c.reg_at.ensures.reg ∙ ap option_copied c.in-Some.is in
-    let so = so_by at c.args.change.reg r list c.args.change.on c.is_so.result tree.slots c.in-Some.ensures.number (c.slots_in_order.ensures.slots c.defs-defs.result.now list shown) c.is_so.ensures ∙ c.if-is_so.false in
+    let so = so_by at c.args.change.reg r list c.args.change.on c.is_so.result tree.slots c.in-Some.ensures.number
+    (c.slots_in_order.ensures.slots c.defs-defs.result.now list shown) c.is_so.ensures ∙ c.if-is_so.false in
     let after = c.in_ok-edited.ensures.listing list forest (switchable_by at r list c.args.change.on here there.known so) in
     let new = g.F.ForestView.content c.edit.new.f c.in_ok-edited.edited in
     let same : c.tree_of.result.now ≡ new = c.tree_of.ensures in
@@ -64,7 +68,7 @@ returns-clause-forest g c =
 
 pub returns-clause-made : goal.returns-clause-made
 returns-clause-made g c = λ s force.
-    let at = told c.args.in_force.now in
+    let at = registered c.args.in_force.now in
     let tree = c.tree_of-tree.result.now in
     let content = g.F.ForestView.content c.args.forests.now c.args.forest.now in
     let list = active_in at content in
@@ -73,7 +77,8 @@ returns-clause-made g c = λ s force.
     let shown : IsForestOf c.defs-defs.result.now list (listing tree) = subst (λ (t : TreeLists). IsForestOf c.defs-defs.result.now list (listing t)) (sym c.tree_of-tree.ensures) forest in
     let r = c.in-Some.reg.now in
     let here : at r.number ≡ Some r = ap at c.in-Some.ensures.number ∙ sym c.reg_at.ensures.reg ∙ ap option_copied c.in-Some.is in
-    let so = so_by at c.args.change.reg r list c.args.change.on c.is_so.result tree.slots c.in-Some.ensures.number (c.slots_in_order.ensures.slots c.defs-defs.result.now list shown) c.is_so.ensures ∙ c.if-is_so.false in
+    let so = so_by at c.args.change.reg r list c.args.change.on c.is_so.result tree.slots c.in-Some.ensures.number
+    (c.slots_in_order.ensures.slots c.defs-defs.result.now list shown) c.is_so.ensures ∙ c.if-is_so.false in
     let after = c.in_ok-edited.ensures.listing list forest (switchable_by at r list c.args.change.on here there.known so) in
     let new = g.F.ForestView.content c.edit.new.f c.in_ok-edited.edited in
     let same : c.tree_of.result.now ≡ new = c.tree_of.ensures in

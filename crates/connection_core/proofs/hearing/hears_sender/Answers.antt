@@ -1,12 +1,12 @@
 use Rattle.std.proofs.Common.{sym, ◌∙◌}
 use Rattle.native_filters.specs.declared.facts.Hook.TheVariants.{Snd}
 use Rattle.shared_forest.specs.Listing.{listing}
-use Rattle.connection_core.specs.InForce.{told}
+use Rattle.connection_core.specs.InForce.{registered}
 use Rattle.connection_core.specs.Trees.{active_in}
 use Rattle.connection_core.proofs.Unheard.{sender_silent}
 use Rattle.connection_core.proofs.hearing.hears_sender.Goals as goal
 
 pub returns : goal.returns
 returns c = λ is s h from nth force.
-    sender_silent s (active_in (told c.args.in_force.now) c.args.tree.now) c.heard.result.now (listing c.args.tree.now) h from nth c.args.first c.args.sent.now
+    sender_silent s (active_in (registered c.args.in_force.now) c.args.tree.now) c.heard.result.now (listing c.args.tree.now) h from nth c.args.first c.args.sent.now
     c.heard.ensures (λ event unheard facts. c.unheard_calls_nothing.ensures s Snd event force unheard facts) (sym (c.is_heard_at_sender.ensures h from nth) ∙ is)

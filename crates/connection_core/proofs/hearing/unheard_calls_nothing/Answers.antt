@@ -2,7 +2,7 @@ use Rattle.std.proofs.Common.{◌≡◌, [], sym, subst, ◌∙◌}
 use Rattle.event_trees.specs.Later.{IsEarlier}
 use Rattle.event_trees.specs.Fires.{fires}
 use Rattle.event_trees.specs.Private.{IsPrivate}
-use Rattle.connection_core.specs.InForce.{told, defs_at}
+use Rattle.connection_core.specs.InForce.{registered, defs_at}
 use Rattle.connection_core.specs.Trees.{active_in}
 use Rattle.connection_core.proofs.Earlier.{events_known, known_in, private_earlier}
 use Rattle.connection_core.proofs.hearing.unheard_calls_nothing.Goals as goal
@@ -10,11 +10,11 @@ use Rattle.connection_core.proofs.hearing.unheard_calls_nothing.Goals as goal
 pub returns : goal.returns
 returns c = λ s hook event force is facts.
     let lent = c.args.in_force.now in
-    let list = active_in (told lent) c.args.tree.now in
+    let list = active_in (registered lent) c.args.tree.now in
     let forest = c.requires.forest in
     let later = c.later_events_change_nothing.ensures in
     let earlier = subst (IsEarlier s.defs) (sym c.defs.ensures) force.defs in
-    let known = known_in (told lent) s.regs list force.regs forest.private.numbers forest.known in
+    let known = known_in (registered lent) s.regs list force.regs forest.private.numbers forest.known in
     let there = subst (λ d. IsPrivate d list) (sym c.defs.ensures) forest.private in
     let private = private_earlier s.defs c.defs.result.now list (λ event is. later.paths s.defs event earlier is) (events_known s.defs s.regs list force.sound.private known) there in
     sym (later.fires s.defs list earlier private facts hook event) ∙

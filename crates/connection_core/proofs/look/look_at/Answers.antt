@@ -41,16 +41,22 @@ loop-place-preserved c =
           looking_on (kept (direction_of c.args.from e).receiver.cells e.rbuf) (runs_at c.args.from c.args.off c.args.len e) c.args.keep c.loop-place.got c.loop-place.pieces c.note_piece.new.pieces
           c.loop-place.place-iterator c.next.new.self c.in-Some.place c.in-Some.run' (c.loop-place.invariant.looking e stands) c.in-Some.ensures.steps
           (subst (λ n. length (bytes_from (kept (direction_of c.args.from e).receiver.cells n) c.in-Some.place c.in-Some.run') ≡ c.in-Some.run'
-          → c.note_piece.new.pieces ≡ (if c.args.keep then c.loop-place.pieces ++ (c.in-Some.place, bytes_from (kept (direction_of c.args.from e).receiver.cells n) c.in-Some.place c.in-Some.run') ∷ [] else c.loop-place.pieces))
+          → c.note_piece.new.pieces ≡ (if c.args.keep then c.loop-place.pieces ++ (
+            c.in-Some.place,
+            bytes_from
+                (kept (direction_of c.args.from e).receiver.cells n) c.in-Some.place c.in-Some.run',
+          ) ∷ [] else c.loop-place.pieces))
           (c.stream-stream.ensures.rbuf e stands) (c.in_ok-note_piece.ensures (direction_of c.args.from e).receiver (c.stream-stream.ensures.stands e stands)));
     }
 
 pub returns-clause-got : goal.returns-clause-got
 returns-clause-got c = λ e stands.
     let runs = c.ppeek-place-items.ensures.runs e stands in
-    let same = subst (λ n. map (λ (piece : ℕ × List ℕ). (piece.0, length piece.1)) (pieces_at c.args.from c.args.off n e) ≡ runs_at c.args.from c.args.off n e) c.from.ensures (c.ppeek-place-items.ensures.pieces e stands ∙ runs) in
+    let same = subst (λ n. map (λ (piece : ℕ × List ℕ). (piece.0, length piece.1)) (pieces_at c.args.from c.args.off n e) ≡ runs_at c.args.from
+    c.args.off n e) c.from.ensures (c.ppeek-place-items.ensures.pieces e stands ∙ runs) in
     got_all c.args.from c.args.off c.args.len e c.args.keep c.loop-place.got c.loop-place.pieces c.loop-place.place-iterator (c.loop-place.invariant.looking e stands) c.in-None.ensures.steps.0 same
 
 pub returns-clause-seen : goal.returns-clause-seen
 returns-clause-seen c = λ keep e stands.
-    ap (At c.args.off) (seen_all c.args.from c.args.off c.args.len e c.args.keep c.loop-place.got c.loop-place.pieces c.loop-place.place-iterator keep (c.loop-place.invariant.looking e stands) c.in-None.ensures.steps.0)
+    ap (At c.args.off) (seen_all c.args.from c.args.off c.args.len e c.args.keep c.loop-place.got c.loop-place.pieces c.loop-place.place-iterator keep
+    (c.loop-place.invariant.looking e stands) c.in-None.ensures.steps.0)

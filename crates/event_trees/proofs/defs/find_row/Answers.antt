@@ -9,7 +9,8 @@ pub bounds-rows-place : goal.bounds-rows-place
 bounds-rows-place c = (stands c.args.rows.now c.args.number c.in-Some.place (read c.args.rows.now c.args.places.now c.args.number _ _ c.requires.places (omega arith) c.in-Some.is)).within
 
 pub returns-in-Some : goal.returns-in-Some
-returns-in-Some c = ap Some c.index-rows-place.is ∙ sym ((stands c.args.rows.now c.args.number c.in-Some.place (read c.args.rows.now c.args.places.now c.args.number _ _ c.requires.places (omega arith) c.in-Some.is)).is c.index-rows-place.result)
+returns-in-Some c = ap Some c.index-rows-place.is ∙ sym ((stands c.args.rows.now c.args.number c.in-Some.place
+    (read c.args.rows.now c.args.places.now c.args.number _ _ c.requires.places (omega arith) c.in-Some.is)).is c.index-rows-place.result)
 
 pub returns-in-None : goal.returns-in-None
 returns-in-None c = sym (place-none c.args.rows.now c.args.number (read c.args.rows.now c.args.places.now c.args.number _ _ c.requires.places (omega arith) c.in-None.is))

@@ -14,7 +14,8 @@ rest list i n b is =
 pub returns-then-has_number : goal.returns-then-has_number
 returns-then-has_number c = (
   λ e. cc,
-  λ h. absurd (distinct-off c.args.list.now c.loop-i.i c.index-list-i.result c.loop-i-test.true (rest c.args.list.now c.loop-i.i _ c.has_number.result c.has_number.ensures ∙ c.if-has_number.true) (c.loop-i.invariant.1 h)),
+  λ h. absurd (distinct-off c.args.list.now c.loop-i.i c.index-list-i.result c.loop-i-test.true
+      (rest c.args.list.now c.loop-i.i _ c.has_number.result c.has_number.ensures ∙ c.if-has_number.true) (c.loop-i.invariant.1 h)),
 )
 
 pub loop-i-preserved : goal.loop-i-preserved

@@ -8,7 +8,8 @@ use Rattle.event_trees.specs.Defs.{is_event}
 use Rattle.event_trees.proofs.private.have_events.Goals as goal
 
 pub loop-reg-preserved : goal.loop-reg-preserved
-loop-reg-preserved c = All-more (λ (r : Reg). IsTrue (is_event c.args.defs.now r.event)) c.args.list.now c.loop-reg.reg-index c.reg-item.result c.loop-reg-test.true c.loop-reg.invariant (subst (λ (r : Reg). IsTrue (is_event c.args.defs.now r.event)) c.reg-item.is (sym c.is_event.ensures ∙ c.if-not-is_event.false))
+loop-reg-preserved c = All-more (λ (r : Reg). IsTrue (is_event c.args.defs.now r.event)) c.args.list.now c.loop-reg.reg-index c.reg-item.result
+    c.loop-reg-test.true c.loop-reg.invariant (subst (λ (r : Reg). IsTrue (is_event c.args.defs.now r.event)) c.reg-item.is (sym c.is_event.ensures ∙ c.if-not-is_event.false))
 
 pub returns : goal.returns
 returns c =

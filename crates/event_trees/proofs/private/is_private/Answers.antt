@@ -11,7 +11,9 @@ use Rattle.event_trees.proofs.Sorted.{private-few}
 use Rattle.event_trees.proofs.private.is_private.Goals.{then-have_numbers, else-have_numbers, then-have_events, else-have_events}
 use Rattle.event_trees.proofs.private.is_private.Goals as goal
 
-whole : (defs : List EventDef) (list active : List Reg) (last : Bool) → list ≡ active → All (λ r. (1 ≤ r.number) × (r.number ≤ 255)) list → All (λ r. IsTrue (is_event defs r.event)) list → IsDistinct eqb (numbers_of list) → (IsTrue last ↔ IsStrictlySortedBy (reg_cmp defs) list) → IsTrue last ↔ IsPrivate defs active
+whole : (defs : List EventDef) (list active : List Reg) (last : Bool) → list ≡ active → All (λ r. (1 ≤ r.number) × (r.number ≤ 255)) list
+    → All (λ r. IsTrue (is_event defs r.event)) list → IsDistinct eqb (numbers_of list) → (IsTrue last ↔ IsStrictlySortedBy (reg_cmp defs) list)
+    → IsTrue last ↔ IsPrivate defs active
 whole defs list active last same numbers events distinct sorted = (
   λ e. subst (IsPrivate defs) same (record { numbers = numbers; events = events; distinct = distinct; sorted = sorted.0 e }),
   λ p. sorted.1 (subst (IsStrictlySortedBy (reg_cmp defs)) (sym same) p.sorted),
@@ -20,7 +22,9 @@ whole defs list active last same numbers events distinct sorted = (
 pub returns-then-are_distinct-clause-is : goal.returns-then-are_distinct-clause-is
 returns-then-are_distinct-clause-is c = elim c.if-have_events.branch [
   | then-have_events v ↦ elim c.if-have_numbers.branch [
-    | then-have_numbers w ↦ whole c.args.defs.now c.as_slice-list.result.now c.args.active.now c.rise.result c.as_slice-list.ensures (c.have_numbers.ensures.0 w.if-have_numbers.true) (w.have_events.ensures.0 (sym w.value-is ∙ v.if-have_events.true)) (v.are_distinct.ensures.0 (sym v.value-is ∙ c.if-are_distinct.true)) c.rise.ensures
+    | then-have_numbers w ↦ whole c.args.defs.now c.as_slice-list.result.now c.args.active.now c.rise.result c.as_slice-list.ensures
+        (c.have_numbers.ensures.0 w.if-have_numbers.true) (w.have_events.ensures.0 (sym w.value-is ∙ v.if-have_events.true))
+        (v.are_distinct.ensures.0 (sym v.value-is ∙ c.if-are_distinct.true)) c.rise.ensures
     | else-have_numbers w ↦ absurd (false≢true (sym w.if-have_numbers.false ∙ (sym w.value-is ∙ v.if-have_events.true)))
   ]
   | else-have_events v ↦ absurd (false≢true (sym v.if-have_events.false ∙ (sym v.value-is ∙ c.if-are_distinct.true)))

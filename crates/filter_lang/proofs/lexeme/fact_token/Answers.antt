@@ -5,7 +5,8 @@ use Rattle.filter_lang.specs.Tokens.{fact_token, fact_names}
 use Rattle.filter_lang.proofs.lexeme.fact_token.Goals as goal
 
 -- a name that stands there is passed over
-fact_token_passes : (place i : ℕ) (ns : List (List ℕ)) (name : List ℕ) → i < length ns → bytes_eq name (get_or ns i []) ≡ false → fact_token (place + 1) (drop (suc i) ns) name ≡ fact_token place (drop i ns) name
+fact_token_passes : (place i : ℕ) (ns : List (List ℕ)) (name : List ℕ) → i < length ns → bytes_eq name (get_or ns i []) ≡ false
+    → fact_token (place + 1) (drop (suc i) ns) name ≡ fact_token place (drop i ns) name
 fact_token_passes place i [] name lt other = absurd (omega arith)
 fact_token_passes place zero (n ∷ ns) name lt other = rw other refl
 fact_token_passes place (suc i) (n ∷ ns) name lt other = fact_token_passes place i ns name (omega arith) other

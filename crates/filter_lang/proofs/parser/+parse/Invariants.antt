@@ -18,7 +18,8 @@ decreases-expr l = 3 * (32 - l.depth) + 2
 
 abbrev pub invariant-conjunction-loop-lexer : goal.invariant-conjunction-loop-lexer
 invariant-conjunction-loop-lexer l = record {
-  same : (cs : List Shape) (os : List Level) → opened os ≡ l.depth → reads l.fn.lexer (unit_place (behind_conjs cs) os) ≡ reads l.lexer (behind_unit (record { conjs = cs; units = shape_list l.items.items; bangs = 0 }) os);
+  same : (cs : List Shape) (os : List Level) → opened os ≡ l.depth → reads l.fn.lexer (unit_place (behind_conjs cs) os) ≡ reads l.lexer
+      (behind_unit (record { conjs = cs; units = shape_list l.items.items; bangs = 0 }) os);
   within : AreWithin (shapes l.items.items);
   long : 1 ≤ length l.items.items;
   many : (l.lexer.token ≡ Both → ⊥) → 2 ≤ length l.items.items;

@@ -14,15 +14,17 @@ returns-in-Some-clause-some g c =
     let interns = g.F.ForestView.interns in
     let before = c.args.forests.now in
     let after = c.step_flow.new.forests in
-    let stepped = subst (λ o. IfSome o (λ (s : Step). Steps (g.A.App.meaning c.args.world.now.app) c.args.world.now.keep c.args.world.now.master (content before) (content after) (interns before) (interns after)
+    let stepped = subst (λ o. IfSome o (λ (s : Step). Steps (g.A.App.meaning c.args.settings.now.app) c.args.settings.now.keep
+    c.args.settings.now.master (content before) (content after) (interns before) (interns after)
     c.args.kept.now c.step_flow.new.kept c.args.key.now c.args.number c.args.moment (seen c.args.segment.now) s))
     c.in-Some.is c.in_ok-stepped.ensures.some in
-    settled (g.A.App.meaning c.args.world.now.app) c.args.world.now.keep c.args.world.now.master (content before) (content after) (interns before) (interns after)
+    settled (g.A.App.meaning c.args.settings.now.app) c.args.settings.now.keep c.args.settings.now.master (content before) (content after) (interns before) (interns after)
     c.args.kept.now c.step_flow.new.kept c.settle.new.flows c.args.key.now c.args.number c.args.moment (seen c.args.segment.now) c.in-Some.step stepped c.settle.ensures
 
 pub returns-in-Some-clause-trees : goal.returns-in-Some-clause-trees
 returns-in-Some-clause-trees g c =
-    all_settled (λ x. IsTree c.args.world.now.master x.version (g.F.ForestView.content c.step_flow.new.forests x.flow.forest)) c.step_flow.new.kept.flows c.settle.new.flows c.args.key.now c.in-Some.step.over
+    all_settled (λ x. IsTree c.args.settings.now.master x.version (g.F.ForestView.content c.step_flow.new.forests x.flow.forest))
+    c.step_flow.new.kept.flows c.settle.new.flows c.args.key.now c.in-Some.step.over
     c.settle.ensures c.in_ok-stepped.ensures.trees
 
 pub returns-in-Some-clause-since : goal.returns-in-Some-clause-since

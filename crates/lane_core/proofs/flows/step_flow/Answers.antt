@@ -14,7 +14,8 @@ step_one-requires-clause-tree g c = c.requires.trees c.args.key.now c.in-Some.co
 
 pub returns-in_default-clause-trees : goal.returns-in_default-clause-trees
 returns-in_default-clause-trees g c =
-    subst (λ (m : Flows Connection). (key : EndpointPair) (x : Connection) → found m key ≡ Some x → IsTree c.args.world.now.master x.version (g.F.ForestView.content c.args.forests.now x.flow.forest))
+    subst (λ (m : Flows Connection). (key : EndpointPair) (x : Connection) → found m key ≡ Some x
+    → IsTree c.args.settings.now.master x.version (g.F.ForestView.content c.args.forests.now x.flow.forest))
     (sym c.get_mut.follows.holds-at-none) c.requires.trees
 
 pub returns-then-is_silent-clause-same : goal.returns-then-is_silent-clause-same
@@ -51,7 +52,7 @@ returns-then-is_silent-clause-trees g c =
     let new = c.get_mut.follows.lender conn in
     let written = subst (λ r. OnSome r (Rewrites flows new c.args.key.now conn)) c.in-Some.is (c.get_mut.follows.holds conn) in
     let same = same_flows flows new c.args.key.now conn written.found (sym c.in-Some.ensures.value) in
-    subst (AreTrees c.args.world.now.master (g.F.ForestView.content c.args.forests.now)) (sym same) c.requires.trees
+    subst (AreTrees c.args.settings.now.master (g.F.ForestView.content c.args.forests.now)) (sym same) c.requires.trees
 
 pub returns-then-is_silent-clause-since : goal.returns-then-is_silent-clause-since
 returns-then-is_silent-clause-since g c = λ version all.
@@ -102,7 +103,7 @@ returns-in_err-step-clause-trees g c =
     let new = c.get_mut.follows.lender after in
     let was = sym c.in-Some.ensures.value in
     let written = subst (λ r. OnSome r (Rewrites flows new c.args.key.now after)) c.in-Some.is (c.get_mut.follows.holds after) in
-    trees_stepped c.args.world.now.master g.F.ForestView.answered g.F.ForestView.content c.args.forests.now c.step_one.new.forests flows new c.args.key.now after
+    trees_stepped c.args.settings.now.master g.F.ForestView.answered g.F.ForestView.content c.args.forests.now c.step_one.new.forests flows new c.args.key.now after
     c.step_one.ensures.kept written.found c.step_one.ensures.tree c.requires.answered c.requires.trees
 
 pub returns-in_err-step-clause-since : goal.returns-in_err-step-clause-since
@@ -157,7 +158,7 @@ returns-clause-trees g c =
     let new = c.get_mut.follows.lender after in
     let was = sym c.in-Some.ensures.value in
     let written = subst (λ r. OnSome r (Rewrites flows new c.args.key.now after)) c.in-Some.is (c.get_mut.follows.holds after) in
-    trees_stepped c.args.world.now.master g.F.ForestView.answered g.F.ForestView.content c.args.forests.now c.step_one.new.forests flows new c.args.key.now after
+    trees_stepped c.args.settings.now.master g.F.ForestView.answered g.F.ForestView.content c.args.forests.now c.step_one.new.forests flows new c.args.key.now after
     c.step_one.ensures.kept written.found c.step_one.ensures.tree c.requires.answered c.requires.trees
 
 pub returns-clause-since : goal.returns-clause-since
@@ -195,7 +196,7 @@ returns-clause-some g c =
       slot = c.index_mut-slot.result.now;
       slot_after = c.step_one.new.slot;
       was = was;
-      heard = subst (λ b. IsSilent c.args.world.now.master conn c.args.moment b) c.if-is_silent.false c.is_silent.ensures;
+      heard = subst (λ b. IsSilent c.args.settings.now.master conn c.args.moment b) c.if-is_silent.false c.is_silent.ensures;
       slot_is = c.index_mut-slot.ensures.value;
       step_is = c.in_ok-step.ensures.stands;
       left = written.found;
@@ -209,7 +210,7 @@ returns-in_err-step-clause-failed g c =
       conn = conn;
       slot = c.index_mut-slot.result.now;
       was = sym c.in-Some.ensures.value;
-      heard = subst (λ b. IsSilent c.args.world.now.master conn c.args.moment b) c.if-is_silent.false c.is_silent.ensures;
+      heard = subst (λ b. IsSilent c.args.settings.now.master conn c.args.moment b) c.if-is_silent.false c.is_silent.ensures;
       slot_is = c.index_mut-slot.ensures.value;
       costs = c.in_err-step.ensures.costs;
     })

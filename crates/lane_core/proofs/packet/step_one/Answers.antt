@@ -1,6 +1,6 @@
 use Rattle.std.proofs.Common.{◌≡◌, ◌++◌, refl, sym, subst}
 use Rattle.connection_core.specs.History.{followed, verdict, drops_of, is_over}
-use Rattle.connection_core.specs.InForce.{told_at}
+use Rattle.connection_core.specs.InForce.{registered_at}
 use Rattle.connection_core.specs.Standing.{IsConnection}
 use Rattle.connection_core.specs.Trees.{InternsWithin}
 use Rattle.connection_core.proofs.Errors.{on_err_always}
@@ -15,8 +15,8 @@ returns-clause-stands g c = rw (sym c.version_for.ensures) (λ control tells.
     let conn = c.args.conn.now in
     let slot = c.args.slot.now in
     let segment = seen c.args.segment.now in
-    let at = told_at c.args.world.now.master c.version_for.result in
-    let app = g.A.App.meaning c.args.world.now.app in
+    let at = registered_at c.args.settings.now.master c.version_for.result in
+    let app = g.A.App.meaning c.args.settings.now.app in
     let number = c.args.number in
     let from = c.side_of.ensures in
     let is = c.in_ok-note.ensures.noted in
@@ -29,9 +29,9 @@ returns-clause-stands g c = rw (sym c.version_for.ensures) (λ control tells.
       heard = refl;
       noted = noted slot c.note.new.self c.step.new.notes c.in_ok-step.step number is;
       stands = λ others h connected. record {
-        stands = subst (λ n. IsConnection c.args.world.now.keep others at (g.F.ForestView.content c.step.new.forests c.step.new.self.forest) c.step.new.self n c.step.new.ledger.counts
+        stands = subst (λ n. IsConnection c.args.settings.now.keep others at (g.F.ForestView.content c.step.new.forests c.step.new.self.forest) c.step.new.self n c.step.new.ledger.counts
             (followed app control number (side_of conn.client segment) segment.head segment.scale segment.payload h)) (sym notes)
-            (subst (λ side. IsConnection c.args.world.now.keep others at (g.F.ForestView.content c.step.new.forests c.step.new.self.forest) c.step.new.self c.step.new.notes c.step.new.ledger.counts
+            (subst (λ side. IsConnection c.args.settings.now.keep others at (g.F.ForestView.content c.step.new.forests c.step.new.self.forest) c.step.new.self c.step.new.notes c.step.new.ledger.counts
             (followed app control number side segment.head segment.scale segment.payload h)) from (e.stands control others h tells connected));
         interned = subst (λ side. InternsWithin (g.F.ForestView.interns c.args.forests.now) (g.F.ForestView.interns c.step.new.forests) h.altered
             (followed app control number side segment.head segment.scale segment.payload h).altered) from (e.interned control others h tells connected);
@@ -47,7 +47,7 @@ returns-in_err-step-clause-costs g c = rw (sym c.version_for.ensures) (on_err_al
   interned = λ others h connected.
       let segment = seen c.args.segment.now in
       subst (λ side. InternsWithin (g.F.ForestView.interns c.args.forests.now) (g.F.ForestView.interns c.step.new.forests) h.altered
-      (followed (g.A.App.meaning c.args.world.now.app) control c.args.number side segment.head segment.scale segment.payload h).altered)
+      (followed (g.A.App.meaning c.args.settings.now.app) control c.args.number side segment.head segment.scale segment.payload h).altered)
       c.side_of.ensures (c.step.ensures.interned control others h tells connected);
 }))
 
@@ -56,7 +56,7 @@ returns-in_err-note-clause-costs g c = rw (sym c.version_for.ensures) (on_err_al
   interned = λ others h connected.
       let segment = seen c.args.segment.now in
       subst (λ side. InternsWithin (g.F.ForestView.interns c.args.forests.now) (g.F.ForestView.interns c.step.new.forests) h.altered
-      (followed (g.A.App.meaning c.args.world.now.app) control c.args.number side segment.head segment.scale segment.payload h).altered)
+      (followed (g.A.App.meaning c.args.settings.now.app) control c.args.number side segment.head segment.scale segment.payload h).altered)
       c.side_of.ensures (c.step.ensures.interned control others h tells connected);
 }))
 

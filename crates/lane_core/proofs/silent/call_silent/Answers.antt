@@ -10,9 +10,9 @@ returns-clause-called g c =
     on_ok_weaker c.silence.result (λ noted. record {
       noted = refl;
       stands = λ control others h tells connected.
-          let app = g.A.App.meaning c.args.world.now.app in
+          let app = g.A.App.meaning c.args.settings.now.app in
           let number = c.args.conn.last in
-          subst (λ r. IsNoted c.args.world.now.keep others (silenced app control number r h).tally (silenced app control number r h).entries c.silence.new.notes c.silence.new.ledger.counts)
+          subst (λ r. IsNoted c.args.settings.now.keep others (silenced app control number r h).tally (silenced app control number r h).entries c.silence.new.notes c.silence.new.ledger.counts)
           (raise_by_facts c.args.slot.now.kind c.args.conn.flow.count c.facts_of-facts.result c.facts_of-facts.ensures)
           (noted control others h tells connected);
     })

@@ -1,5 +1,5 @@
 use Rattle.pcap_source.specs.Capture.{capture_of}
-use Rattle.mos_run.specs.Told.{frames_in}
+use Rattle.mos_run.specs.Request.{frames_in}
 use Rattle.mos_run.proofs.Ceilings.{ceilings_allowed, same_outcome}
 use Rattle.mos_run.proofs.laws.what_one_worker_has_is_allowed.Goals as goal
 

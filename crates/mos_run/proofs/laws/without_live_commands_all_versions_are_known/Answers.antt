@@ -1,5 +1,5 @@
 use Rattle.pcap_source.specs.Capture.{capture_of}
-use Rattle.mos_run.specs.Told.{frames_in}
+use Rattle.mos_run.specs.Request.{frames_in}
 use Rattle.mos_run.proofs.Ceilings.{known_versions}
 use Rattle.mos_run.proofs.laws.without_live_commands_all_versions_are_known.Goals as goal
 

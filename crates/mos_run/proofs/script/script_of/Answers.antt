@@ -1,7 +1,7 @@
 use Rattle.std.proofs.Common.{IsTrue, [], subst, sym, ap, ◌∙◌}
 use Rattle.std.proofs.lemmas.Result.{err_from_is_err_and}
 use Rattle.app_api.specs.Reg.{are_presets}
-use Rattle.mos_run.specs.Told.{text_under}
+use Rattle.mos_run.specs.Request.{text_under}
 use Rattle.mos_run.specs.Apps.{lawful_app}
 use Rattle.mos_run.proofs.Scripts.{never_refused}
 use Rattle.mos_run.proofs.script.script_of.Goals as goal

@@ -1,6 +1,6 @@
 use Rattle.std.proofs.Common.{arith}
 use Rattle.std.proofs.lemmas.List.{at_drop_all}
-use Rattle.connection_core.specs.Course.{bytes_in}
+use Rattle.connection_core.specs.PacketUnderWay.{bytes_in}
 use Rattle.worker_laws.proofs.weight.bytes_in.Goals as goal
 
 pub returns : goal.returns

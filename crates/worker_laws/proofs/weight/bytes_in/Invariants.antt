@@ -1,6 +1,6 @@
 use Rattle.std.proofs.Common.{◌≡◌, ◌≤◌, ◌+◌, drop}
 use Rattle.std.specs.Prelude.{min, ◌-◌, ◌^◌}
-use Rattle.connection_core.specs.Course.{bytes_in}
+use Rattle.connection_core.specs.PacketUnderWay.{bytes_in}
 use Rattle.worker_laws.proofs.weight.bytes_in.Given as goal
 
 abbrev pub invariant-loop-piece : goal.invariant-loop-piece

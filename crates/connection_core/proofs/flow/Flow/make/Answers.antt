@@ -1,9 +1,9 @@
 use Rattle.std.proofs.Common.{ℕ, ◌<◌, ◌≤◌, List, length, map, get_or, refl, subst, ap, ◌∙◌, arith}
 use Rattle.std.proofs.lemmas.List.{take_all}
 use Rattle.builtin_events.specs.declared.raise.Raise.{Raise}
-use Rattle.connection_core.specs.InForce.{told}
+use Rattle.connection_core.specs.InForce.{registered}
 use Rattle.connection_core.specs.Trees.{active_in}
-use Rattle.connection_core.specs.Course.{phase as phase_of}
+use Rattle.connection_core.specs.PacketUnderWay.{phase as phase_of}
 use Rattle.connection_core.specs.Standing.{Makes, CostsUnder, raise_of}
 use Rattle.shared_forest.specs.Lists.{TreeLists}
 use Rattle.connection_core.specs.Unheard.{CallsNothing}
@@ -18,7 +18,7 @@ loop-event-init g c = record {
   forest = c.requires.forest;
   kept = record { still_answered = λ s a. a; same_content = λ s a. refl };
   made = λ s force. phase_begun (g.A.App.meaning c.args.terms.now.app.now) s c.args.terms.now.keep
-      (active_in (told c.args.terms.now.in_force) (g.F.ForestView.content c.args.forests.now c.args.self.now.forest)) (g.F.ForestView.interns c.args.forests.now)
+      (active_in (registered c.args.terms.now.in_force) (g.F.ForestView.content c.args.forests.now c.args.self.now.forest)) (g.F.ForestView.interns c.args.forests.now)
       c.args.phase.now.number c.args.phase.now.from c.args.self.now.socket c.args.notes.now c.args.ledger.now;
   rise = record { callbacks = omega arith; weight = omega arith };
   asked = c.requires.quiet;
@@ -40,7 +40,7 @@ loop-event-preserved g c =
           let keep = c.args.terms.now.keep in
           let interns = g.F.ForestView.interns in
           let content = g.F.ForestView.content in
-          let in_tree = active_in (told c.args.terms.now.in_force) in
+          let in_tree = active_in (registered c.args.terms.now.in_force) in
           let phase = c.args.phase.now in
           let at : ℕ → Raise = λ event. record { hook = phase.raised.hook; event = event; facts = phase.raised.facts } in
           let n = c.loop-event.event-index in
@@ -50,8 +50,8 @@ loop-event-preserved g c =
           let one = raise_as
           (λ step. Makes keep list_now c.loop-event.self.socket c.loop-event.notes c.loop-event.ledger (interns c.loop-event.forests)
           list_after c.raise.new.self.socket c.raise.new.notes c.raise.new.ledger (interns c.raise.new.forests) step)
-          app s phase.number c.moment-moment.result.number phase.from c.moment-moment.result.from (at (get_or phase.raised.events n 0)) (raise_of c.moment-moment.result)
-          c.moment-moment.ensures.number c.moment-moment.ensures.from (c.moment-moment.ensures.raise ∙ ap (λ (l : List ℕ). at (get_or l n 0)) items)
+          app s phase.number c.raise_at-raise_at.result.number phase.from c.raise_at-raise_at.result.from (at (get_or phase.raised.events n 0)) (raise_of c.raise_at-raise_at.result)
+          c.raise_at-raise_at.ensures.number c.raise_at-raise_at.ensures.from (c.raise_at-raise_at.ensures.raise ∙ ap (λ (l : List ℕ). at (get_or l n 0)) items)
           (c.in_ok-raise.ensures.made s force) in
           phase_on app s keep phase.number phase.from at phase.raised.events n
           (in_tree (content c.args.forests.now c.args.self.now.forest)) list_now list_after
@@ -74,7 +74,7 @@ loop-event-preserved-then-not-hears g c =
           let app = g.A.App.meaning c.args.terms.now.app.now in
           let keep = c.args.terms.now.keep in
           let interns = g.F.ForestView.interns in
-          let in_tree = active_in (told c.args.terms.now.in_force) in
+          let in_tree = active_in (registered c.args.terms.now.in_force) in
           let phase = c.args.phase.now in
           let at : ℕ → Raise = λ event. record { hook = phase.raised.hook; event = event; facts = phase.raised.facts } in
           let n = c.loop-event.event-index in
@@ -99,7 +99,7 @@ pub returns-clause-made : goal.returns-clause-made
 returns-clause-made g c = λ s force.
     let phase = c.args.phase.now in
     let at : ℕ → Raise = λ event. record { hook = phase.raised.hook; event = event; facts = phase.raised.facts } in
-    let in_tree = active_in (told c.args.terms.now.in_force) in
+    let in_tree = active_in (registered c.args.terms.now.in_force) in
     let n = c.loop-event.event-index in
     let last : length phase.raised.events ≤ n = subst (λ (l : List ℕ). length l ≤ n) c.as_slice-event-items.ensures.items c.loop-event-test.false in
     subst (λ l. Makes c.args.terms.now.keep
@@ -112,7 +112,7 @@ returns-in_err-raise-clause-failed g c = on_err_always c.from_residual.result (�
     let app = g.A.App.meaning c.args.terms.now.app.now in
     let keep = c.args.terms.now.keep in
     let interns = g.F.ForestView.interns in
-    let in_tree = active_in (told c.args.terms.now.in_force) in
+    let in_tree = active_in (registered c.args.terms.now.in_force) in
     let phase = c.args.phase.now in
     let at : ℕ → Raise = λ event. record { hook = phase.raised.hook; event = event; facts = phase.raised.facts } in
     let n = c.loop-event.event-index in
@@ -120,8 +120,8 @@ returns-in_err-raise-clause-failed g c = on_err_always c.from_residual.result (�
     let list_now = in_tree (g.F.ForestView.content c.loop-event.forests c.loop-event.self.forest) in
     let one = raise_as
     (λ step. CostsUnder keep list_now c.loop-event.self.socket c.loop-event.notes c.loop-event.ledger (interns c.loop-event.forests) (interns c.raise.new.forests) step)
-    app s phase.number c.moment-moment.result.number phase.from c.moment-moment.result.from (at (get_or phase.raised.events n 0)) (raise_of c.moment-moment.result)
-    c.moment-moment.ensures.number c.moment-moment.ensures.from (c.moment-moment.ensures.raise ∙ ap (λ (l : List ℕ). at (get_or l n 0)) items)
+    app s phase.number c.raise_at-raise_at.result.number phase.from c.raise_at-raise_at.result.from (at (get_or phase.raised.events n 0)) (raise_of c.raise_at-raise_at.result)
+    c.raise_at-raise_at.ensures.number c.raise_at-raise_at.ensures.from (c.raise_at-raise_at.ensures.raise ∙ ap (λ (l : List ℕ). at (get_or l n 0)) items)
     (c.in_err-raise.ensures.failed s force) in
     phase_failed app s keep phase.number phase.from at phase.raised.events n (in_tree (g.F.ForestView.content c.args.forests.now c.args.self.now.forest)) list_now
     c.args.self.now.socket c.loop-event.self.socket c.args.notes.now c.loop-event.notes c.args.ledger.now c.loop-event.ledger

@@ -1,15 +1,15 @@
 use Rattle.std.proofs.Common.{◌≡◌, ◌*◌, [], take, map}
 use Rattle.shared_forest.specs.Store.{Keeps}
 use Rattle.forest_versions.specs.State.{ControlState}
-use Rattle.connection_core.specs.InForce.{told, defs_at, IsInForce}
-use Rattle.connection_core.specs.Course.{phase}
+use Rattle.connection_core.specs.InForce.{registered, defs_at, IsInForce}
+use Rattle.connection_core.specs.PacketUnderWay.{phase}
 use Rattle.connection_core.specs.Trees.{active_in, IsForestIn}
 use Rattle.connection_core.specs.Standing.{RiseBy, Makes}
 use Rattle.connection_core.proofs.flow.Flow.make.Given as goal
 
 abbrev pub invariant-loop-event : goal.invariant-loop-event
 invariant-loop-event g l =
-    let at = told l.terms.in_force in
+    let at = registered l.terms.in_force in
     let content = g.F.ForestView.content in
     let interns = g.F.ForestView.interns in record {
       answered : g.F.ForestView.answered l.forests l.self.forest;

@@ -1,8 +1,8 @@
 use Rattle.std.proofs.Common.{sym, subst}
 use Rattle.flow_socket.specs.View.{SocketView}
 use Rattle.shared_forest.specs.Lists.{TreeLists}
-use Rattle.connection_core.specs.InForce.{told}
-use Rattle.connection_core.specs.Course.{called_at}
+use Rattle.connection_core.specs.InForce.{registered}
+use Rattle.connection_core.specs.PacketUnderWay.{called_at}
 use Rattle.connection_core.specs.Trees.{active_in}
 use Rattle.connection_core.specs.Standing.{Steps, raise_of}
 use Rattle.connection_core.proofs.Errors.{on_err_always}
@@ -12,15 +12,15 @@ use Rattle.connection_core.proofs.flow.Flow.raise.Goals as goal
 pub returns-clause-made : goal.returns-clause-made
 returns-clause-made g c = λ s force.
     let app = g.A.App.meaning c.args.terms.now.app.now in
-    let at = told c.args.terms.now.in_force in
+    let at = registered c.args.terms.now.in_force in
     let keep = c.args.terms.now.keep in
-    let step = called_at app s c.args.moment.now.number c.args.moment.now.from (raise_of c.args.moment.now) in
+    let step = called_at app s c.args.raise_at.now.number c.args.raise_at.now.from (raise_of c.args.raise_at.now) in
     let steps = subst (λ (t : TreeLists). Steps keep (active_in at t) c.args.self.now.socket c.args.notes.now c.make_room.new.self c.call_at.new.socket c.call_at.new.notes c.call_at.new.ledger step)
     c.tree_of-tree.ensures (c.in_ok-call_at.ensures.stands s force) in
     let list = active_in at (g.F.ForestView.content c.args.forests.now c.args.self.now.forest) in
     raise_made app s keep list (active_in at (g.F.ForestView.content c.settle.new.forests c.settle.new.self.forest))
     (g.F.ForestView.interns c.args.forests.now) (g.F.ForestView.interns c.settle.new.forests)
-    c.args.moment.now.number c.args.moment.now.from (raise_of c.args.moment.now)
+    c.args.raise_at.now.number c.args.raise_at.now.from (raise_of c.args.raise_at.now)
     c.args.self.now.socket c.settle.new.self.socket c.args.notes.now c.call_at.new.notes c.args.ledger.now c.make_room.new.self c.call_at.new.ledger c.settle.new.ledger
     c.make_room.ensures.changes c.make_room.ensures.drop c.make_room.ensures.counts
     (subst (λ (k : SocketView). Steps keep list c.args.self.now.socket c.args.notes.now c.make_room.new.self k c.call_at.new.notes c.call_at.new.ledger step) (sym c.settle.ensures.socket) steps)
@@ -28,22 +28,22 @@ returns-clause-made g c = λ s force.
 
 pub returns-in_err-make_room-clause-failed : goal.returns-in_err-make_room-clause-failed
 returns-in_err-make_room-clause-failed g c = on_err_always c.from_residual.result (λ s force.
-    raise_costs_none (g.A.App.meaning c.args.terms.now.app.now) s c.args.terms.now.keep (active_in (told c.args.terms.now.in_force) (g.F.ForestView.content c.args.forests.now c.args.self.now.forest))
-    (g.F.ForestView.interns c.args.forests.now) c.args.moment.now.number c.args.moment.now.from (raise_of c.args.moment.now) c.args.self.now.socket c.args.notes.now c.args.ledger.now)
+    raise_costs_none (g.A.App.meaning c.args.terms.now.app.now) s c.args.terms.now.keep (active_in (registered c.args.terms.now.in_force) (g.F.ForestView.content c.args.forests.now c.args.self.now.forest))
+    (g.F.ForestView.interns c.args.forests.now) c.args.raise_at.now.number c.args.raise_at.now.from (raise_of c.args.raise_at.now) c.args.self.now.socket c.args.notes.now c.args.ledger.now)
 
 pub returns-in_err-call_at-clause-failed : goal.returns-in_err-call_at-clause-failed
 returns-in_err-call_at-clause-failed g c = on_err_always c.from_residual-in_err-call_at.result (λ s force.
-    raise_costs_none (g.A.App.meaning c.args.terms.now.app.now) s c.args.terms.now.keep (active_in (told c.args.terms.now.in_force) (g.F.ForestView.content c.args.forests.now c.args.self.now.forest))
-    (g.F.ForestView.interns c.args.forests.now) c.args.moment.now.number c.args.moment.now.from (raise_of c.args.moment.now) c.args.self.now.socket c.args.notes.now c.args.ledger.now)
+    raise_costs_none (g.A.App.meaning c.args.terms.now.app.now) s c.args.terms.now.keep (active_in (registered c.args.terms.now.in_force) (g.F.ForestView.content c.args.forests.now c.args.self.now.forest))
+    (g.F.ForestView.interns c.args.forests.now) c.args.raise_at.now.number c.args.raise_at.now.from (raise_of c.args.raise_at.now) c.args.self.now.socket c.args.notes.now c.args.ledger.now)
 
 pub returns-in_err-settle-clause-failed : goal.returns-in_err-settle-clause-failed
 returns-in_err-settle-clause-failed g c = on_err_always c.from_residual-in_err-settle.result (λ s force.
     let app = g.A.App.meaning c.args.terms.now.app.now in
-    let at = told c.args.terms.now.in_force in
+    let at = registered c.args.terms.now.in_force in
     let keep = c.args.terms.now.keep in
-    let step = called_at app s c.args.moment.now.number c.args.moment.now.from (raise_of c.args.moment.now) in
+    let step = called_at app s c.args.raise_at.now.number c.args.raise_at.now.from (raise_of c.args.raise_at.now) in
     raise_costs app s keep (active_in at (g.F.ForestView.content c.args.forests.now c.args.self.now.forest)) (g.F.ForestView.interns c.args.forests.now) (g.F.ForestView.interns c.settle.new.forests)
-    c.args.moment.now.number c.args.moment.now.from (raise_of c.args.moment.now)
+    c.args.raise_at.now.number c.args.raise_at.now.from (raise_of c.args.raise_at.now)
     c.args.self.now.socket c.call_at.new.socket c.args.notes.now c.call_at.new.notes c.args.ledger.now c.make_room.new.self c.call_at.new.ledger
     c.make_room.ensures.changes c.make_room.ensures.drop c.make_room.ensures.counts
     (subst (λ (t : TreeLists). Steps keep (active_in at t) c.args.self.now.socket c.args.notes.now c.make_room.new.self c.call_at.new.socket c.call_at.new.notes c.call_at.new.ledger step)

@@ -1,6 +1,6 @@
 use Rattle.std.proofs.lemmas.Result.{on_ok_weaker, on_err_weaker}
 use Rattle.builtin_events.specs.Raised.{raises_of}
-use Rattle.connection_core.specs.InForce.{told}
+use Rattle.connection_core.specs.InForce.{registered}
 use Rattle.connection_core.specs.Standing.{Reached}
 use Rattle.connection_core.specs.Trees.{active_in, InternsWithin}
 use Rattle.connection_core.proofs.Errors.{on_err_always}
@@ -15,13 +15,13 @@ use Rattle.connection_core.proofs.flow.Flow.receive.Goals as goal
 pub returns-clause-stands : goal.returns-clause-stands
 returns-clause-stands g c =
     on_ok_weaker c.make.result (λ makes. λ s force. record {
-      stands = λ others course u.
+      stands = λ others under_way u.
           let app = g.A.App.meaning c.args.terms.now.app.now in
-          let at = told c.args.terms.now.in_force in
+          let at = registered c.args.terms.now.in_force in
           let keep = c.args.terms.now.keep in
           receiver_makes app s keep others (active_in at (g.F.ForestView.content c.args.forests.now c.args.self.now.forest))
           c.args.arrived.now.number c.args.arrived.now.from c.args.arrived.now.head.now c.args.arrived.now.payload.now c.args.self.now.count
-          c.in_ok-got.got (raises_of c.raised_at_receiver.result) c.args.self.now.socket c.receive.new.self c.args.notes.now c.args.ledger.now course
+          c.in_ok-got.got (raises_of c.raised_at_receiver.result) c.args.self.now.socket c.receive.new.self c.args.notes.now c.args.ledger.now under_way
           (λ before after. Reached keep others (active_in at (g.F.ForestView.content c.make.new.forests c.make.new.self.forest)) c.make.new.self.socket c.make.new.notes c.make.new.ledger
           (g.F.ForestView.interns c.args.forests.now) (g.F.ForestView.interns c.make.new.forests) before.altered after)
           u c.in_ok-got.ensures.stands c.in_ok-got.ensures.answer c.raised_at_receiver.ensures.raises ((makes s force).stands others);
@@ -31,10 +31,11 @@ returns-clause-stands g c =
 pub returns-clause-failed : goal.returns-clause-failed
 returns-clause-failed g c =
     on_err_weaker c.make.result (λ costs. λ s force. record {
-      interned = λ others course u.
-          receiver_makes (g.A.App.meaning c.args.terms.now.app.now) s c.args.terms.now.keep others (active_in (told c.args.terms.now.in_force) (g.F.ForestView.content c.args.forests.now c.args.self.now.forest))
+      interned = λ others under_way u.
+          receiver_makes (g.A.App.meaning c.args.terms.now.app.now) s c.args.terms.now.keep others
+          (active_in (registered c.args.terms.now.in_force) (g.F.ForestView.content c.args.forests.now c.args.self.now.forest))
           c.args.arrived.now.number c.args.arrived.now.from c.args.arrived.now.head.now c.args.arrived.now.payload.now c.args.self.now.count
-          c.in_ok-got.got (raises_of c.raised_at_receiver.result) c.args.self.now.socket c.receive.new.self c.args.notes.now c.args.ledger.now course
+          c.in_ok-got.got (raises_of c.raised_at_receiver.result) c.args.self.now.socket c.receive.new.self c.args.notes.now c.args.ledger.now under_way
           (λ before after. InternsWithin (g.F.ForestView.interns c.args.forests.now) (g.F.ForestView.interns c.make.new.forests) before.altered after.altered)
           u c.in_ok-got.ensures.stands c.in_ok-got.ensures.answer c.raised_at_receiver.ensures.raises ((costs s force).interned others);
     })
@@ -42,7 +43,8 @@ returns-clause-failed g c =
 
 pub returns-in_err-got-clause-failed : goal.returns-in_err-got-clause-failed
 returns-in_err-got-clause-failed g c = on_err_always c.from_residual.result (λ s force.
-    receiver_costs_none (g.A.App.meaning c.args.terms.now.app.now) s c.args.terms.now.keep (active_in (told c.args.terms.now.in_force) (g.F.ForestView.content c.args.forests.now c.args.self.now.forest))
+    receiver_costs_none (g.A.App.meaning c.args.terms.now.app.now) s c.args.terms.now.keep
+    (active_in (registered c.args.terms.now.in_force) (g.F.ForestView.content c.args.forests.now c.args.self.now.forest))
     (g.F.ForestView.interns c.args.forests.now) c.args.arrived.now.number c.args.arrived.now.from c.args.arrived.now.head.now c.args.arrived.now.payload.now c.args.self.now.count
     c.args.self.now.socket c.args.notes.now c.args.ledger.now)
 
@@ -50,7 +52,7 @@ returns-in_err-got-clause-failed g c = on_err_always c.from_residual.result (λ 
 pub returns-then-not-hears_receiver-clause-stands : goal.returns-then-not-hears_receiver-clause-stands
 returns-then-not-hears_receiver-clause-stands g c = λ s force.
     let app = g.A.App.meaning c.args.terms.now.app.now in
-    let at = told c.args.terms.now.in_force in
+    let at = registered c.args.terms.now.in_force in
     let keep = c.args.terms.now.keep in
     let tree = g.F.ForestView.content c.args.forests.now c.args.self.now.forest in
     let interns = g.F.ForestView.interns c.args.forests.now in
@@ -58,9 +60,9 @@ returns-then-not-hears_receiver-clause-stands g c = λ s force.
     let raises = receiver_raises arrived.head.now arrived.from c.args.self.now.count c.in_ok-got.got in
     let silent = subst (λ (t : TreeLists). CallNothing s (active_in at t) raises) c.tree_of-tree.ensures
     (c.hears_receiver.ensures c.if-not-hears_receiver.true s arrived.from c.args.self.now.count force) in record {
-      stands = λ others course u.
+      stands = λ others under_way u.
           receiver_makes app s keep others (active_in at tree) arrived.number arrived.from arrived.head.now arrived.payload.now c.args.self.now.count
-          c.in_ok-got.got raises c.args.self.now.socket c.receive.new.self c.args.notes.now c.args.ledger.now course
+          c.in_ok-got.got raises c.args.self.now.socket c.receive.new.self c.args.notes.now c.args.ledger.now under_way
           (λ before after. Reached keep others (active_in at tree) c.receive.new.self c.args.notes.now c.args.ledger.now interns interns before.altered after)
           u c.in_ok-got.ensures.stands c.in_ok-got.ensures.answer refl
           (phase_silent app s keep others (active_in at tree) interns arrived.number arrived.from raises c.receive.new.self c.args.notes.now c.args.ledger.now silent c.requires.quiet);

@@ -1,6 +1,6 @@
 use Rattle.std.proofs.lemmas.Result.{on_ok_weaker, on_err_weaker}
 use Rattle.builtin_events.specs.Raised.{raises_of}
-use Rattle.connection_core.specs.InForce.{told}
+use Rattle.connection_core.specs.InForce.{registered}
 use Rattle.connection_core.specs.Standing.{Reached}
 use Rattle.connection_core.specs.Trees.{active_in, InternsWithin}
 use Rattle.connection_core.proofs.Phases.{sender_makes}
@@ -15,32 +15,34 @@ pub returns-clause-stands : goal.returns-clause-stands
 returns-clause-stands g c =
     on_ok_weaker c.make.result (λ makes. λ s others h force is.
     let app = g.A.App.meaning c.args.terms.now.app.now in
-    let at = told c.args.terms.now.in_force in
+    let at = registered c.args.terms.now.in_force in
     let keep = c.args.terms.now.keep in
     sender_makes app s keep others at (g.F.ForestView.content c.args.forests.now c.args.self.now.forest)
     c.args.arrived.now.number c.args.arrived.now.from c.args.arrived.now.head.now c.args.arrived.now.scale
     c.send-sent.result (raises_of c.raised_at_sender-raised.result) c.args.self.now c.send-sent.new.self c.args.notes.now c.args.ledger.now c.begin.new.self h
     (λ before after. Reached keep others (active_in at (g.F.ForestView.content c.make.new.forests c.make.new.self.forest)) c.make.new.self.socket c.make.new.notes c.make.new.ledger
     (g.F.ForestView.interns c.args.forests.now) (g.F.ForestView.interns c.make.new.forests) before.altered after)
-    is c.send-sent.ensures.stands c.send-sent.ensures.answer c.raised_at_sender-raised.ensures.raises c.begin.ensures.changes c.begin.ensures.drop c.begin.ensures.counts ((makes s force).stands others))
+    is c.send-sent.ensures.stands c.send-sent.ensures.answer c.raised_at_sender-raised.ensures.raises c.begin.ensures.changes c.begin.ensures.drop
+    c.begin.ensures.counts ((makes s force).stands others))
     c.make.ensures.made
 
 pub returns-clause-failed : goal.returns-clause-failed
 returns-clause-failed g c =
     on_err_weaker c.make.result (λ costs. λ s others h force is.
     let app = g.A.App.meaning c.args.terms.now.app.now in
-    sender_makes app s c.args.terms.now.keep others (told c.args.terms.now.in_force) (g.F.ForestView.content c.args.forests.now c.args.self.now.forest)
+    sender_makes app s c.args.terms.now.keep others (registered c.args.terms.now.in_force) (g.F.ForestView.content c.args.forests.now c.args.self.now.forest)
     c.args.arrived.now.number c.args.arrived.now.from c.args.arrived.now.head.now c.args.arrived.now.scale
     c.send-sent.result (raises_of c.raised_at_sender-raised.result) c.args.self.now c.send-sent.new.self c.args.notes.now c.args.ledger.now c.begin.new.self h
     (λ before after. InternsWithin (g.F.ForestView.interns c.args.forests.now) (g.F.ForestView.interns c.make.new.forests) before.altered after.altered)
-    is c.send-sent.ensures.stands c.send-sent.ensures.answer c.raised_at_sender-raised.ensures.raises c.begin.ensures.changes c.begin.ensures.drop c.begin.ensures.counts ((costs s force).interned others))
+    is c.send-sent.ensures.stands c.send-sent.ensures.answer c.raised_at_sender-raised.ensures.raises c.begin.ensures.changes c.begin.ensures.drop
+    c.begin.ensures.counts ((costs s force).interned others))
     c.make.ensures.failed
 
 -- nobody hears anything of it
 pub returns-then-not-hears_sender-clause-stands : goal.returns-then-not-hears_sender-clause-stands
 returns-then-not-hears_sender-clause-stands g c = λ s others h force is.
     let app = g.A.App.meaning c.args.terms.now.app.now in
-    let at = told c.args.terms.now.in_force in
+    let at = registered c.args.terms.now.in_force in
     let keep = c.args.terms.now.keep in
     let tree = g.F.ForestView.content c.args.forests.now c.args.self.now.forest in
     let interns = g.F.ForestView.interns c.args.forests.now in

@@ -4,7 +4,7 @@ use Rattle.std.proofs.lemmas.Result.{on_ok_weaker}
 use Rattle.app_api.specs.declared.app.Call.{Call}
 use Rattle.app_api.specs.declared.entry.Entry.{Entry}
 use Rattle.connection_core.specs.declared.ledger.Counts.{Counts}
-use Rattle.connection_core.specs.Course.{reaction_of, first_reason}
+use Rattle.connection_core.specs.PacketUnderWay.{reaction_of, first_reason}
 use Rattle.connection_core.specs.Standing.{raise_of}
 use Rattle.connection_core.proofs.Callbacks.{called_under}
 use Rattle.connection_core.proofs.terms.Terms.call.Goals as goal
@@ -12,13 +12,13 @@ use Rattle.connection_core.proofs.terms.Terms.call.Goals as goal
 pub returns-clause-stands : goal.returns-clause-stands
 returns-clause-stands g c =
     on_ok_weaker c.keep_entry.result (λ entries. λ list s force. record {
-      stands = λ others course u.
+      stands = λ others under_way u.
           let app = g.A.App.meaning c.args.self.now.app.now in
           let r = c.args.reg.now in
-          let e = course.emulation in
+          let e = under_way.emulation in
           let call_is = c.call_of-call.ensures in
-          called_under app s c.args.moment.now.number c.args.moment.now.from (raise_of c.args.moment.now) r c.args.self.now.keep others list
-          c.args.socket.now c.look.new.socket c.args.notes.now c.keep_entry.new.self c.args.ledger.now c.ask.new.self c.in_ok-look.look.got c.in_ok-look.look.seen c.react-reaction.result course
+          called_under app s c.args.raise_at.now.number c.args.raise_at.now.from (raise_of c.args.raise_at.now) r c.args.self.now.keep others list
+          c.args.socket.now c.look.new.socket c.args.notes.now c.keep_entry.new.self c.args.ledger.now c.ask.new.self c.in_ok-look.look.got c.in_ok-look.look.seen c.react-reaction.result under_way
           u
           (c.look.ensures.stands e u.heard)
           (λ k. c.in_ok-look.ensures.seen k e u.heard)

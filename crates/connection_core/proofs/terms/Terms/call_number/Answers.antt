@@ -12,6 +12,6 @@ returns-in-Some-clause-stands g c =
     let app = g.A.App.meaning c.args.self.now.app.now in
     let there : Some c.in-Some.reg.now ≡ reg_of s.regs c.args.number = sym (ap option_copied c.in-Some.is) ∙ c.reg_at.ensures.reg ∙ force.regs c.args.number (omega (arith, c.ranges.number)) in
     subst (λ o. Steps c.args.self.now.keep list c.args.socket.now c.args.notes.now c.args.ledger.now c.call.new.socket c.call.new.notes c.call.new.ledger
-    (λ course. called_by app s c.args.moment.now.number c.args.moment.now.from (raise_of c.args.moment.now) course o)) there
+    (λ under_way. called_by app s c.args.raise_at.now.number c.args.raise_at.now.from (raise_of c.args.raise_at.now) under_way o)) there
     (all list s force))
     c.call.ensures.stands

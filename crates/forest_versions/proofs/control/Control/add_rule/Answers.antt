@@ -15,5 +15,7 @@ invariant_of-self c = record {
   peeks = c.self.invariant.peeks;
   low = c.self.invariant.low;
   high = c.self.invariant.high;
-  rules = either-way (λ (l : List Rule). IsTrue (are_rules l)) c.put.result c.put.new.self (put_rule c.args.rule.now c.self.inside.rules) c.self.inside.rules c.put.ensures.ok c.put.ensures.err (rise-put 1 c.args.rule.now c.self.inside.rules c.requires.low (ap (λ (s : ControlState). rule_of s.rules c.args.rule.now.number) c.self.view_is ∙ c.requires.absent) c.self.invariant.rules) c.self.invariant.rules;
+  rules = either-way (λ (l : List Rule). IsTrue (are_rules l)) c.put.result c.put.new.self (put_rule c.args.rule.now c.self.inside.rules)
+      c.self.inside.rules c.put.ensures.ok c.put.ensures.err (rise-put 1 c.args.rule.now c.self.inside.rules c.requires.low
+      (ap (λ (s : ControlState). rule_of s.rules c.args.rule.now.number) c.self.view_is ∙ c.requires.absent) c.self.invariant.rules) c.self.invariant.rules;
 }

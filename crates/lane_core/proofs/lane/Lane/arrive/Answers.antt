@@ -14,11 +14,11 @@ returns-in-Tcp-clause-stands g c =
     let same : c.as_slice.result.now ≡ bytes = c.as_slice.ensures.value ∙ ap (λ (f : Captured). f.bytes) c.frame.view_is in
     let is : Tcp (seen c.in-Tcp.segment) ≡ sight_of bytes = c.in-Tcp.ensures.sight ∙ ap sight_of same in
     IfOk-weaker c.segment.result _ _ (λ verdict all.
-    subst (λ (f : Captured). AddsTo (g.A.App.meaning self.world.app) self.world.keep self.world.master
-    (arrived self.world.master.version c.args.number (record { seconds = f.seconds; fraction = f.fraction }) (sight_of bytes))
+    subst (λ (f : Captured). AddsTo (g.A.App.meaning self.settings.app) self.settings.keep self.settings.master
+    (arrived self.settings.master.version c.args.number (record { seconds = f.seconds; fraction = f.fraction }) (sight_of bytes))
     (g.F.ForestView.content self.forests) (g.F.ForestView.interns self.forests) self.kept (g.F.ForestView.content new.forests) (g.F.ForestView.interns new.forests) new.kept verdict) c.frame.view_is
-    (subst (λ (sight : Sight). AddsTo (g.A.App.meaning self.world.app) self.world.keep self.world.master
-    (arrived self.world.master.version c.args.number (record { seconds = c.frame.inside.seconds; fraction = c.frame.inside.fraction }) sight)
+    (subst (λ (sight : Sight). AddsTo (g.A.App.meaning self.settings.app) self.settings.keep self.settings.master
+    (arrived self.settings.master.version c.args.number (record { seconds = c.frame.inside.seconds; fraction = c.frame.inside.fraction }) sight)
     (g.F.ForestView.content self.forests) (g.F.ForestView.interns self.forests) self.kept (g.F.ForestView.content new.forests) (g.F.ForestView.interns new.forests) new.kept verdict) is all))
     c.segment.ensures.stands
 
@@ -30,11 +30,11 @@ returns-in-Other-clause-stands g c =
     let same : c.as_slice.result.now ≡ bytes = c.as_slice.ensures.value ∙ ap (λ (f : Captured). f.bytes) c.frame.view_is in
     let is : Other c.in-Other.class ≡ sight_of bytes = c.in-Other.ensures.sight ∙ ap sight_of same in
     IfOk-weaker c.other.result _ _ (λ verdict all.
-    subst (λ (f : Captured). AddsTo (g.A.App.meaning self.world.app) self.world.keep self.world.master
-    (arrived self.world.master.version c.args.number (record { seconds = f.seconds; fraction = f.fraction }) (sight_of bytes))
+    subst (λ (f : Captured). AddsTo (g.A.App.meaning self.settings.app) self.settings.keep self.settings.master
+    (arrived self.settings.master.version c.args.number (record { seconds = f.seconds; fraction = f.fraction }) (sight_of bytes))
     (g.F.ForestView.content self.forests) (g.F.ForestView.interns self.forests) self.kept (g.F.ForestView.content new.forests) (g.F.ForestView.interns new.forests) new.kept verdict) c.frame.view_is
-    (subst (λ (sight : Sight). AddsTo (g.A.App.meaning self.world.app) self.world.keep self.world.master
-    (arrived self.world.master.version c.args.number (record { seconds = c.frame.inside.seconds; fraction = c.frame.inside.fraction }) sight)
+    (subst (λ (sight : Sight). AddsTo (g.A.App.meaning self.settings.app) self.settings.keep self.settings.master
+    (arrived self.settings.master.version c.args.number (record { seconds = c.frame.inside.seconds; fraction = c.frame.inside.fraction }) sight)
     (g.F.ForestView.content self.forests) (g.F.ForestView.interns self.forests) self.kept (g.F.ForestView.content new.forests) (g.F.ForestView.interns new.forests) new.kept verdict) is all))
     c.other.ensures.stands
 
@@ -46,11 +46,11 @@ returns-in-Tcp-clause-costs g c =
     let same : c.as_slice.result.now ≡ bytes = c.as_slice.ensures.value ∙ ap (λ (f : Captured). f.bytes) c.frame.view_is in
     let is : Tcp (seen c.in-Tcp.segment) ≡ sight_of bytes = c.in-Tcp.ensures.sight ∙ ap sight_of same in
     on_err_weaker c.segment.result (λ all.
-    subst (λ (f : Captured). CostsAtMost (g.A.App.meaning self.world.app) self.world.keep self.world.master
-    (arrived self.world.master.version c.args.number (record { seconds = f.seconds; fraction = f.fraction }) (sight_of bytes))
+    subst (λ (f : Captured). CostsAtMost (g.A.App.meaning self.settings.app) self.settings.keep self.settings.master
+    (arrived self.settings.master.version c.args.number (record { seconds = f.seconds; fraction = f.fraction }) (sight_of bytes))
     (g.F.ForestView.content self.forests) self.kept (g.F.ForestView.interns self.forests) (g.F.ForestView.interns new.forests)) c.frame.view_is
-    (subst (λ (sight : Sight). CostsAtMost (g.A.App.meaning self.world.app) self.world.keep self.world.master
-    (arrived self.world.master.version c.args.number (record { seconds = c.frame.inside.seconds; fraction = c.frame.inside.fraction }) sight)
+    (subst (λ (sight : Sight). CostsAtMost (g.A.App.meaning self.settings.app) self.settings.keep self.settings.master
+    (arrived self.settings.master.version c.args.number (record { seconds = c.frame.inside.seconds; fraction = c.frame.inside.fraction }) sight)
     (g.F.ForestView.content self.forests) self.kept (g.F.ForestView.interns self.forests) (g.F.ForestView.interns new.forests)) is all))
     c.segment.ensures.costs
 
@@ -62,10 +62,10 @@ returns-in-Other-clause-costs g c =
     let same : c.as_slice.result.now ≡ bytes = c.as_slice.ensures.value ∙ ap (λ (f : Captured). f.bytes) c.frame.view_is in
     let is : Other c.in-Other.class ≡ sight_of bytes = c.in-Other.ensures.sight ∙ ap sight_of same in
     on_err_weaker c.other.result (λ all.
-    subst (λ (f : Captured). CostsAtMost (g.A.App.meaning self.world.app) self.world.keep self.world.master
-    (arrived self.world.master.version c.args.number (record { seconds = f.seconds; fraction = f.fraction }) (sight_of bytes))
+    subst (λ (f : Captured). CostsAtMost (g.A.App.meaning self.settings.app) self.settings.keep self.settings.master
+    (arrived self.settings.master.version c.args.number (record { seconds = f.seconds; fraction = f.fraction }) (sight_of bytes))
     (g.F.ForestView.content self.forests) self.kept (g.F.ForestView.interns self.forests) (g.F.ForestView.interns new.forests)) c.frame.view_is
-    (subst (λ (sight : Sight). CostsAtMost (g.A.App.meaning self.world.app) self.world.keep self.world.master
-    (arrived self.world.master.version c.args.number (record { seconds = c.frame.inside.seconds; fraction = c.frame.inside.fraction }) sight)
+    (subst (λ (sight : Sight). CostsAtMost (g.A.App.meaning self.settings.app) self.settings.keep self.settings.master
+    (arrived self.settings.master.version c.args.number (record { seconds = c.frame.inside.seconds; fraction = c.frame.inside.fraction }) sight)
     (g.F.ForestView.content self.forests) self.kept (g.F.ForestView.interns self.forests) (g.F.ForestView.interns new.forests)) is all))
     c.other.ensures.costs

@@ -1,7 +1,7 @@
 use Rattle.std.proofs.Common.{length, drop, sym, ap, subst, ◌∙◌, map, arith}
 use Rattle.std.proofs.lemmas.List.{take_at}
 use Rattle.flow_table.specs.Table.{found}
-use Rattle.connection_core.specs.InForce.{told_at}
+use Rattle.connection_core.specs.InForce.{registered_at}
 use Rattle.connection_core.proofs.Errors.{on_err_always}
 use Rattle.lane_core.specs.Sight.{Tcp}
 use Rattle.lane_core.specs.Kept.{AreKept, arrived}
@@ -32,32 +32,32 @@ invariant_of-self-2 g c =
 pub returns-then-not-is_timed-clause-ends : goal.returns-then-not-is_timed-clause-ends
 returns-then-not-is_timed-clause-ends g c = λ control_at pasts version number segment tells key_is stands.
     let self = c.args.self.now in
-    let m = self.world.master in
-    let app = g.A.App.meaning self.world.app in
-    let keep = self.world.keep in
+    let m = self.settings.master in
+    let app = g.A.App.meaning self.settings.app in
+    let keep = self.settings.keep in
     let kept = self.kept in
     let now = c.args.moment in
     let p = arrived version number now (Tcp segment) in
     let never = c.is_timed.ensures.never c.if-not-is_timed.true in
     let same = all_same (ended_before app control_at p) (λ past. heard_before app control_at p past (never_silent app control_at keep m tells now never past)) pasts in
-    subst (λ l. AreKept keep (told_at m) (g.F.ForestView.content self.forests) kept.flows kept.slots.items kept.ledger.counts l) (sym same) stands
+    subst (λ l. AreKept keep (registered_at m) (g.F.ForestView.content self.forests) kept.flows kept.slots.items kept.ledger.counts l) (sym same) stands
 
 pub returns-in_err-_ended-clause-fails : goal.returns-in_err-_ended-clause-fails
 returns-in_err-_ended-clause-fails g c = on_err_always c.from_residual.result (λ control_at pasts version number segment tells key_is stands.
     let self = c.args.self.now in
-    let app = g.A.App.meaning self.world.app in
+    let app = g.A.App.meaning self.settings.app in
     let kept = self.kept in
     let now = c.args.moment in
     let f = c.in_err-_ended.ensures.fails in
-    none_after app control_at self.world.keep self.world.master tells now (g.F.ForestView.content self.forests) kept.flows kept.slots.items kept.ledger.counts c.args.key.now pasts stands
+    none_after app control_at self.settings.keep self.settings.master tells now (g.F.ForestView.content self.forests) kept.flows kept.slots.items kept.ledger.counts c.args.key.now pasts stands
     version number segment key_is f.conn (started_by app control_at (arrived version number now (Tcp segment))) f.was f.silent)
 
 pub returns-clause-ends : goal.returns-clause-ends
 returns-clause-ends g c = λ control_at pasts version number segment tells key_is stands.
     let self = c.args.self.now in
-    let m = self.world.master in
-    let app = g.A.App.meaning self.world.app in
-    let keep = self.world.keep in
+    let m = self.settings.master in
+    let app = g.A.App.meaning self.settings.app in
+    let keep = self.settings.keep in
     let kept = self.kept in
     let now = c.args.moment in
     let content = g.F.ForestView.content self.forests in
@@ -66,24 +66,25 @@ returns-clause-ends g c = λ control_at pasts version number segment tells key_i
     let met = c.end_silent.new in
     let back = take_at met.slots (drop (length met.slots) kept.slots.items) kept.slots.len (c.end_silent.ensures.len ∙ ap length same ∙ sym kept.slots.ok.0) in
     let e = c.in_ok-_ended.ensures in
-    subst (λ ss. AreKept keep (told_at m) content met.flows ss met.ledger.counts (map (ended_before app control_at (arrived version number now (Tcp segment))) pasts)) (sym back)
+    subst (λ ss. AreKept keep (registered_at m) content met.flows ss met.ledger.counts (map (ended_before app control_at (arrived version number now (Tcp segment))) pasts)) (sym back)
     (before_kept app control_at keep m tells now content kept.flows slots kept.ledger.counts c.args.key.now pasts
-    (subst (λ ss. AreKept keep (told_at m) content kept.flows ss kept.ledger.counts pasts) (sym same) stands)
+    (subst (λ ss. AreKept keep (registered_at m) content kept.flows ss kept.ledger.counts pasts) (sym same) stands)
     met.flows met.slots met.ledger.counts c.in_ok-_ended._ended e.silences e.goes version number segment key_is)
 
 pub returns-then-not-is_timed-clause-absent : goal.returns-then-not-is_timed-clause-absent
 returns-then-not-is_timed-clause-absent g c =
     let self = c.args.self.now in
     let o = found self.kept.flows c.args.key.now in
-    let m = self.world.master in
+    let m = self.settings.master in
     unheard_gone m c.args.moment o c.tells_each_version.ensures c.requires.gone (never_heard m c.args.moment o (c.is_timed.ensures.never c.if-not-is_timed.true))
 
 pub returns-clause-absent : goal.returns-clause-absent
 returns-clause-absent g c =
     let self = c.args.self.now in
-    let m = self.world.master in
+    let m = self.settings.master in
     let met = c.end_silent.new in
-    let told = c.tells_each_version.ensures in
+    let registered = c.tells_each_version.ensures in
     let e = c.in_ok-_ended.ensures in
-    none_open (g.A.App.meaning self.world.app) (λ v. (told v).0) self.world.keep m (λ v. (told v).1) c.args.moment (g.F.ForestView.content self.forests) self.kept.flows met.flows c.deref_mut.result.now met.slots
+    none_open (g.A.App.meaning self.settings.app) (λ v. (registered v).0) self.settings.keep m (λ v. (registered v).1) c.args.moment
+    (g.F.ForestView.content self.forests) self.kept.flows met.flows c.deref_mut.result.now met.slots
     self.kept.ledger.counts met.ledger.counts c.args.key.now c.in_ok-_ended._ended e.silences e.goes c.requires.gone

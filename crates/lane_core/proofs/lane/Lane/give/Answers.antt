@@ -9,7 +9,7 @@ invariant_of-self g c =
     let self = c.args.self.now in
     let old = self.forests in
     let new = c.give_to.new.forests in
-    let m = self.world.master in
+    let m = self.settings.master in
     let after = c.give_to.new.master in
     let same = contents_kept g.F.ForestView.answered g.F.ForestView.content old new self.kept.flows c.give_to.ensures.kept self.answered in
     record {
@@ -32,8 +32,9 @@ returns-clause-kept g c = λ so_far stands.
     let self = c.args.self.now in
     let old = self.forests in
     let new = c.give_to.new.forests in
-    let m = self.world.master in
+    let m = self.settings.master in
     let after = c.give_to.new.master in
     let same = contents_kept g.F.ForestView.answered g.F.ForestView.content old new self.kept.flows c.give_to.ensures.kept self.answered in
     on_ok_always c.give_to.result
-    (kept_on m after (g.F.ForestView.content old) (g.F.ForestView.content new) self.kept.flows same self.since self.trees self.world.keep self.kept.slots.items self.kept.ledger.counts so_far c.give_to.ensures.lists stands)
+    (kept_on m after (g.F.ForestView.content old) (g.F.ForestView.content new) self.kept.flows same self.since self.trees self.settings.keep
+    self.kept.slots.items self.kept.ledger.counts so_far c.give_to.ensures.lists stands)

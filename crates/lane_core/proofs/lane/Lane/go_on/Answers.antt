@@ -15,7 +15,7 @@ use Rattle.lane_core.proofs.lane.Lane.go_on.Goals as goal
 pub invariant_of-self : goal.invariant_of-self
 invariant_of-self g c =
     let self = c.args.self.now in
-    let m = self.world.master in
+    let m = self.settings.master in
     let e = c.follow.ensures in
     record {
       placed = e.placed;
@@ -37,14 +37,15 @@ returns-in-Some-clause-stands g c =
     let self = c.args.self.now in
     let old = self.forests in
     let new = c.follow.new.forests in
-    let m = self.world.master in
-    let app = g.A.App.meaning self.world.app in
-    let keep = self.world.keep in
+    let m = self.settings.master in
+    let app = g.A.App.meaning self.settings.app in
+    let keep = self.settings.keep in
     let kept = self.kept in
     let segment = seen c.args.segment.now in
     let content = g.F.ForestView.content in
     let interns = g.F.ForestView.interns in
-    let follows = subst (λ o. IfSome o (λ (s : Step). Follows app keep m (content old) (content new) (interns old) (interns new) kept c.follow.new.kept c.args.key.now c.args.number c.args.moment segment s))
+    let follows = subst (λ o. IfSome o (λ (s : Step). Follows app keep m (content old) (content new) (interns old) (interns new) kept
+    c.follow.new.kept c.args.key.now c.args.number c.args.moment segment s))
     c.in-Some.is c.in_ok-followed.ensures.some in
     followed_adds app keep m (content old) (content new) (interns old) (interns new) kept c.args.key.now m.version c.args.number c.args.moment segment c.requires.key
     c.follow.new.kept c.in-Some.step (contents_kept g.F.ForestView.answered content old new kept.flows c.follow.ensures.kept self.answered) follows
@@ -54,9 +55,10 @@ returns-in_err-followed-clause-costs g c =
     let self = c.args.self.now in
     let old = self.forests in
     let new = c.follow.new.forests in
-    let m = self.world.master in
+    let m = self.settings.master in
     let content = g.F.ForestView.content in
     let interns = g.F.ForestView.interns in
     on_err_always c.from_residual.result
-    (failed_costs (g.A.App.meaning self.world.app) self.world.keep m (content old) (content new) (interns old) (interns new) self.kept c.args.key.now m.version c.args.number c.args.moment (seen c.args.segment.now) c.requires.key
+    (failed_costs (g.A.App.meaning self.settings.app) self.settings.keep m (content old) (content new) (interns old) (interns new) self.kept
+    c.args.key.now m.version c.args.number c.args.moment (seen c.args.segment.now) c.requires.key
     c.in_err-followed.ensures.failed)

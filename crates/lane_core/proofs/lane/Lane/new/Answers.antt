@@ -1,7 +1,7 @@
 use Rattle.std.proofs.Common.{[], ◌∙◌, refl, ap, subst}
 use Rattle.forest_versions.specs.Master.{StandsFor}
 use Rattle.forest_versions.specs.State.{start, control}
-use Rattle.connection_core.specs.InForce.{told_at}
+use Rattle.connection_core.specs.InForce.{registered_at}
 use Rattle.lane_core.specs.Records.{records_from}
 use Rattle.lane_core.specs.Run.{lane_run}
 use Rattle.lane_core.specs.Shown.{total}
@@ -17,7 +17,7 @@ returns-clause-stands g c =
     record {
       newest = refl;
       commands = λ none. stands;
-      records = λ none. rw (c.new-2.ensures.slots, c.new-2.ensures.counts) (kept-empty c.args.keep (told_at m) (g.F.ForestView.content c.new.new.f) c.new-2.result.flows c.new-2.ensures.flows);
+      records = λ none. rw (c.new-2.ensures.slots, c.new-2.ensures.counts) (kept-empty c.args.keep (registered_at m) (g.F.ForestView.content c.new.new.f) c.new-2.result.flows c.new-2.ensures.flows);
       dropped = λ none. c.new-2.ensures.dropped;
       heavy = λ is. absurd (cc);
     }

@@ -17,6 +17,7 @@ returns-then-contains-clause-bytes c =
     record {
       front = front;
       rest = drop half c.args.bytes.now;
-      added = rw (← c.self.view_is) (room_front c.put-self-inside.result c.self.inside.room.len c.put-self-inside.new.room (drop (length c.put-self-inside.new.room) items) (take place items ++ front) all taken);
+      added = rw (← c.self.view_is) (room_front c.put-self-inside.result c.self.inside.room.len c.put-self-inside.new.room
+          (drop (length c.put-self-inside.new.room) items) (take place items ++ front) all taken);
       whole = sym (take-append-drop half c.args.bytes.now);
     }

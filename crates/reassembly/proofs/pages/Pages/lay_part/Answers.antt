@@ -50,7 +50,8 @@ after c =
       alloc = s.alloc;
     }
 
-laid : (c : goal.After-self-1) → IsLaidIn c.args.self.now (after c) c.args.low ((c.args.low - c.args.self.now.base) / 2048) ((c.args.low - c.args.self.now.base) % 2048) c.args.bytes.now c.lay.new.cells
+laid : (c : goal.After-self-1) → IsLaidIn c.args.self.now (after c) c.args.low ((c.args.low - c.args.self.now.base) / 2048)
+    ((c.args.low - c.args.self.now.base) % 2048) c.args.bytes.now c.lay.new.cells
 laid c =
     let f = found c in
     let s = c.args.self.now in

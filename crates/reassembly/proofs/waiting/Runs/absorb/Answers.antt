@@ -17,7 +17,8 @@ loop-run_end-preserved c =
     record {
       rises = let r : c.args.high ≤ c.loop-run_end.end = old.rises in omega arith;
       ordered = rest_ordered run rest (rw split at old.ordered);
-      accepted = λ p. ap (λ e. ltb p e || is_covered rest p) top ∙ accepted_more run rest c.loop-run_end.end p from ∙ ap (λ (runs : List Run). ltb p c.loop-run_end.end || is_covered runs p) (sym split) ∙ old.accepted p;
+      accepted = λ p. ap (λ e. ltb p e || is_covered rest p) top ∙ accepted_more run rest c.loop-run_end.end p from
+          ∙ ap (λ (runs : List Run). ltb p c.loop-run_end.end || is_covered runs p) (sym split) ∙ old.accepted p;
       within = λ m l w.
           let before = old.within m l w in
           let all : AreWithin (run ∷ rest) m = rw split at before.1 in

@@ -18,5 +18,6 @@ returns-clause-some c =
     let here = r.3 _ _ c.in-Some.ensures.steps in (
       found c.args.self.now.map c.range.ensures.ordered c.in-Some.start.now c.in-Some.end.now here.1,
       le_from_not_gt c.in-Some.start.now c.args.position here.0.1,
-      λ other has l. ge_from_not_lt c.in-Some.start.now other.start (r.4 _ _ c.in-Some.ensures.steps other.start (tt, not_gt other.start c.args.position l) (has_key c.args.self.now.map c.range.ensures.ordered other has)),
+      λ other has l. ge_from_not_lt c.in-Some.start.now other.start (r.4 _ _ c.in-Some.ensures.steps other.start
+          (tt, not_gt other.start c.args.position l) (has_key c.args.self.now.map c.range.ensures.ordered other has)),
     )

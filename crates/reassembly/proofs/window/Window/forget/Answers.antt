@@ -11,7 +11,8 @@ forget-requires-clause-within c =
     let low = c.saturating_sub-low.result in
     ⊎_elim
     (λ (some : w.bytes.base < low).
-    let last : (low - 1 - w.bytes.base) / 2048 < length w.bytes.keys.items = held_within w.bytes (low - 1) (c.requires.laid.held (low - 1) (omega arith) (accepted_below w.next (runs_of w.runs) (low - 1) (omega arith))) in
+    let last : (low - 1 - w.bytes.base) / 2048 < length w.bytes.keys.items = held_within w.bytes (low - 1)
+        (c.requires.laid.held (low - 1) (omega arith) (accepted_below w.next (runs_of w.runs) (low - 1) (omega arith))) in
     omega arith)
     (λ (none : low ≤ w.bytes.base). omega arith)
     (cases_lt w.bytes.base low)

@@ -23,7 +23,8 @@ again c = again_from c.args.self.now c.meet.new.self c.take.new.self c.in_ok-met
     (kept_below_next _ _ _ c.requires.sized.kept) c.meet.ensures.place.0 c.meet.ensures.place.1 c.meet.ensures.grown c.in_ok-met.ensures.met c.in_ok-tally.ensures.cells
 
 again_after : (c : goal.After-drop-met-2) → IsAgain c.args.self.now c.take.new.self c.in_ok-met.met.items (c.args.start + c.count_under-within.result) (c.args.start + c.max-reach.result)
-again_after c = again_from c.args.self.now c.meet.new.self c.take.new.self c.in_ok-met.met.items c.args.limit c.end.result c.args.start _ _ _ _ c.args.policy c.args.segment.now (cut_after c) (omega arith)
+again_after c = again_from c.args.self.now c.meet.new.self c.take.new.self c.in_ok-met.met.items c.args.limit c.end.result c.args.start _ _ _ _
+    c.args.policy c.args.segment.now (cut_after c) (omega arith)
     (kept_below_next _ _ _ c.requires.sized.kept) c.meet.ensures.place.0 c.meet.ensures.place.1 c.meet.ensures.grown c.in_ok-met.ensures.met c.in_ok-tally.ensures.cells
 
 pub repeat-again-requires-clause-met : goal.repeat-again-requires-clause-met

@@ -1,4 +1,4 @@
--- Only for proofs: what is said of the world of a lane, and of the master in it.
+-- Only for proofs: what is said of the settings of a lane, and of the master in it.
 use Rattle.std.specs.Prelude.{Bool, List, [], ◌∷◌, ◌++◌, Result, OnOk}
 use Rattle.app_api.specs.App.{Meaning}
 use Rattle.app_api.specs.declared.registration.Reg.{Reg}
@@ -9,11 +9,11 @@ use Rattle.event_trees.specs.Edit.{IsForestOf}
 use Rattle.forest_versions.specs.declared.command.Command.{Command}
 use Rattle.forest_versions.specs.Master.{Versions, StandsFor}
 use Rattle.forest_versions.specs.State.{active}
-use Rattle.lane_core.specs.declared.world.World.{World}
+use Rattle.lane_core.specs.declared.settings.LaneSettings.{LaneSettings}
 
--- this is said of what stands together in a world: what its application answers, whether entries are kept, and its master
-abbrev pub Under : {A : Type 0} {Said : Type 1} → (A → Meaning) → World A → (Meaning → Bool → Versions → Said) → Said
-Under meaning world said = said (meaning world.app) world.keep world.master
+-- this is said of what stands together in a settings: what its application answers, whether entries are kept, and its master
+abbrev pub Under : {A : Type 0} {Said : Type 1} → (A → Meaning) → LaneSettings A → (Meaning → Bool → Versions → Said) → Said
+Under meaning settings said = said (meaning settings.app) settings.keep settings.master
 
 -- by the tree that a master holds in a store, the registrations are called that are on now
 abbrev pub HoldsTree : Versions → (Shared → TreeLists) → Type 0

@@ -27,7 +27,7 @@ pub struct Arrived<'a> {
 
 /// One raise of a packet.
 #[derive(Clone, Copy)]
-pub(crate) struct Moment<'a> {
+pub(crate) struct RaiseAt<'a> {
     /// The packet's number.
     pub(crate) number: u64,
     /// Who sent it.
@@ -52,13 +52,13 @@ impl Phase {
     ghost use Rattle.connection_core.specs.Standing.{raise_of};
 
     /// Its raise of an event.
-    pub(crate) fn moment(&self, event: u16) -> Moment<'_>
+    pub(crate) fn raise_at(&self, event: u16) -> RaiseAt<'_>
         ensures number { result.number ≡ self.now.number }
         ensures from { result.from ≡ self.now.from }
         ensures raise { raise_of result
             ≡ record { hook = self.now.raised.hook; event = event; facts = self.now.raised.facts } }
     {
-        Moment {
+        RaiseAt {
             number: self.number,
             from: self.from,
             hook: self.raised.hook,

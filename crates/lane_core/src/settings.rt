@@ -6,7 +6,7 @@ use forest_versions::Master;
 
 /// The application, what is in force at each version, and whether entries are kept.
 #[derive(Drop)]
-pub(crate) struct World<A> {
+pub(crate) struct LaneSettings<A> {
     pub(crate) app: A,
     pub(crate) master: Master,
     pub(crate) keep: bool,

@@ -1,4 +1,4 @@
--- A packet's callbacks, one after the other. What they have come to is a course: each callback is one step of it, a raise calls all
+-- A packet's callbacks, one after the other. What they have come to is a packet under way: each callback is one step of it, a raise calls all
 -- registrations that fire and then makes the changes that were asked, and a phase makes its raises in order.
 use Rattle.std.specs.Prelude.{ℕ, ◌+◌, Bool, true, false, not, nat_lt, Option, Some, None, is_some, List, [], ◌∷◌, ◌++◌, length, if◌then◌else◌}
 use Rattle.tcp_emulation.specs.declared.segment.Side.{Side}
@@ -26,7 +26,7 @@ use Rattle.forest_versions.specs.State.{ControlState}
 
 -- The emulated connection; the private list, and how often it was altered; what the application keeps; the callbacks made, in
 -- order; the changes asked in this raise, in order; the first reason for which a drop was asked.
-pub record Course : Type 0 where
+pub record PacketUnderWay : Type 0 where
   pub emulation : Emulation
   pub active : List Reg
   pub altered : ℕ
@@ -82,7 +82,7 @@ abbrev pub first_reason : Option Reason → Option Reason → Option Reason
 first_reason None asked = asked
 first_reason (Some reason) asked = Some reason
 
-abbrev pub reacted : Emulation → Entry → Tally × Reaction → Course → Course
+abbrev pub reacted : Emulation → Entry → Tally × Reaction → PacketUnderWay → PacketUnderWay
 reacted emulation entry answer c = record c {
   emulation = emulation;
   tally = answer.0;
@@ -92,7 +92,7 @@ reacted emulation entry answer c = record c {
 }
 
 -- one callback of the packet with this number: it peeks, leaves an entry, and reacts
-unfoldable pub called : Meaning → ControlState → ℕ → Side → Raise → Course → Reg → Course
+unfoldable pub called : Meaning → ControlState → ℕ → Side → Raise → PacketUnderWay → Reg → PacketUnderWay
 called app control number from raise c r =
     let seen = seen_by from r.peek c.emulation in
     reacted
@@ -103,18 +103,18 @@ called app control number from raise c r =
 
 -- ---- the callbacks of a raise
 
-abbrev pub called_all : Meaning → ControlState → ℕ → Side → Raise → Course → List Reg → Course
+abbrev pub called_all : Meaning → ControlState → ℕ → Side → Raise → PacketUnderWay → List Reg → PacketUnderWay
 called_all app control number from raise c [] = c
 called_all app control number from raise c (r ∷ rs) =
     called_all app control number from raise (called app control number from raise c r) rs
 
 -- all registrations of the private list that fire, in its order: by path, and then by number
-unfoldable pub called_at : Meaning → ControlState → ℕ → Side → Raise → Course → Course
+unfoldable pub called_at : Meaning → ControlState → ℕ → Side → Raise → PacketUnderWay → PacketUnderWay
 called_at app control number from raise c =
     called_all app control number from raise c (fires control.defs raise.facts raise.hook raise.event c.active)
 
 -- the same of several raises, all of one list: those of a packet of no connection, where changes come to nothing
-unfoldable pub raised : Meaning → ControlState → ℕ → Side → List Raise → Course → Course
+unfoldable pub raised : Meaning → ControlState → ℕ → Side → List Raise → PacketUnderWay → PacketUnderWay
 raised app control number from [] c = c
 raised app control number from (raise ∷ raises) c =
     raised app control number from raises (called_at app control number from raise c)
@@ -124,7 +124,7 @@ raised app control number from (raise ∷ raises) c =
 abbrev pub is_on : ℕ → List Reg → Bool
 is_on number active = is_some (reg_of active number)
 
-abbrev pub altered_to : List Reg → Course → Course
+abbrev pub altered_to : List Reg → PacketUnderWay → PacketUnderWay
 altered_to active c = record c { active = active; altered = c.altered + 1 }
 
 abbrev pub is_so : Bool → Bool → Bool
@@ -132,31 +132,31 @@ is_so now true = now
 is_so now false = not now
 
 -- a registration is switched on or off, where it isn't so already
-abbrev pub switched : ControlState → Option Reg → Bool → Course → Course
+abbrev pub switched : ControlState → Option Reg → Bool → PacketUnderWay → PacketUnderWay
 switched control None on c = c
 switched control (Some r) on c =
     if is_so (is_on r.number c.active) on then c else altered_to (edited control.defs c.active r on) c
 
 -- one change; it does nothing where its number isn't registered
-unfoldable pub changed : ControlState → Change1 → Course → Course
+unfoldable pub changed : ControlState → Change1 → PacketUnderWay → PacketUnderWay
 changed control change c = switched control (reg_of control.regs change.reg) change.on c
 
-abbrev pub changed_all : ControlState → List Change1 → Course → Course
+abbrev pub changed_all : ControlState → List Change1 → PacketUnderWay → PacketUnderWay
 changed_all control [] c = c
 changed_all control (change ∷ changes) c = changed_all control changes (changed control change c)
 
 -- the changes that were asked are made, in the order in which they were asked
-unfoldable pub settled : ControlState → Course → Course
+unfoldable pub settled : ControlState → PacketUnderWay → PacketUnderWay
 settled control c = record (changed_all control c.asked c) { asked = [] }
 
 -- ---- a raise, and the raises of a phase
 
 -- One raise. This is where changes take effect: at its end. So all its callbacks are of the list as it was at its
 -- beginning, and the next raise, of this phase or of a later one, is of the changed list.
-unfoldable pub raise_done : Meaning → ControlState → ℕ → Side → Raise → Course → Course
+unfoldable pub raise_done : Meaning → ControlState → ℕ → Side → Raise → PacketUnderWay → PacketUnderWay
 raise_done app control number from raise c = settled control (called_at app control number from raise c)
 
-unfoldable pub phase : Meaning → ControlState → ℕ → Side → List Raise → Course → Course
+unfoldable pub phase : Meaning → ControlState → ℕ → Side → List Raise → PacketUnderWay → PacketUnderWay
 phase app control number from [] c = c
 phase app control number from (raise ∷ raises) c =
     phase app control number from raises (raise_done app control number from raise c)

@@ -3,13 +3,13 @@
 ghost use Rattle.std.specs.Prelude.{◌≡◌, ◌<◌, ◌^◌, OnOk, IfOk};
 ghost use Rattle.builtin_events.specs.Raised.{raises_of};
 ghost use Rattle.connection_core.specs.Trees.{IsForestInForce};
-ghost use Rattle.connection_core.specs.History.{orphaned, orphan_verdict, drops_of};
+ghost use Rattle.connection_core.specs.History.{orphan_history, orphan_verdict, drops_of};
 ghost use Rattle.connection_core.specs.Standing.{RiseBy};
 ghost use Rattle.connection_core.specs.Calls.{ForOrphan, IsNotedOf};
 
+use crate::arrival::Phase;
 use crate::flow::verdict_of;
 use crate::ledger::{Ledger, Notes};
-use crate::moment::Phase;
 use crate::terms::Terms;
 use app_api::{App, Verdict};
 use builtin_events::Raised;
@@ -20,7 +20,7 @@ use tcp_emulation::Side;
 
 /// The callbacks of a packet of no connection, over the tree of the registrations that are on. It is as if it belonged
 /// to a connection that heard nothing, and the changes that are asked come to nothing.
-pub fn lone<A: App, F: ForestView>(
+pub fn orphan<A: App, F: ForestView>(
     alloc: Global,
     terms: &Terms<A>,
     forests: &F,
@@ -37,13 +37,13 @@ pub fn lone<A: App, F: ForestView>(
     ensures stands { OnOk result (ForOrphan (A.meaning terms.now.app.now) terms.now.keep terms.now.in_force
         (F.content forests.now forest.now) notes.old ledger.old
         (λ s others. IsNotedOf terms.now.keep others
-        (orphaned (A.meaning terms.now.app.now) s number (raises_of raised)) notes.new ledger.new)) }
+        (orphan_history (A.meaning terms.now.app.now) s number (raises_of raised)) notes.new ledger.new)) }
     ensures verdict { IfOk result (λ verdict. ForOrphan (A.meaning terms.now.app.now) terms.now.keep terms.now.in_force
         (F.content forests.now forest.now) notes.old ledger.old
         (λ s others. verdict ≡ orphan_verdict (A.meaning terms.now.app.now) s number (raises_of raised))) }
     ensures drops { IfOk result (λ verdict. ForOrphan (A.meaning terms.now.app.now) terms.now.keep terms.now.in_force
         (F.content forests.now forest.now) notes.old ledger.old
-        (λ s others. (orphaned (A.meaning terms.now.app.now) s number (raises_of raised)).drops ≡ drops_of verdict number)) }
+        (λ s others. (orphan_history (A.meaning terms.now.app.now) s number (raises_of raised)).drops ≡ drops_of verdict number)) }
     ensures rise { RiseBy 1530 ledger.old.counts ledger.new.counts }
 {
     ledger.begin();

@@ -21,9 +21,9 @@ use Rattle.mos_run.specs.Outcome.{Outcome, refused, outcome, output_of}
 use Rattle.mos_run.specs.Refusal.{script_refusal}
 
 -- what a run is told to do: it is refused before a packet is read, or these settings and this script are asked of what this file gives
-pub data Told : Type 0 where
-  Refused : RunError → Told
-  Asked : Settings → List Stamped → Given → Told
+pub data Request : Type 0 where
+  Refused : RunError → Request
+  Asked : Settings → List Stamped → Given → Request
 
 -- the commands of a script's text, or why it has none
 abbrev pub read_as : Result (List Stamped) ScriptError → Result (List Stamped) RunError
@@ -50,18 +50,18 @@ abbrev pub given_under : Option ℕ → Option (List ℕ) → Option Given
 given_under None left = option_map any left
 given_under (Some n) left = Some (whole (made n))
 
-abbrev pub asked : Settings → Option (List ℕ) → Result (List Stamped) RunError → Option Told
+abbrev pub asked : Settings → Option (List ℕ) → Result (List Stamped) RunError → Option Request
 asked s left (Err e) = Some (Refused e)
 asked s left (Ok commands) = option_map (Asked s commands) (given_under s.make left)
 
-abbrev pub chosen : Option Settings → (List ℕ → Option (List ℕ)) → Option (List ℕ) → Option Told
+abbrev pub chosen : Option Settings → (List ℕ → Option (List ℕ)) → Option (List ℕ) → Option Request
 chosen None content left = Some (Refused Usage)
 chosen (Some s) content left = option_and_then (λ text. asked s left (commands_in s.app text)) (text_under s.script content)
 
 -- What a run under these words is told to do, where the shelf has this content and the capture these bytes. There is none where
 -- something that it needs isn't told.
-unfoldable pub told : List (List ℕ) → (List ℕ → Option (List ℕ)) → Option (List ℕ) → Option Told
-told words content left = chosen (words_settings words) content left
+unfoldable pub request_of : List (List ℕ) → (List ℕ → Option (List ℕ)) → Option (List ℕ) → Option Request
+request_of words content left = chosen (words_settings words) content left
 
 -- ---- the versions that a run may have, and its outcome under them
 
@@ -76,12 +76,12 @@ pub record AreAllowed (s : Settings) (commands : List Stamped) (bytes : List ℕ
   pub may_have : MayHave (meaning_of s.app) commands s.workers (frames_in (capture_of bytes)) vs
   pub with_one : s.workers ≡ 1 → vs ≡ versions_of (records_of (meaning_of s.app) commands (packets_of commands) (frames_in (capture_of bytes)))
 
-abbrev pub Allows : Told → List ℕ → Type 0
+abbrev pub Allows : Request → List ℕ → Type 0
 Allows (Refused e) vs = ⊤
 Allows (Asked s commands file) vs = AreAllowed s commands file.bytes vs
 
 -- how a run ends, and what it writes, where its records have these versions
-abbrev pub outcome_under : List ℕ → Told → Outcome
+abbrev pub outcome_under : List ℕ → Request → Outcome
 outcome_under vs (Refused e) = refused e
 outcome_under vs (Asked s commands file) =
     outcome (meaning_of s.app) commands (packets_with (meaning_of s.app) commands vs) (output_of s) file

@@ -14,7 +14,7 @@ use std::alloc::{AllocError, Global};
 
 /// A record under way: all that the report will tell of it, but for the fields of its application.
 #[derive(Drop)]
-pub(crate) struct Slot {
+pub(crate) struct RecordUnderWay {
     /// The number of its first packet.
     pub(crate) name: u64,
     pub(crate) kind: RecordKind,
@@ -26,7 +26,7 @@ pub(crate) struct Slot {
     pub(crate) drops: DropList,
 }
 
-impl Slot {
+impl RecordUnderWay {
     /// A record of no callback, with the tally of a connection that starts. It takes no memory.
     pub(crate) fn new(
         alloc: Global,
@@ -34,10 +34,10 @@ impl Slot {
         kind: RecordKind,
         version: u32,
         tally: Tally,
-    ) -> Slot
+    ) -> RecordUnderWay
         ensures { result ≡ new_slot name kind version tally }
     {
-        Slot {
+        RecordUnderWay {
             name,
             kind,
             version,
