@@ -18,7 +18,7 @@ mod terms;
 
 pub use flow::{Flow, Step};
 pub use in_force::InForce;
-pub use ledger::{Counts, Ledger, Notes};
+pub use ledger::{CALLBACK_WEIGHT, Counts, Ledger, Notes};
 pub use moment::Arrived;
 pub use orphan::lone;
 pub use silent::silence;

@@ -7,8 +7,8 @@ use Rattle.pcap_source.specs.Captured.{Captured}
 use Rattle.app_api.specs.declared.reaction.Verdict.{Verdict}
 use Rattle.app_api.specs.declared.reaction.Verdict.TheVariants.{Pass, Drop}
 use Rattle.lane_rings.specs.declared.items.Answer.{Answer}
-use Rattle.lane_rings.specs.Share.{share as numbers_of_share}
-use Rattle.lane_rings.specs.Forwarded.{bytes_out, bytes_under as frame_under, forwarded as forwarded_numbers}
+use Rattle.worker_laws.specs.Share.{share as numbers_of_share}
+use Rattle.worker_laws.specs.Forwarded.{bytes_out, bytes_under as frame_under, forwarded as forwarded_numbers}
 use Rattle.flow_table.specs.Key.{EndpointPair}
 use Rattle.lane_core.specs.Sight.{Arrival}
 use Rattle.worker_laws.specs.Lanes.{lane_of}

@@ -6,8 +6,8 @@
 #![tactic(auto)]
 
 pub mod counts;
-mod ends;
-mod merging;
+pub mod ends;
+pub mod forward;
 pub mod moments;
 pub mod packets;
 pub mod runs;
@@ -15,8 +15,3 @@ pub mod shares;
 pub mod streaming;
 pub mod verdicts;
 pub mod versions;
-mod weight;
-
-pub use ends::{Joined, join};
-pub use merging::merge;
-pub use weight::is_heavy;

@@ -17,7 +17,7 @@ use Rattle.lane_core.specs.Shown.{record_of, weight, callbacks_of, drops_of}
 use Rattle.lane_core.specs.Lane.{IsEnd, IsHeavy, IsHeavyAtEnd, shown}
 use Rattle.control_script.specs.Order.{commands_of}
 use Rattle.control_script.specs.Versions.{floor, ceil}
-use Rattle.worker_laws.specs.declared.ends.Joined.{Joined}
+use Rattle.lane_ends.specs.declared.ends.Joined.{Joined}
 use Rattle.worker_laws.specs.Allowed.{arrivals_of}
 use Rattle.worker_laws.specs.Greatest.{greatest}
 use Rattle.worker_laws.specs.Lanes.{share}

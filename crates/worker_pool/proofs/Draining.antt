@@ -11,10 +11,10 @@ use mathlib.Core.List.{IsPrefix}
 use Rattle.lane_rings.specs.declared.items.Answer.{Answer}
 use Rattle.lane_rings.specs.declared.ring.RingTx.{RingTx}
 use Rattle.lane_rings.specs.Ring.{taken}
-use Rattle.lane_rings.specs.Share.{share}
+use Rattle.worker_laws.specs.Share.{share}
 use Rattle.lane_rings.specs.Waiting.{Waiting, first_of, moved_on}
-use Rattle.lane_rings.specs.Forwarded.{bytes_out}
-use Rattle.lane_rings.specs.Forward.{Leaving, Keeps, offered, left_first, bytes_of_first}
+use Rattle.worker_laws.specs.Forwarded.{bytes_out}
+use Rattle.worker_laws.specs.Forward.{Leaving, Keeps, offered, left_first, bytes_of_first}
 use Rattle.worker_pool.specs.declared.worker.Worker.{Worker}
 use Rattle.worker_pool.specs.declared.forward.relay.Relay.{Relay}
 use Rattle.worker_pool.specs.Streamed.{Leaves, taken_from}

@@ -17,9 +17,9 @@ use Rattle.lane_rings.specs.declared.items.Answer.{Answer}
 use Rattle.lane_rings.specs.declared.ring.RingTx.{RingTx}
 use Rattle.lane_rings.specs.declared.ring.RingRx.{RingRx}
 use Rattle.lane_rings.specs.Ring.{taken, AreEnds, SameTx}
-use Rattle.lane_rings.specs.Share.{share}
+use Rattle.worker_laws.specs.Share.{share}
 use Rattle.lane_rings.specs.Waiting.{Waiting, first_of}
-use Rattle.lane_rings.specs.Forward.{bytes_of_first}
+use Rattle.worker_laws.specs.Forward.{bytes_of_first}
 use Rattle.report_text.specs.declared.record.Record.{Record}
 use Rattle.lane_core.specs.declared.end.LaneEnd.{LaneEnd}
 use Rattle.lane_core.specs.declared.recorder.Recorder.{Ghosts}

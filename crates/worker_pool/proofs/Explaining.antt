@@ -19,10 +19,10 @@ use Rattle.control_script.specs.Order.{commands_of}
 use Rattle.lane_rings.specs.declared.items.Answer.{Answer}
 use Rattle.lane_rings.specs.declared.ring.RingTx.{RingTx}
 use Rattle.lane_rings.specs.Ring.{sent}
-use Rattle.lane_rings.specs.Share.{share as numbers_of_share}
+use Rattle.worker_laws.specs.Share.{share as numbers_of_share}
 use Rattle.lane_rings.specs.Waiting.{Waiting, first_of}
-use Rattle.lane_rings.specs.Forwarded.{bytes_out, forwarded as forwarded_numbers, bytes_under as captured_under}
-use Rattle.lane_rings.specs.Forward.{Leaving, Keeps, AreFronts, AreIndexed, bytes_of_first}
+use Rattle.worker_laws.specs.Forwarded.{bytes_out, forwarded as forwarded_numbers, bytes_under as captured_under}
+use Rattle.worker_laws.specs.Forward.{Leaving, Keeps, AreFronts, AreIndexed, bytes_of_first}
 use Rattle.lane_core.specs.declared.recorder.Recorder.{Ghosts}
 use Rattle.lane_core.specs.Sight.{Arrival, arrivals, arrival_of, sight_of}
 use Rattle.lane_core.specs.Run.{LaneEvent}

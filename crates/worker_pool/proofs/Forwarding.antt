@@ -15,9 +15,9 @@ use Rattle.control_script.specs.declared.stamped.Stamped.{Stamped}
 use Rattle.lane_core.specs.declared.recorder.Recorder.{Ghosts}
 use Rattle.lane_rings.specs.declared.items.Answer.{Answer}
 use Rattle.lane_rings.specs.Ring.{taken}
-use Rattle.lane_rings.specs.Share.{share, rank}
+use Rattle.worker_laws.specs.Share.{share, rank}
 use Rattle.lane_rings.specs.Waiting.{Waiting}
-use Rattle.lane_rings.specs.Forward.{Leaving, Keeps, beginning}
+use Rattle.worker_laws.specs.Forward.{Leaving, Keeps, beginning}
 use Rattle.worker_pool.specs.declared.worker.Worker.{Worker}
 use Rattle.worker_pool.specs.declared.forward.relay.Relay.{Relay}
 use Rattle.worker_pool.specs.declared.post.Post.{Post}

@@ -12,7 +12,7 @@ use Rattle.pcap_source.specs.declared.errors.NextError.{NextError}
 use Rattle.pcap_source.specs.declared.errors.NextError.TheVariants.{TooLong, TooMany, ReadFault, NoMemory}
 use Rattle.lane_rings.specs.declared.items.Answer.{Answer}
 use Rattle.lane_rings.specs.Waiting.{Waiting, first_of}
-use Rattle.lane_rings.specs.Forward.{Leaving, Keeps, bytes_of_first}
+use Rattle.worker_laws.specs.Forward.{Leaving, Keeps, bytes_of_first}
 use Rattle.lane_rings.specs.declared.items.Packet.{Packet}
 use Rattle.control_script.specs.declared.stamped.Stamped.{Stamped}
 use Rattle.control_script.specs.Order.{commands_of}

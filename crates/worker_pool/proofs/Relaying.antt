@@ -7,7 +7,7 @@ use Rattle.std.proofs.lemmas.List.{length_push, length-map, get_or_default, get_
 use Rattle.pcap_source.specs.Captured.{Captured}
 use Rattle.ip6_views.specs.Sight.{sight_of, lane_of_sight}
 use Rattle.lane_rings.specs.Ring.{taken}
-use Rattle.lane_rings.specs.Share.{share}
+use Rattle.worker_laws.specs.Share.{share}
 use Rattle.lane_rings.specs.Waiting.{Waiting}
 use Rattle.worker_pool.specs.declared.worker.Worker.{Worker}
 use Rattle.worker_pool.specs.declared.forward.relay.Relay.{Relay}

@@ -5,7 +5,7 @@ use Rattle.lane_rings.specs.declared.items.Answer.{Answer}
 use Rattle.lane_rings.specs.declared.ring.RingTx.{RingTx}
 use Rattle.lane_rings.specs.declared.ring.RingRx.{RingRx}
 use Rattle.lane_rings.specs.Ring.{sent, taken, AreEnds}
-use Rattle.lane_rings.specs.Share.{share}
+use Rattle.worker_laws.specs.Share.{share}
 use Rattle.lane_rings.specs.Waiting.{Waiting}
 use Rattle.worker_pool.specs.declared.worker.Worker.{Worker}
 use Rattle.worker_pool.specs.declared.forward.relay.Relay.{Relay}

@@ -1,7 +1,7 @@
 -- Only for proofs: answers that are taken and written while a forward run streams.
 use Rattle.std.specs.Prelude.{◌≡◌, ℕ, ◌+◌, ◌<◌, Option, List, length, set, get_or}
 use Rattle.lane_rings.specs.Ring.{taken, SameRx}
-use Rattle.lane_rings.specs.Share.{share}
+use Rattle.worker_laws.specs.Share.{share}
 use Rattle.lane_rings.specs.Waiting.{Waiting}
 use Rattle.worker_pool.specs.declared.forward.relay.Relay.{Relay}
 use Rattle.worker_pool.specs.Streamed.{Leaves, HasLeft, taken_from}

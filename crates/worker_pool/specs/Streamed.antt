@@ -10,9 +10,9 @@ use Rattle.control_script.specs.declared.stamped.Stamped.{Stamped}
 use Rattle.lane_rings.specs.declared.items.Answer.{Answer}
 use Rattle.lane_rings.specs.declared.ring.RingTx.{RingTx}
 use Rattle.lane_rings.specs.Ring.{sent, taken, AreEnds}
-use Rattle.lane_rings.specs.Share.{share}
+use Rattle.worker_laws.specs.Share.{share}
 use Rattle.lane_rings.specs.Waiting.{Waiting, first_of}
-use Rattle.lane_rings.specs.Forward.{Leaving, Keeps, bytes_of_first}
+use Rattle.worker_laws.specs.Forward.{Leaving, Keeps, bytes_of_first}
 use Rattle.lane_core.specs.declared.recorder.Recorder.{Ghosts}
 use Rattle.worker_pool.specs.declared.worker.Worker.{Worker}
 use Rattle.worker_pool.specs.declared.post.Post.{Post}

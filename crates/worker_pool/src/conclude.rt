@@ -35,7 +35,7 @@ use worker_laws::runs::{
     shown_records_weigh_the_same,
 };
 use worker_laws::versions::a_script_gives_floors_and_ceilings;
-use worker_laws::{Joined, is_heavy, join};
+use lane_ends::{Joined, is_heavy, join};
 
 /// The lanes of workers that have served a capture share its packets, under the commands of the script, and have
 /// answered them. This function does nothing: who ends the lanes calls it for what it says.

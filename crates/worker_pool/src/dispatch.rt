@@ -23,7 +23,7 @@ use pcap_source::{Capture, Frame, NextError, Step};
 use std::alloc::Global;
 use std::sync::Wait;
 use std::sync::atomic::AtomicBool;
-use worker_laws::moments::greatest_with;
+use lane_ends::greatest_with;
 
 /// A capture that was read to its end.
 #[derive(Clone, Copy, Debug, PartialEq, Eq)]

@@ -6,7 +6,7 @@ use native_filters::Hook;
 use packet_views::Class;
 use report_text::{Record, RecordKind, RecordList};
 use std::alloc::{AllocError, Global};
-use worker_laws::{is_heavy, join, merge};
+use lane_ends::{is_heavy, join, merge};
 
 // A record of no connection, with these callbacks.
 fn record(alloc: Global, name: u64, entries: Vec<Entry>) -> Record {

@@ -7,7 +7,7 @@ ghost use Rattle.worker_pool.specs.Drained.{sent_in, AreAnswerEnds, Drains, Offe
 use crate::forward::relay::{Relay, offer};
 use crate::worker::Worker;
 use lane_core::Recorder;
-use lane_rings::forward::taking_stays_right;
+use worker_laws::forward::taking_stays_right;
 use lane_rings::{AnswerTx, Resequencer};
 
 // Takes what is left in an answer ring, at most one answer for each packet that was sent to the lane, and offers it.

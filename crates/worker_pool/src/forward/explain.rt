@@ -18,7 +18,7 @@ use crate::conclude::lanes_have_come;
 use crate::worker::Worker;
 use control_script::Script;
 use lane_core::Recorder;
-use lane_rings::forward::{
+use worker_laws::forward::{
     a_front_was_written, all_was_written, later_lanes_change_nothing, taken_are_right,
 };
 use worker_laws::packets::{packets_go_to_lanes, packets_of_a_capture_rise};

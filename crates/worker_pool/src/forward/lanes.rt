@@ -28,7 +28,7 @@ use app_api::App;
 use control_script::Script;
 use lane_core::Recorder;
 use lane_rings::Resequencer;
-use lane_rings::forward::beginning_is_right;
+use worker_laws::forward::beginning_is_right;
 use mos_bytes::{Sink, Source};
 use native_filters::NativeBook;
 use pcap_source::Capture;

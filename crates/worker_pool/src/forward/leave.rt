@@ -39,7 +39,7 @@ use native_filters::NativeBook;
 use pcap_source::Capture;
 use std::alloc::Global;
 use std::thread::Threads;
-use worker_laws::join;
+use lane_ends::join;
 use worker_laws::packets::packets_of_a_capture_rise;
 use worker_laws::runs::a_run_has_its_versions;
 

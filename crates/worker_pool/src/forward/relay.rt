@@ -1,12 +1,12 @@
 //! What comes back from a lane.
 
 ghost use Rattle.std.specs.Prelude.{◌≡◌, ◌<◌, length, get_or};
-ghost use Rattle.lane_rings.specs.Forward.{Leaving, offered};
+ghost use Rattle.worker_laws.specs.Forward.{Leaving, offered};
 ghost use Rattle.worker_pool.specs.declared.forward.relay.Relay.{Relay as Relayed};
 ghost use Rattle.worker_pool.specs.Drained.{Offers, OfferAll};
 ghost use Rattle.worker_pool.specs.Relayed.{IsCounted, AreCounted, HasTaken, HaveTaken, counted_on};
 
-use lane_rings::forward::taking_stays_right;
+use worker_laws::forward::taking_stays_right;
 use lane_rings::{Answer, AnswerRx, Resequencer};
 
 /// What comes back from the lane of a forward run.

@@ -22,14 +22,14 @@ use crate::post::{Post, take_turns};
 use control_script::Script;
 use lane_core::Recorder;
 use lane_rings::Resequencer;
-use lane_rings::forward::{later_lanes_change_nothing, sending_stays_right};
+use worker_laws::forward::{later_lanes_change_nothing, sending_stays_right};
 use mos_bytes::{Sink, Source};
 use native_filters::NativeBook;
 use pcap_source::{Capture, Frame, Step};
 use std::alloc::Global;
 use std::sync::Wait;
 use std::sync::atomic::{AtomicBool, Ordering};
-use worker_laws::moments::greatest_with;
+use lane_ends::greatest_with;
 
 // Whether the next packet may be read: its place is there, and where the source would ask the outside for it, no packet
 // is on its way any more. So what has come in is decided and written before more is waited for.
