@@ -24,11 +24,11 @@ use crate::{Output, RunError, VersionList};
 use app_api::Verdict;
 use lane_core::laws::{last_packet_is_added, weight_never_falls};
 use lane_core::{Lane, LaneError, Recorder, Reporter};
+use lane_ends::greatest_with;
 use mos_bytes::{Failed, Sink, Source};
 use pcap_source::{Capture, Frame, Step};
 use shared_forest::Table;
 use std::alloc::Global;
-use lane_ends::greatest_with;
 
 // Hands the capture's header on, where packets are.
 fn write_front<O: Sink>(output: Output, capture: &Capture, out: &mut O) -> Result<(), Failed>

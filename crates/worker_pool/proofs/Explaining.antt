@@ -33,11 +33,11 @@ use Rattle.worker_laws.specs.Whole.{verdicts_under}
 use Rattle.worker_laws.specs.Taken.{packets_at, events_at, verdicts_in, HaveRun, HaveRunAll}
 use Rattle.worker_laws.specs.Streamed.{answers_to, answer_at, lane_in, frame_bytes}
 use Rattle.worker_pool.specs.declared.worker.Worker.{Worker}
-use Rattle.worker_pool.specs.declared.forward.relay.Relay.{Relay}
+use Rattle.worker_pool.specs.declared.forward.lane_answers.LaneAnswers.{LaneAnswers}
 use Rattle.worker_pool.specs.Worked.{Sends}
 use Rattle.worker_pool.specs.Ending.{by_key, CameTo}
 use Rattle.worker_pool.specs.Forward.{left_by_all, forwarded_with}
-use Rattle.worker_pool.specs.Streamed.{IsAnswered, AreRelays, Leaves, HasLeft, lane_at}
+use Rattle.worker_pool.specs.Streamed.{IsAnswered, AreLaneAnswers, Leaves, HasLeft, lane_at}
 use Rattle.worker_pool.specs.Drained.{sent_in, sent_from}
 use Rattle.worker_pool.specs.Explained.{TellsFrames, HasAnswered, HaveAnswered, AreGood}
 use Rattle.worker_pool.proofs.Fronts.{IsPrefix-refl, IsPrefix-trans}
@@ -171,8 +171,8 @@ front_of_same xs ys same = subst (IsPrefix xs) same (IsPrefix-refl xs)
 
 -- ---- what has left, where these are the verdicts of a run over the frames that are told
 
-module _ {L : Type 0} (g : Ghosts L) (app : Meaning) (script : List Stamped) (frames told : List Captured) (begins workers : List (Worker L)) (relays : List Relay) (lanes : List (List LaneEvent))
-    (behind : IsPrefix frames told) (answered : HaveAnswered g app frames begins workers lanes) (are : AreRelays begins frames relays) (count : length begins ≡ length workers)
+module _ {L : Type 0} (g : Ghosts L) (app : Meaning) (script : List Stamped) (frames told : List Captured) (begins workers : List (Worker L)) (all_answers : List LaneAnswers) (lanes : List (List LaneEvent))
+    (behind : IsPrefix frames told) (answered : HaveAnswered g app frames begins workers lanes) (are : AreLaneAnswers begins frames all_answers) (count : length begins ≡ length workers)
     (lanes_count : length lanes ≡ length workers) (vs : List ℕ) where
   abbrev pub js : List (Arrival × Verdict)
   js = verdicts_under app (commands_of script) vs (arrivals 0 told)
@@ -207,13 +207,13 @@ module _ {L : Type 0} (g : Ghosts L) (app : Meaning) (script : List Stamped) (fr
     its : HasAnswered g app frames (events_at lanes l) (get_or begins l one) (get_or workers l one)
     its = answered l one one lt
 
-    its_relay : IsAnswered (get_or begins l one) (get_or relays l (any_of relays l (let e = are.count in omega (arith, e, count, lt))))
-    its_relay = are.answered l one (any_of relays l (let e = are.count in omega (arith, e, count, lt))) (let e = are.count in omega (arith, e, count, lt))
+    its_lane_answers : IsAnswered (get_or begins l one) (get_or all_answers l (any_of all_answers l (let e = are.count in omega (arith, e, count, lt))))
+    its_lane_answers = are.answered l one (any_of all_answers l (let e = are.count in omega (arith, e, count, lt))) (let e = are.count in omega (arith, e, count, lt))
 
     its_sent : sent_from workers l ≡ its.answers
     its_sent =
         get_or-map (λ (w : Worker L). sent_in w.answers) workers l one [] lt
-        ∙ all_sent (get_or begins l one).answers (get_or workers l one).answers its_relay.ring its.answers its_relay.answers its_relay.unsent its.sends
+        ∙ all_sent (get_or begins l one).answers (get_or workers l one).answers its_lane_answers.ring its.answers its_lane_answers.answers its_lane_answers.unsent its.sends
 
   none_sent : (l : ℕ) → length workers ≤ l → sent_from workers l ≡ []
   none_sent l past_end = get_or_past (map (λ (w : Worker L). sent_in w.answers) workers) l [] (let e = length-map workers (λ (w : Worker L). sent_in w.answers) in omega (arith, e, past_end))

@@ -56,7 +56,7 @@ module _ {L : Type 0} (g : Ghosts L) (app : Meaning) (keep : Bool) where
     each_sent = begun.each_sent;
   }
 
-  -- a team that is made, with the taking ends of its relays or of its frame rings
+  -- a team that is made, with the taking ends of its answer rings or of its frame rings
   pub team_made : {X E : Type 0} (r : Result (Team L × X) E) (n : ℕ) → 1 ≤ n → IfOk r (λ t. AreBegun g app keep t.0.workers.items t.0.packets.items) → IfOk r (λ t. length t.0.workers.items ≡ n)
       → IfOk r (λ t. IsTeam g app t.0.workers.items t.0.packets.items)
   team_made (Err e) n some begun count = tt

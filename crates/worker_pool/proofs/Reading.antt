@@ -9,7 +9,7 @@ use Rattle.pcap_source.specs.declared.capture.Step.TheVariants.{Frame, Tail, End
 use Rattle.pcap_source.specs.declared.errors.NextError.{NextError}
 use Rattle.pcap_source.specs.declared.errors.NextError.TheVariants.{TooLong, TooMany, ReadFault, NoMemory}
 use Rattle.worker_pool.specs.GoesOn.{behind, IsReadTo}
-use Rattle.worker_pool.specs.Posts.{ReadsAs}
+use Rattle.worker_pool.specs.Inputs.{ReadsAs}
 
 -- a fault of a call, told again, has its cause since an earlier moment
 pub HasCause-since : {told again : Type 0} (first before now : ℕ) → first ≤ before → HasCauseOf before now told → (again → told) → HasCauseOf first now again

@@ -10,10 +10,10 @@ ghost use Rattle.worker_pool.specs.Streamed.{IsCutShort, LeavesOn};
 ghost use Rattle.worker_pool.specs.Drained.{held};
 
 use app_api::Verdict;
-use worker_laws::forward::writing_stays_right;
 use lane_rings::{Answer, Resequencer};
 use mos_bytes::{Failed, Sink, Source};
 use pcap_source::{Capture, Frame};
+use worker_laws::forward::writing_stays_right;
 
 // Writes what a packet leaves.
 fn write_answer<O: Sink>(answer: &Answer, capture: &Capture, out: &mut O) -> Result<(), Failed>
