@@ -13,6 +13,7 @@ use control_script::Script;
 use lane_core::{LaneError, Recorder};
 use lane_rings::{CommandRx, Packet};
 use native_filters::NativeBook;
+use pcap_source::RECORD_LIMIT;
 use std::alloc::Global;
 use std::sync::Wait;
 
@@ -32,7 +33,7 @@ pub(crate) fn is_fit<L: Recorder>(lane: &L, script: &Script, packet: &Packet) ->
     ensures few { IsTrue result → packet.now.ceil ≤ 4096 }
 {
     may_follow(lane.newest(), packet.index)
-        && packet.index < 1_048_576
+        && packet.index < u64::from(RECORD_LIMIT)
         && packet.floor <= packet.ceil
         && packet.ceil <= script.len()
         && lane.version() <= packet.ceil
