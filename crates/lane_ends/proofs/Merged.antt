@@ -168,7 +168,9 @@ module _ (of : ℕ → ℕ) (ls old new : List (List Record)) (before after : Li
 
   pub so_far_moved : IsSoFar of ls new after
   so_far_moved = record {
-    rises = subst Rises (sym names_after) (Rises-push (names_in before) moves.moved.name so_far.rises (All-head (λ n. All (λ m. m < n) (names_in before)) moves.moved.name (names_in moves.rest) above_old));
+    rises = subst Rises (sym names_after)
+        (Rises-push (names_in before) moves.moved.name so_far.rises (All-head (λ n. All (λ m. m < n) (names_in before)) moves.moved.name (names_in moves.rest) above_old));
     parts = λ l. ⊎_elim (parts_here l) (parts_there l) (cases_eq l moves.place);
-    above = λ l. subst (λ ms. All (λ n. All (λ m. m < n) ms) (names_in (list_at new l))) (sym names_after) (above_push (names_in before) moves.moved.name (names_in (list_at new l)) (above_before l) (behind l));
+    above = λ l. subst (λ ms. All (λ n. All (λ m. m < n) ms) (names_in (list_at new l))) (sym names_after)
+        (above_push (names_in before) moves.moved.name (names_in (list_at new l)) (above_before l) (behind l));
   }

@@ -70,7 +70,8 @@ no_run app = refl
 no_end : (app : Meaning) (last : Option Moment) → ended_run app [] last ≡ []
 no_end app last = ap (map (ended_at app (control_of app []) last)) (no_run app)
 
-module _ (keep : Bool) (app : Meaning) (commands : List Command) (lane : EndpointPair → ℕ) (packets : List Arrival) (lanes : List (List LaneEvent)) (vs : List ℕ) (one : AreOneRun app commands lane packets lanes vs)
+module _ (keep : Bool) (app : Meaning) (commands : List Command) (lane : EndpointPair → ℕ) (packets : List Arrival) (lanes : List (List LaneEvent)) (vs : List ℕ)
+    (one : AreOneRun app commands lane packets lanes vs)
     (numbered : Rises (map (λ a. a.number) packets)) (ends : List LaneEnd) (are : AreEnds keep app (greatest packets) lanes ends) where
   abbrev run : List RecordSoFar
   run = run_under app commands vs packets

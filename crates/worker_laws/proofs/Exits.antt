@@ -50,7 +50,8 @@ forwarded-grows answer n (suc k) =
     let before = forwarded-grows answer n k in
     let e : k + n + 1 ≡ suc k + n = omega arith in (
       before.0 ++ bytes_out (answer (k + n)),
-      sym (append_assoc (forwarded answer n) before.0 (bytes_out (answer (k + n)))) ∙ ap (λ x. x ++ bytes_out (answer (k + n))) before.1 ∙ sym (forwarded-more answer (k + n)) ∙ ap (forwarded answer) e,
+      sym (append_assoc (forwarded answer n) before.0 (bytes_out (answer (k + n)))) ∙ ap (λ x. x ++ bytes_out (answer (k + n))) before.1 ∙ sym (forwarded-more answer (k + n))
+          ∙ ap (forwarded answer) e,
     )
 
 pub forwarded-front : (answer : ℕ → Answer) (n m : ℕ) → n ≤ m → IsPrefix (forwarded answer n) (forwarded answer m)
@@ -62,7 +63,8 @@ IsPrefix-trans a b c p q = (p.0 ++ q.0, sym (append_assoc a p.0 q.0) ∙ ap (λ 
 IsPrefix-after : (a b c : List ℕ) → IsPrefix b c → IsPrefix (a ++ b) (a ++ c)
 IsPrefix-after a b c p = (p.0, append_assoc a b p.0 ∙ ap (λ x. a ++ x) p.1)
 
-module _ (lane : ℕ → ℕ) (answer : ℕ → Answer) (n : ℕ) (taken : ℕ → List Answer) (s : Leaving) (keeps : Keeps lane n taken s) (indexed : AreIndexed answer) (fronts : AreFronts lane answer n taken) where
+module _ (lane : ℕ → ℕ) (answer : ℕ → Answer) (n : ℕ) (taken : ℕ → List Answer) (s : Leaving) (keeps : Keeps lane n taken s) (indexed : AreIndexed answer)
+    (fronts : AreFronts lane answer n taken) where
   pub none_lost : s.lost ≡ false
   none_lost = (keeps.right answer indexed fronts).kept
 

@@ -28,7 +28,8 @@ shorter (x ∷ xs) a (y ∷ ys) (suc m) e =
 
 module _ (lane : ℕ → ℕ) (answer : ℕ → Answer) where
   -- what a ring was given begins with what was taken from it
-  pub fronts_joined : (n : ℕ) (taken left given : ℕ → List Answer) → ((l : ℕ) → taken l ++ left l ≡ given l) → ((l : ℕ) → IsPrefix (given l) (map answer (share lane l n))) → AreFronts lane answer n taken
+  pub fronts_joined : (n : ℕ) (taken left given : ℕ → List Answer) → ((l : ℕ) → taken l ++ left l ≡ given l) → ((l : ℕ) → IsPrefix (given l) (map answer (share lane l n)))
+      → AreFronts lane answer n taken
   fronts_joined n taken left given all front l =
       let p = front l in
       let e : taken l ++ (left l ++ p.0) ≡ map answer (share lane l n) = sym (append_assoc (taken l) (left l) p.0) ∙ ap (λ x. x ++ p.0) (all l) ∙ p.1 in

@@ -21,13 +21,15 @@ kept_here : (j x : Arrival × Verdict) (b c : Bool) (xs : List (Arrival × Verdi
 kept_here j x true c xs = refl
 kept_here j x false c xs = refl
 
-part_push : (lane : EndpointPair → ℕ) (l : ℕ) (xs : List (Arrival × Verdict)) (j : Arrival × Verdict) → judged_part lane l (xs ++ j ∷ []) ≡ judged_part lane l xs ++ cond (lane_of lane j.0.sight == l) (j ∷ []) []
+part_push : (lane : EndpointPair → ℕ) (l : ℕ) (xs : List (Arrival × Verdict)) (j : Arrival × Verdict)
+    → judged_part lane l (xs ++ j ∷ []) ≡ judged_part lane l xs ++ cond (lane_of lane j.0.sight == l) (j ∷ []) []
 part_push lane l [] j = refl
 part_push lane l (x ∷ xs) j =
     ap (λ ys. cond (lane_of lane x.0.sight == l) (x ∷ ys) ys) (part_push lane l xs j)
     ∙ kept_here j x (lane_of lane x.0.sight == l) (lane_of lane j.0.sight == l) (judged_part lane l xs)
 
-answers_push : (frame_of : ℕ → Captured) (f : ℕ → Answer) (ns : List ℕ) (n : ℕ) (xs : List (Arrival × Verdict)) (j : Arrival × Verdict) (b : Bool) → map f ns ≡ answers_to frame_of xs → f n ≡ answer_to frame_of j.0.number j.1
+answers_push : (frame_of : ℕ → Captured) (f : ℕ → Answer) (ns : List ℕ) (n : ℕ) (xs : List (Arrival × Verdict)) (j : Arrival × Verdict) (b : Bool) → map f ns ≡ answers_to frame_of xs
+    → f n ≡ answer_to frame_of j.0.number j.1
     → map f (if b then ns ++ n ∷ [] else ns) ≡ answers_to frame_of (xs ++ cond b (j ∷ []) [])
 answers_push frame_of f ns n xs j true before last =
     map-append f ns (n ∷ []) ∙ ap (λ x. map f ns ++ x ∷ []) last ∙ ap (λ l. l ++ answer_to frame_of j.0.number j.1 ∷ []) before

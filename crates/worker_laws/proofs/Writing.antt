@@ -67,7 +67,8 @@ given_by : (b : Bool) (x a : Answer) → Some a ≡ (if b then Some x else None)
 given_by true x a e = (refl, cc)
 given_by false x a e = absurd (cc)
 
-module _ (lane : ℕ → ℕ) (answer : ℕ → Answer) (n : ℕ) (taken : ℕ → List Answer) (s : Leaving) (sent : (l : ℕ) → length (taken l) ≤ length (share lane l n)) (right : IsRight lane answer n taken s) where
+module _ (lane : ℕ → ℕ) (answer : ℕ → Answer) (n : ℕ) (taken : ℕ → List Answer) (s : Leaving) (sent : (l : ℕ) → length (taken l) ≤ length (share lane l n))
+    (right : IsRight lane answer n taken s) where
   -- the answer whose turn it is was taken, and is the right one
   pub first_is : (a : Answer) → first_of s.waiting ≡ Some a → (is_taken lane taken s.waiting.next ≡ true) × (a ≡ answer s.waiting.next)
   first_is a some =

@@ -79,7 +79,8 @@ with_lane-other : (k : ℕ) (answers : List Answer) (before : ℕ → List Answe
 with_lane-other k answers before l not = ap (λ b. cond b answers (before l)) (ne_eqb l k not)
 
 -- one more
-pub offers_one : (a m b : LaneAnswers) (w v u : Waiting) (x : Answer) → IsTakingRight → Offers a m w v → m.sent ≡ a.sent → length (taken m.answers) < m.sent → taken b.answers ≡ taken m.answers ++ x ∷ []
+pub offers_one : (a m b : LaneAnswers) (w v u : Waiting) (x : Answer) → IsTakingRight → Offers a m w v → m.sent ≡ a.sent → length (taken m.answers) < m.sent
+    → taken b.answers ≡ taken m.answers ++ x ∷ []
     → ((s : Leaving) → s.waiting ≡ v → (offered x s).waiting ≡ u) → Offers a b w u
 offers_one a m b w v u x law offers same fewer took is = record {
   leaves = λ lane n k before after old new count here there others l.
@@ -90,7 +91,8 @@ offers_one a m b w v u x law offers same fewer took is = record {
       record {
         state = offered x on.state;
         waits = is on.state on.waits;
-        keeps = law lane n k x mid after on.state on.keeps below (there ∙ took ∙ ap (λ xs. xs ++ x ∷ []) (sym mid_here)) (λ j not. others j not ∙ sym (with_lane-other k (taken m.answers) before j not));
+        keeps = law lane n k x mid after on.state on.keeps below (there ∙ took ∙ ap (λ xs. xs ++ x ∷ []) (sym mid_here))
+            (λ j not. others j not ∙ sym (with_lane-other k (taken m.answers) before j not));
         written = subst (Appends old new) (sym (out_where _ on.state _)) on.written;
       };
 }
@@ -141,7 +143,8 @@ module _ {L : Type 0} (workers : List (Worker L)) (all_answers : List LaneAnswer
         (subst (IsBeside (get_or workers k d)) (sym (is.same_all_answers k e (omega arith))) (beside.each k d e lt))
 
     module _ (d : Worker L) (e : LaneAnswers) (answers : Option (RingTx Answer)) (lane_answers : LaneAnswers) (u : Waiting) (below : k < length all_answers) (among : k < length workers)
-        (same : sent_in answers ≡ sent_in (get_or now k d).answers) (drains : Drains (sent_in (get_or now k d).answers) (get_or left k e) lane_answers) (offers : Offers (get_or left k e) lane_answers v u) where
+        (same : sent_in answers ≡ sent_in (get_or now k d).answers) (drains : Drains (sent_in (get_or now k d).answers) (get_or left k e) lane_answers)
+            (offers : Offers (get_or left k e) lane_answers v u) where
       abbrev worker : Worker L
       worker = record (get_or now k d) { answers = answers }
 
@@ -184,8 +187,10 @@ module _ {L : Type 0} (workers : List (Worker L)) (all_answers : List LaneAnswer
               offers.leaves lane n k (taken_from left) (taken_from (set left k lane_answers)) old new
               (ap (λ (x : LaneAnswers). x.sent) (is.same_all_answers k e (omega arith)) ∙ counts k e below)
               (get_or-map (λ (r : LaneAnswers). taken r.answers) left k e [] here_r)
-              (ap (λ l. get_or l k []) (map-set (λ (r : LaneAnswers). taken r.answers) left k lane_answers) ∙ get_or-set_same (map (λ (r : LaneAnswers). taken r.answers) left) k (taken lane_answers.answers) [] here_m)
-              (λ j not. ap (λ l. get_or l j []) (map-set (λ (r : LaneAnswers). taken r.answers) left k lane_answers) ∙ get_or-set_other (map (λ (r : LaneAnswers). taken r.answers) left) k j (taken lane_answers.answers) [] not)
+              (ap (λ l. get_or l k []) (map-set (λ (r : LaneAnswers). taken r.answers) left k lane_answers)
+                  ∙ get_or-set_same (map (λ (r : LaneAnswers). taken r.answers) left) k (taken lane_answers.answers) [] here_m)
+              (λ j not. ap (λ l. get_or l j []) (map-set (λ (r : LaneAnswers). taken r.answers) left k lane_answers)
+                  ∙ get_or-set_other (map (λ (r : LaneAnswers). taken r.answers) left) k j (taken lane_answers.answers) [] not)
               (is.offers.leaves lane n old new counts l);
         };
       }
@@ -194,7 +199,8 @@ module _ {L : Type 0} (workers : List (Worker L)) (all_answers : List LaneAnswer
           here_m = let c = length-map left (λ (r : LaneAnswers). taken r.answers) in let h = here_r in omega (arith, c, h)
 
     -- the same of a worker and of its answers that are looked at
-    pub next_drained : (d : Worker L) (e : LaneAnswers) (answers : Option (RingTx Answer)) (lane_answers : LaneAnswers) (u : Waiting) → k < length all_answers → k < length workers → d ≡ get_or now k d → e ≡ get_or left k e
+    pub next_drained : (d : Worker L) (e : LaneAnswers) (answers : Option (RingTx Answer)) (lane_answers : LaneAnswers) (u : Waiting) → k < length all_answers → k < length workers
+        → d ≡ get_or now k d → e ≡ get_or left k e
         → sent_in answers ≡ sent_in d.answers → Drains (sent_in d.answers) e lane_answers → Offers e lane_answers v u
         → IsDraining (k + 1) (set now k (record d { answers = answers })) (set left k lane_answers) u
     next_drained d e answers lane_answers u below among at_worker at_lane_answers same drains offers =

@@ -71,7 +71,8 @@ module _ {L : Type 0} (g : Ghosts L) (last : Option Moment) where
       (ended.each k w (any_of ends k among) lt).good
 
   -- why lanes that keep no entries don't end
-  pub not_heavy : (app : Meaning) (script : List Stamped) (frames : List Captured) (workers : List (Worker L)) (lanes : List (List LaneEvent)) (e : PoolError) → CameTo g false app script frames workers lanes
+  pub not_heavy : (app : Meaning) (script : List Stamped) (frames : List Captured) (workers : List (Worker L)) (lanes : List (List LaneEvent)) (e : PoolError)
+      → CameTo g false app script frames workers lanes
       → (e ≡ NoMemory) ⊎ ((k : ℕ) × (k < length workers) × ((w : Worker L) → IsCause g last (get_or workers k w) e)) → e ≡ NoMemory
   not_heavy app script frames workers lanes NoMemory came why = refl
   not_heavy app script frames workers lanes Heavy came why = ⊎_elim
@@ -88,7 +89,8 @@ module _ {L : Type 0} (g : Ghosts L) (last : Option Moment) where
   not_heavy app script frames workers lanes (TooLong offset) came why = ⊎_elim (λ is. is) (λ one. absurd (one.2 (any_of workers one.0 one.1))) why
   not_heavy app script frames workers lanes (TooMany offset) came why = ⊎_elim (λ is. is) (λ one. absurd (one.2 (any_of workers one.0 one.1))) why
 
-  pub why_none : (workers : List (Worker L)) (e : PoolError) → (e ≡ NoMemory) ⊎ ((k : ℕ) × (k < length workers) × ((w : Worker L) → IsCause g last (get_or workers k w) e)) → (e ≡ NoMemory) ⊎ (e ≡ Heavy)
+  pub why_none : (workers : List (Worker L)) (e : PoolError) → (e ≡ NoMemory) ⊎ ((k : ℕ) × (k < length workers) × ((w : Worker L) → IsCause g last (get_or workers k w) e))
+      → (e ≡ NoMemory) ⊎ (e ≡ Heavy)
   why_none workers NoMemory why = inl refl
   why_none workers Heavy why = inr refl
   why_none workers ReadFault why = ⊎_elim (λ is. inl is) (λ one. absurd (one.2 (any_of workers one.0 one.1))) why
@@ -112,7 +114,8 @@ module _ {L : Type 0} (g : Ghosts L) where
     pub good_before : AreGood g after → AreGood g workers
     good_before good k w lt = ap g.failed (sym (same_lane k w)) ∙ good k w (let e = same_count in omega (arith, e, lt))
 
-    pub came_after : (keep : Bool) (app : Meaning) (script : List Stamped) (frames : List Captured) (lanes : List (List LaneEvent)) → CameTo g keep app script frames workers lanes → CameTo g keep app script frames after lanes
+    pub came_after : (keep : Bool) (app : Meaning) (script : List Stamped) (frames : List Captured) (lanes : List (List LaneEvent)) → CameTo g keep app script frames workers lanes
+        → CameTo g keep app script frames after lanes
     came_after keep app script frames lanes came = record {
       count = came.count ∙ sym same_count;
       run = subst (λ n. HaveRun (floor script) (ceil script) (commands_of script) (by_key n) (arrivals 0 frames) lanes) (sym same_count) came.run;
@@ -135,7 +138,8 @@ ends_kept (Some a) (Some b) ring rx is same ends =
 
 module _ {L : Type 0} where
   -- the answer rings of workers that have served are those from which their answers are taken
-  pub are_beside : (g : Ghosts L) (script : List Stamped) (begins workers : List (Worker L)) (frames : List Captured) (all_answers : List LaneAnswers) → HaveServed g script begins frames workers → AreLaneAnswers begins frames all_answers
+  pub are_beside : (g : Ghosts L) (script : List Stamped) (begins workers : List (Worker L)) (frames : List Captured) (all_answers : List LaneAnswers) → HaveServed g script begins frames workers
+      → AreLaneAnswers begins frames all_answers
       → AreBeside workers all_answers
   are_beside g script begins workers frames all_answers served are = record {
     count = sym served.count ∙ are.count;
@@ -197,7 +201,8 @@ module _ {L : Type 0} where
 -- ---- the exits
 
 -- between two records nothing of the next one is written
-pub left_whole : (lane : ℕ → ℕ) (n : ℕ) (taken_so_far : ℕ → List Answer) (waiting : Waiting) (old new : Option (List ℕ)) → Leaves lane n taken_so_far waiting old new → HasLeft lane n taken_so_far old new
+pub left_whole : (lane : ℕ → ℕ) (n : ℕ) (taken_so_far : ℕ → List Answer) (waiting : Waiting) (old new : Option (List ℕ)) → Leaves lane n taken_so_far waiting old new
+    → HasLeft lane n taken_so_far old new
 left_whole lane n taken_so_far waiting old new l = record {
   state = l.state;
   part = [];
@@ -228,7 +233,8 @@ module _ {L : Type 0} (app : Meaning) (script : List Stamped) (frames told : Lis
   })
 
 -- why the dispatcher stopped is why the run is refused
-pub refused_as : (frames : List Captured) (start : CaptureState) (old new : Option (List ℕ)) (rest : List ℕ) (e : PoolError) → StopsAs frames start old new (Err e) → old ≡ Some rest → RefusedAs (frames_at start rest) e
+pub refused_as : (frames : List Captured) (start : CaptureState) (old new : Option (List ℕ)) (rest : List ℕ) (e : PoolError) → StopsAs frames start old new (Err e) → old ≡ Some rest
+    → RefusedAs (frames_at start rest) e
 refused_as frames start old new rest (TooLong offset) stops is = stops rest is
 refused_as frames start old new rest (TooMany offset) stops is = stops rest is
 refused_as frames start old new rest ReadFault stops is = stops
@@ -240,7 +246,8 @@ refused_as frames start old new rest NoMemory stops is = stops
 pub never_too_heavy : (frames : List Captured) (start : CaptureState) (old new : Option (List ℕ)) (e : PoolError) → StopsAs frames start old new (Err e) → e ≢ Heavy
 never_too_heavy frames start old new e stops is = subst (λ x. StopsAs frames start old new (Err x)) is stops
 
-module _ {L : Type 0} (g : Ghosts L) (app : Meaning) (script : List Stamped) (frames : List Captured) (begins workers : List (Worker L)) (all_answers after : List LaneAnswers) (waiting kept : Waiting) (start : CaptureState)
+module _ {L : Type 0} (g : Ghosts L) (app : Meaning) (script : List Stamped) (frames : List Captured) (begins workers : List (Worker L)) (all_answers after : List LaneAnswers)
+    (waiting kept : Waiting) (start : CaptureState)
     (old new before now : Option (List ℕ)) (rest : List ℕ) (read : Result Whole PoolError) (served : HaveServed g script begins frames workers)
     (streamed : Streamed begins frames all_answers waiting start old new before now read) (drained : AreDrained workers all_answers after) (offered : OfferAll all_answers after waiting kept)
     (law : LeavesFront app script frames (frames_at start rest).frames workers) where
@@ -262,12 +269,14 @@ module _ {L : Type 0} (g : Ghosts L) (app : Meaning) (script : List Stamped) (fr
     cut_at left = exit_front app script frames (frames_at start rest).frames workers (length begins) (length all_answers) served.count all_answers_count law (taken_from after) before later
         (are_sent workers all_answers after drained) left
 
-    pub stopped_at : (w : Waiting) → Leaves (lane_at (length all_answers) frames) (length frames) (taken_from after) w before later → ForwardsFront app script (length begins) (frames_at start rest).frames before later
+    pub stopped_at : (w : Waiting) → Leaves (lane_at (length all_answers) frames) (length frames) (taken_from after) w before later
+        → ForwardsFront app script (length begins) (frames_at start rest).frames before later
     stopped_at w leaves = cut_at (left_whole (lane_at (length all_answers) frames) (length frames) (taken_from after) w before later leaves)
 
     module _ (ended : List (Worker L)) (same : map (λ w. w.lane) ended ≡ map (λ w. w.lane) workers)
         (whole_law : (lanes : List (List LaneEvent)) × CameTo g false app script frames workers lanes × (AreGood g workers → LeavesAll app script frames workers lanes)) (w : Waiting)
-        (leaves : Leaves (lane_at (length all_answers) frames) (length frames) (taken_from after) w before later) (none : first_of w ≡ None) (whole : Whole) (stops : StopsAs frames start old new (Ok whole)) (is : old ≡ Some rest) where
+        (leaves : Leaves (lane_at (length all_answers) frames) (length frames) (taken_from after) w before later) (none : first_of w ≡ None) (whole : Whole)
+            (stops : StopsAs frames start old new (Ok whole)) (is : old ≡ Some rest) where
       abbrev lanes : List (List LaneEvent)
       lanes = whole_law.0
 
@@ -276,7 +285,8 @@ module _ {L : Type 0} (g : Ghosts L) (app : Meaning) (script : List Stamped) (fr
 
       -- the capture was read whole
       pub over_at : (r : Result (List ℕ) PoolError) → (IsOk r → AreGood g ended)
-          → ((ls : List (List LaneEvent)) (vs : List ℕ) → whole.last ≡ greatest (arrivals 0 frames) → CameTo g false app script frames ended ls → AreOneRun app (commands_of script) (by_key (length ended)) (arrivals 0 frames) ls vs
+          → ((ls : List (List LaneEvent)) (vs : List ℕ) → whole.last ≡ greatest (arrivals 0 frames) → CameTo g false app script frames ended ls
+              → AreOneRun app (commands_of script) (by_key (length ended)) (arrivals 0 frames) ls vs
           → MayHave app script (length ended) frames vs → IfOk r (λ versions. versions ≡ vs))
           → ((ls : List (List LaneEvent)) → CameTo g false app script frames ended ls → IfErr r (λ e. e ≡ NoMemory))
           → ForwardsOver app script (length begins) (frames_at start rest) before later r
@@ -286,7 +296,8 @@ module _ {L : Type 0} (g : Ghosts L) (app : Meaning) (script : List Stamped) (fr
           subst (λ f. ForwardsOver app script (length begins) f before later (Ok versions)) (sym (stops.holds rest is).0) (
             whole.tail,
             refl,
-            exit_all app script frames frames workers (length begins) (length all_answers) served.count all_answers_count lanes law_all (taken_from after) w before later versions (are_sent workers all_answers after drained)
+            exit_all app script frames frames workers (length begins) (length all_answers) served.count all_answers_count lanes law_all (taken_from after) w before later versions
+                (are_sent workers all_answers after drained)
                 (all_taken workers all_answers after drained begins frames streamed.all_answers_are (sym all_answers_count)) leaves none
                 (named lanes law_all.versions stops.last came
                 (subst (λ n. AreOneRun app (commands_of script) (by_key n) (arrivals 0 frames) lanes law_all.versions) count law_all.one)

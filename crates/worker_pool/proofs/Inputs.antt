@@ -25,7 +25,8 @@ use Rattle.worker_pool.proofs.Composed.{worked_two}
 
 -- ---- the packets of one frame more
 
-packets-last : (script : List Stamped) (n : ℕ) (frames : List Captured) (frame : Captured) → packets_from script n (frames ++ frame ∷ []) ≡ packets_from script n frames ++ sent_as script (n + length frames) frame ∷ []
+packets-last : (script : List Stamped) (n : ℕ) (frames : List Captured) (frame : Captured)
+    → packets_from script n (frames ++ frame ∷ []) ≡ packets_from script n frames ++ sent_as script (n + length frames) frame ∷ []
 unfolding packets_from
 packets-last script n [] frame = ap (λ k. sent_as script k frame ∷ []) (let same : n ≡ n + 0 = omega arith in same)
 packets-last script n (first ∷ frames) frame =
@@ -35,7 +36,8 @@ packets-last script n (first ∷ frames) frame =
 module _ (script : List Stamped) (lanes : ℕ) (frames : List Captured) (frame : Captured) (number : ℕ) (count : length frames ≡ number) where
   dealt-parts : (l : ℕ) → dealt lanes l (packets_from script 0 (frames ++ frame ∷ [])) ≡ dealt lanes l (packets_from script 0 frames) ++ dealt lanes l (sent_as script number frame ∷ [])
   dealt-parts l =
-      ap (dealt lanes l) (packets-last script 0 frames frame ∙ ap (λ k. packets_from script 0 frames ++ sent_as script k frame ∷ []) (let same : 0 + length frames ≡ number = omega (arith, count) in same))
+      ap (dealt lanes l) (packets-last script 0 frames frame
+          ∙ ap (λ k. packets_from script 0 frames ++ sent_as script k frame ∷ []) (let same : 0 + length frames ≡ number = omega (arith, count) in same))
       ∙ filter-append (λ p. lane_of lanes p == l) (packets_from script 0 frames) (sent_as script number frame ∷ [])
 
   -- its own lane has one more
@@ -53,7 +55,8 @@ module _ (script : List Stamped) (lanes : ℕ) (frames : List Captured) (frame :
       ∙ append-nil (dealt lanes l (packets_from script 0 frames))
 
 -- a packet with the floor and the ceiling of its number
-pub as_sent : (script : List Stamped) (n low high : ℕ) (frame : Captured) → low ≡ floor script n → high ≡ ceil script n → record { index = n; floor = low; ceil = high; frame = frame } ≡ sent_as script n frame
+pub as_sent : (script : List Stamped) (n low high : ℕ) (frame : Captured) → low ≡ floor script n → high ≡ ceil script n
+    → record { index = n; floor = low; ceil = high; frame = frame } ≡ sent_as script n frame
 as_sent script n low high frame floor_is ceil_is =
     let made : ℕ → ℕ → Packet = λ f h. record { index = n; floor = f; ceil = h; frame = frame } in
     ap (λ f. made f high) floor_is ∙ ap (made (floor script n)) ceil_is
@@ -72,7 +75,8 @@ module _ {L : Type 0} (g : Ghosts L) (script : List Command) (begin : Worker L) 
   }
 
   -- nothing was sent
-  pub sent_none : (input : LaneInput L) (tx : RingTx Packet) → SameTx input.packets tx → sent tx ≡ sent input.packets → IsInput g script begin packets input → IsInput g script begin packets (record input { packets = tx })
+  pub sent_none : (input : LaneInput L) (tx : RingTx Packet) → SameTx input.packets tx → sent tx ≡ sent input.packets → IsInput g script begin packets input
+      → IsInput g script begin packets (record input { packets = tx })
   sent_none input tx same gives p = record {
     lawful = p.lawful;
     ends = ends_after input.packets tx begin.packets begin.packets p.ends same (SameRx-refl begin.packets);
@@ -81,7 +85,8 @@ module _ {L : Type 0} (g : Ghosts L) (script : List Command) (begin : Worker L) 
   }
 
   -- a worker that is in this thread worked on
-  pub here_worked : (tx : RingTx Packet) (a b : Worker L) → IsInput g script begin packets (record { packets = tx; place = Inline a }) → Worked g script a b → (g.failed b.lane ≡ None → IsReady g script b.lane b.commands)
+  pub here_worked : (tx : RingTx Packet) (a b : Worker L) → IsInput g script begin packets (record { packets = tx; place = Inline a }) → Worked g script a b
+      → (g.failed b.lane ≡ None → IsReady g script b.lane b.commands)
       → IsInput g script begin packets (record { packets = tx; place = Inline b })
   here_worked tx a b p worked ready = record {
     lawful = p.lawful;
@@ -99,13 +104,15 @@ module _ {L : Type 0} (g : Ghosts L) (script : List Stamped) where
   input_of [] frames inputs k d are below = let none = are.count in absurd (omega (arith, none, below))
   input_of (b ∷ begins) frames inputs k d are below = (get_or (b ∷ begins) k b, dealt (length inputs) k (packets_from script 0 frames), are.each k b d below)
 
-  module _ (begins : List (Worker L)) (frames : List Captured) (frame : Captured) (number : ℕ) (count : length frames ≡ number) (inputs : List (LaneInput L)) (are : AreInputs g script begins frames inputs) where
+  module _ (begins : List (Worker L)) (frames : List Captured) (frame : Captured) (number : ℕ) (count : length frames ≡ number) (inputs : List (LaneInput L))
+      (are : AreInputs g script begins frames inputs) where
     abbrev IsAt : ℕ → List Captured → ℕ → Worker L → LaneInput L → Type 0
     IsAt lanes fs k w p = IsInput g (commands_of script) (get_or begins k w) (dealt lanes k (packets_from script 0 fs)) p
 
     -- one was sent the packet of one frame more
     pub was_sent : (lane : ℕ) (d input : LaneInput L) → lane ≡ lane_of (length inputs) (sent_as script number frame) → lane < length inputs
-        → ((begin : Worker L) (packets : List Packet) → IsInput g (commands_of script) begin packets (get_or inputs lane d) → IsInput g (commands_of script) begin (packets ++ sent_as script number frame ∷ []) input)
+        → ((begin : Worker L) (packets : List Packet) → IsInput g (commands_of script) begin packets (get_or inputs lane d)
+            → IsInput g (commands_of script) begin (packets ++ sent_as script number frame ∷ []) input)
         → AreInputs g script begins (frames ++ frame ∷ []) (set inputs lane input)
     was_sent lane d input own within sends = record {
       count = are.count ∙ sym same;

@@ -35,7 +35,8 @@ use Rattle.worker_pool.proofs.TakingAnswers.{still_sent, all_answers_after, sent
 
 -- ---- inputs to which nothing is sent
 
-pub same_inputs : {L : Type 0} (g : Ghosts L) (script : List Stamped) (begins : List (Worker L)) (frames : List Captured) (inputs : List (LaneInput L)) (lane : ℕ) (d input : LaneInput L) → lane < length inputs → d ≡ get_or inputs lane d
+pub same_inputs : {L : Type 0} (g : Ghosts L) (script : List Stamped) (begins : List (Worker L)) (frames : List Captured) (inputs : List (LaneInput L)) (lane : ℕ) (d input : LaneInput L)
+    → lane < length inputs → d ≡ get_or inputs lane d
     → ((begin : Worker L) (packets : List Packet) → IsInput g (commands_of script) begin packets d → IsInput g (commands_of script) begin packets input)
     → AreInputs g script begins frames inputs → AreInputs g script begins frames (set inputs lane input)
 same_inputs {L} g script begins frames inputs lane d input below at still are = record {
@@ -44,16 +45,19 @@ same_inputs {L} g script begins frames inputs lane d input below at still are = 
       subst (λ n. IsInput g (commands_of script) (get_or begins k w) (dealt n k (packets_from script 0 frames)) (get_or (set inputs lane input) k p)) (sym (length-set inputs lane input))
       (⊎_elim
       (λ is. subst (λ j. IsInput g (commands_of script) (get_or begins j w) (dealt (length inputs) j (packets_from script 0 frames)) (get_or (set inputs lane input) j p)) is
-      (subst (λ (q : LaneInput L). IsInput g (commands_of script) (get_or begins lane w) (dealt (length inputs) lane (packets_from script 0 frames)) q) (sym (get_or-set_same inputs lane input p below))
+      (subst (λ (q : LaneInput L). IsInput g (commands_of script) (get_or begins lane w) (dealt (length inputs) lane (packets_from script 0 frames)) q)
+          (sym (get_or-set_same inputs lane input p below))
       (still (get_or begins lane w) (dealt (length inputs) lane (packets_from script 0 frames))
       (subst (λ (q : LaneInput L). IsInput g (commands_of script) (get_or begins lane w) (dealt (length inputs) lane (packets_from script 0 frames)) q) (sym at) (are.each lane w d below)))))
-      (λ not. subst (λ (q : LaneInput L). IsInput g (commands_of script) (get_or begins k w) (dealt (length inputs) k (packets_from script 0 frames)) q) (sym (get_or-set_other inputs lane k input p (λ is. not (sym is))))
+      (λ not. subst (λ (q : LaneInput L). IsInput g (commands_of script) (get_or begins k w) (dealt (length inputs) k (packets_from script 0 frames)) q)
+          (sym (get_or-set_other inputs lane k input p (λ is. not (sym is))))
       (are.each k w p (let e = length-set inputs lane input in omega (arith, e, lt))))
       (cases_eq lane k));
 }
 
 -- one that is looked at is an input
-pub looked_at : {L : Type 0} (g : Ghosts L) (script : List Stamped) (begins : List (Worker L)) (frames : List Captured) (inputs : List (LaneInput L)) (lane : ℕ) (d : LaneInput L) → d ≡ get_or inputs lane d → lane < length inputs
+pub looked_at : {L : Type 0} (g : Ghosts L) (script : List Stamped) (begins : List (Worker L)) (frames : List Captured) (inputs : List (LaneInput L)) (lane : ℕ) (d : LaneInput L)
+    → d ≡ get_or inputs lane d → lane < length inputs
     → AreInputs g script begins frames inputs → (begin : Worker L) × (packets : List Packet) × IsInput g (commands_of script) begin packets d
 looked_at {L} g script begins frames inputs lane d at below are =
     let p = input_of g script begins frames inputs lane d are below in
@@ -111,7 +115,8 @@ abbrev pub IsLaterRight : Type 0
 IsLaterRight = (lane other : ℕ → ℕ) (n : ℕ) (taken_so_far : ℕ → List Answer) (s : Leaving) → ((i : ℕ) → i < n → other i ≡ lane i) → Keeps lane n taken_so_far s → Keeps other n taken_so_far s
 
 abbrev pub IsSendingRight : Type 0
-IsSendingRight = (lane : ℕ → ℕ) (n : ℕ) (taken_so_far : ℕ → List Answer) (s : Leaving) → Keeps lane n taken_so_far s → nat_lt n (s.waiting.next + length s.waiting.window) ≡ true → Keeps lane (n + 1) taken_so_far s
+IsSendingRight = (lane : ℕ → ℕ) (n : ℕ) (taken_so_far : ℕ → List Answer) (s : Leaving) → Keeps lane n taken_so_far s → nat_lt n (s.waiting.next + length s.waiting.window) ≡ true
+    → Keeps lane (n + 1) taken_so_far s
 
 pub sent_leaves : (later : IsLaterRight) (sending : IsSendingRight) (lane other : ℕ → ℕ) (n : ℕ) (taken_so_far : ℕ → List Answer) (w : Waiting) (old new : Option (List ℕ))
     → ((i : ℕ) → i < n → other i ≡ lane i) → nat_lt n (w.next + length w.window) ≡ true → Leaves lane n taken_so_far w old new → Leaves other (n + 1) taken_so_far w old new
@@ -123,7 +128,8 @@ sent_leaves later sending lane other n taken_so_far w old new agree place l = re
 }
 
 -- a packet is sent to its lane, and what that lane has answered is taken
-pub sent_and_taken : {L : Type 0} (later : IsLaterRight) (sending : IsSendingRight) (begins : List (Worker L)) (frames : List Captured) (frame : Captured) (n : ℕ) (all_answers now : List LaneAnswers) (k : ℕ) (r : LaneAnswers) (w v : Waiting) (old new : Option (List ℕ))
+pub sent_and_taken : {L : Type 0} (later : IsLaterRight) (sending : IsSendingRight) (begins : List (Worker L)) (frames : List Captured) (frame : Captured) (n : ℕ) (all_answers now : List LaneAnswers)
+    (k : ℕ) (r : LaneAnswers) (w v : Waiting) (old new : Option (List ℕ))
     → length frames ≡ n → nat_lt n (w.next + length w.window) ≡ true → AreLaneAnswers begins (frames ++ frame ∷ []) (counted_on all_answers k r)
     → HaveTaken (counted_on all_answers k r) now → OfferAll (counted_on all_answers k r) now w v
     → Leaves (lane_at (length all_answers) frames) n (taken_from all_answers) w old new
@@ -157,7 +163,8 @@ module _ {L : Type 0} where
     pub come_none : HasCome g script inputs all_answers w old [] inputs all_answers w old
     come_none = record { sent = λ begins p r. record { inputs_are = p; all_answers_are = r }; leaves = λ begins before p r l. l }
 
-    module _ (frames : List Captured) (inputs_mid inputs_now : List (LaneInput L)) (all_answers_mid all_answers_now : List LaneAnswers) (v u : Waiting) (mid new : Option (List ℕ)) (come : HasCome g script inputs all_answers w old frames inputs_mid all_answers_mid v mid) where
+    module _ (frames : List Captured) (inputs_mid inputs_now : List (LaneInput L)) (all_answers_mid all_answers_now : List LaneAnswers) (v u : Waiting) (mid new : Option (List ℕ))
+        (come : HasCome g script inputs all_answers w old frames inputs_mid all_answers_mid v mid) where
       -- nothing was sent meanwhile
       pub come_on : ((begins : List (Worker L)) (fs : List Captured) → AreInputs g script begins fs inputs_mid → AreInputs g script begins fs inputs_now)
           → HaveTaken all_answers_mid all_answers_now → LeaveAll all_answers_mid all_answers_now v u mid new
@@ -214,7 +221,8 @@ stops_early frames start old new e only = ⊎_elim
     only
 
 -- a refusal of the capture is told
-pub stops_refused : (frames : List Captured) (start : CaptureState) (old new : Option (List ℕ)) (e : NextError) → ReadsAs frames start old new (Err e) → StopsAs frames start old new (Err (read_refusal e))
+pub stops_refused : (frames : List Captured) (start : CaptureState) (old new : Option (List ℕ)) (e : NextError) → ReadsAs frames start old new (Err e)
+    → StopsAs frames start old new (Err (read_refusal e))
 stops_refused frames start old new (TooLong offset) reads = reads
 stops_refused frames start old new (TooMany offset) reads = reads
 stops_refused frames start old new ReadFault reads = tt
@@ -223,9 +231,11 @@ stops_refused frames start old new NoMemory reads = tt
 pub same_refusal : {T : Type 0} (a b : PoolError) (r : Result T PoolError) → r ≡ Err a → r ≡ Err b → a ≡ b
 same_refusal a b r one two = cc
 
-module _ {L : Type 0} (g : Ghosts L) (script : List Stamped) (inputs : List (LaneInput L)) (all_answers : List LaneAnswers) (w : Waiting) (out : Option (List ℕ)) (frames : List Captured) (few : length frames ≤ 1048576)
+module _ {L : Type 0} (g : Ghosts L) (script : List Stamped) (inputs : List (LaneInput L)) (all_answers : List LaneAnswers) (w : Waiting) (out : Option (List ℕ)) (frames : List Captured)
+    (few : length frames ≤ 1048576)
     (start now : CaptureState) (old left new : Option (List ℕ)) (reads : (bytes : List ℕ) → old ≡ Some bytes → IsReadTo start bytes frames now left)
-    (begins : List (Worker L)) (before : Option (List ℕ)) (p : AreInputs g script begins [] inputs) (r : AreLaneAnswers begins [] all_answers) (l : Leaves (lane_at (length all_answers) []) 0 (taken_from all_answers) w before out) where
+    (begins : List (Worker L)) (before : Option (List ℕ)) (p : AreInputs g script begins [] inputs) (r : AreLaneAnswers begins [] all_answers)
+        (l : Leaves (lane_at (length all_answers) []) 0 (taken_from all_answers) w before out) where
   -- what is told of a run that has come to these frames and stops
   abbrev pub Told : List (LaneInput L) → List LaneAnswers → Waiting → Option (List ℕ) → Result Whole PoolError → Type 0
   Told inputs_now all_answers_now v after result = Dealt g script begins inputs_now (λ fs. Streamed begins fs all_answers_now v start old new before after result)
@@ -265,7 +275,8 @@ module _ {L : Type 0} (g : Ghosts L) (script : List Stamped) (inputs : List (Lan
           all_answers_are = all_answers_after begins frames all_answers_mid all_answers_now takes s.all_answers_are;
           left = come_cut g script inputs all_answers w out frames inputs_mid inputs_now all_answers_mid all_answers_now v u mid after come begins before takes cut p r l;
           leaves = λ not.
-              (come_on g script inputs all_answers w out frames inputs_mid inputs_now all_answers_mid all_answers_now v u mid after come still takes (whole (λ is. not (ap (λ x. Err x) is)))).leaves begins before p r l;
+              (come_on g script inputs all_answers w out frames inputs_mid inputs_now all_answers_mid all_answers_now v u mid after come still takes
+                  (whole (λ is. not (ap (λ x. Err x) is)))).leaves begins before p r l;
           front = λ bytes is. front_of start now bytes frames left (reads bytes is);
           stops = stops_early frames start old new e only;
         };

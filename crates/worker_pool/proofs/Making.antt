@@ -26,7 +26,8 @@ module _ {L : Type 0} (g : Ghosts L) (app : Meaning) (keep : Bool) where
   }
 
   -- a team with one more worker, and the sending end of its packet ring
-  pub begun_more : (workers : List (Worker L)) (packets : List (RingTx Packet)) (w : Worker L) (tx : RingTx Packet) → AreBegun g app keep workers packets → IsNew g app w → g.keeps w.lane ≡ keep → AreEnds tx w.packets → sent tx ≡ []
+  pub begun_more : (workers : List (Worker L)) (packets : List (RingTx Packet)) (w : Worker L) (tx : RingTx Packet) → AreBegun g app keep workers packets → IsNew g app w → g.keeps w.lane ≡ keep
+      → AreEnds tx w.packets → sent tx ≡ []
       → AreBegun g app keep (workers ++ w ∷ []) (packets ++ tx ∷ [])
   begun_more workers packets w tx begun new keeps ends none = record {
     count = length_push workers w ∙ ap (λ n. n + 1) begun.count ∙ sym (length_push packets tx);

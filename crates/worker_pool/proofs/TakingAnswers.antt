@@ -62,7 +62,8 @@ offers_then a b c w v u taken_on p q = record {
   leaves = λ lane n old new counts l. q.leaves lane n old new (still_sent lane n a b taken_on counts) (p.leaves lane n old new counts l);
 }
 
-taken_at : (all_answers : List LaneAnswers) (k : ℕ) (lane_answers : LaneAnswers) (l : ℕ) → taken_from (set all_answers k lane_answers) l ≡ get_or (set (map (λ (r : LaneAnswers). taken r.answers) all_answers) k (taken lane_answers.answers)) l []
+taken_at : (all_answers : List LaneAnswers) (k : ℕ) (lane_answers : LaneAnswers) (l : ℕ)
+    → taken_from (set all_answers k lane_answers) l ≡ get_or (set (map (λ (r : LaneAnswers). taken r.answers) all_answers) k (taken lane_answers.answers)) l []
 taken_at all_answers k lane_answers l = ap (λ xs. get_or xs l []) (map-set (λ (r : LaneAnswers). taken r.answers) all_answers k lane_answers)
 
 module _ (all_answers : List LaneAnswers) (k : ℕ) (e lane_answers : LaneAnswers) (below : k < length all_answers) (at : e ≡ get_or all_answers k e) where
@@ -152,7 +153,8 @@ share_within lane l zero = omega arith
 share_within lane l (suc n) = within_where (lane n == l) (share lane l n) n (share_within lane l n)
 
 -- a lane has fewer packets than there may be
-pub few_sent : {L : Type 0} (begins : List (Worker L)) (frames : List Captured) (all_answers : List LaneAnswers) (k : ℕ) (r : LaneAnswers) → AreLaneAnswers begins frames all_answers → k < length all_answers → length frames < 1048576
+pub few_sent : {L : Type 0} (begins : List (Worker L)) (frames : List Captured) (all_answers : List LaneAnswers) (k : ℕ) (r : LaneAnswers) → AreLaneAnswers begins frames all_answers
+    → k < length all_answers → length frames < 1048576
     → (get_or all_answers k r).sent < 1048576
 few_sent begins frames all_answers k r are lt few =
     let count = are.sent_are k r lt in
@@ -189,7 +191,8 @@ pub some_lane_answers : (all_answers : List LaneAnswers) (k : ℕ) → k < lengt
 some_lane_answers [] k lt = absurd (omega (arith, lt))
 some_lane_answers (r ∷ all_answers) k lt = r
 
-module _ {L : Type 0} (own : IsOwnShare) (others : IsOtherShare) (same_share : IsSameShare) (begins : List (Worker L)) (frames : List Captured) (frame : Captured) (all_answers : List LaneAnswers) (k : ℕ) (d : LaneAnswers)
+module _ {L : Type 0} (own : IsOwnShare) (others : IsOtherShare) (same_share : IsSameShare) (begins : List (Worker L)) (frames : List Captured) (frame : Captured) (all_answers : List LaneAnswers)
+    (k : ℕ) (d : LaneAnswers)
     (below : k < length all_answers) (is : k ≡ lane_of_sight (sight_of frame.bytes) (length all_answers)) (are : AreLaneAnswers begins frames all_answers) where
   abbrev after : LaneAnswers
   after = with_sent (get_or all_answers k d) ((get_or all_answers k d).sent + 1)
@@ -198,7 +201,8 @@ module _ {L : Type 0} (own : IsOwnShare) (others : IsOtherShare) (same_share : I
   answered_still w x m p = record { ring = p.ring; answers = p.answers; unsent = p.unsent; ends = p.ends }
 
   -- at each place: the one to whose lane it was sent, or another
-  at_each : (P : ℕ → LaneAnswers → Type 0) → P k after → ((j : ℕ) (r : LaneAnswers) → j < length all_answers → k ≢ j → P j (get_or all_answers j r)) → (j : ℕ) (r : LaneAnswers) → j < length (counted_on all_answers k d)
+  at_each : (P : ℕ → LaneAnswers → Type 0) → P k after → ((j : ℕ) (r : LaneAnswers) → j < length all_answers → k ≢ j → P j (get_or all_answers j r)) → (j : ℕ) (r : LaneAnswers)
+      → j < length (counted_on all_answers k d)
       → P j (get_or (counted_on all_answers k d) j r)
   at_each P here there j r lt = ⊎_elim
       (λ at. subst (λ i. P i (get_or (counted_on all_answers k d) i r)) at (subst (P k) (sym (get_or-set_same all_answers k after r below)) here))
@@ -220,5 +224,7 @@ module _ {L : Type 0} (own : IsOwnShare) (others : IsOtherShare) (same_share : I
   }
 
 -- they count the packets of their lanes
-pub sent_to : {L : Type 0} (begins : List (Worker L)) (frames : List Captured) (all_answers : List LaneAnswers) (n m : ℕ) → length all_answers ≡ n → length frames ≡ m → AreLaneAnswers begins frames all_answers → AreSentTo (lane_at n frames) m all_answers
-sent_to begins frames all_answers n m lanes count are k r lt = are.sent_are k r lt ∙ ap (λ i. length (share (lane_at i frames) k (length frames))) lanes ∙ ap (λ i. length (share (lane_at n frames) k i)) count
+pub sent_to : {L : Type 0} (begins : List (Worker L)) (frames : List Captured) (all_answers : List LaneAnswers) (n m : ℕ) → length all_answers ≡ n → length frames ≡ m
+    → AreLaneAnswers begins frames all_answers → AreSentTo (lane_at n frames) m all_answers
+sent_to begins frames all_answers n m lanes count are k r lt = are.sent_are k r lt ∙ ap (λ i. length (share (lane_at i frames) k (length frames))) lanes
+    ∙ ap (λ i. length (share (lane_at n frames) k i)) count

@@ -91,7 +91,8 @@ StopsAs frames capture old new (Err NoMemory) = ⊤
 module _ {L : Type 0} where
   -- The packets of these frames, the first of the capture, were sent, and some of the answers taken and written; these wait. At a
   -- fault of writing the record whose turn it was is cut off.
-  pub record Streamed (begins : List (Worker L)) (frames : List Captured) (all_answers : List LaneAnswers) (waiting : Waiting) (capture : CaptureState) (old new before after : Option (List ℕ)) (result : Result Whole PoolError) : Type 0 where
+  pub record Streamed (begins : List (Worker L)) (frames : List Captured) (all_answers : List LaneAnswers) (waiting : Waiting) (capture : CaptureState) (old new before after : Option (List ℕ))
+      (result : Result Whole PoolError) : Type 0 where
     pub all_answers_are : AreLaneAnswers begins frames all_answers
     pub left : HasLeft (lane_at (length all_answers) frames) (length frames) (taken_from all_answers) before after
     pub leaves : result ≢ Err WriteFault → Leaves (lane_at (length all_answers) frames) (length frames) (taken_from all_answers) waiting before after

@@ -19,16 +19,20 @@ loop-input-init g c = record {
 
 pub finish_one-requires : goal.finish_one-requires
 finish_one-requires g c = record {
-  at_work = all_first (IsAtWork g.L.Recorder (commands_of c.args.script.now)) c.in-Some.input c.loop-input.inputs.items c.pop_front.new.self.items c.loop-input.invariant.at_work c.in-Some.ensures.items;
+  at_work = all_first (IsAtWork g.L.Recorder
+      (commands_of c.args.script.now)) c.in-Some.input c.loop-input.inputs.items c.pop_front.new.self.items c.loop-input.invariant.at_work c.in-Some.ensures.items;
 }
 
 pub loop-input-preserved : goal.loop-input-preserved
 loop-input-preserved g c = record {
   front = c.loop-input.invariant.front ++ c.in-Some.input ∷ [];
   whole = moved c.from-inputs.result.items c.loop-input.invariant.front c.loop-input.inputs.items c.pop_front.new.self.items c.in-Some.input c.loop-input.invariant.whole c.in-Some.ensures.items;
-  back = subst (λ (l : List (Worker g.row.L.Denot)). AllZip (IsBack g.L.Recorder (commands_of c.args.script.now)) (c.loop-input.invariant.front ++ c.in-Some.input ∷ []) l) (sym c.push_reserved.ensures.items)
-      (AllZip-more (IsBack g.L.Recorder (commands_of c.args.script.now)) c.loop-input.invariant.front c.loop-input.workers.items c.in-Some.input c.finish_one.result c.loop-input.invariant.back c.finish_one.ensures.back);
-  at_work = all_others (IsAtWork g.L.Recorder (commands_of c.args.script.now)) c.in-Some.input c.loop-input.inputs.items c.pop_front.new.self.items c.loop-input.invariant.at_work c.in-Some.ensures.items;
+  back = subst (λ (l : List (Worker g.row.L.Denot)). AllZip (IsBack g.L.Recorder (commands_of c.args.script.now)) (c.loop-input.invariant.front ++ c.in-Some.input ∷ []) l)
+      (sym c.push_reserved.ensures.items)
+      (AllZip-more (IsBack g.L.Recorder
+          (commands_of c.args.script.now)) c.loop-input.invariant.front c.loop-input.workers.items c.in-Some.input c.finish_one.result c.loop-input.invariant.back c.finish_one.ensures.back);
+  at_work = all_others (IsAtWork g.L.Recorder
+      (commands_of c.args.script.now)) c.in-Some.input c.loop-input.inputs.items c.pop_front.new.self.items c.loop-input.invariant.at_work c.in-Some.ensures.items;
   room =
       let e = ap length c.in-Some.ensures.items in
       let f = ap length c.push_reserved.ensures.items ∙ length-append c.loop-input.workers.items (c.finish_one.result ∷ []) in

@@ -7,7 +7,8 @@ use Rattle.worker_pool.proofs.team.make.answering_team_of.Given as goal
 abbrev pub invariant-loop : goal.invariant-loop
 invariant-loop g l = record {
   callable : goal.F-IsAlwaysCallable g l.make;
-  begun : (app : Meaning) (keep : Bool) → ((made : _) → goal.F-post g l.make made → IfOk made (λ lane. IsFresh g.L.Recorder app keep lane)) → AreBegun g.L.Recorder app keep l.team.workers.items l.team.packets.items;
+  begun : (app : Meaning) (keep : Bool) → ((made : _) → goal.F-post g l.make made → IfOk made (λ lane. IsFresh g.L.Recorder app keep lane))
+      → AreBegun g.L.Recorder app keep l.team.workers.items l.team.packets.items;
   all_answers : AreUnused l.team.workers.items l.all_answers.items;
   count : length l.team.workers.items ≡ l.counter;
 }

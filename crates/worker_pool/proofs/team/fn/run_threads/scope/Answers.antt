@@ -65,7 +65,8 @@ loop-stop-preserved g c =
       fresh = subst (λ (l : List (LaneInput g.row.L.Denot)). AllZip (IsFresh g.L.Recorder (commands_of c.captures.script.now)) (i.front ++ w ∷ []) l) (sym c.push_reserved.ensures.items)
           (AllZip-more (IsFresh g.L.Recorder (commands_of c.captures.script.now)) i.front c.loop-stop.inputs.items w (record { packets = tx; place = c.take_on-place.result }) i.fresh
           (fresh g.L.Recorder (commands_of c.captures.script.now) w tx c.take_on-place.result may placed));
-      waiting = zip_others (MayBegin g.L.Recorder (commands_of c.captures.script.now)) w tx c.take_first-w.new.row.items c.loop-stop.workers.items c.take_first-packets.new.row.items c.loop-stop.packets.items
+      waiting = zip_others (MayBegin g.L.Recorder
+          (commands_of c.captures.script.now)) w tx c.take_first-w.new.row.items c.loop-stop.workers.items c.take_first-packets.new.row.items c.loop-stop.packets.items
           i.waiting c.take_first-w.ensures.first c.take_first-packets.ensures.first;
       flags = let e = ap length c.take_first-w.ensures.first in let f = i.flags in omega (arith, e, f);
       room =
@@ -92,7 +93,8 @@ finish_all-workers-requires g c =
     let are = inputs_of_all g.L.Recorder c.captures.script.now c.captures.workers.items c.from-workers.result.items i.front c.loop-stop.workers.items c.loop-stop.inputs.items
     c.loop-stop.stop-index (length c.captures.stops.now) c.from-workers.ensures.0 i.whole i.fresh i.flags c.loop-stop-test.false in
     let under = subst (λ (s : List Stamped). AreInputs g.L.Recorder s c.captures.workers.items [] c.loop-stop.inputs.items) (sym c.requires.starts.feed) are in
-    let sent = dealt_under g.L.Recorder (g.E.Feed.script c.captures.feed.now) c.captures.script.now _ _ _ c.requires.starts.feed (c.send_packets-read.ensures.dealt c.captures.workers.items under c.requires.may) in
+    let sent = dealt_under g.L.Recorder (g.E.Feed.script c.captures.feed.now) c.captures.script.now _ _ _ c.requires.starts.feed
+        (c.send_packets-read.ensures.dealt c.captures.workers.items under c.requires.may) in
     record {
       at_work = all_at_work g.L.Recorder c.captures.script.now c.captures.workers.items sent.frames c.send_packets-read.new.inputs.items sent.inputs_are;
       empty = c.requires.starts.none_back;
@@ -105,12 +107,14 @@ returns g c =
     let are = inputs_of_all g.L.Recorder c.captures.script.now c.captures.workers.items c.from-workers.result.items i.front c.loop-stop.workers.items c.loop-stop.inputs.items
     c.loop-stop.stop-index (length c.captures.stops.now) c.from-workers.ensures.0 i.whole i.fresh i.flags c.loop-stop-test.false in
     let under = subst (λ (s : List Stamped). AreInputs g.L.Recorder s c.captures.workers.items [] c.loop-stop.inputs.items) (sym c.requires.starts.feed) are in
-    let sent = dealt_under g.L.Recorder (g.E.Feed.script c.captures.feed.now) c.captures.script.now _ _ _ c.requires.starts.feed (c.send_packets-read.ensures.dealt c.captures.workers.items under c.requires.may) in
+    let sent = dealt_under g.L.Recorder (g.E.Feed.script c.captures.feed.now) c.captures.script.now _ _ _ c.requires.starts.feed
+        (c.send_packets-read.ensures.dealt c.captures.workers.items under c.requires.may) in
     record {
       served = record {
         frames = sent.frames;
         few = sent.few;
-        served = all_served g.L.Recorder c.captures.script.now c.captures.workers.items sent.frames c.send_packets-read.new.inputs.items c.finish_all-workers.result.items sent.inputs_are c.finish_all-workers.ensures.back;
+        served = all_served g.L.Recorder c.captures.script.now c.captures.workers.items sent.frames c.send_packets-read.new.inputs.items c.finish_all-workers.result.items sent.inputs_are
+            c.finish_all-workers.ensures.back;
         done = sent.done;
       };
       same = refl;
