@@ -1,5 +1,5 @@
-//! What a forward run that writes while it reads needs of verdicts, to use the laws of `worker_laws::forward`. These
-//! functions do nothing: who leads such a run calls them for what they say.
+//! What a forward run that writes while it reads needs of verdicts, to use the laws of `forward`. These functions do
+//! nothing: who leads such a run calls them for what they say.
 
 ghost use Rattle.std.specs.Prelude.{◌≡◌, ◌≤◌, ℕ, List, length, map, take};
 ghost use mathlib.Core.List.{IsPrefix};

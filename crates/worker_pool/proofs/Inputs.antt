@@ -85,10 +85,10 @@ module _ {L : Type 0} (g : Ghosts L) (script : List Command) (begin : Worker L) 
   }
 
   -- a worker that is in this thread worked on
-  pub here_worked : (tx : RingTx Packet) (a b : Worker L) → IsInput g script begin packets (record { packets = tx; place = Inline a }) → Worked g script a b
+  pub inline_worked : (tx : RingTx Packet) (a b : Worker L) → IsInput g script begin packets (record { packets = tx; place = Inline a }) → Worked g script a b
       → (g.failed b.lane ≡ None → IsReady g script b.lane b.commands)
       → IsInput g script begin packets (record { packets = tx; place = Inline b })
-  here_worked tx a b p worked ready = record {
+  inline_worked tx a b p worked ready = record {
     lawful = p.lawful;
     ends = p.ends;
     sent_are = p.sent_are;
