@@ -62,7 +62,7 @@ impl Notes {
 }
 
 /// What a callback weighs beside the bytes that it saw.
-const WEIGHT: u64 = 32;
+pub const CALLBACK_WEIGHT: u64 = 32;
 
 impl Ledger {
     /// Before the first packet. It takes no memory.
@@ -110,7 +110,7 @@ impl Ledger {
         ensures drop { self.new.drop ≡ self.old.drop }
     {
         self.counts.callbacks += 1;
-        self.counts.weight += WEIGHT + u64::from(got);
+        self.counts.weight += CALLBACK_WEIGHT + u64::from(got);
     }
 
     /// Notes what a callback asks.

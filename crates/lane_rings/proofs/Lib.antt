@@ -1,8 +1,1 @@
 mod Windows
-mod Shares
-mod Fronts
-mod Offering
-mod Writing
-mod Exits
-mod Listed
-mod Sent

@@ -4,7 +4,7 @@ use Rattle.lane_rings.specs.declared.items.Answer.{Answer}
 use Rattle.lane_rings.specs.Waiting.{AreNumbered}
 
 -- a free place at the end shows nothing
-pub appended : (ws : List (Option Answer)) (d : ℕ) → get_or (ws ++ None ∷ []) d None ≡ get_or ws d None
+appended : (ws : List (Option Answer)) (d : ℕ) → get_or (ws ++ None ∷ []) d None ≡ get_or ws d None
 appended [] zero = refl
 appended [] (suc d) = refl
 appended (w ∷ ws) zero = refl

@@ -2,7 +2,6 @@
 //! answers out in the order of the capture. No call waits.
 #![tactic(auto)]
 
-pub mod forward;
 mod items;
 mod resequencer;
 mod ring;

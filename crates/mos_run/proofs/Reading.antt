@@ -18,7 +18,7 @@ use Rattle.lane_core.specs.Shown.{weight, total}
 use Rattle.mos_run.specs.declared.output.Output.{Output}
 use Rattle.worker_laws.specs.Greatest.{greatest, greatest_from}
 use Rattle.mos_run.specs.Records.{control_at, packets_of, records_of, records_so_far}
-use Rattle.lane_rings.specs.Forwarded.{bytes_under as left_by}
+use Rattle.worker_laws.specs.Forwarded.{bytes_under as left_by}
 use Rattle.mos_run.specs.Outcome.{is_forward, is_heavy}
 use Rattle.mos_run.specs.Reading.{Follows, IsOver, IsRead, gained, is_heavy_so_far, packet_of}
 use Rattle.mos_run.proofs.Following.{both}

@@ -23,7 +23,7 @@ use Rattle.mos_run.specs.declared.output.Output.{Output}
 use Rattle.mos_run.specs.declared.refusal.RunError.{RunError}
 use Rattle.mos_run.specs.declared.refusal.RunError.TheVariants as Run
 use Rattle.mos_run.specs.Records.{control_at, packets_of, records_so_far}
-use Rattle.lane_rings.specs.Forwarded.{bytes_under as left_by}
+use Rattle.worker_laws.specs.Forwarded.{bytes_under as left_by}
 use Rattle.worker_pool.specs.Forward.{left_by_all}
 use Rattle.mos_run.specs.Forward.{forwarded}
 use Rattle.mos_run.specs.Refusal.{record_refusal, header_refusal}

@@ -7,7 +7,7 @@ ghost use Rattle.mos_bytes.specs.Causes.{HasCause};
 ghost use Rattle.mos_bytes.specs.Writes.{WriteAdds};
 ghost use Rattle.pcap_source.specs.Captured.{Captured};
 ghost use Rattle.pcap_source.specs.Reading.{Opened};
-ghost use Rattle.lane_rings.specs.Forwarded.{bytes_under as left_by};
+ghost use Rattle.worker_laws.specs.Forwarded.{bytes_under as left_by};
 ghost use Rattle.mos_run.specs.Apps.{meaning_of};
 ghost use Rattle.mos_run.specs.Records.{packets_of};
 ghost use Rattle.mos_run.specs.Outcome.{is_forward, streamed};
@@ -24,11 +24,11 @@ use crate::{Output, RunError, VersionList};
 use app_api::Verdict;
 use lane_core::laws::{last_packet_is_added, weight_never_falls};
 use lane_core::{Lane, LaneError, Recorder, Reporter};
+use lane_ends::greatest_with;
 use mos_bytes::{Failed, Sink, Source};
 use pcap_source::{Capture, Frame, Step};
 use shared_forest::Table;
 use std::alloc::Global;
-use worker_laws::moments::greatest_with;
 
 // Hands the capture's header on, where packets are.
 fn write_front<O: Sink>(output: Output, capture: &Capture, out: &mut O) -> Result<(), Failed>

@@ -62,7 +62,8 @@ module _ (endings : Endings) (lane : EndpointPair → ℕ) (packets : List Arriv
     count = length-map (records endings j.stamped) (λ m. m.version) ∙ ap length (sym listed_same);
     within = subst (λ ms. All (λ m. IsWithin floor ceil m.version (name_of m)) ms) (sym listed_same)
         (all_of_records endings (IsWithin floor ceil) j.stamped
-        (all_of_parts lane (λ p. IsWithin floor ceil p.version p.arrival.number) j.stamped (λ l. subst (All (λ p. IsWithin floor ceil p.version p.arrival.number)) (sym (j.of_lanes l)) (stamped l).within)));
+        (all_of_parts lane (λ p. IsWithin floor ceil p.version p.arrival.number) j.stamped
+            (λ l. subst (All (λ p. IsWithin floor ceil p.version p.arrival.number)) (sym (j.of_lanes l)) (stamped l).within)));
     along = λ l. subst (λ ms. NeverFalls (versions_of ms)) (sym (ap (part lane l) listed_same ∙ lane_records l)) (versions_along endings (parts l) (stamped l).along);
   }
 
@@ -85,7 +86,8 @@ module _ (floor ceil : ℕ → ℕ) (between : (n : ℕ) → floor n ≤ ceil n)
         along = (ceilings_above (ceil a.number) a.number (omega arith) rest r.0, before.along);
       }
 
-  pub continued_stamped : (ps : List VersionedPacket) (rest : List Arrival) → Rises (numbers_of ps ++ map (λ a. a.number) rest) → AreStamped floor ceil ps → AreStamped floor ceil (ps ++ versioned ceil rest)
+  pub continued_stamped : (ps : List VersionedPacket) (rest : List Arrival) → Rises (numbers_of ps ++ map (λ a. a.number) rest) → AreStamped floor ceil ps
+      → AreStamped floor ceil (ps ++ versioned ceil rest)
   unfolding Rises NeverFalls
   continued_stamped [] rest r stamped = ceilings_stamped rest r
   continued_stamped (p ∷ ps) rest r stamped =

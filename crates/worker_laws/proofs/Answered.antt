@@ -7,8 +7,8 @@ use Rattle.app_api.specs.App.{Meaning}
 use Rattle.app_api.specs.declared.reaction.Verdict.{Verdict}
 use Rattle.forest_versions.specs.declared.command.Command.{Command}
 use Rattle.lane_rings.specs.declared.items.Answer.{Answer}
-use Rattle.lane_rings.specs.Share.{share as numbers_of_share}
-use Rattle.lane_rings.specs.Forwarded.{forwarded as forwarded_numbers}
+use Rattle.worker_laws.specs.Share.{share as numbers_of_share}
+use Rattle.worker_laws.specs.Forwarded.{forwarded as forwarded_numbers}
 use Rattle.flow_table.specs.Key.{EndpointPair}
 use Rattle.lane_core.specs.Sight.{Arrival, arrivals}
 use Rattle.lane_core.specs.Run.{LaneEvent}

@@ -99,7 +99,8 @@ one_allowed floor ceil endings lane packets parts are stamped =
 share_above : (lane : EndpointPair → ℕ) (l n : ℕ) (ps : List Arrival) → All (λ k. n < k) (map (λ a. a.number) ps) → All (λ k. n < k) (map (λ a. a.number) (share lane l ps))
 share_above lane l n [] above = All-nil (λ k. n < k)
 share_above lane l n (p ∷ ps) above =
-    above_here n p (share lane l ps) (lane_of lane p.sight == l) (All-head (λ k. n < k) p.number (map (λ a. a.number) ps) above) (share_above lane l n ps (All-tail (λ k. n < k) p.number (map (λ a. a.number) ps) above))
+    above_here n p (share lane l ps) (lane_of lane p.sight == l) (All-head (λ k. n < k) p.number (map (λ a. a.number) ps) above)
+        (share_above lane l n ps (All-tail (λ k. n < k) p.number (map (λ a. a.number) ps) above))
 
 rises_here : (p : Arrival) (ps : List Arrival) (b : Bool) → All (λ k. p.number < k) (map (λ a. a.number) ps) → Rises (map (λ a. a.number) ps) → Rises (map (λ a. a.number) (cond b (p ∷ ps) ps))
 unfolding Rises
@@ -119,7 +120,8 @@ numbers_of_arrivals : (ps : List VersionedPacket) → map (λ a. a.number) (arri
 numbers_of_arrivals [] = refl
 numbers_of_arrivals (p ∷ ps) = ap (λ l. p.arrival.number ∷ l) (numbers_of_arrivals ps)
 
-module _ (floor ceil : ℕ → ℕ) (between : (n : ℕ) → floor n ≤ ceil n) (rises : (n m : ℕ) → n ≤ m → ceil n ≤ ceil m) (endings : Endings) (lane : EndpointPair → ℕ) (packets : List Arrival) (numbered : Rises (map (λ a. a.number) packets)) where
+module _ (floor ceil : ℕ → ℕ) (between : (n : ℕ) → floor n ≤ ceil n) (rises : (n m : ℕ) → n ≤ m → ceil n ≤ ceil m) (endings : Endings) (lane : EndpointPair → ℕ) (packets : List Arrival)
+    (numbered : Rises (map (λ a. a.number) packets)) where
   -- lanes that ran fronts of their shares: the ceilings go on
   pub continued : (parts : ℕ → List VersionedPacket) (rest : ℕ → List Arrival) → ((l : ℕ) → arrivals_of (parts l) ++ rest l ≡ share lane l packets) → ((l : ℕ) → AreStamped floor ceil (parts l))
       → (vs : List ℕ) × IsAllowed floor ceil endings lane packets vs × AreRuns endings lane packets (λ l. parts l ++ versioned ceil (rest l)) vs
@@ -127,7 +129,8 @@ module _ (floor ceil : ℕ → ℕ) (between : (n : ℕ) → floor n ≤ ceil n)
       one_allowed floor ceil endings lane packets (λ l. parts l ++ versioned ceil (rest l))
       (λ l. map-append (λ p. p.arrival) (parts l) (versioned ceil (rest l)) ∙ ap (λ x. arrivals_of (parts l) ++ x) (arrivals_versioned ceil (rest l)) ∙ are l)
       (λ l. continued_stamped floor ceil between rises (parts l) (rest l)
-      (subst Rises (ap (map (λ a. a.number)) (sym (are l)) ∙ map-append (λ a. a.number) (arrivals_of (parts l)) (rest l) ∙ ap (λ x. x ++ map (λ a. a.number) (rest l)) (numbers_of_arrivals (parts l))) (share_rises lane l packets numbered))
+      (subst Rises (ap (map (λ a. a.number)) (sym (are l)) ∙ map-append (λ a. a.number) (arrivals_of (parts l)) (rest l) ∙ ap (λ x. x ++ map (λ a. a.number) (rest l)) (numbers_of_arrivals (parts l)))
+          (share_rises lane l packets numbered))
       (stamped l))
 
   -- where none ran any packet, all versions are ceilings
@@ -135,11 +138,14 @@ module _ (floor ceil : ℕ → ℕ) (between : (n : ℕ) → floor n ≤ ceil n)
   ceilings_allowed =
       joined_allowed endings lane packets (λ l. versioned ceil (share lane l packets))
       (record { stamped = versioned ceil packets; packets = arrivals_versioned ceil packets; of_lanes = λ l. sym (versioned_share lane l ceil packets) }) floor ceil
-      (λ l. continued_stamped floor ceil between rises [] (share lane l packets) (share_rises lane l packets numbered) (record { within = All-nil (λ p. IsWithin floor ceil p.version p.arrival.number); along = nothing_falls }))
+      (λ l. continued_stamped floor ceil between rises [] (share lane l packets) (share_rises lane l packets numbered)
+          (record { within = All-nil (λ p. IsWithin floor ceil p.version p.arrival.number); along = nothing_falls }))
 
-module _ (endings : Endings) (lane : EndpointPair → ℕ) (packets : List Arrival) (parts more : ℕ → List VersionedPacket) (vs : List ℕ) (runs : AreRuns endings lane packets (λ l. parts l ++ more l) vs) where
+module _ (endings : Endings) (lane : EndpointPair → ℕ) (packets : List Arrival) (parts more : ℕ → List VersionedPacket) (vs : List ℕ)
+    (runs : AreRuns endings lane packets (λ l. parts l ++ more l) vs) where
   -- what a lane ran lies within what the list makes of all packets
-  pub front_weighs : (count : Members → ℕ) → ((a : Arrival) (m : Members) → count m ≤ count (joined_by a m)) → ((m : Members) → count m ≤ count (ended_by_silence m)) → (l : ℕ) → total count (records endings (parts l)) ≤ total count (records_under endings vs packets)
+  pub front_weighs : (count : Members → ℕ) → ((a : Arrival) (m : Members) → count m ≤ count (joined_by a m)) → ((m : Members) → count m ≤ count (ended_by_silence m)) → (l : ℕ)
+      → total count (records endings (parts l)) ≤ total count (records_under endings vs packets)
   front_weighs count grows ends l =
       let most = more_packets endings count grows ends [] (parts l) (more l) in
       let is = ap (total count) (runs.parts_are l) in
@@ -152,9 +158,11 @@ module _ (endings : Endings) (lane : EndpointPair → ℕ) (packets : List Arriv
 module _ (lane : EndpointPair → ℕ) where
   part_all : (P : ℕ → Type 0) (l : ℕ) (ms : List Members) → All P (names_of ms) → All P (names_of (part lane l ms))
   part_all P l [] all = All-nil P
-  part_all P l (m ∷ ms) all = part_all_here P m (part lane l ms) (lane_of lane m.first.sight == l) (All-head P (name_of m) (names_of ms) all) (part_all P l ms (All-tail P (name_of m) (names_of ms) all))
+  part_all P l (m ∷ ms) all = part_all_here P m (part lane l ms) (lane_of lane m.first.sight == l) (All-head P (name_of m) (names_of ms) all)
+      (part_all P l ms (All-tail P (name_of m) (names_of ms) all))
 
-  apart_here : (k l : ℕ) (m : Members) (ms : List Members) → All (λ j. name_of m < j) (names_of ms) → (lane_of lane m.first.sight ≡ l → lane_of lane m.first.sight ≡ k → ⊥) → (b c : Bool) → (lane_of lane m.first.sight == l) ≡ b → (lane_of lane m.first.sight == k) ≡ c
+  apart_here : (k l : ℕ) (m : Members) (ms : List Members) → All (λ j. name_of m < j) (names_of ms) → (lane_of lane m.first.sight ≡ l → lane_of lane m.first.sight ≡ k → ⊥) → (b c : Bool)
+      → (lane_of lane m.first.sight == l) ≡ b → (lane_of lane m.first.sight == k) ≡ c
       → All (λ i. All (λ j. i ≢ j) (names_of (part lane k ms))) (names_of (part lane l ms))
       → All (λ i. All (λ j. i ≢ j) (names_of (cond c (m ∷ part lane k ms) (part lane k ms)))) (names_of (cond b (m ∷ part lane l ms) (part lane l ms)))
   apart_here k l m ms above other true true isl isk rest = absurd (other (eqb-true _ _ isl) (eqb-true _ _ isk))
@@ -169,4 +177,5 @@ module _ (lane : EndpointPair → ℕ) where
   pub names_apart : (k l : ℕ) → k ≢ l → (ms : List Members) → Rises (names_of ms) → All (λ i. All (λ j. i ≢ j) (names_of (part lane k ms))) (names_of (part lane l ms))
   unfolding Rises
   names_apart k l other [] rises = All-nil (λ i. All (λ j. i ≢ j) (names_of (part lane k [])))
-  names_apart k l other (m ∷ ms) rises = apart_here k l m ms rises.0 (λ a b. other (sym b ∙ a)) (lane_of lane m.first.sight == l) (lane_of lane m.first.sight == k) refl refl (names_apart k l other ms rises.1)
+  names_apart k l other (m ∷ ms) rises =
+      apart_here k l m ms rises.0 (λ a b. other (sym b ∙ a)) (lane_of lane m.first.sight == l) (lane_of lane m.first.sight == k) refl refl (names_apart k l other ms rises.1)

@@ -66,7 +66,8 @@ module _ (endings : Endings) (count : Members → ℕ) (grows : (a : Arrival) (m
       let here = ends_here (takes endings a.sight m && endings.is_silent m.version (packets_of m) a.moment) m in
       let rest = more_found a ms in omega arith
 
-  more_here : (p : VersionedPacket) (m : Members) (ms after : List Members) (b : Bool) → total count ms ≤ total count after → total count (m ∷ ms) ≤ total count (if b then joined_by p.arrival m ∷ ms else m ∷ after)
+  more_here : (p : VersionedPacket) (m : Members) (ms after : List Members) (b : Bool) → total count ms ≤ total count after
+      → total count (m ∷ ms) ≤ total count (if b then joined_by p.arrival m ∷ ms else m ∷ after)
   unfolding total
   more_here p m ms after true le = let g = grows p.arrival m in omega arith
   more_here p m ms after false le = omega arith

@@ -70,7 +70,8 @@ no_run app = refl
 no_end : (app : Meaning) (last : Option Moment) → ended_run app [] last ≡ []
 no_end app last = ap (map (ended_at app (control_of app []) last)) (no_run app)
 
-module _ (keep : Bool) (app : Meaning) (commands : List Command) (lane : EndpointPair → ℕ) (packets : List Arrival) (lanes : List (List LaneEvent)) (vs : List ℕ) (one : AreOneRun app commands lane packets lanes vs)
+module _ (keep : Bool) (app : Meaning) (commands : List Command) (lane : EndpointPair → ℕ) (packets : List Arrival) (lanes : List (List LaneEvent)) (vs : List ℕ)
+    (one : AreOneRun app commands lane packets lanes vs)
     (numbered : Rises (map (λ a. a.number) packets)) (ends : List LaneEnd) (are : AreEnds keep app (greatest packets) lanes ends) where
   abbrev run : List RecordSoFar
   run = run_under app commands vs packets
@@ -146,11 +147,10 @@ module _ (keep : Bool) (app : Meaning) (commands : List Command) (lane : Endpoin
         sym (ap (sum_of count) (take_all (length ends) ends (omega arith))) ∙ sym (first_lanes (length ends) (omega arith))
         ∙ lanes_add_up lane by_first (length ends) firsts all_below ∙ sym (total_shown history of firsts) ∙ sym (ap (total of) (run_is app commands packets vs))
 
-  pub is_joined : (merged : List Record) (callbacks drops : ℕ) → IsMerge (lane_at lane packets) lists merged
-      → callbacks ≡ min (sum_of (λ end. end.callbacks) ends) (2 ^ 64 - 1) → drops ≡ min (sum_of (λ end. end.drops) ends) (2 ^ 64 - 1)
-      → IsJoined keep app run merged callbacks drops
-  is_joined merged callbacks drops is c d = record {
+  pub is_joined : (merged : List Record) → IsMerge (lane_at lane packets) lists merged
+      → IsJoined keep app run merged (min (sum_of (λ end. end.callbacks) ends) (2 ^ 64 - 1)) (min (sum_of (λ end. end.drops) ends) (2 ^ 64 - 1))
+  is_joined merged is = record {
     records_are = records_are merged is;
-    callbacks_are = c ∙ ap (λ n. min n (2 ^ 64 - 1)) (sum_is (λ r. length r.history.entries) (λ end. end.callbacks) (λ l lt. (are.each l none lt).callbacks_are));
-    drops_are = d ∙ ap (λ n. min n (2 ^ 64 - 1)) (sum_is (λ r. length r.history.drops) (λ end. end.drops) (λ l lt. (are.each l none lt).drops_are));
+    callbacks_are = ap (λ n. min n (2 ^ 64 - 1)) (sum_is (λ r. length r.history.entries) (λ end. end.callbacks) (λ l lt. (are.each l none lt).callbacks_are));
+    drops_are = ap (λ n. min n (2 ^ 64 - 1)) (sum_is (λ r. length r.history.drops) (λ end. end.drops) (λ l lt. (are.each l none lt).drops_are));
   }

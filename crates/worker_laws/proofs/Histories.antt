@@ -151,7 +151,8 @@ module _ (app : Meaning) (control_at : ℕ → ControlState) where
   unfolding lane_verdict_among verdict_among
   same_among p [] = refl
   same_among p (m ∷ ms) =
-      ap (λ b. if b then verdict_after app (control_at (shown m).version) (shown m).first.sight p.arrival (shown m).history else lane_verdict_among app control_at p (map shown ms)) (same_takes p.arrival.sight m)
+      ap (λ b. if b then verdict_after app (control_at (shown m).version) (shown m).first.sight p.arrival (shown m).history else lane_verdict_among app control_at p (map shown ms))
+          (same_takes p.arrival.sight m)
       ∙ judged_here p m (lane_verdict_among app control_at p (map shown ms)) (verdict_among ends (judge_by app control_at) p ms) (takes ends p.arrival.sight m) refl (same_among p ms)
 
   pub same_verdict : (p : VersionedPacket) (ms : List Members) → verdict_on app control_at p (map shown ms) ≡ verdict_of ends (judge_by app control_at) p ms
@@ -206,4 +207,5 @@ module _ (app : Meaning) (control_at : ℕ → ControlState) where
 
   pub ended_records : (last : Option Moment) (ps : List VersionedPacket)
       → map (ended_at app control_at last) (lane_records_from app control_at [] ps) ≡ map (final last) (records_from (over_by app control_at) [] ps)
-  ended_records last ps = ap (map (ended_at app control_at last)) (same_records app control_at [] ps) ∙ maps (ended_at app control_at last) (with_history app control_at) (records_from (over_by app control_at) [] ps)
+  ended_records last ps = ap (map (ended_at app control_at last)) (same_records app control_at [] ps)
+      ∙ maps (ended_at app control_at last) (with_history app control_at) (records_from (over_by app control_at) [] ps)

@@ -9,7 +9,8 @@ use Rattle.worker_laws.specs.Lanes.{lane_of, share}
 use Rattle.worker_laws.specs.Allowed.{arrivals_of}
 
 -- the first of a list that isn't empty
-first_is : (xs : List VersionedPacket) (a : Arrival) (rest : List Arrival) → arrivals_of xs ≡ a ∷ rest → (p : VersionedPacket) × (xs ≡ p ∷ drop 1 xs) × (p.arrival ≡ a) × (arrivals_of (drop 1 xs) ≡ rest)
+first_is : (xs : List VersionedPacket) (a : Arrival) (rest : List Arrival) → arrivals_of xs ≡ a ∷ rest → (p : VersionedPacket) × (xs ≡ p ∷ drop 1 xs) × (p.arrival ≡ a)
+    × (arrivals_of (drop 1 xs) ≡ rest)
 first_is [] a rest e = absurd (cc)
 first_is (x ∷ xs) a rest e = (x, refl, cc, cc)
 
@@ -32,7 +33,8 @@ module _ (lane : EndpointPair → ℕ) where
 
   module _ (a : Arrival) (ps : List Arrival) (parts : ℕ → List VersionedPacket) (are : (l : ℕ) → arrivals_of (parts l) ≡ share lane l (a ∷ ps)) where
     here_is : arrivals_of (parts (lane_of lane a.sight)) ≡ a ∷ share lane (lane_of lane a.sight) ps
-    here_is = let own = eq-eqb (lane_of lane a.sight) (lane_of lane a.sight) refl in are (lane_of lane a.sight) ∙ ap (λ b. cond b (a ∷ share lane (lane_of lane a.sight) ps) (share lane (lane_of lane a.sight) ps)) own
+    here_is = let own = eq-eqb (lane_of lane a.sight) (lane_of lane a.sight) refl in are (lane_of lane a.sight)
+        ∙ ap (λ b. cond b (a ∷ share lane (lane_of lane a.sight) ps) (share lane (lane_of lane a.sight) ps)) own
 
     others_here : (k : ℕ) → k ≡ lane_of lane a.sight → arrivals_of (others_of parts (lane_of lane a.sight) k) ≡ share lane k ps
     others_here k same =
@@ -51,7 +53,8 @@ module _ (lane : EndpointPair → ℕ) where
     others_are k = ⊎_elim (others_here k) (others_there k) (cases_eq k (lane_of lane a.sight))
 
     module _ (j : IsJoined ps (others_of parts (lane_of lane a.sight))) where
-      first : (p : VersionedPacket) × (parts (lane_of lane a.sight) ≡ p ∷ drop 1 (parts (lane_of lane a.sight))) × (p.arrival ≡ a) × (arrivals_of (drop 1 (parts (lane_of lane a.sight))) ≡ share lane (lane_of lane a.sight) ps)
+      first : (p : VersionedPacket) × (parts (lane_of lane a.sight) ≡ p ∷ drop 1 (parts (lane_of lane a.sight))) × (p.arrival ≡ a)
+          × (arrivals_of (drop 1 (parts (lane_of lane a.sight))) ≡ share lane (lane_of lane a.sight) ps)
       first = first_is (parts (lane_of lane a.sight)) a (share lane (lane_of lane a.sight) ps) here_is
 
       own_lane : lane_of lane first.0.arrival.sight ≡ lane_of lane a.sight
@@ -84,7 +87,8 @@ module _ (lane : EndpointPair → ℕ) where
   lanes_join [] parts are = record { stamped = []; packets = refl; of_lanes = λ l. sym (none_is (parts l) (are l)) }
   lanes_join (a ∷ ps) parts are = joined_more a ps parts are (lanes_join ps (others_of parts (lane_of lane a.sight)) (others_are a ps parts are))
 
-  versioned_here : (u : ℕ → ℕ) (p : Arrival) (b : Bool) (xs : List Arrival) (ys : List VersionedPacket) → versioned u xs ≡ ys → versioned u (cond b (p ∷ xs) xs) ≡ cond b (record { version = u p.number; arrival = p } ∷ ys) ys
+  versioned_here : (u : ℕ → ℕ) (p : Arrival) (b : Bool) (xs : List Arrival) (ys : List VersionedPacket) → versioned u xs ≡ ys
+      → versioned u (cond b (p ∷ xs) xs) ≡ cond b (record { version = u p.number; arrival = p } ∷ ys) ys
   versioned_here u p true xs ys e = ap (λ z. record { version = u p.number; arrival = p } ∷ z) e
   versioned_here u p false xs ys e = e
 

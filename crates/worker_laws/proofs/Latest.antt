@@ -1,22 +1,12 @@
--- The greatest moment of packets: with one more, and what it is among them.
+-- The greatest moment of packets, and what it is among them.
 use Rattle.std.proofs.Common.{◌≡◌, ◌<◌, ◌+◌, ◌⊎◌, inl, inr, ⊎_elim, ℕ, zero, suc, Bool, true, false, Option, Some, None, List, [], ◌∷◌, ◌++◌, length, get_or, refl, sym, subst, arith}
 use Rattle.std.specs.Prelude.{if◌then◌else◌}
 use Rattle.std.specs.List.{All}
 use Rattle.std.proofs.lemmas.Bool.Decides.{nat_tests}
 use Rattle.std.proofs.lemmas.List.Elements.{All-nil, All-cons}
-use Rattle.pcap_source.specs.Captured.{Captured}
 use Rattle.flow_timers.specs.Moments.{is_idle, comes_after}
-use Rattle.lane_core.specs.Sight.{Moment, Arrival, arrivals}
+use Rattle.lane_core.specs.Sight.{Moment, Arrival}
 use Rattle.worker_laws.specs.Greatest.{later_of, greatest_from, greatest}
-
-abbrev pub moment_of : Captured → Moment
-moment_of frame = record { seconds = frame.seconds; fraction = frame.fraction }
-
-pub greatest_push : (so_far : Option Moment) (n : ℕ) (frames : List Captured) (frame : Captured)
-    → greatest_from so_far (arrivals n (frames ++ frame ∷ [])) ≡ Some (later_of (greatest_from so_far (arrivals n frames)) (moment_of frame))
-unfolding greatest_from
-greatest_push so_far n [] frame = refl
-greatest_push so_far n (f ∷ frames) frame = greatest_push (Some (later_of so_far (moment_of f))) (n + 1) frames frame
 
 -- ---- no moment comes after it. A moment by its second and its fraction: of g, of s, and of m
 

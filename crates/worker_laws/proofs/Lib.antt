@@ -11,8 +11,6 @@ mod Single
 mod Histories
 mod Stamps
 mod Composed
-mod Lowest
-mod Merged
 mod Reported
 mod Streamed
 mod Taken
@@ -24,3 +22,10 @@ mod Dealt
 mod Latest
 mod Answered
 mod Scripts
+mod Shares
+mod Fronts
+mod Offering
+mod Writing
+mod Exits
+mod Listed
+mod Sent

@@ -22,7 +22,8 @@ module _ (endings : Endings) where
       let both = or_parts (takes endings p.arrival.sight m) (list_any (takes endings p.arrival.sight) ms) none in
       let here = both.0 in rw here (ap (λ l. m ∷ l) (placed_new p ms both.1))
 
-  pub added_new : (p : VersionedPacket) (ms : List Members) → list_any (takes endings p.arrival.sight) (found endings p.arrival ms) ≡ false → added endings p ms ≡ found endings p.arrival ms ++ begun_by p ∷ []
+  pub added_new : (p : VersionedPacket) (ms : List Members) → list_any (takes endings p.arrival.sight) (found endings p.arrival ms) ≡ false
+      → added endings p ms ≡ found endings p.arrival ms ++ begun_by p ∷ []
   added_new p ms none = placed_new p (found endings p.arrival ms) none
 
   -- one that is taken: its own version doesn't count
@@ -37,7 +38,8 @@ module _ (endings : Endings) where
   placed_anyhow v p [] some = absurd (cc)
   placed_anyhow v p (m ∷ ms) some = joined_here v p m ms (takes endings p.arrival.sight m) refl some (placed_anyhow v p ms)
 
-  pub added_anyhow : (v : ℕ) (p : VersionedPacket) (ms : List Members) → list_any (takes endings p.arrival.sight) (found endings p.arrival ms) ≡ true → added endings (record p { version = v }) ms ≡ added endings p ms
+  pub added_anyhow : (v : ℕ) (p : VersionedPacket) (ms : List Members) → list_any (takes endings p.arrival.sight) (found endings p.arrival ms) ≡ true
+      → added endings (record p { version = v }) ms ≡ added endings p ms
   added_anyhow v p ms some = placed_anyhow v p (found endings p.arrival ms) some
 
   -- silence leaves the versions of all records, and so does a packet that is taken
@@ -57,7 +59,8 @@ module _ (endings : Endings) where
   pub versions_stay : (p : VersionedPacket) (ms : List Members) → list_any (takes endings p.arrival.sight) (found endings p.arrival ms) ≡ true → versions_of (added endings p ms) ≡ versions_of ms
   versions_stay p ms some = versions_placed p (found endings p.arrival ms) some ∙ versions_found p.arrival ms
 
-  versions_new : (p : VersionedPacket) (ms : List Members) → list_any (takes endings p.arrival.sight) (found endings p.arrival ms) ≡ false → versions_of (added endings p ms) ≡ versions_of ms ++ p.version ∷ []
+  versions_new : (p : VersionedPacket) (ms : List Members) → list_any (takes endings p.arrival.sight) (found endings p.arrival ms) ≡ false
+      → versions_of (added endings p ms) ≡ versions_of ms ++ p.version ∷ []
   versions_new p ms none =
       ap versions_of (added_new p ms none) ∙ map-append (λ m. m.version) (found endings p.arrival ms) (begun_by p ∷ [])
       ∙ ap (λ l. l ++ p.version ∷ []) (versions_found p.arrival ms)
@@ -91,7 +94,8 @@ module _ (endings : Endings) where
     module _ (judge : ℕ → List Arrival → Arrival → Verdict) where
       anyhow_here : (v : ℕ) (m : Members) (ns : List Members) (b : Bool) → (b || list_any (takes endings p.arrival.sight) ns) ≡ true
           → (list_any (takes endings p.arrival.sight) ns ≡ true → verdict_among endings judge (record p { version = v }) ns ≡ verdict_among endings judge p ns)
-          → (if b then judge m.version (packets_of m) p.arrival else verdict_among endings judge (record p { version = v }) ns) ≡ (if b then judge m.version (packets_of m) p.arrival else verdict_among endings judge p ns)
+          → (if b then judge m.version (packets_of m) p.arrival else verdict_among endings judge (record p { version = v }) ns)
+              ≡ (if b then judge m.version (packets_of m) p.arrival else verdict_among endings judge p ns)
       anyhow_here v m ns true some rest = refl
       anyhow_here v m ns false some rest = rest some
 
@@ -101,10 +105,12 @@ module _ (endings : Endings) where
       verdict_anyhow v (m ∷ ns) some = anyhow_here v m ns (takes endings p.arrival.sight m) some (verdict_anyhow v ns)
 
       pub same_judged : verdict_of endings judge (record { version = get_or vs (length ms) 0; arrival = p.arrival }) ms ≡ verdict_of endings judge p ms
-      same_judged = ⊎_elim (λ some. verdict_anyhow (get_or vs (length ms) 0) (found endings p.arrival ms) some) (λ none. ap (λ v. verdict_of endings judge (record { version = v; arrival = p.arrival }) ms) (given none))
+      same_judged = ⊎_elim (λ some. verdict_anyhow (get_or vs (length ms) 0) (found endings p.arrival ms) some)
+          (λ none. ap (λ v. verdict_of endings judge (record { version = v; arrival = p.arrival }) ms) (given none))
           (cases_Bool (list_any (takes endings p.arrival.sight) (found endings p.arrival ms)))
 
-  pub named_again : (vs : List ℕ) (ms : List Members) (ps : List VersionedPacket) → vs ≡ versions_of (records_from endings ms ps) → records_from endings ms (named_from endings vs ms (arrivals_of ps)) ≡ records_from endings ms ps
+  pub named_again : (vs : List ℕ) (ms : List Members) (ps : List VersionedPacket) → vs ≡ versions_of (records_from endings ms ps)
+      → records_from endings ms (named_from endings vs ms (arrivals_of ps)) ≡ records_from endings ms ps
   unfolding records_from named_from
   named_again vs ms [] lists = refl
   named_again vs ms (p ∷ ps) lists =
@@ -115,6 +121,7 @@ module _ (endings : Endings) where
   unfolding records_from named_from judged_from
   judged_again judge vs ms [] lists = refl
   judged_again judge vs ms (p ∷ ps) lists =
-      ap (λ v. (p.arrival, v) ∷ judged_from endings judge (added endings (record { version = get_or vs (length ms) 0; arrival = p.arrival }) ms) (named_from endings vs (added endings (record { version = get_or vs (length ms) 0; arrival = p.arrival }) ms) (arrivals_of ps))) (same_judged vs p ps ms lists judge)
+      ap (λ v. (p.arrival, v) ∷ judged_from endings judge (added endings (record { version = get_or vs (length ms) 0; arrival = p.arrival }) ms)
+          (named_from endings vs (added endings (record { version = get_or vs (length ms) 0; arrival = p.arrival }) ms) (arrivals_of ps))) (same_judged vs p ps ms lists judge)
       ∙ ap (λ l. (p.arrival, verdict_of endings judge p ms) ∷ judged_from endings judge l (named_from endings vs l (arrivals_of ps))) (same_added vs p ps ms lists)
       ∙ ap (λ l. (p.arrival, verdict_of endings judge p ms) ∷ l) (judged_again judge vs (added endings p ms) ps lists)

@@ -20,7 +20,8 @@ module _ {T : Type 0} (name of : T → ℕ) where
   -- the first of a part comes behind what all names lie above
   part_above : (l : ℕ) (k : ℕ) (x : T) (rest ys : List T) → All (λ n. k < n) (names ys) → of_part l ys ≡ x ∷ rest → k < name x
   part_above l k x rest [] above e = absurd (cc)
-  part_above l k x rest (y ∷ ys) above e = above_here k x y rest (of_part l ys) (of y == l) (All-head (λ n. k < n) (name y) (names ys) above) e (part_above l k x rest ys (All-tail (λ n. k < n) (name y) (names ys) above))
+  part_above l k x rest (y ∷ ys) above e =
+      above_here k x y rest (of_part l ys) (of y == l) (All-head (λ n. k < n) (name y) (names ys) above) e (part_above l k x rest ys (All-tail (λ n. k < n) (name y) (names ys) above))
 
   part_own : (x : T) (xs : List T) → of_part (of x) (x ∷ xs) ≡ x ∷ of_part (of x) xs
   part_own x xs = let own = eq-eqb (of x) (of x) refl in ap (λ b. cond b (x ∷ of_part (of x) xs) (of_part (of x) xs)) own

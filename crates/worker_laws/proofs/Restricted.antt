@@ -44,13 +44,15 @@ module _ (endings : Endings) (lane : EndpointPair → ℕ) (lanes : ℕ → Bool
   outside p [] out = rw out refl
   outside p (m ∷ ms) out = outside_here p m ms (placed endings p ms) (takes endings p.arrival.sight m) refl out (outside p ms out)
 
-  inside_there : (p : VersionedPacket) (m : Members) (ms after : List Members) (c : Bool) → record_in m ≡ c → takes endings p.arrival.sight m ≡ false → filter record_in after ≡ placed endings p (filter record_in ms)
+  inside_there : (p : VersionedPacket) (m : Members) (ms after : List Members) (c : Bool) → record_in m ≡ c → takes endings p.arrival.sight m ≡ false
+      → filter record_in after ≡ placed endings p (filter record_in ms)
       → cond c (m ∷ filter record_in after) (filter record_in after) ≡ placed endings p (cond c (m ∷ filter record_in ms) (filter record_in ms))
   unfolding placed
   inside_there p m ms after true is untaken rest = rw untaken (ap (λ l. m ∷ l) rest)
   inside_there p m ms after false is untaken rest = rest
 
-  inside_here : (p : VersionedPacket) (m : Members) (ms after : List Members) (b : Bool) → takes endings p.arrival.sight m ≡ b → packet_in p ≡ true → filter record_in after ≡ placed endings p (filter record_in ms)
+  inside_here : (p : VersionedPacket) (m : Members) (ms after : List Members) (b : Bool) → takes endings p.arrival.sight m ≡ b → packet_in p ≡ true
+      → filter record_in after ≡ placed endings p (filter record_in ms)
       → filter record_in (if b then joined_by p.arrival m ∷ ms else m ∷ after) ≡ placed endings p (filter record_in (m ∷ ms))
   unfolding placed
   inside_here p m ms after true taken has rest =
@@ -126,7 +128,8 @@ module _ (endings : Endings) (lane : EndpointPair → ℕ) (lanes : ℕ → Bool
     verdict_skips p m ms true is untaken = rw untaken refl
     verdict_skips p m ms false is untaken = refl
 
-    verdict_here : (p : VersionedPacket) (m : Members) (ms : List Members) (b : Bool) → takes endings p.arrival.sight m ≡ b → packet_in p ≡ true → verdict_among endings judge p (filter record_in ms) ≡ verdict_among endings judge p ms
+    verdict_here : (p : VersionedPacket) (m : Members) (ms : List Members) (b : Bool) → takes endings p.arrival.sight m ≡ b → packet_in p ≡ true
+        → verdict_among endings judge p (filter record_in ms) ≡ verdict_among endings judge p ms
         → verdict_among endings judge p (filter record_in (m ∷ ms)) ≡ (if b then judge m.version (packets_of m) p.arrival else verdict_among endings judge p ms)
     unfolding verdict_among
     verdict_here p m ms true taken has rest = let passes : record_in m ≡ true = taken_in p m taken ∙ has in rw (passes, taken) refl
@@ -143,7 +146,8 @@ module _ (endings : Endings) (lane : EndpointPair → ℕ) (lanes : ℕ → Bool
     judged_here : (p : VersionedPacket) (ps : List VersionedPacket) (ms : List Members) (b : Bool) → packet_in p ≡ b
         → judged_from endings judge (filter record_in (added endings p ms)) (filter packet_in ps) ≡ filter judged_in (judged_from endings judge (added endings p ms) ps)
         → judged_from endings judge (filter record_in ms) (cond b (p ∷ filter packet_in ps) (filter packet_in ps))
-        ≡ cond b ((p.arrival, verdict_of endings judge p ms) ∷ filter judged_in (judged_from endings judge (added endings p ms) ps)) (filter judged_in (judged_from endings judge (added endings p ms) ps))
+        ≡ cond b ((p.arrival, verdict_of endings judge p ms) ∷ filter judged_in (judged_from endings judge (added endings p ms) ps))
+            (filter judged_in (judged_from endings judge (added endings p ms) ps))
     unfolding judged_from
     judged_here p ps ms true is rest =
         ap (λ v. (p.arrival, v) ∷ judged_from endings judge (added endings p (filter record_in ms)) (filter packet_in ps)) (same_verdict p ms is)

@@ -53,8 +53,10 @@ numbers_of ps = map (λ p. p.arrival.number) ps
 
 -- What a record has from its first packet alone, as its name or its version, of records and the packets after them: where it holds
 -- with one left out, it holds of the records of all.
-module _ {T : Type 0} (endings : Endings) (of : Members → T) (by : VersionedPacket → T) (begun : (p : VersionedPacket) → of (begun_by p) ≡ by p) (joined : (a : Arrival) (m : Members) → of (joined_by a m) ≡ of m) (silent : (m : Members) → of (ended_by_silence m) ≡ of m) where
-  of_stays_here : (p : VersionedPacket) (m : Members) (ms after : List Members) (b rest : Bool) → (b || rest) ≡ true → (rest ≡ true → map of after ≡ map of ms) → map of (if b then joined_by p.arrival m ∷ ms else m ∷ after) ≡ map of (m ∷ ms)
+module _ {T : Type 0} (endings : Endings) (of : Members → T) (by : VersionedPacket → T) (begun : (p : VersionedPacket) → of (begun_by p) ≡ by p)
+    (joined : (a : Arrival) (m : Members) → of (joined_by a m) ≡ of m) (silent : (m : Members) → of (ended_by_silence m) ≡ of m) where
+  of_stays_here : (p : VersionedPacket) (m : Members) (ms after : List Members) (b rest : Bool) → (b || rest) ≡ true → (rest ≡ true → map of after ≡ map of ms)
+      → map of (if b then joined_by p.arrival m ∷ ms else m ∷ after) ≡ map of (m ∷ ms)
   of_stays_here p m ms after true rest some later = ap (λ x. x ∷ map of ms) (joined p.arrival m)
   of_stays_here p m ms after false rest some later = ap (λ l. of m ∷ l) (later some)
 
@@ -72,7 +74,8 @@ module _ {T : Type 0} (endings : Endings) (of : Members → T) (by : VersionedPa
       ∙ ap (λ x. map of (found endings p.arrival ms) ++ x ∷ []) (begun p) ∙ ap (λ l. l ++ by p ∷ []) (of_found endings of silent p.arrival ms)
 
   of_step : (p : VersionedPacket) (ms : List Members) → (more : List T) × (map of (added endings p ms) ≡ map of ms ++ more)
-  of_step p ms = ⊎_elim (λ some. ([], of_stays p ms some ∙ sym (append-nil (map of ms)))) (λ none. (by p ∷ [], of_new p ms none)) (cases_Bool (list_any (takes endings p.arrival.sight) (found endings p.arrival ms)))
+  of_step p ms = ⊎_elim (λ some. ([], of_stays p ms some ∙ sym (append-nil (map of ms)))) (λ none. (by p ∷ [], of_new p ms none))
+      (cases_Bool (list_any (takes endings p.arrival.sight) (found endings p.arrival ms)))
 
   -- later packets leave it as it is
   pub of_front : (ms : List Members) (ps : List VersionedPacket) → (more : List T) × (map of (records_from endings ms ps) ≡ map of ms ++ more)
@@ -108,6 +111,7 @@ module _ (endings : Endings) where
   pub all_of_records : (P : ℕ → ℕ → Type 0) (ps : List VersionedPacket) → All (λ p. P p.version p.arrival.number) ps → All (λ m. P m.version (name_of m)) (records_from endings [] ps)
   all_of_records P ps all =
       let pairs : All (λ (x : ℕ × ℕ). P x.0 x.1) (map (λ m. (m.version, name_of m)) (records_from endings [] ps)) =
-      holds_of_records endings (λ m. (m.version, name_of m)) (λ p. (p.version, p.arrival.number)) (λ p. refl) (λ a m. refl) (λ m. refl) (All (λ (x : ℕ × ℕ). P x.0 x.1)) (All-without (λ (x : ℕ × ℕ). P x.0 x.1)) [] ps
+      holds_of_records endings (λ m. (m.version, name_of m)) (λ p. (p.version, p.arrival.number)) (λ p. refl) (λ a m. refl) (λ m. refl) (All (λ (x : ℕ × ℕ). P x.0 x.1))
+          (All-without (λ (x : ℕ × ℕ). P x.0 x.1)) [] ps
       (All-map (λ (x : ℕ × ℕ). P x.0 x.1) (λ p. (p.version, p.arrival.number)) ps all) in
       All-unmap (λ (x : ℕ × ℕ). P x.0 x.1) (λ m. (m.version, name_of m)) (records_from endings [] ps) pairs

@@ -56,7 +56,8 @@ none_earlier k (t ∷ script) all =
     let parts = and_parts (not (is_later (At k) t.stamp)) (list_all (λ t. not (is_later (At k) t.stamp)) script) all in
     later_here k t.stamp (stamps_of script) parts.0 (none_earlier k script parts.1)
 
-falls_here : (stamp : Stamp) (script : List Stamped) → list_all (λ t. not (is_later stamp t.stamp)) script ≡ true → NeverFalls (named_packets (stamps_of script)) → NeverFalls (named_packets (stamp ∷ stamps_of script))
+falls_here : (stamp : Stamp) (script : List Stamped) → list_all (λ t. not (is_later stamp t.stamp)) script ≡ true → NeverFalls (named_packets (stamps_of script))
+    → NeverFalls (named_packets (stamp ∷ stamps_of script))
 unfolding NeverFalls
 falls_here (At k) script all rest = (none_earlier k script all, rest)
 falls_here Live script all rest = rest

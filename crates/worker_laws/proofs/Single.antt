@@ -26,7 +26,8 @@ module _ (endings : Endings) (only : ℕ → ℕ) (vs : List ℕ) where
   abbrev only_by : Arrival → VersionedPacket
   only_by a = record { version = only a.number; arrival = a }
 
-  given_only : (ms : List Members) (a : Arrival) (rest : List Arrival) → All HasOnly (records_from endings (added endings (named_by vs ms a) ms) (named_from endings vs (added endings (named_by vs ms a) ms) rest))
+  given_only : (ms : List Members) (a : Arrival) (rest : List Arrival)
+      → All HasOnly (records_from endings (added endings (named_by vs ms a) ms) (named_from endings vs (added endings (named_by vs ms a) ms) rest))
       → list_any (takes endings a.sight) (found endings a ms) ≡ false → get_or vs (length ms) 0 ≡ only a.number
   given_only ms a rest all none =
       let now = added endings (named_by vs ms a) ms in
@@ -34,15 +35,18 @@ module _ (endings : Endings) (only : ℕ → ℕ) (vs : List ℕ) where
       let P = λ (x : ℕ × ℕ). x.0 ≡ only x.1 in
       let front = of_front endings pair (λ p. (p.version, p.arrival.number)) (λ p. refl) (λ b m. refl) (λ m. refl) now (named_from endings vs now rest) in
       let final : All P (map pair now ++ front.0) = subst (All P) front.1 (All-map P pair (records_from endings now (named_from endings vs now rest)) all) in
-      let new : map pair now ≡ map pair ms ++ (get_or vs (length ms) 0, a.number) ∷ [] = ap (map pair) (added_new endings (named_by vs ms a) ms none) ∙ map-append pair (found endings a ms) (begun_by (named_by vs ms a) ∷ []) ∙ ap (λ l. l ++ (get_or vs (length ms) 0, a.number) ∷ []) (of_found endings pair (λ m. refl) a ms) in
+      let new : map pair now ≡ map pair ms ++ (get_or vs (length ms) 0, a.number) ∷ [] = ap (map pair) (added_new endings (named_by vs ms a) ms none)
+          ∙ map-append pair (found endings a ms) (begun_by (named_by vs ms a) ∷ []) ∙ ap (λ l. l ++ (get_or vs (length ms) 0, a.number) ∷ []) (of_found endings pair (λ m. refl) a ms) in
       All-last P (map pair ms) (get_or vs (length ms) 0, a.number) (subst (All P) new (All-front P (map pair now) front.0 final))
 
-  same_step : (ms : List Members) (a : Arrival) (rest : List Arrival) → All HasOnly (records_from endings (added endings (named_by vs ms a) ms) (named_from endings vs (added endings (named_by vs ms a) ms) rest))
+  same_step : (ms : List Members) (a : Arrival) (rest : List Arrival)
+      → All HasOnly (records_from endings (added endings (named_by vs ms a) ms) (named_from endings vs (added endings (named_by vs ms a) ms) rest))
       → added endings (named_by vs ms a) ms ≡ added endings (only_by a) ms
   same_step ms a rest all = ⊎_elim (λ some. added_anyhow endings (get_or vs (length ms) 0) (only_by a) ms some)
       (λ none. ap (λ v. added endings (record { version = v; arrival = a }) ms) (given_only ms a rest all none)) (cases_Bool (list_any (takes endings a.sight) (found endings a ms)))
 
-  pub records_only : (ms : List Members) (ps : List Arrival) → All HasOnly (records_from endings ms (named_from endings vs ms ps)) → records_from endings ms (named_from endings vs ms ps) ≡ records_from endings ms (versioned only ps)
+  pub records_only : (ms : List Members) (ps : List Arrival) → All HasOnly (records_from endings ms (named_from endings vs ms ps))
+      → records_from endings ms (named_from endings vs ms ps) ≡ records_from endings ms (versioned only ps)
   unfolding records_from named_from
   records_only ms [] all = refl
   records_only ms (a ∷ ps) all =
@@ -79,15 +83,18 @@ module _ (endings : Endings) (vs : List ℕ) where
       let most = longer now (named_from endings vs now ps) in
       list_kept now ps (kept_step ms a kept (omega arith)) fits
 
-pub list_of_allowed : (floor ceil : ℕ → ℕ) (endings : Endings) (lane : EndpointPair → ℕ) (packets : List Arrival) (vs : List ℕ) → IsAllowed floor ceil endings lane packets vs → versions_of (records_under endings vs packets) ≡ vs
+pub list_of_allowed : (floor ceil : ℕ → ℕ) (endings : Endings) (lane : EndpointPair → ℕ) (packets : List Arrival) (vs : List ℕ) → IsAllowed floor ceil endings lane packets vs
+    → versions_of (records_under endings vs packets) ≡ vs
 list_of_allowed floor ceil endings lane packets vs allowed =
     let long = allowed.count in
     list_kept endings vs [] packets refl (omega arith) ∙ take_all (length (records_under endings vs packets)) vs (omega arith)
 
 only_within : (floor ceil : ℕ → ℕ) (same : (n : ℕ) → floor n ≡ ceil n) (ms : List Members) → All (λ m. IsWithin floor ceil m.version (name_of m)) ms → All (λ m. m.version ≡ ceil (name_of m)) ms
-only_within floor ceil same ms all = All-weaker (λ m. IsWithin floor ceil m.version (name_of m)) (λ m. m.version ≡ ceil (name_of m)) (λ m w. let e = same (name_of m) in let a = w.0 in let b = w.1 in omega arith) ms all
+only_within floor ceil same ms all =
+    All-weaker (λ m. IsWithin floor ceil m.version (name_of m)) (λ m. m.version ≡ ceil (name_of m)) (λ m w. let e = same (name_of m) in let a = w.0 in let b = w.1 in omega arith) ms all
 
-pub records_of_allowed : (floor ceil : ℕ → ℕ) (endings : Endings) (lane : EndpointPair → ℕ) (packets : List Arrival) (vs : List ℕ) → ((n : ℕ) → floor n ≡ ceil n) → IsAllowed floor ceil endings lane packets vs
+pub records_of_allowed : (floor ceil : ℕ → ℕ) (endings : Endings) (lane : EndpointPair → ℕ) (packets : List Arrival) (vs : List ℕ) → ((n : ℕ) → floor n ≡ ceil n)
+    → IsAllowed floor ceil endings lane packets vs
     → records_under endings vs packets ≡ records endings (versioned ceil packets)
 records_of_allowed floor ceil endings lane packets vs same allowed =
     records_only endings ceil vs [] packets (only_within floor ceil same (records_under endings vs packets) allowed.within)

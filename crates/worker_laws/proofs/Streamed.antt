@@ -7,8 +7,8 @@ use Rattle.pcap_source.specs.Captured.{Captured}
 use Rattle.app_api.specs.declared.reaction.Verdict.{Verdict}
 use Rattle.app_api.specs.declared.reaction.Verdict.TheVariants.{Pass, Drop}
 use Rattle.lane_rings.specs.declared.items.Answer.{Answer}
-use Rattle.lane_rings.specs.Share.{share as numbers_of_share}
-use Rattle.lane_rings.specs.Forwarded.{bytes_out, bytes_under as frame_under, forwarded as forwarded_numbers}
+use Rattle.worker_laws.specs.Share.{share as numbers_of_share}
+use Rattle.worker_laws.specs.Forwarded.{bytes_out, bytes_under as frame_under, forwarded as forwarded_numbers}
 use Rattle.flow_table.specs.Key.{EndpointPair}
 use Rattle.lane_core.specs.Sight.{Arrival}
 use Rattle.worker_laws.specs.Lanes.{lane_of}
@@ -21,13 +21,15 @@ kept_here : (j x : Arrival × Verdict) (b c : Bool) (xs : List (Arrival × Verdi
 kept_here j x true c xs = refl
 kept_here j x false c xs = refl
 
-part_push : (lane : EndpointPair → ℕ) (l : ℕ) (xs : List (Arrival × Verdict)) (j : Arrival × Verdict) → judged_part lane l (xs ++ j ∷ []) ≡ judged_part lane l xs ++ cond (lane_of lane j.0.sight == l) (j ∷ []) []
+part_push : (lane : EndpointPair → ℕ) (l : ℕ) (xs : List (Arrival × Verdict)) (j : Arrival × Verdict)
+    → judged_part lane l (xs ++ j ∷ []) ≡ judged_part lane l xs ++ cond (lane_of lane j.0.sight == l) (j ∷ []) []
 part_push lane l [] j = refl
 part_push lane l (x ∷ xs) j =
     ap (λ ys. cond (lane_of lane x.0.sight == l) (x ∷ ys) ys) (part_push lane l xs j)
     ∙ kept_here j x (lane_of lane x.0.sight == l) (lane_of lane j.0.sight == l) (judged_part lane l xs)
 
-answers_push : (frame_of : ℕ → Captured) (f : ℕ → Answer) (ns : List ℕ) (n : ℕ) (xs : List (Arrival × Verdict)) (j : Arrival × Verdict) (b : Bool) → map f ns ≡ answers_to frame_of xs → f n ≡ answer_to frame_of j.0.number j.1
+answers_push : (frame_of : ℕ → Captured) (f : ℕ → Answer) (ns : List ℕ) (n : ℕ) (xs : List (Arrival × Verdict)) (j : Arrival × Verdict) (b : Bool) → map f ns ≡ answers_to frame_of xs
+    → f n ≡ answer_to frame_of j.0.number j.1
     → map f (if b then ns ++ n ∷ [] else ns) ≡ answers_to frame_of (xs ++ cond b (j ∷ []) [])
 answers_push frame_of f ns n xs j true before last =
     map-append f ns (n ∷ []) ∙ ap (λ x. map f ns ++ x ∷ []) last ∙ ap (λ l. l ++ answer_to frame_of j.0.number j.1 ∷ []) before

@@ -81,7 +81,8 @@ module _ (app : Meaning) (commands : List Command) (packets : List Arrival) (vs 
 
 -- ---- verdicts in the order of the packets
 
-firsts_from : (app : Meaning) (control_at : ℕ → ControlState) (rs : List RecordSoFar) (ps : List VersionedPacket) → map (λ (j : Arrival × Verdict). j.0) (verdicts_from app control_at rs ps) ≡ arrivals_of ps
+firsts_from : (app : Meaning) (control_at : ℕ → ControlState) (rs : List RecordSoFar) (ps : List VersionedPacket)
+    → map (λ (j : Arrival × Verdict). j.0) (verdicts_from app control_at rs ps) ≡ arrivals_of ps
 unfolding verdicts_from
 firsts_from app control_at rs [] = refl
 firsts_from app control_at rs (p ∷ ps) = ap (λ l. p.arrival ∷ l) (firsts_from app control_at (added app control_at p rs) ps)
@@ -141,7 +142,8 @@ nothing_behind (x ∷ xs) ys e = nothing_behind xs ys (cc)
 
 -- ---- lanes of which each has run its share, or a front of it
 
-module _ (later : LaterCommandsChangeNone) (one : OneEventMore) (last : LastPacketIsAdded) (app : Meaning) (commands : List Command) (lane : EndpointPair → ℕ) (packets : List Arrival) (lanes : List (List LaneEvent))
+module _ (later : LaterCommandsChangeNone) (one : OneEventMore) (last : LastPacketIsAdded) (app : Meaning) (commands : List Command) (lane : EndpointPair → ℕ) (packets : List Arrival)
+    (lanes : List (List LaneEvent))
     (front : (l : ℕ) → IsPrefix (commands_of (events_at lanes l)) commands) where
   abbrev records_at : List VersionedPacket → List RecordSoFar
   records_at ps = records app (in_force app commands) ps
@@ -195,17 +197,20 @@ module _ (later : LaterCommandsChangeNone) (one : OneEventMore) (last : LastPack
           (front_verdicts (over_under app commands) lane packets (packets_at lanes) more vs runs (judge_by app (in_force app commands)) l));
     }
 
-module _ (later : LaterCommandsChangeNone) (one : OneEventMore) (last : LastPacketIsAdded) (app : Meaning) (commands : List Command) (least most : ℕ → ℕ) (lane : EndpointPair → ℕ) (packets : List Arrival) (lanes : List (List LaneEvent)) (have : HaveRun least most commands lane packets lanes) where
+module _ (later : LaterCommandsChangeNone) (one : OneEventMore) (last : LastPacketIsAdded) (app : Meaning) (commands : List Command) (least most : ℕ → ℕ) (lane : EndpointPair → ℕ)
+    (packets : List Arrival) (lanes : List (List LaneEvent)) (have : HaveRun least most commands lane packets lanes) where
   pub one_run : HaveRunAll lane packets lanes → (vs : List ℕ) × IsAllowedRun app commands least most lane packets vs × AreOneRun app commands lane packets lanes vs
   one_run whole =
-      let made = one_allowed least most (over_under app commands) lane packets (packets_at lanes) (packets_whole least most commands lane packets lanes have whole) (stamped_at least most commands lane packets lanes have) in
+      let made = one_allowed least most (over_under app commands) lane packets (packets_at lanes) (packets_whole least most commands lane packets lanes have whole)
+          (stamped_at least most commands lane packets lanes have) in
       (made.0, made.1, whole_is later one last app commands lane packets lanes (commands_front least most commands lane packets lanes have) made.0 made.2)
 
   pub fronts_run : WeightNeverFalls → ((n : ℕ) → least n ≤ most n) → ((n m : ℕ) → n ≤ m → most n ≤ most m) → Rises (map (λ a. a.number) packets)
       → (vs : List ℕ) × IsAllowedRun app commands least most lane packets vs × AreFrontsOfRun app commands lane packets lanes vs
   fronts_run never between rises numbered =
       let rest = packets_front least most commands lane packets lanes have in
-      let made = continued least most between rises (over_under app commands) lane packets numbered (packets_at lanes) (λ l. (rest l).0) (λ l. (rest l).1) (stamped_at least most commands lane packets lanes have) in (
+      let made = continued least most between rises (over_under app commands) lane packets numbered (packets_at lanes) (λ l. (rest l).0) (λ l. (rest l).1)
+          (stamped_at least most commands lane packets lanes have) in (
         made.0,
         made.1,
         fronts_are later one last app commands lane packets lanes (commands_front least most commands lane packets lanes have) never (λ l. versioned most ((rest l).0)) made.0 made.2

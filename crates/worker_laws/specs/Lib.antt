@@ -10,9 +10,11 @@ pub mod Runs
 pub mod Histories
 pub mod Stamps
 pub mod Merge
-pub mod Queues
 pub mod Streamed
 pub mod Whole
 pub mod Taken
 pub mod Ends
 pub mod Weight
+pub mod Share
+pub mod Forwarded
+pub mod Forward

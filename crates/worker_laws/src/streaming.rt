@@ -1,5 +1,5 @@
-//! What a forward run that writes while it reads needs of verdicts, to use the laws of `lane_rings::forward`. These
-//! functions do nothing: who leads such a run calls them for what they say.
+//! What a forward run that writes while it reads needs of verdicts, to use the laws of `forward`. These functions do
+//! nothing: who leads such a run calls them for what they say.
 
 ghost use Rattle.std.specs.Prelude.{◌≡◌, ◌≤◌, ℕ, List, length, map, take};
 ghost use mathlib.Core.List.{IsPrefix};
@@ -7,9 +7,9 @@ ghost use Rattle.pcap_source.specs.Captured.{Captured};
 ghost use Rattle.app_api.specs.App.{Meaning};
 ghost use Rattle.app_api.specs.declared.reaction.Verdict.{Verdict};
 ghost use Rattle.forest_versions.specs.declared.command.Command.{Command};
-ghost use Rattle.lane_rings.specs.Share.{share as numbers_of_share};
-ghost use Rattle.lane_rings.specs.Forwarded.{forwarded as forwarded_numbers};
-ghost use Rattle.lane_rings.specs.Forward.{AreIndexed};
+ghost use Rattle.worker_laws.specs.Share.{share as numbers_of_share};
+ghost use Rattle.worker_laws.specs.Forwarded.{forwarded as forwarded_numbers};
+ghost use Rattle.worker_laws.specs.Forward.{AreIndexed};
 ghost use Rattle.flow_table.specs.Key.{EndpointPair};
 ghost use Rattle.lane_core.specs.Sight.{Arrival, arrivals};
 ghost use Rattle.lane_core.specs.Run.{LaneEvent};

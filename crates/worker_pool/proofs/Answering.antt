@@ -26,7 +26,8 @@ module _ (frame_of : ℕ → Captured) where
   IsFramed p = frame_of p.index ≡ p.frame
 
   -- the packets of frames do
-  all_framed : (script : List Stamped) (n : ℕ) (frames : List Captured) → ((i : ℕ) (d : Captured) → i < length frames → frame_of (n + i) ≡ get_or frames i d) → All IsFramed (packets_from script n frames)
+  all_framed : (script : List Stamped) (n : ℕ) (frames : List Captured) → ((i : ℕ) (d : Captured) → i < length frames → frame_of (n + i) ≡ get_or frames i d)
+      → All IsFramed (packets_from script n frames)
   unfolding packets_from
   all_framed script n [] tells = All-nil IsFramed
   all_framed script n (frame ∷ frames) tells =
@@ -62,4 +63,5 @@ module _ (frame_of : ℕ → Captured) where
         let a = arrival_of p.index p.frame in
         let here = framed_answer p (next_verdict app before a) (All-head IsFramed p (handed (done ++ bad)) framed) in
         let rest = answers_front (with_event (Arrived a) before) done bad (All-tail IsFramed p (handed (done ++ bad)) framed) in
-        (rest.0, ap (λ (x : Answer). x ∷ (answers_of app (with_event (Arrived a) before) done ++ rest.0)) here ∙ ap (λ xs. record { index = p.index; verdict = next_verdict app before a; frame = frame_of p.index } ∷ xs) rest.1)
+        (rest.0, ap (λ (x : Answer). x ∷ (answers_of app (with_event (Arrived a) before) done ++ rest.0)) here
+            ∙ ap (λ xs. record { index = p.index; verdict = next_verdict app before a; frame = frame_of p.index } ∷ xs) rest.1)

@@ -17,7 +17,7 @@ use Rattle.lane_core.specs.Shown.{record_of, weight, callbacks_of, drops_of}
 use Rattle.lane_core.specs.Lane.{IsEnd, IsHeavy, IsHeavyAtEnd, shown}
 use Rattle.control_script.specs.Order.{commands_of}
 use Rattle.control_script.specs.Versions.{floor, ceil}
-use Rattle.worker_laws.specs.declared.ends.Joined.{Joined}
+use Rattle.lane_ends.specs.declared.ends.Joined.{Joined}
 use Rattle.worker_laws.specs.Allowed.{arrivals_of}
 use Rattle.worker_laws.specs.Greatest.{greatest}
 use Rattle.worker_laws.specs.Lanes.{share}
@@ -38,7 +38,8 @@ any_of (x ∷ xs) k lt = x
 
 -- ---- the ends of lanes
 
-module _ {L : Type 0} (g : Ghosts L) (keep : Bool) (app : Meaning) (script : List Stamped) (frames : List Captured) (workers : List (Worker L)) (lanes : List (List LaneEvent)) (came : CameTo g keep app script frames workers lanes)
+module _ {L : Type 0} (g : Ghosts L) (keep : Bool) (app : Meaning) (script : List Stamped) (frames : List Captured) (workers : List (Worker L)) (lanes : List (List LaneEvent))
+    (came : CameTo g keep app script frames workers lanes)
     (last : Option Moment) (ends : List LaneEnd) (ended : AreEnded g last workers ends) where
   -- each is the end of the lane's run
   ends_at : AreEnds keep app last lanes ends
@@ -66,18 +67,22 @@ module _ {L : Type 0} (g : Ghosts L) (keep : Bool) (app : Meaning) (script : Lis
 
   -- joined, they are the end of one run
   pub joined_run : (n : ℕ) → n ≡ length workers → (joined : Joined)
-      → ((vs : List ℕ) × IsAllowedRun app (commands_of script) (floor script) (ceil script) (by_key (length workers)) (arrivals 0 frames) vs × AreOneRun app (commands_of script) (by_key (length workers)) (arrivals 0 frames) lanes vs)
-      → ((vs : List ℕ) → AreOneRun app (commands_of script) (by_key (length workers)) (arrivals 0 frames) lanes vs → IsJoined keep app (run_of app script vs frames) joined.records joined.callbacks joined.drops)
+      → ((vs : List ℕ) × IsAllowedRun app (commands_of script) (floor script) (ceil script) (by_key (length workers)) (arrivals 0 frames) vs
+          × AreOneRun app (commands_of script) (by_key (length workers)) (arrivals 0 frames) lanes vs)
+      → ((vs : List ℕ) → AreOneRun app (commands_of script) (by_key (length workers)) (arrivals 0 frames) lanes vs
+          → IsJoined keep app (run_of app script vs frames) joined.records joined.callbacks joined.drops)
       → IsJoinedRun app script n frames keep (Ok joined)
   joined_run n same joined run joins = (run.0, subst (λ m. MayHave app script m frames run.0) (sym same) run.1, joins run.0 run.2)
 
 -- ---- why there is no end
 
-module _ {L : Type 0} (g : Ghosts L) (keep : Bool) (app : Meaning) (script : List Stamped) (frames : List Captured) (workers : List (Worker L)) (lanes : List (List LaneEvent)) (came : CameTo g keep app script frames workers lanes)
+module _ {L : Type 0} (g : Ghosts L) (keep : Bool) (app : Meaning) (script : List Stamped) (frames : List Captured) (workers : List (Worker L)) (lanes : List (List LaneEvent))
+    (came : CameTo g keep app script frames workers lanes)
     (last : Option Moment) (is_last : last ≡ greatest (arrivals 0 frames)) where
   -- a run over all packets that weighs too much
   abbrev HeavyRun : Type 0
-  HeavyRun = (vs : List ℕ) × IsAllowedRun app (commands_of script) (floor script) (ceil script) (by_key (length workers)) (arrivals 0 frames) vs × (134217728 < weight (run_under app (commands_of script) vs (arrivals 0 frames)))
+  HeavyRun = (vs : List ℕ) × IsAllowedRun app (commands_of script) (floor script) (ceil script) (by_key (length workers)) (arrivals 0 frames) vs
+      × (134217728 < weight (run_under app (commands_of script) vs (arrivals 0 frames)))
 
   heavy_run : (n : ℕ) → n ≡ length workers → HeavyRun → IsTooHeavy app script n frames
   heavy_run n same run = record { versions = run.0; allowed = subst (λ m. MayHave app script m frames run.0) (sym same) run.1; heavy = run.2 }

@@ -37,7 +37,8 @@ module _ (script : List Stamped) where
 
   -- ---- the packets of a lane come in turn
 
-  in_turn_where : (b : Bool) (count low : ℕ) (last : Option ℕ) (p : Packet) (ps qs : List Packet) → AreInTurn count last low (p ∷ ps) → AreInTurn count last low qs → ps ≡ qs → AreInTurn count last low (cond b (p ∷ ps) qs)
+  in_turn_where : (b : Bool) (count low : ℕ) (last : Option ℕ) (p : Packet) (ps qs : List Packet) → AreInTurn count last low (p ∷ ps) → AreInTurn count last low qs → ps ≡ qs
+      → AreInTurn count last low (cond b (p ∷ ps) qs)
   in_turn_where true count low last p ps qs here not_here same = here
   in_turn_where false count low last p ps qs here not_here same = not_here
 

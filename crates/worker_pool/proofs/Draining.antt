@@ -11,12 +11,12 @@ use mathlib.Core.List.{IsPrefix}
 use Rattle.lane_rings.specs.declared.items.Answer.{Answer}
 use Rattle.lane_rings.specs.declared.ring.RingTx.{RingTx}
 use Rattle.lane_rings.specs.Ring.{taken}
-use Rattle.lane_rings.specs.Share.{share}
+use Rattle.worker_laws.specs.Share.{share}
 use Rattle.lane_rings.specs.Waiting.{Waiting, first_of, moved_on}
-use Rattle.lane_rings.specs.Forwarded.{bytes_out}
-use Rattle.lane_rings.specs.Forward.{Leaving, Keeps, offered, left_first, bytes_of_first}
+use Rattle.worker_laws.specs.Forwarded.{bytes_out}
+use Rattle.worker_laws.specs.Forward.{Leaving, Keeps, offered, left_first, bytes_of_first}
 use Rattle.worker_pool.specs.declared.worker.Worker.{Worker}
-use Rattle.worker_pool.specs.declared.forward.relay.Relay.{Relay}
+use Rattle.worker_pool.specs.declared.forward.lane_answers.LaneAnswers.{LaneAnswers}
 use Rattle.worker_pool.specs.Streamed.{Leaves, taken_from}
 use Rattle.worker_pool.specs.Drained.{sent_in, held, Drains, Offers, sent_from, IsBeside, AreBeside, AreDrained, OfferAll}
 use Rattle.worker_pool.proofs.Fronts.{IsPrefix-trans}
@@ -62,7 +62,7 @@ out_where false s v = refl
 same_where : (k : ℕ) (before after : ℕ → List Answer) → after k ≡ before k → ((l : ℕ) → l ≢ k → after l ≡ before l) → after ≡ before
 same_where k before after here others = fun_ext (λ l. ⊎_elim (λ is. ap after is ∙ here ∙ ap before (sym is)) (λ not. others l not) (cases_eq l k))
 
-pub offers_none : (a b : Relay) (w : Waiting) → taken b.answers ≡ taken a.answers → Offers a b w w
+pub offers_none : (a b : LaneAnswers) (w : Waiting) → taken b.answers ≡ taken a.answers → Offers a b w w
 offers_none a b w same = record {
   leaves = λ lane n k before after old new count here there others l.
       subst (λ (f : ℕ → List Answer). Leaves lane n f w old new) (sym (same_where k before after (there ∙ same ∙ sym here) others)) l;
@@ -79,7 +79,8 @@ with_lane-other : (k : ℕ) (answers : List Answer) (before : ℕ → List Answe
 with_lane-other k answers before l not = ap (λ b. cond b answers (before l)) (ne_eqb l k not)
 
 -- one more
-pub offers_one : (a m b : Relay) (w v u : Waiting) (x : Answer) → IsTakingRight → Offers a m w v → m.sent ≡ a.sent → length (taken m.answers) < m.sent → taken b.answers ≡ taken m.answers ++ x ∷ []
+pub offers_one : (a m b : LaneAnswers) (w v u : Waiting) (x : Answer) → IsTakingRight → Offers a m w v → m.sent ≡ a.sent → length (taken m.answers) < m.sent
+    → taken b.answers ≡ taken m.answers ++ x ∷ []
     → ((s : Leaving) → s.waiting ≡ v → (offered x s).waiting ≡ u) → Offers a b w u
 offers_one a m b w v u x law offers same fewer took is = record {
   leaves = λ lane n k before after old new count here there others l.
@@ -90,7 +91,8 @@ offers_one a m b w v u x law offers same fewer took is = record {
       record {
         state = offered x on.state;
         waits = is on.state on.waits;
-        keeps = law lane n k x mid after on.state on.keeps below (there ∙ took ∙ ap (λ xs. xs ++ x ∷ []) (sym mid_here)) (λ j not. others j not ∙ sym (with_lane-other k (taken m.answers) before j not));
+        keeps = law lane n k x mid after on.state on.keeps below (there ∙ took ∙ ap (λ xs. xs ++ x ∷ []) (sym mid_here))
+            (λ j not. others j not ∙ sym (with_lane-other k (taken m.answers) before j not));
         written = subst (Appends old new) (sym (out_where _ on.state _)) on.written;
       };
 }
@@ -105,43 +107,44 @@ next_front before (y ∷ known) more given x all order some =
 pub grown : (first before after : List Answer) (x : Answer) → IsPrefix first before → after ≡ before ++ x ∷ [] → IsPrefix first after
 grown first before after x p is = IsPrefix-trans first before after p (x ∷ [], sym is)
 
--- ---- all relays
+-- ---- of all lanes
 
-module _ {L : Type 0} (workers : List (Worker L)) (relays : List Relay) (w : Waiting) where
-  -- the first k relays are drained, and the others are as they were
-  pub record IsDraining (k : ℕ) (now : List (Worker L)) (left : List Relay) (v : Waiting) : Type 0 where
+module _ {L : Type 0} (workers : List (Worker L)) (all_answers : List LaneAnswers) (w : Waiting) where
+  -- the rings of the first k lanes are drained, and the others are as they were
+  pub record IsDraining (k : ℕ) (now : List (Worker L)) (left : List LaneAnswers) (v : Waiting) : Type 0 where
     pub lanes : map (λ u. u.lane) now ≡ map (λ u. u.lane) workers
     pub sents : map (λ u. sent_in u.answers) now ≡ map (λ u. sent_in u.answers) workers
     pub workers_count : length now ≡ length workers
-    pub count : length left ≡ length relays
+    pub count : length left ≡ length all_answers
     pub same_workers : (j : ℕ) (d : Worker L) → k ≤ j → get_or now j d ≡ get_or workers j d
-    pub same_relays : (j : ℕ) (r : Relay) → k ≤ j → get_or left j r ≡ get_or relays j r
-    pub done : (j : ℕ) (r : Relay) → j < k → Drains (sent_from workers j) (get_or relays j r) (get_or left j r)
-    pub offers : OfferAll relays left w v
+    pub same_all_answers : (j : ℕ) (r : LaneAnswers) → k ≤ j → get_or left j r ≡ get_or all_answers j r
+    pub done : (j : ℕ) (r : LaneAnswers) → j < k → Drains (sent_from workers j) (get_or all_answers j r) (get_or left j r)
+    pub offers : OfferAll all_answers left w v
 
-  pub none_drained : IsDraining 0 workers relays w
+  pub none_drained : IsDraining 0 workers all_answers w
   none_drained = record {
     lanes = refl;
     sents = refl;
     workers_count = refl;
     count = refl;
     same_workers = λ j d le. refl;
-    same_relays = λ j r le. refl;
+    same_all_answers = λ j r le. refl;
     done = λ j r lt. absurd (omega (arith, lt));
     offers = record { leaves = λ lane n old new counts l. l };
   }
 
-  pub all_drained : (now : List (Worker L)) (left : List Relay) (v : Waiting) → IsDraining (length relays) now left v → AreDrained workers relays left
+  pub all_drained : (now : List (Worker L)) (left : List LaneAnswers) (v : Waiting) → IsDraining (length all_answers) now left v → AreDrained workers all_answers left
   all_drained now left v is = record { count = is.count; each = λ k r lt. is.done k r lt }
 
-  module _ (k : ℕ) (now : List (Worker L)) (left : List Relay) (v : Waiting) (is : IsDraining k now left v) where
-    pub beside_now : (d : Worker L) (e : Relay) → AreBeside workers relays → k < length relays → IsBeside (get_or now k d) (get_or left k e)
+  module _ (k : ℕ) (now : List (Worker L)) (left : List LaneAnswers) (v : Waiting) (is : IsDraining k now left v) where
+    pub beside_now : (d : Worker L) (e : LaneAnswers) → AreBeside workers all_answers → k < length all_answers → IsBeside (get_or now k d) (get_or left k e)
     beside_now d e beside lt =
         subst (λ (u : Worker L). IsBeside u (get_or left k e)) (sym (is.same_workers k d (omega arith)))
-        (subst (IsBeside (get_or workers k d)) (sym (is.same_relays k e (omega arith))) (beside.each k d e lt))
+        (subst (IsBeside (get_or workers k d)) (sym (is.same_all_answers k e (omega arith))) (beside.each k d e lt))
 
-    module _ (d : Worker L) (e : Relay) (answers : Option (RingTx Answer)) (relay : Relay) (u : Waiting) (below : k < length relays) (among : k < length workers)
-        (same : sent_in answers ≡ sent_in (get_or now k d).answers) (drains : Drains (sent_in (get_or now k d).answers) (get_or left k e) relay) (offers : Offers (get_or left k e) relay v u) where
+    module _ (d : Worker L) (e : LaneAnswers) (answers : Option (RingTx Answer)) (lane_answers : LaneAnswers) (u : Waiting) (below : k < length all_answers) (among : k < length workers)
+        (same : sent_in answers ≡ sent_in (get_or now k d).answers) (drains : Drains (sent_in (get_or now k d).answers) (get_or left k e) lane_answers)
+            (offers : Offers (get_or left k e) lane_answers v u) where
       abbrev worker : Worker L
       worker = record (get_or now k d) { answers = answers }
 
@@ -157,48 +160,51 @@ module _ {L : Type 0} (workers : List (Worker L)) (relays : List Relay) (w : Wai
       given_is : sent_in (get_or now k d).answers ≡ sent_from workers k
       given_is = sym (get_or-map (λ (x : Worker L). sent_in x.answers) now k d [] here_w) ∙ ap (λ l. get_or l k []) is.sents
 
-      drained_at : (j : ℕ) (r : Relay) → j < k + 1 → Drains (sent_from workers j) (get_or relays j r) (get_or (set left k relay) j r)
+      drained_at : (j : ℕ) (r : LaneAnswers) → j < k + 1 → Drains (sent_from workers j) (get_or all_answers j r) (get_or (set left k lane_answers) j r)
       drained_at j r lt = ⊎_elim
-          (λ at. subst (λ i. Drains (sent_from workers i) (get_or relays i r) (get_or (set left k relay) i r)) at
-          (subst (Drains (sent_from workers k) (get_or relays k r)) (sym (get_or-set_same left k relay r here_r))
-          (subst (λ (x : Relay). Drains (sent_from workers k) x relay) (get_or-same e r)
-          (subst (λ g. Drains g (get_or left k e) relay) given_is drains))))
-          (λ not. subst (Drains (sent_from workers j) (get_or relays j r)) (sym (get_or-set_other left k j relay r (λ at. not (sym at))))
+          (λ at. subst (λ i. Drains (sent_from workers i) (get_or all_answers i r) (get_or (set left k lane_answers) i r)) at
+          (subst (Drains (sent_from workers k) (get_or all_answers k r)) (sym (get_or-set_same left k lane_answers r here_r))
+          (subst (λ (x : LaneAnswers). Drains (sent_from workers k) x lane_answers) (get_or-same e r)
+          (subst (λ g. Drains g (get_or left k e) lane_answers) given_is drains))))
+          (λ not. subst (Drains (sent_from workers j) (get_or all_answers j r)) (sym (get_or-set_other left k j lane_answers r (λ at. not (sym at))))
           (is.done j r (omega (arith, not))))
           (cases_eq k j)
         where
-          get_or-same : (e r : Relay) → get_or left k e ≡ get_or relays k r
-          get_or-same e r = get_or_default left k e r here_r ∙ is.same_relays k r (omega arith)
+          get_or-same : (e r : LaneAnswers) → get_or left k e ≡ get_or all_answers k r
+          get_or-same e r = get_or_default left k e r here_r ∙ is.same_all_answers k r (omega arith)
 
-      pub one_drained : IsDraining (k + 1) (set now k worker) (set left k relay) u
+      pub one_drained : IsDraining (k + 1) (set now k worker) (set left k lane_answers) u
       one_drained = record {
         lanes = unchanged (λ x. x.lane) refl ∙ is.lanes;
         sents = unchanged (λ x. sent_in x.answers) same ∙ is.sents;
         workers_count = length-set now k worker ∙ is.workers_count;
-        count = length-set left k relay ∙ is.count;
+        count = length-set left k lane_answers ∙ is.count;
         same_workers = λ j x le. get_or-set_other now k j worker x (λ at. absurd (omega (arith, at, le))) ∙ is.same_workers j x (omega (arith, le));
-        same_relays = λ j x le. get_or-set_other left k j relay x (λ at. absurd (omega (arith, at, le))) ∙ is.same_relays j x (omega (arith, le));
+        same_all_answers = λ j x le. get_or-set_other left k j lane_answers x (λ at. absurd (omega (arith, at, le))) ∙ is.same_all_answers j x (omega (arith, le));
         done = drained_at;
         offers = record {
           leaves = λ lane n old new counts l.
-              offers.leaves lane n k (taken_from left) (taken_from (set left k relay)) old new
-              (ap (λ (x : Relay). x.sent) (is.same_relays k e (omega arith)) ∙ counts k e below)
-              (get_or-map (λ (r : Relay). taken r.answers) left k e [] here_r)
-              (ap (λ l. get_or l k []) (map-set (λ (r : Relay). taken r.answers) left k relay) ∙ get_or-set_same (map (λ (r : Relay). taken r.answers) left) k (taken relay.answers) [] here_m)
-              (λ j not. ap (λ l. get_or l j []) (map-set (λ (r : Relay). taken r.answers) left k relay) ∙ get_or-set_other (map (λ (r : Relay). taken r.answers) left) k j (taken relay.answers) [] not)
+              offers.leaves lane n k (taken_from left) (taken_from (set left k lane_answers)) old new
+              (ap (λ (x : LaneAnswers). x.sent) (is.same_all_answers k e (omega arith)) ∙ counts k e below)
+              (get_or-map (λ (r : LaneAnswers). taken r.answers) left k e [] here_r)
+              (ap (λ l. get_or l k []) (map-set (λ (r : LaneAnswers). taken r.answers) left k lane_answers)
+                  ∙ get_or-set_same (map (λ (r : LaneAnswers). taken r.answers) left) k (taken lane_answers.answers) [] here_m)
+              (λ j not. ap (λ l. get_or l j []) (map-set (λ (r : LaneAnswers). taken r.answers) left k lane_answers)
+                  ∙ get_or-set_other (map (λ (r : LaneAnswers). taken r.answers) left) k j (taken lane_answers.answers) [] not)
               (is.offers.leaves lane n old new counts l);
         };
       }
         where
-          here_m : k < length (map (λ (r : Relay). taken r.answers) left)
-          here_m = let c = length-map left (λ (r : Relay). taken r.answers) in let h = here_r in omega (arith, c, h)
+          here_m : k < length (map (λ (r : LaneAnswers). taken r.answers) left)
+          here_m = let c = length-map left (λ (r : LaneAnswers). taken r.answers) in let h = here_r in omega (arith, c, h)
 
-    -- the same of a worker and a relay that are looked at
-    pub next_drained : (d : Worker L) (e : Relay) (answers : Option (RingTx Answer)) (relay : Relay) (u : Waiting) → k < length relays → k < length workers → d ≡ get_or now k d → e ≡ get_or left k e
-        → sent_in answers ≡ sent_in d.answers → Drains (sent_in d.answers) e relay → Offers e relay v u
-        → IsDraining (k + 1) (set now k (record d { answers = answers })) (set left k relay) u
-    next_drained d e answers relay u below among at_worker at_relay same drains offers =
-        subst (λ (x : Worker L). IsDraining (k + 1) (set now k (record x { answers = answers })) (set left k relay) u) (sym at_worker)
-        (one_drained d e answers relay u below among (same ∙ ap (λ (x : Worker L). sent_in x.answers) at_worker)
-        (subst (λ (x : Worker L). Drains (sent_in x.answers) (get_or left k e) relay) at_worker (subst (λ (x : Relay). Drains (sent_in d.answers) x relay) at_relay drains))
-        (subst (λ (x : Relay). Offers x relay v u) at_relay offers))
+    -- the same of a worker and of its answers that are looked at
+    pub next_drained : (d : Worker L) (e : LaneAnswers) (answers : Option (RingTx Answer)) (lane_answers : LaneAnswers) (u : Waiting) → k < length all_answers → k < length workers
+        → d ≡ get_or now k d → e ≡ get_or left k e
+        → sent_in answers ≡ sent_in d.answers → Drains (sent_in d.answers) e lane_answers → Offers e lane_answers v u
+        → IsDraining (k + 1) (set now k (record d { answers = answers })) (set left k lane_answers) u
+    next_drained d e answers lane_answers u below among at_worker at_lane_answers same drains offers =
+        subst (λ (x : Worker L). IsDraining (k + 1) (set now k (record x { answers = answers })) (set left k lane_answers) u) (sym at_worker)
+        (one_drained d e answers lane_answers u below among (same ∙ ap (λ (x : Worker L). sent_in x.answers) at_worker)
+        (subst (λ (x : Worker L). Drains (sent_in x.answers) (get_or left k e) lane_answers) at_worker (subst (λ (x : LaneAnswers). Drains (sent_in d.answers) x lane_answers) at_lane_answers drains))
+        (subst (λ (x : LaneAnswers). Offers x lane_answers v u) at_lane_answers offers))

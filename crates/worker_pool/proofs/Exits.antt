@@ -17,9 +17,9 @@ use Rattle.lane_rings.specs.declared.items.Answer.{Answer}
 use Rattle.lane_rings.specs.declared.ring.RingTx.{RingTx}
 use Rattle.lane_rings.specs.declared.ring.RingRx.{RingRx}
 use Rattle.lane_rings.specs.Ring.{taken, AreEnds, SameTx}
-use Rattle.lane_rings.specs.Share.{share}
+use Rattle.worker_laws.specs.Share.{share}
 use Rattle.lane_rings.specs.Waiting.{Waiting, first_of}
-use Rattle.lane_rings.specs.Forward.{bytes_of_first}
+use Rattle.worker_laws.specs.Forward.{bytes_of_first}
 use Rattle.report_text.specs.declared.record.Record.{Record}
 use Rattle.lane_core.specs.declared.end.LaneEnd.{LaneEnd}
 use Rattle.lane_core.specs.declared.recorder.Recorder.{Ghosts}
@@ -32,8 +32,8 @@ use Rattle.worker_laws.specs.Lanes.{share as share_of}
 use Rattle.worker_laws.specs.Ends.{IsJoined}
 use Rattle.worker_laws.specs.Taken.{events_at, HaveRun, AreOneRun}
 use Rattle.worker_pool.specs.declared.worker.Worker.{Worker}
-use Rattle.worker_pool.specs.declared.dispatch.Whole.{Whole}
-use Rattle.worker_pool.specs.declared.forward.relay.Relay.{Relay}
+use Rattle.worker_pool.specs.declared.team.dispatch.Whole.{Whole}
+use Rattle.worker_pool.specs.declared.forward.lane_answers.LaneAnswers.{LaneAnswers}
 use Rattle.worker_pool.specs.declared.job.PoolError.{PoolError}
 use Rattle.worker_pool.specs.declared.job.PoolError.TheVariants.{TooLong, TooMany, ReadFault, WriteFault, Heavy, NoMemory}
 use Rattle.worker_pool.specs.Worked.{SameAnswers}
@@ -41,7 +41,7 @@ use Rattle.worker_pool.specs.Team.{HaveServed}
 use Rattle.worker_pool.specs.Run.{MayHave}
 use Rattle.worker_pool.specs.Ending.{by_key, CameTo, AreEnded, IsCause}
 use Rattle.worker_pool.specs.Forward.{RefusedAs, ForwardsAll, ForwardsFront, ForwardsOver}
-use Rattle.worker_pool.specs.Streamed.{AreRelays, Leaves, HasLeft, Streamed, StopsAs, lane_at, taken_from}
+use Rattle.worker_pool.specs.Streamed.{AreLaneAnswers, Leaves, HasLeft, Streamed, StopsAs, lane_at, taken_from}
 use Rattle.worker_pool.specs.Drained.{AreAnswerEnds, Drains, AreBeside, AreDrained, OfferAll, sent_in, sent_from}
 use Rattle.worker_pool.specs.Explained.{AreGood, LeavesFront, LeavesAll}
 use Rattle.worker_pool.proofs.Fronts.{IsPrefix-trans}
@@ -71,7 +71,8 @@ module _ {L : Type 0} (g : Ghosts L) (last : Option Moment) where
       (ended.each k w (any_of ends k among) lt).good
 
   -- why lanes that keep no entries don't end
-  pub not_heavy : (app : Meaning) (script : List Stamped) (frames : List Captured) (workers : List (Worker L)) (lanes : List (List LaneEvent)) (e : PoolError) → CameTo g false app script frames workers lanes
+  pub not_heavy : (app : Meaning) (script : List Stamped) (frames : List Captured) (workers : List (Worker L)) (lanes : List (List LaneEvent)) (e : PoolError)
+      → CameTo g false app script frames workers lanes
       → (e ≡ NoMemory) ⊎ ((k : ℕ) × (k < length workers) × ((w : Worker L) → IsCause g last (get_or workers k w) e)) → e ≡ NoMemory
   not_heavy app script frames workers lanes NoMemory came why = refl
   not_heavy app script frames workers lanes Heavy came why = ⊎_elim
@@ -88,7 +89,8 @@ module _ {L : Type 0} (g : Ghosts L) (last : Option Moment) where
   not_heavy app script frames workers lanes (TooLong offset) came why = ⊎_elim (λ is. is) (λ one. absurd (one.2 (any_of workers one.0 one.1))) why
   not_heavy app script frames workers lanes (TooMany offset) came why = ⊎_elim (λ is. is) (λ one. absurd (one.2 (any_of workers one.0 one.1))) why
 
-  pub why_none : (workers : List (Worker L)) (e : PoolError) → (e ≡ NoMemory) ⊎ ((k : ℕ) × (k < length workers) × ((w : Worker L) → IsCause g last (get_or workers k w) e)) → (e ≡ NoMemory) ⊎ (e ≡ Heavy)
+  pub why_none : (workers : List (Worker L)) (e : PoolError) → (e ≡ NoMemory) ⊎ ((k : ℕ) × (k < length workers) × ((w : Worker L) → IsCause g last (get_or workers k w) e))
+      → (e ≡ NoMemory) ⊎ (e ≡ Heavy)
   why_none workers NoMemory why = inl refl
   why_none workers Heavy why = inr refl
   why_none workers ReadFault why = ⊎_elim (λ is. inl is) (λ one. absurd (one.2 (any_of workers one.0 one.1))) why
@@ -112,7 +114,8 @@ module _ {L : Type 0} (g : Ghosts L) where
     pub good_before : AreGood g after → AreGood g workers
     good_before good k w lt = ap g.failed (sym (same_lane k w)) ∙ good k w (let e = same_count in omega (arith, e, lt))
 
-    pub came_after : (keep : Bool) (app : Meaning) (script : List Stamped) (frames : List Captured) (lanes : List (List LaneEvent)) → CameTo g keep app script frames workers lanes → CameTo g keep app script frames after lanes
+    pub came_after : (keep : Bool) (app : Meaning) (script : List Stamped) (frames : List Captured) (lanes : List (List LaneEvent)) → CameTo g keep app script frames workers lanes
+        → CameTo g keep app script frames after lanes
     came_after keep app script frames lanes came = record {
       count = came.count ∙ sym same_count;
       run = subst (λ n. HaveRun (floor script) (ceil script) (commands_of script) (by_key n) (arrivals 0 frames) lanes) (sym same_count) came.run;
@@ -134,32 +137,33 @@ ends_kept (Some a) (Some b) ring rx is same ends =
     ends_after ring b rx rx ends (subst (λ (x : RingTx Answer). SameTx x b) at same) (SameRx-refl rx)
 
 module _ {L : Type 0} where
-  -- the answer rings of workers that have served are those of their relays
-  pub are_beside : (g : Ghosts L) (script : List Stamped) (begins workers : List (Worker L)) (frames : List Captured) (relays : List Relay) → HaveServed g script begins frames workers → AreRelays begins frames relays
-      → AreBeside workers relays
-  are_beside g script begins workers frames relays served are = record {
+  -- the answer rings of workers that have served are those from which their answers are taken
+  pub are_beside : (g : Ghosts L) (script : List Stamped) (begins workers : List (Worker L)) (frames : List Captured) (all_answers : List LaneAnswers) → HaveServed g script begins frames workers
+      → AreLaneAnswers begins frames all_answers
+      → AreBeside workers all_answers
+  are_beside g script begins workers frames all_answers served are = record {
     count = sym served.count ∙ are.count;
     each = λ k w r lt.
         let its = are.answered k w r lt in
         let among : k < length workers = (let e = served.count in let f = are.count in omega (arith, e, f, lt)) in
         record {
-          ends = ends_kept (get_or begins k w).answers (get_or workers k w).answers its.ring (get_or relays k r).answers its.answers (served.each k w w among).worked.answering its.ends;
+          ends = ends_kept (get_or begins k w).answers (get_or workers k w).answers its.ring (get_or all_answers k r).answers its.answers (served.each k w w among).worked.answering its.ends;
           counted = are.taken_are k r lt;
         };
   }
 
-  module _ (workers : List (Worker L)) (relays after : List Relay) (drained : AreDrained workers relays after) where
-    taken_at : (rs : List Relay) (k : ℕ) (r : Relay) → k < length rs → taken_from rs k ≡ taken (get_or rs k r).answers
-    taken_at rs k r lt = get_or-map_at (λ (x : Relay). taken x.answers) rs k r [] lt
+  module _ (workers : List (Worker L)) (all_answers after : List LaneAnswers) (drained : AreDrained workers all_answers after) where
+    taken_at : (rs : List LaneAnswers) (k : ℕ) (r : LaneAnswers) → k < length rs → taken_from rs k ≡ taken (get_or rs k r).answers
+    taken_at rs k r lt = get_or-map_at (λ (x : LaneAnswers). taken x.answers) rs k r [] lt
 
-    taken_past : (rs : List Relay) (k : ℕ) → length rs ≤ k → taken_from rs k ≡ []
-    taken_past rs k ge = get_or_past (map (λ (x : Relay). taken x.answers) rs) k [] (let e = length-map rs (λ (x : Relay). taken x.answers) in omega (arith, e, ge))
+    taken_past : (rs : List LaneAnswers) (k : ℕ) → length rs ≤ k → taken_from rs k ≡ []
+    taken_past rs k ge = get_or_past (map (λ (x : LaneAnswers). taken x.answers) rs) k [] (let e = length-map rs (λ (x : LaneAnswers). taken x.answers) in omega (arith, e, ge))
 
-    module _ (l : ℕ) (lt : l < length relays) where
-      abbrev one : Relay
-      one = any_of relays l lt
+    module _ (l : ℕ) (lt : l < length all_answers) where
+      abbrev one : LaneAnswers
+      one = any_of all_answers l lt
 
-      its : Drains (sent_from workers l) (get_or relays l one) (get_or after l one)
+      its : Drains (sent_from workers l) (get_or all_answers l one) (get_or after l one)
       its = drained.each l one lt
 
       now_taken : taken_from after l ≡ taken (get_or after l one).answers
@@ -169,18 +173,18 @@ module _ {L : Type 0} where
     are_sent l = ⊎_elim
         (λ lt. subst (λ xs. IsPrefix xs (sent_from workers l)) (sym (now_taken l lt)) (its l lt).front)
         (λ ge. subst (λ xs. IsPrefix xs (sent_from workers l)) (sym (taken_past after l (let e = drained.count in omega (arith, e, ge)))) (sent_from workers l, refl))
-        (cases_lt l (length relays))
+        (cases_lt l (length all_answers))
 
-    pub were_sent : (l : ℕ) → IsPrefix (taken_from relays l) (sent_from workers l)
+    pub were_sent : (l : ℕ) → IsPrefix (taken_from all_answers l) (sent_from workers l)
     were_sent l = ⊎_elim
-        (λ lt. subst (λ xs. IsPrefix xs (sent_from workers l)) (sym (taken_at relays l (one l lt) lt))
-        (IsPrefix-trans (taken (get_or relays l (one l lt)).answers) (taken (get_or after l (one l lt)).answers) (sent_from workers l) (its l lt).grew (its l lt).front))
-        (λ ge. subst (λ xs. IsPrefix xs (sent_from workers l)) (sym (taken_past relays l ge)) (sent_from workers l, refl))
-        (cases_lt l (length relays))
+        (λ lt. subst (λ xs. IsPrefix xs (sent_from workers l)) (sym (taken_at all_answers l (one l lt) lt))
+        (IsPrefix-trans (taken (get_or all_answers l (one l lt)).answers) (taken (get_or after l (one l lt)).answers) (sent_from workers l) (its l lt).grew (its l lt).front))
+        (λ ge. subst (λ xs. IsPrefix xs (sent_from workers l)) (sym (taken_past all_answers l ge)) (sent_from workers l, refl))
+        (cases_lt l (length all_answers))
 
     -- all was taken, or as many as packets were sent
-    pub all_taken : (begins : List (Worker L)) (frames : List Captured) → AreRelays begins frames relays → length workers ≡ length relays
-        → (l : ℕ) → (taken_from after l ≡ sent_from workers l) ⊎ (length (share (lane_at (length relays) frames) l (length frames)) ≤ length (taken_from after l))
+    pub all_taken : (begins : List (Worker L)) (frames : List Captured) → AreLaneAnswers begins frames all_answers → length workers ≡ length all_answers
+        → (l : ℕ) → (taken_from after l ≡ sent_from workers l) ⊎ (length (share (lane_at (length all_answers) frames) l (length frames)) ≤ length (taken_from after l))
     all_taken begins frames are count l = ⊎_elim
         (λ lt. ⊎_elim
         (λ all. inl (now_taken l lt ∙ all))
@@ -192,12 +196,13 @@ module _ {L : Type 0} where
         (its l lt).all)
         (λ ge. inl (taken_past after l (let e = drained.count in omega (arith, e, ge))
         ∙ sym (get_or_past (map (λ (w : Worker L). sent_in w.answers) workers) l [] (let e = length-map workers (λ (w : Worker L). sent_in w.answers) in omega (arith, e, count, ge)))))
-        (cases_lt l (length relays))
+        (cases_lt l (length all_answers))
 
 -- ---- the exits
 
 -- between two records nothing of the next one is written
-pub left_whole : (lane : ℕ → ℕ) (n : ℕ) (taken_so_far : ℕ → List Answer) (waiting : Waiting) (old new : Option (List ℕ)) → Leaves lane n taken_so_far waiting old new → HasLeft lane n taken_so_far old new
+pub left_whole : (lane : ℕ → ℕ) (n : ℕ) (taken_so_far : ℕ → List Answer) (waiting : Waiting) (old new : Option (List ℕ)) → Leaves lane n taken_so_far waiting old new
+    → HasLeft lane n taken_so_far old new
 left_whole lane n taken_so_far waiting old new l = record {
   state = l.state;
   part = [];
@@ -228,7 +233,8 @@ module _ {L : Type 0} (app : Meaning) (script : List Stamped) (frames told : Lis
   })
 
 -- why the dispatcher stopped is why the run is refused
-pub refused_as : (frames : List Captured) (start : CaptureState) (old new : Option (List ℕ)) (rest : List ℕ) (e : PoolError) → StopsAs frames start old new (Err e) → old ≡ Some rest → RefusedAs (frames_at start rest) e
+pub refused_as : (frames : List Captured) (start : CaptureState) (old new : Option (List ℕ)) (rest : List ℕ) (e : PoolError) → StopsAs frames start old new (Err e) → old ≡ Some rest
+    → RefusedAs (frames_at start rest) e
 refused_as frames start old new rest (TooLong offset) stops is = stops rest is
 refused_as frames start old new rest (TooMany offset) stops is = stops rest is
 refused_as frames start old new rest ReadFault stops is = stops
@@ -240,34 +246,37 @@ refused_as frames start old new rest NoMemory stops is = stops
 pub never_too_heavy : (frames : List Captured) (start : CaptureState) (old new : Option (List ℕ)) (e : PoolError) → StopsAs frames start old new (Err e) → e ≢ Heavy
 never_too_heavy frames start old new e stops is = subst (λ x. StopsAs frames start old new (Err x)) is stops
 
-module _ {L : Type 0} (g : Ghosts L) (app : Meaning) (script : List Stamped) (frames : List Captured) (begins workers : List (Worker L)) (relays after : List Relay) (waiting kept : Waiting) (start : CaptureState)
+module _ {L : Type 0} (g : Ghosts L) (app : Meaning) (script : List Stamped) (frames : List Captured) (begins workers : List (Worker L)) (all_answers after : List LaneAnswers)
+    (waiting kept : Waiting) (start : CaptureState)
     (old new before now : Option (List ℕ)) (rest : List ℕ) (read : Result Whole PoolError) (served : HaveServed g script begins frames workers)
-    (streamed : Streamed begins frames relays waiting start old new before now read) (drained : AreDrained workers relays after) (offered : OfferAll relays after waiting kept)
+    (streamed : Streamed begins frames all_answers waiting start old new before now read) (drained : AreDrained workers all_answers after) (offered : OfferAll all_answers after waiting kept)
     (law : LeavesFront app script frames (frames_at start rest).frames workers) where
-  relays_count : length relays ≡ length workers
-  relays_count = sym streamed.relays_are.count ∙ served.count
+  all_answers_count : length all_answers ≡ length workers
+  all_answers_count = sym streamed.all_answers_are.count ∙ served.count
 
   -- all that was taken has left or waits
-  pub leaves_now : read ≢ Err WriteFault → Leaves (lane_at (length relays) frames) (length frames) (taken_from after) kept before now
-  leaves_now not = offered.leaves (lane_at (length relays) frames) (length frames) before now (λ k r lt. streamed.relays_are.sent_are k r lt) (streamed.leaves not)
+  pub leaves_now : read ≢ Err WriteFault → Leaves (lane_at (length all_answers) frames) (length frames) (taken_from after) kept before now
+  leaves_now not = offered.leaves (lane_at (length all_answers) frames) (length frames) before now (λ k r lt. streamed.all_answers_are.sent_are k r lt) (streamed.leaves not)
 
   -- the dispatcher couldn't write
   pub cut_before : ForwardsFront app script (length begins) (frames_at start rest).frames before now
-  cut_before = exit_front app script frames (frames_at start rest).frames workers (length begins) (length relays) served.count relays_count law (taken_from relays) before now
-      (were_sent workers relays after drained) streamed.left
+  cut_before = exit_front app script frames (frames_at start rest).frames workers (length begins) (length all_answers) served.count all_answers_count law (taken_from all_answers) before now
+      (were_sent workers all_answers after drained) streamed.left
 
   module _ (later : Option (List ℕ)) where
     -- what was taken in the end has left, up to some place
-    pub cut_at : HasLeft (lane_at (length relays) frames) (length frames) (taken_from after) before later → ForwardsFront app script (length begins) (frames_at start rest).frames before later
-    cut_at left = exit_front app script frames (frames_at start rest).frames workers (length begins) (length relays) served.count relays_count law (taken_from after) before later
-        (are_sent workers relays after drained) left
+    pub cut_at : HasLeft (lane_at (length all_answers) frames) (length frames) (taken_from after) before later → ForwardsFront app script (length begins) (frames_at start rest).frames before later
+    cut_at left = exit_front app script frames (frames_at start rest).frames workers (length begins) (length all_answers) served.count all_answers_count law (taken_from after) before later
+        (are_sent workers all_answers after drained) left
 
-    pub stopped_at : (w : Waiting) → Leaves (lane_at (length relays) frames) (length frames) (taken_from after) w before later → ForwardsFront app script (length begins) (frames_at start rest).frames before later
-    stopped_at w leaves = cut_at (left_whole (lane_at (length relays) frames) (length frames) (taken_from after) w before later leaves)
+    pub stopped_at : (w : Waiting) → Leaves (lane_at (length all_answers) frames) (length frames) (taken_from after) w before later
+        → ForwardsFront app script (length begins) (frames_at start rest).frames before later
+    stopped_at w leaves = cut_at (left_whole (lane_at (length all_answers) frames) (length frames) (taken_from after) w before later leaves)
 
     module _ (ended : List (Worker L)) (same : map (λ w. w.lane) ended ≡ map (λ w. w.lane) workers)
         (whole_law : (lanes : List (List LaneEvent)) × CameTo g false app script frames workers lanes × (AreGood g workers → LeavesAll app script frames workers lanes)) (w : Waiting)
-        (leaves : Leaves (lane_at (length relays) frames) (length frames) (taken_from after) w before later) (none : first_of w ≡ None) (whole : Whole) (stops : StopsAs frames start old new (Ok whole)) (is : old ≡ Some rest) where
+        (leaves : Leaves (lane_at (length all_answers) frames) (length frames) (taken_from after) w before later) (none : first_of w ≡ None) (whole : Whole)
+            (stops : StopsAs frames start old new (Ok whole)) (is : old ≡ Some rest) where
       abbrev lanes : List (List LaneEvent)
       lanes = whole_law.0
 
@@ -276,7 +285,8 @@ module _ {L : Type 0} (g : Ghosts L) (app : Meaning) (script : List Stamped) (fr
 
       -- the capture was read whole
       pub over_at : (r : Result (List ℕ) PoolError) → (IsOk r → AreGood g ended)
-          → ((ls : List (List LaneEvent)) (vs : List ℕ) → whole.last ≡ greatest (arrivals 0 frames) → CameTo g false app script frames ended ls → AreOneRun app (commands_of script) (by_key (length ended)) (arrivals 0 frames) ls vs
+          → ((ls : List (List LaneEvent)) (vs : List ℕ) → whole.last ≡ greatest (arrivals 0 frames) → CameTo g false app script frames ended ls
+              → AreOneRun app (commands_of script) (by_key (length ended)) (arrivals 0 frames) ls vs
           → MayHave app script (length ended) frames vs → IfOk r (λ versions. versions ≡ vs))
           → ((ls : List (List LaneEvent)) → CameTo g false app script frames ended ls → IfErr r (λ e. e ≡ NoMemory))
           → ForwardsOver app script (length begins) (frames_at start rest) before later r
@@ -286,8 +296,9 @@ module _ {L : Type 0} (g : Ghosts L) (app : Meaning) (script : List Stamped) (fr
           subst (λ f. ForwardsOver app script (length begins) f before later (Ok versions)) (sym (stops.holds rest is).0) (
             whole.tail,
             refl,
-            exit_all app script frames frames workers (length begins) (length relays) served.count relays_count lanes law_all (taken_from after) w before later versions (are_sent workers relays after drained)
-                (all_taken workers relays after drained begins frames streamed.relays_are (sym relays_count)) leaves none
+            exit_all app script frames frames workers (length begins) (length all_answers) served.count all_answers_count lanes law_all (taken_from after) w before later versions
+                (are_sent workers all_answers after drained)
+                (all_taken workers all_answers after drained begins frames streamed.all_answers_are (sym all_answers_count)) leaves none
                 (named lanes law_all.versions stops.last came
                 (subst (λ n. AreOneRun app (commands_of script) (by_key n) (arrivals 0 frames) lanes law_all.versions) count law_all.one)
                 (subst (λ n. MayHave app script n frames law_all.versions) count law_all.may_have)),

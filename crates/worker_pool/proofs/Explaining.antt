@@ -19,10 +19,10 @@ use Rattle.control_script.specs.Order.{commands_of}
 use Rattle.lane_rings.specs.declared.items.Answer.{Answer}
 use Rattle.lane_rings.specs.declared.ring.RingTx.{RingTx}
 use Rattle.lane_rings.specs.Ring.{sent}
-use Rattle.lane_rings.specs.Share.{share as numbers_of_share}
+use Rattle.worker_laws.specs.Share.{share as numbers_of_share}
 use Rattle.lane_rings.specs.Waiting.{Waiting, first_of}
-use Rattle.lane_rings.specs.Forwarded.{bytes_out, forwarded as forwarded_numbers, bytes_under as captured_under}
-use Rattle.lane_rings.specs.Forward.{Leaving, Keeps, AreFronts, AreIndexed, bytes_of_first}
+use Rattle.worker_laws.specs.Forwarded.{bytes_out, forwarded as forwarded_numbers, bytes_under as captured_under}
+use Rattle.worker_laws.specs.Forward.{Leaving, Keeps, AreFronts, AreIndexed, bytes_of_first}
 use Rattle.lane_core.specs.declared.recorder.Recorder.{Ghosts}
 use Rattle.lane_core.specs.Sight.{Arrival, arrivals, arrival_of, sight_of}
 use Rattle.lane_core.specs.Run.{LaneEvent}
@@ -33,11 +33,11 @@ use Rattle.worker_laws.specs.Whole.{verdicts_under}
 use Rattle.worker_laws.specs.Taken.{packets_at, events_at, verdicts_in, HaveRun, HaveRunAll}
 use Rattle.worker_laws.specs.Streamed.{answers_to, answer_at, lane_in, frame_bytes}
 use Rattle.worker_pool.specs.declared.worker.Worker.{Worker}
-use Rattle.worker_pool.specs.declared.forward.relay.Relay.{Relay}
+use Rattle.worker_pool.specs.declared.forward.lane_answers.LaneAnswers.{LaneAnswers}
 use Rattle.worker_pool.specs.Worked.{Sends}
 use Rattle.worker_pool.specs.Ending.{by_key, CameTo}
 use Rattle.worker_pool.specs.Forward.{left_by_all, forwarded_with}
-use Rattle.worker_pool.specs.Streamed.{IsAnswered, AreRelays, Leaves, HasLeft, lane_at}
+use Rattle.worker_pool.specs.Streamed.{IsAnswered, AreLaneAnswers, Leaves, HasLeft, lane_at}
 use Rattle.worker_pool.specs.Drained.{sent_in, sent_from}
 use Rattle.worker_pool.specs.Explained.{TellsFrames, HasAnswered, HaveAnswered, AreGood}
 use Rattle.worker_pool.proofs.Fronts.{IsPrefix-refl, IsPrefix-trans}
@@ -93,7 +93,8 @@ module _ (lane : ℕ → ℕ) (l : ℕ) where
 arrivals-append : (n : ℕ) (frames more : List Captured) → arrivals n (frames ++ more) ≡ arrivals n frames ++ arrivals (n + length frames) more
 arrivals-append n [] more = ap (λ k. arrivals k more) (let e : n ≡ n + 0 = omega arith in e)
 arrivals-append n (frame ∷ frames) more =
-    ap (λ l. arrival_of n frame ∷ l) (arrivals-append (n + 1) frames more ∙ ap (λ k. arrivals (n + 1) frames ++ arrivals k more) (let e : n + 1 + length frames ≡ n + suc (length frames) = omega arith in e))
+    ap (λ l. arrival_of n frame ∷ l)
+        (arrivals-append (n + 1) frames more ∙ ap (λ k. arrivals (n + 1) frames ++ arrivals k more) (let e : n + 1 + length frames ≡ n + suc (length frames) = omega arith in e))
 
 arrival_at : (n : ℕ) (frames : List Captured) (i : ℕ) (d : Arrival) (e : Captured) → i < length frames → get_or (arrivals n frames) i d ≡ arrival_of (n + i) (get_or frames i e)
 arrival_at n [] i d e lt = absurd (omega (arith, lt))
@@ -171,8 +172,9 @@ front_of_same xs ys same = subst (IsPrefix xs) same (IsPrefix-refl xs)
 
 -- ---- what has left, where these are the verdicts of a run over the frames that are told
 
-module _ {L : Type 0} (g : Ghosts L) (app : Meaning) (script : List Stamped) (frames told : List Captured) (begins workers : List (Worker L)) (relays : List Relay) (lanes : List (List LaneEvent))
-    (behind : IsPrefix frames told) (answered : HaveAnswered g app frames begins workers lanes) (are : AreRelays begins frames relays) (count : length begins ≡ length workers)
+module _ {L : Type 0} (g : Ghosts L) (app : Meaning) (script : List Stamped) (frames told : List Captured) (begins workers : List (Worker L)) (all_answers : List LaneAnswers)
+    (lanes : List (List LaneEvent))
+    (behind : IsPrefix frames told) (answered : HaveAnswered g app frames begins workers lanes) (are : AreLaneAnswers begins frames all_answers) (count : length begins ≡ length workers)
     (lanes_count : length lanes ≡ length workers) (vs : List ℕ) where
   abbrev pub js : List (Arrival × Verdict)
   js = verdicts_under app (commands_of script) vs (arrivals 0 told)
@@ -207,13 +209,13 @@ module _ {L : Type 0} (g : Ghosts L) (app : Meaning) (script : List Stamped) (fr
     its : HasAnswered g app frames (events_at lanes l) (get_or begins l one) (get_or workers l one)
     its = answered l one one lt
 
-    its_relay : IsAnswered (get_or begins l one) (get_or relays l (any_of relays l (let e = are.count in omega (arith, e, count, lt))))
-    its_relay = are.answered l one (any_of relays l (let e = are.count in omega (arith, e, count, lt))) (let e = are.count in omega (arith, e, count, lt))
+    its_lane_answers : IsAnswered (get_or begins l one) (get_or all_answers l (any_of all_answers l (let e = are.count in omega (arith, e, count, lt))))
+    its_lane_answers = are.answered l one (any_of all_answers l (let e = are.count in omega (arith, e, count, lt))) (let e = are.count in omega (arith, e, count, lt))
 
     its_sent : sent_from workers l ≡ its.answers
     its_sent =
         get_or-map (λ (w : Worker L). sent_in w.answers) workers l one [] lt
-        ∙ all_sent (get_or begins l one).answers (get_or workers l one).answers its_relay.ring its.answers its_relay.answers its_relay.unsent its.sends
+        ∙ all_sent (get_or begins l one).answers (get_or workers l one).answers its_lane_answers.ring its.answers its_lane_answers.answers its_lane_answers.unsent its.sends
 
   none_sent : (l : ℕ) → length workers ≤ l → sent_from workers l ≡ []
   none_sent l past_end = get_or_past (map (λ (w : Worker L). sent_in w.answers) workers) l [] (let e = length-map workers (λ (w : Worker L). sent_in w.answers) in omega (arith, e, past_end))
@@ -262,9 +264,11 @@ module _ {L : Type 0} (g : Ghosts L) (app : Meaning) (script : List Stamped) (fr
         (right_front : (l : ℕ) → IsPrefix (answers_from l) (map right (numbers_of_share by_verdicts l (length js))))
         (fronts_law : (taken left given : ℕ → List Answer) → ((l : ℕ) → taken l ++ left l ≡ given l) → ((l : ℕ) → IsPrefix (given l) (map right (numbers_of_share by_verdicts l (length frames))))
         → AreFronts by_verdicts right (length frames) taken) where
-      taken_front : ((l : ℕ) → length (taken_so_far l) ≤ length (numbers_of_share by_verdicts l (length frames))) → (l : ℕ) → IsPrefix (taken_so_far l) (map right (numbers_of_share by_verdicts l (length frames)))
+      taken_front : ((l : ℕ) → length (taken_so_far l) ≤ length (numbers_of_share by_verdicts l (length frames))) → (l : ℕ)
+          → IsPrefix (taken_so_far l) (map right (numbers_of_share by_verdicts l (length frames)))
       taken_front few l =
-          let long : length (map right (numbers_of_share by_verdicts l (length frames))) ≡ length (numbers_of_share by_verdicts l (length frames)) = length-map (numbers_of_share by_verdicts l (length frames)) right in
+          let long : length (map right (numbers_of_share by_verdicts l (length frames))) ≡ length (numbers_of_share by_verdicts l (length frames)) =
+              length-map (numbers_of_share by_verdicts l (length frames)) right in
           shorter_front (taken_so_far l) (map right (numbers_of_share by_verdicts l (length frames))) (map right (numbers_of_share by_verdicts l (length js)))
           (IsPrefix-trans (taken_so_far l) (answers_from l) (map right (numbers_of_share by_verdicts l (length js)))
           (IsPrefix-trans (taken_so_far l) (sent_from workers l) (answers_from l) (are_sent l) (sent_front l)) (right_front l))
@@ -279,7 +283,8 @@ module _ {L : Type 0} (g : Ghosts L) (app : Meaning) (script : List Stamped) (fr
         -- a front was written
         module _ (whole_law : (s : Leaving) → Keeps by_verdicts (length frames) taken_so_far s → AreIndexed right → AreFronts by_verdicts right (length frames) taken_so_far → length frames ≤ length js
             → IsPrefix s.out (forwarded_numbers right (length js)))
-            (cut_law : (s : Leaving) (a : Answer) (part : List ℕ) → Keeps by_verdicts (length frames) taken_so_far s → AreIndexed right → AreFronts by_verdicts right (length frames) taken_so_far → length frames ≤ length js
+            (cut_law : (s : Leaving) (a : Answer) (part : List ℕ) → Keeps by_verdicts (length frames) taken_so_far s → AreIndexed right → AreFronts by_verdicts right (length frames) taken_so_far
+                → length frames ≤ length js
             → first_of s.waiting ≡ Some a → IsPrefix part (bytes_out a) → IsPrefix (s.out ++ part) (forwarded_numbers right (length js))) where
           part_where : (s : Leaving) (part : List ℕ) (o : Option Answer) → Keeps by_verdicts (length frames) taken_so_far s → first_of s.waiting ≡ o → IsPrefix part (bytes_of_first o)
               → IsPrefix (s.out ++ part) (forwarded_numbers right (length js))
@@ -303,13 +308,15 @@ module _ {L : Type 0} (g : Ghosts L) (app : Meaning) (script : List Stamped) (fr
           sent_count : (l : ℕ) → length (sent_from workers l) ≡ length (numbers_of_share by_verdicts l (length frames))
           sent_count l = ap length (sent_whole good l ∙ right_whole l) ∙ length-map (numbers_of_share by_verdicts l (length js)) right ∙ ap (λ n. length (numbers_of_share by_verdicts l n)) n_told
 
-          taken_count : ((l : ℕ) → length (taken_so_far l) ≤ length (numbers_of_share by_verdicts l (length frames))) → (l : ℕ) → length (taken_so_far l) ≡ length (numbers_of_share by_verdicts l (length frames))
+          taken_count : ((l : ℕ) → length (taken_so_far l) ≤ length (numbers_of_share by_verdicts l (length frames))) → (l : ℕ)
+              → length (taken_so_far l) ≡ length (numbers_of_share by_verdicts l (length frames))
           taken_count few l = ⊎_elim
               (λ all. ap length all ∙ sent_count l)
               (λ enough. let e = ap length (share_law l) in let le = few l in omega (arith, e, le, enough))
               (all_taken l)
 
-          pub left_all : (waiting : Waiting) (old new : Option (List ℕ)) → Leaves by_frames (length frames) taken_so_far waiting old new → first_of waiting ≡ None → Appends old new (forwarded_with app script vs told)
+          pub left_all : (waiting : Waiting) (old new : Option (List ℕ)) → Leaves by_frames (length frames) taken_so_far waiting old new → first_of waiting ≡ None
+              → Appends old new (forwarded_with app script vs told)
           left_all waiting old new l none =
               let keeps = keeps_law l.state l.keeps in
               let out : l.state.out ≡ forwarded_numbers right (length frames) =

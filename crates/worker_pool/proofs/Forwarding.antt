@@ -15,72 +15,72 @@ use Rattle.control_script.specs.declared.stamped.Stamped.{Stamped}
 use Rattle.lane_core.specs.declared.recorder.Recorder.{Ghosts}
 use Rattle.lane_rings.specs.declared.items.Answer.{Answer}
 use Rattle.lane_rings.specs.Ring.{taken}
-use Rattle.lane_rings.specs.Share.{share, rank}
+use Rattle.worker_laws.specs.Share.{share, rank}
 use Rattle.lane_rings.specs.Waiting.{Waiting}
-use Rattle.lane_rings.specs.Forward.{Leaving, Keeps, beginning}
+use Rattle.worker_laws.specs.Forward.{Leaving, Keeps, beginning}
 use Rattle.worker_pool.specs.declared.worker.Worker.{Worker}
-use Rattle.worker_pool.specs.declared.forward.relay.Relay.{Relay}
-use Rattle.worker_pool.specs.declared.post.Post.{Post}
-use Rattle.worker_pool.specs.declared.dispatch.Whole.{Whole}
+use Rattle.worker_pool.specs.declared.forward.lane_answers.LaneAnswers.{LaneAnswers}
+use Rattle.worker_pool.specs.declared.team.lane_input.LaneInput.{LaneInput}
+use Rattle.worker_pool.specs.declared.team.dispatch.Whole.{Whole}
 use Rattle.worker_pool.specs.declared.job.PoolError.{PoolError}
 use Rattle.worker_pool.specs.declared.job.PoolError.TheVariants.{NoMemory}
 use Rattle.worker_pool.specs.Forward.{ForwardsFront, ForwardsOver}
 use Rattle.worker_pool.specs.Making.{AreUnused}
-use Rattle.worker_pool.specs.Streamed.{IsAnswered, AreRelays, Leaves, Dealt, StopsAs, lane_at, taken_from}
+use Rattle.worker_pool.specs.Streamed.{IsAnswered, AreLaneAnswers, Leaves, Dealt, StopsAs, lane_at, taken_from}
 
 module _ {L : Type 0} where
-  no_relays : AreRelays {L = L} [] [] []
-  no_relays = record {
+  no_lane_answers : AreLaneAnswers {L = L} [] [] []
+  no_lane_answers = record {
     count = refl;
     answered = λ k w r below. absurd (omega (arith, below));
     sent_are = λ k r below. absurd (omega (arith, below));
     taken_are = λ k r below. absurd (omega (arith, below));
   }
 
-  -- nobody has a relay
-  pub none_relayed : AreUnused {L = L} [] []
-  none_relayed = record { relays_are = no_relays; untaken = λ k r below. absurd (omega (arith, below)) }
+  -- no worker answers
+  pub none_unused : AreUnused {L = L} [] []
+  none_unused = record { all_answers_are = no_lane_answers; untaken = λ k r below. absurd (omega (arith, below)) }
 
-  relayed : (workers : List (Worker L)) (relays : List Relay) (w : Worker L) (r : Relay) → AreRelays workers [] relays → IsAnswered w r
-      → r.sent ≡ 0 → r.taken ≡ length (taken r.answers) → AreRelays (workers ++ w ∷ []) [] (relays ++ r ∷ [])
+  with_lane_answers : (workers : List (Worker L)) (all_answers : List LaneAnswers) (w : Worker L) (r : LaneAnswers) → AreLaneAnswers workers [] all_answers → IsAnswered w r
+      → r.sent ≡ 0 → r.taken ≡ length (taken r.answers) → AreLaneAnswers (workers ++ w ∷ []) [] (all_answers ++ r ∷ [])
   unfolding share
-  relayed workers relays w r are one none same = record {
-    count = length_push workers w ∙ ap (λ n. n + 1) are.count ∙ sym (length_push relays r);
+  with_lane_answers workers all_answers w r are one none same = record {
+    count = length_push workers w ∙ ap (λ n. n + 1) are.count ∙ sym (length_push all_answers r);
     answered = λ k v t lt. ⊎_elim
         (λ below.
         let other : k < length workers = (let e = are.count in omega arith) in
-        subst (λ (x : Relay). IsAnswered (get_or (workers ++ w ∷ []) k v) x) (sym (get_or_append_left relays (r ∷ []) t k below))
-        (subst (λ (x : Worker L). IsAnswered x (get_or relays k t)) (sym (get_or_append_left workers (w ∷ []) v k other)) (are.answered k v t below)))
+        subst (λ (x : LaneAnswers). IsAnswered (get_or (workers ++ w ∷ []) k v) x) (sym (get_or_append_left all_answers (r ∷ []) t k below))
+        (subst (λ (x : Worker L). IsAnswered x (get_or all_answers k t)) (sym (get_or_append_left workers (w ∷ []) v k other)) (are.answered k v t below)))
         (λ past.
-        let there : length relays ≡ k = (let e = length_push relays r in omega arith) in
+        let there : length all_answers ≡ k = (let e = length_push all_answers r in omega arith) in
         let here : length workers ≡ k = are.count ∙ there in
-        subst (λ (x : Relay). IsAnswered (get_or (workers ++ w ∷ []) k v) x) (sym (get_or_push relays r t k there))
+        subst (λ (x : LaneAnswers). IsAnswered (get_or (workers ++ w ∷ []) k v) x) (sym (get_or_push all_answers r t k there))
         (subst (λ (x : Worker L). IsAnswered x r) (sym (get_or_push workers w v k here)) one))
-        (cases_lt k (length relays));
-    sent_are = λ k t lt. All-push (λ (x : Relay). x.sent ≡ 0) relays r (λ j u below. are.sent_are j u below) none k t lt;
-    taken_are = λ k t lt. All-push (λ (x : Relay). x.taken ≡ length (taken x.answers)) relays r are.taken_are same k t lt;
+        (cases_lt k (length all_answers));
+    sent_are = λ k t lt. All-push (λ (x : LaneAnswers). x.sent ≡ 0) all_answers r (λ j u below. are.sent_are j u below) none k t lt;
+    taken_are = λ k t lt. All-push (λ (x : LaneAnswers). x.taken ≡ length (taken x.answers)) all_answers r are.taken_are same k t lt;
   }
 
-  -- one more worker that answers, with its relay
-  pub relayed_more : (workers : List (Worker L)) (relays : List Relay) (w : Worker L) (r : Relay) → AreUnused workers relays → IsAnswered w r
-      → r.sent ≡ 0 → r.taken ≡ length (taken r.answers) → taken r.answers ≡ [] → AreUnused (workers ++ w ∷ []) (relays ++ r ∷ [])
-  relayed_more workers relays w r are one none same empty = record {
-    relays_are = relayed workers relays w r are.relays_are one none same;
-    untaken = All-push (λ (x : Relay). taken x.answers ≡ []) relays r are.untaken empty;
+  -- one more worker that answers, with where its answers are taken
+  pub more_unused : (workers : List (Worker L)) (all_answers : List LaneAnswers) (w : Worker L) (r : LaneAnswers) → AreUnused workers all_answers → IsAnswered w r
+      → r.sent ≡ 0 → r.taken ≡ length (taken r.answers) → taken r.answers ≡ [] → AreUnused (workers ++ w ∷ []) (all_answers ++ r ∷ [])
+  more_unused workers all_answers w r are one none same empty = record {
+    all_answers_are = with_lane_answers workers all_answers w r are.all_answers_are one none same;
+    untaken = All-push (λ (x : LaneAnswers). taken x.answers ≡ []) all_answers r are.untaken empty;
   }
 
-  -- what was dealt under the dealer's script was dealt under this one, which is the same
-  pub dealt_under : (g : Ghosts L) (script other : List Stamped) (begins : List (Worker L)) (posts : List (Post L)) (did : List Captured → Type 0) → script ≡ other
-      → Dealt g script begins posts did → Dealt g other begins posts did
-  dealt_under g script other begins posts did same dealt = subst (λ (s : List Stamped). Dealt g s begins posts did) same dealt
+  -- what was sent under the feed's script was sent under this one, which is the same
+  pub dealt_under : (g : Ghosts L) (script other : List Stamped) (begins : List (Worker L)) (inputs : List (LaneInput L)) (did : List Captured → Type 0) → script ≡ other
+      → Dealt g script begins inputs did → Dealt g other begins inputs did
+  dealt_under g script other begins inputs did same dealt = subst (λ (s : List Stamped). Dealt g s begins inputs did) same dealt
 
 -- ---- the beginning
 
 -- nothing was taken from any lane
-none_taken : (relays : List Relay) → All (λ r. taken r.answers ≡ []) relays → (l : ℕ) → taken_from relays l ≡ []
+none_taken : (all_answers : List LaneAnswers) → All (λ r. taken r.answers ≡ []) all_answers → (l : ℕ) → taken_from all_answers l ≡ []
 none_taken [] empty l = refl
-none_taken (r ∷ relays) empty zero = empty 0 r (omega arith)
-none_taken (r ∷ relays) empty (suc l) = none_taken relays (λ k d below. empty (suc k) d (omega (arith, below))) l
+none_taken (r ∷ all_answers) empty zero = empty 0 r (omega arith)
+none_taken (r ∷ all_answers) empty (suc l) = none_taken all_answers (λ k d below. empty (suc k) d (omega (arith, below))) l
 
 appends_nothing : (before : Option (List ℕ)) → Appends before before []
 appends_nothing None = tt
@@ -105,12 +105,12 @@ kept_empty lane n none s empty keeps = record {
 
 module _ {L : Type 0} where
   -- a forward run begins: nothing has left
-  pub run_begins : (workers : List (Worker L)) (relays : List Relay) (waiting : Waiting) (before : Option (List ℕ)) → AreUnused workers relays
-      → Keeps (lane_at (length relays) []) 0 (λ l. []) (beginning waiting) → Leaves (lane_at (length relays) []) 0 (taken_from relays) waiting before before
-  run_begins workers relays waiting before unused keeps = record {
+  pub run_begins : (workers : List (Worker L)) (all_answers : List LaneAnswers) (waiting : Waiting) (before : Option (List ℕ)) → AreUnused workers all_answers
+      → Keeps (lane_at (length all_answers) []) 0 (λ l. []) (beginning waiting) → Leaves (lane_at (length all_answers) []) 0 (taken_from all_answers) waiting before before
+  run_begins workers all_answers waiting before unused keeps = record {
     state = beginning waiting;
     waits = refl;
-    keeps = kept_empty (lane_at (length relays) []) 0 (taken_from relays) (beginning waiting) (none_taken relays unused.untaken) keeps;
+    keeps = kept_empty (lane_at (length all_answers) []) 0 (taken_from all_answers) (beginning waiting) (none_taken all_answers unused.untaken) keeps;
     written = appends_nothing before;
   }
 

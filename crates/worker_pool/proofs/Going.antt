@@ -12,7 +12,8 @@ use Rattle.worker_pool.proofs.Fronts.{IsPrefix-trans, IsPrefix-after, next_two}
 use Rattle.worker_pool.proofs.Stepping.{events-append, last-append, given_by, given-append, within-append, within-less, steps-append}
 
 module _ {L : Type 0} (g : Ghosts L) (script : List Command) where
-  module _ (least more : ℕ) (ts us : List Turn) (a b c : L) (did bad did2 bad2 : List Step) (p : WentOn g script least ts a b did bad) (q : WentOn g script more us b c did2 bad2) (well : g.failed b ≡ None) where
+  module _ (least more : ℕ) (ts us : List Turn) (a b c : L) (did bad did2 bad2 : List Step) (p : WentOn g script least ts a b did bad) (q : WentOn g script more us b c did2 bad2)
+      (well : g.failed b ≡ None) where
     all_one : did ++ bad ≡ did
     all_one = ap (λ l. did ++ l) (p.good well) ∙ append-nil did
 

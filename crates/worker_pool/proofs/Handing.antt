@@ -100,7 +100,8 @@ behind_same r p xs ys zs same rest = cc
 
 module _ (least : ℕ) where
   -- what holds of the steps behind a packet holds from it on
-  handed_on : (version : ℕ) (p : Packet) (ps : List Packet) (behind : List Step) → ((front : List Step) → version ≤ p.ceil → IsPrefix front behind → AreWithin least version front → IsPrefix (handed front) ps)
+  handed_on : (version : ℕ) (p : Packet) (ps : List Packet) (behind : List Step)
+      → ((front : List Step) → version ≤ p.ceil → IsPrefix front behind → AreWithin least version front → IsPrefix (handed front) ps)
       → (front : List Step) → IsPrefix front (Handed p ∷ behind) → AreWithin least version front → IsPrefix (handed front) (p ∷ ps)
   handed_on version p ps behind on [] q w = (p ∷ ps, refl)
   handed_on version p ps behind on (Took c ∷ front) q w = absurd (let e = q.1 in cc)

@@ -12,52 +12,56 @@ use Rattle.pcap_source.specs.declared.errors.NextError.{NextError}
 use Rattle.pcap_source.specs.declared.errors.NextError.TheVariants.{TooLong, TooMany, ReadFault, NoMemory}
 use Rattle.lane_rings.specs.declared.items.Answer.{Answer}
 use Rattle.lane_rings.specs.Waiting.{Waiting, first_of}
-use Rattle.lane_rings.specs.Forward.{Leaving, Keeps, bytes_of_first}
+use Rattle.worker_laws.specs.Forward.{Leaving, Keeps, bytes_of_first}
 use Rattle.lane_rings.specs.declared.items.Packet.{Packet}
 use Rattle.control_script.specs.declared.stamped.Stamped.{Stamped}
 use Rattle.control_script.specs.Order.{commands_of}
 use Rattle.lane_core.specs.declared.recorder.Recorder.{Ghosts}
 use Rattle.worker_pool.specs.declared.worker.Worker.{Worker}
-use Rattle.worker_pool.specs.declared.post.Post.{Post}
-use Rattle.worker_pool.specs.declared.forward.relay.Relay.{Relay}
-use Rattle.worker_pool.specs.declared.dispatch.Whole.{Whole}
+use Rattle.worker_pool.specs.declared.team.lane_input.LaneInput.{LaneInput}
+use Rattle.worker_pool.specs.declared.forward.lane_answers.LaneAnswers.{LaneAnswers}
+use Rattle.worker_pool.specs.declared.team.dispatch.Whole.{Whole}
 use Rattle.worker_pool.specs.declared.job.PoolError.{PoolError}
 use Rattle.worker_pool.specs.declared.job.PoolError.TheVariants.{WriteFault, NoMemory as OutOfMemory}
 use Rattle.worker_pool.specs.Refused.{read_refusal}
-use Rattle.worker_pool.specs.Posts.{IsPost, ArePosts, ReadsAs}
+use Rattle.worker_pool.specs.Inputs.{IsInput, AreInputs, ReadsAs}
 use Rattle.worker_pool.specs.Sent.{packets_from, dealt}
-use Rattle.worker_pool.specs.Streamed.{AreRelays, Leaves, HasLeft, Streamed, Dealt, StopsAs, lane_at, taken_from}
+use Rattle.worker_pool.specs.Streamed.{AreLaneAnswers, Leaves, HasLeft, Streamed, Dealt, StopsAs, lane_at, taken_from}
 use Rattle.worker_pool.specs.Drained.{OfferAll}
-use Rattle.worker_pool.specs.Relayed.{HaveTaken, LeaveAll, CutAll, counted_on}
-use Rattle.worker_pool.proofs.Posted.{post_of}
+use Rattle.worker_pool.specs.TakenAnswers.{HaveTaken, LeaveAll, CutAll, counted_on}
+use Rattle.worker_pool.proofs.Inputs.{input_of}
 use Rattle.worker_pool.specs.GoesOn.{IsReadTo}
-use Rattle.worker_pool.proofs.Relaying.{still_sent, relays_after, sent_to, lane_before, counted_length, counted_taken}
+use Rattle.worker_pool.proofs.TakingAnswers.{still_sent, all_answers_after, sent_to, lane_before, counted_length, counted_taken}
 
--- ---- posts to which nothing is sent
+-- ---- inputs to which nothing is sent
 
-pub same_posts : {L : Type 0} (g : Ghosts L) (script : List Stamped) (begins : List (Worker L)) (frames : List Captured) (posts : List (Post L)) (lane : ℕ) (d post : Post L) → lane < length posts → d ≡ get_or posts lane d
-    → ((begin : Worker L) (packets : List Packet) → IsPost g (commands_of script) begin packets d → IsPost g (commands_of script) begin packets post)
-    → ArePosts g script begins frames posts → ArePosts g script begins frames (set posts lane post)
-same_posts {L} g script begins frames posts lane d post below at still are = record {
-  count = are.count ∙ sym (length-set posts lane post);
+pub same_inputs : {L : Type 0} (g : Ghosts L) (script : List Stamped) (begins : List (Worker L)) (frames : List Captured) (inputs : List (LaneInput L)) (lane : ℕ) (d input : LaneInput L)
+    → lane < length inputs → d ≡ get_or inputs lane d
+    → ((begin : Worker L) (packets : List Packet) → IsInput g (commands_of script) begin packets d → IsInput g (commands_of script) begin packets input)
+    → AreInputs g script begins frames inputs → AreInputs g script begins frames (set inputs lane input)
+same_inputs {L} g script begins frames inputs lane d input below at still are = record {
+  count = are.count ∙ sym (length-set inputs lane input);
   each = λ k w p lt.
-      subst (λ n. IsPost g (commands_of script) (get_or begins k w) (dealt n k (packets_from script 0 frames)) (get_or (set posts lane post) k p)) (sym (length-set posts lane post))
+      subst (λ n. IsInput g (commands_of script) (get_or begins k w) (dealt n k (packets_from script 0 frames)) (get_or (set inputs lane input) k p)) (sym (length-set inputs lane input))
       (⊎_elim
-      (λ is. subst (λ j. IsPost g (commands_of script) (get_or begins j w) (dealt (length posts) j (packets_from script 0 frames)) (get_or (set posts lane post) j p)) is
-      (subst (λ (q : Post L). IsPost g (commands_of script) (get_or begins lane w) (dealt (length posts) lane (packets_from script 0 frames)) q) (sym (get_or-set_same posts lane post p below))
-      (still (get_or begins lane w) (dealt (length posts) lane (packets_from script 0 frames))
-      (subst (λ (q : Post L). IsPost g (commands_of script) (get_or begins lane w) (dealt (length posts) lane (packets_from script 0 frames)) q) (sym at) (are.each lane w d below)))))
-      (λ not. subst (λ (q : Post L). IsPost g (commands_of script) (get_or begins k w) (dealt (length posts) k (packets_from script 0 frames)) q) (sym (get_or-set_other posts lane k post p (λ is. not (sym is))))
-      (are.each k w p (let e = length-set posts lane post in omega (arith, e, lt))))
+      (λ is. subst (λ j. IsInput g (commands_of script) (get_or begins j w) (dealt (length inputs) j (packets_from script 0 frames)) (get_or (set inputs lane input) j p)) is
+      (subst (λ (q : LaneInput L). IsInput g (commands_of script) (get_or begins lane w) (dealt (length inputs) lane (packets_from script 0 frames)) q)
+          (sym (get_or-set_same inputs lane input p below))
+      (still (get_or begins lane w) (dealt (length inputs) lane (packets_from script 0 frames))
+      (subst (λ (q : LaneInput L). IsInput g (commands_of script) (get_or begins lane w) (dealt (length inputs) lane (packets_from script 0 frames)) q) (sym at) (are.each lane w d below)))))
+      (λ not. subst (λ (q : LaneInput L). IsInput g (commands_of script) (get_or begins k w) (dealt (length inputs) k (packets_from script 0 frames)) q)
+          (sym (get_or-set_other inputs lane k input p (λ is. not (sym is))))
+      (are.each k w p (let e = length-set inputs lane input in omega (arith, e, lt))))
       (cases_eq lane k));
 }
 
--- one that is looked at is a post
-pub looked_at : {L : Type 0} (g : Ghosts L) (script : List Stamped) (begins : List (Worker L)) (frames : List Captured) (posts : List (Post L)) (lane : ℕ) (d : Post L) → d ≡ get_or posts lane d → lane < length posts
-    → ArePosts g script begins frames posts → (begin : Worker L) × (packets : List Packet) × IsPost g (commands_of script) begin packets d
-looked_at {L} g script begins frames posts lane d at below are =
-    let p = post_of g script begins frames posts lane d are below in
-    (p.0, p.1, subst (λ (q : Post L). IsPost g (commands_of script) p.0 p.1 q) (sym at) p.2)
+-- one that is looked at is an input
+pub looked_at : {L : Type 0} (g : Ghosts L) (script : List Stamped) (begins : List (Worker L)) (frames : List Captured) (inputs : List (LaneInput L)) (lane : ℕ) (d : LaneInput L)
+    → d ≡ get_or inputs lane d → lane < length inputs
+    → AreInputs g script begins frames inputs → (begin : Worker L) × (packets : List Packet) × IsInput g (commands_of script) begin packets d
+looked_at {L} g script begins frames inputs lane d at below are =
+    let p = input_of g script begins frames inputs lane d are below in
+    (p.0, p.1, subst (λ (q : LaneInput L). IsInput g (commands_of script) p.0 p.1 q) (sym at) p.2)
 
 -- ---- what has left
 
@@ -81,7 +85,7 @@ handed_on lane n taken_so_far w before mid new same l = record {
   written = Appends-kept before mid new l.state.out l.written same;
 }
 
-module _ (a b : List Relay) (w v : Waiting) (old mid : Option (List ℕ)) (so_far : LeaveAll a b w v old mid) where
+module _ (a b : List LaneAnswers) (w v : Waiting) (old mid : Option (List ℕ)) (so_far : LeaveAll a b w v old mid) where
   -- more is written
   pub written_then : (u : Waiting) (new : Option (List ℕ))
       → ((lane : ℕ → ℕ) (n : ℕ) (taken_so_far : ℕ → List Answer) (before : Option (List ℕ)) → Leaves lane n taken_so_far v before mid → Leaves lane n taken_so_far u before new)
@@ -100,7 +104,7 @@ module _ (a b : List Relay) (w v : Waiting) (old mid : Option (List ℕ)) (so_fa
   cut_nowhere = record { cut = λ lane n before counts l. left_whole lane n (taken_from b) v before mid (so_far.leaves lane n before counts l) }
 
   -- more is taken
-  pub offered_then : (c : List Relay) (u : Waiting) → HaveTaken a b → OfferAll b c v u → LeaveAll a c w u old mid
+  pub offered_then : (c : List LaneAnswers) (u : Waiting) → HaveTaken a b → OfferAll b c v u → LeaveAll a c w u old mid
   offered_then c u takes offers = record {
     leaves = λ lane n before counts l. offers.leaves lane n before mid (still_sent lane n a b takes counts) (so_far.leaves lane n before counts l);
   }
@@ -111,7 +115,8 @@ abbrev pub IsLaterRight : Type 0
 IsLaterRight = (lane other : ℕ → ℕ) (n : ℕ) (taken_so_far : ℕ → List Answer) (s : Leaving) → ((i : ℕ) → i < n → other i ≡ lane i) → Keeps lane n taken_so_far s → Keeps other n taken_so_far s
 
 abbrev pub IsSendingRight : Type 0
-IsSendingRight = (lane : ℕ → ℕ) (n : ℕ) (taken_so_far : ℕ → List Answer) (s : Leaving) → Keeps lane n taken_so_far s → nat_lt n (s.waiting.next + length s.waiting.window) ≡ true → Keeps lane (n + 1) taken_so_far s
+IsSendingRight = (lane : ℕ → ℕ) (n : ℕ) (taken_so_far : ℕ → List Answer) (s : Leaving) → Keeps lane n taken_so_far s → nat_lt n (s.waiting.next + length s.waiting.window) ≡ true
+    → Keeps lane (n + 1) taken_so_far s
 
 pub sent_leaves : (later : IsLaterRight) (sending : IsSendingRight) (lane other : ℕ → ℕ) (n : ℕ) (taken_so_far : ℕ → List Answer) (w : Waiting) (old new : Option (List ℕ))
     → ((i : ℕ) → i < n → other i ≡ lane i) → nat_lt n (w.next + length w.window) ≡ true → Leaves lane n taken_so_far w old new → Leaves other (n + 1) taken_so_far w old new
@@ -123,82 +128,84 @@ sent_leaves later sending lane other n taken_so_far w old new agree place l = re
 }
 
 -- a packet is sent to its lane, and what that lane has answered is taken
-pub sent_and_taken : {L : Type 0} (later : IsLaterRight) (sending : IsSendingRight) (begins : List (Worker L)) (frames : List Captured) (frame : Captured) (n : ℕ) (relays now : List Relay) (k : ℕ) (r : Relay) (w v : Waiting) (old new : Option (List ℕ))
-    → length frames ≡ n → nat_lt n (w.next + length w.window) ≡ true → AreRelays begins (frames ++ frame ∷ []) (counted_on relays k r)
-    → HaveTaken (counted_on relays k r) now → OfferAll (counted_on relays k r) now w v
-    → Leaves (lane_at (length relays) frames) n (taken_from relays) w old new
+pub sent_and_taken : {L : Type 0} (later : IsLaterRight) (sending : IsSendingRight) (begins : List (Worker L)) (frames : List Captured) (frame : Captured) (n : ℕ) (all_answers now : List LaneAnswers)
+    (k : ℕ) (r : LaneAnswers) (w v : Waiting) (old new : Option (List ℕ))
+    → length frames ≡ n → nat_lt n (w.next + length w.window) ≡ true → AreLaneAnswers begins (frames ++ frame ∷ []) (counted_on all_answers k r)
+    → HaveTaken (counted_on all_answers k r) now → OfferAll (counted_on all_answers k r) now w v
+    → Leaves (lane_at (length all_answers) frames) n (taken_from all_answers) w old new
     → Leaves (lane_at (length now) (frames ++ frame ∷ [])) (n + 1) (taken_from now) v old new
-sent_and_taken later sending begins frames frame n relays now k r w v old new count place are takes offers l =
-    let lanes = length relays in
+sent_and_taken later sending begins frames frame n all_answers now k r w v old new count place are takes offers l =
+    let lanes = length all_answers in
     let more = lane_at lanes (frames ++ frame ∷ []) in
-    subst (λ m. Leaves (lane_at m (frames ++ frame ∷ [])) (n + 1) (taken_from now) v old new) (sym (takes.count ∙ counted_length relays k r))
+    subst (λ m. Leaves (lane_at m (frames ++ frame ∷ [])) (n + 1) (taken_from now) v old new) (sym (takes.count ∙ counted_length all_answers k r))
     (offers.leaves more (n + 1) old new
-    (sent_to begins (frames ++ frame ∷ []) (counted_on relays k r) lanes (n + 1) (counted_length relays k r) (length_push frames frame ∙ ap (λ m. m + 1) count) are)
-    (subst (λ (f : ℕ → List Answer). Leaves more (n + 1) f w old new) (sym (counted_taken relays k r))
-    (sent_leaves later sending (lane_at lanes frames) more n (taken_from relays) w old new (λ i lt. lane_before lanes frames frame i (omega (arith, count, lt))) place l)))
+    (sent_to begins (frames ++ frame ∷ []) (counted_on all_answers k r) lanes (n + 1) (counted_length all_answers k r) (length_push frames frame ∙ ap (λ m. m + 1) count) are)
+    (subst (λ (f : ℕ → List Answer). Leaves more (n + 1) f w old new) (sym (counted_taken all_answers k r))
+    (sent_leaves later sending (lane_at lanes frames) more n (taken_from all_answers) w old new (λ i lt. lane_before lanes frames frame i (omega (arith, count, lt))) place l)))
 
 -- ---- the run
 
 module _ {L : Type 0} where
-  -- the posts and the relays of workers that began so, to which the packets of these frames were sent
-  pub record AreSent (g : Ghosts L) (script : List Stamped) (begins : List (Worker L)) (frames : List Captured) (posts : List (Post L)) (relays : List Relay) : Type 0 where
-    pub posts_are : ArePosts g script begins frames posts
-    pub relays_are : AreRelays begins frames relays
+  -- the inputs and the answers of workers that began so, to which the packets of these frames were sent
+  pub record AreSent (g : Ghosts L) (script : List Stamped) (begins : List (Worker L)) (frames : List Captured) (inputs : List (LaneInput L)) (all_answers : List LaneAnswers) : Type 0 where
+    pub inputs_are : AreInputs g script begins frames inputs
+    pub all_answers_are : AreLaneAnswers begins frames all_answers
 
   -- From nothing sent a run has come to these frames: their packets were sent, and what has left is right if it was at first.
-  pub record HasCome (g : Ghosts L) (script : List Stamped) (posts : List (Post L)) (relays : List Relay) (w : Waiting) (old : Option (List ℕ))
-      (frames : List Captured) (posts_now : List (Post L)) (relays_now : List Relay) (v : Waiting) (new : Option (List ℕ)) : Type 0 where
-    pub sent : (begins : List (Worker L)) → ArePosts g script begins [] posts → AreRelays begins [] relays → AreSent g script begins frames posts_now relays_now
-    pub leaves : (begins : List (Worker L)) (before : Option (List ℕ)) → ArePosts g script begins [] posts → AreRelays begins [] relays
-        → Leaves (lane_at (length relays) []) 0 (taken_from relays) w before old
-        → Leaves (lane_at (length relays_now) frames) (length frames) (taken_from relays_now) v before new
+  pub record HasCome (g : Ghosts L) (script : List Stamped) (inputs : List (LaneInput L)) (all_answers : List LaneAnswers) (w : Waiting) (old : Option (List ℕ))
+      (frames : List Captured) (inputs_now : List (LaneInput L)) (all_answers_now : List LaneAnswers) (v : Waiting) (new : Option (List ℕ)) : Type 0 where
+    pub sent : (begins : List (Worker L)) → AreInputs g script begins [] inputs → AreLaneAnswers begins [] all_answers → AreSent g script begins frames inputs_now all_answers_now
+    pub leaves : (begins : List (Worker L)) (before : Option (List ℕ)) → AreInputs g script begins [] inputs → AreLaneAnswers begins [] all_answers
+        → Leaves (lane_at (length all_answers) []) 0 (taken_from all_answers) w before old
+        → Leaves (lane_at (length all_answers_now) frames) (length frames) (taken_from all_answers_now) v before new
 
-  module _ (g : Ghosts L) (script : List Stamped) (posts : List (Post L)) (relays : List Relay) (w : Waiting) (old : Option (List ℕ)) where
-    pub come_none : HasCome g script posts relays w old [] posts relays w old
-    come_none = record { sent = λ begins p r. record { posts_are = p; relays_are = r }; leaves = λ begins before p r l. l }
+  module _ (g : Ghosts L) (script : List Stamped) (inputs : List (LaneInput L)) (all_answers : List LaneAnswers) (w : Waiting) (old : Option (List ℕ)) where
+    pub come_none : HasCome g script inputs all_answers w old [] inputs all_answers w old
+    come_none = record { sent = λ begins p r. record { inputs_are = p; all_answers_are = r }; leaves = λ begins before p r l. l }
 
-    module _ (frames : List Captured) (posts_mid posts_now : List (Post L)) (relays_mid relays_now : List Relay) (v u : Waiting) (mid new : Option (List ℕ)) (come : HasCome g script posts relays w old frames posts_mid relays_mid v mid) where
+    module _ (frames : List Captured) (inputs_mid inputs_now : List (LaneInput L)) (all_answers_mid all_answers_now : List LaneAnswers) (v u : Waiting) (mid new : Option (List ℕ))
+        (come : HasCome g script inputs all_answers w old frames inputs_mid all_answers_mid v mid) where
       -- nothing was sent meanwhile
-      pub come_on : ((begins : List (Worker L)) (fs : List Captured) → ArePosts g script begins fs posts_mid → ArePosts g script begins fs posts_now)
-          → HaveTaken relays_mid relays_now → LeaveAll relays_mid relays_now v u mid new
-          → HasCome g script posts relays w old frames posts_now relays_now u new
+      pub come_on : ((begins : List (Worker L)) (fs : List Captured) → AreInputs g script begins fs inputs_mid → AreInputs g script begins fs inputs_now)
+          → HaveTaken all_answers_mid all_answers_now → LeaveAll all_answers_mid all_answers_now v u mid new
+          → HasCome g script inputs all_answers w old frames inputs_now all_answers_now u new
       come_on still takes on = record {
         sent = λ begins p r.
             let s = come.sent begins p r in
-            record { posts_are = still begins frames s.posts_are; relays_are = relays_after begins frames relays_mid relays_now takes s.relays_are };
+            record { inputs_are = still begins frames s.inputs_are; all_answers_are = all_answers_after begins frames all_answers_mid all_answers_now takes s.all_answers_are };
         leaves = λ begins before p r l.
             let s = come.sent begins p r in
-            subst (λ n. Leaves (lane_at n frames) (length frames) (taken_from relays_now) u before new) (sym takes.count)
-            (on.leaves (lane_at (length relays_mid) frames) (length frames) before s.relays_are.sent_are (come.leaves begins before p r l));
+            subst (λ n. Leaves (lane_at n frames) (length frames) (taken_from all_answers_now) u before new) (sym takes.count)
+            (on.leaves (lane_at (length all_answers_mid) frames) (length frames) before s.all_answers_are.sent_are (come.leaves begins before p r l));
       }
 
       -- what has left where it may have been cut off
-      pub come_cut : (begins : List (Worker L)) (before : Option (List ℕ)) → HaveTaken relays_mid relays_now → CutAll relays_mid relays_now v mid new
-          → ArePosts g script begins [] posts → AreRelays begins [] relays → Leaves (lane_at (length relays) []) 0 (taken_from relays) w before old
-          → HasLeft (lane_at (length relays_now) frames) (length frames) (taken_from relays_now) before new
+      pub come_cut : (begins : List (Worker L)) (before : Option (List ℕ)) → HaveTaken all_answers_mid all_answers_now → CutAll all_answers_mid all_answers_now v mid new
+          → AreInputs g script begins [] inputs → AreLaneAnswers begins [] all_answers → Leaves (lane_at (length all_answers) []) 0 (taken_from all_answers) w before old
+          → HasLeft (lane_at (length all_answers_now) frames) (length frames) (taken_from all_answers_now) before new
       come_cut begins before takes on p r l =
           let s = come.sent begins p r in
-          subst (λ n. HasLeft (lane_at n frames) (length frames) (taken_from relays_now) before new) (sym takes.count)
-          (on.cut (lane_at (length relays_mid) frames) (length frames) before s.relays_are.sent_are (come.leaves begins before p r l))
+          subst (λ n. HasLeft (lane_at n frames) (length frames) (taken_from all_answers_now) before new) (sym takes.count)
+          (on.cut (lane_at (length all_answers_mid) frames) (length frames) before s.all_answers_are.sent_are (come.leaves begins before p r l))
 
       -- a packet was sent
       pub come_sent : (n : ℕ) (frame : Captured) → length frames ≡ n
-          → ((begins : List (Worker L)) (fs : List Captured) → length fs ≡ n → ArePosts g script begins fs posts_mid → AreRelays begins fs relays_mid
-          → ArePosts g script begins (fs ++ frame ∷ []) posts_now × AreRelays begins (fs ++ frame ∷ []) relays_now)
-          → ((begins : List (Worker L)) (fs : List Captured) (before : Option (List ℕ)) → length fs ≡ n → ArePosts g script begins fs posts_mid → AreRelays begins fs relays_mid
-          → Leaves (lane_at (length relays_mid) fs) n (taken_from relays_mid) v before mid
-          → Leaves (lane_at (length relays_now) (fs ++ frame ∷ [])) (n + 1) (taken_from relays_now) u before new)
-          → HasCome g script posts relays w old (frames ++ frame ∷ []) posts_now relays_now u new
+          → ((begins : List (Worker L)) (fs : List Captured) → length fs ≡ n → AreInputs g script begins fs inputs_mid → AreLaneAnswers begins fs all_answers_mid
+          → AreInputs g script begins (fs ++ frame ∷ []) inputs_now × AreLaneAnswers begins (fs ++ frame ∷ []) all_answers_now)
+          → ((begins : List (Worker L)) (fs : List Captured) (before : Option (List ℕ)) → length fs ≡ n → AreInputs g script begins fs inputs_mid → AreLaneAnswers begins fs all_answers_mid
+          → Leaves (lane_at (length all_answers_mid) fs) n (taken_from all_answers_mid) v before mid
+          → Leaves (lane_at (length all_answers_now) (fs ++ frame ∷ [])) (n + 1) (taken_from all_answers_now) u before new)
+          → HasCome g script inputs all_answers w old (frames ++ frame ∷ []) inputs_now all_answers_now u new
       come_sent n frame count sends on = record {
         sent = λ begins p r.
             let s = come.sent begins p r in
-            let t = sends begins frames count s.posts_are s.relays_are in
-            record { posts_are = t.0; relays_are = t.1 };
+            let t = sends begins frames count s.inputs_are s.all_answers_are in
+            record { inputs_are = t.0; all_answers_are = t.1 };
         leaves = λ begins before p r l.
             let s = come.sent begins p r in
-            subst (λ m. Leaves (lane_at (length relays_now) (frames ++ frame ∷ [])) m (taken_from relays_now) u before new) (sym (length_push frames frame ∙ ap (λ m. m + 1) count))
-            (on begins frames before count s.posts_are s.relays_are
-            (subst (λ m. Leaves (lane_at (length relays_mid) frames) m (taken_from relays_mid) v before mid) count (come.leaves begins before p r l)));
+            subst (λ m. Leaves (lane_at (length all_answers_now) (frames ++ frame ∷ [])) m (taken_from all_answers_now) u before new) (sym (length_push frames frame ∙ ap (λ m. m + 1) count))
+            (on begins frames before count s.inputs_are s.all_answers_are
+            (subst (λ m. Leaves (lane_at (length all_answers_mid) frames) m (taken_from all_answers_mid) v before mid) count (come.leaves begins before p r l)));
       }
 
 -- ---- how it stops
@@ -214,7 +221,8 @@ stops_early frames start old new e only = ⊎_elim
     only
 
 -- a refusal of the capture is told
-pub stops_refused : (frames : List Captured) (start : CaptureState) (old new : Option (List ℕ)) (e : NextError) → ReadsAs frames start old new (Err e) → StopsAs frames start old new (Err (read_refusal e))
+pub stops_refused : (frames : List Captured) (start : CaptureState) (old new : Option (List ℕ)) (e : NextError) → ReadsAs frames start old new (Err e)
+    → StopsAs frames start old new (Err (read_refusal e))
 stops_refused frames start old new (TooLong offset) reads = reads
 stops_refused frames start old new (TooMany offset) reads = reads
 stops_refused frames start old new ReadFault reads = tt
@@ -223,26 +231,28 @@ stops_refused frames start old new NoMemory reads = tt
 pub same_refusal : {T : Type 0} (a b : PoolError) (r : Result T PoolError) → r ≡ Err a → r ≡ Err b → a ≡ b
 same_refusal a b r one two = cc
 
-module _ {L : Type 0} (g : Ghosts L) (script : List Stamped) (posts : List (Post L)) (relays : List Relay) (w : Waiting) (out : Option (List ℕ)) (frames : List Captured) (few : length frames ≤ 1048576)
+module _ {L : Type 0} (g : Ghosts L) (script : List Stamped) (inputs : List (LaneInput L)) (all_answers : List LaneAnswers) (w : Waiting) (out : Option (List ℕ)) (frames : List Captured)
+    (few : length frames ≤ 1048576)
     (start now : CaptureState) (old left new : Option (List ℕ)) (reads : (bytes : List ℕ) → old ≡ Some bytes → IsReadTo start bytes frames now left)
-    (begins : List (Worker L)) (before : Option (List ℕ)) (p : ArePosts g script begins [] posts) (r : AreRelays begins [] relays) (l : Leaves (lane_at (length relays) []) 0 (taken_from relays) w before out) where
+    (begins : List (Worker L)) (before : Option (List ℕ)) (p : AreInputs g script begins [] inputs) (r : AreLaneAnswers begins [] all_answers)
+        (l : Leaves (lane_at (length all_answers) []) 0 (taken_from all_answers) w before out) where
   -- what is told of a run that has come to these frames and stops
-  abbrev pub Told : List (Post L) → List Relay → Waiting → Option (List ℕ) → Result Whole PoolError → Type 0
-  Told posts_now relays_now v after result = Dealt g script begins posts_now (λ fs. Streamed begins fs relays_now v start old new before after result)
+  abbrev pub Told : List (LaneInput L) → List LaneAnswers → Waiting → Option (List ℕ) → Result Whole PoolError → Type 0
+  Told inputs_now all_answers_now v after result = Dealt g script begins inputs_now (λ fs. Streamed begins fs all_answers_now v start old new before after result)
 
   -- all that was taken and whose turn it was has left
-  pub told_whole : (posts_now : List (Post L)) (relays_now : List Relay) (v : Waiting) (after : Option (List ℕ)) (result : Result Whole PoolError)
-      → HasCome g script posts relays w out frames posts_now relays_now v after → StopsAs frames start old new result → Told posts_now relays_now v after result
-  told_whole posts_now relays_now v after result come stops =
+  pub told_whole : (inputs_now : List (LaneInput L)) (all_answers_now : List LaneAnswers) (v : Waiting) (after : Option (List ℕ)) (result : Result Whole PoolError)
+      → HasCome g script inputs all_answers w out frames inputs_now all_answers_now v after → StopsAs frames start old new result → Told inputs_now all_answers_now v after result
+  told_whole inputs_now all_answers_now v after result come stops =
       let s = come.sent begins p r in
       let whole = come.leaves begins before p r l in
       record {
         frames = frames;
         few = few;
-        posts_are = s.posts_are;
+        inputs_are = s.inputs_are;
         done = record {
-          relays_are = s.relays_are;
-          left = left_whole (lane_at (length relays_now) frames) (length frames) (taken_from relays_now) v before after whole;
+          all_answers_are = s.all_answers_are;
+          left = left_whole (lane_at (length all_answers_now) frames) (length frames) (taken_from all_answers_now) v before after whole;
           leaves = λ not. whole;
           front = λ bytes is. front_of start now bytes frames left (reads bytes is);
           stops = stops;
@@ -250,22 +260,23 @@ module _ {L : Type 0} (g : Ghosts L) (script : List Stamped) (posts : List (Post
       }
 
   -- while a place was awaited
-  pub told_early : (posts_mid posts_now : List (Post L)) (relays_mid relays_now : List Relay) (v u : Waiting) (mid after : Option (List ℕ)) (e : PoolError)
-      → HasCome g script posts relays w out frames posts_mid relays_mid v mid
-      → ((bs : List (Worker L)) (fs : List Captured) → ArePosts g script bs fs posts_mid → ArePosts g script bs fs posts_now)
-      → HaveTaken relays_mid relays_now → (e ≢ WriteFault → LeaveAll relays_mid relays_now v u mid after) → CutAll relays_mid relays_now v mid after
-      → (e ≡ WriteFault) ⊎ (e ≡ OutOfMemory) → Told posts_now relays_now u after (Err e)
-  told_early posts_mid posts_now relays_mid relays_now v u mid after e come still takes whole cut only =
+  pub told_early : (inputs_mid inputs_now : List (LaneInput L)) (all_answers_mid all_answers_now : List LaneAnswers) (v u : Waiting) (mid after : Option (List ℕ)) (e : PoolError)
+      → HasCome g script inputs all_answers w out frames inputs_mid all_answers_mid v mid
+      → ((bs : List (Worker L)) (fs : List Captured) → AreInputs g script bs fs inputs_mid → AreInputs g script bs fs inputs_now)
+      → HaveTaken all_answers_mid all_answers_now → (e ≢ WriteFault → LeaveAll all_answers_mid all_answers_now v u mid after) → CutAll all_answers_mid all_answers_now v mid after
+      → (e ≡ WriteFault) ⊎ (e ≡ OutOfMemory) → Told inputs_now all_answers_now u after (Err e)
+  told_early inputs_mid inputs_now all_answers_mid all_answers_now v u mid after e come still takes whole cut only =
       let s = come.sent begins p r in
       record {
         frames = frames;
         few = few;
-        posts_are = still begins frames s.posts_are;
+        inputs_are = still begins frames s.inputs_are;
         done = record {
-          relays_are = relays_after begins frames relays_mid relays_now takes s.relays_are;
-          left = come_cut g script posts relays w out frames posts_mid posts_now relays_mid relays_now v u mid after come begins before takes cut p r l;
+          all_answers_are = all_answers_after begins frames all_answers_mid all_answers_now takes s.all_answers_are;
+          left = come_cut g script inputs all_answers w out frames inputs_mid inputs_now all_answers_mid all_answers_now v u mid after come begins before takes cut p r l;
           leaves = λ not.
-              (come_on g script posts relays w out frames posts_mid posts_now relays_mid relays_now v u mid after come still takes (whole (λ is. not (ap (λ x. Err x) is)))).leaves begins before p r l;
+              (come_on g script inputs all_answers w out frames inputs_mid inputs_now all_answers_mid all_answers_now v u mid after come still takes
+                  (whole (λ is. not (ap (λ x. Err x) is)))).leaves begins before p r l;
           front = λ bytes is. front_of start now bytes frames left (reads bytes is);
           stops = stops_early frames start old new e only;
         };

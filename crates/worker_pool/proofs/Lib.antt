@@ -8,7 +8,7 @@ mod Advancing
 mod Turns
 mod Serving
 mod Beside
-mod Posted
+mod Inputs
 mod Reading
 mod Source
 mod Stopping
@@ -22,11 +22,11 @@ mod Concluding
 mod LaneEnds
 mod Returned
 mod Rows
-mod Manning
+mod Starting
 mod Crossed
 mod Draining
 mod Explaining
 mod Exits
 mod Forwarding
-mod Relaying
+mod TakingAnswers
 mod Leaving

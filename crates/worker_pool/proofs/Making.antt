@@ -26,7 +26,8 @@ module _ {L : Type 0} (g : Ghosts L) (app : Meaning) (keep : Bool) where
   }
 
   -- a team with one more worker, and the sending end of its packet ring
-  pub begun_more : (workers : List (Worker L)) (packets : List (RingTx Packet)) (w : Worker L) (tx : RingTx Packet) → AreBegun g app keep workers packets → IsNew g app w → g.keeps w.lane ≡ keep → AreEnds tx w.packets → sent tx ≡ []
+  pub begun_more : (workers : List (Worker L)) (packets : List (RingTx Packet)) (w : Worker L) (tx : RingTx Packet) → AreBegun g app keep workers packets → IsNew g app w → g.keeps w.lane ≡ keep
+      → AreEnds tx w.packets → sent tx ≡ []
       → AreBegun g app keep (workers ++ w ∷ []) (packets ++ tx ∷ [])
   begun_more workers packets w tx begun new keeps ends none = record {
     count = length_push workers w ∙ ap (λ n. n + 1) begun.count ∙ sym (length_push packets tx);
@@ -56,7 +57,7 @@ module _ {L : Type 0} (g : Ghosts L) (app : Meaning) (keep : Bool) where
     each_sent = begun.each_sent;
   }
 
-  -- a team that is made, with the taking ends of its relays or of its frame rings
+  -- a team that is made, with the taking ends of its answer rings or of its frame rings
   pub team_made : {X E : Type 0} (r : Result (Team L × X) E) (n : ℕ) → 1 ≤ n → IfOk r (λ t. AreBegun g app keep t.0.workers.items t.0.packets.items) → IfOk r (λ t. length t.0.workers.items ≡ n)
       → IfOk r (λ t. IsTeam g app t.0.workers.items t.0.packets.items)
   team_made (Err e) n some begun count = tt

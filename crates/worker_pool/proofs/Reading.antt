@@ -9,7 +9,7 @@ use Rattle.pcap_source.specs.declared.capture.Step.TheVariants.{Frame, Tail, End
 use Rattle.pcap_source.specs.declared.errors.NextError.{NextError}
 use Rattle.pcap_source.specs.declared.errors.NextError.TheVariants.{TooLong, TooMany, ReadFault, NoMemory}
 use Rattle.worker_pool.specs.GoesOn.{behind, IsReadTo}
-use Rattle.worker_pool.specs.Posts.{ReadsAs}
+use Rattle.worker_pool.specs.Inputs.{ReadsAs}
 
 -- a fault of a call, told again, has its cause since an earlier moment
 pub HasCause-since : {told again : Type 0} (first before now : ℕ) → first ≤ before → HasCauseOf before now told → (again → told) → HasCauseOf first now again
@@ -75,9 +75,11 @@ pub read_refused : (start old new : CaptureState) (frames : List Captured) (fram
     → ((bytes : List ℕ) → first ≡ Some bytes → IsReadTo start bytes frames old before) → ReadsAs frames start first last (Err e)
 read_refused start old new frames frame first None after last (TooLong offset) gives reads = λ bytes is. let r = reads bytes is in let told = r.told in absurd (cc)
 read_refused start old new frames frame first (Some b) None last (TooLong offset) gives reads = absurd gives
-read_refused start old new frames frame first (Some b) (Some a) last (TooLong offset) gives reads = λ bytes is. ap (λ f. f.ending) (at-end start bytes frames old new frame (too_long offset) b gives (Some b) refl (reads bytes is))
+read_refused start old new frames frame first (Some b) (Some a) last (TooLong offset) gives reads =
+    λ bytes is. ap (λ f. f.ending) (at-end start bytes frames old new frame (too_long offset) b gives (Some b) refl (reads bytes is))
 read_refused start old new frames frame first None after last (TooMany offset) gives reads = λ bytes is. let r = reads bytes is in let told = r.told in absurd (cc)
 read_refused start old new frames frame first (Some b) None last (TooMany offset) gives reads = absurd gives
-read_refused start old new frames frame first (Some b) (Some a) last (TooMany offset) gives reads = λ bytes is. ap (λ f. f.ending) (at-end start bytes frames old new frame (too_many offset) b gives (Some b) refl (reads bytes is))
+read_refused start old new frames frame first (Some b) (Some a) last (TooMany offset) gives reads =
+    λ bytes is. ap (λ f. f.ending) (at-end start bytes frames old new frame (too_many offset) b gives (Some b) refl (reads bytes is))
 read_refused start old new frames frame first before after last ReadFault gives reads = tt
 read_refused start old new frames frame first before after last NoMemory gives reads = tt

@@ -31,7 +31,8 @@ module _ {L : Type 0} (g : Ghosts L) (script : List Command) where
   under_of lane ring r = r.in_force ∙ ap (λ n. control (g.app lane).presets (take n script)) (sym r.version)
 
   -- a worker that was ready is ready again
-  pub ready_again : (a b : Worker L) (packets : List Packet) (places : List ℕ) → IsReady g script a.lane a.commands → Ran g script a b packets places → Takes a.commands b.commands places → g.failed b.lane ≡ None → IsUnder g script b.lane
+  pub ready_again : (a b : Worker L) (packets : List Packet) (places : List ℕ) → IsReady g script a.lane a.commands → Ran g script a b packets places → Takes a.commands b.commands places
+      → g.failed b.lane ≡ None → IsUnder g script b.lane
       → IsReady g script b.lane b.commands
   ready_again a b packets places r ran took well under =
       let more = taken_more a.commands b.commands places took in

@@ -42,7 +42,8 @@ module _ {L : Type 0} (g : Ghosts L) (script : List Command) (a : L) (from : Rin
     went_back : WentOn g script (g.given a + length (known from)) (turn (adv.done ++ adv.bad)) a b (map Took adv.done) (map Took adv.bad)
     went_back = record {
       stands = λ events s. subst (λ l. g.stands b (events ++ l)) (sym (ap events_of took_two ∙ events-took (adv.done ++ adv.bad))) (adv.stands events s);
-      commands = subst (λ l. IsPrefix l (drop (g.given a) script)) (sym (ap given_by (took_two ∙ sym (append-nil (map Took (adv.done ++ adv.bad)))) ∙ given-took (adv.done ++ adv.bad) [] ∙ append-nil (adv.done ++ adv.bad))) adv.commands;
+      commands = subst (λ l. IsPrefix l (drop (g.given a) script))
+          (sym (ap given_by (took_two ∙ sym (append-nil (map Took (adv.done ++ adv.bad)))) ∙ given-took (adv.done ++ adv.bad) [] ∙ append-nil (adv.done ++ adv.bad))) adv.commands;
       within = subst (AreWithin (g.given a + length (known from)) (g.given a)) (append-nil (map Took (adv.done ++ adv.bad)) ∙ sym took_two)
           (within-took (g.given a + length (known from)) (g.given a) (adv.done ++ adv.bad) [] tt);
       newest = adv.newest ∙ sym (ap (λ l. last_number (g.last a) (events_of l)) (took_two ∙ sym (append-nil (map Took (adv.done ++ adv.bad)))) ∙ last-took (g.last a) (adv.done ++ adv.bad) []);
@@ -70,8 +71,10 @@ module _ {L : Type 0} (g : Ghosts L) (script : List Command) (a : L) (from : Rin
     }
 
   -- the lane took all commands, and then the packet
-  module _ (b c : L) (to : RingRx ℕ) (adv : Advanced g script a b from to) (well : g.failed b ≡ None) (floor : p.floor ≤ g.given b) (ceil : g.given b ≤ p.ceil) (all_known : min p.ceil (g.given a + length (known from)) ≤ g.given b)
-      (stands : (events : List LaneEvent) → g.stands b events → g.stands c (with_event (Arrived (arrival_of p.index p.frame)) events)) (newest : g.last c ≡ Some p.index) (version : g.given c ≡ g.given b) where
+  module _ (b c : L) (to : RingRx ℕ) (adv : Advanced g script a b from to) (well : g.failed b ≡ None) (floor : p.floor ≤ g.given b) (ceil : g.given b ≤ p.ceil)
+      (all_known : min p.ceil (g.given a + length (known from)) ≤ g.given b)
+      (stands : (events : List LaneEvent) → g.stands b events → g.stands c (with_event (Arrived (arrival_of p.index p.frame)) events)) (newest : g.last c ≡ Some p.index)
+          (version : g.given c ≡ g.given b) where
     abbrev cs : List Command
     cs = adv.done
 

@@ -13,7 +13,7 @@ use Rattle.lane_core.specs.declared.recorder.Recorder.{Ghosts}
 use Rattle.lane_core.specs.Sight.{Moment, arrivals}
 use Rattle.lane_core.specs.Run.{LaneEvent, ended_run}
 use Rattle.lane_core.specs.Lane.{IsEnd, IsHeavy, IsHeavyAtEnd}
-use Rattle.worker_laws.specs.declared.ends.Joined.{Joined}
+use Rattle.lane_ends.specs.declared.ends.Joined.{Joined}
 use Rattle.worker_laws.specs.Allowed.{arrivals_of}
 use Rattle.worker_laws.specs.Ends.{IsJoined}
 use Rattle.worker_laws.specs.Lanes.{share}

@@ -8,7 +8,7 @@ use Rattle.pcap_source.specs.Captured.{Captured}
 use Rattle.control_script.specs.declared.stamped.Stamped.{Stamped}
 use Rattle.control_script.specs.Order.{commands_of}
 use Rattle.lane_rings.specs.declared.items.Answer.{Answer}
-use Rattle.lane_rings.specs.Share.{share}
+use Rattle.worker_laws.specs.Share.{share}
 use Rattle.lane_rings.specs.Waiting.{Waiting, first_of}
 use Rattle.lane_core.specs.declared.recorder.Recorder.{Ghosts}
 use Rattle.lane_core.specs.Sight.{arrivals}

@@ -8,7 +8,7 @@ use Rattle.pcap_source.specs.Captured.{Captured}
 use Rattle.pcap_source.specs.Capture.{Frames, tail, too_long, too_many}
 use Rattle.control_script.specs.declared.stamped.Stamped.{Stamped}
 use Rattle.control_script.specs.Order.{commands_of}
-use Rattle.lane_rings.specs.Forwarded.{bytes_under}
+use Rattle.worker_laws.specs.Forwarded.{bytes_under}
 use Rattle.lane_core.specs.Sight.{Arrival, arrivals}
 use Rattle.worker_laws.specs.Whole.{verdicts_under}
 use Rattle.worker_pool.specs.Run.{MayHave}

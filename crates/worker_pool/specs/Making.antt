@@ -8,9 +8,9 @@ use Rattle.lane_rings.specs.declared.ring.RingTx.{RingTx}
 use Rattle.lane_rings.specs.Ring.{sent, taken, AreEnds}
 use Rattle.lane_core.specs.declared.recorder.Recorder.{Ghosts}
 use Rattle.worker_pool.specs.declared.worker.Worker.{Worker}
-use Rattle.worker_pool.specs.declared.forward.relay.Relay.{Relay}
+use Rattle.worker_pool.specs.declared.forward.lane_answers.LaneAnswers.{LaneAnswers}
 use Rattle.worker_pool.specs.Team.{IsNew, AllKeep}
-use Rattle.worker_pool.specs.Streamed.{AreRelays}
+use Rattle.worker_pool.specs.Streamed.{AreLaneAnswers}
 
 module _ {L : Type 0} (g : Ghosts L) (app : Meaning) (keep : Bool) where
   -- a lane that stands for no events, under the presets alone; it keeps entries, or doesn't
@@ -32,7 +32,7 @@ module _ {L : Type 0} (g : Ghosts L) (app : Meaning) (keep : Bool) where
     pub each_sent : (k : ℕ) (tx : RingTx Packet) → k < length packets → sent (get_or packets k tx) ≡ []
 
 module _ {L : Type 0} where
-  -- the relays of workers that began so, to whose lanes nothing was sent, and from which nothing was taken
-  pub record AreUnused (workers : List (Worker L)) (relays : List Relay) : Type 0 where
-    pub relays_are : AreRelays workers [] relays
-    pub untaken : All (λ r. taken r.answers ≡ []) relays
+  -- the answers of workers that began so, to whose lanes nothing was sent, and from which nothing was taken
+  pub record AreUnused (workers : List (Worker L)) (all_answers : List LaneAnswers) : Type 0 where
+    pub all_answers_are : AreLaneAnswers workers [] all_answers
+    pub untaken : All (λ r. taken r.answers ≡ []) all_answers

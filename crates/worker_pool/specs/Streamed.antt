@@ -10,42 +10,42 @@ use Rattle.control_script.specs.declared.stamped.Stamped.{Stamped}
 use Rattle.lane_rings.specs.declared.items.Answer.{Answer}
 use Rattle.lane_rings.specs.declared.ring.RingTx.{RingTx}
 use Rattle.lane_rings.specs.Ring.{sent, taken, AreEnds}
-use Rattle.lane_rings.specs.Share.{share}
+use Rattle.worker_laws.specs.Share.{share}
 use Rattle.lane_rings.specs.Waiting.{Waiting, first_of}
-use Rattle.lane_rings.specs.Forward.{Leaving, Keeps, bytes_of_first}
+use Rattle.worker_laws.specs.Forward.{Leaving, Keeps, bytes_of_first}
 use Rattle.lane_core.specs.declared.recorder.Recorder.{Ghosts}
 use Rattle.worker_pool.specs.declared.worker.Worker.{Worker}
-use Rattle.worker_pool.specs.declared.post.Post.{Post}
-use Rattle.worker_pool.specs.declared.dispatch.Whole.{Whole}
-use Rattle.worker_pool.specs.declared.forward.relay.Relay.{Relay}
+use Rattle.worker_pool.specs.declared.team.lane_input.LaneInput.{LaneInput}
+use Rattle.worker_pool.specs.declared.team.dispatch.Whole.{Whole}
+use Rattle.worker_pool.specs.declared.forward.lane_answers.LaneAnswers.{LaneAnswers}
 use Rattle.worker_pool.specs.declared.job.PoolError.{PoolError}
 use Rattle.worker_pool.specs.declared.job.PoolError.TheVariants.{TooLong, TooMany, ReadFault, WriteFault, Heavy, NoMemory}
-use Rattle.worker_pool.specs.Posts.{ArePosts, HasRead}
+use Rattle.worker_pool.specs.Inputs.{AreInputs, HasRead}
 
 -- the lane of each packet by its number, among so many lanes; lane 0 past the end
 abbrev pub lane_at : ℕ → List Captured → ℕ → ℕ
 lane_at lanes frames i = get_or (map (λ f. lane_of_sight (sight_of f.bytes) lanes) frames) i 0
 
 -- the answers that were taken from each lane; none where there is no such lane
-abbrev pub taken_from : List Relay → ℕ → List Answer
-taken_from relays l = get_or (map (λ r. taken r.answers) relays) l []
+abbrev pub taken_from : List LaneAnswers → ℕ → List Answer
+taken_from all_answers l = get_or (map (λ r. taken r.answers) all_answers) l []
 
--- ---- the relays of workers
+-- ---- the answers of workers
 
 module _ {L : Type 0} where
   -- a worker that begins so answers into the ring of which this is the taking end, and has answered nothing
-  pub record IsAnswered (begin : Worker L) (relay : Relay) : Type 0 where
+  pub record IsAnswered (begin : Worker L) (lane_answers : LaneAnswers) : Type 0 where
     pub ring : RingTx Answer
     pub answers : begin.answers ≡ Some ring
     pub unsent : sent ring ≡ []
-    pub ends : AreEnds ring relay.answers
+    pub ends : AreEnds ring lane_answers.answers
 
-  -- the relays of workers that began so, to whose lanes the packets of these frames were sent
-  pub record AreRelays (begins : List (Worker L)) (frames : List Captured) (relays : List Relay) : Type 0 where
-    pub count : length begins ≡ length relays
-    pub answered : (k : ℕ) (w : Worker L) (r : Relay) → k < length relays → IsAnswered (get_or begins k w) (get_or relays k r)
-    pub sent_are : (k : ℕ) (r : Relay) → k < length relays → (get_or relays k r).sent ≡ length (share (lane_at (length relays) frames) k (length frames))
-    pub taken_are : (k : ℕ) (r : Relay) → k < length relays → (get_or relays k r).taken ≡ length (taken (get_or relays k r).answers)
+  -- the answers of workers that began so, to whose lanes the packets of these frames were sent
+  pub record AreLaneAnswers (begins : List (Worker L)) (frames : List Captured) (all_answers : List LaneAnswers) : Type 0 where
+    pub count : length begins ≡ length all_answers
+    pub answered : (k : ℕ) (w : Worker L) (r : LaneAnswers) → k < length all_answers → IsAnswered (get_or begins k w) (get_or all_answers k r)
+    pub sent_are : (k : ℕ) (r : LaneAnswers) → k < length all_answers → (get_or all_answers k r).sent ≡ length (share (lane_at (length all_answers) frames) k (length frames))
+    pub taken_are : (k : ℕ) (r : LaneAnswers) → k < length all_answers → (get_or all_answers k r).taken ≡ length (taken (get_or all_answers k r).answers)
 
 -- ---- what has left
 
@@ -91,16 +91,17 @@ StopsAs frames capture old new (Err NoMemory) = ⊤
 module _ {L : Type 0} where
   -- The packets of these frames, the first of the capture, were sent, and some of the answers taken and written; these wait. At a
   -- fault of writing the record whose turn it was is cut off.
-  pub record Streamed (begins : List (Worker L)) (frames : List Captured) (relays : List Relay) (waiting : Waiting) (capture : CaptureState) (old new before after : Option (List ℕ)) (result : Result Whole PoolError) : Type 0 where
-    pub relays_are : AreRelays begins frames relays
-    pub left : HasLeft (lane_at (length relays) frames) (length frames) (taken_from relays) before after
-    pub leaves : result ≢ Err WriteFault → Leaves (lane_at (length relays) frames) (length frames) (taken_from relays) waiting before after
+  pub record Streamed (begins : List (Worker L)) (frames : List Captured) (all_answers : List LaneAnswers) (waiting : Waiting) (capture : CaptureState) (old new before after : Option (List ℕ))
+      (result : Result Whole PoolError) : Type 0 where
+    pub all_answers_are : AreLaneAnswers begins frames all_answers
+    pub left : HasLeft (lane_at (length all_answers) frames) (length frames) (taken_from all_answers) before after
+    pub leaves : result ≢ Err WriteFault → Leaves (lane_at (length all_answers) frames) (length frames) (taken_from all_answers) waiting before after
     pub front : (rest : List ℕ) → old ≡ Some rest → IsPrefix frames (frames_at capture rest).frames
     pub stops : StopsAs frames capture old new result
 
-  -- the packets of some frames were sent to these posts, and this holds of the frames
-  pub record Dealt (g : Ghosts L) (script : List Stamped) (begins : List (Worker L)) (posts : List (Post L)) (did : List Captured → Type 0) : Type 0 where
+  -- the packets of some frames were sent to these inputs, and this holds of the frames
+  pub record Dealt (g : Ghosts L) (script : List Stamped) (begins : List (Worker L)) (inputs : List (LaneInput L)) (did : List Captured → Type 0) : Type 0 where
     pub frames : List Captured
     pub few : length frames ≤ 1048576
-    pub posts_are : ArePosts g script begins frames posts
+    pub inputs_are : AreInputs g script begins frames inputs
     pub done : did frames

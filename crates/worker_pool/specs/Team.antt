@@ -14,12 +14,12 @@ use Rattle.lane_core.specs.declared.recorder.Recorder.{Ghosts}
 use Rattle.app_api.specs.App.{Meaning}
 use Rattle.worker_pool.specs.declared.worker.Worker.{Worker}
 use Rattle.worker_pool.specs.declared.team.Ran.{Ran}
-use Rattle.worker_pool.specs.declared.dispatch.Whole.{Whole}
+use Rattle.worker_pool.specs.declared.team.dispatch.Whole.{Whole}
 use Rattle.worker_pool.specs.declared.job.PoolError.{PoolError}
 use Rattle.worker_pool.specs.declared.job.PoolError.TheVariants.{TooLong, TooMany, ReadFault, WriteFault, Heavy, NoMemory}
 use Rattle.worker_pool.specs.Worked.{Worked}
 use Rattle.worker_pool.specs.Sent.{packets_from, dealt}
-use Rattle.worker_pool.specs.Posts.{HasRead}
+use Rattle.worker_pool.specs.Inputs.{HasRead}
 
 module _ {L : Type 0} where
   -- a worker that has taken nothing: its lane stands for no events, under the presets alone

@@ -3,8 +3,8 @@
 mod drain;
 mod exit;
 mod explain;
+mod feed;
+pub(crate) mod lane_answers;
 pub(crate) mod lanes;
 mod leave;
-pub(crate) mod relay;
 mod stream;
-mod streamer;

@@ -7,19 +7,19 @@ ghost use Rattle.forest_versions.specs.Lawful.{are_lawful};
 ghost use Rattle.forest_versions.specs.State.{start};
 ghost use Rattle.control_script.specs.Order.{commands_of};
 ghost use Rattle.worker_pool.specs.Worked.{MayWork, WorkedOn};
-ghost use Rattle.worker_pool.specs.Manned.{CanRun, MayStart, Served};
-ghost use Rattle.worker_pool.specs.Posts.{IsSeated};
+ghost use Rattle.worker_pool.specs.AtWork.{CanRun, MayStart, Served};
+ghost use Rattle.worker_pool.specs.Inputs.{IsPlaced};
 
-use crate::control::publish;
-use crate::dealer::Dealer;
-use crate::dispatch::Whole;
-use crate::duty::{Duty, Shift};
-use crate::finish::finish_all;
 use crate::gate::Gate;
 use crate::job::PoolError;
-use crate::post::Post;
-use crate::seat::{Seat, Works, start_work};
+use crate::team::control::publish;
+use crate::team::dispatch::Whole;
+use crate::team::feed::Feed;
+use crate::team::finish::finish_all;
+use crate::team::lane_input::LaneInput;
+use crate::team::worker_place::{WorkerPlace, Works, start_work};
 use crate::worker::Worker;
+use crate::worker::context::{WorkerContext, WorkerRunner};
 use control_script::Script;
 use lane_core::Recorder;
 use lane_rings::{CommandTx, PacketTx};
@@ -31,6 +31,14 @@ use std::sync::Wait;
 use std::sync::atomic::{AtomicBool, Ordering};
 use std::thread;
 use std::thread::{JoinHandle, Scope, Threads};
+
+mod control;
+pub(crate) mod dispatch;
+pub(crate) mod feed;
+mod finish;
+pub(crate) mod lane_input;
+pub(crate) mod make;
+mod worker_place;
 
 /// Workers that have begun nothing, with the sending ends of their rings: each list has one for each lane, in order.
 #[derive(Drop)]
@@ -99,61 +107,61 @@ fn join_control<R: Threads>(rt: &R, control: Option<JoinHandle<()>>) {
     }
 }
 
-// Starts the thread in which a worker does its duty until its flag is raised.
-fn take_on<'s, E: 's, L: Recorder + Drop + Send + 's, D: Duty<L> + Sync>(
+// Starts the thread in which a worker works until its flag is raised.
+fn take_on<'s, E: 's, L: Recorder + Drop + Send + 's, D: WorkerRunner<L> + Sync>(
     scope: &Scope<'s, E>,
-    duty: &'s D,
+    context: &'s D,
     script: &Script,
     stop: &'s AtomicBool,
     w: Worker<L>,
-) -> Seat<L>
+) -> WorkerPlace<L>
     requires shared { IsSync D.row }
-    requires commands { D.commands duty.now ≡ commands_of script.now }
-    requires ready { MayWork L.Recorder (D.commands duty.now) w }
-    requires lawful { IsTrue (are_lawful (start (L.app w.lane).presets) (D.commands duty.now)) }
-    ensures seated { IsSeated L.Recorder (commands_of script.now) w result }
+    requires commands { D.commands context.now ≡ commands_of script.now }
+    requires ready { MayWork L.Recorder (D.commands context.now) w }
+    requires lawful { IsTrue (are_lawful (start (L.app w.lane).presets) (D.commands context.now)) }
+    ensures placed { IsPlaced L.Recorder (commands_of script.now) w result }
 {
     let promise = Works {
         start: Snapshot::of(&w),
         script: Snapshot::of(script),
     };
     let f = move |w: Worker<L>| -> Worker<L>
-        requires ready { MayWork L.Recorder (D.commands duty.now) w }
-        requires lawful { IsTrue (are_lawful (start (L.app w.lane).presets) (D.commands duty.now)) }
-        ensures { WorkedOn L.Recorder (D.commands duty.entry.now) w result }
-    { duty.serve(w, stop) };
+        requires ready { MayWork L.Recorder (D.commands context.now) w }
+        requires lawful { IsTrue (are_lawful (start (L.app w.lane).presets) (D.commands context.now)) }
+        ensures { WorkedOn L.Recorder (D.commands context.entry.now) w result }
+    { context.run_worker(w, stop) };
     start_work(scope, promise, stop, w, f)
 }
 
-// Starts the threads, has the packets of the capture dealt out, and waits for the threads. The dealer is handed back.
+// Starts the threads, has the feed send the packets of the capture, and waits for the threads. The feed is handed back.
 fn run_threads<
     'c,
     R: Threads + Wait + Sync + Send + Copy + Drop + 'static,
     L: Recorder + Drop + Send,
-    D: Duty<L> + Sync,
-    E: Dealer<L>,
+    D: WorkerRunner<L> + Sync,
+    E: Feed<L>,
     G: Gate + Sync,
 >(
     rt: &'c R,
     alloc: Global,
     team: Team<L>,
-    posts: Vec<Post<L>>,
+    inputs: Vec<LaneInput<L>>,
     back: Vec<Worker<L>>,
     stops: &'c [AtomicBool],
     failed: &'c AtomicBool,
-    duty: &'c D,
+    context: &'c D,
     script: &'c Script,
     natives: &'c NativeBook,
     gate: &'c G,
-    dealer: &'c mut E,
+    feed: &'c mut E,
 ) -> (Result<Whole, PoolError>, Vec<Worker<L>>, &'c mut E)
-    requires starts { MayStart L.Recorder script.now (D.commands duty.now)
-        (E.script dealer.old) team.workers.items team.packets.items posts.items (vec_capacity posts) back.items
+    requires starts { MayStart L.Recorder script.now (D.commands context.now)
+        (E.script feed.old) team.workers.items team.packets.items inputs.items (vec_capacity inputs) back.items
         (vec_capacity back) (length stops.now) }
-    requires may { E.may dealer.old team.workers.items }
+    requires may { E.may feed.old team.workers.items }
     ensures served { Served L.Recorder script.now team.workers.items result.1.items
-        (λ frames. E.did dealer.old result.2.now team.workers.items frames result.0) }
-    ensures same { result.2.ghost_name ≡ dealer.entry.ghost_name }
+        (λ frames. E.did feed.old result.2.now team.workers.items frames result.0) }
+    ensures same { result.2.ghost_name ≡ feed.entry.ghost_name }
 {
     let Team {
         workers,
@@ -167,60 +175,60 @@ fn run_threads<
         move |scope| -> (Result<Whole, PoolError>, Vec<Worker<L>>, &mut E)
             requires duty_shared { IsSync D.row }
             requires gate_shared { IsSync G.row }
-            requires starts { MayStart L.Recorder script.now (D.commands duty.now)
-                (E.script dealer.now) workers.items packets.items posts.items (vec_capacity posts) back.items
+            requires starts { MayStart L.Recorder script.now (D.commands context.now)
+                (E.script feed.now) workers.items packets.items inputs.items (vec_capacity inputs) back.items
                 (vec_capacity back) (length stops.now) }
-            requires may { E.may dealer.now workers.items }
+            requires may { E.may feed.now workers.items }
             ensures served { Served L.Recorder script.entry.now workers.items result.1.items
-                (λ frames. E.did dealer.entry.now result.2.now workers.items frames result.0) }
-            ensures same { result.2.ghost_name ≡ dealer.entry.ghost_name }
+                (λ frames. E.did feed.entry.now result.2.now workers.items frames result.0) }
+            ensures same { result.2.ghost_name ≡ feed.entry.ghost_name }
         {
             let control = start_control(scope, move || publish(commands, count, gate));
             let mut workers = VecDeque::from(workers);
             let mut packets = VecDeque::from(packets);
-            let mut posts = posts;
+            let mut inputs = inputs;
             for stop in stops {
                 let w = take_first(&mut workers);
                 let packets = take_first(&mut packets);
-                let seat = take_on(scope, duty, script, stop, w);
-                posts.push_reserved(Post { packets, seat });
+                let place = take_on(scope, context, script, stop, w);
+                inputs.push_reserved(LaneInput { packets, place });
             }
-            let read = dealer.deal(&mut posts);
+            let read = feed.send_packets(&mut inputs);
             raise_all(stops);
             join_control(rt, control);
-            let workers = finish_all(rt, alloc, posts, back, script, natives, gate, failed);
-            (read, workers, dealer)
+            let workers = finish_all(rt, alloc, inputs, back, script, natives, gate, failed);
+            (read, workers, feed)
         },
     )
 }
 
-// The same, with the dealer lent.
-fn serve<
+// The same, with the feed lent, and what the workers share made here.
+fn run_lent_feed<
     R: Threads + Wait + Sync + Send + Copy + Drop + 'static,
     L: Recorder + Drop + Send,
-    E: Dealer<L>,
+    E: Feed<L>,
     G: Gate + Sync,
 >(
     rt: &R,
     alloc: Global,
     team: Team<L>,
-    posts: Vec<Post<L>>,
+    inputs: Vec<LaneInput<L>>,
     back: Vec<Worker<L>>,
     stops: &[AtomicBool],
     script: &Script,
     natives: &NativeBook,
     gate: &G,
     failed: &AtomicBool,
-    dealer: &mut E,
+    feed: &mut E,
 ) -> (Result<Whole, PoolError>, Vec<Worker<L>>)
     requires starts { MayStart L.Recorder script.now (commands_of script.now)
-        (E.script dealer.old) team.workers.items team.packets.items posts.items (vec_capacity posts) back.items
+        (E.script feed.old) team.workers.items team.packets.items inputs.items (vec_capacity inputs) back.items
         (vec_capacity back) (length stops.now) }
-    requires may { E.may dealer.old team.workers.items }
+    requires may { E.may feed.old team.workers.items }
     ensures served { Served L.Recorder script.now team.workers.items result.1.items
-        (λ frames. E.did dealer.old dealer.new team.workers.items frames result.0) }
+        (λ frames. E.did feed.old feed.new team.workers.items frames result.0) }
 {
-    let shift = Shift {
+    let context = WorkerContext {
         rt,
         alloc,
         script,
@@ -228,22 +236,22 @@ fn serve<
         gate,
         failed,
     };
-    let (read, workers, _dealer) = run_threads(
-        rt, alloc, team, posts, back, stops, failed, &shift, script, natives, gate, dealer,
+    let (read, workers, _feed) = run_threads(
+        rt, alloc, team, inputs, back, stops, failed, &context, script, natives, gate, feed,
     );
     (read, workers)
 }
 
-/// Runs a team over the packets that a dealer sends: each packet is taken by the worker of its lane, and each of the
-/// script's commands is told to all. Answers what the dealer ended with, and the workers. A lane for which no thread
+/// Runs a team over the packets that a feed sends: each packet is taken by the worker of its lane, and each of the
+/// script's commands is told to all. Answers what the feed ended with, and the workers. A lane for which no thread
 /// can be started is run in this one, and where the thread of the commands can't be started, they are told first.
 ///
-/// An error is want of memory, before the dealer has begun; it is as it was then. `failed` is raised where a lane
+/// An error is want of memory, before the feed has begun; it is as it was then. `failed` is raised where a lane
 /// fails.
 pub(crate) fn run_team<
     R: Threads + Wait + Sync + Send + Copy + Drop + 'static,
     L: Recorder + Drop + Send,
-    E: Dealer<L>,
+    E: Feed<L>,
     G: Gate + Sync,
 >(
     rt: &R,
@@ -253,20 +261,20 @@ pub(crate) fn run_team<
     natives: &NativeBook,
     gate: &G,
     failed: &AtomicBool,
-    dealer: &mut E,
+    feed: &mut E,
 ) -> Result<(Result<Whole, PoolError>, Vec<Worker<L>>), AllocError>
-    requires script { E.script dealer.old ≡ script.now }
+    requires script { E.script feed.old ≡ script.now }
     requires team { CanRun L.Recorder script.now team.workers.items team.packets.items }
-    requires may { E.may dealer.old team.workers.items }
+    requires may { E.may feed.old team.workers.items }
     ensures served { IfOk result (λ r. Served L.Recorder script.now team.workers.items r.1.items
-        (λ frames. E.did dealer.old dealer.new team.workers.items frames r.0)) }
-    ensures unchanged { IfErr result (λ _. dealer.new ≡ dealer.old) }
+        (λ frames. E.did feed.old feed.new team.workers.items frames r.0)) }
+    ensures unchanged { IfErr result (λ _. feed.new ≡ feed.old) }
 {
     let count = team.workers.len();
-    let posts = Vec::with_capacity(alloc, count)?;
+    let inputs = Vec::with_capacity(alloc, count)?;
     let back = Vec::with_capacity(alloc, count)?;
     let stops = lowered_flags(alloc, count)?;
-    Ok(serve(
-        rt, alloc, team, posts, back, &stops, script, natives, gate, failed, dealer,
+    Ok(run_lent_feed(
+        rt, alloc, team, inputs, back, &stops, script, natives, gate, failed, feed,
     ))
 }

@@ -9,10 +9,10 @@ ghost use Rattle.worker_pool.specs.Steps.{fits};
 ghost use Rattle.worker_pool.specs.Worked.{MayWork, IsReady, Worked};
 ghost use Rattle.worker_pool.specs.Turning.{TookUp};
 
-use crate::backoff::Backoff;
-use crate::ends::{send_answer, take_from};
 use crate::gate::Gate;
-use crate::turn::{hand_over, is_fit};
+use crate::worker::backoff::Backoff;
+use crate::worker::ends::{send_answer, take_from};
+use crate::worker::turn::{hand_over, is_fit};
 use control_script::Script;
 use lane_core::Recorder;
 use lane_rings::{AnswerTx, CommandRx, Packet, PacketRx, PacketTx};
@@ -20,6 +20,13 @@ use native_filters::NativeBook;
 use std::alloc::Global;
 use std::sync::Wait;
 use std::sync::atomic::{AtomicBool, Ordering};
+
+pub(crate) mod backoff;
+pub(crate) mod context;
+mod ends;
+pub(crate) mod left;
+mod places;
+mod turn;
 
 /// What one thread owns: a lane, and its ends of the rings.
 #[derive(Drop)]
@@ -125,11 +132,11 @@ fn take_up<R: Wait, L: Recorder + Drop, G: Gate>(
     if !is_fit(&w.lane, script, &packet) {
         return;
     }
-    serve(rt, alloc, w, packet, script, natives, gate, failed);
+    decide_packet(rt, alloc, w, packet, script, natives, gate, failed);
 }
 
-// Hands a packet that fits to the lane, and sends the answer or gives the packet back.
-fn serve<R: Wait, L: Recorder + Drop, G: Gate>(
+// Has the lane decide a packet that fits, and sends the answer or gives the packet back.
+fn decide_packet<R: Wait, L: Recorder + Drop, G: Gate>(
     rt: &R,
     alloc: Global,
     w: &mut Worker<L>,

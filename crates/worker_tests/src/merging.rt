@@ -2,11 +2,11 @@
 
 use app_api::{Bytes, DropList, Entry, EntryList, FieldList, PieceList, Seen};
 use lane_core::{LaneEnd, VersionOfList};
+use lane_ends::{is_heavy, join, merge};
 use native_filters::Hook;
 use packet_views::Class;
 use report_text::{Record, RecordKind, RecordList};
 use std::alloc::{AllocError, Global};
-use worker_laws::{is_heavy, join, merge};
 
 // A record of no connection, with these callbacks.
 fn record(alloc: Global, name: u64, entries: Vec<Entry>) -> Record {

@@ -5,15 +5,15 @@ ghost use Rattle.std.specs.Io.KnownBytes.{Keeps};
 ghost use Rattle.mos_bytes.specs.Causes.{HasCause};
 ghost use Rattle.mos_bytes.specs.Writes.{WriteAdds};
 ghost use Rattle.lane_rings.specs.Waiting.{first_of};
-ghost use Rattle.lane_rings.specs.Forwarded.{bytes_out};
+ghost use Rattle.worker_laws.specs.Forwarded.{bytes_out};
 ghost use Rattle.worker_pool.specs.Streamed.{IsCutShort, LeavesOn};
 ghost use Rattle.worker_pool.specs.Drained.{held};
 
 use app_api::Verdict;
-use lane_rings::forward::writing_stays_right;
 use lane_rings::{Answer, Resequencer};
 use mos_bytes::{Failed, Sink, Source};
 use pcap_source::{Capture, Frame};
+use worker_laws::forward::writing_stays_right;
 
 // Writes what a packet leaves.
 fn write_answer<O: Sink>(answer: &Answer, capture: &Capture, out: &mut O) -> Result<(), Failed>

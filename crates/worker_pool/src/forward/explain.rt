@@ -8,17 +8,17 @@ ghost use Rattle.lane_rings.specs.declared.items.Packet.{Packet};
 ghost use Rattle.lane_rings.specs.declared.ring.RingTx.{RingTx};
 ghost use Rattle.lane_core.specs.Run.{LaneEvent};
 ghost use Rattle.worker_pool.specs.declared.worker.Worker.{Worker as Begun};
-ghost use Rattle.worker_pool.specs.declared.forward.relay.Relay.{Relay as Answers};
+ghost use Rattle.worker_pool.specs.declared.forward.lane_answers.LaneAnswers.{LaneAnswers as Answers};
 ghost use Rattle.worker_pool.specs.Team.{IsTeam, AllKeep, HaveServed};
 ghost use Rattle.worker_pool.specs.Ending.{CameTo};
-ghost use Rattle.worker_pool.specs.Streamed.{AreRelays};
+ghost use Rattle.worker_pool.specs.Streamed.{AreLaneAnswers};
 ghost use Rattle.worker_pool.specs.Explained.{AreGood, LeavesFront, LeavesAll};
 
-use crate::conclude::lanes_have_come;
+use crate::report::conclude::lanes_have_come;
 use crate::worker::Worker;
 use control_script::Script;
 use lane_core::Recorder;
-use lane_rings::forward::{
+use worker_laws::forward::{
     a_front_was_written, all_was_written, later_lanes_change_nothing, taken_are_right,
 };
 use worker_laws::packets::{packets_go_to_lanes, packets_of_a_capture_rise};
@@ -30,15 +30,15 @@ use worker_laws::streaming::{a_lane_answers_its_part, lanes_answer_as_the_run};
 /// This function does nothing: who ends a forward run calls it for what it says.
 pub(crate) fn lanes_have_answered<L: Recorder + Drop>(script: &Script, workers: &[Worker<L>])
     ensures front { (app : Meaning) (frames told : List Captured) (begins : List (Begun L))
-        (packets : List (RingTx Packet)) (relays : List Answers)
+        (packets : List (RingTx Packet)) (all_answers : List Answers)
         → length frames ≤ 1048576 → IsTeam L.Recorder app begins packets → AllKeep L.Recorder false begins
-        → HaveServed L.Recorder script.now begins frames workers.now → AreRelays begins frames relays
+        → HaveServed L.Recorder script.now begins frames workers.now → AreLaneAnswers begins frames all_answers
         → IsPrefix frames told
         → LeavesFront app script.now frames told workers.now }
     ensures whole { (app : Meaning) (frames : List Captured) (begins : List (Begun L)) (packets : List (RingTx Packet))
-        (relays : List Answers)
+        (all_answers : List Answers)
         → length frames ≤ 1048576 → IsTeam L.Recorder app begins packets → AllKeep L.Recorder false begins
-        → HaveServed L.Recorder script.now begins frames workers.now → AreRelays begins frames relays
+        → HaveServed L.Recorder script.now begins frames workers.now → AreLaneAnswers begins frames all_answers
         → (lanes : List (List LaneEvent)) × CameTo L.Recorder false app script.now frames workers.now lanes
         × (AreGood L.Recorder workers.now → LeavesAll app script.now frames workers.now lanes) }
 {

@@ -9,18 +9,18 @@ ghost use Rattle.forest_versions.specs.Lawful.{are_lawful};
 ghost use Rattle.forest_versions.specs.State.{start};
 ghost use Rattle.control_script.specs.Order.{commands_of};
 ghost use Rattle.worker_pool.specs.GoesOn.{GoesOn};
-ghost use Rattle.worker_pool.specs.Manned.{CanRun, Served};
+ghost use Rattle.worker_pool.specs.AtWork.{CanRun, Served};
 ghost use Rattle.worker_pool.specs.Source.{IsReadWhole, ReadsOn};
-ghost use Rattle.worker_pool.specs.Streamed.{AreRelays, Leaves, Streamed, lane_at, taken_from};
+ghost use Rattle.worker_pool.specs.Streamed.{AreLaneAnswers, Leaves, Streamed, lane_at, taken_from};
 ghost use Rattle.worker_pool.specs.Forward.{ForwardsFront, ForwardsOver};
 
-use crate::dispatch::Whole;
+use crate::forward::feed::ForwardFeed;
+use crate::forward::lane_answers::LaneAnswers;
 use crate::forward::leave::leave;
-use crate::forward::relay::Relay;
-use crate::forward::streamer::Streamer;
 use crate::gate::Gate;
 use crate::job::{Job, PoolError};
-use crate::make::{WAITING_ANSWERS, make_forward_team};
+use crate::team::dispatch::Whole;
+use crate::team::make::{WAITING_ANSWERS, make_forward_team};
 use crate::team::{Team, run_team};
 use crate::versions::VersionList;
 use crate::worker::Worker;
@@ -28,7 +28,6 @@ use app_api::App;
 use control_script::Script;
 use lane_core::Recorder;
 use lane_rings::Resequencer;
-use lane_rings::forward::beginning_is_right;
 use mos_bytes::{Sink, Source};
 use native_filters::NativeBook;
 use pcap_source::Capture;
@@ -36,6 +35,7 @@ use std::alloc::{AllocError, Global};
 use std::sync::Wait;
 use std::sync::atomic::AtomicBool;
 use std::thread::Threads;
+use worker_laws::forward::beginning_is_right;
 use worker_laws::packets::packets_of_a_capture_rise;
 use worker_laws::versions::{a_script_gives_floors_and_ceilings, fronts_go_on_to_an_allowed_list};
 
@@ -64,7 +64,7 @@ fn stream_team<
     rt: &'a R,
     alloc: Global,
     team: Team<L>,
-    relays: &'a mut Vec<Relay>,
+    all_answers: &'a mut Vec<LaneAnswers>,
     waiting: &'a mut Resequencer,
     script: &'a Script,
     natives: &'a NativeBook,
@@ -75,11 +75,11 @@ fn stream_team<
 ) -> Result<(Result<Whole, PoolError>, Vec<Worker<L>>), AllocError>
     requires opened { Opened capture.old }
     requires team { CanRun L.Recorder script.now team.workers.items team.packets.items }
-    requires relays { AreRelays team.workers.items [] relays.old.items }
-    requires begins { Leaves (lane_at (length relays.old.items) []) 0 (taken_from relays.old.items) waiting.old
+    requires all_answers { AreLaneAnswers team.workers.items [] all_answers.old.items }
+    requires begins { Leaves (lane_at (length all_answers.old.items) []) 0 (taken_from all_answers.old.items) waiting.old
         (O.taken out.old) (O.taken out.old) }
     ensures served { IfOk result (λ r. Served L.Recorder script.now team.workers.items r.1.items
-        (λ frames. Streamed team.workers.items frames relays.new.items waiting.new
+        (λ frames. Streamed team.workers.items frames all_answers.new.items waiting.new
         capture.old (S.left source.old) (S.left source.new) (O.taken out.old) (O.taken out.new) r.0)) }
     ensures reads { IfOk result (λ r. ReadsOn S.Source capture.old source.old source.new (IsOk r.0)
         (IsErrOf r.0 PoolError.ReadFault)) }
@@ -91,10 +91,10 @@ fn stream_team<
         × (out.new ≡ out.old)) }
 {
     let failed = AtomicBool::new(false);
-    let mut streamer = Streamer {
+    let mut feed = ForwardFeed {
         rt,
         alloc,
-        relays,
+        all_answers,
         waiting,
         script,
         natives,
@@ -104,16 +104,7 @@ fn stream_team<
         source,
         out,
     };
-    let (read, workers) = run_team(
-        rt,
-        alloc,
-        team,
-        script,
-        natives,
-        gate,
-        &failed,
-        &mut streamer,
-    )?;
+    let (read, workers) = run_team(rt, alloc, team, script, natives, gate, &failed, &mut feed)?;
     Ok((read, workers))
 }
 
@@ -164,13 +155,13 @@ pub fn forward_lanes<
 {
     nothing_is_a_front(job.script);
     beginning_is_right();
-    let (team, mut relays) = make_forward_team(rt, alloc, job)?;
+    let (team, mut all_answers) = make_forward_team(rt, alloc, job)?;
     let mut waiting = Resequencer::new(alloc, WAITING_ANSWERS)?;
     let (read, workers) = stream_team(
         rt,
         alloc,
         team,
-        &mut relays,
+        &mut all_answers,
         &mut waiting,
         job.script,
         natives,
@@ -180,6 +171,15 @@ pub fn forward_lanes<
         out,
     )?;
     leave(
-        rt, alloc, job.script, workers, relays, waiting, read, natives, capture, out,
+        rt,
+        alloc,
+        job.script,
+        workers,
+        all_answers,
+        waiting,
+        read,
+        natives,
+        capture,
+        out,
     )
 }

@@ -15,31 +15,31 @@ ghost use Rattle.worker_laws.specs.Greatest.{greatest};
 ghost use Rattle.worker_laws.specs.Taken.{AreOneRun};
 ghost use Rattle.worker_pool.specs.declared.worker.Worker.{Worker as Begun};
 ghost use Rattle.worker_pool.specs.Team.{IsTeam, AllKeep, HaveServed};
-ghost use Rattle.worker_pool.specs.Streamed.{AreRelays, Streamed};
+ghost use Rattle.worker_pool.specs.Streamed.{AreLaneAnswers, Streamed};
 ghost use Rattle.worker_pool.specs.Run.{MayHave};
 ghost use Rattle.worker_pool.specs.Ending.{by_key, CameTo};
 ghost use Rattle.worker_pool.specs.Explained.{AreGood};
 ghost use Rattle.worker_pool.specs.Forward.{ForwardsOver};
 
-use crate::conclude::ends_of;
-use crate::dispatch::Whole;
 use crate::forward::drain::drain;
 use crate::forward::exit::write_ready;
 use crate::forward::explain::lanes_have_answered;
-use crate::forward::relay::Relay;
+use crate::forward::lane_answers::LaneAnswers;
 use crate::job::PoolError;
+use crate::report::conclude::ends_of;
+use crate::team::dispatch::Whole;
 use crate::versions::{VersionList, versions_of};
 use crate::worker::Worker;
 use control_script::Script;
 use flow_timers::Moment;
 use lane_core::Recorder;
+use lane_ends::join;
 use lane_rings::Resequencer;
 use mos_bytes::Sink;
 use native_filters::NativeBook;
 use pcap_source::Capture;
 use std::alloc::Global;
 use std::thread::Threads;
-use worker_laws::join;
 use worker_laws::packets::packets_of_a_capture_rise;
 use worker_laws::runs::a_run_has_its_versions;
 
@@ -91,7 +91,7 @@ pub(crate) fn leave<R: Threads + Sync, L: Recorder + Drop + Send, O: Sink>(
     alloc: Global,
     script: &Script,
     workers: Vec<Worker<L>>,
-    relays: Vec<Relay>,
+    all_answers: Vec<LaneAnswers>,
     waiting: Resequencer,
     read: Result<Whole, PoolError>,
     natives: &NativeBook,
@@ -101,19 +101,19 @@ pub(crate) fn leave<R: Threads + Sync, L: Recorder + Drop + Send, O: Sink>(
     requires served { (app : Meaning) × (frames : List Captured) × (begins : List (Begun L))
         × (packets : List (RingTx Packet))
         × IsTeam L.Recorder app begins packets × HaveServed L.Recorder script.now begins frames workers.items
-        × AreRelays begins frames relays.items }
+        × AreLaneAnswers begins frames all_answers.items }
     ensures ends { (app : Meaning) (frames : List Captured) (begins : List (Begun L)) (packets : List (RingTx Packet))
         (start : CaptureState) (old new before : Option (List ℕ)) (rest : List ℕ)
         → length frames ≤ 1048576 → IsTeam L.Recorder app begins packets → AllKeep L.Recorder false begins
         → HaveServed L.Recorder script.now begins frames workers.items
-        → Streamed begins frames relays.items waiting start old new before (O.taken out.old) read → old ≡ Some rest
+        → Streamed begins frames all_answers.items waiting start old new before (O.taken out.old) read → old ≡ Some rest
         → ForwardsOver app script.now (length begins) (frames_at start rest) before (O.taken out.new) result }
     ensures never_heavy { (app : Meaning) (frames : List Captured) (begins : List (Begun L))
         (packets : List (RingTx Packet))
         (start : CaptureState) (old new before : Option (List ℕ))
         → length frames ≤ 1048576 → IsTeam L.Recorder app begins packets → AllKeep L.Recorder false begins
         → HaveServed L.Recorder script.now begins frames workers.items
-        → Streamed begins frames relays.items waiting start old new before (O.taken out.old) read
+        → Streamed begins frames all_answers.items waiting start old new before (O.taken out.old) read
         → IfErr result (λ e. e ≢ PoolError.Heavy) }
     ensures ok { IsOk result → IsOk read }
     ensures error { IfErr read (λ e. (result ≡ Err e) ⊎ (result ≡ Err PoolError.WriteFault)) }
@@ -125,10 +125,10 @@ pub(crate) fn leave<R: Threads + Sync, L: Recorder + Drop + Send, O: Sink>(
 {
     lanes_have_answered(script, workers.as_slice());
     let mut workers = workers;
-    let mut relays = relays;
+    let mut all_answers = all_answers;
     let mut waiting = waiting;
     let mut spare = Vec::new(alloc);
-    drain(&mut workers, &mut relays, &mut waiting);
+    drain(&mut workers, &mut all_answers, &mut waiting);
     if is_write_fault(&read) {
         return Err(PoolError::WriteFault);
     }

@@ -7,34 +7,36 @@ ghost use Rattle.pcap_source.specs.Captured.{Captured};
 ghost use Rattle.pcap_source.specs.Reading.{Opened};
 ghost use Rattle.worker_pool.specs.declared.worker.Worker.{Worker as Begun};
 ghost use Rattle.worker_pool.specs.GoesOn.{GoesOn};
-ghost use Rattle.worker_pool.specs.Posts.{ArePosts};
+ghost use Rattle.worker_pool.specs.Inputs.{AreInputs};
 ghost use Rattle.worker_pool.specs.Source.{ReadsOn};
-ghost use Rattle.worker_pool.specs.Streamed.{AreRelays, Leaves, Streamed, Dealt, lane_at, taken_from};
-ghost use Rattle.worker_pool.specs.Relayed.{HaveTaken, LeaveAll, CutAll};
+ghost use Rattle.worker_pool.specs.Streamed.{AreLaneAnswers, Leaves, Streamed, Dealt, lane_at, taken_from};
+ghost use Rattle.worker_pool.specs.TakenAnswers.{HaveTaken, LeaveAll, CutAll};
 
-use crate::backoff::Backoff;
-use crate::dispatch::{Whole, send_frame};
 use crate::forward::exit::{hand_on, write_ready};
-use crate::forward::relay::{Relay, count_sent, have_answered, take_all, take_answers};
+use crate::forward::lane_answers::{
+    LaneAnswers, count_sent, have_answered, take_all, take_answers,
+};
 use crate::gate::Gate;
 use crate::job::PoolError;
-use crate::post::{Post, take_turns};
+use crate::team::dispatch::{Whole, send_frame};
+use crate::team::lane_input::{LaneInput, take_turns};
+use crate::worker::backoff::Backoff;
 use control_script::Script;
 use lane_core::Recorder;
+use lane_ends::greatest_with;
 use lane_rings::Resequencer;
-use lane_rings::forward::{later_lanes_change_nothing, sending_stays_right};
 use mos_bytes::{Sink, Source};
 use native_filters::NativeBook;
 use pcap_source::{Capture, Frame, Step};
 use std::alloc::Global;
 use std::sync::Wait;
 use std::sync::atomic::{AtomicBool, Ordering};
-use worker_laws::moments::greatest_with;
+use worker_laws::forward::{later_lanes_change_nothing, sending_stays_right};
 
 // Whether the next packet may be read: its place is there, and where the source would ask the outside for it, no packet
 // is on its way any more. So what has come in is decided and written before more is waited for.
 fn may_read<S: Source>(
-    relays: &[Relay],
+    all_answers: &[LaneAnswers],
     waiting: &Resequencer,
     index: u64,
     capture: &Capture,
@@ -42,11 +44,11 @@ fn may_read<S: Source>(
 ) -> bool
     ensures { result ≡ true → nat_lt index (waiting.now.next + length waiting.now.window) ≡ true }
 {
-    waiting.reaches(index) && (capture.is_at_hand(source) || have_answered(relays))
+    waiting.reaches(index) && (capture.is_at_hand(source) || have_answered(all_answers))
 }
 
-// Waits until the next packet may be read. Till then the records whose turn comes are written, workers that are here
-// take up packets, and answers are taken from all lanes. At `Ok` the output holds nothing back that the outside could
+// Waits until the next packet may be read. Till then the records whose turn comes are written, workers that are in
+// this thread take up packets, and answers are taken from all lanes. At `Ok` the output holds nothing back that the outside could
 // wait for.
 //
 // An error is that a record can't be written, or that a lane has failed: then its packets have no answers, and the
@@ -54,8 +56,8 @@ fn may_read<S: Source>(
 fn await_place<R: Wait, L: Recorder + Drop, S: Source, O: Sink, G: Gate>(
     rt: &R,
     alloc: Global,
-    posts: &mut Vec<Post<L>>,
-    relays: &mut Vec<Relay>,
+    inputs: &mut Vec<LaneInput<L>>,
+    all_answers: &mut Vec<LaneAnswers>,
     waiting: &mut Resequencer,
     index: u64,
     script: &Script,
@@ -68,16 +70,16 @@ fn await_place<R: Wait, L: Recorder + Drop, S: Source, O: Sink, G: Gate>(
     spare: &mut Vec<Frame>,
 ) -> Result<(), PoolError>
     requires begins { (begins : List (Begun L)) × (frames : List Captured)
-        × ArePosts L.Recorder script.now begins frames posts.old.items
-        × AreRelays begins frames relays.old.items }
-    ensures posts { (begins : List (Begun L)) (frames : List Captured)
-        → ArePosts L.Recorder script.now begins frames posts.old.items
-        → ArePosts L.Recorder script.now begins frames posts.new.items }
-    ensures takes { HaveTaken relays.old.items relays.new.items }
+        × AreInputs L.Recorder script.now begins frames inputs.old.items
+        × AreLaneAnswers begins frames all_answers.old.items }
+    ensures inputs { (begins : List (Begun L)) (frames : List Captured)
+        → AreInputs L.Recorder script.now begins frames inputs.old.items
+        → AreInputs L.Recorder script.now begins frames inputs.new.items }
+    ensures takes { HaveTaken all_answers.old.items all_answers.new.items }
     ensures place { OnOk result (nat_lt index (waiting.new.next + length waiting.new.window) ≡ true) }
     ensures leaves { result ≢ Err PoolError.WriteFault
-        → LeaveAll relays.old.items relays.new.items waiting.old waiting.new (O.taken out.old) (O.taken out.new) }
-    ensures cut { CutAll relays.old.items relays.new.items waiting.old (O.taken out.old) (O.taken out.new) }
+        → LeaveAll all_answers.old.items all_answers.new.items waiting.old waiting.new (O.taken out.old) (O.taken out.new) }
+    ensures cut { CutAll all_answers.old.items all_answers.new.items waiting.old (O.taken out.old) (O.taken out.new) }
     ensures only { IfErr result (λ e. (e ≡ PoolError.WriteFault) ⊎ (e ≡ PoolError.NoMemory)) }
     ensures cause { HasCauseOf (O.faults out.old) (O.faults out.new) (IsErrOf result PoolError.WriteFault) }
     ensures lasts { O.lasting out.new ≡ O.lasting out.old }
@@ -85,14 +87,14 @@ fn await_place<R: Wait, L: Recorder + Drop, S: Source, O: Sink, G: Gate>(
     let mut backoff = Backoff::new();
     for _ in rt.forever() {
         write_ready(waiting, capture, out, spare)?;
-        if may_read(relays.as_slice(), waiting, index, capture, source) {
+        if may_read(all_answers.as_slice(), waiting, index, capture, source) {
             return Ok(hand_on(capture, source, out)?);
         }
         if failed.load(Ordering::SeqCst) {
             return Err(PoolError::NoMemory);
         }
-        let worked = take_turns(rt, alloc, posts, script, natives, gate, failed);
-        let answered = take_all(relays, waiting);
+        let worked = take_turns(rt, alloc, inputs, script, natives, gate, failed);
+        let answered = take_all(all_answers, waiting);
         backoff.looked(rt, worked || answered);
     }
     unreachable!()
@@ -102,8 +104,8 @@ fn await_place<R: Wait, L: Recorder + Drop, S: Source, O: Sink, G: Gate>(
 fn send_next<R: Wait, L: Recorder + Drop, G: Gate>(
     rt: &R,
     alloc: Global,
-    posts: &mut Vec<Post<L>>,
-    relays: &mut Vec<Relay>,
+    inputs: &mut Vec<LaneInput<L>>,
+    all_answers: &mut Vec<LaneAnswers>,
     waiting: &mut Resequencer,
     index: u64,
     frame: Frame,
@@ -112,30 +114,30 @@ fn send_next<R: Wait, L: Recorder + Drop, G: Gate>(
     gate: &G,
     failed: &AtomicBool,
 )
-    requires some { 1 ≤ length posts.old.items }
+    requires some { 1 ≤ length inputs.old.items }
     requires few { index < 1048576 }
     requires begins { (begins : List (Begun L)) × (frames : List Captured) × (length frames ≡ index)
-        × ArePosts L.Recorder script.now begins frames posts.old.items × AreRelays begins frames relays.old.items }
-    ensures count { length posts.new.items ≡ length posts.old.items }
+        × AreInputs L.Recorder script.now begins frames inputs.old.items × AreLaneAnswers begins frames all_answers.old.items }
+    ensures count { length inputs.new.items ≡ length inputs.old.items }
     ensures sent { (begins : List (Begun L)) (frames : List Captured) → length frames ≡ index
-        → ArePosts L.Recorder script.now begins frames posts.old.items → AreRelays begins frames relays.old.items
-        → ArePosts L.Recorder script.now begins (frames ++ frame ∷ []) posts.new.items
-        × AreRelays begins (frames ++ frame ∷ []) relays.new.items }
+        → AreInputs L.Recorder script.now begins frames inputs.old.items → AreLaneAnswers begins frames all_answers.old.items
+        → AreInputs L.Recorder script.now begins (frames ++ frame ∷ []) inputs.new.items
+        × AreLaneAnswers begins (frames ++ frame ∷ []) all_answers.new.items }
     ensures leaves { (begins : List (Begun L)) (frames : List Captured) (before now : Option (List ℕ))
         → length frames ≡ index
-        → ArePosts L.Recorder script.now begins frames posts.old.items → AreRelays begins frames relays.old.items
+        → AreInputs L.Recorder script.now begins frames inputs.old.items → AreLaneAnswers begins frames all_answers.old.items
         → nat_lt index (waiting.old.next + length waiting.old.window) ≡ true
-        → Leaves (lane_at (length relays.old.items) frames) index (taken_from relays.old.items) waiting.old before now
-        → Leaves (lane_at (length relays.new.items) (frames ++ frame ∷ [])) (index + 1)
-        (taken_from relays.new.items) waiting.new before now }
+        → Leaves (lane_at (length all_answers.old.items) frames) index (taken_from all_answers.old.items) waiting.old before now
+        → Leaves (lane_at (length all_answers.new.items) (frames ++ frame ∷ [])) (index + 1)
+        (taken_from all_answers.new.items) waiting.new before now }
 {
     sending_stays_right();
     later_lanes_change_nothing();
     let lane = send_frame(
-        rt, alloc, posts, index, frame, script, natives, gate, failed,
+        rt, alloc, inputs, index, frame, script, natives, gate, failed,
     );
-    count_sent(relays, lane);
-    take_answers(relays, lane, waiting);
+    count_sent(all_answers, lane);
+    take_answers(all_answers, lane, waiting);
 }
 
 // A frame to read into: one that has left, whose memory serves again, where there is one.
@@ -146,21 +148,21 @@ fn next_frame(alloc: Global, spare: &mut Vec<Frame>) -> Frame {
     }
 }
 
-/// Reads an opened capture to its end or its tail, or to where it is refused, sends each packet to the post of its
+/// Reads an opened capture to its end or its tail, or to where it is refused, sends each packet to the input of its
 /// lane, and writes what the lanes let pass, in the order of the capture.
 ///
 /// A packet is read where `waiting` reaches its number, so never are more packets on their way than it has places.
 /// Where the source would ask the outside for it, all packets before it have been decided and written. Till then
-/// answers are taken and written, and lanes whose workers are here are worked on. Where a lane raised `failed`, it ends
+/// answers are taken and written, and lanes whose workers are in this thread are worked on. Where a lane raised `failed`, it ends
 /// with want of memory.
 ///
 /// The answer ring of a lane has to have as many places as `waiting`. So a worker never waits for room to answer: one
-/// that is here would wait for good, since what it waits for is done by this thread.
+/// that is in this thread would wait for good, since what it waits for is done by the same thread.
 pub(crate) fn stream<R: Wait, L: Recorder + Drop, S: Source, O: Sink, G: Gate>(
     rt: &R,
     alloc: Global,
-    posts: &mut Vec<Post<L>>,
-    relays: &mut Vec<Relay>,
+    inputs: &mut Vec<LaneInput<L>>,
+    all_answers: &mut Vec<LaneAnswers>,
     waiting: &mut Resequencer,
     script: &Script,
     natives: &NativeBook,
@@ -171,16 +173,16 @@ pub(crate) fn stream<R: Wait, L: Recorder + Drop, S: Source, O: Sink, G: Gate>(
     out: &mut O,
 ) -> Result<Whole, PoolError>
     requires opened { Opened capture.old }
-    requires some { 1 ≤ length posts.old.items }
-    requires begins { (begins : List (Begun L)) × ArePosts L.Recorder script.now begins [] posts.old.items
-        × AreRelays begins [] relays.old.items }
+    requires some { 1 ≤ length inputs.old.items }
+    requires begins { (begins : List (Begun L)) × AreInputs L.Recorder script.now begins [] inputs.old.items
+        × AreLaneAnswers begins [] all_answers.old.items }
     ensures streamed { (begins : List (Begun L)) (before : Option (List ℕ))
-        → ArePosts L.Recorder script.now begins [] posts.old.items
-        → AreRelays begins [] relays.old.items
-        → Leaves (lane_at (length relays.old.items) []) 0 (taken_from relays.old.items) waiting.old before
+        → AreInputs L.Recorder script.now begins [] inputs.old.items
+        → AreLaneAnswers begins [] all_answers.old.items
+        → Leaves (lane_at (length all_answers.old.items) []) 0 (taken_from all_answers.old.items) waiting.old before
         (O.taken out.old)
-        → Dealt L.Recorder script.now begins posts.new.items
-        (λ frames. Streamed begins frames relays.new.items waiting.new
+        → Dealt L.Recorder script.now begins inputs.new.items
+        (λ frames. Streamed begins frames all_answers.new.items waiting.new
         capture.old (S.left source.old) (S.left source.new) before (O.taken out.new) result) }
     ensures reads { ReadsOn S.Source capture.old source.old source.new (IsOk result)
         (IsErrOf result PoolError.ReadFault) }
@@ -194,15 +196,36 @@ pub(crate) fn stream<R: Wait, L: Recorder + Drop, S: Source, O: Sink, G: Gate>(
     let mut spare = Vec::new(alloc);
     loop {
         await_place(
-            rt, alloc, posts, relays, waiting, packets, script, natives, gate, failed, capture,
-            source, out, &mut spare,
+            rt,
+            alloc,
+            inputs,
+            all_answers,
+            waiting,
+            packets,
+            script,
+            natives,
+            gate,
+            failed,
+            capture,
+            source,
+            out,
+            &mut spare,
         )?;
         let mut frame = next_frame(alloc, &mut spare);
         match capture.next(source, &mut frame)? {
             Step::Frame => {
                 last = greatest_with(last, &frame);
                 send_next(
-                    rt, alloc, posts, relays, waiting, packets, frame, script, natives, gate,
+                    rt,
+                    alloc,
+                    inputs,
+                    all_answers,
+                    waiting,
+                    packets,
+                    frame,
+                    script,
+                    natives,
+                    gate,
                     failed,
                 );
                 packets += 1;

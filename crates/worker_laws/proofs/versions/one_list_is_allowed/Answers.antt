@@ -7,4 +7,5 @@ pub returns-clause-records : goal.returns-clause-records
 returns-clause-records c = λ least most endings lane packets vs same allowed. records_of_allowed least most endings lane packets vs same allowed
 
 pub returns-clause-list : goal.returns-clause-list
-returns-clause-list c = λ least most endings lane packets vs same allowed. sym (list_of_allowed least most endings lane packets vs allowed) ∙ ap versions_of (records_of_allowed least most endings lane packets vs same allowed)
+returns-clause-list c = λ least most endings lane packets vs same allowed. sym (list_of_allowed least most endings lane packets vs allowed)
+    ∙ ap versions_of (records_of_allowed least most endings lane packets vs same allowed)

@@ -5,10 +5,11 @@ use Rattle.worker_pool.proofs.worker.take_up.Goals as goal
 
 pub returns-then-has_failed-clause-taken_up : goal.returns-then-has_failed-clause-taken_up
 returns-then-has_failed-clause-taken_up g c =
-    skipped g.L.Recorder (commands_of c.args.script.now) c.args.w.now c.args.packet c.take_from.new.ring c.take_from.result c.take_from.ensures.some c.take_from.ensures.none (c.has_failed.ensures.0 c.if-has_failed.true)
+    skipped g.L.Recorder (commands_of c.args.script.now) c.args.w.now c.args.packet c.take_from.new.ring c.take_from.result c.take_from.ensures.some c.take_from.ensures.none
+        (c.has_failed.ensures.0 c.if-has_failed.true)
 
-pub serve-requires-clause-good : goal.serve-requires-clause-good
-serve-requires-clause-good g c = not_failed (g.L.Recorder.failed c.args.w.now.lane) c.has_failed.result c.if-has_failed.false c.has_failed.ensures.1
+pub decide_packet-requires-clause-good : goal.decide_packet-requires-clause-good
+decide_packet-requires-clause-good g c = not_failed (g.L.Recorder.failed c.args.w.now.lane) c.has_failed.result c.if-has_failed.false c.has_failed.ensures.1
 
 pub returns-then-not-is_fit-clause-taken_up : goal.returns-then-not-is_fit-clause-taken_up
 returns-then-not-is_fit-clause-taken_up g c =

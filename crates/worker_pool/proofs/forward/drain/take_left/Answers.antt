@@ -7,22 +7,24 @@ use Rattle.worker_pool.proofs.Beside.{ends_after}
 use Rattle.worker_pool.proofs.Draining.{offers_one, next_front, grown}
 use Rattle.worker_pool.proofs.forward.drain.take_left.Goals as goal
 
-pub loop-relay-preserved : goal.loop-relay-preserved
-loop-relay-preserved c =
-    let inv = c.loop-relay.invariant in
-    let look = c.beside-in-loop-relay in
-    let before = c.loop-relay.relay in
+pub loop-lane_answers-preserved : goal.loop-lane_answers-preserved
+loop-lane_answers-preserved c =
+    let inv = c.loop-lane_answers.invariant in
+    let look = c.beside-in-loop-lane_answers in
+    let before = c.loop-lane_answers.lane_answers in
     let x = c.in-Some.answer in
     let took : taken c.take.new.self ≡ taken before.answers ++ x ∷ [] = c.in-Some.ensures.some ∙ ap (λ xs. xs ++ x ∷ []) look.ensures.taken in
-    let fewer : length (taken before.answers) < before.sent = (let e = inv.counted in let t = c.loop-relay-test.true in omega (arith, e, t)) in
+    let fewer : length (taken before.answers) < before.sent = (let e = inv.counted in let t = c.loop-lane_answers-test.true in omega (arith, e, t)) in
     record {
-      ends = ends_after c.loop-relay.tx look.new.tx before.answers c.take.new.self inv.ends look.ensures.tx.0 (SameRx-trans before.answers look.new.self c.take.new.self look.ensures.ring c.in-Some.ensures.ring);
+      ends = ends_after c.loop-lane_answers.tx look.new.tx before.answers c.take.new.self inv.ends look.ensures.tx.0
+          (SameRx-trans before.answers look.new.self c.take.new.self look.ensures.ring c.in-Some.ensures.ring);
       sent_same = look.ensures.tx.1 ∙ inv.sent_same;
       same = inv.same;
       counted = let e = inv.counted in let f = ap length took ∙ length_push (taken before.answers) x in omega (arith, e, f);
-      grew = grown (taken c.args.relay.now.answers) (taken before.answers) (taken c.take.new.self) x inv.grew took;
+      grew = grown (taken c.args.lane_answers.now.answers) (taken before.answers) (taken c.take.new.self) x inv.grew took;
       front = subst (λ xs. IsPrefix xs (sent look.new.tx)) (sym c.in-Some.ensures.some)
-          (next_front (taken look.new.self) (known look.new.self) (known c.take.new.self) (sent look.new.tx) x look.ensures.all c.in-Some.ensures.order (λ none. c.if-beside-eq0.false (look.ensures.left ∙ none)));
-      offers = offers_one c.args.relay.now before (record before { answers = c.take.new.self; taken = before.taken + 1 }) c.args.waiting.now c.loop-relay.waiting c.offer.new.waiting x
+          (next_front (taken look.new.self) (known look.new.self) (known c.take.new.self) (sent look.new.tx) x look.ensures.all c.in-Some.ensures.order
+              (λ none. c.if-beside-eq0.false (look.ensures.left ∙ none)));
+      offers = offers_one c.args.lane_answers.now before (record before { answers = c.take.new.self; taken = before.taken + 1 }) c.args.waiting.now c.loop-lane_answers.waiting c.offer.new.waiting x
           c.taking_stays_right.ensures.keeps inv.offers inv.same fewer took c.offer.ensures;
     }

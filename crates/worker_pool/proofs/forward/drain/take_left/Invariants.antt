@@ -5,16 +5,16 @@ use Rattle.worker_pool.specs.Drained.{Offers}
 use Rattle.worker_pool.proofs.forward.drain.take_left.Given as goal
 
 -- what was taken so far is a front of what was sent, and was offered
-abbrev pub invariant-loop-relay : goal.invariant-loop-relay
-invariant-loop-relay l = record {
-  ends : AreEnds l.tx l.relay.answers;
+abbrev pub invariant-loop-lane_answers : goal.invariant-loop-lane_answers
+invariant-loop-lane_answers l = record {
+  ends : AreEnds l.tx l.lane_answers.answers;
   sent_same : sent l.tx ≡ sent l.fn.tx;
-  same : l.relay.sent ≡ l.fn.relay.sent;
-  counted : l.relay.taken ≡ length (taken l.relay.answers);
-  grew : IsPrefix (taken l.fn.relay.answers) (taken l.relay.answers);
-  front : IsPrefix (taken l.relay.answers) (sent l.tx);
-  offers : Offers l.fn.relay l.relay l.fn.waiting l.waiting;
+  same : l.lane_answers.sent ≡ l.fn.lane_answers.sent;
+  counted : l.lane_answers.taken ≡ length (taken l.lane_answers.answers);
+  grew : IsPrefix (taken l.fn.lane_answers.answers) (taken l.lane_answers.answers);
+  front : IsPrefix (taken l.lane_answers.answers) (sent l.tx);
+  offers : Offers l.fn.lane_answers l.lane_answers l.fn.waiting l.waiting;
 }
 
-abbrev pub decreases-loop-relay : goal.decreases-loop-relay
-decreases-loop-relay l = l.relay.sent - l.relay.taken
+abbrev pub decreases-loop-lane_answers : goal.decreases-loop-lane_answers
+decreases-loop-lane_answers l = l.lane_answers.sent - l.lane_answers.taken

@@ -12,7 +12,7 @@ use Rattle.worker_pool.proofs.Explaining.{blank, past, js_count, same_lanes, mor
 use Rattle.worker_pool.proofs.forward.explain.lanes_have_answered.Goals as goal
 
 pub returns-clause-front : goal.returns-clause-front
-returns-clause-front g c app frames told begins packets relays few team kept served are behind =
+returns-clause-front g c app frames told begins packets all_answers few team kept served are behind =
     let script = c.args.script.now in
     let workers = c.args.workers.now in
     let commands = commands_of script in
@@ -29,12 +29,12 @@ returns-clause-front g c app frames told begins packets relays few team kept ser
     let by_verdicts = lane_in key js past in
     let judged = c.verdicts_of_a_run.ensures.packets app commands (arrivals 0 told) vs in
     let dealt = c.packets_go_to_lanes.ensures.frame (length workers) in
-    let agree = same_lanes g.L.Recorder app script frames told begins workers relays lanes behind found.2 are served.count found.1.count vs judged dealt in
+    let agree = same_lanes g.L.Recorder app script frames told begins workers all_answers lanes behind found.2 are served.count found.1.count vs judged dealt in
     record {
       versions = vs;
       may_have = run.1;
       front = λ taken old new are_sent left.
-          left_front g.L.Recorder app script frames told begins workers relays lanes behind found.2 are served.count found.1.count vs judged dealt taken are_sent
+          left_front g.L.Recorder app script frames told begins workers all_answers lanes behind found.2 are served.count found.1.count vs judged dealt taken are_sent
           (λ l. c.lanes_answer_as_the_run.ensures.fronts app commands key told lanes vs frame_of past l run.2)
           (λ t l given joined front. c.taken_are_right.ensures.fronts by_verdicts right (length frames) t l given joined front)
           (λ s keeps. c.later_lanes_change_nothing.ensures.keeps (lane_at (length workers) frames) by_verdicts (length frames) taken s agree keeps)
@@ -46,7 +46,7 @@ returns-clause-front g c app frames told begins packets relays few team kept ser
     }
 
 pub returns-clause-whole : goal.returns-clause-whole
-returns-clause-whole g c app frames begins packets relays few team kept served are =
+returns-clause-whole g c app frames begins packets all_answers few team kept served are =
     let script = c.args.script.now in
     let workers = c.args.workers.now in
     let commands = commands_of script in
@@ -66,19 +66,19 @@ returns-clause-whole g c app frames begins packets relays few team kept served a
           let behind = IsPrefix-refl frames in
           let judged = c.verdicts_of_a_run.ensures.packets app commands (arrivals 0 frames) vs in
           let dealt = c.packets_go_to_lanes.ensures.frame (length workers) in
-          let agree = same_lanes g.L.Recorder app script frames frames begins workers relays lanes behind found.2 are served.count found.1.count vs judged dealt in
+          let agree = same_lanes g.L.Recorder app script frames frames begins workers all_answers lanes behind found.2 are served.count found.1.count vs judged dealt in
           record {
             versions = vs;
             may_have = run.1;
             one = run.2;
             all = λ taken waiting old new are_sent all_taken leaves none.
-                left_all g.L.Recorder app script frames frames begins workers relays lanes behind found.2 are served.count found.1.count vs judged dealt taken are_sent
+                left_all g.L.Recorder app script frames frames begins workers all_answers lanes behind found.2 are served.count found.1.count vs judged dealt taken are_sent
                 (λ l. front_of_same _ _ (c.lanes_answer_as_the_run.ensures.whole app commands key frames lanes vs frame_of past l run.2))
                 (λ t l given joined front. c.taken_are_right.ensures.fronts by_verdicts right (length frames) t l given joined front)
                 (λ s keeps. c.later_lanes_change_nothing.ensures.keeps (lane_at (length workers) frames) by_verdicts (length frames) taken s agree keeps)
                 (c.a_lane_answers_its_part.ensures.indexed frame_of js past)
                 (c.lanes_answer_as_the_run.ensures.bytes app commands frames vs frame_of past)
-                (js_count g.L.Recorder app script frames frames begins workers relays lanes behind found.2 are served.count found.1.count vs judged dealt)
+                (js_count g.L.Recorder app script frames frames begins workers all_answers lanes behind found.2 are served.count found.1.count vs judged dealt)
                 good
                 (λ l. c.lanes_answer_as_the_run.ensures.whole app commands key frames lanes vs frame_of past l run.2)
                 (λ l. c.later_lanes_change_nothing.ensures.share (lane_at (length workers) frames) by_verdicts (length frames) agree l)

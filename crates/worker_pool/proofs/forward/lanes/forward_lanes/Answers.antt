@@ -29,9 +29,9 @@ leave-requires-send-L g c κs within =
 
 pub stream_team-requires-clause-begins : goal.stream_team-requires-clause-begins
 stream_team-requires-clause-begins g c κs within =
-    let relays = c.in_ok-team.relays.items in
-    run_begins c.in_ok-team.team.workers.items relays c.in_ok-waiting.waiting (g.O.Sink.taken c.args.out.now) c.in_ok-team.ensures.relays
-    (c.beginning_is_right.ensures.keeps (lane_at (length relays) []) c.in_ok-waiting.waiting 4096 c.in_ok-waiting.ensures.next c.in_ok-waiting.ensures.window)
+    let all_answers = c.in_ok-team.all_answers.items in
+    run_begins c.in_ok-team.team.workers.items all_answers c.in_ok-waiting.waiting (g.O.Sink.taken c.args.out.now) c.in_ok-team.ensures.all_answers
+    (c.beginning_is_right.ensures.keeps (lane_at (length all_answers) []) c.in_ok-waiting.waiting 4096 c.in_ok-waiting.ensures.next c.in_ok-waiting.ensures.window)
 
 pub returns-in_err-waiting-clause-forwards : goal.returns-in_err-waiting-clause-forwards
 returns-in_err-waiting-clause-forwards g c = λ rest is.

@@ -1,12 +1,12 @@
 use Rattle.std.proofs.Common.{rules}
-use Rattle.worker_pool.proofs.Relaying.{all_taken_then}
+use Rattle.worker_pool.proofs.TakingAnswers.{all_taken_then}
 use Rattle.worker_pool.proofs.Leaving.{written_then, cut_nowhere, offered_then, handed_then}
 use Rattle.worker_pool.proofs.forward.stream.await_place.Goals as goal
 
 pub returns-in_err-hand_on-clause-cut : goal.returns-in_err-hand_on-clause-cut
 returns-in_err-hand_on-clause-cut g c =
-    let first = c.args.relays.now.items in
-    let now = c.loop.relays.items in
+    let first = c.args.all_answers.now.items in
+    let now = c.loop.all_answers.items in
     let old = g.O.Sink.taken c.args.out.now in
     let mid = g.O.Sink.taken c.write_ready.new.out in
     let new = g.O.Sink.taken c.hand_on.new.out in
@@ -16,8 +16,8 @@ returns-in_err-hand_on-clause-cut g c =
 
 pub returns-then-may_read-clause-leaves : goal.returns-then-may_read-clause-leaves
 returns-then-may_read-clause-leaves g c =
-    let first = c.args.relays.now.items in
-    let now = c.loop.relays.items in
+    let first = c.args.all_answers.now.items in
+    let now = c.loop.all_answers.items in
     let old = g.O.Sink.taken c.args.out.now in
     let mid = g.O.Sink.taken c.write_ready.new.out in
     let new = g.O.Sink.taken c.hand_on.new.out in
@@ -27,8 +27,8 @@ returns-then-may_read-clause-leaves g c =
 
 pub returns-then-may_read-clause-cut : goal.returns-then-may_read-clause-cut
 returns-then-may_read-clause-cut g c =
-    let first = c.args.relays.now.items in
-    let now = c.loop.relays.items in
+    let first = c.args.all_answers.now.items in
+    let now = c.loop.all_answers.items in
     let old = g.O.Sink.taken c.args.out.now in
     let mid = g.O.Sink.taken c.write_ready.new.out in
     let new = g.O.Sink.taken c.hand_on.new.out in
@@ -38,8 +38,8 @@ returns-then-may_read-clause-cut g c =
 
 pub returns-then-load-clause-cut : goal.returns-then-load-clause-cut
 returns-then-load-clause-cut g c =
-    let first = c.args.relays.now.items in
-    let now = c.loop.relays.items in
+    let first = c.args.all_answers.now.items in
+    let now = c.loop.all_answers.items in
     let old = g.O.Sink.taken c.args.out.now in
     let new = g.O.Sink.taken c.write_ready.new.out in
     cut_nowhere first now c.args.waiting.now c.write_ready.new.waiting old new
@@ -48,18 +48,18 @@ returns-then-load-clause-cut g c =
 pub take_turns-worked-requires : goal.take_turns-worked-requires
 take_turns-worked-requires g c =
     let given = c.requires.begins in
-    record { posts = (given.0, given.1, c.loop.invariant.posts given.0 given.1 given.2) }
+    record { inputs = (given.0, given.1, c.loop.invariant.inputs given.0 given.1 given.2) }
 
 pub loop-preserved : goal.loop-preserved
 loop-preserved g c =
-    let first = c.args.relays.now.items in
-    let now = c.loop.relays.items in
-    let next = c.take_all-answered.new.relays.items in
+    let first = c.args.all_answers.now.items in
+    let now = c.loop.all_answers.items in
+    let next = c.take_all-answered.new.all_answers.items in
     let old = g.O.Sink.taken c.args.out.now in
     let new = g.O.Sink.taken c.write_ready.new.out in
     let inv = c.loop.invariant in
     record {
-      posts = λ begins frames are. c.take_turns-worked.ensures begins frames (inv.posts begins frames are);
+      inputs = λ begins frames are. c.take_turns-worked.ensures begins frames (inv.inputs begins frames are);
       takes = all_taken_then first now next inv.takes c.take_all-answered.ensures.takes;
       leaves = offered_then first now c.args.waiting.now c.write_ready.new.waiting old new
           (written_then first now c.args.waiting.now c.loop.waiting old (g.O.Sink.taken c.loop.out) inv.leaves c.write_ready.new.waiting new c.in_ok-write_ready.ensures.leaves)

@@ -29,14 +29,14 @@ loop-spare-init g c = record {
   read = (
     [],
     refl,
-    come_none g.L.Recorder c.args.script.now c.args.posts.now.items c.args.relays.now.items c.args.waiting.now (g.O.Sink.taken c.args.out.now),
+    come_none g.L.Recorder c.args.script.now c.args.inputs.now.items c.args.all_answers.now.items c.args.waiting.now (g.O.Sink.taken c.args.out.now),
     λ bytes told. read_none c.args.capture.now bytes (g.S.Source.left c.args.source.now) told,
     none_yet,
   );
 }
 
 pub returns-in_err-await_place-clause-streamed : goal.returns-in_err-await_place-clause-streamed
-returns-in_err-await_place-clause-streamed g c = λ begins before posts_are relays_are l.
+returns-in_err-await_place-clause-streamed g c = λ begins before inputs_are all_answers_are l.
     let at = c.loop-spare in
     let read = at.invariant.read in
     let new = c.await_place.new in
@@ -44,15 +44,15 @@ returns-in_err-await_place-clause-streamed g c = λ begins before posts_are rela
     let p = err_from_is_err_and c.from_residual.result c.from_residual.ensures.1 in
     let few : length read.0 ≤ 1048576 = omega (arith, at.invariant.few, read.1) in
     rw (p.1, p.2)
-    (told_early g.L.Recorder c.args.script.now c.args.posts.now.items c.args.relays.now.items c.args.waiting.now (g.O.Sink.taken c.args.out.now) read.0 few
-    c.args.capture.now at.capture (g.S.Source.left c.args.source.now) (g.S.Source.left at.source) (g.S.Source.left at.source) read.3 begins before posts_are relays_are l
-    at.posts.items new.posts.items at.relays.items new.relays.items at.waiting new.waiting (g.O.Sink.taken at.out) (g.O.Sink.taken new.out) e
-    read.2 c.await_place.ensures.posts c.await_place.ensures.takes
+    (told_early g.L.Recorder c.args.script.now c.args.inputs.now.items c.args.all_answers.now.items c.args.waiting.now (g.O.Sink.taken c.args.out.now) read.0 few
+    c.args.capture.now at.capture (g.S.Source.left c.args.source.now) (g.S.Source.left at.source) (g.S.Source.left at.source) read.3 begins before inputs_are all_answers_are l
+    at.inputs.items new.inputs.items at.all_answers.items new.all_answers.items at.waiting new.waiting (g.O.Sink.taken at.out) (g.O.Sink.taken new.out) e
+    read.2 c.await_place.ensures.inputs c.await_place.ensures.takes
     (λ not. c.in_err-await_place.ensures.leaves (λ is. not (same_refusal e WriteFault (Err e) refl is)))
     c.await_place.ensures.cut c.in_err-await_place.ensures.only)
 
 pub returns-in_err-next-clause-streamed : goal.returns-in_err-next-clause-streamed
-returns-in_err-next-clause-streamed g c = λ begins before posts_are relays_are l.
+returns-in_err-next-clause-streamed g c = λ begins before inputs_are all_answers_are l.
     let at = c.loop-spare in
     let read = at.invariant.read in
     let new = c.await_place.new in
@@ -62,11 +62,12 @@ returns-in_err-next-clause-streamed g c = λ begins before posts_are relays_are 
     let p = err_from_is_err_and c.from_residual-in_err-next.result c.from_residual-in_err-next.ensures.1 in
     let few : length read.0 ≤ 1048576 = omega (arith, at.invariant.few, read.1) in
     rw (p.1, p.2)
-    (told_whole g.L.Recorder c.args.script.now c.args.posts.now.items c.args.relays.now.items c.args.waiting.now (g.O.Sink.taken c.args.out.now) read.0 few
-    c.args.capture.now at.capture first (g.S.Source.left at.source) last read.3 begins before posts_are relays_are l
-    new.posts.items new.relays.items new.waiting (g.O.Sink.taken new.out) _
-    (come_on g.L.Recorder c.args.script.now c.args.posts.now.items c.args.relays.now.items c.args.waiting.now (g.O.Sink.taken c.args.out.now) read.0 at.posts.items new.posts.items at.relays.items new.relays.items
-    at.waiting new.waiting (g.O.Sink.taken at.out) (g.O.Sink.taken new.out) read.2 c.await_place.ensures.posts c.await_place.ensures.takes (c.in_ok-await_place.ensures.leaves (λ is. absurd (cc))))
+    (told_whole g.L.Recorder c.args.script.now c.args.inputs.now.items c.args.all_answers.now.items c.args.waiting.now (g.O.Sink.taken c.args.out.now) read.0 few
+    c.args.capture.now at.capture first (g.S.Source.left at.source) last read.3 begins before inputs_are all_answers_are l
+    new.inputs.items new.all_answers.items new.waiting (g.O.Sink.taken new.out) _
+    (come_on g.L.Recorder c.args.script.now c.args.inputs.now.items c.args.all_answers.now.items c.args.waiting.now
+        (g.O.Sink.taken c.args.out.now) read.0 at.inputs.items new.inputs.items at.all_answers.items new.all_answers.items
+    at.waiting new.waiting (g.O.Sink.taken at.out) (g.O.Sink.taken new.out) read.2 c.await_place.ensures.inputs c.await_place.ensures.takes (c.in_ok-await_place.ensures.leaves (λ is. absurd (cc))))
     (stops_refused read.0 c.args.capture.now first last e
     (read_refused c.args.capture.now at.capture c.next.new.self read.0 c.next.new.frame first (g.S.Source.left at.source) last last e c.in_err-next.ensures.gives read.3)))
 
@@ -75,8 +76,8 @@ send_next-requires-clause-some g c =
     let given = c.requires.begins in
     let read = c.loop-spare.invariant.read in
     let s = read.2.sent given.0 given.1 given.2 in
-    let now = c.await_place.ensures.posts given.0 read.0 s.posts_are in
-    omega (arith, c.loop-spare.invariant.some, s.posts_are.count, now.count)
+    let now = c.await_place.ensures.inputs given.0 read.0 s.inputs_are in
+    omega (arith, c.loop-spare.invariant.some, s.inputs_are.count, now.count)
 
 pub send_next-requires-clause-begins : goal.send_next-requires-clause-begins
 send_next-requires-clause-begins g c =
@@ -85,10 +86,11 @@ send_next-requires-clause-begins g c =
     let at = c.loop-spare in
     let new = c.await_place.new in
     let come =
-    come_on g.L.Recorder c.args.script.now c.args.posts.now.items c.args.relays.now.items c.args.waiting.now (g.O.Sink.taken c.args.out.now) read.0 at.posts.items new.posts.items at.relays.items new.relays.items
-    at.waiting new.waiting (g.O.Sink.taken at.out) (g.O.Sink.taken new.out) read.2 c.await_place.ensures.posts c.await_place.ensures.takes (c.in_ok-await_place.ensures.leaves (λ is. absurd (cc))) in
+    come_on g.L.Recorder c.args.script.now c.args.inputs.now.items c.args.all_answers.now.items c.args.waiting.now
+        (g.O.Sink.taken c.args.out.now) read.0 at.inputs.items new.inputs.items at.all_answers.items new.all_answers.items
+    at.waiting new.waiting (g.O.Sink.taken at.out) (g.O.Sink.taken new.out) read.2 c.await_place.ensures.inputs c.await_place.ensures.takes (c.in_ok-await_place.ensures.leaves (λ is. absurd (cc))) in
     let s = come.sent given.0 given.1 given.2 in
-    (given.0, read.0, read.1, s.posts_are, s.relays_are)
+    (given.0, read.0, read.1, s.inputs_are, s.all_answers_are)
 
 pub loop-spare-preserved : goal.loop-spare-preserved
 loop-spare-preserved g c =
@@ -101,8 +103,9 @@ loop-spare-preserved g c =
     let moved = c.in_ok-next.ensures.moved (ap (λ s. Ok s) c.in-Frame.is) in
     let gives = subst (λ s. NextGives at.capture c.next.new.self (g.S.Source.left at.source) (g.S.Source.left c.next.new.source) frame (Ok s)) c.in-Frame.is c.in_ok-next.ensures.gives in
     let come =
-    come_on g.L.Recorder c.args.script.now c.args.posts.now.items c.args.relays.now.items c.args.waiting.now (g.O.Sink.taken c.args.out.now) read.0 at.posts.items new.posts.items at.relays.items new.relays.items
-    at.waiting new.waiting (g.O.Sink.taken at.out) (g.O.Sink.taken new.out) read.2 c.await_place.ensures.posts c.await_place.ensures.takes (c.in_ok-await_place.ensures.leaves (λ is. absurd (cc))) in
+    come_on g.L.Recorder c.args.script.now c.args.inputs.now.items c.args.all_answers.now.items c.args.waiting.now
+        (g.O.Sink.taken c.args.out.now) read.0 at.inputs.items new.inputs.items at.all_answers.items new.all_answers.items
+    at.waiting new.waiting (g.O.Sink.taken at.out) (g.O.Sink.taken new.out) read.2 c.await_place.ensures.inputs c.await_place.ensures.takes (c.in_ok-await_place.ensures.leaves (λ is. absurd (cc))) in
     record {
       live = c.in_ok-next.ensures.live.1 (ap (λ s. Ok s) c.in-Frame.is);
       count = moved.count ∙ ap (λ n. n + 1) inv.count;
@@ -110,8 +113,8 @@ loop-spare-preserved g c =
       some =
           let given = c.requires.begins in
           let s = read.2.sent given.0 given.1 given.2 in
-          let now = c.await_place.ensures.posts given.0 read.0 s.posts_are in
-          omega (arith, inv.some, s.posts_are.count, now.count, c.send_next.ensures.count);
+          let now = c.await_place.ensures.inputs given.0 read.0 s.inputs_are in
+          omega (arith, inv.some, s.inputs_are.count, now.count, c.send_next.ensures.count);
       read_faults = let before = inv.read_faults in let later = c.next.ensures.cause.later in omega (arith, before, later);
       write_faults = let before = inv.write_faults in let later = c.await_place.ensures.cause.later in omega (arith, before, later);
       source_lasts = c.next.ensures.lasts ∙ inv.source_lasts;
@@ -119,17 +122,19 @@ loop-spare-preserved g c =
       read = (
         read.0 ++ frame ∷ [],
         length-append read.0 (frame ∷ []) ∙ ap (λ n. n + 1) read.1,
-        come_sent g.L.Recorder c.args.script.now c.args.posts.now.items c.args.relays.now.items c.args.waiting.now (g.O.Sink.taken c.args.out.now) read.0 new.posts.items sent.posts.items new.relays.items sent.relays.items
+        come_sent g.L.Recorder c.args.script.now c.args.inputs.now.items c.args.all_answers.now.items c.args.waiting.now
+            (g.O.Sink.taken c.args.out.now) read.0 new.inputs.items sent.inputs.items new.all_answers.items sent.all_answers.items
             new.waiting sent.waiting (g.O.Sink.taken new.out) (g.O.Sink.taken new.out) come at.packets frame read.1
-            (λ begins fs count posts_are relays_are. c.send_next.ensures.sent begins fs count posts_are relays_are)
-            (λ begins fs before count posts_are relays_are l. c.send_next.ensures.leaves begins fs before (g.O.Sink.taken new.out) count posts_are relays_are c.in_ok-await_place.ensures.place l),
+            (λ begins fs count inputs_are all_answers_are. c.send_next.ensures.sent begins fs count inputs_are all_answers_are)
+            (λ begins fs before count inputs_are all_answers_are l. c.send_next.ensures.leaves begins fs before
+                (g.O.Sink.taken new.out) count inputs_are all_answers_are c.in_ok-await_place.ensures.place l),
         λ bytes told. read_more c.args.capture.now bytes read.0 at.capture c.next.new.self frame (g.S.Source.left at.source) (g.S.Source.left c.next.new.source) gives (read.3 bytes told),
         c.greatest_with-last.ensures.greatest read.0 read.4,
       );
     }
 
 pub returns-in-Tail-clause-streamed : goal.returns-in-Tail-clause-streamed
-returns-in-Tail-clause-streamed g c = λ begins before posts_are relays_are l.
+returns-in-Tail-clause-streamed g c = λ begins before inputs_are all_answers_are l.
     let at = c.loop-spare in
     let read = at.invariant.read in
     let new = c.await_place.new in
@@ -137,11 +142,12 @@ returns-in-Tail-clause-streamed g c = λ begins before posts_are relays_are l.
     let last = g.S.Source.left c.next.new.source in
     let few : length read.0 ≤ 1048576 = omega (arith, at.invariant.few, read.1) in
     let gives = subst (λ s. NextGives at.capture c.next.new.self (g.S.Source.left at.source) last c.next.new.frame (Ok s)) c.in-Tail.is c.in_ok-next.ensures.gives in
-    told_whole g.L.Recorder c.args.script.now c.args.posts.now.items c.args.relays.now.items c.args.waiting.now (g.O.Sink.taken c.args.out.now) read.0 few
-    c.args.capture.now at.capture first (g.S.Source.left at.source) last read.3 begins before posts_are relays_are l
-    new.posts.items new.relays.items new.waiting (g.O.Sink.taken new.out) _
-    (come_on g.L.Recorder c.args.script.now c.args.posts.now.items c.args.relays.now.items c.args.waiting.now (g.O.Sink.taken c.args.out.now) read.0 at.posts.items new.posts.items at.relays.items new.relays.items
-    at.waiting new.waiting (g.O.Sink.taken at.out) (g.O.Sink.taken new.out) read.2 c.await_place.ensures.posts c.await_place.ensures.takes (c.in_ok-await_place.ensures.leaves (λ is. absurd (cc))))
+    told_whole g.L.Recorder c.args.script.now c.args.inputs.now.items c.args.all_answers.now.items c.args.waiting.now (g.O.Sink.taken c.args.out.now) read.0 few
+    c.args.capture.now at.capture first (g.S.Source.left at.source) last read.3 begins before inputs_are all_answers_are l
+    new.inputs.items new.all_answers.items new.waiting (g.O.Sink.taken new.out) _
+    (come_on g.L.Recorder c.args.script.now c.args.inputs.now.items c.args.all_answers.now.items c.args.waiting.now
+        (g.O.Sink.taken c.args.out.now) read.0 at.inputs.items new.inputs.items at.all_answers.items new.all_answers.items
+    at.waiting new.waiting (g.O.Sink.taken at.out) (g.O.Sink.taken new.out) read.2 c.await_place.ensures.inputs c.await_place.ensures.takes (c.in_ok-await_place.ensures.leaves (λ is. absurd (cc))))
     (record {
       count = read.1;
       last = read.4;
@@ -149,7 +155,7 @@ returns-in-Tail-clause-streamed g c = λ begins before posts_are relays_are l.
     })
 
 pub returns-in-End-clause-streamed : goal.returns-in-End-clause-streamed
-returns-in-End-clause-streamed g c = λ begins before posts_are relays_are l.
+returns-in-End-clause-streamed g c = λ begins before inputs_are all_answers_are l.
     let at = c.loop-spare in
     let read = at.invariant.read in
     let new = c.await_place.new in
@@ -157,11 +163,12 @@ returns-in-End-clause-streamed g c = λ begins before posts_are relays_are l.
     let last = g.S.Source.left c.next.new.source in
     let few : length read.0 ≤ 1048576 = omega (arith, at.invariant.few, read.1) in
     let gives = subst (λ s. NextGives at.capture c.next.new.self (g.S.Source.left at.source) last c.next.new.frame (Ok s)) c.in-End.is c.in_ok-next.ensures.gives in
-    told_whole g.L.Recorder c.args.script.now c.args.posts.now.items c.args.relays.now.items c.args.waiting.now (g.O.Sink.taken c.args.out.now) read.0 few
-    c.args.capture.now at.capture first (g.S.Source.left at.source) last read.3 begins before posts_are relays_are l
-    new.posts.items new.relays.items new.waiting (g.O.Sink.taken new.out) _
-    (come_on g.L.Recorder c.args.script.now c.args.posts.now.items c.args.relays.now.items c.args.waiting.now (g.O.Sink.taken c.args.out.now) read.0 at.posts.items new.posts.items at.relays.items new.relays.items
-    at.waiting new.waiting (g.O.Sink.taken at.out) (g.O.Sink.taken new.out) read.2 c.await_place.ensures.posts c.await_place.ensures.takes (c.in_ok-await_place.ensures.leaves (λ is. absurd (cc))))
+    told_whole g.L.Recorder c.args.script.now c.args.inputs.now.items c.args.all_answers.now.items c.args.waiting.now (g.O.Sink.taken c.args.out.now) read.0 few
+    c.args.capture.now at.capture first (g.S.Source.left at.source) last read.3 begins before inputs_are all_answers_are l
+    new.inputs.items new.all_answers.items new.waiting (g.O.Sink.taken new.out) _
+    (come_on g.L.Recorder c.args.script.now c.args.inputs.now.items c.args.all_answers.now.items c.args.waiting.now
+        (g.O.Sink.taken c.args.out.now) read.0 at.inputs.items new.inputs.items at.all_answers.items new.all_answers.items
+    at.waiting new.waiting (g.O.Sink.taken at.out) (g.O.Sink.taken new.out) read.2 c.await_place.ensures.inputs c.await_place.ensures.takes (c.in_ok-await_place.ensures.leaves (λ is. absurd (cc))))
     (record {
       count = read.1;
       last = read.4;

@@ -13,13 +13,13 @@ invariant-loop-spare g l = record {
   live : l.capture.is_live ≡ true;
   count : l.capture.count ≡ l.packets;
   few : l.packets ≤ 1048576;
-  some : 1 ≤ length l.posts.items;
+  some : 1 ≤ length l.inputs.items;
   read_faults : g.S.Source.faults l.fn.source ≤ g.S.Source.faults l.source;
   write_faults : g.O.Sink.faults l.fn.out ≤ g.O.Sink.faults l.out;
   source_lasts : g.S.Source.lasting l.source ≡ g.S.Source.lasting l.fn.source;
   out_lasts : g.O.Sink.lasting l.out ≡ g.O.Sink.lasting l.fn.out;
   read : (frames : List Captured) × (length frames ≡ l.packets)
-      × HasCome g.L.Recorder l.script l.fn.posts.items l.fn.relays.items l.fn.waiting (g.O.Sink.taken l.fn.out) frames l.posts.items l.relays.items l.waiting (g.O.Sink.taken l.out)
+      × HasCome g.L.Recorder l.script l.fn.inputs.items l.fn.all_answers.items l.fn.waiting (g.O.Sink.taken l.fn.out) frames l.inputs.items l.all_answers.items l.waiting (g.O.Sink.taken l.out)
       × ((bytes : List ℕ) → g.S.Source.left l.fn.source ≡ Some bytes → IsReadTo l.fn.capture bytes frames l.capture (g.S.Source.left l.source))
       × (l.last ≡ greatest (arrivals 0 frames));
 }

@@ -1,0 +1,4 @@
+mod Lowest
+mod Merged
+mod Weighing
+mod Latest

@@ -1,0 +1,12 @@
+use Rattle.worker_laws.proofs.Exits.{sent_keeps}
+use Rattle.worker_laws.proofs.Sent.{own_more, others_same}
+use Rattle.worker_laws.proofs.forward.sending_stays_right.Goals as goal
+
+pub returns-clause-keeps : goal.returns-clause-keeps
+returns-clause-keeps c = sent_keeps
+
+pub returns-clause-own : goal.returns-clause-own
+returns-clause-own c = own_more
+
+pub returns-clause-others : goal.returns-clause-others
+returns-clause-others c = others_same

@@ -1,0 +1,135 @@
+-- Inputs, and what was sent to them.
+use Rattle.std.proofs.Common.{◌≡◌, ◌≢◌, ℕ, ◌+◌, ◌<◌, None, List, [], ◌∷◌, ◌++◌, length, get_or, set, sym, ap, subst, ◌∙◌, arith, ⊎_elim}
+use Rattle.std.specs.Prelude.{◌==◌, if◌then◌else◌}
+use Rattle.std.proofs.lemmas.List.{append-nil, get_or-set_same, get_or-set_other, length-set}
+use Rattle.std.proofs.lemmas.List.Elements.{filter-append}
+use Rattle.std.proofs.lemmas.Bool.{cases_eq, eq-eqb, ne_eqb}
+use Rattle.pcap_source.specs.Captured.{Captured}
+use Rattle.forest_versions.specs.declared.command.Command.{Command}
+use Rattle.control_script.specs.declared.stamped.Stamped.{Stamped}
+use Rattle.control_script.specs.Order.{commands_of}
+use Rattle.control_script.specs.Versions.{floor, ceil}
+use Rattle.lane_rings.specs.declared.items.Packet.{Packet}
+use Rattle.lane_rings.specs.declared.ring.RingTx.{RingTx}
+use Rattle.lane_rings.specs.Ring.{sent, SameTx}
+use Rattle.lane_core.specs.declared.recorder.Recorder.{Ghosts}
+use Rattle.worker_pool.specs.declared.worker.Worker.{Worker}
+use Rattle.worker_pool.specs.declared.team.worker_place.WorkerPlace.TheVariants.{Inline}
+use Rattle.worker_pool.specs.declared.team.lane_input.LaneInput.{LaneInput}
+use Rattle.worker_pool.specs.Worked.{IsReady, Worked}
+use Rattle.worker_pool.specs.Sent.{sent_as, packets_from, lane_of, dealt}
+use Rattle.worker_pool.specs.Inputs.{IsInput, AreInputs}
+use Rattle.worker_pool.proofs.Rings.{SameRx-refl}
+use Rattle.worker_pool.proofs.Beside.{ends_after}
+use Rattle.worker_pool.proofs.Composed.{worked_two}
+
+-- ---- the packets of one frame more
+
+packets-last : (script : List Stamped) (n : ℕ) (frames : List Captured) (frame : Captured)
+    → packets_from script n (frames ++ frame ∷ []) ≡ packets_from script n frames ++ sent_as script (n + length frames) frame ∷ []
+unfolding packets_from
+packets-last script n [] frame = ap (λ k. sent_as script k frame ∷ []) (let same : n ≡ n + 0 = omega arith in same)
+packets-last script n (first ∷ frames) frame =
+    let count : (n + 1) + length frames ≡ n + length (first ∷ frames) = omega arith in
+    ap (λ l. sent_as script n first ∷ l) (packets-last script (n + 1) frames frame ∙ ap (λ k. packets_from script (n + 1) frames ++ sent_as script k frame ∷ []) count)
+
+module _ (script : List Stamped) (lanes : ℕ) (frames : List Captured) (frame : Captured) (number : ℕ) (count : length frames ≡ number) where
+  dealt-parts : (l : ℕ) → dealt lanes l (packets_from script 0 (frames ++ frame ∷ [])) ≡ dealt lanes l (packets_from script 0 frames) ++ dealt lanes l (sent_as script number frame ∷ [])
+  dealt-parts l =
+      ap (dealt lanes l) (packets-last script 0 frames frame
+          ∙ ap (λ k. packets_from script 0 frames ++ sent_as script k frame ∷ []) (let same : 0 + length frames ≡ number = omega (arith, count) in same))
+      ∙ filter-append (λ p. lane_of lanes p == l) (packets_from script 0 frames) (sent_as script number frame ∷ [])
+
+  -- its own lane has one more
+  pub dealt_own : (l : ℕ) → lane_of lanes (sent_as script number frame) ≡ l
+      → dealt lanes l (packets_from script 0 (frames ++ frame ∷ [])) ≡ dealt lanes l (packets_from script 0 frames) ++ sent_as script number frame ∷ []
+  dealt_own l own =
+      dealt-parts l
+      ∙ ap (λ b. dealt lanes l (packets_from script 0 frames) ++ (if b then sent_as script number frame ∷ [] else [])) (eq-eqb (lane_of lanes (sent_as script number frame)) l own)
+
+  -- any other has the same
+  pub dealt_other : (l : ℕ) → lane_of lanes (sent_as script number frame) ≢ l → dealt lanes l (packets_from script 0 (frames ++ frame ∷ [])) ≡ dealt lanes l (packets_from script 0 frames)
+  dealt_other l other =
+      dealt-parts l
+      ∙ ap (λ b. dealt lanes l (packets_from script 0 frames) ++ (if b then sent_as script number frame ∷ [] else [])) (ne_eqb (lane_of lanes (sent_as script number frame)) l other)
+      ∙ append-nil (dealt lanes l (packets_from script 0 frames))
+
+-- a packet with the floor and the ceiling of its number
+pub as_sent : (script : List Stamped) (n low high : ℕ) (frame : Captured) → low ≡ floor script n → high ≡ ceil script n
+    → record { index = n; floor = low; ceil = high; frame = frame } ≡ sent_as script n frame
+as_sent script n low high frame floor_is ceil_is =
+    let made : ℕ → ℕ → Packet = λ f h. record { index = n; floor = f; ceil = h; frame = frame } in
+    ap (λ f. made f high) floor_is ∙ ap (made (floor script n)) ceil_is
+
+-- ---- one input
+
+module _ {L : Type 0} (g : Ghosts L) (script : List Command) (begin : Worker L) (packets : List Packet) where
+  -- more was sent
+  pub sent_on : (input : LaneInput L) (tx : RingTx Packet) (more : List Packet) → SameTx input.packets tx → sent tx ≡ sent input.packets ++ more → IsInput g script begin packets input
+      → IsInput g script begin (packets ++ more) (record input { packets = tx })
+  sent_on input tx more same gives p = record {
+    lawful = p.lawful;
+    ends = ends_after input.packets tx begin.packets begin.packets p.ends same (SameRx-refl begin.packets);
+    sent_are = gives ∙ ap (λ l. l ++ more) p.sent_are;
+    placed = p.placed;
+  }
+
+  -- nothing was sent
+  pub sent_none : (input : LaneInput L) (tx : RingTx Packet) → SameTx input.packets tx → sent tx ≡ sent input.packets → IsInput g script begin packets input
+      → IsInput g script begin packets (record input { packets = tx })
+  sent_none input tx same gives p = record {
+    lawful = p.lawful;
+    ends = ends_after input.packets tx begin.packets begin.packets p.ends same (SameRx-refl begin.packets);
+    sent_are = gives ∙ p.sent_are;
+    placed = p.placed;
+  }
+
+  -- a worker that is in this thread worked on
+  pub inline_worked : (tx : RingTx Packet) (a b : Worker L) → IsInput g script begin packets (record { packets = tx; place = Inline a }) → Worked g script a b
+      → (g.failed b.lane ≡ None → IsReady g script b.lane b.commands)
+      → IsInput g script begin packets (record { packets = tx; place = Inline b })
+  inline_worked tx a b p worked ready = record {
+    lawful = p.lawful;
+    ends = p.ends;
+    sent_are = p.sent_are;
+    placed = record { worked = worked_two g script begin a b p.placed.worked worked; ready = ready };
+  }
+
+-- ---- all inputs
+
+module _ {L : Type 0} (g : Ghosts L) (script : List Stamped) where
+  -- each of them is an input
+  pub input_of : (begins : List (Worker L)) (frames : List Captured) (inputs : List (LaneInput L)) (k : ℕ) (d : LaneInput L) → AreInputs g script begins frames inputs → k < length inputs
+      → (begin : Worker L) × (packets : List Packet) × IsInput g (commands_of script) begin packets (get_or inputs k d)
+  input_of [] frames inputs k d are below = let none = are.count in absurd (omega (arith, none, below))
+  input_of (b ∷ begins) frames inputs k d are below = (get_or (b ∷ begins) k b, dealt (length inputs) k (packets_from script 0 frames), are.each k b d below)
+
+  module _ (begins : List (Worker L)) (frames : List Captured) (frame : Captured) (number : ℕ) (count : length frames ≡ number) (inputs : List (LaneInput L))
+      (are : AreInputs g script begins frames inputs) where
+    abbrev IsAt : ℕ → List Captured → ℕ → Worker L → LaneInput L → Type 0
+    IsAt lanes fs k w p = IsInput g (commands_of script) (get_or begins k w) (dealt lanes k (packets_from script 0 fs)) p
+
+    -- one was sent the packet of one frame more
+    pub was_sent : (lane : ℕ) (d input : LaneInput L) → lane ≡ lane_of (length inputs) (sent_as script number frame) → lane < length inputs
+        → ((begin : Worker L) (packets : List Packet) → IsInput g (commands_of script) begin packets (get_or inputs lane d)
+            → IsInput g (commands_of script) begin (packets ++ sent_as script number frame ∷ []) input)
+        → AreInputs g script begins (frames ++ frame ∷ []) (set inputs lane input)
+    was_sent lane d input own within sends = record {
+      count = are.count ∙ sym same;
+      each = λ k w p below. subst (λ n. IsAt n (frames ++ frame ∷ []) k w (get_or (set inputs lane input) k p)) (sym same)
+          (⊎_elim (here k w p) (elsewhere k w p (subst (λ n. k < n) same below)) (cases_eq lane k));
+    }
+      where
+        same : length (set inputs lane input) ≡ length inputs
+        same = length-set inputs lane input
+
+        here : (k : ℕ) (w : Worker L) (p : LaneInput L) → lane ≡ k → IsAt (length inputs) (frames ++ frame ∷ []) k w (get_or (set inputs lane input) k p)
+        here k w p is = subst (λ j. IsAt (length inputs) (frames ++ frame ∷ []) j w (get_or (set inputs lane input) j p)) is
+            (subst (λ (q : LaneInput L). IsAt (length inputs) (frames ++ frame ∷ []) lane w q) (sym (get_or-set_same inputs lane input p within))
+            (subst (λ l. IsInput g (commands_of script) (get_or begins lane w) l input) (sym (dealt_own script (length inputs) frames frame number count lane (sym own)))
+            (sends (get_or begins lane w) (dealt (length inputs) lane (packets_from script 0 frames)) (are.each lane w d within))))
+
+        elsewhere : (k : ℕ) (w : Worker L) (p : LaneInput L) → k < length inputs → lane ≢ k → IsAt (length inputs) (frames ++ frame ∷ []) k w (get_or (set inputs lane input) k p)
+        elsewhere k w p below other = subst (λ (q : LaneInput L). IsAt (length inputs) (frames ++ frame ∷ []) k w q) (sym (get_or-set_other inputs lane k input p (λ is. other (sym is))))
+            (subst (λ l. IsInput g (commands_of script) (get_or begins k w) l (get_or inputs k p)) (sym (dealt_other script (length inputs) frames frame number count k (λ is. other (own ∙ is))))
+            (are.each k w p below))

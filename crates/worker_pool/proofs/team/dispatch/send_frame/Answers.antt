@@ -1,0 +1,31 @@
+use Rattle.std.proofs.Common.{◌≡◌, ◌<◌, ◌++◌, ◌∷◌, [], length, sym, ap, subst, ◌∙◌}
+use Rattle.ip6_views.specs.Sight.{sight_of, lane_of_sight}
+use Rattle.control_script.specs.Order.{commands_of}
+use Rattle.lane_rings.specs.declared.items.Packet.{Packet}
+use Rattle.worker_pool.specs.declared.team.lane_input.LaneInput.{LaneInput}
+use Rattle.worker_pool.specs.Inputs.{IsInput}
+use Rattle.worker_pool.proofs.Inputs.{as_sent, input_of, was_sent}
+use Rattle.worker_pool.proofs.team.dispatch.send_frame.Goals as goal
+
+pub send_to-requires : goal.send_to-requires
+send_to-requires g c =
+    let inputs = c.args.inputs.now.items in
+    let lane = c.lane_of_frame-lane.result in
+    let given = c.requires.inputs in
+    let count_is : c.len.result ≡ length inputs = c.len.ensures ∙ c.args.inputs.now.ok.0 in
+    let within : lane < length inputs = subst (λ n. lane < n) count_is c.lane_of_frame-lane.ensures.within in
+    let p = input_of g.L.Recorder c.args.script.now given.0 given.1 inputs lane c.index_mut.result.now given.2 within in
+    record { input = (p.0, p.1, subst (λ (q : LaneInput g.row.L.Denot). IsInput g.L.Recorder (commands_of c.args.script.now) p.0 p.1 q) (sym c.index_mut.ensures.value) p.2) }
+
+pub returns-clause-sent : goal.returns-clause-sent
+returns-clause-sent g c = λ begins frames count are.
+    let inputs = c.args.inputs.now.items in
+    let script = c.args.script.now in
+    let lane = c.lane_of_frame-lane.result in
+    let count_is : c.len.result ≡ length inputs = c.len.ensures ∙ c.args.inputs.now.ok.0 in
+    let within : lane < length inputs = subst (λ n. lane < n) count_is c.lane_of_frame-lane.ensures.within in
+    let own : lane ≡ lane_of_sight (sight_of c.args.frame.bytes) (length inputs) = c.lane_of_frame-lane.ensures.lane ∙ ap (lane_of_sight (sight_of c.args.frame.bytes)) count_is in
+    was_sent g.L.Recorder script begins frames c.args.frame c.args.index count inputs are lane c.index_mut.result.now c.send_to.new.input own within
+    (λ begin packets p. subst (λ (q : Packet). IsInput g.L.Recorder (commands_of script) begin (packets ++ q ∷ []) c.send_to.new.input)
+    (as_sent script c.args.index c.floor.result c.ceil.result c.args.frame c.floor.ensures.floor c.ceil.ensures.ceil)
+    (c.send_to.ensures begin packets (subst (λ (q : LaneInput g.row.L.Denot). IsInput g.L.Recorder (commands_of script) begin packets q) (sym c.index_mut.ensures.value) p)))

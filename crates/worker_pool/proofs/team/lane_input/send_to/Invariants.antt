@@ -1,0 +1,14 @@
+use Rattle.std.proofs.Common.{◌≡◌, List}
+use Rattle.control_script.specs.Order.{commands_of}
+use Rattle.lane_rings.specs.declared.items.Packet.{Packet}
+use Rattle.worker_pool.specs.declared.worker.Worker.{Worker}
+use Rattle.worker_pool.specs.Inputs.{IsInput}
+use Rattle.worker_pool.proofs.team.lane_input.send_to.Given as goal
+
+-- the packet is as it was, and nothing was sent
+abbrev pub invariant-loop : goal.invariant-loop
+invariant-loop g l = record {
+  same : l.packet ≡ l.initial.packet;
+  input : (begin : Worker g.row.L.Denot) (packets : List Packet) → IsInput g.L.Recorder (commands_of l.script) begin packets l.initial.input
+      → IsInput g.L.Recorder (commands_of l.script) begin packets l.input;
+}

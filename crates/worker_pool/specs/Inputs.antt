@@ -1,0 +1,67 @@
+-- What lanes are fed by, and what was sent to them.
+use Rattle.std.specs.Prelude.{◌≡◌, ℕ, ◌<◌, ◌≤◌, List, [], length, get_or, Option, Some, IsTrue, Result, Ok, Err, ⊤}
+use Rattle.pcap_source.specs.Captured.{Captured}
+use Rattle.pcap_source.specs.Capture.{tail, too_long, too_many}
+use Rattle.pcap_source.specs.Reading.{CaptureState, frames_at}
+use Rattle.pcap_source.specs.declared.errors.NextError.{NextError}
+use Rattle.pcap_source.specs.declared.errors.NextError.TheVariants.{TooLong, TooMany, ReadFault, NoMemory}
+use Rattle.forest_versions.specs.declared.command.Command.{Command}
+use Rattle.forest_versions.specs.Lawful.{are_lawful}
+use Rattle.forest_versions.specs.State.{start}
+use Rattle.control_script.specs.declared.stamped.Stamped.{Stamped}
+use Rattle.control_script.specs.Order.{commands_of}
+use Rattle.lane_rings.specs.declared.items.Packet.{Packet}
+use Rattle.lane_rings.specs.Ring.{sent, AreEnds}
+use Rattle.lane_core.specs.declared.recorder.Recorder.{Ghosts}
+use Rattle.lane_core.specs.Sight.{arrivals}
+use Rattle.worker_laws.specs.Greatest.{greatest}
+use Rattle.worker_pool.specs.declared.worker.Worker.{Worker}
+use Rattle.worker_pool.specs.declared.team.worker_place.WorkerPlace.{WorkerPlace}
+use Rattle.worker_pool.specs.declared.team.worker_place.WorkerPlace.TheVariants.{Thread, Inline}
+use Rattle.worker_pool.specs.declared.team.lane_input.LaneInput.{LaneInput}
+use Rattle.worker_pool.specs.declared.team.dispatch.Whole.{Whole}
+use Rattle.worker_pool.specs.Worked.{WorkedOn}
+use Rattle.worker_pool.specs.Sent.{packets_from, dealt}
+
+module _ {L : Type 0} where
+  -- a worker that began so is in its thread, which promises what it will have done; or it is in this one, and has done that much
+  abbrev pub IsPlaced : Ghosts L → List Command → Worker L → WorkerPlace L → Type 0
+  IsPlaced g script begin (Thread handle) = (handle.promise.start.value ≡ begin) × (commands_of handle.promise.script.value ≡ script)
+  IsPlaced g script begin (Inline worker) = WorkedOn g script begin worker
+
+  -- the input of a worker that began so, to which these packets were sent
+  pub record IsInput (g : Ghosts L) (script : List Command) (begin : Worker L) (packets : List Packet) (input : LaneInput L) : Type 0 where
+    pub lawful : IsTrue (are_lawful (start (g.app begin.lane).presets) script)
+    pub ends : AreEnds input.packets begin.packets
+    pub sent_are : sent input.packets ≡ packets
+    pub placed : IsPlaced g script begin input.place
+
+  -- the inputs of workers that began so, to which the packets of these frames were sent, each to that of its lane
+  pub record AreInputs (g : Ghosts L) (script : List Stamped) (begins : List (Worker L)) (frames : List Captured) (inputs : List (LaneInput L)) : Type 0 where
+    pub count : length begins ≡ length inputs
+    pub each : (k : ℕ) (w : Worker L) (p : LaneInput L) → k < length inputs
+        → IsInput g (commands_of script) (get_or begins k w) (dealt (length inputs) k (packets_from script 0 frames)) (get_or inputs k p)
+
+-- a capture was read to its end: these frames, before a tail
+pub record HasRead (frames : List Captured) (capture : CaptureState) (old new : Option (List ℕ)) (whole : Whole) : Type 0 where
+  pub count : length frames ≡ whole.packets
+  pub last : whole.last ≡ greatest (arrivals 0 frames)
+  pub holds : (rest : List ℕ) → old ≡ Some rest
+      → (frames_at capture rest ≡ record { frames = frames; ending = tail whole.tail }) × (new ≡ Some [])
+
+-- what was read: these frames are the whole capture, before a tail; or the capture is refused behind them
+abbrev pub ReadsAs : List Captured → CaptureState → Option (List ℕ) → Option (List ℕ) → Result Whole NextError → Type 0
+ReadsAs frames capture old new (Ok whole) = HasRead frames capture old new whole
+ReadsAs frames capture old new (Err (TooLong offset)) = (rest : List ℕ) → old ≡ Some rest → (frames_at capture rest).ending ≡ too_long offset
+ReadsAs frames capture old new (Err (TooMany offset)) = (rest : List ℕ) → old ≡ Some rest → (frames_at capture rest).ending ≡ too_many offset
+ReadsAs frames capture old new (Err ReadFault) = ⊤
+ReadsAs frames capture old new (Err NoMemory) = ⊤
+
+module _ {L : Type 0} where
+  -- a capture was read, and its packets were sent
+  pub record Dispatched (g : Ghosts L) (script : List Stamped) (begins : List (Worker L)) (inputs : List (LaneInput L)) (capture : CaptureState) (old new : Option (List ℕ))
+      (result : Result Whole NextError) : Type 0 where
+    pub frames : List Captured
+    pub few : length frames ≤ 1048576
+    pub inputs_are : AreInputs g script begins frames inputs
+    pub read : ReadsAs frames capture old new result

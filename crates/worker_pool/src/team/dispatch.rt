@@ -1,0 +1,168 @@
+//! Reads a capture, and sends each packet to its lane.
+
+ghost use Rattle.std.specs.Prelude.{◌≡◌, ◌<◌, ◌≤◌, ◌++◌, [], ◌∷◌, List, length, IsOk, IsErrOf, false};
+ghost use Rattle.pcap_source.specs.Captured.{Captured};
+ghost use Rattle.pcap_source.specs.Reading.{Opened};
+ghost use Rattle.flow_table.specs.Lane.{lane_of_key};
+ghost use Rattle.ip6_views.specs.Sight.{sight_of, lane_of_sight};
+ghost use Rattle.worker_pool.specs.declared.worker.Worker.{Worker as Begun};
+ghost use Rattle.worker_pool.specs.Inputs.{AreInputs, Dispatched};
+ghost use Rattle.worker_pool.specs.Source.{ReadsOn};
+
+use crate::gate::Gate;
+use crate::team::lane_input::{LaneInput, send_to};
+use control_script::Script;
+use flow_table::{Key, mix};
+use flow_timers::Moment;
+use ip6_views::{Sight, key_between, sight_of};
+use lane_core::Recorder;
+use lane_ends::greatest_with;
+use lane_rings::{Packet, PacketRx};
+use mos_bytes::Source;
+use native_filters::NativeBook;
+use pcap_source::{Capture, Frame, NextError, Step};
+use std::alloc::Global;
+use std::sync::Wait;
+use std::sync::atomic::AtomicBool;
+
+/// A capture that was read to its end.
+#[derive(Clone, Copy, Debug, PartialEq, Eq)]
+pub(crate) struct Whole {
+    /// How many packets it has.
+    pub(crate) packets: u64,
+    /// The bytes behind them that are no whole record.
+    pub(crate) tail: u32,
+    /// The greatest moment of its packets, of whatever class; none where it has no packet.
+    pub(crate) last: Option<Moment>,
+}
+
+// The lane of a key. `flow_table::lane_of` says the same, but asks at most 16 lanes.
+#[tactic(auto, unfolding(flow_table::specs::Lane::lane_of_key))]
+fn lane_of_key(key: &Key, lanes: usize) -> usize
+    requires some { 1 ≤ lanes }
+    ensures lane { result ≡ lane_of_key key.now lanes }
+    ensures within { result < lanes }
+{
+    let sum = mix(&key.lo).wrapping_add(mix(&key.hi));
+    (sum % lanes as u64) as usize
+}
+
+// The lane of a packet; what has no key goes to lane 0.
+fn lane_of_frame(frame: &Frame, lanes: usize) -> usize
+    requires some { 1 ≤ lanes }
+    ensures lane { result ≡ lane_of_sight (sight_of frame.now.bytes) lanes }
+    ensures within { result < lanes }
+{
+    match sight_of(&frame.bytes) {
+        Sight::Tcp(segment) => lane_of_key(&key_between(segment.from, segment.to), lanes),
+        Sight::Other(_) => 0,
+    }
+}
+
+/// Sends the next frame of a capture, of which so many were sent, to the input of its lane, and answers the lane.
+pub(crate) fn send_frame<R: Wait, L: Recorder + Drop, G: Gate>(
+    rt: &R,
+    alloc: Global,
+    inputs: &mut Vec<LaneInput<L>>,
+    index: u64,
+    frame: Frame,
+    script: &Script,
+    natives: &NativeBook,
+    gate: &G,
+    failed: &AtomicBool,
+) -> usize
+    requires some { 1 ≤ length inputs.old.items }
+    requires inputs { (begins : List (Begun L)) × (frames : List Captured)
+        × AreInputs L.Recorder script.now begins frames inputs.old.items }
+    ensures lane { result ≡ lane_of_sight (sight_of frame.bytes) (length inputs.old.items) }
+    ensures within { result < length inputs.old.items }
+    ensures count { length inputs.new.items ≡ length inputs.old.items }
+    ensures sent { (begins : List (Begun L)) (frames : List Captured) → length frames ≡ index
+        → AreInputs L.Recorder script.now begins frames inputs.old.items
+        → AreInputs L.Recorder script.now begins (frames ++ frame ∷ []) inputs.new.items }
+{
+    let lane = lane_of_frame(&frame, inputs.len());
+    let packet = Packet {
+        index,
+        floor: script.floor(index),
+        ceil: script.ceil(index),
+        frame,
+    };
+    send_to(
+        rt,
+        alloc,
+        &mut inputs[lane],
+        packet,
+        script,
+        natives,
+        gate,
+        failed,
+    );
+    lane
+}
+
+// A frame to read into: that of a packet that a lane has given back, whose memory serves again, where there is one.
+fn next_frame(alloc: Global, used: &mut [PacketRx], lane: usize) -> Frame {
+    if lane < used.len() {
+        if let Some(packet) = used[lane].take() {
+            return packet.frame;
+        }
+    }
+    Frame::new(alloc)
+}
+
+/// Reads an opened capture to its end or its tail, or to where it is refused, and sends each packet to the input of its
+/// lane. It waits where the ring of a lane is full, and works on a lane whose worker is in this thread. The frames of packets
+/// that come back through `used` serve again: for each packet that goes to a lane one is taken from it.
+pub(crate) fn dispatch<R: Wait, L: Recorder + Drop, S: Source, G: Gate>(
+    rt: &R,
+    alloc: Global,
+    inputs: &mut Vec<LaneInput<L>>,
+    script: &Script,
+    natives: &NativeBook,
+    gate: &G,
+    failed: &AtomicBool,
+    capture: &mut Capture,
+    source: &mut S,
+    used: &mut Vec<PacketRx>,
+) -> Result<Whole, NextError>
+    requires opened { Opened capture.old }
+    requires some { 1 ≤ length inputs.old.items }
+    requires inputs { (begins : List (Begun L)) × AreInputs L.Recorder script.now begins [] inputs.old.items }
+    ensures dispatched { (begins : List (Begun L)) → AreInputs L.Recorder script.now begins [] inputs.old.items
+        → Dispatched L.Recorder script.now begins inputs.new.items capture.old (S.left source.old)
+        (S.left source.new) result }
+    ensures reads { ReadsOn S.Source capture.old source.old source.new (IsOk result)
+        (IsErrOf result NextError.ReadFault) }
+    ensures stopped { capture.new.is_live ≡ false }
+{
+    let mut packets = 0;
+    let mut last = None;
+    let mut lane = 0;
+    loop {
+        let mut frame = next_frame(alloc, used.as_mut_slice(), lane);
+        match capture.next(source, &mut frame)? {
+            Step::Frame => {
+                last = greatest_with(last, &frame);
+                lane = send_frame(
+                    rt, alloc, inputs, packets, frame, script, natives, gate, failed,
+                );
+                packets += 1;
+            }
+            Step::Tail(tail) => {
+                return Ok(Whole {
+                    packets,
+                    tail,
+                    last,
+                });
+            }
+            Step::End => {
+                return Ok(Whole {
+                    packets,
+                    tail: 0,
+                    last,
+                });
+            }
+        }
+    }
+}

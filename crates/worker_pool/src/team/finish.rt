@@ -1,0 +1,91 @@
+//! The end of a run: the workers come back from where they are.
+
+ghost use Rattle.std.specs.Prelude.{◌≡◌, ◌≤◌, [], List, length, All};
+ghost use Rattle.std.specs.List.{AllZip};
+ghost use Rattle.std.specs.Vec.{vec_capacity};
+ghost use Rattle.forest_versions.specs.declared.command.Command.{Command};
+ghost use Rattle.control_script.specs.Order.{commands_of};
+ghost use Rattle.worker_pool.specs.declared.worker.Worker.{Worker as Begun};
+ghost use Rattle.worker_pool.specs.Worked.{WorkedOn};
+ghost use Rattle.worker_pool.specs.Inputs.{IsPlaced};
+ghost use Rattle.worker_pool.specs.AtWork.{IsAtWork, IsBack};
+
+use crate::gate::Gate;
+use crate::team::lane_input::LaneInput;
+use crate::team::worker_place::WorkerPlace;
+use crate::worker::Worker;
+use crate::worker::left::work_off;
+use control_script::Script;
+use lane_core::Recorder;
+use native_filters::NativeBook;
+use std::alloc::Global;
+use std::collections::VecDeque;
+use std::sync::Wait;
+use std::sync::atomic::AtomicBool;
+use std::thread::Threads;
+
+// A worker from where it is, once its thread has ended.
+fn worker_back<R: Threads + Wait, L: Recorder + Drop>(rt: &R, place: WorkerPlace<L>) -> Worker<L>
+    ensures { (script : List Command) (begin : Begun L) → IsPlaced L.Recorder script begin place
+        → WorkedOn L.Recorder script begin result }
+{
+    match place {
+        WorkerPlace::Thread(handle) => handle.join(rt),
+        WorkerPlace::Inline(worker) => worker,
+    }
+}
+
+// Waits for the worker of an input, and works off what is left in its packet ring.
+fn finish_one<R: Threads + Wait, L: Recorder + Drop, G: Gate>(
+    rt: &R,
+    alloc: Global,
+    input: LaneInput<L>,
+    script: &Script,
+    natives: &NativeBook,
+    gate: &G,
+    failed: &AtomicBool,
+) -> Worker<L>
+    requires at_work { IsAtWork L.Recorder (commands_of script.now) input }
+    ensures back { IsBack L.Recorder (commands_of script.now) input result }
+{
+    let LaneInput { packets, place } = input;
+    let mut packets = packets;
+    let worker = worker_back(rt, place);
+    work_off(
+        rt,
+        alloc,
+        worker,
+        &mut packets,
+        script,
+        natives,
+        gate,
+        failed,
+    )
+}
+
+/// Waits for the workers of all inputs, whose stop flags were raised, and works off what is left in their packet rings.
+/// The workers come back in order, in `room`, which is empty and has a place for each.
+///
+/// All commands have to be told of before, since a packet may wait for its places.
+pub(crate) fn finish_all<R: Threads + Wait, L: Recorder + Drop, G: Gate>(
+    rt: &R,
+    alloc: Global,
+    inputs: Vec<LaneInput<L>>,
+    room: Vec<Worker<L>>,
+    script: &Script,
+    natives: &NativeBook,
+    gate: &G,
+    failed: &AtomicBool,
+) -> Vec<Worker<L>>
+    requires at_work { All (IsAtWork L.Recorder (commands_of script.now)) inputs.items }
+    requires empty { room.items ≡ [] }
+    requires places { length inputs.items ≤ vec_capacity room }
+    ensures back { AllZip (IsBack L.Recorder (commands_of script.now)) inputs.items result.items }
+{
+    let mut inputs = VecDeque::from(inputs);
+    let mut workers = room;
+    while let Some(input) = inputs.pop_front() {
+        workers.push_reserved(finish_one(rt, alloc, input, script, natives, gate, failed));
+    }
+    workers
+}
