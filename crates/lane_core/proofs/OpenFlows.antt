@@ -42,7 +42,8 @@ module _ (registered : ℕ → ℕ → Option Reg) (content : Shared → TreeLis
   unopened flows after pasts past key shut same at =
       rw (same, shut, with_false) (IsOpenAt-append (found flows key) (place_of key pasts) pasts past (λ i e. place_by-within (is_open_at key) pasts i e) at)
 
-  opened_here : (b : Bool) (o : Option Connection) (place : Option ℕ) (pasts : List RecordSoFar) (past : RecordSoFar) (flow : Connection) → flow.place ≡ length pasts → IsOpen registered content flow past
+  opened_here : (b : Bool) (o : Option Connection) (place : Option ℕ) (pasts : List RecordSoFar) (past : RecordSoFar) (flow : Connection)
+      → flow.place ≡ length pasts → IsOpen registered content flow past
       → (b ≡ true → place ≡ None) → ((i : ℕ) → place ≡ Some i → i < length pasts) → IsOpenAt registered content o place pasts
       → IsOpenAt registered content (if b then Some flow else o) (place_with place b (length pasts)) (pasts ++ past ∷ [])
   opened_here true o place pasts past flow last is none within at =

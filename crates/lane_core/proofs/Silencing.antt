@@ -63,7 +63,8 @@ never_heard m now None never = tt
 never_heard m now (Some conn) never = λ control tells. ap (λ l. is_past l conn.moment now) (never conn.version control tells)
 
 -- what the table has for a key, after a connection was taken from it
-taken_at : (registered : ℕ → ℕ → Option Reg) (content : Shared → TreeLists) (flows after : Flows Connection) (pasts : List RecordSoFar) (i : ℕ) (past d : RecordSoFar) (own key : EndpointPair) (same : Bool)
+taken_at : (registered : ℕ → ℕ → Option Reg) (content : Shared → TreeLists) (flows after : Flows Connection) (pasts : List RecordSoFar) (i : ℕ)
+    (past d : RecordSoFar) (own key : EndpointPair) (same : Bool)
     → same_key own key ≡ same → IsSingle (is_open_at own) pasts → place_of own pasts ≡ Some i → is_open_at key (get_or pasts i d) ≡ same_key own key
     → is_open_at key past ≡ false → found after key ≡ (if same then None else found flows key)
     → IsOpenAt registered content (found flows key) (place_of key pasts) pasts → IsOpenAt registered content (found after key) (place_of key (set pasts i past)) (set pasts i past)
@@ -195,7 +196,8 @@ module _ (app : Meaning) (control_at : ℕ → ControlState) (keep : Bool) (m : 
           subst (λ l. place_of key l ≡ None) (sym (ends_before_is conn.place d at.0 (silent_as content conn past true (at.1 d) silent)))
           (place_by-cleared (is_open_at key) pasts conn.place (over past) (stands.single key) at.0 (ended_shut app control_at key past))
 
-    pub kept_same : (new : Flows Connection) (slots' : List RecordUnderWay) (counts' : Counts) → Goes m old new slots slots' counts counts' key now → AreKept keep registered content new slots' counts' pasts
+    pub kept_same : (new : Flows Connection) (slots' : List RecordUnderWay) (counts' : Counts) → Goes m old new slots slots' counts counts' key now
+        → AreKept keep registered content new slots' counts' pasts
     kept_same new slots' counts' n =
         subst (λ (c : Counts). AreKept keep registered content new slots' c pasts) (sym n.counts_are)
         (subst (λ ss. AreKept keep registered content new ss counts pasts) (sym n.slots_are)

@@ -51,14 +51,16 @@ module _ (app : Meaning) (script : List Stamped) (given : List Captured → List
       subst (λ b. (if b then refused Run.Heavy else ended app script given output header frames n).text ≢ []) (sym is)
       (some-ended app script given output header frames n some)
 
-  some_followed : (header : List ℕ) (frames : List Captured) (ending : Ending) (behind : Option NgFault) → header ≢ [] → (followed app script given output header frames ending behind).ends ≡ Ok versions
+  some_followed : (header : List ℕ) (frames : List Captured) (ending : Ending) (behind : Option NgFault) → header ≢ []
+      → (followed app script given output header frames ending behind).ends ≡ Ok versions
       → (followed app script given output header frames ending behind).text ≢ []
   some_followed header frames (tail n) None some ends = some_weighed header frames n (is_heavy app script given output frames) some refl ends
   some_followed header frames (tail n) (Some fault) some ends = absurd (cc)
   some_followed header frames (too_long offset) behind some ends = absurd (cc)
   some_followed header frames (too_many offset) behind some ends = absurd (cc)
 
-  some_by : (header : List ℕ) (read : Result Frames OpenError) (behind : Option NgFault) → header ≢ [] → (outcome_by app script given output header read behind).ends ≡ Ok versions → (outcome_by app script given output header read behind).text ≢ []
+  some_by : (header : List ℕ) (read : Result Frames OpenError) (behind : Option NgFault) → header ≢ []
+      → (outcome_by app script given output header read behind).ends ≡ Ok versions → (outcome_by app script given output header read behind).text ≢ []
   some_by header (Ok f) behind some ends = some_followed header f.frames f.ending behind some ends
   some_by header (Err e) behind some ends = absurd (cc)
 

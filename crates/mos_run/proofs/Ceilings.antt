@@ -116,7 +116,8 @@ module _ (app : Meaning) (output : Output) (header : List ℕ) (frames : List Ca
   followed-is script given (too_long offset) behind = refl
   followed-is script given (too_many offset) behind = refl
 
-  followed-same : (script : List Stamped) (one two : List Captured → List VersionedPacket) (ending : Ending) (behind : Option NgFault) → records_of app script one frames ≡ records_of app script two frames
+  followed-same : (script : List Stamped) (one two : List Captured → List VersionedPacket) (ending : Ending) (behind : Option NgFault)
+      → records_of app script one frames ≡ records_of app script two frames
       → verdicts_of app script one frames ≡ verdicts_of app script two frames → followed app script one output header frames ending behind ≡ followed app script two output header frames ending behind
   followed-same script one two ending behind rs js =
       followed-is script one ending behind ∙ ap (λ r. followed_by ending behind r (verdicts_of app script one frames)) rs

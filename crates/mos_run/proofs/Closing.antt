@@ -48,7 +48,8 @@ module _ (app : Meaning) (script : List Stamped) (output : Output) (frames : Lis
   abbrev rs : List RecordSoFar
   rs = records_of app script (packets_of script) frames
 
-  module _ (given : ℕ) (failed : Option LaneError) (stands : List LaneEvent → Type 0) (keep : Bool) (last : Option Moment) (later : LaterCommandsChangeNone) (is_last : last ≡ greatest (arrivals 0 frames))
+  module _ (given : ℕ) (failed : Option LaneError) (stands : List LaneEvent
+      → Type 0) (keep : Bool) (last : Option Moment) (later : LaterCommandsChangeNone) (is_last : last ≡ greatest (arrivals 0 frames))
       (read : IsRead app script output given failed stands frames) where
     at-end : (f : Follows script given stands (packets_of script frames)) → ended_run app f.events last ≡ rs
     at-end f =
@@ -155,7 +156,8 @@ told_lane Lane.NoMemory = refl
 told_lane Lane.Heavy = refl
 
 -- a report that went well was that of a lane that hadn't failed
-pub was_good_report : {V : Type 0} (failed : Option LaneError) (result : Result V ReportError) (v : V) → ((e : LaneError) → failed ≡ Some e → result ≡ Err (lane_fault e)) → result ≡ Ok v → failed ≡ None
+pub was_good_report : {V : Type 0} (failed : Option LaneError) (result : Result V ReportError) (v : V)
+    → ((e : LaneError) → failed ≡ Some e → result ≡ Err (lane_fault e)) → result ≡ Ok v → failed ≡ None
 was_good_report None result v before ok = refl
 was_good_report (Some e) result v before ok = absurd (let bad = before e refl in cc)
 
@@ -175,7 +177,8 @@ module _ (app : Meaning) (script : List Stamped) (output : Output) (frames : Lis
       ∙ ap (λ n. end_text true app all_of n tail) (sym count)
       ∙ ap (λ o. closing o (map (record_of app) all_of) (totals_of all_of (length frames) tail)) (sym report)
 
-  text_at_end : (f : Follows script given stands (packets_of script frames)) → end_text keep app (ended_run app f.events last) packets tail ≡ closing output (map (record_of app) all_of) (totals_of all_of (length frames) tail)
+  text_at_end : (f : Follows script given stands (packets_of script frames))
+      → end_text keep app (ended_run app f.events last) packets tail ≡ closing output (map (record_of app) all_of) (totals_of all_of (length frames) tail)
   text_at_end f = ap (λ rs. end_text keep app rs packets tail) (at-end app script output frames given failed stands keep last later is_last read f) ∙ text_of_end
 
   -- all of it is written

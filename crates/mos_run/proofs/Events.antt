@@ -65,7 +65,8 @@ unfolding allows_hook
 raised event hook allowed =
     one (event == 257) (event == 261) (event == 256) (event == 263) (event == 258) (event == 259) (event == 260) (event == 262) (event == 264) refl refl refl refl refl refl refl refl refl
   where
-    one : (a b c d e f g h i : Bool) → (event == 257) ≡ a → (event == 261) ≡ b → (event == 256) ≡ c → (event == 263) ≡ d → (event == 258) ≡ e → (event == 259) ≡ f → (event == 260) ≡ g → (event == 262) ≡ h → (event == 264) ≡ i
+    one : (a b c d e f g h i : Bool) → (event == 257) ≡ a → (event == 261) ≡ b → (event == 256) ≡ c → (event == 263) ≡ d → (event == 258) ≡ e
+        → (event == 259) ≡ f → (event == 260) ≡ g → (event == 262) ≡ h → (event == 264) ≡ i
         → is_event event ≡ true
     one true b c d e f g h i ia ib ic id ie if_ ig ih ii = at event 257 (omega arith) (omega arith) ia
     one false true c d e f g h i ia ib ic id ie if_ ig ih ii = at event 261 (omega arith) (omega arith) ib

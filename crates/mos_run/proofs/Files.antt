@@ -87,15 +87,18 @@ module _ (app : Meaning) (script : List Stamped) (given : List Captured → List
     stays : (x : RunError) → e ≡ x → x ≢ Run.ReadFault → met_in fault e ≡ x
     stays x is other = unmet fault e (λ bad some. other (sym is ∙ bad)) ∙ is
 
-    front-by : (b : Bool) → is_forward output ≡ b → (frames : List Captured) (n : ℕ) → AppendsFront old new (weighed app script given output header frames n).text → AppendsFront old new (streamed app script given output header frames)
+    front-by : (b : Bool) → is_forward output ≡ b → (frames : List Captured) (n : ℕ)
+        → AppendsFront old new (weighed app script given output header frames n).text → AppendsFront old new (streamed app script given output header frames)
     front-by true is frames n part = subst (AppendsFront old new) (forward-text output header frames n is) part
     front-by false is frames n part = subst (λ x. AppendsFront old x (streamed app script given output header frames)) (sym (begun is).0) (AppendsFront-nil old _)
 
-    some-by : (b : Bool) → is_forward output ≡ b → (frames : List Captured) (n : ℕ) → e ≡ Run.WriteFault → (weighed app script given output header frames n).text ≢ [] → streamed app script given output header frames ≢ []
+    some-by : (b : Bool) → is_forward output ≡ b → (frames : List Captured) (n : ℕ) → e ≡ Run.WriteFault
+        → (weighed app script given output header frames n).text ≢ [] → streamed app script given output header frames ≢ []
     some-by true is frames n write some none = some (forward-text output header frames n is ∙ none)
     some-by false is frames n write some none = (begun is).1 write
 
-    at-tail : (frames : List Captured) (n : ℕ) → StopsAs (weighed app script given output header frames n) e → StopsAs (cut_off app script given output header frames (file_refusal refusal)) (met_in fault e)
+    at-tail : (frames : List Captured) (n : ℕ) → StopsAs (weighed app script given output header frames n) e
+        → StopsAs (cut_off app script given output header frames (file_refusal refusal)) (met_in fault e)
     at-tail frames n (inl ends) = absurd (light (weighed-ends output header frames n (is_heavy app script given output frames) e ends))
     at-tail frames n (inr (inl is)) = told (cut_off app script given output header frames (file_refusal refusal)) fault refl is refl
     at-tail frames n (inr (inr (inl memory))) = inr (inr (inl (stays Run.NoMemory memory (λ is. cc))))
@@ -103,7 +106,8 @@ module _ (app : Meaning) (script : List Stamped) (given : List Captured → List
 
     at-ending : (frames : List Captured) (ending : Ending) → (e ≡ Run.ReadFault → fault ≢ None → (n : ℕ) × (ending ≡ tail n))
         → StopsAs (followed app script given output header frames ending None) e × AppendsFront old new (followed app script given output header frames ending None).text
-        → StopsAs (followed app script given output header frames ending (Some refusal)) (met_in fault e) × AppendsFront old new (followed app script given output header frames ending (Some refusal)).text
+        → StopsAs (followed app script given output header frames ending (Some refusal)) (met_in fault e)
+            × AppendsFront old new (followed app script given output header frames ending (Some refusal)).text
     at-ending frames (tail n) cut stops = (at-tail frames n stops.0, front-by (is_forward output) refl frames n stops.1)
     at-ending frames (too_long offset) cut stops = same _ (λ is some. let bad = (cut is some).1 in cc) stops
     at-ending frames (too_many offset) cut stops = same _ (λ is some. let bad = (cut is some).1 in cc) stops

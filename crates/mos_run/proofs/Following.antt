@@ -146,7 +146,8 @@ over_is app script v stands ps law f =
     let same = records_are app script v stands ps f law in
     (subst (λ rs. 134217728 < weight rs) same, subst (λ rs. 134217728 < weight rs) (sym same))
 
-module _ (app : Meaning) (script : List Stamped) (v n : ℕ) (frame : Captured) (stands : List LaneEvent → Type 0) (ps : List VersionedPacket) (within : v ≤ length script) (at : v ≡ ceil script n) (f : Follows script v stands ps) where
+module _ (app : Meaning) (script : List Stamped) (v n : ℕ) (frame : Captured) (stands : List LaneEvent
+    → Type 0) (ps : List VersionedPacket) (within : v ≤ length script) (at : v ≡ ceil script n) (f : Follows script v stands ps) where
   abbrev here : Arrival
   here = arrival_of n frame
 
@@ -206,7 +207,8 @@ ready_after app script given control last n under at is = record {
 }
 
 -- and so is one that took none
-pub ready_still : (app : Meaning) (script : List Stamped) (given : ℕ) (control : ControlState) (last : Option ℕ) (n : ℕ) → IsReady app script given control last n → IsReady app script given control last (n + 1)
+pub ready_still : (app : Meaning) (script : List Stamped) (given : ℕ) (control : ControlState) (last : Option ℕ) (n : ℕ)
+    → IsReady app script given control last n → IsReady app script given control last (n + 1)
 ready_still app script given control last n ready = record {
   under = ready.under;
   before = let rises = ceil_rises script n in let now = ready.before in omega (arith, now, rises);

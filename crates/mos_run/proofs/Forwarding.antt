@@ -39,7 +39,8 @@ not-empty [] text len = absurd (omega (arith, len))
 not-empty (x ∷ header) text len = λ none. cc
 
 -- an opened capture, whose header has these bytes
-module _ (app : Meaning) (script : List Stamped) (lanes : ℕ) (bytes header : List ℕ) (f : Frames) (opened : capture_of bytes ≡ Ok f) (header-is : header ≡ take 24 bytes) (len : length header ≡ 24) where
+module _ (app : Meaning) (script : List Stamped) (lanes : ℕ) (bytes header : List ℕ) (f : Frames) (opened : capture_of bytes ≡ Ok f)
+    (header-is : header ≡ take 24 bytes) (len : length header ≡ 24) where
   abbrev given : List ℕ → List Captured → List VersionedPacket
   given vs = packets_with app script vs
 
@@ -79,7 +80,8 @@ module _ (app : Meaning) (script : List Stamped) (lanes : ℕ) (bytes header : L
   stops-by vs Pool.NoMemory is = inr (inr (inl refl))
 
   -- it ended behind the header
-  pub cut_short : (old mid new : Option (List ℕ)) (e : PoolError) → Appends old mid header → ForwardsOver app script lanes f mid new (Err e) → StopsWith app script lanes Forward bytes (pool_refusal e) old new
+  pub cut_short : (old mid new : Option (List ℕ)) (e : PoolError) → Appends old mid header → ForwardsOver app script lanes f mid new (Err e)
+      → StopsWith app script lanes Forward bytes (pool_refusal e) old new
   cut_short old mid new e written ends =
       let front = ends.1 in
       record {
@@ -90,7 +92,8 @@ module _ (app : Meaning) (script : List Stamped) (lanes : ℕ) (bytes header : L
       }
 
   -- all was written
-  pub all_left : HasVersions → (old mid new : Option (List ℕ)) (versions : List ℕ) → Appends old mid header → ForwardsOver app script lanes f mid new (Ok versions) → FinishesWith app script lanes Forward bytes versions old new
+  pub all_left : HasVersions → (old mid new : Option (List ℕ)) (versions : List ℕ) → Appends old mid header
+      → ForwardsOver app script lanes f mid new (Ok versions) → FinishesWith app script lanes Forward bytes versions old new
   all_left has old mid new versions written ends =
       let all = ends.2 in
       record {

@@ -144,7 +144,8 @@ module _ {S H O E : Type 0} (source : Source S) (shelf : Shelf H) (sink : Sink O
     front = λ x is. record {
       versions = (some x is).versions;
       allowed = (some x is).allowed;
-      holds = subst (λ q. AppendsFront (sink.taken o) (sink.taken q) (outcome_under (some x is).versions x).text) (sym same) (AppendsFront-nil (sink.taken o) (outcome_under (some x is).versions x).text);
+      holds = subst (λ q. AppendsFront (sink.taken o) (sink.taken q) (outcome_under (some x is).versions x).text) (sym same)
+          (AppendsFront-nil (sink.taken o) (outcome_under (some x is).versions x).text);
     };
     no_versions = λ failed. none;
     told_nothing = λ is. absurd (omega (arith, six, is));

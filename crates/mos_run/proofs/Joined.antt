@@ -58,11 +58,13 @@ pub whole_is_tidy : RecordsAreTidy → NumbersOfRunRise → (app : Meaning) (scr
     → are_lawful (start app.presets) (commands_of script) ≡ true → IsWhole app script lanes frames rest end → tidy end.records ≡ true
 whole_is_tidy law rises app script lanes rest frames end lawful commands whole =
     subst (λ l. tidy l ≡ true) (sym whole.records_are)
-    (law app (control_at app script) (greatest (arrivals 0 frames)) (packets_with app script end.versions frames) lawful (λ v. are_events app (commands_of script) v lawful commands) (rises app (commands_of script) frames end.versions))
+    (law app (control_at app script) (greatest (arrivals 0 frames)) (packets_with app script end.versions frames) lawful
+        (λ v. are_events app (commands_of script) v lawful commands) (rises app (commands_of script) frames end.versions))
 
 module _ (app : Meaning) (script : List Stamped) (lanes : ℕ) (output : Output) (bytes : List ℕ) where
   -- nothing could be said of the capture, or the run stopped before its end, whatever its versions
-  pub stopped_any : CeilingsMayBeHad → are_in_order script ≡ true → (old : Option (List ℕ)) (e : RunError) → ((vs : List ℕ) → StopsAs (outcome_over app script (packets_with app script vs) output bytes) e)
+  pub stopped_any : CeilingsMayBeHad → are_in_order script ≡ true → (old : Option (List ℕ)) (e : RunError)
+      → ((vs : List ℕ) → StopsAs (outcome_over app script (packets_with app script vs) output bytes) e)
       → StopsWith app script lanes output bytes e old old
   stopped_any law ordered old e stops = record {
     versions = ceilings_of app script bytes;
@@ -76,7 +78,8 @@ module _ (app : Meaning) (script : List Stamped) (lanes : ℕ) (output : Output)
     outcome-at : (vs : List ℕ) (ending : Ending) → f.ending ≡ ending
         → outcome_over app script (packets_with app script vs) output bytes ≡ followed app script (packets_with app script vs) output (take 24 bytes) f.frames ending None
     unfolding outcome
-    outcome-at vs ending is = ap (λ read. outcome_by app script (packets_with app script vs) output (take 24 bytes) read None) opened ∙ ap (λ ending. followed app script (packets_with app script vs) output (take 24 bytes) f.frames ending None) is
+    outcome-at vs ending is = ap (λ read. outcome_by app script (packets_with app script vs) output (take 24 bytes) read None) opened
+        ∙ ap (λ ending. followed app script (packets_with app script vs) output (take 24 bytes) f.frames ending None) is
 
     may-have : (vs : List ℕ) → MayHave app script lanes f.frames vs → MayHave app script lanes (frames_in (capture_of bytes)) vs
     may-have vs may = subst (λ fs. MayHave app script lanes fs vs) (sym (ap frames_in opened)) may
@@ -86,7 +89,8 @@ module _ (app : Meaning) (script : List Stamped) (lanes : ℕ) (output : Output)
     heavy-by vs b is = ap (λ c. not c && nat_lt 134217728 (weight (records_of app script (packets_with app script vs) f.frames))) kept ∙ is
 
     -- it can't be read on, or weighs too much
-    pub stopped : CeilingsMayBeHad → are_in_order script ≡ true → (old : Option (List ℕ)) (e : PoolError) → EndsOver app script lanes f (Err e) → StopsWith app script lanes output bytes (pool_refusal e) old old
+    pub stopped : CeilingsMayBeHad → are_in_order script ≡ true → (old : Option (List ℕ)) (e : PoolError) → EndsOver app script lanes f (Err e)
+        → StopsWith app script lanes output bytes (pool_refusal e) old old
     stopped law ordered old (Pool.TooLong offset) is = stopped_any law ordered old (Run.Capture Fault.TooLong offset) (λ vs. inl (ap (λ o. o.ends) (outcome-at vs (too_long offset) is)))
     stopped law ordered old (Pool.TooMany offset) is = stopped_any law ordered old (Run.TooMany offset) (λ vs. inl (ap (λ o. o.ends) (outcome-at vs (too_many offset) is)))
     stopped law ordered old Pool.ReadFault is = stopped_any law ordered old Run.ReadFault (λ vs. inr (inl refl))
@@ -114,7 +118,8 @@ module _ (app : Meaning) (script : List Stamped) (lanes : ℕ) (output : Output)
       nothing-streamed : (old : Option (List ℕ)) → Appends old old (streamed app script given output (take 24 bytes) f.frames)
       nothing-streamed old = subst (λ b. Appends old old (if b then take 24 bytes ++ forwarded app script given f.frames else [])) (sym kept) (Appends-nil old)
 
-      closing-is : closing output end.records end.totals ≡ closing output (map (record_of app) (records_of app script given f.frames)) (totals_of (records_of app script given f.frames) (length f.frames) n)
+      closing-is : closing output end.records end.totals ≡ closing output (map (record_of app) (records_of app script given f.frames))
+          (totals_of (records_of app script given f.frames) (length f.frames) n)
       closing-is = ap (λ l. closing output l end.totals) whole.records_are ∙ ap (closing output (map (record_of app) (records_of app script given f.frames))) whole.totals_are
 
       -- and all was written
@@ -122,12 +127,14 @@ module _ (app : Meaning) (script : List Stamped) (lanes : ℕ) (output : Output)
       finished has old new written = record {
         may_have = may-have end.versions whole.allowed;
         finishes = subst (λ o. Finishes o end.versions old new) (sym (outcome-at end.versions (tail n) ending))
-            (ends_well app script given output f.frames (take 24 bytes) n end.versions old old new light (sym (has app (commands_of script) _ _ _ (arrivals 0 f.frames) end.versions whole.allowed)) (nothing-streamed old)
+            (ends_well app script given output f.frames (take 24 bytes) n end.versions old old new light
+                (sym (has app (commands_of script) _ _ _ (arrivals 0 f.frames) end.versions whole.allowed)) (nothing-streamed old)
             (subst (Appends old new) closing-is written));
       }
 
       -- or a front of it, where writing failed
-      pub broke_off : (old new : Option (List ℕ)) (e : RunError) → ((e ≡ Run.WriteFault) × (is_forward output ≡ false)) ⊎ (e ≡ Run.NoMemory) → AppendsFront old new (closing output end.records end.totals)
+      pub broke_off : (old new : Option (List ℕ)) (e : RunError) → ((e ≡ Run.WriteFault) × (is_forward output ≡ false)) ⊎ (e ≡ Run.NoMemory)
+          → AppendsFront old new (closing output end.records end.totals)
           → StopsWith app script lanes output bytes e old new
       broke_off old new e which part =
           let both : RunsAs (weighed app script given output (take 24 bytes) f.frames n) old new (Err e) =

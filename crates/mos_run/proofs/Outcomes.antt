@@ -28,7 +28,8 @@ use Rattle.mos_run.specs.Lanes.{RunsWith}
 use Rattle.mos_run.specs.Laws.{ceilings_of, CeilingsMayBeHad, CeilingsAreOneWorkers}
 use Rattle.mos_run.proofs.Scripts.{commands_order}
 
-request-by : (words : List (List ℕ)) (content : List ℕ → Option (List ℕ)) (left : Option (List ℕ)) (settings : Option Settings) → words_settings words ≡ settings → request_of words content left ≡ chosen settings content left
+request-by : (words : List (List ℕ)) (content : List ℕ → Option (List ℕ)) (left : Option (List ℕ)) (settings : Option Settings)
+    → words_settings words ≡ settings → request_of words content left ≡ chosen settings content left
 unfolding request_of
 request-by words content left settings is = ap (λ s. chosen s content left) is
 
@@ -45,7 +46,8 @@ under-by : (s : Settings) (content : List ℕ → Option (List ℕ)) (left : Opt
 under-by s content left t None is comes = absurd (cc)
 under-by s content left t (Some text) is comes = record { text = text; told_so = is; comes_to = comes }
 
-pub under_text : (words : List (List ℕ)) (content : List ℕ → Option (List ℕ)) (left : Option (List ℕ)) (t : Request) (s : Settings) → words_settings words ≡ Some s → request_of words content left ≡ Some t → IsUnderText s content left t
+pub under_text : (words : List (List ℕ)) (content : List ℕ → Option (List ℕ)) (left : Option (List ℕ)) (t : Request) (s : Settings)
+    → words_settings words ≡ Some s → request_of words content left ≡ Some t → IsUnderText s content left t
 under_text words content left t s accepted is =
     under-by s content left t (text_under s.script content) refl (sym (request-by words content left (Some s) accepted) ∙ is)
 
@@ -60,12 +62,14 @@ over-by : (s : Settings) (left : Option (List ℕ)) (commands : List Stamped) (t
 over-by s left commands t None is comes = absurd (cc)
 over-by s left commands t (Some file) is comes = record { file = file; told_so = is; comes_to = cc }
 
-pub over_file : (s : Settings) (content : List ℕ → Option (List ℕ)) (left : Option (List ℕ)) (t : Request) (commands : List Stamped) → (u : IsUnderText s content left t) → commands_in s.app u.text ≡ Ok commands → IsOver s left commands t
+pub over_file : (s : Settings) (content : List ℕ → Option (List ℕ)) (left : Option (List ℕ)) (t : Request) (commands : List Stamped)
+    → (u : IsUnderText s content left t) → commands_in s.app u.text ≡ Ok commands → IsOver s left commands t
 over_file s content left t commands u accepted =
     over-by s left commands t (given_under s.make left) refl (sym (ap (asked s left) accepted) ∙ u.comes_to)
 
 -- a refused script
-pub refused_text : (s : Settings) (content : List ℕ → Option (List ℕ)) (left : Option (List ℕ)) (t : Request) (e : RunError) → (u : IsUnderText s content left t) → commands_in s.app u.text ≡ Err e → Refused e ≡ t
+pub refused_text : (s : Settings) (content : List ℕ → Option (List ℕ)) (left : Option (List ℕ)) (t : Request) (e : RunError)
+    → (u : IsUnderText s content left t) → commands_in s.app u.text ≡ Err e → Refused e ≡ t
 refused_text s content left t e u refusal = let same = sym (ap (asked s left) refusal) ∙ u.comes_to in cc
 
 -- ---- there are versions that a run may have
@@ -74,10 +78,12 @@ pub record HasSome (t : Request) : Type 0 where
   pub versions : List ℕ
   pub allowed : Allows t versions
 
-pub ceilings_are_allowed : CeilingsMayBeHad → (s : Settings) (commands : List Stamped) (bytes : List ℕ) → are_in_order commands ≡ true → AreAllowed s commands bytes (ceilings_of (meaning_of s.app) commands bytes)
+pub ceilings_are_allowed : CeilingsMayBeHad → (s : Settings) (commands : List Stamped) (bytes : List ℕ) → are_in_order commands ≡ true
+    → AreAllowed s commands bytes (ceilings_of (meaning_of s.app) commands bytes)
 ceilings_are_allowed law s commands bytes ordered = record { may_have = law (meaning_of s.app) commands s.workers bytes ordered; with_one = λ one. refl }
 
-some-under : CeilingsMayBeHad → (s : Settings) (content : List ℕ → Option (List ℕ)) (left : Option (List ℕ)) (t : Request) (commands : Result (List Stamped) RunError) → (u : IsUnderText s content left t)
+some-under : CeilingsMayBeHad → (s : Settings) (content : List ℕ → Option (List ℕ)) (left : Option (List ℕ)) (t : Request)
+    (commands : Result (List Stamped) RunError) → (u : IsUnderText s content left t)
     → commands_in s.app u.text ≡ commands → HasSome t
 some-under law s content left t (Err e) u is = subst HasSome (refused_text s content left t e u is) (record { versions = []; allowed = tt })
 some-under law s content left t (Ok commands) u is =
@@ -87,7 +93,8 @@ some-under law s content left t (Ok commands) u is =
       allowed = ceilings_are_allowed law s commands over.file.bytes (commands_order s.app u.text commands is);
     })
 
-some-by : CeilingsMayBeHad → (words : List (List ℕ)) (content : List ℕ → Option (List ℕ)) (left : Option (List ℕ)) (t : Request) (settings : Option Settings) → words_settings words ≡ settings → request_of words content left ≡ Some t → HasSome t
+some-by : CeilingsMayBeHad → (words : List (List ℕ)) (content : List ℕ
+    → Option (List ℕ)) (left : Option (List ℕ)) (t : Request) (settings : Option Settings) → words_settings words ≡ settings → request_of words content left ≡ Some t → HasSome t
 some-by law words content left t None accepted is =
     let same : Refused Run.Usage ≡ t = let both = sym (request-by words content left None accepted) ∙ is in cc in
     subst HasSome same (record { versions = []; allowed = tt })
@@ -108,7 +115,8 @@ stops-refused : (t : Request) (old : Option (List ℕ)) (e : RunError) → Refus
 stops-refused t old e same = subst (λ x. RunsUnder x old old (Err e)) same (record { versions = []; allowed = tt; holds = (inl refl, AppendsFront-nil old []) })
 
 -- words that are refused, or for which there is no memory
-pub refused_words : CeilingsMayBeHad → (words : List (List ℕ)) (content : List ℕ → Option (List ℕ)) (left old : Option (List ℕ)) (t : Request) (e : WordsError) → (e ≡ Words.Usage → words_settings words ≡ None) → request_of words content left ≡ Some t
+pub refused_words : CeilingsMayBeHad → (words : List (List ℕ)) (content : List ℕ
+    → Option (List ℕ)) (left old : Option (List ℕ)) (t : Request) (e : WordsError) → (e ≡ Words.Usage → words_settings words ≡ None) → request_of words content left ≡ Some t
     → RunsUnder t old old (Err (words_refusal e))
 refused_words law words content left old t Words.Usage usage is =
     stops-refused t old Run.Usage (let both = sym (request-by words content left None (usage refl)) ∙ is in cc)
@@ -128,12 +136,14 @@ module _ (app : Meaning) (script : List Stamped) (given : List Captured → List
   weighed-versions header frames n true ends = absurd (cc)
   weighed-versions header frames n false ends = cc
 
-  followed-versions : (header : List ℕ) (frames : List Captured) (ending : Ending) → (followed app script given output header frames ending None).ends ≡ Ok versions → versions ≡ versions_of (records_of app script given frames)
+  followed-versions : (header : List ℕ) (frames : List Captured) (ending : Ending)
+      → (followed app script given output header frames ending None).ends ≡ Ok versions → versions ≡ versions_of (records_of app script given frames)
   followed-versions header frames (tail n) ends = weighed-versions header frames n (is_heavy app script given output frames) ends
   followed-versions header frames (too_long offset) ends = absurd (cc)
   followed-versions header frames (too_many offset) ends = absurd (cc)
 
-  versions-by : (header : List ℕ) (capture : Result Frames OpenError) → (outcome_by app script given output header capture None).ends ≡ Ok versions → versions ≡ versions_of (records_of app script given (frames_in capture))
+  versions-by : (header : List ℕ) (capture : Result Frames OpenError) → (outcome_by app script given output header capture None).ends ≡ Ok versions
+      → versions ≡ versions_of (records_of app script given (frames_in capture))
   versions-by header (Ok f) ends = followed-versions header f.frames f.ending ends
   versions-by header (Err e) ends = absurd (cc)
 
@@ -160,7 +170,8 @@ module _ (s : Settings) (commands : List Stamped) (bytes : List ℕ) (old new : 
     holds = subst (λ o. StopsAs o e × AppendsFront old new o.text) (sym (same (meaning_of s.app) commands (output_of s) (whole bytes))) stops;
   }
 
-  pub under_several : s.workers ≢ 1 → (result : Result (List ℕ) RunError) → RunsWith (meaning_of s.app) commands s.workers (output_of s) bytes old new result → RunsUnder (Asked s commands (whole bytes)) old new result
+  pub under_several : s.workers ≢ 1 → (result : Result (List ℕ) RunError)
+      → RunsWith (meaning_of s.app) commands s.workers (output_of s) bytes old new result → RunsUnder (Asked s commands (whole bytes)) old new result
   under_several many (Ok versions) done = record {
     allowed = record { may_have = done.may_have; with_one = λ one. absurd (many one) };
     finishes = done.finishes;

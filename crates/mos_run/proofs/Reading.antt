@@ -31,7 +31,8 @@ arrivals-last n (first ∷ frames) frame =
     let count : (n + 1) + length frames ≡ n + length (first ∷ frames) = omega arith in
     ap (λ l. arrival_of n first ∷ l) (arrivals-last (n + 1) frames frame ∙ ap (λ k. arrivals (n + 1) frames ++ arrival_of k frame ∷ []) count)
 
-pub packets_last : (script : List Stamped) (frames : List Captured) (frame : Captured) (number : ℕ) → length frames ≡ number → packets_of script (frames ++ frame ∷ []) ≡ packets_of script frames ++ packet_of script number frame ∷ []
+pub packets_last : (script : List Stamped) (frames : List Captured) (frame : Captured) (number : ℕ) → length frames ≡ number
+    → packets_of script (frames ++ frame ∷ []) ≡ packets_of script frames ++ packet_of script number frame ∷ []
 packets_last script frames frame number count =
     ap (versioned (ceil script)) (arrivals-last 0 frames frame)
     ∙ map-append (λ a. record { version = ceil script a.number; arrival = a }) (arrivals 0 frames) (arrival_of (0 + length frames) frame ∷ [])
@@ -96,7 +97,8 @@ module _ (app : Meaning) (script : List Stamped) where
       over_at_end output frames parts.0 (omega (arith, was, more))
 
   -- what is too heavy stays so
-  pub still_heavy : LastPacketIsAdded → WeightNeverFalls → (output : Output) (frames : List Captured) (frame : Captured) → is_heavy_so_far app script output frames ≡ true → is_heavy_so_far app script output (frames ++ frame ∷ []) ≡ true
+  pub still_heavy : LastPacketIsAdded → WeightNeverFalls → (output : Output) (frames : List Captured) (frame : Captured)
+      → is_heavy_so_far app script output frames ≡ true → is_heavy_so_far app script output (frames ++ frame ∷ []) ≡ true
   still_heavy law falls output frames frame heavy =
       let parts = both (not (is_forward output)) (nat_lt 134217728 (weight (records_so_far app script (packets_of script) frames))) heavy in
       let more = falls.packet app (control_at app script) (packet_of script (length frames) frame) (records_so_far app script (packets_of script) frames) in

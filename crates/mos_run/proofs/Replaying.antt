@@ -45,7 +45,8 @@ opened-by bytes capture rest gives is count offset =
     ∙ ap (λ l. frames_from capture.order 1048576 24 l) is in
     ap (λ r. frames_by r bytes) gives ∙ ap (λ f. Ok f) (sym start)
 
-pub opened_replay : (old new : Option (List ℕ)) (capture : CaptureState) (bytes : List ℕ) → OpenGives old new (Ok capture) → capture.count ≡ 0 → capture.offset ≡ 24 → old ≡ Some bytes → Replaying bytes new capture []
+pub opened_replay : (old new : Option (List ℕ)) (capture : CaptureState) (bytes : List ℕ) → OpenGives old new (Ok capture) → capture.count ≡ 0
+    → capture.offset ≡ 24 → old ≡ Some bytes → Replaying bytes new capture []
 opened_replay None new capture bytes gives count offset told = absurd (cc)
 opened_replay (Some b) None capture bytes gives count offset told = absurd gives
 opened_replay (Some b) (Some after) capture bytes gives count offset told =
@@ -68,7 +69,8 @@ module _ (app : Meaning) (script : List Stamped) (given : List Captured → List
       inl (ap (λ r. (outcome_by app script given output (take 24 bytes) r None).ends) (header-refused bytes e (ap header_of (sym same) ∙ is)))
 
   -- a refused header
-  pub refused_header : (old new : Option (List ℕ)) (bytes : List ℕ) (e : OpenError) → OpenGives old new (Err e) → old ≡ Some bytes → StopsAs (outcome_over app script given output bytes) (header_refusal e)
+  pub refused_header : (old new : Option (List ℕ)) (bytes : List ℕ) (e : OpenError) → OpenGives old new (Err e) → old ≡ Some bytes
+      → StopsAs (outcome_over app script given output bytes) (header_refusal e)
   refused_header None new bytes e gives told = absurd (cc)
   refused_header (Some b) None bytes e gives told = absurd gives
   refused_header (Some b) (Some after) bytes Open.ReadFault gives told = inr (inl refl)
@@ -91,7 +93,8 @@ pub record StepTold (old new : CaptureState) (before : List ℕ) (after : Option
   pub told : after ≡ Some rest
   pub steps : StepsAs (frames_at old before) (frames_at new rest) rest frame result
 
-pub step_told : (old new : CaptureState) (before after : Option (List ℕ)) (rest : List ℕ) (frame : Captured) (result : Result Step NextError) → NextGives old new before after frame result → before ≡ Some rest
+pub step_told : (old new : CaptureState) (before after : Option (List ℕ)) (rest : List ℕ) (frame : Captured) (result : Result Step NextError)
+    → NextGives old new before after frame result → before ≡ Some rest
     → StepTold old new rest after frame result
 step_told old new None after rest frame result gives told = absurd (cc)
 step_told old new (Some b) None rest frame result gives told = absurd gives
@@ -138,10 +141,14 @@ module _ (app : Meaning) (script : List Stamped) where
   left-alone n so_far frame = append-nil _
 
   forwarded-last : (frames : List Captured) (frame : Captured)
-      → forwarded app script (packets_of script) (frames ++ frame ∷ []) ≡ forwarded app script (packets_of script) frames ++ left_by (verdict_on app (control_at app script) (packet_of script (length frames) frame) (records_so_far app script (packets_of script) frames)) frame
+      → forwarded app script (packets_of script) (frames ++ frame ∷ []) ≡ forwarded app script (packets_of script) frames ++ left_by
+          (verdict_on app (control_at app script) (packet_of script (length frames) frame) (records_so_far app script (packets_of script) frames)) frame
   forwarded-last frames frame =
-      forwarded-more 0 [] frames (frame ∷ []) ∙ ap (λ l. forwarded app script (packets_of script) frames ++ l) (left-alone (0 + length frames) (records_so_far app script (packets_of script) frames) frame)
-      ∙ ap (λ n. forwarded app script (packets_of script) frames ++ left_by (verdict_on app (control_at app script) (packet_of script n frame) (records_so_far app script (packets_of script) frames)) frame) (let same : 0 + length frames ≡ length frames = omega arith in same)
+      forwarded-more 0 [] frames (frame ∷ []) ∙ ap (λ l. forwarded app script (packets_of script) frames ++ l)
+          (left-alone (0 + length frames) (records_so_far app script (packets_of script) frames) frame)
+      ∙ ap (λ n. forwarded app script (packets_of script) frames ++ left_by
+          (verdict_on app (control_at app script) (packet_of script n frame) (records_so_far app script (packets_of script) frames)) frame)
+          (let same : 0 + length frames ≡ length frames = omega arith in same)
 
   none-forwarded : forwarded app script (packets_of script) [] ≡ []
   unfolding left_by_all verdicts_from
@@ -158,7 +165,9 @@ module _ (app : Meaning) (script : List Stamped) where
   written-more false header frames more = ([], refl)
 
   written-last : (b : Bool) (header : List ℕ) (frames : List Captured) (frame : Captured)
-      → written_by b header (frames ++ frame ∷ []) ≡ written_by b header frames ++ (if b then left_by (verdict_on app (control_at app script) (packet_of script (length frames) frame) (records_so_far app script (packets_of script) frames)) frame else [])
+      → written_by b header (frames ++ frame ∷ []) ≡ written_by b header
+          frames ++ (if b then left_by (verdict_on app (control_at app script) (packet_of script (length frames) frame)
+          (records_so_far app script (packets_of script) frames)) frame else [])
   written-last true header frames frame = ap (λ l. header ++ l) (forwarded-last frames frame) ∙ sym (append_assoc header (forwarded app script (packets_of script) frames) _)
   written-last false header frames frame = refl
 
@@ -167,27 +176,32 @@ module _ (app : Meaning) (script : List Stamped) where
   written-none false header = refl
 
   module _ (output : Output) (header : List ℕ) where
-    pub streamed_last : (frames : List Captured) (frame : Captured) → streamed app script (packets_of script) output header (frames ++ frame ∷ []) ≡ streamed app script (packets_of script) output header frames ++ gained app script output frames frame
+    pub streamed_last : (frames : List Captured) (frame : Captured) → streamed app script (packets_of script) output header
+        (frames ++ frame ∷ []) ≡ streamed app script (packets_of script) output header frames ++ gained app script output frames frame
     streamed_last frames frame = written-last (is_forward output) header frames frame
 
     pub streamed_none : streamed app script (packets_of script) output header [] ≡ (if is_forward output then header else [])
     streamed_none = written-none (is_forward output) header
 
-    heavy-text : (b : Bool) → is_forward output ≡ b → (frames : List Captured) → is_heavy app script (packets_of script) output frames ≡ true → streamed app script (packets_of script) output header frames ≡ []
+    heavy-text : (b : Bool) → is_forward output ≡ b → (frames : List Captured) → is_heavy app script (packets_of script) output frames ≡ true
+        → streamed app script (packets_of script) output header frames ≡ []
     heavy-text b is frames heavy = ap (λ c. written_by c header frames) (heavy_is_kept app script output frames heavy)
 
     weighed-text : (frames : List Captured) (n : ℕ) (b : Bool) → is_heavy app script (packets_of script) output frames ≡ b
-        → (rest : List ℕ) × ((if b then refused Run.Heavy else Outcomes.ended app script (packets_of script) output header frames n).text ≡ streamed app script (packets_of script) output header frames ++ rest)
+        → (rest : List ℕ) × ((if b then refused Run.Heavy else Outcomes.ended app script (packets_of script) output header frames n).text ≡ streamed
+            app script (packets_of script) output header frames ++ rest)
     weighed-text frames n true heavy = ([], sym (append-nil _ ∙ heavy-text (is_forward output) refl frames heavy))
     weighed-text frames n false light = (_, refl)
 
-    text-of : (frames : List Captured) (ending : Ending) → (rest : List ℕ) × ((followed app script (packets_of script) output header frames ending None).text ≡ streamed app script (packets_of script) output header frames ++ rest)
+    text-of : (frames : List Captured) (ending : Ending) → (rest : List ℕ)
+        × ((followed app script (packets_of script) output header frames ending None).text ≡ streamed app script (packets_of script) output header frames ++ rest)
     text-of frames (tail n) = weighed-text frames n (is_heavy app script (packets_of script) output frames) refl
     text-of frames (too_long offset) = ([], sym (append-nil _))
     text-of frames (too_many offset) = ([], sym (append-nil _))
 
     -- what is written of some frames is a front of what is written of them and others
-    front-of : (frames more : List Captured) (ending : Ending) → (rest : List ℕ) × ((followed app script (packets_of script) output header (frames ++ more) ending None).text ≡ streamed app script (packets_of script) output header frames ++ rest)
+    front-of : (frames more : List Captured) (ending : Ending) → (rest : List ℕ)
+        × ((followed app script (packets_of script) output header (frames ++ more) ending None).text ≡ streamed app script (packets_of script) output header frames ++ rest)
     front-of frames more ending =
         let all = text-of (frames ++ more) ending in
         let some = written-more (is_forward output) header frames more in
@@ -223,7 +237,8 @@ module _ (app : Meaning) (script : List Stamped) where
         nonempty (x ∷ h) l = λ none. cc
 
     -- something is written where packets are
-    pub writes_something : is_forward output ≡ true → length header ≡ 24 → (frames : List Captured) (ending : Ending) → (followed app script (packets_of script) output header frames ending None).text ≢ []
+    pub writes_something : is_forward output ≡ true → length header ≡ 24 → (frames : List Captured) (ending : Ending)
+        → (followed app script (packets_of script) output header frames ending None).text ≢ []
     writes_something forward len frames ending none =
         let all = text-of frames ending in
         front-nonempty (is_forward output) forward len frames all.0 (sym all.1 ∙ none)
@@ -235,9 +250,11 @@ module _ (app : Meaning) (script : List Stamped) where
     pub refused_record : (bytes : List ℕ) (left after : Option (List ℕ)) (old new : CaptureState) (frames : List Captured) (frame : Captured) (e : NextError)
         → (r : Replaying bytes left old frames) → StepTold old new r.rest after frame (Err e) → StopsAs (outcome_over app script (packets_of script) output bytes) (record_refusal e)
     refused_record bytes left after old new frames frame (Next.TooLong offset) r step =
-        inl (ap (λ o. o.ends) (outcome_is app script (packets_of script) output bytes left old frames r) ∙ ap (λ f. (followed app script (packets_of script) output old.header (frames ++ f.frames) f.ending None).ends) step.steps)
+        inl (ap (λ o. o.ends) (outcome_is app script (packets_of script) output bytes left old frames r)
+            ∙ ap (λ f. (followed app script (packets_of script) output old.header (frames ++ f.frames) f.ending None).ends) step.steps)
     refused_record bytes left after old new frames frame (Next.TooMany offset) r step =
-        inl (ap (λ o. o.ends) (outcome_is app script (packets_of script) output bytes left old frames r) ∙ ap (λ f. (followed app script (packets_of script) output old.header (frames ++ f.frames) f.ending None).ends) step.steps)
+        inl (ap (λ o. o.ends) (outcome_is app script (packets_of script) output bytes left old frames r)
+            ∙ ap (λ f. (followed app script (packets_of script) output old.header (frames ++ f.frames) f.ending None).ends) step.steps)
     refused_record bytes left after old new frames frame Next.ReadFault r step = inr (inl refl)
     refused_record bytes left after old new frames frame Next.NoMemory r step = inr (inr (inl refl))
 
@@ -249,15 +266,18 @@ module _ (app : Meaning) (script : List Stamped) where
         (front_whole output capture.header frames (frames_at capture r.rest).frames (frames_at capture r.rest).ending old now written)
 
     -- and so is what was written of one frame more
-    pub front_of_frame : (bytes : List ℕ) (left after : Option (List ℕ)) (before capture : CaptureState) (frames : List Captured) (frame : Captured) (old mid now : Option (List ℕ)) → (r : Replaying bytes left before frames)
+    pub front_of_frame : (bytes : List ℕ) (left after : Option (List ℕ)) (before capture : CaptureState) (frames : List Captured) (frame : Captured)
+        (old mid now : Option (List ℕ)) → (r : Replaying bytes left before frames)
         → StepTold before capture r.rest after frame (Ok Frame) → Appends old mid (streamed app script (packets_of script) output before.header frames)
         → AppendsFront mid now (gained app script output frames frame) → AppendsFront old now (outcome_over app script (packets_of script) output bytes).text
     front_of_frame bytes left after before capture frames frame old mid now r step written part =
-        subst (λ o. AppendsFront old now o.text) (sym (outcome_is app script (packets_of script) output bytes left before frames r ∙ ap (λ f. followed app script (packets_of script) output before.header (frames ++ f.frames) f.ending None) step.steps))
+        subst (λ o. AppendsFront old now o.text) (sym (outcome_is app script (packets_of script) output bytes left before frames r
+            ∙ ap (λ f. followed app script (packets_of script) output before.header (frames ++ f.frames) f.ending None) step.steps))
         (front_part output before.header frames (frames_at capture step.rest).frames frame (frames_at capture step.rest).ending old mid now written part)
 
     -- a write that failed
-    pub stopped_writing : (bytes : List ℕ) (left : Option (List ℕ)) (capture : CaptureState) (frames : List Captured) → Replaying bytes left capture frames → is_forward output ≡ true → length capture.header ≡ 24
+    pub stopped_writing : (bytes : List ℕ) (left : Option (List ℕ)) (capture : CaptureState) (frames : List Captured)
+        → Replaying bytes left capture frames → is_forward output ≡ true → length capture.header ≡ 24
         → StopsAs (outcome_over app script (packets_of script) output bytes) Run.WriteFault
     stopped_writing bytes left capture frames r forward len = inr (inr (inr (
       refl,
@@ -266,7 +286,8 @@ module _ (app : Meaning) (script : List Stamped) where
     )))
 
     -- the end of the capture
-    pub ended_at : (bytes : List ℕ) (left : Option (List ℕ)) (capture : CaptureState) (frames : List Captured) (n : ℕ) → (r : Replaying bytes left capture frames) → frames_at capture r.rest ≡ ended (tail n)
+    pub ended_at : (bytes : List ℕ) (left : Option (List ℕ)) (capture : CaptureState) (frames : List Captured) (n : ℕ)
+        → (r : Replaying bytes left capture frames) → frames_at capture r.rest ≡ ended (tail n)
         → outcome_over app script (packets_of script) output bytes ≡ weighed app script (packets_of script) output capture.header frames n
     ended_at bytes left capture frames n r is =
         outcome_is app script (packets_of script) output bytes left capture frames r ∙ ap (λ f. followed app script (packets_of script) output capture.header (frames ++ f.frames) f.ending None) is
@@ -275,7 +296,8 @@ module _ (app : Meaning) (script : List Stamped) where
     -- a write that failed, or want of memory
     pub stopped_by : (bytes : List ℕ) (left : Option (List ℕ)) (capture : CaptureState) (frames : List Captured) (e : RunError) → Replaying bytes left capture frames → length capture.header ≡ 24
         → ((e ≡ Run.WriteFault) × (is_forward output ≡ true)) ⊎ (e ≡ Run.NoMemory) → StopsAs (outcome_over app script (packets_of script) output bytes) e
-    stopped_by bytes left capture frames e r len (inl w) = subst (λ x. StopsAs (outcome_over app script (packets_of script) output bytes) x) (sym w.0) (stopped_writing bytes left capture frames r w.1 len)
+    stopped_by bytes left capture frames e r len (inl w) = subst (λ x. StopsAs (outcome_over app script (packets_of script) output bytes) x) (sym w.0)
+        (stopped_writing bytes left capture frames r w.1 len)
     stopped_by bytes left capture frames e r len (inr m) = inr (inr (inl m))
 
     -- a front of the header
@@ -287,5 +309,6 @@ module _ (app : Meaning) (script : List Stamped) where
         (subst (AppendsFront old now) (sym front.1) (AppendsFront-more old now _ front.0 (subst (AppendsFront old now) (sym (streamed_none output capture.header)) part)))
 
     -- the whole header
-    pub header_written : (header : List ℕ) (old now : Option (List ℕ)) → Appends old now (if is_forward output then header else []) → Appends old now (streamed app script (packets_of script) output header [])
+    pub header_written : (header : List ℕ) (old now : Option (List ℕ)) → Appends old now (if is_forward output then header else [])
+        → Appends old now (streamed app script (packets_of script) output header [])
     header_written header old now written = subst (Appends old now) (sym (streamed_none output header)) written

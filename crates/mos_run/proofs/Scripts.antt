@@ -87,7 +87,8 @@ script_order text presets commands is = lines-order presets 1 (lines text) [] co
 pub commands_order : (app : AppKind) (text : List ℕ) (commands : List Stamped) → commands_in app text ≡ Ok commands → are_in_order commands ≡ true
 commands_order app text commands is = by (nat_lt 262144 (length text)) (script text (meaning_of app).presets) refl is
   where
-    by : (long : Bool) (r : Result (List Stamped) ScriptError) → script text (meaning_of app).presets ≡ r → (if long then Err Run.ScriptTooLong else read_as r) ≡ Ok commands → are_in_order commands ≡ true
+    by : (long : Bool) (r : Result (List Stamped) ScriptError) → script text (meaning_of app).presets ≡ r
+        → (if long then Err Run.ScriptTooLong else read_as r) ≡ Ok commands → are_in_order commands ≡ true
     by true r here comes = absurd (cc)
     by false (Ok found) here comes =
         let same : found ≡ commands = cc in

@@ -92,9 +92,11 @@ returns-in_err-next-clause-runs g c = λ bytes before r written.
     let step = step_told at.capture c.next.new.self _ _ rep.rest c.next.new.frame (Err c.in_err-next.field-0.0) c.in_err-next.ensures.gives rep.told in
     let p = err_from_is_err_and c.from_residual-in_err-next.result c.from_residual-in_err-next.ensures.1 in
     rw (p.1, p.2)
-    (subst (λ a. RunsAs (outcome_over a plan.script.now (packets_of plan.script.now) plan.output bytes) before (g.O.Sink.taken c.hand_on.new.out) (Err (record_refusal c.in_err-next.field-0.0))) inv.app (
+    (subst (λ a. RunsAs (outcome_over a plan.script.now (packets_of plan.script.now) plan.output bytes) before (g.O.Sink.taken c.hand_on.new.out)
+        (Err (record_refusal c.in_err-next.field-0.0))) inv.app (
       refused_record app plan.script.now plan.output bytes _ _ at.capture c.next.new.self read.0 c.next.new.frame c.in_err-next.field-0.0 rep step,
-      front_so_far app plan.script.now plan.output bytes _ at.capture read.0 before (g.O.Sink.taken c.hand_on.new.out) rep (Appends-kept before (g.O.Sink.taken at.out) (g.O.Sink.taken c.hand_on.new.out) _ (read.4 before written) c.hand_on.ensures.bytes),
+      front_so_far app plan.script.now plan.output bytes _ at.capture read.0 before (g.O.Sink.taken c.hand_on.new.out) rep
+          (Appends-kept before (g.O.Sink.taken at.out) (g.O.Sink.taken c.hand_on.new.out) _ (read.4 before written) c.hand_on.ensures.bytes),
     ))
 
 pub returns-in_err-next-clause-reads : goal.returns-in_err-next-clause-reads
@@ -124,7 +126,8 @@ returns-in_err-next-clause-from g c = record {
       let next = c.next.ensures.cause in
       record {
         later = let later = next.later in omega (arith, before, later);
-        cause = λ fault. rose_since _ _ _ before (next.cause (c.in_err-next.was ∙ ap (λ e. Err e) (is_read_fault c.in_err-next.field-0.0 (sym p.2 ∙ same_error p.0 Run.ReadFault c.from_residual-in_err-next.result p.1 fault))));
+        cause = λ fault. rose_since _ _ _ before (next.cause (c.in_err-next.was
+            ∙ ap (λ e. Err e) (is_read_fault c.in_err-next.field-0.0 (sym p.2 ∙ same_error p.0 Run.ReadFault c.from_residual-in_err-next.result p.1 fault))));
       };
   lasts = search rules;
 }
@@ -157,7 +160,9 @@ returns-in_err-take-in-Frame-clause-runs g c = λ bytes before r written.
     rw (p.1, p.2)
     (subst (λ a. RunsAs (outcome_over a plan.script.now (packets_of plan.script.now) plan.output bytes) before (g.O.Sink.taken c.take.new.out) (Err e)) inv.app (
       stopped_by app plan.script.now plan.output bytes _ at.capture read.0 e rep inv.header c.in_err-take-in-Frame.ensures.only,
-      front_of_frame app plan.script.now plan.output bytes _ _ at.capture c.next.new.self read.0 c.next.new.frame before (g.O.Sink.taken c.hand_on.new.out) (g.O.Sink.taken c.take.new.out) rep step (Appends-kept before (g.O.Sink.taken at.out) (g.O.Sink.taken c.hand_on.new.out) _ (read.4 before written) c.hand_on.ensures.bytes)
+      front_of_frame app plan.script.now plan.output bytes _ _ at.capture c.next.new.self read.0 c.next.new.frame before
+          (g.O.Sink.taken c.hand_on.new.out) (g.O.Sink.taken c.take.new.out) rep step
+          (Appends-kept before (g.O.Sink.taken at.out) (g.O.Sink.taken c.hand_on.new.out) _ (read.4 before written) c.hand_on.ensures.bytes)
           (c.in_err-take-in-Frame.ensures.writes read.0 read.1 read.3),
     ))
 
@@ -185,7 +190,8 @@ returns-in_err-take-in-Frame-clause-from g c = record {
       let before = c.loop-frame.invariant.source_faults in
       record {
         later = let later = c.next.ensures.cause.later in omega (arith, before, later);
-        cause = λ fault. absurd (no_read_fault c.in_err-take-in-Frame.field-0.0 c.in_err-take-in-Frame.ensures.only (sym p.2 ∙ same_error p.0 Run.ReadFault c.from_residual-in_err-take-in-Frame.result p.1 fault));
+        cause = λ fault. absurd (no_read_fault c.in_err-take-in-Frame.field-0.0 c.in_err-take-in-Frame.ensures.only (sym p.2
+            ∙ same_error p.0 Run.ReadFault c.from_residual-in_err-take-in-Frame.result p.1 fault));
       };
   lasts = search rules;
 }
@@ -200,7 +206,8 @@ returns-in_err-take-in-Frame-clause-to g c = record {
       let take = c.take.ensures.to.cause in
       record {
         later = let later = take.later in omega (arith, before, later);
-        cause = λ fault. rose_since _ _ _ before (take.cause (c.in_err-take-in-Frame.was ∙ ap (λ e. Err e) (sym p.2 ∙ same_error p.0 Run.WriteFault c.from_residual-in_err-take-in-Frame.result p.1 fault)));
+        cause = λ fault. rose_since _ _ _ before (take.cause (c.in_err-take-in-Frame.was
+            ∙ ap (λ e. Err e) (sym p.2 ∙ same_error p.0 Run.WriteFault c.from_residual-in_err-take-in-Frame.result p.1 fault)));
       };
   lasts = search rules;
 }
@@ -235,10 +242,13 @@ loop-frame-preserved g c =
         c.greatest_with-last.ensures.greatest read.0 read.2,
         taken.reads refl read.0 read.1 read.3,
         λ before written.
-            subst (λ a. Appends before (g.O.Sink.taken c.take.new.out) (streamed a plan.script.now (packets_of plan.script.now) plan.output c.next.new.self.header (read.0 ++ frame ∷ []))) (sym c.take.ensures.app)
+            subst (λ a. Appends before (g.O.Sink.taken c.take.new.out)
+                (streamed a plan.script.now (packets_of plan.script.now) plan.output c.next.new.self.header (read.0 ++ frame ∷ []))) (sym c.take.ensures.app)
             (subst (λ h. Appends before (g.O.Sink.taken c.take.new.out) (streamed app plan.script.now (packets_of plan.script.now) plan.output h (read.0 ++ frame ∷ []))) (sym moved.header)
             (subst (Appends before (g.O.Sink.taken c.take.new.out)) (sym (streamed_last app plan.script.now plan.output at.capture.header read.0 frame))
-            (Appends-trans before (g.O.Sink.taken c.hand_on.new.out) (g.O.Sink.taken c.take.new.out) _ _ (Appends-kept before (g.O.Sink.taken at.out) (g.O.Sink.taken c.hand_on.new.out) _ (read.4 before written) c.hand_on.ensures.bytes) (taken.writes read.0 read.1 read.3)))),
+            (Appends-trans before (g.O.Sink.taken c.hand_on.new.out) (g.O.Sink.taken c.take.new.out) _ _
+                (Appends-kept before (g.O.Sink.taken at.out) (g.O.Sink.taken c.hand_on.new.out) _ (read.4 before written) c.hand_on.ensures.bytes)
+                (taken.writes read.0 read.1 read.3)))),
         λ bytes r.
             let rep = read.5 bytes r in
             let gives = subst (λ s. NextGives at.capture c.next.new.self (g.S.Source.left at.source) (g.S.Source.left c.next.new.source) frame (Ok s)) c.in-Frame.is c.in_ok-next.ensures.gives in
@@ -265,7 +275,8 @@ returns-in-Tail-clause-runs g c = λ bytes before r written.
     let step = step_told at.capture c.next.new.self _ _ rep.rest c.next.new.frame _ gives rep.told in
     subst (λ a. RunsAs (outcome_over a plan.script.now (packets_of plan.script.now) plan.output bytes) before (g.O.Sink.taken c.close.new.out) c.close.result) inv.app
     (subst (λ o. RunsAs o before (g.O.Sink.taken c.close.new.out) c.close.result) (sym (ended_at app plan.script.now plan.output bytes _ at.capture read.0 c.in-Tail.bytes rep step.steps.0))
-    (c.close.ensures.ends at.capture.header read.0 before read.1 read.2 read.3 (Appends-kept before (g.O.Sink.taken at.out) (g.O.Sink.taken c.hand_on.new.out) _ (read.4 before written) c.hand_on.ensures.bytes)))
+    (c.close.ensures.ends at.capture.header read.0 before read.1 read.2 read.3
+        (Appends-kept before (g.O.Sink.taken at.out) (g.O.Sink.taken c.hand_on.new.out) _ (read.4 before written) c.hand_on.ensures.bytes)))
 
 pub returns-in-Tail-clause-read : goal.returns-in-Tail-clause-read
 returns-in-Tail-clause-read g c = λ ok bytes r.
@@ -280,7 +291,8 @@ returns-in-Tail-clause-reads g c =
     reads_whole g.S.Source c.args.plan.now.output _ _ _ c.close.result (c.in_ok-next.ensures.ended (λ frame. let is = c.in-Tail.is in cc)) (no_read_end c.close.result c.close.ensures.only)
 
 pub returns-in-Tail-clause-silent : goal.returns-in-Tail-clause-silent
-returns-in-Tail-clause-silent g c = λ is. IfErr-weaker c.close.result _ _ (λ e same write memory. same write memory ∙ (c.hand_on.ensures.silent is).1 ∙ c.loop-frame.invariant.silent is) c.close.ensures.silent
+returns-in-Tail-clause-silent g c = λ is. IfErr-weaker c.close.result _ _ (λ e same write memory. same write memory ∙ (c.hand_on.ensures.silent is).1
+    ∙ c.loop-frame.invariant.silent is) c.close.ensures.silent
 
 pub returns-in-End-clause-runs : goal.returns-in-End-clause-runs
 returns-in-End-clause-runs g c = λ bytes before r written.
@@ -294,7 +306,8 @@ returns-in-End-clause-runs g c = λ bytes before r written.
     let step = step_told at.capture c.next.new.self _ _ rep.rest c.next.new.frame _ gives rep.told in
     subst (λ a. RunsAs (outcome_over a plan.script.now (packets_of plan.script.now) plan.output bytes) before (g.O.Sink.taken c.close-in-End.new.out) c.close-in-End.result) inv.app
     (subst (λ o. RunsAs o before (g.O.Sink.taken c.close-in-End.new.out) c.close-in-End.result) (sym (ended_at app plan.script.now plan.output bytes _ at.capture read.0 0 rep step.steps.0))
-    (c.close-in-End.ensures.ends at.capture.header read.0 before read.1 read.2 read.3 (Appends-kept before (g.O.Sink.taken at.out) (g.O.Sink.taken c.hand_on.new.out) _ (read.4 before written) c.hand_on.ensures.bytes)))
+    (c.close-in-End.ensures.ends at.capture.header read.0 before read.1 read.2 read.3
+        (Appends-kept before (g.O.Sink.taken at.out) (g.O.Sink.taken c.hand_on.new.out) _ (read.4 before written) c.hand_on.ensures.bytes)))
 
 pub returns-in-End-clause-read : goal.returns-in-End-clause-read
 returns-in-End-clause-read g c = λ ok bytes r.
@@ -306,7 +319,9 @@ returns-in-End-clause-read g c = λ ok bytes r.
 
 pub returns-in-End-clause-reads : goal.returns-in-End-clause-reads
 returns-in-End-clause-reads g c =
-    reads_whole g.S.Source c.args.plan.now.output _ _ _ c.close-in-End.result (c.in_ok-next.ensures.ended (λ frame. let is = c.in-End.is in cc)) (no_read_end c.close-in-End.result c.close-in-End.ensures.only)
+    reads_whole g.S.Source c.args.plan.now.output _ _ _ c.close-in-End.result (c.in_ok-next.ensures.ended (λ frame. let is = c.in-End.is in cc))
+        (no_read_end c.close-in-End.result c.close-in-End.ensures.only)
 
 pub returns-in-End-clause-silent : goal.returns-in-End-clause-silent
-returns-in-End-clause-silent g c = λ is. IfErr-weaker c.close-in-End.result _ _ (λ e same write memory. same write memory ∙ (c.hand_on.ensures.silent is).1 ∙ c.loop-frame.invariant.silent is) c.close-in-End.ensures.silent
+returns-in-End-clause-silent g c = λ is. IfErr-weaker c.close-in-End.result _ _ (λ e same write memory. same write memory
+    ∙ (c.hand_on.ensures.silent is).1 ∙ c.loop-frame.invariant.silent is) c.close-in-End.ensures.silent

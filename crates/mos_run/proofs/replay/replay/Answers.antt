@@ -19,7 +19,8 @@ returns-in_err-capture g c = record {
         let plan = c.args.plan.now in
         let p = err_from_is_err_and c.from_residual.result c.from_residual.ensures.1 in
         rw (p.1, p.2) (
-          refused_header (meaning_of plan.app) plan.script.now (packets_of plan.script.now) plan.output (g.S.Source.left c.args.source.now) (g.S.Source.left c.open.new.source) bytes c.in_err-capture.field-0.0 c.in_err-capture.ensures.gives told,
+          refused_header (meaning_of plan.app) plan.script.now (packets_of plan.script.now) plan.output (g.S.Source.left c.args.source.now)
+              (g.S.Source.left c.open.new.source) bytes c.in_err-capture.field-0.0 c.in_err-capture.ensures.gives told,
           AppendsFront-nil _ _,
         );
     read = search rules;
@@ -72,7 +73,8 @@ returns-in_err-lane g c = record {
         let app = meaning_of plan.app in
         let start = c.in_ok-capture.ensures.start in
         let rep = opened_replay (g.S.Source.left c.args.source.now) (g.S.Source.left c.open.new.source) c.in_ok-capture.capture bytes c.in_ok-capture.ensures.gives start.count start.offset told in
-        let written = header_written app plan.script.now plan.output c.in_ok-capture.capture.header (g.O.Sink.taken c.args.out.now) (g.O.Sink.taken c.write_front.new.out) c.in_ok-write_front.ensures.text in
+        let written = header_written app plan.script.now plan.output c.in_ok-capture.capture.header (g.O.Sink.taken c.args.out.now)
+            (g.O.Sink.taken c.write_front.new.out) c.in_ok-write_front.ensures.text in
         let p = err_from_is_err_and c.from_residual-in_err-lane.result c.from_residual-in_err-lane.ensures.1 in
         rw (p.1, p.2)
         (inr (inr (inl refl)), front_so_far app plan.script.now plan.output bytes _ c.in_ok-capture.capture [] (g.O.Sink.taken c.args.out.now) (g.O.Sink.taken c.write_front.new.out) rep written);
@@ -102,8 +104,10 @@ returns g c = record {
         let lane = c.in_ok-lane.lane in
         let start = c.in_ok-capture.ensures.start in
         let rep = opened_replay (g.S.Source.left c.args.source.now) (g.S.Source.left c.open.new.source) c.in_ok-capture.capture bytes c.in_ok-capture.ensures.gives start.count start.offset told in
-        let written = header_written (meaning_of lane.world.app.0) plan.script.now plan.output c.in_ok-capture.capture.header (g.O.Sink.taken c.args.out.now) (g.O.Sink.taken c.write_front.new.out) c.in_ok-write_front.ensures.text in
-        subst (λ a. RunsAs (outcome_over a plan.script.now (packets_of plan.script.now) plan.output bytes) (g.O.Sink.taken c.args.out.now) (g.O.Sink.taken c.read_on.new.out) c.read_on.result) c.in_ok-lane.ensures.app
+        let written = header_written (meaning_of lane.world.app.0) plan.script.now plan.output c.in_ok-capture.capture.header
+            (g.O.Sink.taken c.args.out.now) (g.O.Sink.taken c.write_front.new.out) c.in_ok-write_front.ensures.text in
+        subst (λ a. RunsAs (outcome_over a plan.script.now (packets_of plan.script.now) plan.output bytes) (g.O.Sink.taken c.args.out.now)
+            (g.O.Sink.taken c.read_on.new.out) c.read_on.result) c.in_ok-lane.ensures.app
         (c.read_on.ensures.runs bytes (g.O.Sink.taken c.args.out.now) rep written);
     read = λ ok bytes told.
         let start = c.in_ok-capture.ensures.start in
@@ -118,7 +122,8 @@ returns g c = record {
           ended = reads.ended;
           begun = λ kept. ⊎_elim (λ idle. inl (idle.0 ∙ (c.write_front.ensures.silent kept).1, idle.1)) (λ ended. inr ended) (reads.begun kept);
           cut = λ fault bytes told none.
-              let rep = opened_replay (g.S.Source.left c.args.source.now) (g.S.Source.left c.open.new.source) c.in_ok-capture.capture bytes c.in_ok-capture.ensures.gives start.count start.offset told in
+              let rep = opened_replay (g.S.Source.left c.args.source.now) (g.S.Source.left c.open.new.source) c.in_ok-capture.capture bytes
+                  c.in_ok-capture.ensures.gives start.count start.offset told in
               reads.cut fault bytes rep none;
         };
     from = search rules;
