@@ -128,4 +128,4 @@ receiver-heard heard again rose fault changed over f is none =
     ap (λ (b : Bool). b || (fault && get_or heard 4 false)) (heard-more heard second rose 259 f ∙
     ap (λ (b : Bool). b || (rose && get_or heard 3 false)) (heard-more heard first again 258 f)))) ∙
     but_first (get_or heard 1 false) (again && get_or heard 2 false) (rose && get_or heard 3 false) (fault && get_or heard 4 false)
-        (changed && get_or heard 5 false) (over && get_or heard 6 false) is none)
+    (changed && get_or heard 5 false) (over && get_or heard 6 false) is none)

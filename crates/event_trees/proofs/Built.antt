@@ -151,19 +151,19 @@ bumped-shown path n [] slots [] p held place end d e packed within =
     let slots_same : slots_of n slots ≡ held = ap (λ (s : Shown). s.slots) same in
     let more : slots_of (record n { count = n.count + 1 }) slots ≡ slots_of n slots ++ get_or slots end d ∷ [] = slots-more n slots d end (omega (arith, packed.0, packed.1)) within in
     ap (λ (l : List Slot). record { path = path; slots = l } ∷ []) (more ∙ ap (λ (l : List Slot). l ++ get_or slots end d ∷ []) slots_same)
-        ∙ ap (λ (l : List ℕ). record { path = l; slots = held ++ get_or slots end d ∷ [] } ∷ []) paths
+    ∙ ap (λ (l : List ℕ). record { path = l; slots = held ++ get_or slots end d ∷ [] } ∷ []) paths
 bumped-shown path n [] slots (f ∷ fs) p held place end d e packed within =
     absurd (no_end fs (record { path = p; slots = held }) (sym (tail_of (record { path = path; slots = slots_of n slots }) f [] (ending fs p held) e)))
 bumped-shown path n (m ∷ rest) slots [] p held place end d e packed within =
     let none : shown_from (path_after path m) m rest slots ≡ [] = tail_of (record { path = path; slots = slots_of n slots })
-        (record { path = p; slots = held }) (shown_from (path_after path m) m rest slots) [] e in
+    (record { path = p; slots = held }) (shown_from (path_after path m) m rest slots) [] e in
     cc
 bumped-shown path n (m ∷ rest) slots (f ∷ fs) p held place end d e packed within =
     let sn : Shown = record { path = path; slots = slots_of n slots } in
     let first : sn ≡ f = head_of sn f (shown_from (path_after path m) m rest slots) (ending fs p held) e in
     let others : shown_from (path_after path m) m rest slots ≡ ending fs p held = tail_of sn f (shown_from (path_after path m) m rest slots) (ending fs p held) e in
     let on : shown_all (path_after path m) (bumped (m ∷ rest)) slots ≡ ending fs p (held ++ get_or slots end d ∷ []) = bumped-shown
-        (path_after path m) m rest slots fs p held (place + n.count) end d others packed.1 within in
+    (path_after path m) m rest slots fs p held (place + n.count) end d others packed.1 within in
     ap (λ (l : List Shown). sn ∷ l) (bumped-first path m rest slots ∙ on) ∙ ap (λ (s : Shown). s ∷ ending fs p (held ++ get_or slots end d ∷ [])) first
 
 shown-end : (path : List ℕ) (n : Node) (ns : List Node) (slots : List Slot) (front : List Shown) (p : List ℕ) (held : List Slot)
@@ -174,7 +174,7 @@ shown-end path n [] slots (f ∷ fs) p held e =
     absurd (no_end fs (record { path = p; slots = held }) (sym (tail_of (record { path = path; slots = slots_of n slots }) f [] (ending fs p held) e)))
 shown-end path n (m ∷ rest) slots [] p held e =
     let none : shown_from (path_after path m) m rest slots ≡ [] = tail_of (record { path = path; slots = slots_of n slots })
-        (record { path = p; slots = held }) (shown_from (path_after path m) m rest slots) [] e in
+    (record { path = p; slots = held }) (shown_from (path_after path m) m rest slots) [] e in
     cc
 shown-end path n (m ∷ rest) slots (f ∷ fs) p held e =
     shown-end (path_after path m) m rest slots fs p held (tail_of (record { path = path; slots = slots_of n slots }) f (shown_from (path_after path m) m rest slots) (ending fs p held) e)
@@ -234,10 +234,10 @@ built-push slots list q (top ∷ ns) r b le within is short =
     (ap (λ (l : List Shown). l ++ map bare (newer [] q r.path)) b.listed ∙ s.was)) in
     let packed : ArePacked 0 (top ∷ (ns ++ new)) (length list) = packed-fresh 0 (length list) k (top ∷ ns) (drop k r.path) b.packed in
     let steps : AreSteps 0 (ns ++ new) = steps-append [] ns new b.stepped.2
-        (fresh-steps (length list) k (length (end_path [] ns)) (drop k r.path) (omega (arith, common-left q r.path, ap length b.ends))) in
+    (fresh-steps (length list) k (length (end_path [] ns)) (drop k r.path) (omega (arith, common-left q r.path, ap length b.ends))) in
     let bump : listing_of (bumped (top ∷ (ns ++ new))) slots ≡ ending s.front r.path (s.slots ++ r.slot ∷ []) =
     bumped-listing top (ns ++ new) slots ∙ (bumped-shown [] top (ns ++ new) slots s.front r.path s.slots 0 (length list) r.slot listed packed within
-        ∙ ap (λ (x : Slot). ending s.front r.path (s.slots ++ x ∷ [])) is) in
+    ∙ ap (λ (x : Slot). ending s.front r.path (s.slots ++ x ∷ [])) is) in
     record {
       grown = grown-push list q r b.grown le;
       listed = bump ∙ sym s.becomes;

@@ -28,7 +28,7 @@ swap-less p q (x ∷ xs) less =
     put-less p x (put_path q xs) under ∙ sym (ap (put_path q) (put-less p x xs under) ∙ (put-greater q p (x ∷ xs) (flip_less p q less) ∙ ap (λ (l : List (List ℕ)). p ∷ l) (put-greater q x xs o))))
     (λ tied i. put-equal p x (put_path q xs) tied ∙ sym (ap (put_path q) (put-equal p x xs tied) ∙ put-greater q x xs o))
     (λ over k. put-greater p x (put_path q xs) over ∙ (ap (λ (l : List (List ℕ)). x ∷ l) (swap-less p q xs less)
-        ∙ sym (ap (put_path q) (put-greater p x xs over) ∙ put-greater q x (put_path p xs) o))))
+    ∙ sym (ap (put_path q) (put-greater p x xs over) ∙ put-greater q x (put_path p xs) o))))
 
 swap : (p q : List ℕ) (xs : List (List ℕ)) → put_path p (put_path q xs) ≡ put_path q (put_path p xs)
 swap p q xs =
@@ -79,7 +79,7 @@ shown-other : (q : List ℕ) (slots : List Slot) (list : List Placed) (ps : List
 shown-other q slots list [] all = refl
 shown-other q slots list (p ∷ ps) all =
     ap (λ (l : List Slot). record { path = p; slots = l } ∷ shown_at (all_at q slots ++ list) ps) (slots-other q p slots list (ap is_eq all.0))
-        ∙ ap (λ (l : List Shown). record { path = p; slots = slots_at list p } ∷ l) (shown-other q slots list ps all.1)
+    ∙ ap (λ (l : List Shown). record { path = p; slots = slots_at list p } ∷ l) (shown-other q slots list ps all.1)
 
 shown-of : (shown : List Shown) → IsStrictlySortedBy path_cmp (paths_of shown) → shown_at (read_off shown) (paths_of shown) ≡ shown
 unfolding IsStrictlySortedBy

@@ -25,7 +25,7 @@ use Rattle.event_trees.proofs.Whole.{whole}
 pub edit-short : (defs : List EventDef) (list : List Reg) (shown : List Shown) → AreDefs defs → IsForestOf defs list shown → AreShort shown
 edit-short defs list shown are forest =
     subst AreShort (sym forest.listed) (short-canon_of (placed defs list)
-        (short-placed defs list (knows defs are) (recursion_from_All (λ (r : Reg). IsTrue (is_event defs r.event)) list forest.private.events)))
+    (short-placed defs list (knows defs are) (recursion_from_All (λ (r : Reg). IsTrue (is_event defs r.event)) list forest.private.events)))
 
 -- the listing is that of the registrations that are read off it
 pub edit-canon : (defs : List EventDef) (list : List Reg) (shown : List Shown) → IsForestOf defs list shown → shown ≡ canon_of (read_off shown)
@@ -83,7 +83,7 @@ pub old-there : (defs : List EventDef) (list : List Reg) (shown : List Shown) (r
 old-there defs list shown r true number forest switch is off = cc
 old-there defs list shown r false number forest switch is off =
     ap (λ (l : List Placed). list_any (λ s. s.slot.number == number) l) (read-list defs list shown forest)
-        ∙ there-at defs list number switch.0 r switch.1 (ap (λ (x : Reg). x.number) switch.2 ∙ sym is)
+    ∙ there-at defs list number switch.0 r switch.1 (ap (λ (x : Reg). x.number) switch.2 ∙ sym is)
 
 pub if_ok : {A E : Type 0} (result : Result A E) (P Q : A → Type 0) → IfOk result P → ((x : A) → P x → Q x) → IfOk result Q
 if_ok (Ok x) P Q h k = k x h

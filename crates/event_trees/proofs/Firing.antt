@@ -28,7 +28,7 @@ fires-append : (keep : ℕ → Bool) (hook : Hook) (xs ys : List Placed) → fir
 fires-append keep hook [] ys = refl
 fires-append keep hook (x ∷ xs) ys =
     elim (is_hook x.slot.hook hook && passes keep x.path) as (λ b. cond b (x.slot.number ∷ fires_placed keep hook (xs ++ ys))
-        (fires_placed keep hook (xs ++ ys)) ≡ cond b (x.slot.number ∷ fires_placed keep hook xs) (fires_placed keep hook xs) ++ fires_placed keep hook ys) [
+    (fires_placed keep hook (xs ++ ys)) ≡ cond b (x.slot.number ∷ fires_placed keep hook xs) (fires_placed keep hook xs) ++ fires_placed keep hook ys) [
       | true ↦ ap (λ (l : List ℕ). x.slot.number ∷ l) (fires-append keep hook xs ys)
       | false ↦ fires-append keep hook xs ys
     ]
@@ -41,14 +41,14 @@ called-at : (keep : ℕ → Bool) (hook : Hook) (p : List ℕ) (slots : List Slo
 called-at keep hook p [] = elim (passes keep p) as (λ b. cond b (called hook []) [] ≡ []) [ true ↦ refl | false ↦ refl ]
 called-at keep hook p (s ∷ slots) =
     elim (passes keep p) as (λ b. cond b (called hook slots) [] ≡ fires_placed keep hook (map (at p) slots)
-        → cond b (called hook (s ∷ slots)) [] ≡ cond (is_hook s.hook hook && b) (s.number ∷ fires_placed keep hook (map (at p) slots))
-        (fires_placed keep hook (map (at p) slots))) [
+    → cond b (called hook (s ∷ slots)) [] ≡ cond (is_hook s.hook hook && b) (s.number ∷ fires_placed keep hook (map (at p) slots))
+    (fires_placed keep hook (map (at p) slots))) [
       | true ↦ λ h. elim (is_hook s.hook hook) as (λ c. map (λ x. x.number)
           (cond c (s ∷ filter (λ x. is_hook x.hook hook) slots) (filter (λ x. is_hook x.hook hook) slots)) ≡ cond (c && true)
           (s.number ∷ fires_placed keep hook (map (at p) slots)) (fires_placed keep hook (map (at p) slots))) [
-        | true ↦ ap (λ (l : List ℕ). s.number ∷ l) h
-        | false ↦ h
-      ]
+            | true ↦ ap (λ (l : List ℕ). s.number ∷ l) h
+            | false ↦ h
+          ]
       | false ↦ λ h. elim (is_hook s.hook hook) as (λ c. [] ≡ cond (c && false) (s.number ∷ fires_placed keep hook (map (at p) slots))
           (fires_placed keep hook (map (at p) slots))) [ true ↦ h | false ↦ h ]
     ] (called-at keep hook p slots)
@@ -57,8 +57,8 @@ firing-read_off : (keep : ℕ → Bool) (hook : Hook) (listing : List Shown) →
 firing-read_off keep hook [] = refl
 firing-read_off keep hook (s ∷ ss) =
     ap (λ (l : List ℕ). l ++ firing keep hook ss) (called-at keep hook s.path s.slots)
-        ∙ (ap (λ (l : List ℕ). fires_placed keep hook (map (at s.path) s.slots) ++ l) (firing-read_off keep hook ss)
-        ∙ sym (fires-append keep hook (map (at s.path) s.slots) (read_off ss)))
+    ∙ (ap (λ (l : List ℕ). fires_placed keep hook (map (at s.path) s.slots) ++ l) (firing-read_off keep hook ss)
+    ∙ sym (fires-append keep hook (map (at s.path) s.slots) (read_off ss)))
 
 firing-canon_of : (keep : ℕ → Bool) (hook : Hook) (list : List Placed) → Rises [] list → firing keep hook (canon_of list) ≡ fires_placed keep hook list
 firing-canon_of keep hook list up = firing-read_off keep hook (canon_of list) ∙ ap (fires_placed keep hook) (whole list up)
@@ -98,12 +98,12 @@ fires-placed defs facts hook root [] k h = refl
 fires-placed defs facts hook root (r ∷ list) k h =
     let p : List ℕ = path defs r.event in
     let test : (is_hook r.hook hook && passes (keeps defs facts root) p) ≡ is_called defs facts hook root r = ap
-        (λ (b : Bool). is_hook r.hook hook && b) (rooted-passes defs facts root p k (k.rooted r.event h.0)) in
+    (λ (b : Bool). is_hook r.hook hook && b) (rooted-passes defs facts root p k (k.rooted r.event h.0)) in
     ap (λ (b : Bool). cond b (r.number ∷ fires_placed (keeps defs facts root) hook (placed defs list)) (fires_placed (keeps defs facts root) hook (placed defs list))) test ∙
     (ap (λ (l : List ℕ). cond (is_called defs facts hook root r) (r.number ∷ l) l) (fires-placed defs facts hook root list k h.1) ∙
     elim (is_called defs facts hook root r) as (λ b. cond b (r.number ∷ numbers_of (fires defs facts hook root list))
-        (numbers_of (fires defs facts hook root list)) ≡ numbers_of (cond b (r ∷ fires defs facts hook root list) (fires defs facts hook root list)))
-        [ true ↦ refl | false ↦ refl ])
+    (numbers_of (fires defs facts hook root list)) ≡ numbers_of (cond b (r ∷ fires defs facts hook root list) (fires defs facts hook root list)))
+    [ true ↦ refl | false ↦ refl ])
 
 pub firing-canon : (defs : List EventDef) (facts : Facts) (hook : Hook) (root : ℕ) (list : List Reg) → KnowsPaths defs
     → AllByRecursion (λ r. IsTrue (is_event defs r.event)) list → Rises [] (placed defs list)

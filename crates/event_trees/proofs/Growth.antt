@@ -63,7 +63,7 @@ first_less a b q p other le =
     ⊎_elim (λ e. absurd (other e))
     (λ h. ⊎_elim (λ l. sym (nat_cmp_is a b Less l))
     (λ g. let e : is_gt (path_cmp (a ∷ q) (b ∷ p)) ≡ true = ap (λ (o : Ordering). is_gt (ordering_then o (path_cmp q p)))
-        (sym (nat_cmp_is a b Greater g)) in absurd (false≢true (sym le ∙ e))) h) (cases_order a b)
+    (sym (nat_cmp_is a b Greater g)) in absurd (false≢true (sym le ∙ e))) h) (cases_order a b)
 
 pub rest_up_to : (a b : ℕ) (q p : List ℕ) → a ≡ b → IsUpTo (a ∷ q) (b ∷ p) → IsUpTo q p
 rest_up_to a b q p same le =
@@ -91,7 +91,7 @@ puts front (a ∷ q) (b ∷ p) paths e le =
     (λ t.
     let less : path_cmp (front ++ a ∷ q) (front ++ b ∷ []) ≡ Less = cmp-front front (a ∷ q) (b ∷ []) ∙ ap (λ (o : Ordering). ordering_then o (path_cmp q [])) (first_less a b q p t.1 le) in
     puts-above front b p paths (below_next paths (front ++ a ∷ q) (front ++ b ∷ []) e less)
-        ∙ ap (λ (c : Bool). paths ++ cond c (newer (front ++ b ∷ []) q p) (longer front (b ∷ p))) (sym t.0)) (eqb_tells a b)
+    ∙ ap (λ (c : Bool). paths ++ cond c (newer (front ++ b ∷ []) q p) (longer front (b ∷ p))) (sym t.0)) (eqb_tells a b)
 
 longer-ends : (front : List ℕ) (b : ℕ) (p : List ℕ) → (before : List (List ℕ)) × (longer front (b ∷ p) ≡ before ++ (front ++ b ∷ p) ∷ [])
 longer-ends front b [] = ([], refl)
@@ -171,7 +171,7 @@ grown-push list q r g le =
     let is : paths_with ([] ∷ []) (list ++ r ∷ []) ≡ put_paths (prefixes r.path) paths = paths_with-push ([] ∷ []) list r in
     let new : EndsAt (put_paths (prefixes r.path) paths) r.path = ends-puts paths q r.path g.ends le in
     let here : Has r.path (put_paths (prefixes r.path) paths) = subst (λ (l : List ℕ). Has l (put_paths (prefixes r.path) paths))
-        (take_all (length r.path) r.path (omega arith)) (new.begun (length r.path)) in
+    (take_all (length r.path) r.path (omega arith)) (new.begun (length r.path)) in
     record {
       ends = subst (λ (l : List (List ℕ)). EndsAt l r.path) (sym is) new;
       held = subst (λ (l : List (List ℕ)). AllByRecursion (λ s. Has s.path l) (list ++ r ∷ [])) (sym is)
@@ -204,7 +204,7 @@ slots-push_same : (list : List Placed) (r : Placed) → slots_at (list ++ r ∷ 
 slots-push_same [] r = ap (λ (o : Ordering). if is_eq o then r.slot ∷ [] else []) (itself r.path)
 slots-push_same (s ∷ list) r =
     elim (is_eq (path_cmp s.path r.path)) as (λ b. cond b (s.slot ∷ slots_at (list ++ r ∷ []) r.path) (slots_at (list ++ r ∷ []) r.path) ≡ cond b
-        (s.slot ∷ slots_at list r.path) (slots_at list r.path) ++ r.slot ∷ []) [
+    (s.slot ∷ slots_at list r.path) (slots_at list r.path) ++ r.slot ∷ []) [
       | true ↦ ap (λ (l : List Slot). s.slot ∷ l) (slots-push_same list r)
       | false ↦ slots-push_same list r
     ]
@@ -218,7 +218,7 @@ shown-push_other : (list : List Placed) (r : Placed) (ps : List (List ℕ)) → 
 shown-push_other list r [] h = refl
 shown-push_other list r (p ∷ ps) h =
     ap (λ (l : List Slot). record { path = p; slots = l } ∷ shown_at (list ++ r ∷ []) ps) (slots-push_other list r p h.0)
-        ∙ ap (λ (l : List Shown). record { path = p; slots = slots_at list p } ∷ l) (shown-push_other list r ps h.1)
+    ∙ ap (λ (l : List Shown). record { path = p; slots = slots_at list p } ∷ l) (shown-push_other list r ps h.1)
 
 -- the new paths come to the end without registrations, and then the last path has one more
 pub record Step (list : List Placed) (q : List ℕ) (r : Placed) : Type 0 where

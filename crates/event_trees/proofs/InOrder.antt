@@ -60,7 +60,7 @@ numbers-above : (r : Placed) (p : List ℕ) (list : List Placed) → r.path ≡ 
 numbers-above r p [] at h = tt
 numbers-above r p (s ∷ list) at h =
     elim (path_cmp s.path p) as (λ o. path_cmp s.path p ≡ o → AllByRecursion (λ n. nat_cmp r.slot.number n ≡ Less)
-        (map (λ x. x.number) (cond (is_eq o) (s.slot ∷ slots_at list p) (slots_at list p)))) [
+    (map (λ x. x.number) (cond (is_eq o) (s.slot ∷ slots_at list p) (slots_at list p)))) [
       | Less ↦ λ e. numbers-above r p list at h.1
       | Equal ↦ λ e. (by_number r s p at (same_path s.path p e) h.0, numbers-above r p list at h.1)
       | Greater ↦ λ e. numbers-above r p list at h.1

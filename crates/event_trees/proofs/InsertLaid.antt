@@ -62,9 +62,9 @@ under-in_here : (d c first : ℕ) (es : List ℕ) (back : List Node) → IsShall
 under-in_here d c first es back s =
     let all : nat_le 0 (under d back) ≡ true = grind (arith, nat_tests) in
     ⊎_elim (λ t. under-chain_above d c first es back t.1 ∙ sym (ap (λ (b : Bool). cond (b && nat_le d c) (under d back + length es) (under d back))
-        all ∙ ap (λ (b : Bool). cond b (under d back + length es) (under d back)) t.0))
+    all ∙ ap (λ (b : Bool). cond b (under d back + length es) (under d back)) t.0))
     (λ t. under-chain_below d c first es back s t.1 ∙ (sym (shallow-under c d back s t.1)
-        ∙ sym (ap (λ (b : Bool). cond (b && nat_le d c) (under d back + length es) (under d back)) all ∙ ap (λ (b : Bool). cond b (under d back + length es) (under d back)) t.0)))
+    ∙ sym (ap (λ (b : Bool). cond (b && nat_le d c) (under d back + length es) (under d back)) all ∙ ap (λ (b : Bool). cond b (under d back + length es) (under d back)) t.0)))
     (leb_tells d c)
 
 step-in : (size more c d u : ℕ) → now_under size more c d u + 1 ≡ now_under (suc size) more c d (u + 1)
@@ -153,7 +153,16 @@ topped-in c first es top ns back s h topped =
     topped-bumped new (raised c (length es) ns ++ chain first c es) back (
       topped.0,
       topped.1,
-      omega (arith, more, topped.2, length-append ns back, length-append (raised c (length es) ns ++ chain first c es) back, length-append
-          (raised c (length es) ns) (chain first c es), raised-size c (length es) ns, chain-size first c es),
+      omega (
+        arith,
+        more,
+        topped.2,
+        length-append ns back,
+        length-append (raised c (length es) ns ++ chain first c es) back,
+        length-append
+            (raised c (length es) ns) (chain first c es),
+        raised-size c (length es) ns,
+        chain-size first c es,
+      ),
       rw append_assoc (laid-in 0 c first es ns back s h topped.3),
     )

@@ -131,13 +131,13 @@ read-path q p c more mid ns back slots is ends le s =
     let front : List Shown = listing_after [] ns slots in
     let at_end : end_path q ch ≡ p = ap (λ (k : ℕ). end_path q (chain mid k (drop k p))) is ∙ end-chain q p mid le in
     let behind : listing_after (end_path q ch) back slots ≡ listing_after q back slots = ap (λ (l : List ℕ). listing_after l back slots) at_end
-        ∙ listing-behind q p back slots (subst (λ (k : ℕ). IsShallow k back) is s) in
+    ∙ listing-behind q p back slots (subst (λ (k : ℕ). IsShallow k back) is s) in
     let middle : read_off (listing_after q (ch ++ back) slots) ≡ read_off (listing_after q back slots) =
     ap read_off (listing_after-append q ch back slots) ∙ (read_off-append (listing_after q ch slots) (listing_after (end_path q ch) back slots) ∙
     (ap (λ (l : List Placed). l ++ read_off (listing_after (end_path q ch) back slots)) (read-chain q mid c (drop c p) slots) ∙ ap read_off behind)) in
     let split : (rest : List Node) → read_off (listing_after [] (ns ++ rest) slots) ≡ read_off front ++ read_off (listing_after q rest slots) =
     λ rest. ap read_off (listing_after-append [] ns rest slots) ∙ (read_off-append front (listing_after (end_path [] ns) rest slots)
-        ∙ ap (λ (l : List ℕ). read_off front ++ read_off (listing_after l rest slots)) ends) in
+    ∙ ap (λ (l : List ℕ). read_off front ++ read_off (listing_after l rest slots)) ends) in
     ap (λ (l : List Node). read_off (listing_after [] l slots)) (append_assoc (raised c more ns) ch back) ∙ (ap read_off (listing-raised [] c more ns (ch ++ back) slots) ∙
     (split (ch ++ back) ∙ (ap (λ (l : List Placed). read_off front ++ l) middle ∙ sym (split back))))
 
@@ -184,7 +184,7 @@ none-between : (number : ℕ) (n : Node) (slots : List Slot) (i : ℕ) → n.cou
 none-between number n slots i none is =
     let at : i - n.first ≡ 0 = omega (arith, is) in
     subst (λ (k : ℕ). IsBetween number (take k (drop n.first slots)) (i - n.first)) (sym none)
-        (subst (λ (k : ℕ). IsBetween number [] k) (sym at) (record { within = omega arith; low = tt; high = tt }))
+    (subst (λ (k : ℕ). IsBetween number [] k) (sym at) (record { within = omega arith; low = tt; high = tt }))
 
 at-final : (r : Placed) (c more mid : ℕ) (es : List ℕ) (top new : Node) (ns : List Node) (slots : List Slot) (i : ℕ) → new.first ≡ top.first
     → new.count ≡ top.count → es ≡ drop c r.path → c ≤ length r.path → ArePacked 0 (top ∷ ns) mid → IsPlaced r c (final top ns) slots i
@@ -253,27 +253,27 @@ inserted top ns back slots r c mid i tree canon order le is later front behind a
     let old_sorted : IsStrictlySortedBy path_cmp ([] ∷ node_paths [] (ns ++ back)) = subst (IsStrictlySortedBy path_cmp) old_paths tree.order.paths in
     let ends : EndsAt ([] ∷ node_paths [] ns) q = ends-front ns back laid old_sorted in
     let above : AllAbove p (node_paths q back) = above-behind q p back later
-        (sorted-behind ([] ∷ node_paths [] ns) (node_paths q back) (subst (IsStrictlySortedBy path_cmp) old_split tree.order.paths)) in
+    (sorted-behind ([] ∷ node_paths [] ns) (node_paths q back) (subst (IsStrictlySortedBy path_cmp) old_split tree.order.paths)) in
     let new_paths : [] ∷ node_paths [] (ms ++ moved back) ≡ put_paths (prefixes p) (paths_of old) =
     ap (λ (l : List (List ℕ)). [] ∷ l) (paths-in q p c k mid ns back is refl le shallow)
-        ∙ (sym (puts-in q p ([] ∷ node_paths [] ns) (node_paths q back) ends le above) ∙ ap (put_paths (prefixes p)) (sym old_split)) in
+    ∙ (sym (puts-in q p ([] ∷ node_paths [] ns) (node_paths q back) ends le above) ∙ ap (put_paths (prefixes p)) (sym old_split)) in
     let sorted : IsStrictlySortedBy path_cmp ([] ∷ node_paths [] (ms ++ moved back)) = subst (IsStrictlySortedBy path_cmp) (sym new_paths) (sorted-puts (prefixes p) (paths_of old) tree.order.paths) in
     let listed_paths : paths_of (listing_of new slots_new) ≡ [] ∷ node_paths [] (ms ++ moved back) = paths-with_path c k mid es top ns back slots_new in
     let chain_end : end_path [] ms ≡ p = end_path-append [] (raised c k ns) (chain mid c es)
-        ∙ (ap (λ (l : List ℕ). end_path l (chain mid c es)) (end-raised [] c k ns) ∙ (ap (λ (x : ℕ). end_path q (chain mid x (drop x p))) is ∙ end-chain q p mid le)) in
+    ∙ (ap (λ (l : List ℕ). end_path l (chain mid c es)) (end-raised [] c k ns) ∙ (ap (λ (x : ℕ). end_path q (chain mid x (drop x p))) is ∙ end-chain q p mid le)) in
     let both : node_paths [] (ms ++ moved back) ≡ node_paths [] ms ++ node_paths p back = node_paths-append [] ms (moved back)
-        ∙ (ap (λ (l : List ℕ). node_paths [] ms ++ node_paths l (moved back)) chain_end ∙ ap (λ (l : List (List ℕ)). node_paths [] ms ++ l) (paths-moved p back)) in
+    ∙ (ap (λ (l : List ℕ). node_paths [] ms ++ node_paths l (moved back)) chain_end ∙ ap (λ (l : List (List ℕ)). node_paths [] ms ++ l) (paths-moved p back)) in
     let fin : AtFinal r.slot.number (final high ms) slots i mid = at-final r c k mid es top high ns slots i refl refl refl (omega (arith, is, common-right q p)) front at in
     let put : Put (read_off (shown_from [] high (ms ++ back) slots)) (read_off (shown_all [] new slots_new)) r =
     put-listing [] high ms back slots r i 0 mid chain_end (packed-path c k mid es top ns front) behind within fin.low fin.high fin.between
-        (subst (λ (l : List (List ℕ)). IsStrictlySortedBy path_cmp ([] ∷ l)) both sorted) in
+    (subst (λ (l : List (List ℕ)). IsStrictlySortedBy path_cmp ([] ∷ l)) both sorted) in
     let read_old : read_off (shown_from [] high (ms ++ back) slots) ≡ list = ap (λ (l : List Placed). all_at [] (slots_of top slots) ++ l) (read-path q p c k mid ns back slots is refl le shallow) in
     let read : read_off (listing_of new slots_new) ≡ put_placed r list = ap read_off (sym (bumped-shown_all high ms (moved back) slots_new))
-        ∙ (put-is (read_off (shown_from [] high (ms ++ back) slots)) (read_off (shown_all [] new slots_new)) r put ∙ ap (put_placed r) read_old) in
+    ∙ (put-is (read_off (shown_from [] high (ms ++ back) slots)) (read_off (shown_all [] new slots_new)) r put ∙ ap (put_placed r) read_old) in
     let all_paths : paths_of (listing_of new slots_new) ≡ paths_with ([] ∷ []) (put_placed r list) =
     listed_paths ∙ (new_paths ∙ (ap (put_paths (prefixes p)) (ap paths_of canon ∙ paths-canon list) ∙ sym (paths-put ([] ∷ []) r list))) in
     let listed : listing_of new slots_new ≡ canon_of (put_placed r list) = canon-from (put_placed r list) (listing_of new slots_new)
-        (subst (IsStrictlySortedBy path_cmp) (sym listed_paths) sorted) all_paths read in
+    (subst (IsStrictlySortedBy path_cmp) (sym listed_paths) sorted) all_paths read in
     record {
       tree = record {
         topped = topped-in c mid es top ns back shallow (omega (arith, is, common-left q p, depth)) tree.topped;

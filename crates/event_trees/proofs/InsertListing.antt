@@ -32,7 +32,7 @@ slots-before n slots s i within before =
     let long : length front ≡ i = length-take-le i slots within in
     let left : drop n.first (put_at i s slots) ≡ drop n.first front ++ s ∷ drop i slots = drop-append-le n.first front (s ∷ drop i slots) (omega (arith, long, before)) in
     let right : drop n.first slots ≡ drop n.first front ++ drop i slots = ap (drop n.first) (sym (take-append-drop i slots))
-        ∙ drop-append-le n.first front (drop i slots) (omega (arith, long, before)) in
+    ∙ drop-append-le n.first front (drop i slots) (omega (arith, long, before)) in
     let room : n.count ≤ length (drop n.first front) = omega (arith, long, before, length-drop n.first front) in
     ap (take n.count) left ∙ (take-append-le n.count (drop n.first front) (s ∷ drop i slots) room ∙ sym (ap (take n.count) right ∙ take-append-le n.count (drop n.first front) (drop i slots) room))
 
@@ -45,7 +45,7 @@ slots-behind n slots s i within behind =
     let left : drop (i + 1) (put_at i s slots) ≡ rest = ap (drop (i + 1)) one ∙ drop_at (front ++ s ∷ []) rest (i + 1) long in
     let far : drop (n.first + 1) (put_at i s slots) ≡ drop (n.first - i) rest =
     ap (λ (k : ℕ). drop k (put_at i s slots)) (let k : n.first + 1 ≡ (i + 1) + (n.first - i) = omega (arith, behind) in k)
-        ∙ (sym (drop-drop (n.first - i) (i + 1) (put_at i s slots)) ∙ ap (drop (n.first - i)) left) in
+    ∙ (sym (drop-drop (n.first - i) (i + 1) (put_at i s slots)) ∙ ap (drop (n.first - i)) left) in
     let near : drop n.first slots ≡ drop (n.first - i) rest = ap (λ (k : ℕ). drop k slots) (let k : n.first ≡ i + (n.first - i) = omega (arith, behind) in k) ∙ sym (drop-drop (n.first - i) i slots) in
     ap (take n.count) (far ∙ sym near)
 
@@ -57,7 +57,7 @@ take-put (suc j) zero s rest h k = absurd (omega (arith, h))
 take-put (suc j) (suc count) s [] h k = absurd (omega (arith, k))
 take-put (suc j) (suc count) s (x ∷ xs) h k =
     ap (λ (m : ℕ). take m (x ∷ put_at j s xs)) (let m : suc count + 1 ≡ suc (count + 1) = omega arith in m)
-        ∙ ap (λ (l : List Slot). x ∷ l) (take-put j count s xs (omega (arith, h)) (omega (arith, k)))
+    ∙ ap (λ (l : List Slot). x ∷ l) (take-put j count s xs (omega (arith, h)) (omega (arith, k)))
 
 pub slots-at : (n : Node) (slots : List Slot) (s : Slot) (i : ℕ) → n.first ≤ i → i ≤ n.first + n.count → n.first + n.count ≤ length slots
     → slots_of (record n { count = n.count + 1 }) (put_at i s slots) ≡ put_at (i - n.first) s (slots_of n slots)
@@ -128,15 +128,15 @@ pub moved-after : (before : List ℕ) (place end : ℕ) (ns : List Node) (slots 
 moved-after before place end [] slots s i packed behind within = refl
 moved-after before place end (n ∷ ns) slots s i packed behind within =
     ap (λ (l : List Slot). record { path = path_after before n; slots = l } ∷ listing_after (path_after before n) (moved ns) (put_at i s slots))
-        (slots-behind n slots s i within (omega (arith, packed.0, behind))) ∙
+    (slots-behind n slots s i within (omega (arith, packed.0, behind))) ∙
     ap (λ (l : List Shown). record { path = path_after before n; slots = slots_of n slots } ∷ l)
-        (moved-after (path_after before n) (place + n.count) end ns slots s i packed.1 (omega (arith, behind)) within)
+    (moved-after (path_after before n) (place + n.count) end ns slots s i packed.1 (omega (arith, behind)) within)
 
 behind-later : (r : Placed) (before : List ℕ) (ns : List Node) (slots : List Slot) → AllAbove r.path (node_paths before ns) → StartsLater r (read_off (listing_after before ns slots))
 behind-later r before [] slots all = tt
 behind-later r before (n ∷ ns) slots all =
     starts_later-both r (all_at (path_after before n) (slots_of n slots)) (read_off (listing_after (path_after before n) ns slots))
-        (path_later r (path_after before n) (slots_of n slots) all.0) (behind-later r (path_after before n) ns slots all.1)
+    (path_later r (path_after before n) (slots_of n slots) all.0) (behind-later r (path_after before n) ns slots all.1)
 
 -- ---- node by node
 -- the last node
@@ -201,7 +201,7 @@ at_final n back slots r i mid ends low high packed within between above =
           ∙ append_assoc (all_at p (take j held)) (all_at p (drop j held)) rest);
       is = ap (λ (l : List Slot). all_at p l ++ read_off (listing_after p (moved back) (put_at i r.slot slots))) here ∙ (ap (λ (l : List Shown). all_at p (put_at j r.slot held) ++ read_off l) behind ∙
           (ap (λ (l : List Placed). l ++ rest) (map-append (λ (x : Slot). record { path = p; slot = x }) (take j held) (r.slot ∷ drop j held))
-              ∙ append_assoc (all_at p (take j held)) (r ∷ all_at p (drop j held)) rest));
+          ∙ append_assoc (all_at p (take j held)) (r ∷ all_at p (drop j held)) rest));
       before = number_before r (take j held) between.low;
       after = starts_later-both r (all_at p (drop j held)) rest (number_later r (drop j held) between.high) (behind-later r p back slots above);
     }
@@ -234,7 +234,7 @@ put-listing path n (m ∷ ns) back slots r i place mid ends packed behind within
     let here : slots_of n new ≡ slots_of n slots = slots-before n slots r.slot i (omega (arith, high, within)) (omega (arith, packed.0, low, first-le (place + n.count) m ns mid packed.1)) in
     let same : read_off (shown_all path (n ∷ (bumped (m ∷ ns) ++ moved back)) new) ≡ all_at path (slots_of n slots) ++ read_off (shown_all on (bumped (m ∷ ns) ++ moved back) new) =
     ap (λ (l : List Slot). all_at path l ++ read_off (listing_after path (bumped (m ∷ ns) ++ moved back) new)) here
-        ∙ ap (λ (l : List Shown). all_at path (slots_of n slots) ++ read_off l) (bumped-on path m ns (moved back) new) in
+    ∙ ap (λ (l : List Shown). all_at path (slots_of n slots) ++ read_off l) (bumped-on path m ns (moved back) new) in
     subst (λ (l : List Placed). Put (all_at path (slots_of n slots) ++ read_off (shown_from on m (ns ++ back) slots)) l r) (sym same)
     (put-more (read_off (shown_from on m (ns ++ back) slots)) (read_off (shown_all on (bumped (m ∷ ns) ++ moved back) new)) r
-        (all_at path (slots_of n slots)) (path_before r path (slots_of n slots) less) rest)
+    (all_at path (slots_of n slots)) (path_before r path (slots_of n slots) less) rest)

@@ -114,7 +114,7 @@ paths-in q p c more mid ns back is ends le s =
     ap (λ (l : List ℕ). node_paths l (moved back)) at_end ∙ (paths-moved p back ∙ paths-behind q p back (subst (λ (k : ℕ). IsShallow k back) is s)) in
     let middle : node_paths q (ch ++ moved back) ≡ newer [] q p ++ node_paths q back =
     node_paths-append q ch (moved back) ∙ (ap (λ (l : List (List ℕ)). l ++ node_paths (end_path q ch) (moved back)) (ap (node_paths q) chain_is
-        ∙ paths-chain q p mid) ∙ ap (λ (l : List (List ℕ)). newer [] q p ++ l) behind) in
+    ∙ paths-chain q p mid) ∙ ap (λ (l : List (List ℕ)). newer [] q p ++ l) behind) in
     ap (node_paths []) (append_assoc (raised c more ns) ch (moved back)) ∙ (paths-raised [] c more ns (ch ++ moved back) ∙ (node_paths-append [] ns (ch ++ moved back) ∙
     (ap (λ (l : List ℕ). node_paths [] ns ++ node_paths l (ch ++ moved back)) ends ∙ ap (λ (l : List (List ℕ)). node_paths [] ns ++ l) middle)))
 

@@ -69,18 +69,18 @@ tree-inserted (top ∷ ns) slots r (suc k) depth first place d tree canon order 
     let more : length (drop depth r.path) ≡ length r.path - depth = length-drop depth r.path in
     let spot_at : IsSpot r.slot.number (nat_lt depth (length r.path)) (final top fs) slots place = subst (λ (n : Node). IsSpot r.slot.number (nat_lt depth (length r.path)) n slots place) last spot in
     let law : IsTreeOf (bumped (raised depth (length (drop depth r.path)) (top ∷ fs) ++ chain mid depth (drop depth r.path)) ++ moved bs)
-        (put_at place r.slot slots) (put_placed r (read_off (listing_of (top ∷ (fs ++ bs)) slots))) =
+    (put_at place r.slot slots) (put_placed r (read_off (listing_of (top ∷ (fs ++ bs)) slots))) =
     inserted top fs bs slots r depth mid place tree_split (subst (λ (l : List Node). listing_of (top ∷ l) slots ≡ canon_of
-        (read_off (listing_of (top ∷ l) slots))) (sym split) canon) (subst
-        (λ (l : List Node). IsStrictlySortedBy placed_cmp (put_placed r (read_off (listing_of (top ∷ l) slots)))) (sym split) order) reach.up_to
-        reach.shared (later-drop top ns k r.path reach.later) parts.1.0 parts.1.1 (placed-spot r depth (final top fs) slots place spot_at)
-        (packed-le mid bs (length slots) parts.1.1) in
+    (read_off (listing_of (top ∷ l) slots))) (sym split) canon) (subst
+    (λ (l : List Node). IsStrictlySortedBy placed_cmp (put_placed r (read_off (listing_of (top ∷ l) slots)))) (sym split) order) reach.up_to
+    reach.shared (later-drop top ns k r.path reach.later) parts.1.0 parts.1.1 (placed-spot r depth (final top fs) slots place spot_at)
+    (packed-le mid bs (length slots) parts.1.1) in
     subst (λ (l : List Node). IsTreeOf (bumped (raised depth (length r.path - depth) (top ∷ fs) ++ chain first depth (drop depth r.path)) ++ moved bs)
-        (put_at place r.slot slots) (put_placed r (read_off (listing_of (top ∷ l) slots)))) split
+    (put_at place r.slot slots) (put_placed r (read_off (listing_of (top ∷ l) slots)))) split
     (subst (λ (m : ℕ). IsTreeOf (bumped (raised depth (length r.path - depth) (top ∷ fs) ++ chain m depth (drop depth r.path)) ++ moved bs)
-        (put_at place r.slot slots) (put_placed r (read_off (listing_of (top ∷ (fs ++ bs)) slots)))) first_is
+    (put_at place r.slot slots) (put_placed r (read_off (listing_of (top ∷ (fs ++ bs)) slots)))) first_is
     (subst (λ (m : ℕ). IsTreeOf (bumped (raised depth m (top ∷ fs) ++ chain mid depth (drop depth r.path)) ++ moved bs) (put_at place r.slot slots)
-        (put_placed r (read_off (listing_of (top ∷ (fs ++ bs)) slots)))) more law))
+    (put_placed r (read_off (listing_of (top ∷ (fs ++ bs)) slots)))) more law))
 
 -- the same for lists that equal the tree's
 pub tree-made : (nodes ns : List Node) (slots ss : List Slot) (r : Placed) (p : List ℕ) (node depth first place : ℕ) (d : Node) (more : List Node)
@@ -98,9 +98,9 @@ tree-made nodes ns slots ss r p node depth first place d more all nodes_is slots
     (subst (λ (l : List Node). IsSpot r.slot.number (nat_lt depth (length p)) (get_or l (node - 1) d) ss place) nodes_is spot)) in
     let law : IsTreeOf (with_path node depth first r.path nodes) (put_at place r.slot slots) list =
     tree-inserted nodes slots r node depth first place d tree canon order (subst (λ (l : List ℕ). IsReach nodes l node depth) path_is reach) spot_at
-        (first_is ∙ ap (λ (l : List Node). (get_or l (node - 1) d).first + (get_or l (node - 1) d).count) nodes_is) in
+    (first_is ∙ ap (λ (l : List Node). (get_or l (node - 1) d).first + (get_or l (node - 1) d).count) nodes_is) in
     let nodes_made : with_path node depth first r.path nodes ≡ more = sym (more_is
-        ∙ (ap (λ (l : List ℕ). with_path node depth first l ns) path_is ∙ ap (with_path node depth first r.path) nodes_is)) in
+    ∙ (ap (λ (l : List ℕ). with_path node depth first l ns) path_is ∙ ap (with_path node depth first r.path) nodes_is)) in
     let slots_made : put_at place r.slot slots ≡ all = sym (all_is ∙ ap (put_at place r.slot) slots_is) in
     subst (λ (l : List Node). IsTreeOf l all list) nodes_made (subst (λ (l : List Slot). IsTreeOf (with_path node depth first r.path nodes) l list) slots_made law)
 
@@ -127,17 +127,17 @@ below-all (top ∷ ns) slots tree = (omega (arith, tree.topped.2), below-few 0 n
 pub all-raise : (nodes : List Node) (slots : List Slot) → IsTree nodes slots → length nodes < 65536 → All (λ n. n.below + 8 < 4294967296) nodes
 all-raise nodes slots tree h =
     All-from_recursion (λ (n : Node). n.below + 8 < 4294967296) nodes (all-weaker (λ n. n.below ≤ length nodes) (λ n. n.below + 8 < 4294967296) nodes
-        (λ n k. omega (arith, k, h)) (below-all nodes slots tree))
+    (λ n k. omega (arith, k, h)) (below-all nodes slots tree))
 
 pub all-room : (nodes : List Node) (slots : List Slot) → IsTree nodes slots → length slots < 255 → All (λ n. n.count < 255) nodes
 all-room nodes slots tree h =
     All-from_recursion (λ (n : Node). n.count < 255) nodes (all-weaker (λ n. n.first + n.count ≤ length slots) (λ n. n.count < 255) nodes
-        (λ n k. omega (arith, k, h)) (packed-within 0 nodes (length slots) tree.packed))
+    (λ n k. omega (arith, k, h)) (packed-within 0 nodes (length slots) tree.packed))
 
 pub all-firsts : (nodes : List Node) (slots : List Slot) → IsTree nodes slots → length slots < 255 → All (λ n. n.first + 1 < 4294967296) nodes
 all-firsts nodes slots tree h =
     All-from_recursion (λ (n : Node). n.first + 1 < 4294967296) nodes (all-weaker (λ n. n.first + n.count ≤ length slots)
-        (λ n. n.first + 1 < 4294967296) nodes (λ n k. omega (arith, k, h)) (packed-within 0 nodes (length slots) tree.packed))
+    (λ n. n.first + 1 < 4294967296) nodes (λ n k. omega (arith, k, h)) (packed-within 0 nodes (length slots) tree.packed))
 
 -- an element, or the default
 get-all : (P : Node → Type 0) (ns : List Node) (k : ℕ) (d : Node) → AllByRecursion P ns → P d → P (get_or ns k d)
@@ -167,9 +167,9 @@ pub last-room : (nodes out : List Node) (node depth more first k : ℕ) (es : Li
     → out ≡ raised depth more (take node nodes) ++ chain first depth es → d.count ≡ 0 → (get_or out k d).count < 255
 last-room nodes out node depth more first k es d all is none =
     get-all (λ n. n.count < 255) out k d (subst (AllByRecursion (λ (n : Node). n.count < 255)) (sym is)
-        (room-both (raised depth more (take node nodes)) (chain first depth es)
-        (room-raised depth more (take node nodes) (room-take node nodes (recursion_from_All (λ (n : Node). n.count < 255) nodes all)))
-        (room-chain first depth es))) (omega (arith, none))
+    (room-both (raised depth more (take node nodes)) (chain first depth es)
+    (room-raised depth more (take node nodes) (room-take node nodes (recursion_from_All (λ (n : Node). n.count < 255) nodes all)))
+    (room-chain first depth es))) (omega (arith, none))
 
 -- a lent list comes back with one registration more at its end
 pub back-bumped : (n : ℕ) (new lent items : List Node) → n ≡ length items → lent ≡ items → new ≡ bumped lent → take n (new ++ drop (length new) items) ≡ bumped items

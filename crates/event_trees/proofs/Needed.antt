@@ -73,7 +73,7 @@ next-deeper path n m so_far all s deeper near below =
     let whole : take (m.depth - 1) path ≡ path = take_all (m.depth - 1) path (omega (arith, s.long, deeper)) in
     let is : path_after path m ≡ path ++ m.event ∷ [] = ap (λ (l : List ℕ). l ++ m.event ∷ []) whole in
     ap (λ (p : List ℕ). put_paths (prefixes p) so_far) is ∙ (prefixes-push [] path m.event so_far
-        ∙ (ap (put_path (path ++ m.event ∷ [])) s.puts ∙ (ap (λ (p : List ℕ). put_path p all) (sym is) ∙ put-above (path_after path m) all below)))
+    ∙ (ap (put_path (path ++ m.event ∷ [])) s.puts ∙ (ap (λ (p : List ℕ). put_path p all) (sym is) ∙ put-above (path_after path m) all below)))
 
 shorter : (path : List ℕ) (xs : List (List ℕ)) (d k : ℕ) → ((j : ℕ) → Has (take j path) xs) → Has (take k (take d path)) xs
 shorter path xs d k h =
@@ -96,7 +96,7 @@ pub paths-needed : (path : List ℕ) (n : Node) (ns : List Node) (slots : List S
 paths-needed path n [] slots so_far all place s needed laid packed sorted =
     let within : n.first + n.count ≤ length slots = omega (arith, packed.0, packed.1) in
     ap (paths_with so_far) (append-nil (all_at path (slots_of n slots)))
-        ∙ (with-some path (slots_of n slots) so_far all (slots-some n slots within needed) s.puts (held-all path n so_far all s) ∙ sym (append-nil all))
+    ∙ (with-some path (slots_of n slots) so_far all (slots-some n slots within needed) s.puts (held-all path n so_far all s) ∙ sym (append-nil all))
 paths-needed path n (m ∷ ns) slots so_far all place s needed laid packed sorted =
     let on : List ℕ = path_after path m in
     let here : List Placed = all_at path (slots_of n slots) in
@@ -137,8 +137,12 @@ listing-needed top [] slots is laid packed sorted needed = canon-from (read_off 
 listing-needed top (m ∷ ns) slots is laid packed sorted needed =
     let paths : paths_of (listing_of (top ∷ m ∷ ns) slots) ≡ [] ∷ node_paths [] (m ∷ ns) = ap (λ (l : List (List ℕ)). [] ∷ l) (paths-after [] (m ∷ ns) slots) in
     let held : paths_with ([] ∷ []) (read_off (listing_of (top ∷ m ∷ ns) slots)) ≡ ([] ∷ []) ++ node_paths [] (m ∷ ns) =
-    paths-needed [] top (m ∷ ns) slots ([] ∷ []) ([] ∷ []) 0 (record { long = sym is; begun = λ k. inl (sym (take_none k)); sorted = one_path;
-        puts = refl }) (top-needed top (m ∷ ns) is laid needed (omega arith)) laid packed sorted in
+    paths-needed [] top (m ∷ ns) slots ([] ∷ []) ([] ∷ []) 0 (record {
+      long = sym is;
+      begun = λ k. inl (sym (take_none k));
+      sorted = one_path;
+      puts = refl;
+    }) (top-needed top (m ∷ ns) is laid needed (omega arith)) laid packed sorted in
     canon-from (read_off (listing_of (top ∷ m ∷ ns) slots)) (listing_of (top ∷ m ∷ ns) slots) (subst (IsStrictlySortedBy path_cmp) (sym paths) sorted) (paths ∙ sym held) refl
 
 -- ---- in the listing of a list a path without registrations goes on at once
@@ -197,10 +201,10 @@ no_slots_end (y ∷ xs) x e = cc
 ending-next : (list : List Placed) (q : List ℕ) (r : Placed) → Ending list q → Step list q r → Ending (list ++ r ∷ []) r.path
 ending-next list q r e s =
     let more : GoesOn (canon_of list ++ map bare (newer [] q r.path)) = ⊎_elim
-        (λ none. subst GoesOn (sym (ap (λ (l : List (List ℕ)). canon_of list ++ map bare l) none ∙ append-nil (canon_of list))) e.goes_on)
+    (λ none. subst GoesOn (sym (ap (λ (l : List (List ℕ)). canon_of list ++ map bare l) none ∙ append-nil (canon_of list))) e.goes_on)
     (λ l. subst (λ (x : List (List ℕ)). GoesOn (canon_of list ++ map bare x)) (sym l.is)
-        (subst (λ (x : List Shown). GoesOn (x ++ map bare (longer l.front (l.event ∷ l.events)))) (sym e.is)
-        (goes_on-both e.front q e.slots l.front l.event l.events (subst GoesOn e.is e.goes_on) e.top))) (newer-longer [] q r.path) in
+    (subst (λ (x : List Shown). GoesOn (x ++ map bare (longer l.front (l.event ∷ l.events)))) (sym e.is)
+    (goes_on-both e.front q e.slots l.front l.event l.events (subst GoesOn e.is e.goes_on) e.top))) (newer-longer [] q r.path) in
     record {
       front = s.front;
       slots = s.slots ++ r.slot ∷ [];

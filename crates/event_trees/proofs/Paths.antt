@@ -19,7 +19,7 @@ folded-unfound : (paths : ℕ → List ℕ) (defs : List EventDef) (event : ℕ)
 folded-unfound paths [] event h = refl
 folded-unfound paths (d ∷ ds) event h =
     elim (eqb d.number event) as (λ b. cond b (Some d) (found ds event) ≡ None
-        → (defining paths d event ≡ cond b (paths d.parent ++ event ∷ []) (paths event)) → fold defining (defining paths d) ds event ≡ paths event) [
+    → (defining paths d event ≡ cond b (paths d.parent ++ event ∷ []) (paths event)) → fold defining (defining paths d) ds event ≡ paths event) [
       | true ↦ λ e s. cc
       | false ↦ λ e s. folded-unfound (defining paths d) ds event e ∙ s
     ] h refl
@@ -93,7 +93,7 @@ not_event defs event low absent h =
 pub is_event-push : (defs : List EventDef) (d : EventDef) (event : ℕ) → found defs d.number ≡ None → IsTrue (is_event defs event) → IsTrue (is_event (defs ++ d ∷ []) event)
 is_event-push defs d event absent h =
     ⊎_elim (λ t. subst (λ (e : ℕ). IsTrue (is_event (defs ++ d ∷ []) e)) t.1
-        (subst (λ (o : Option EventDef). IsTrue (is_root d.number || is_some o)) (sym (found-push_same defs d absent)) (or_true (is_root d.number))))
+    (subst (λ (o : Option EventDef). IsTrue (is_root d.number || is_some o)) (sym (found-push_same defs d absent)) (or_true (is_root d.number))))
     (λ t. subst (λ (o : Option EventDef). IsTrue (is_root event || is_some o)) (sym (found-push_other defs d event t.1)) h) (eqb_tells d.number event)
 
 -- an event that is there isn't the one that is added
@@ -198,5 +198,5 @@ knows defs a = knows-all [] defs none_known a
 pub found-push : (defs : List EventDef) (d : EventDef) (event : ℕ) → found defs d.number ≡ None → found (defs ++ d ∷ []) event ≡ cond (eqb d.number event) (Some d) (found defs event)
 found-push defs d event absent =
     ⊎_elim (λ t. subst (λ (b : Bool). found (defs ++ d ∷ []) event ≡ cond b (Some d) (found defs event)) (sym t.0)
-        (subst (λ (n : ℕ). found (defs ++ d ∷ []) n ≡ Some d) t.1 (found-push_same defs d absent)))
+    (subst (λ (n : ℕ). found (defs ++ d ∷ []) n ≡ Some d) t.1 (found-push_same defs d absent)))
     (λ t. subst (λ (b : Bool). found (defs ++ d ∷ []) event ≡ cond b (Some d) (found defs event)) (sym t.0) (found-push_other defs d event t.1)) (eqb_tells d.number event)

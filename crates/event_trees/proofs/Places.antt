@@ -53,7 +53,7 @@ stands (r ∷ rs) event place h =
     subst (Stands (r ∷ rs) event) same (record { within = omega arith; is = λ d. ap (λ (b : Bool). cond b (Some r) (row_of rs event)) t.0 }))
     (λ t. let other : eqb r.def.number event ≡ false = t.0 in
     stands-next r rs event (place_of rs event) place other (sym (ap (λ (b : Bool). cond b (Some 0) (option_map suc (place_of rs event))) other)
-        ∙ h) (λ k e. stands rs event k e)) (eqb_tells r.def.number event)
+    ∙ h) (λ k e. stands rs event k e)) (eqb_tells r.def.number event)
 
 -- no event has a number over 255
 pub high : (rows : List Row) (event : ℕ) → AreRows rows → 256 ≤ event → row_of rows event ≡ None
@@ -91,7 +91,7 @@ distinct-all : (before ds : List EventDef) → AreAddable before ds → IsDistin
 distinct-all before [] are d = subst (λ (l : List EventDef). IsDistinct eqb (numbers l)) (sym (append-nil before)) d
 distinct-all before (x ∷ ds) are d =
     let one : IsDistinct eqb (numbers (before ++ x ∷ [])) = subst (IsDistinct eqb) (sym (map-append (λ (y : EventDef). y.number) before (x ∷ [])))
-        (IsDistinct-push eqb_equiv (numbers before) x.number d (unmet before x.number are.0.absent)) in
+    (IsDistinct-push eqb_equiv (numbers before) x.number d (unmet before x.number are.0.absent)) in
     subst (λ (l : List EventDef). IsDistinct eqb (numbers l)) (append_assoc before (x ∷ []) ds) (distinct-all (before ++ x ∷ []) ds are.1 one)
 
 none_distinct : IsDistinct eqb (numbers [])
@@ -153,7 +153,7 @@ places-push rows defs r places count same are counted most absent =
     λ event within. ⊎_elim (λ e. subst (λ (k : ℕ). get_or after k None ≡ place_of (rows ++ r ∷ []) k) e
     (get_or-set_same places r.def.number (Some (length rows)) None (omega (arith, are.0, most)) ∙ sym (place-push_same rows r (unfound-row rows r.def.number none))))
     (λ other. get_or-set_other places r.def.number event (Some (length rows)) None (λ e. other (sym e))
-        ∙ (are.1 event within ∙ sym (place-push_other rows r event other))) (cases_eq r.def.number event) in
+    ∙ (are.1 event within ∙ sym (place-push_other rows r event other))) (cases_eq r.def.number event) in
     subst (λ (k : ℕ). ArePlaces (rows ++ r ∷ []) (set places r.def.number (Some k))) (sym n) (length-set places r.def.number (Some (length rows)) ∙ are.0, now)
 
 -- nothing is there at first
@@ -161,7 +161,7 @@ pub none-indexed : (rows : List Row) → rows ≡ [] → AreRows rows × ArePlac
 none-indexed rows is =
     let none : Option ℕ = None in
     subst (λ (l : List Row). AreRows l × ArePlaces l (replicate 256 none)) (sym is)
-        (record { addable = tt; paths = tt }, (length-replicate 256 none, λ event within. get_or-replicate 256 event none none within))
+    (record { addable = tt; paths = tt }, (length-replicate 256 none, λ event within. get_or-replicate 256 event none none within))
 
 -- what is read at a number's place
 pub read : (rows : List Row) (places : List (Option ℕ)) (number : ℕ) (d o : Option ℕ) → ArePlaces rows places → number < length places → get_or places number d ≡ o → place_of rows number ≡ o

@@ -137,7 +137,7 @@ cleared top ns back slots s i mid b =
     (cut-listing [] top ns back slots s i 0 mid b.packed b.behind b.within b.low b.high) in
     let paths : paths_of (listing_of old old_slots) ≡ [] ∷ node_paths [] (ns ++ moved back) = after-bump top ns back old_slots in
     let unmoved : node_paths [] (ns ++ moved back) ≡ node_paths [] (ns ++ back) = node_paths-append [] ns (moved back)
-        ∙ (ap (λ (l : List (List ℕ)). node_paths [] ns ++ l) (paths-moved (end_path [] ns) back) ∙ sym (node_paths-append [] ns back)) in
+    ∙ (ap (λ (l : List (List ℕ)). node_paths [] ns ++ l) (paths-moved (end_path [] ns) back) ∙ sym (node_paths-append [] ns back)) in
     record {
       topped = topped-back top ns back b.tree.topped;
       packed = packed-both 0 mid (top ∷ ns) back (length slots) b.packed b.behind;
@@ -169,7 +169,7 @@ pub out-kept : (top : Node) (ns back : List Node) (slots : List Slot) (s : Slot)
 out-kept top ns back slots s i mid b stays =
     let c = cleared top ns back slots s i mid b in
     outcome top (ns ++ back) slots (read_off (listing_of (bumped (top ∷ ns) ++ moved back) (put_at i s slots))) s (end_path [] ns) c.topped c.packed
-        c.sorted (are_needed-less ns back c.needed stays) c.cut b.order
+    c.sorted (are_needed-less ns back c.needed stays) c.cut b.order
 
 -- the nodes that nothing needs go
 pub out-run : (top : Node) (fs : List Node) (m : Node) (rs back : List Node) (slots : List Slot) (s : Slot) (i mid : ℕ)
@@ -188,6 +188,6 @@ out-run top fs m rs back slots s i mid b is none stays =
     ap (λ (l : List Placed). all_at [] (slots_of top slots) ++ l) (read-out fs m rs back slots k topped.3 is none ∙ ap (λ (l : List Node). read_off (listing_after [] l slots)) (sym one)) in
     let all : List Placed = read_off (listing_of (bumped (top ∷ (fs ++ run)) ++ moved back) (put_at i s slots)) in
     outcome (record top { below = cond (nat_lt (length fs) top.below) (top.below - k) top.below }) (lowered k fs ++ back) slots all s
-        (end_path [] (fs ++ run)) (topped-out top fs run back is topped) (packed-out 0 k (top ∷ fs) run back (length slots) none packed)
-        (sorted-out fs m rs back k topped.3 is sorted) (are_needed-out fs m rs back k c.needed stays)
+    (end_path [] (fs ++ run)) (topped-out top fs run back is topped) (packed-out 0 k (top ∷ fs) run back (length slots) none packed)
+    (sorted-out fs m rs back k topped.3 is sorted) (are_needed-out fs m rs back k c.needed stays)
     (subst (λ (l : List Placed). Cut l all (record { path = end_path [] (fs ++ run); slot = s })) (sym read) c.cut) b.order

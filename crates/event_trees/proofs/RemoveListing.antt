@@ -57,7 +57,7 @@ cut-here path n back slots s i mid ends low high packed within =
           ∙ append_assoc (all_at path (take j held)) (all_at path (drop j held)) rest);
       was = ap (λ (l : List Slot). all_at path l ++ read_off (listing_after path (moved back) (put_at i s slots))) here ∙ (ap (λ (l : List Shown). all_at path (put_at j s held) ++ read_off l) behind ∙
           (ap (λ (l : List Placed). l ++ rest) (map-append (λ (x : Slot). record { path = path; slot = x }) (take j held) (s ∷ drop j held))
-              ∙ append_assoc (all_at path (take j held)) (record { path = path; slot = s } ∷ all_at path (drop j held)) rest));
+          ∙ append_assoc (all_at path (take j held)) (record { path = path; slot = s } ∷ all_at path (drop j held)) rest));
     }
 
 pub cut-listing : (path : List ℕ) (n : Node) (ns back : List Node) (slots : List Slot) (s : Slot) (i place mid : ℕ) → ArePacked place (n ∷ ns) mid
@@ -72,10 +72,10 @@ cut-listing path n (m ∷ ns) back slots s i place mid packed behind within low 
     let here : slots_of n new ≡ slots_of n slots = slots-before n slots s i (omega (arith, high, within)) (omega (arith, packed.0, low, first-le (place + n.count) m ns mid packed.1)) in
     let same : read_off (shown_all path (n ∷ (bumped (m ∷ ns) ++ moved back)) new) ≡ all_at path (slots_of n slots) ++ read_off (shown_all on (bumped (m ∷ ns) ++ moved back) new) =
     ap (λ (l : List Slot). all_at path l ++ read_off (listing_after path (bumped (m ∷ ns) ++ moved back) new)) here
-        ∙ ap (λ (l : List Shown). all_at path (slots_of n slots) ++ read_off l) (bumped-on path m ns (moved back) new) in
+    ∙ ap (λ (l : List Shown). all_at path (slots_of n slots) ++ read_off l) (bumped-on path m ns (moved back) new) in
     subst (λ (l : List Placed). Cut (all_at path (slots_of n slots) ++ read_off (shown_from on m (ns ++ back) slots)) l (record { path = end_path on ns; slot = s })) (sym same)
     (cut-more (read_off (shown_from on m (ns ++ back) slots)) (read_off (shown_all on (bumped (m ∷ ns) ++ moved back) new))
-        (record { path = end_path on ns; slot = s }) (all_at path (slots_of n slots)) rest)
+    (record { path = end_path on ns; slot = s }) (all_at path (slots_of n slots)) rest)
 
 -- with numbers of their own the others are those with other numbers
 eqb-turned : (a b : ℕ) → eqb a b ≡ false → eqb b a ≡ false
@@ -97,7 +97,7 @@ cut-without [] r ys d = ap (λ (b : Bool). cond (not b) (r ∷ without_placed r.
     (eq-eqb r.slot.number r.slot.number refl) ∙ filter-others r.slot.number ys d.0
 cut-without (x ∷ xs) r ys d =
     ap (λ (b : Bool). cond (not b) (x ∷ without_placed r.slot.number (xs ++ r ∷ ys)) (without_placed r.slot.number (xs ++ r ∷ ys)))
-        (at_last x.slot.number xs r ys d.0) ∙ ap (λ (l : List Placed). x ∷ l) (cut-without xs r ys d.1)
+    (at_last x.slot.number xs r ys d.0) ∙ ap (λ (l : List Placed). x ∷ l) (cut-without xs r ys d.1)
 
 -- ---- in order without one, or some
 above-cut : {X : Type 0} (c : X → X → Ordering) (x : X) (xs ys zs : List X) → AllByRecursion (λ y. c x y ≡ Less) (xs ++ (ys ++ zs)) → AllByRecursion (λ y. c x y ≡ Less) (xs ++ zs)
@@ -136,7 +136,7 @@ deep-take e j before (x ∷ xs) ys h le within laid =
     let long : length (path_after before x) ≡ x.depth = length-path_after before x laid.0 laid.1 in
     let size : length (take (x.depth - 1) before) ≡ x.depth - 1 = length-take-le (x.depth - 1) before (omega (arith, laid.1)) in
     deep-take e j (path_after before x) xs ys rest le (omega (arith, long, deeper)) (subst (λ (k : ℕ). AreLaidOut k (xs ++ ys)) (sym long) laid.3)
-        ∙ (take-append-le j (take (x.depth - 1) before) (x.event ∷ []) (omega (arith, size, le, deeper)) ∙ take-take j (x.depth - 1) before (omega (arith, le, deeper))))
+    ∙ (take-append-le j (take (x.depth - 1) before) (x.event ∷ []) (omega (arith, size, le, deeper)) ∙ take-take j (x.depth - 1) before (omega (arith, le, deeper))))
     (λ g.
     let test : nat_lt e x.depth ≡ false = grind (arith, nat_tests) in
     absurd (omega (arith, h, ap (λ (b : Bool). cond b (under e (xs ++ ys) + 1) 0) test))) (cases_lt e x.depth)
@@ -199,7 +199,7 @@ sorted-out fs m rs back less laid is sorted =
     node_paths-append [] fs (run ++ back) ∙ ap (λ (l : List (List ℕ)). node_paths [] fs ++ l) (node_paths-append q run back ∙ ap (λ (l : List (List ℕ)). node_paths q run ++ l) same) in
     let now : node_paths [] (lowered less fs ++ back) ≡ node_paths [] fs ++ node_paths q back = paths-lowered [] less fs back ∙ node_paths-append [] fs back in
     subst (λ (l : List (List ℕ)). IsStrictlySortedBy path_cmp ([] ∷ l)) (sym now)
-        (sorted-cut path_cmp ([] ∷ node_paths [] fs) (node_paths q run) (node_paths q back) (subst (λ (l : List (List ℕ)). IsStrictlySortedBy path_cmp ([] ∷ l)) was sorted))
+    (sorted-cut path_cmp ([] ∷ node_paths [] fs) (node_paths q run) (node_paths q back) (subst (λ (l : List (List ℕ)). IsStrictlySortedBy path_cmp ([] ∷ l)) was sorted))
 
 packed-bare : (place : ℕ) (run back : List Node) (end : ℕ) → HaveNone run → ArePacked place (run ++ back) end → ArePacked place back end
 packed-bare place [] back end none h = h

@@ -116,7 +116,7 @@ before-old top fs back slots i d o =
     let front : bumped (head_less top fs ∷ tail_less fs) ≡ top ∷ fs = ap bumped (sym (less-cons top fs)) ∙ more-less top fs some in
     let rest : moved (moved_back back) ≡ back = moved-back (mid + 1) back (length fewer_slots + 1) (omega arith) behind in
     let nodes_is : bumped (head_less top fs ∷ tail_less fs) ++ moved (moved_back back) ≡ top ∷ (fs ++ back) = ap
-        (λ (l : List Node). l ++ moved (moved_back back)) front ∙ ap (λ (l : List Node). top ∷ (fs ++ l)) rest in
+    (λ (l : List Node). l ++ moved (moved_back back)) front ∙ ap (λ (l : List Node). top ∷ (fs ++ l)) rest in
     let slots_is : put_at i (get_or slots i d) fewer_slots ≡ slots = slots-back i slots d o.within in
     let back_behind : ArePacked mid (moved_back back) (length fewer_slots) = packed-back mid back (length fewer_slots) behind in (
       mid,
@@ -143,7 +143,7 @@ old-all : (top : Node) (fs back : List Node) (slots : List Slot) (i : ℕ) (d : 
     (put_at i (get_or slots i d) (take i slots ++ drop (i + 1) slots))) ≡ read_off (listing_of (top ∷ (fs ++ back)) slots)
 old-all top fs back slots i d within is =
     ap (λ (l : List Slot). read_off (listing_of (bumped (head_less top fs ∷ tail_less fs) ++ moved (moved_back back)) l))
-        (slots-back i slots d within) ∙ ap (λ (l : List Node). read_off (listing_of l slots)) is
+    (slots-back i slots d within) ∙ ap (λ (l : List Node). read_off (listing_of l slots)) is
 
 -- ---- which nodes stay
 held-under : (n : Node) (back : List Node) → 0 < under n.depth back → IsHeld n (moved_back back)
@@ -160,7 +160,7 @@ held-some n (b ∷ bs) h = λ none. absurd (omega (arith, h, none))
 less-held : (n : Node) (back : List Node) → (n.count ≤ 1 → 0 < under n.depth back) → IsHeld (record n { count = n.count - 1 }) (moved_back back)
 less-held n back h =
     ⊎_elim (λ one. held-under (record n { count = n.count - 1 }) back (h (omega (arith, one))))
-        (λ more. held-some (record n { count = n.count - 1 }) (moved_back back) (omega (arith, more))) (cases_lt n.count 2)
+    (λ more. held-some (record n { count = n.count - 1 }) (moved_back back) (omega (arith, more))) (cases_lt n.count 2)
 
 stays-kept : (d0 : ℕ) (n : Node) (ns back : List Node) → AreLaidOut d0 ((n ∷ ns) ++ back) → ((final n ns).count ≤ 1 → 0 < (final n ns).below) → Stays (uncounted (n ∷ ns)) (moved_back back)
 stays-kept d0 n [] back laid h = less-held n back (λ one. omega (arith, h one, laid.2))
@@ -195,7 +195,7 @@ removed-from nodes slots all s path o distinct =
     let c = o.cut in
     let others : without_placed s.number all ≡ read_off (listing_of nodes slots) =
     ap (without_placed s.number) c.was ∙ (cut-without c.front (record { path = path; slot = s }) c.rest
-        (subst (λ (l : List Placed). IsDistinct eqb (map (λ r. r.slot.number) l)) c.was distinct) ∙ sym c.is) in
+    (subst (λ (l : List Placed). IsDistinct eqb (map (λ r. r.slot.number) l)) c.was distinct) ∙ sym c.is) in
     record { tree = o.tree; listed = o.listed ∙ ap canon_of (sym others) }
 
 tail-stays : (top : Node) (fs back : List Node) → AreLaidOut 0 (fs ++ back) → (1 ≤ length fs → (final top fs).count ≤ 1 → 0 < (final top fs).below) → Stays (tail_less fs) (moved_back back)
@@ -214,7 +214,7 @@ removed-kept top fs back slots i d o distinct keeps =
     let out_old = subst (λ (l : List Placed). Outcome (head_less top fs ∷ (tail_less fs ++ moved_back back)) fewer_slots l (get_or slots i d) (end_path [] (tail_less fs))) all_is out in
     subst (λ (l : List Node). Removed (l ++ moved_back back) fewer_slots (get_or slots i d).number (read_off (listing_of (top ∷ (fs ++ back)) slots))) (sym (less-cons top fs))
     (removed-from (head_less top fs ∷ (tail_less fs ++ moved_back back)) fewer_slots (read_off (listing_of (top ∷ (fs ++ back)) slots))
-        (get_or slots i d) (end_path [] (tail_less fs)) out_old distinct)
+    (get_or slots i d) (end_path [] (tail_less fs)) out_old distinct)
 
 -- the nodes that stay before the run, and the run
 less-both : (fs : List Node) (m : Node) (rs : List Node) → uncounted (fs ++ m ∷ rs) ≡ fs ++ (head_less m rs ∷ tail_less rs)
@@ -256,10 +256,10 @@ removed-run top fs m rs back slots i d o distinct some bare is stop =
     let t : List Node = tail_less rs in
     let before : Before top (fs ++ h ∷ t) (moved_back back) fewer_slots s i b.0 =
     subst (λ (l : List Node). Before top l (moved_back back) fewer_slots s i b.0) (tail-both fs m rs)
-        (subst (λ (n : Node). Before n (tail_less ms) (moved_back back) fewer_slots s i b.0) (head-both top fs m rs) b.1) in
+    (subst (λ (n : Node). Before n (tail_less ms) (moved_back back) fewer_slots s i b.0) (head-both top fs m rs) b.1) in
     let same : read_off (listing_of (bumped (top ∷ (fs ++ h ∷ t)) ++ moved (moved_back back)) (put_at i s fewer_slots)) ≡ all =
     ap (λ (l : List Node). read_off (listing_of (bumped (top ∷ l) ++ moved (moved_back back)) (put_at i s fewer_slots))) (sym (tail-both fs m rs))
-        ∙ (ap (λ (n : Node). read_off (listing_of (bumped (n ∷ tail_less ms) ++ moved (moved_back back)) (put_at i s fewer_slots))) (sym (head-both top fs m rs)) ∙ all_is) in
+    ∙ (ap (λ (n : Node). read_off (listing_of (bumped (n ∷ tail_less ms) ++ moved (moved_back back)) (put_at i s fewer_slots))) (sym (head-both top fs m rs)) ∙ all_is) in
     let none : HaveNone (h ∷ t) = subst HaveNone (less-cons m rs) (bare-none m rs bare) in
     let below : h.below ≡ length t = head-below m rs ∙ (is ∙ sym (tail-size rs)) in
     let one : ms ++ back ≡ fs ++ ((m ∷ rs) ++ back) = append_assoc fs (m ∷ rs) back in
@@ -269,7 +269,7 @@ removed-run top fs m rs back slots i d o distinct some bare is stop =
     let size : length (h ∷ t) ≡ length (m ∷ rs) = ap (λ (k : ℕ). suc k) (tail-size rs) in
     subst (λ (k : ℕ). Removed (lowered k (top ∷ fs) ++ moved_back back) fewer_slots s.number all) size
     (removed-from (lowered (length (h ∷ t)) (top ∷ fs) ++ moved_back back) fewer_slots all s (end_path [] (fs ++ h ∷ t))
-        (subst (λ (l : List Placed). Outcome (lowered (length (h ∷ t)) (top ∷ fs) ++ moved_back back) fewer_slots l s (end_path [] (fs ++ h ∷ t))) same out) distinct)
+    (subst (λ (l : List Placed). Outcome (lowered (length (h ∷ t)) (top ∷ fs) ++ moved_back back) fewer_slots l s (end_path [] (fs ++ h ∷ t))) same out) distinct)
 
 -- ---- by places
 run-case : (top : Node) (fs run back : List Node) (slots : List Slot) (i : ℕ) (d : Slot) → 1 ≤ length run → Old top (fs ++ run) back slots i
@@ -293,7 +293,7 @@ old-of : (top : Node) (ns : List Node) (slots : List Slot) (i j : ℕ) → Whole
 old-of top ns slots i j w within owner =
     let split : take j ns ++ drop j ns ≡ ns = take-append-drop j ns in
     let last : get_or (top ∷ ns) j (record { event = 0; depth = 0; below = 0; first = 0; count = 0 }) ≡ final top (take j ns) = final-get j top ns
-        (record { event = 0; depth = 0; below = 0; first = 0; count = 0 }) (omega (arith, owner.within)) in
+    (record { event = 0; depth = 0; below = 0; first = 0; count = 0 }) (omega (arith, owner.within)) in
     record {
       tree = subst (λ (l : List Node). IsTree (top ∷ l) slots) (sym split) w.tree;
       canon = subst (λ (l : List Node). listing_of (top ∷ l) slots ≡ canon_of (read_off (listing_of (top ∷ l) slots))) (sym split) w.canon;
@@ -325,18 +325,18 @@ by_run top ns slots i j (suc k) d w within owner bare o distinct =
     let at : suc k - 1 ≡ k = omega arith in
     let stop : 1 ≤ length (take k ns) → (final top (take k ns)).count ≡ 0 → (final top (take k ns)).below ≢ length run = λ more zero_count same.
     bare.stop (omega (arith, more, long)) (ap (λ (n : ℕ). (get_or (top ∷ ns) n none).count) at
-        ∙ (ap (λ (n : Node). n.count) last ∙ zero_count)) (ap (λ (n : ℕ). (get_or (top ∷ ns) n none).below) at ∙ (ap (λ (n : Node). n.below) last ∙ (same ∙ (size ∙ sym gone)))) in
+    ∙ (ap (λ (n : Node). n.count) last ∙ zero_count)) (ap (λ (n : ℕ). (get_or (top ∷ ns) n none).below) at ∙ (ap (λ (n : Node). n.below) last ∙ (same ∙ (size ∙ sym gone)))) in
     let law = run-case top (take k ns) run (drop j ns) slots i d (omega (arith, size, less))
-        (subst (λ (l : List Node). Old top l (drop j ns) slots i) front o)
-        (subst (λ (l : List Node). IsDistinct eqb (map (λ r. r.slot.number) (read_off (listing_of (top ∷ l) slots)))) (sym split_run) w.distinct)
-        (subst (λ (l : List Node). read_off (listing_of (top ∷ l) slots) ≢ []) (sym split_run) w.some) (subst IsBare run_is bare.bare) (subst IsRun run_is bare.run) stop in
+    (subst (λ (l : List Node). Old top l (drop j ns) slots i) front o)
+    (subst (λ (l : List Node). IsDistinct eqb (map (λ r. r.slot.number) (read_off (listing_of (top ∷ l) slots)))) (sym split_run) w.distinct)
+    (subst (λ (l : List Node). read_off (listing_of (top ∷ l) slots) ≢ []) (sym split_run) w.some) (subst IsBare run_is bare.bare) (subst IsRun run_is bare.run) stop in
     let test : nat_lt (suc k) (suc j) ≡ true = grind (arith, nat_tests) in
     subst (λ (b : Bool). Removed (cond b (lowered (suc j - suc k) (top ∷ take k ns)) (uncounted (top ∷ take j ns)) ++ moved_back (drop j ns))
-        (take i slots ++ drop (i + 1) slots) (get_or slots i d).number (read_off (listing_of (top ∷ ns) slots))) (sym test)
+    (take i slots ++ drop (i + 1) slots) (get_or slots i d).number (read_off (listing_of (top ∷ ns) slots))) (sym test)
     (subst (λ (n : ℕ). Removed (lowered n (top ∷ take k ns) ++ moved_back (drop j ns)) (take i slots ++ drop (i + 1) slots) (get_or slots i d).number
-        (read_off (listing_of (top ∷ ns) slots))) (size ∙ sym gone)
+    (read_off (listing_of (top ∷ ns) slots))) (size ∙ sym gone)
     (subst (λ (l : List Node). Removed (lowered (length run) (top ∷ take k ns) ++ moved_back (drop j ns)) (take i slots ++ drop (i + 1) slots)
-        (get_or slots i d).number (read_off (listing_of (top ∷ l) slots))) split_run law))
+    (get_or slots i d).number (read_off (listing_of (top ∷ l) slots))) split_run law))
 
 by_keep : (top : Node) (ns : List Node) (slots : List Slot) (i j keep : ℕ) (d : Slot) → Whole (top ∷ ns) slots → i < length slots
     → IsOwner (top ∷ ns) i j → IsKeep (top ∷ ns) (suc j) keep → Removed (without_nodes keep (suc j) (top ∷ ns)) (take i slots ++ drop (i + 1) slots)
@@ -348,7 +348,7 @@ by_keep top ns slots i j keep d w within owner keeps =
     let last : get_or (top ∷ ns) j none ≡ final top (take j ns) = final-get j top ns none (omega (arith, owner.within)) in
     let o : Old top (take j ns) (drop j ns) slots i = old-of top ns slots i j w within owner in
     let distinct : IsDistinct eqb (map (λ r. r.slot.number) (read_off (listing_of (top ∷ (take j ns ++ drop j ns)) slots))) = subst
-        (λ (l : List Node). IsDistinct eqb (map (λ r. r.slot.number) (read_off (listing_of (top ∷ l) slots)))) (sym split) w.distinct in
+    (λ (l : List Node). IsDistinct eqb (map (λ r. r.slot.number) (read_off (listing_of (top ∷ l) slots)))) (sym split) w.distinct in
     ⊎_elim (λ less.
     by_run top ns slots i j keep d w within owner (keeps.some less) o distinct)
     (λ all.
@@ -357,12 +357,12 @@ by_keep top ns slots i j keep d w within owner keeps =
     let at : suc j - 1 ≡ j = omega arith in
     let stays : 1 ≤ length (take j ns) → (final top (take j ns)).count ≤ 1 → 0 < (final top (take j ns)).below = λ more one.
     subst (λ (n : Node). 0 < n.below) last (subst (λ (k : ℕ). 0 < (get_or (top ∷ ns) k none).below) at
-        (keeps.all whole (omega (arith, more, long)) (subst (λ (k : ℕ). (get_or (top ∷ ns) k none).count ≤ 1) (sym at) (subst (λ (n : Node). n.count ≤ 1) (sym last) one)))) in
+    (keeps.all whole (omega (arith, more, long)) (subst (λ (k : ℕ). (get_or (top ∷ ns) k none).count ≤ 1) (sym at) (subst (λ (n : Node). n.count ≤ 1) (sym last) one)))) in
     let law = removed-kept top (take j ns) (drop j ns) slots i d o distinct stays in
     subst (λ (b : Bool). Removed (cond b (lowered (suc j - keep) (take keep (top ∷ ns))) (uncounted (top ∷ take j ns)) ++ moved_back (drop j ns))
-        (take i slots ++ drop (i + 1) slots) (get_or slots i d).number (read_off (listing_of (top ∷ ns) slots))) (sym test)
+    (take i slots ++ drop (i + 1) slots) (get_or slots i d).number (read_off (listing_of (top ∷ ns) slots))) (sym test)
     (subst (λ (l : List Node). Removed (uncounted (top ∷ take j ns) ++ moved_back (drop j ns)) (take i slots ++ drop (i + 1) slots)
-        (get_or slots i d).number (read_off (listing_of (top ∷ l) slots))) split law)) (cases_lt keep (suc j))
+    (get_or slots i d).number (read_off (listing_of (top ∷ l) slots))) split law)) (cases_lt keep (suc j))
 
 pub tree-removed : (nodes : List Node) (slots : List Slot) (i j keep : ℕ) (d : Slot) → Whole nodes slots → i < length slots → IsOwner nodes i j
     → IsKeep nodes (j + 1) keep → Removed (without_nodes keep (j + 1) nodes) (take i slots ++ drop (i + 1) slots) (get_or slots i d).number (read_off (listing_of nodes slots))
@@ -395,8 +395,13 @@ removed-made nodes ns slots ss i j keep number more rest nodes_is slots_is tree 
     let d : Slot = slot_of_some i slots within in
     let all : List Placed = read_off (listing_of nodes slots) in
     let law : Removed (without_nodes keep (j + 1) nodes) (take i slots ++ drop (i + 1) slots) (get_or slots i d).number all =
-    tree-removed nodes slots i j keep d (record { tree = tree; canon = canon; order = order; distinct = distinct; some = list_other all number there
-        }) within owner (subst (λ (l : List Node). IsKeep l (j + 1) keep) nodes_is keeps) in
+    tree-removed nodes slots i j keep d (record {
+      tree = tree;
+      canon = canon;
+      order = order;
+      distinct = distinct;
+      some = list_other all number there;
+    }) within owner (subst (λ (l : List Node). IsKeep l (j + 1) keep) nodes_is keeps) in
     let same : (get_or slots i d).number ≡ number = place-number number slots i d (subst (λ (l : List Slot). IsPlaceOf number l i) slots_is place) within in
     subst (λ (l : List Node). Removed l rest number all) (sym (more_is ∙ ap (without_nodes keep (j + 1)) nodes_is))
     (subst (λ (l : List Slot). Removed (without_nodes keep (j + 1) nodes) l number all) (sym (rest_is ∙ ap (λ (l : List Slot). take i l ++ drop (i + 1) l) slots_is))
@@ -419,9 +424,9 @@ bare-step nodes end keep d low high within none below bare =
     let run : List Node = take (end - keep) (drop keep nodes) in
     let size : length run ≡ end - keep = length-take-le (end - keep) (drop keep nodes) (omega (arith, length-drop keep nodes, within)) in
     let at : drop (keep - 1) nodes ≡ n ∷ drop keep nodes = drop_more nodes (keep - 1) d (omega (arith, high, within, low))
-        ∙ ap (λ (k : ℕ). n ∷ drop k nodes) (let k : (keep - 1) + 1 ≡ keep = omega (arith, low) in k) in
+    ∙ ap (λ (k : ℕ). n ∷ drop k nodes) (let k : (keep - 1) + 1 ≡ keep = omega (arith, low) in k) in
     let is : take (end - (keep - 1)) (drop (keep - 1) nodes) ≡ n ∷ run = ap (take (end - (keep - 1))) at
-        ∙ ap (λ (k : ℕ). take k (n ∷ drop keep nodes)) (let k : end - (keep - 1) ≡ suc (end - keep) = omega (arith, low, high) in k) in (
+    ∙ ap (λ (k : ℕ). take k (n ∷ drop keep nodes)) (let k : end - (keep - 1) ≡ suc (end - keep) = omega (arith, low, high) in k) in (
       subst IsBare (sym is) (bare-cons n run (omega (arith, size, high)) none bare),
       subst IsRun (sym is) (below ∙ sym size),
     )

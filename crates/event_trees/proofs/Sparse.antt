@@ -60,5 +60,11 @@ pub size-nodes : (nodes : List Node) (slots : List Slot) → listing_of nodes sl
     → AreShort (listing_of nodes slots) → length nodes ≤ 1 + 8 * length (read_off (listing_of nodes slots))
 size-nodes nodes slots canon short =
     let list : List Placed = read_off (listing_of nodes slots) in
-    omega (arith, size-listing nodes slots, ap length canon, length-map (canon_of list) (λ (s : Shown). s.path), ap length (paths-canon list),
-        size-with ([] ∷ []) list (short-read (listing_of nodes slots) short))
+    omega (
+      arith,
+      size-listing nodes slots,
+      ap length canon,
+      length-map (canon_of list) (λ (s : Shown). s.path),
+      ap length (paths-canon list),
+      size-with ([] ∷ []) list (short-read (listing_of nodes slots) short),
+    )

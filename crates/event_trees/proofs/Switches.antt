@@ -21,7 +21,7 @@ pub placed-put : (defs : List EventDef) (r : Reg) (list : List Reg) → placed d
 placed-put defs r [] = refl
 placed-put defs r (s ∷ list) =
     elim (is_lt (reg_cmp defs r s)) as (λ b. placed defs (cond b (r ∷ s ∷ list) (s ∷ put_reg defs r list)) ≡ cond b
-        (placed_of defs r ∷ placed_of defs s ∷ placed defs list) (placed_of defs s ∷ put_placed (placed_of defs r) (placed defs list))) [
+    (placed_of defs r ∷ placed_of defs s ∷ placed defs list) (placed_of defs s ∷ put_placed (placed_of defs r) (placed defs list))) [
       | true ↦ refl
       | false ↦ ap (λ (l : List Placed). placed_of defs s ∷ l) (placed-put defs r list)
     ]
@@ -30,7 +30,7 @@ pub placed-without : (defs : List EventDef) (number : ℕ) (list : List Reg) →
 placed-without defs number [] = refl
 placed-without defs number (s ∷ list) =
     elim (not (eqb s.number number)) as (λ b. placed defs (cond b (s ∷ without number list) (without number list)) ≡ cond b
-        (placed_of defs s ∷ without_placed number (placed defs list)) (without_placed number (placed defs list))) [
+    (placed_of defs s ∷ without_placed number (placed defs list)) (without_placed number (placed defs list))) [
       | true ↦ ap (λ (l : List Placed). placed_of defs s ∷ l) (placed-without defs number list)
       | false ↦ placed-without defs number list
     ]
@@ -57,7 +57,7 @@ greater_of Greater e h = refl
 after_it : (defs : List EventDef) (r s : Reg) → s.number ≢ r.number → is_lt (reg_cmp defs r s) ≡ false → reg_cmp defs s r ≡ Less
 after_it defs r s other no_less =
     let greater : reg_cmp defs r s ≡ Greater = greater_of (reg_cmp defs r s) no_less
-        (λ e. other (sym (nat_cmp-IsAntisymmetric r.number s.number (then_equal (path_cmp (path defs r.event) (path defs s.event)) (nat_cmp r.number s.number) e)))) in
+    (λ e. other (sym (nat_cmp-IsAntisymmetric r.number s.number (then_equal (path_cmp (path defs r.event) (path defs s.event)) (nat_cmp r.number s.number) e)))) in
     (reg_total defs).antisymm s r ∙ ap ordering_reverse greater
 
 all-put : (P : Reg → Type 0) (defs : List EventDef) (r : Reg) (list : List Reg) → AllByRecursion P list → P r → AllByRecursion P (put_reg defs r list)

@@ -72,9 +72,9 @@ at_node keep hook n ns slots rest before laid above true is =
     let here : passes keep path ≡ true = passes-push keep (take (n.depth - 1) before) n.event above ∙ is in
     let on : firing keep hook (listing_after path ns slots) ≡ walked keep hook 0 ns slots = rest.passed path (subst (λ (d : ℕ). AreLaidOut d ns) (sym long) laid.3) here in
     let left : firing keep hook (listing_after before (n ∷ ns) slots) ≡ called hook (slots_of n slots) ++ firing keep hook
-        (listing_after path ns slots) = ap (λ (b : Bool). cond b (called hook (slots_of n slots)) [] ++ firing keep hook (listing_after path ns slots)) here in
+    (listing_after path ns slots) = ap (λ (b : Bool). cond b (called hook (slots_of n slots)) [] ++ firing keep hook (listing_after path ns slots)) here in
     let right : walked keep hook 0 (n ∷ ns) slots ≡ called hook (slots_of n slots) ++ walked keep hook 0 ns slots = ap
-        (λ (b : Bool). cond b (called hook (slots_of n slots) ++ walked keep hook 0 ns slots) (walked keep hook n.below ns slots)) is in
+    (λ (b : Bool). cond b (called hook (slots_of n slots) ++ walked keep hook 0 ns slots) (walked keep hook n.below ns slots)) is in
     left ∙ (ap (λ (l : List ℕ). called hook (slots_of n slots) ++ l) on ∙ sym right)
 at_node keep hook n ns slots rest before laid above false is =
     let path : List ℕ = path_after before n in
@@ -87,9 +87,9 @@ at_node keep hook n ns slots rest before laid above false is =
     rest.failed path (n.depth - 1) (subst (λ (d : ℕ). AreLaidOut d ns) (sym long) laid.3) (omega (arith, laid.0)) (ap (passes keep) whole ∙ here) (ap (passes keep) front ∙ above) in
     let below : under (suc (n.depth - 1)) ns ≡ n.below = ap (λ (d : ℕ). under d ns) deep ∙ sym laid.2 in
     let left : firing keep hook (listing_after before (n ∷ ns) slots) ≡ firing keep hook (listing_after path ns slots) = ap
-        (λ (b : Bool). cond b (called hook (slots_of n slots)) [] ++ firing keep hook (listing_after path ns slots)) here in
+    (λ (b : Bool). cond b (called hook (slots_of n slots)) [] ++ firing keep hook (listing_after path ns slots)) here in
     let right : walked keep hook 0 (n ∷ ns) slots ≡ walked keep hook n.below ns slots = ap
-        (λ (b : Bool). cond b (called hook (slots_of n slots) ++ walked keep hook 0 ns slots) (walked keep hook n.below ns slots)) is in
+    (λ (b : Bool). cond b (called hook (slots_of n slots) ++ walked keep hook 0 ns slots) (walked keep hook n.below ns slots)) is in
     left ∙ (on ∙ (ap (λ (k : ℕ). walked keep hook k ns slots) below ∙ sym right))
 
 -- a node under one that doesn't pass
@@ -105,7 +105,7 @@ under_failed keep hook n ns slots rest before m laid within no_pass above deeper
     let on : firing keep hook (listing_after path ns slots) ≡ walked keep hook (under (suc m) ns) ns slots =
     rest.failed path m (subst (λ (d : ℕ). AreLaidOut d ns) (sym long) laid.3) (omega arith) (ap (passes keep) same ∙ no_pass) (ap (passes keep) front ∙ above) in
     let left : firing keep hook (listing_after before (n ∷ ns) slots) ≡ firing keep hook (listing_after path ns slots) = ap
-        (λ (b : Bool). cond b (called hook (slots_of n slots)) [] ++ firing keep hook (listing_after path ns slots)) here in
+    (λ (b : Bool). cond b (called hook (slots_of n slots)) [] ++ firing keep hook (listing_after path ns slots)) here in
     let test : nat_lt (suc m) n.depth ≡ true = grind (arith, nat_tests) in
     let count : under (suc m) (n ∷ ns) ≡ suc (under (suc m) ns) = ap (λ (b : Bool). cond b (under (suc m) ns + 1) 0) test ∙ omega arith in
     left ∙ (on ∙ sym (ap (λ (k : ℕ). walked keep hook k (n ∷ ns) slots) count))
@@ -140,7 +140,7 @@ start-come keep hook (top ∷ ns) slots d p tree at end after =
     let rest : drop p.node (top ∷ ns) ≡ ns = ap (λ (k : ℕ). drop k (top ∷ ns)) after in
     let law : firing keep hook (listing_after [] ns slots) ≡ walked keep hook 0 ns slots = (walks keep hook ns slots).passed [] tree.topped.3 refl in
     ap (λ (l : List Slot). called hook l ++ walked keep hook 0 (drop p.node (top ∷ ns)) slots) pending
-        ∙ (ap (λ (l : List Node). called hook (slots_of top slots) ++ walked keep hook 0 l slots) rest ∙ ap (λ (l : List ℕ). called hook (slots_of top slots) ++ l) (sym law))
+    ∙ (ap (λ (l : List Node). called hook (slots_of top slots) ++ walked keep hook 0 l slots) rest ∙ ap (λ (l : List ℕ). called hook (slots_of top slots) ++ l) (sym law))
 
 pub top-within : (nodes : List Node) (slots : List Slot) (d : Node) (end : ℕ) → IsTree nodes slots → end ≡ (get_or nodes 0 d).first + (get_or nodes 0 d).count → end ≤ length slots
 top-within [] slots d end tree is = absurd tree.topped

@@ -28,7 +28,7 @@ walked-left_out keep hook ns i d slots within fails =
     let at : drop i ns ≡ n ∷ rest = drop_more ns i d within in
     let on : drop n.below rest ≡ drop (i + (1 + n.below)) ns = drop-drop n.below (i + 1) ns ∙ ap (λ (k : ℕ). drop k ns) (omega arith) in
     let left : walked keep hook 0 (n ∷ rest) slots ≡ walked keep hook n.below rest slots = ap
-        (λ (b : Bool). cond b (called hook (slots_of n slots) ++ walked keep hook 0 rest slots) (walked keep hook n.below rest slots)) fails in
+    (λ (b : Bool). cond b (called hook (slots_of n slots) ++ walked keep hook 0 rest slots) (walked keep hook n.below rest slots)) fails in
     sym (ap (λ (l : List Node). walked keep hook 0 l slots) at ∙ (left ∙ (walked-skip keep hook n.below rest slots ∙ ap (λ (l : List Node). walked keep hook 0 l slots) on)))
 
 pub packed-le : (place : ℕ) (ns : List Node) (end : ℕ) → ArePacked place ns end → place ≤ end
@@ -55,7 +55,7 @@ pub come-step : (keep : ℕ → Bool) (hook : Hook) (tree : TreeLists) (p q : Pl
 come-step keep hook tree p q n none next at end =
     let pending : pending_at tree.slots q ≡ slots_of n tree.slots = ap (λ (k : ℕ). drop k (take q.end tree.slots)) at ∙ pending-node tree.slots n q.end end in
     ap (λ (l : List Slot). called hook l ++ walked keep hook 0 (drop q.node tree.nodes) tree.slots) pending
-        ∙ (sym next ∙ sym (ap (λ (l : List ℕ). l ++ walked keep hook 0 (drop p.node tree.nodes) tree.slots) none))
+    ∙ (sym next ∙ sym (ap (λ (l : List ℕ). l ++ walked keep hook 0 (drop p.node tree.nodes) tree.slots) none))
 
 -- the same at a place; past the end there is a node without registrations
 pub node-at_within : (nodes : List Node) (slots : List Slot) (i : ℕ) (d : Node) → IsTree nodes slots → d.first + d.count ≡ 0 → (get_or nodes i d).first + (get_or nodes i d).count ≤ length slots

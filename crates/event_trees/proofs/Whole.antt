@@ -27,10 +27,10 @@ read_off-push : (list : List Placed) (q : List ℕ) (r : Placed) → Step list q
 read_off-push list q r s =
     let before : read_off (canon_of list) ≡ read_off s.front ++ map (at r.path) s.slots =
     sym (append-nil (read_off (canon_of list))) ∙ (ap (λ (l : List Placed). read_off (canon_of list) ++ l) (sym (read_off-bare (newer [] q r.path)))
-        ∙ (sym (read_off-append (canon_of list) (map bare (newer [] q r.path))) ∙ (ap read_off s.was ∙ read_off-end s.front r.path s.slots))) in
+    ∙ (sym (read_off-append (canon_of list) (map bare (newer [] q r.path))) ∙ (ap read_off s.was ∙ read_off-end s.front r.path s.slots))) in
     ap read_off s.becomes ∙ (read_off-end s.front r.path (s.slots ++ r.slot ∷ [])
-        ∙ (ap (λ (l : List Placed). read_off s.front ++ l) (map-append (at r.path) s.slots (r.slot ∷ []))
-        ∙ (sym (append_assoc (read_off s.front) (map (at r.path) s.slots) (r ∷ [])) ∙ ap (λ (l : List Placed). l ++ r ∷ []) (sym before))))
+    ∙ (ap (λ (l : List Placed). read_off s.front ++ l) (map-append (at r.path) s.slots (r.slot ∷ []))
+    ∙ (sym (append_assoc (read_off s.front) (map (at r.path) s.slots) (r ∷ [])) ∙ ap (λ (l : List Placed). l ++ r ∷ []) (sym before))))
 
 whole-from : (list rest : List Placed) (q : List ℕ) → Grown list q → read_off (canon_of list) ≡ list → Rises q rest → read_off (canon_of (list ++ rest)) ≡ list ++ rest
 whole-from list [] q g is up = ap (λ (l : List Placed). read_off (canon_of l)) (append-nil list) ∙ (is ∙ sym (append-nil list))

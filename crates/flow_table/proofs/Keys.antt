@@ -26,7 +26,7 @@ pub exact_endpoints : CmpEqualImpliesEq endpoint_cmp
 exact_endpoints a b h =
     let same : numbers_of a ≡ numbers_of b =
     exact_pairs nat_cmp (λ (x y : ℕ × ℕ). ordering_then (nat_cmp x.0 y.0) (nat_cmp x.1 y.1)) exact_unsigned
-        (exact_pairs nat_cmp nat_cmp exact_unsigned exact_unsigned) (numbers_of a) (numbers_of b) h in
+    (exact_pairs nat_cmp nat_cmp exact_unsigned exact_unsigned) (numbers_of a) (numbers_of b) h in
     sym (from_numbers-numbers_of a) ∙ ap from_numbers same ∙ from_numbers-numbers_of b
 
 pub exact_keys : CmpEqualImpliesEq key_cmp

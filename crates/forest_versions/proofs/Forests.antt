@@ -65,7 +65,7 @@ some-or (Some d) b h = h
 pub event-later : (earlier defs : List EventDef) (event : ℕ) → IsEarlier earlier defs → IsTrue (is_event earlier event) → IsTrue (is_event defs event)
 event-later earlier defs event more there =
     subst (λ (l : List EventDef). IsTrue (is_event l event)) more.1 (⊎_elim
-        (λ r. or_left (is_root event) (is_some (found (earlier ++ more.0) event)) r)
-        (λ f. or_right (is_root event) (is_some (found (earlier ++ more.0) event))
-        (ap is_some (find-append (λ (d : EventDef). d.number == event) earlier more.0) ∙ some-or (found earlier event) (found more.0 event) f))
-        (or_cases (is_root event) (is_some (found earlier event)) there))
+    (λ r. or_left (is_root event) (is_some (found (earlier ++ more.0) event)) r)
+    (λ f. or_right (is_root event) (is_some (found (earlier ++ more.0) event))
+    (ap is_some (find-append (λ (d : EventDef). d.number == event) earlier more.0) ∙ some-or (found earlier event) (found more.0 event) f))
+    (or_cases (is_root event) (is_some (found earlier event)) there))

@@ -135,7 +135,7 @@ tells-still old new c v s next le told =
 tells-next : (old new : Versions) (c : Command) (v : ℕ) → IsNext old new c → old.version + 1 ≤ v → Tells old v old.now → Tells new v (after old.now c)
 tells-next old new c v next since told =
     let later = tells-later old.now old.past (old.version + 1) v c next.lawful next.whole since
-        (record { regs = told.regs; policy = told.policy; rbuf = told.rbuf; rules = told.rules; idle = told.idle }) in
+    (record { regs = told.regs; policy = told.policy; rbuf = told.rbuf; rules = told.rules; idle = told.idle }) in
     record {
       defs = subst (λ (t : ControlState). IsEarlier (after old.now c).defs t.defs) (sym next.now) (same-defs (after old.now c).defs);
       regs = λ n high. ap (λ (p : PastLines). as_of (line_of p n) v) next.past ∙ later.regs n high;
@@ -160,7 +160,7 @@ stands-next old new c presets commands next stands =
           let same : master presets (commands ++ c ∷ []) v ≡ master presets commands v = ap (control presets) (take-append-le v commands (c ∷ []) (let version = stands.version in omega arith)) in
           subst (Tells new v) (sym same) (tells-still old new c v (master presets commands v) next le (stands.told v))) (λ since.
           let all : master presets (commands ++ c ∷ []) v ≡ control presets (commands ++ c ∷ []) = ap (control presets)
-              (take_all v (commands ++ c ∷ []) (let version = stands.version in omega arith)) in
+          (take_all v (commands ++ c ∷ []) (let version = stands.version in omega arith)) in
           let old-all : master presets commands v ≡ old.now = ap (control presets) (take_all v commands (let version = stands.version in omega arith)) ∙ sym stands.now in
           subst (Tells new v) (now ∙ sym all) (tells-next old new c v next since (subst (Tells old v) old-all (stands.told v)))) (cases_lt v (old.version + 1));
     }

@@ -44,18 +44,18 @@ line-other past n k from reg other = get_or-set_other past.regs n k (stepped (li
 earlier-reg : (past : PastLines) (n from v : ℕ) (reg : Option Reg) (k : ℕ) → n < length past.regs → v < from → as_of (line_of (with_reg past n from reg) k) v ≡ as_of (line_of past k) v
 earlier-reg past n from v reg k within before =
     ⊎_elim (λ same. ap (λ (j : ℕ). as_of (line_of (with_reg past n from reg) j) v) same
-        ∙ (ap (λ (l : Line (Option Reg)). as_of l v) (line-same past n from reg within)
-        ∙ (as_of-earlier (line_of past n) from v reg before ∙ ap (λ (j : ℕ). as_of (line_of past j) v) (sym same))))
-        (λ other. ap (λ (l : Line (Option Reg)). as_of l v) (line-other past n k from reg other)) (cases_eq k n)
+    ∙ (ap (λ (l : Line (Option Reg)). as_of l v) (line-same past n from reg within)
+    ∙ (as_of-earlier (line_of past n) from v reg before ∙ ap (λ (j : ℕ). as_of (line_of past j) v) (sym same))))
+    (λ other. ap (λ (l : Line (Option Reg)). as_of l v) (line-other past n k from reg other)) (cases_eq k n)
 
 later-reg : (past : PastLines) (n from v : ℕ) (reg : Option Reg) (k : ℕ) → n < length past.regs → from ≤ v
     → as_of (line_of (with_reg past n from reg) k) v ≡ cond (eqb n k) reg (as_of (line_of past k) v)
 later-reg past n from v reg k within since =
     ⊎_elim (λ same. ap (λ (j : ℕ). as_of (line_of (with_reg past n from reg) j) v) same
-        ∙ (ap (λ (l : Line (Option Reg)). as_of l v) (line-same past n from reg within)
-        ∙ (as_of-from (line_of past n) from v reg since ∙ ap (λ b. cond b reg (as_of (line_of past k) v)) (sym (eq-eqb n k (sym same))))))
-        (λ other. ap (λ (l : Line (Option Reg)). as_of l v) (line-other past n k from reg other)
-        ∙ ap (λ b. cond b reg (as_of (line_of past k) v)) (sym (ne_eqb n k (λ e. other (sym e))))) (cases_eq k n)
+    ∙ (ap (λ (l : Line (Option Reg)). as_of l v) (line-same past n from reg within)
+    ∙ (as_of-from (line_of past n) from v reg since ∙ ap (λ b. cond b reg (as_of (line_of past k) v)) (sym (eq-eqb n k (sym same))))))
+    (λ other. ap (λ (l : Line (Option Reg)). as_of l v) (line-other past n k from reg other)
+    ∙ ap (λ b. cond b reg (as_of (line_of past k) v)) (sym (ne_eqb n k (λ e. other (sym e))))) (cases_eq k n)
 
 -- two pasts tell the same at a version
 pub record TellTheSame (old new : PastLines) (v : ℕ) : Type 0 where
@@ -134,34 +134,79 @@ before-stepped {T} line v x h = All-push (λ (s : ℕ × T). s.0 < v + 1) line.s
 before-reg : (past : PastLines) (n v : ℕ) (reg : Option Reg) (k : ℕ) → n < length past.regs → ((number : ℕ) → IsBefore (line_of past number) v) → IsBefore (line_of (with_reg past n v reg) k) (v + 1)
 before-reg past n v reg k within h =
     ⊎_elim (λ same. subst (λ (l : Line (Option Reg)). IsBefore l (v + 1))
-        (sym (ap (λ (j : ℕ). line_of (with_reg past n v reg) j) same ∙ line-same past n v reg within)) (before-stepped (line_of past n) v reg (h n)))
-        (λ other. subst (λ (l : Line (Option Reg)). IsBefore l (v + 1)) (sym (line-other past n k v reg other)) (before-more (line_of past k) v (h k))) (cases_eq k n)
+    (sym (ap (λ (j : ℕ). line_of (with_reg past n v reg) j) same ∙ line-same past n v reg within)) (before-stepped (line_of past n) v reg (h n)))
+    (λ other. subst (λ (l : Line (Option Reg)). IsBefore l (v + 1)) (sym (line-other past n k v reg other)) (before-more (line_of past k) v (h k))) (cases_eq k n)
 
 -- after a note each change is before the version after it
 pub before-noted : (s : ControlState) (past : PastLines) (v : ℕ) (rules : List Rule) (c : Command) → IsTrue (is_lawful s c) → length past.regs ≡ 256
     → AreBefore past v → AreBefore (noted v rules c past) (v + 1)
 unfolding noted
-before-noted s past v rules (Event d) lawful whole h = record { regs = λ k. before-more (line_of past k) v (h.regs k); policy = before-more
-    past.policy v h.policy; rbuf = before-more past.rbuf v h.rbuf; rules = before-more past.rules v h.rules; idle = before-more past.idle v h.idle }
+before-noted s past v rules (Event d) lawful whole h = record {
+  regs = λ k. before-more (line_of past k) v (h.regs k);
+  policy = before-more
+      past.policy v h.policy;
+  rbuf = before-more past.rbuf v h.rbuf;
+  rules = before-more past.rules v h.rules;
+  idle = before-more past.idle v h.idle;
+}
 before-noted s past v rules (Register r) lawful whole h =
     let fits = lawful-register s r lawful in
-    record { regs = λ k. before-reg past r.number v (Some r) k (omega (arith, fits.high)) h.regs; policy = before-more past.policy v h.policy;
-        rbuf = before-more past.rbuf v h.rbuf; rules = before-more past.rules v h.rules; idle = before-more past.idle v h.idle }
+    record {
+      regs = λ k. before-reg past r.number v (Some r) k (omega (arith, fits.high)) h.regs;
+      policy = before-more past.policy v h.policy;
+      rbuf = before-more past.rbuf v h.rbuf;
+      rules = before-more past.rules v h.rules;
+      idle = before-more past.idle v h.idle;
+    }
 before-noted s past v rules (Unregister number) lawful whole h =
     let high = lawful-withdraw s number lawful in
-    record { regs = λ k. before-reg past number v None k (omega (arith, high)) h.regs; policy = before-more past.policy v h.policy; rbuf = before-more
-        past.rbuf v h.rbuf; rules = before-more past.rules v h.rules; idle = before-more past.idle v h.idle }
-before-noted s past v rules (Buffer bytes) lawful whole h = record { regs = λ k. before-more (line_of past k) v (h.regs k); policy = before-more
-    past.policy v h.policy; rbuf = before-stepped past.rbuf v bytes h.rbuf; rules = before-more past.rules v h.rules; idle = before-more past.idle v h.idle }
-before-noted s past v rules (Overlap policy) lawful whole h = record { regs = λ k. before-more (line_of past k) v (h.regs k); policy = before-stepped
-    past.policy v policy h.policy; rbuf = before-more past.rbuf v h.rbuf; rules = before-more past.rules v h.rules; idle = before-more past.idle v h.idle }
-before-noted s past v rules (AddRule r) lawful whole h = record { regs = λ k. before-more (line_of past k) v (h.regs k); policy = before-more
-    past.policy v h.policy; rbuf = before-more past.rbuf v h.rbuf; rules = before-stepped past.rules v _ h.rules; idle = before-more past.idle v h.idle }
-before-noted s past v rules (RemoveRule number) lawful whole h = record
-    { regs = λ k. before-more (line_of past k) v (h.regs k); policy = before-more past.policy v h.policy; rbuf = before-more past.rbuf v h.rbuf;
-    rules = before-stepped past.rules v _ h.rules; idle = before-more past.idle v h.idle }
-before-noted s past v rules (Idle seconds) lawful whole h = record { regs = λ k. before-more (line_of past k) v (h.regs k); policy = before-more
-    past.policy v h.policy; rbuf = before-more past.rbuf v h.rbuf; rules = before-more past.rules v h.rules; idle = before-stepped past.idle v (Some seconds) h.idle }
+    record {
+      regs = λ k. before-reg past number v None k (omega (arith, high)) h.regs;
+      policy = before-more past.policy v h.policy;
+      rbuf = before-more
+          past.rbuf v h.rbuf;
+      rules = before-more past.rules v h.rules;
+      idle = before-more past.idle v h.idle;
+    }
+before-noted s past v rules (Buffer bytes) lawful whole h = record {
+  regs = λ k. before-more (line_of past k) v (h.regs k);
+  policy = before-more
+      past.policy v h.policy;
+  rbuf = before-stepped past.rbuf v bytes h.rbuf;
+  rules = before-more past.rules v h.rules;
+  idle = before-more past.idle v h.idle;
+}
+before-noted s past v rules (Overlap policy) lawful whole h = record {
+  regs = λ k. before-more (line_of past k) v (h.regs k);
+  policy = before-stepped
+      past.policy v policy h.policy;
+  rbuf = before-more past.rbuf v h.rbuf;
+  rules = before-more past.rules v h.rules;
+  idle = before-more past.idle v h.idle;
+}
+before-noted s past v rules (AddRule r) lawful whole h = record {
+  regs = λ k. before-more (line_of past k) v (h.regs k);
+  policy = before-more
+      past.policy v h.policy;
+  rbuf = before-more past.rbuf v h.rbuf;
+  rules = before-stepped past.rules v _ h.rules;
+  idle = before-more past.idle v h.idle;
+}
+before-noted s past v rules (RemoveRule number) lawful whole h = record {
+  regs = λ k. before-more (line_of past k) v (h.regs k);
+  policy = before-more past.policy v h.policy;
+  rbuf = before-more past.rbuf v h.rbuf;
+  rules = before-stepped past.rules v _ h.rules;
+  idle = before-more past.idle v h.idle;
+}
+before-noted s past v rules (Idle seconds) lawful whole h = record {
+  regs = λ k. before-more (line_of past k) v (h.regs k);
+  policy = before-more
+      past.policy v h.policy;
+  rbuf = before-more past.rbuf v h.rbuf;
+  rules = before-more past.rules v h.rules;
+  idle = before-stepped past.idle v (Some seconds) h.idle;
+}
 
 -- a note that is taken back leaves the past as it was
 pub take-back : (old past : PastLines) (n from : ℕ) (reg : Option Reg) (back : Line (Option Reg)) → n < length old.regs
@@ -173,5 +218,5 @@ take-back old past n from reg back within is undo =
     let line : line_of old n ≡ stepped (line_of past n) from reg = ap (λ (p : PastLines). line_of p n) is ∙ line-same past n from reg (omega arith) in
     let same : back ≡ line_of past n = undo (line_of past n) from reg line in
     let whole : set old.regs n back ≡ past.regs = ap (λ (l : List (Line (Option Reg))). set l n back) regs
-        ∙ (set-set past.regs n (stepped (line_of past n) from reg) back ∙ (ap (set past.regs n) same ∙ set-get_or past.regs n never)) in
+    ∙ (set-set past.regs n (stepped (line_of past n) from reg) back ∙ (ap (set past.regs n) same ∙ set-get_or past.regs n never)) in
     ap (λ (p : PastLines). record p { regs = set old.regs n back }) is ∙ ap (λ (l : List (Line (Option Reg))). record past { regs = l }) whole

@@ -54,8 +54,12 @@ pub puttable-next : (defs : List EventDef) (regs : List Reg) (r : Reg) (presets 
 puttable-next defs regs r presets h =
     let fit = and_parts (is_preset r) (list_all is_preset presets) h.fit in
     let differ = and_parts (not (list_any (λ m. m == r.number) (numbers_of presets))) (all_differ (numbers_of presets)) h.differ in
-    record { fit = fit.1; differ = differ.1; apart = still-apart defs regs r presets
-        (absent-in r.number (numbers_of presets) (not-true (list_any (λ m. m == r.number) (numbers_of presets)) differ.0)) h.apart.1 }
+    record {
+      fit = fit.1;
+      differ = differ.1;
+      apart = still-apart defs regs r presets
+          (absent-in r.number (numbers_of presets) (not-true (list_any (λ m. m == r.number) (numbers_of presets)) differ.0)) h.apart.1;
+    }
 
 -- what a preset is known to be
 pub record IsFit (r : Reg) : Type 0 where
@@ -81,7 +85,7 @@ at-root event k low high e =
 one-side : (event : ℕ) (hook : Hook) → cond (eqb event 258 || eqb event 259 || eqb event 260 || eqb event 262 || eqb event 264) (is_rcv hook) false ≡ true → is_root event ≡ true
 one-side event hook h =
     elim (eqb event 258 || eqb event 259 || eqb event 260 || eqb event 262 || eqb event 264)
-        as (λ b. (eqb event 258 || eqb event 259 || eqb event 260 || eqb event 262 || eqb event 264) ≡ b → cond b (is_rcv hook) false ≡ true → is_root event ≡ true) [
+    as (λ b. (eqb event 258 || eqb event 259 || eqb event 260 || eqb event 262 || eqb event 264) ≡ b → cond b (is_rcv hook) false ≡ true → is_root event ≡ true) [
       | true ↦ λ e h. ⊎_elim (λ c. ⊎_elim (λ d. ⊎_elim (λ k. ⊎_elim (at-root event 258 (omega arith) (omega arith))
           (at-root event 259 (omega arith) (omega arith)) (or_cases (eqb event 258) (eqb event 259) k))
           (at-root event 260 (omega arith) (omega arith)) (or_cases (eqb event 258 || eqb event 259) (eqb event 260) d))

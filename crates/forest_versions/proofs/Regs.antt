@@ -126,7 +126,7 @@ reg_of-without [] number n = none-either (eqb number n)
 reg_of-without (s ∷ list) number n =
     let ih : reg_of (without number list) n ≡ cond (eqb number n) None (reg_of list n) = reg_of-without list number n in
     elim (eqb s.number number) as (λ b. eqb s.number number ≡ b → reg_of (cond (not b) (s ∷ without number list) (without number list)) n ≡ cond
-        (eqb number n) None (cond (eqb s.number n) (Some s) (reg_of list n))) [
+    (eqb number n) None (cond (eqb s.number n) (Some s) (reg_of list n))) [
       | true ↦ λ e. ih ∙ same-left s number n (reg_of list n) (eqb-true s.number number e)
       | false ↦ λ e. other-left s number n (reg_of list n) (reg_of (without number list) n) (eqb-false s.number number e) ih
     ] refl
@@ -205,7 +205,7 @@ unfolding IsDistinct
 active-without_off number [] r found off d = cc
 active-without_off number (s ∷ list) r found off d =
     elim (eqb s.number number) as (λ b. eqb s.number number ≡ b → cond b (Some s) (reg_of list number) ≡ Some r
-        → filter on (cond (not b) (s ∷ without number list) (without number list)) ≡ cond s.on (s ∷ filter on list) (filter on list)) [
+    → filter on (cond (not b) (s ∷ without number list) (without number list)) ≡ cond s.on (s ∷ filter on list) (filter on list)) [
       | true ↦ λ e found.
           let same : s ≡ r = cc in
           rw (ap on same ∙ off) (ap (filter on) (without-unlike list number (apart s.number number list (eqb-true s.number number e) d.0)))

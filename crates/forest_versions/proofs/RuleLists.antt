@@ -32,7 +32,7 @@ rise-put low r (s ∷ rules) le absent h =
       | true ↦ λ e.
           let below : r.number < s.number = ltb-true r.number s.number e in
           and_from (leb low r.number) (leb (r.number + 1) s.number && rise_from (s.number + 1) (numbers rules)) (le-leb low r.number le)
-              (and_from (leb (r.number + 1) s.number) (rise_from (s.number + 1) (numbers rules)) (le-leb (r.number + 1) s.number (omega arith)) parts.1)
+          (and_from (leb (r.number + 1) s.number) (rise_from (s.number + 1) (numbers rules)) (le-leb (r.number + 1) s.number (omega arith)) parts.1)
       | false ↦ λ e.
           let above : s.number ≤ r.number = ltb-false r.number s.number e in
           let differ : s.number ≢ r.number = apart.0 in

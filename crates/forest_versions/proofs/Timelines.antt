@@ -36,5 +36,5 @@ module _ {T : Type 0} (line : Line T) (v : ℕ) where
       let split : fold (chosen v) line.first line.steps ≡ fold (chosen v) (fold (chosen v) line.first (take (i + 1) line.steps)) (drop (i + 1) line.steps) =
       ap (fold (chosen v) line.first) (sym (take-append-drop (i + 1) line.steps)) ∙ fold-append (chosen v) line.first (take (i + 1) line.steps) (drop (i + 1) line.steps) in
       let after = late v (fold (chosen v) line.first (take (i + 1) line.steps)) (drop (i + 1) line.steps)
-          (λ k e w. rw (get_or-drop (i + 1) line.steps k e) (found.1 (i + 1 + k) e (omega arith) (omega (arith, length-drop (i + 1) line.steps)))) in
+      (λ k e w. rw (get_or-drop (i + 1) line.steps k e) (found.1 (i + 1 + k) e (omega arith) (omega (arith, length-drop (i + 1) line.steps)))) in
       split ∙ (after ∙ before)

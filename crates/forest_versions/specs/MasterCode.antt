@@ -22,12 +22,12 @@ line_code {T} code =
 abbrev pub past_code : Coded PastLines
 past_code =
     code_by (List (Line (Option Reg)) × (Line Policy × (Line ℕ × (Line (List Rule) × Line (Option ℕ)))))
-        (coded× (coded_list (line_code (coded_option reg.the_row.coded)))
-        (coded× (line_code policy.the_row.coded) (coded× (line_code coded_ℕ)
-        (coded× (line_code (coded_list rule.the_row.coded)) (line_code (coded_option coded_ℕ))))))
-        (λ p. (p.regs, (p.policy, (p.rbuf, (p.rules, p.idle))))) (λ t. record { regs = t.0; policy = t.1.0; rbuf = t.1.1.0; rules = t.1.1.1.0; idle = t.1.1.1.1 }) (λ _. refl)
+    (coded× (coded_list (line_code (coded_option reg.the_row.coded)))
+    (coded× (line_code policy.the_row.coded) (coded× (line_code coded_ℕ)
+    (coded× (line_code (coded_list rule.the_row.coded)) (line_code (coded_option coded_ℕ))))))
+    (λ p. (p.regs, (p.policy, (p.rbuf, (p.rules, p.idle))))) (λ t. record { regs = t.0; policy = t.1.0; rbuf = t.1.1.0; rules = t.1.1.1.0; idle = t.1.1.1.1 }) (λ _. refl)
 
 abbrev pub versions_code : Coded Versions
 versions_code =
     code_by (ℕ × (Shared × (ControlState × PastLines))) (coded× coded_ℕ (coded× shared.the_row.coded (coded× state_code past_code)))
-        (λ m. (m.version, (m.forest, (m.now, m.past)))) (λ t. record { version = t.0; forest = t.1.0; now = t.1.1.0; past = t.1.1.1 }) (λ _. refl)
+    (λ m. (m.version, (m.forest, (m.now, m.past)))) (λ t. record { version = t.0; forest = t.1.0; now = t.1.1.0; past = t.1.1.1 }) (λ _. refl)

@@ -17,6 +17,6 @@ Fields = List EventDef × (List Reg × (Policy × (ℕ × (List Rule × Option �
 abbrev pub state_code : Coded ControlState
 state_code =
     code_by Fields (coded× (coded_list event_def.the_row.coded) (coded× (coded_list reg.the_row.coded)
-        (coded× policy.the_row.coded (coded× coded_ℕ (coded× (coded_list rule.the_row.coded) (coded_option coded_ℕ))))))
-        (λ s. (s.defs, (s.regs, (s.policy, (s.rbuf, (s.rules, s.idle))))))
-        (λ t. record { defs = t.0; regs = t.1.0; policy = t.1.1.0; rbuf = t.1.1.1.0; rules = t.1.1.1.1.0; idle = t.1.1.1.1.1 }) (λ _. refl)
+    (coded× policy.the_row.coded (coded× coded_ℕ (coded× (coded_list rule.the_row.coded) (coded_option coded_ℕ))))))
+    (λ s. (s.defs, (s.regs, (s.policy, (s.rbuf, (s.rules, s.idle))))))
+    (λ t. record { defs = t.0; regs = t.1.0; policy = t.1.1.0; rbuf = t.1.1.1.0; rules = t.1.1.1.1.0; idle = t.1.1.1.1.1 }) (λ _. refl)

@@ -241,7 +241,7 @@ module _ (app : Meaning) (control_at : ℕ → ControlState) (keep : Bool) (m : 
         let passes = place_by-passes (is_open_at key) pasts s.conn.place d k.there in
         subst (λ j. AreKept keep (registered_at m) content new slots' counts' (set pasts j (at_end app control_at now (get_or pasts j d)))) same
         (subst (λ q. AreKept keep (registered_at m) content new slots' counts' (set pasts s.conn.place q))
-            (sym (silent_ends app control_at now (get_or pasts s.conn.place d) key passes k.silent)) k.kept)
+        (sym (silent_ends app control_at now (get_or pasts s.conn.place d) key passes k.silent)) k.kept)
     one_kept new slots' counts' false is silences goes =
         let n = goes refl in
         subst (λ l. AreKept keep (registered_at m) content new slots' counts' l) (sym (stays (heard_at (found flows key) is n.heard (stands.placed key))))

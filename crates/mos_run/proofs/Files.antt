@@ -107,7 +107,7 @@ module _ (app : Meaning) (script : List Stamped) (given : List Captured → List
     at-ending : (frames : List Captured) (ending : Ending) → (e ≡ Run.ReadFault → fault ≢ None → (n : ℕ) × (ending ≡ tail n))
         → StopsAs (followed app script given output header frames ending None) e × AppendsFront old new (followed app script given output header frames ending None).text
         → StopsAs (followed app script given output header frames ending (Some refusal)) (met_in fault e)
-            × AppendsFront old new (followed app script given output header frames ending (Some refusal)).text
+        × AppendsFront old new (followed app script given output header frames ending (Some refusal)).text
     at-ending frames (tail n) cut stops = (at-tail frames n stops.0, front-by (is_forward output) refl frames n stops.1)
     at-ending frames (too_long offset) cut stops = same _ (λ is some. let bad = (cut is some).1 in cc) stops
     at-ending frames (too_many offset) cut stops = same _ (λ is some. let bad = (cut is some).1 in cc) stops

@@ -59,7 +59,7 @@ pub whole_is_tidy : RecordsAreTidy → NumbersOfRunRise → (app : Meaning) (scr
 whole_is_tidy law rises app script lanes rest frames end lawful commands whole =
     subst (λ l. tidy l ≡ true) (sym whole.records_are)
     (law app (control_at app script) (greatest (arrivals 0 frames)) (packets_with app script end.versions frames) lawful
-        (λ v. are_events app (commands_of script) v lawful commands) (rises app (commands_of script) frames end.versions))
+    (λ v. are_events app (commands_of script) v lawful commands) (rises app (commands_of script) frames end.versions))
 
 module _ (app : Meaning) (script : List Stamped) (lanes : ℕ) (output : Output) (bytes : List ℕ) where
   -- nothing could be said of the capture, or the run stopped before its end, whatever its versions
@@ -128,7 +128,7 @@ module _ (app : Meaning) (script : List Stamped) (lanes : ℕ) (output : Output)
         may_have = may-have end.versions whole.allowed;
         finishes = subst (λ o. Finishes o end.versions old new) (sym (outcome-at end.versions (tail n) ending))
             (ends_well app script given output f.frames (take 24 bytes) n end.versions old old new light
-                (sym (has app (commands_of script) _ _ _ (arrivals 0 f.frames) end.versions whole.allowed)) (nothing-streamed old)
+            (sym (has app (commands_of script) _ _ _ (arrivals 0 f.frames) end.versions whole.allowed)) (nothing-streamed old)
             (subst (Appends old new) closing-is written));
       }
 

@@ -142,13 +142,13 @@ module _ (app : Meaning) (script : List Stamped) where
 
   forwarded-last : (frames : List Captured) (frame : Captured)
       → forwarded app script (packets_of script) (frames ++ frame ∷ []) ≡ forwarded app script (packets_of script) frames ++ left_by
-          (verdict_on app (control_at app script) (packet_of script (length frames) frame) (records_so_far app script (packets_of script) frames)) frame
+      (verdict_on app (control_at app script) (packet_of script (length frames) frame) (records_so_far app script (packets_of script) frames)) frame
   forwarded-last frames frame =
       forwarded-more 0 [] frames (frame ∷ []) ∙ ap (λ l. forwarded app script (packets_of script) frames ++ l)
-          (left-alone (0 + length frames) (records_so_far app script (packets_of script) frames) frame)
+      (left-alone (0 + length frames) (records_so_far app script (packets_of script) frames) frame)
       ∙ ap (λ n. forwarded app script (packets_of script) frames ++ left_by
-          (verdict_on app (control_at app script) (packet_of script n frame) (records_so_far app script (packets_of script) frames)) frame)
-          (let same : 0 + length frames ≡ length frames = omega arith in same)
+      (verdict_on app (control_at app script) (packet_of script n frame) (records_so_far app script (packets_of script) frames)) frame)
+      (let same : 0 + length frames ≡ length frames = omega arith in same)
 
   none-forwarded : forwarded app script (packets_of script) [] ≡ []
   unfolding left_by_all verdicts_from
@@ -166,8 +166,8 @@ module _ (app : Meaning) (script : List Stamped) where
 
   written-last : (b : Bool) (header : List ℕ) (frames : List Captured) (frame : Captured)
       → written_by b header (frames ++ frame ∷ []) ≡ written_by b header
-          frames ++ (if b then left_by (verdict_on app (control_at app script) (packet_of script (length frames) frame)
-          (records_so_far app script (packets_of script) frames)) frame else [])
+      frames ++ (if b then left_by (verdict_on app (control_at app script) (packet_of script (length frames) frame)
+      (records_so_far app script (packets_of script) frames)) frame else [])
   written-last true header frames frame = ap (λ l. header ++ l) (forwarded-last frames frame) ∙ sym (append_assoc header (forwarded app script (packets_of script) frames) _)
   written-last false header frames frame = refl
 
@@ -189,7 +189,7 @@ module _ (app : Meaning) (script : List Stamped) where
 
     weighed-text : (frames : List Captured) (n : ℕ) (b : Bool) → is_heavy app script (packets_of script) output frames ≡ b
         → (rest : List ℕ) × ((if b then refused Run.Heavy else Outcomes.ended app script (packets_of script) output header frames n).text ≡ streamed
-            app script (packets_of script) output header frames ++ rest)
+        app script (packets_of script) output header frames ++ rest)
     weighed-text frames n true heavy = ([], sym (append-nil _ ∙ heavy-text (is_forward output) refl frames heavy))
     weighed-text frames n false light = (_, refl)
 
@@ -251,10 +251,10 @@ module _ (app : Meaning) (script : List Stamped) where
         → (r : Replaying bytes left old frames) → StepTold old new r.rest after frame (Err e) → StopsAs (outcome_over app script (packets_of script) output bytes) (record_refusal e)
     refused_record bytes left after old new frames frame (Next.TooLong offset) r step =
         inl (ap (λ o. o.ends) (outcome_is app script (packets_of script) output bytes left old frames r)
-            ∙ ap (λ f. (followed app script (packets_of script) output old.header (frames ++ f.frames) f.ending None).ends) step.steps)
+        ∙ ap (λ f. (followed app script (packets_of script) output old.header (frames ++ f.frames) f.ending None).ends) step.steps)
     refused_record bytes left after old new frames frame (Next.TooMany offset) r step =
         inl (ap (λ o. o.ends) (outcome_is app script (packets_of script) output bytes left old frames r)
-            ∙ ap (λ f. (followed app script (packets_of script) output old.header (frames ++ f.frames) f.ending None).ends) step.steps)
+        ∙ ap (λ f. (followed app script (packets_of script) output old.header (frames ++ f.frames) f.ending None).ends) step.steps)
     refused_record bytes left after old new frames frame Next.ReadFault r step = inr (inl refl)
     refused_record bytes left after old new frames frame Next.NoMemory r step = inr (inr (inl refl))
 
@@ -272,7 +272,7 @@ module _ (app : Meaning) (script : List Stamped) where
         → AppendsFront mid now (gained app script output frames frame) → AppendsFront old now (outcome_over app script (packets_of script) output bytes).text
     front_of_frame bytes left after before capture frames frame old mid now r step written part =
         subst (λ o. AppendsFront old now o.text) (sym (outcome_is app script (packets_of script) output bytes left before frames r
-            ∙ ap (λ f. followed app script (packets_of script) output before.header (frames ++ f.frames) f.ending None) step.steps))
+        ∙ ap (λ f. followed app script (packets_of script) output before.header (frames ++ f.frames) f.ending None) step.steps))
         (front_part output before.header frames (frames_at capture step.rest).frames frame (frames_at capture step.rest).ending old mid now written part)
 
     -- a write that failed

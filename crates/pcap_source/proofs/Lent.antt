@@ -24,4 +24,4 @@ module _ (order : Order) (n : ℕ) (lent : List ℕ) (copied frame : Captured) (
   pub is_consumed : (old new : Option (List ℕ)) → Consumes old new (take (16 + n) lent) → Consumes old new (frame.head ++ frame.bytes)
   is_consumed old new consumed =
       subst (Consumes old new) (take-add 16 n lent ∙ ap (λ h. h ++ take n (drop 16 lent)) (sym head) ∙ ap (λ b. copied.head ++ b) (sym bytes)
-          ∙ ap (λ (f : Captured). f.head ++ f.bytes) (sym is)) consumed
+      ∙ ap (λ (f : Captured). f.head ++ f.bytes) (sym is)) consumed

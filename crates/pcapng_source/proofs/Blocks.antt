@@ -73,7 +73,7 @@ blocks-open before n offset bytes kind is same whole =
     let total = total_of s.order bytes in
     blocks-accepted before n offset bytes is
     ∙ ap (λ k. cond (has (head_length k) bytes) (after (record_of k s bytes)
-        (closed s.order total offset (total - 4) bytes (blocks_from (section_by k s bytes) n (offset + total) (drop total bytes)))) nothing) same
+    (closed s.order total offset (total - 4) bytes (blocks_from (section_by k s bytes) n (offset + total) (drop total bytes)))) nothing) same
     ∙ cond-true (has (head_length kind) bytes) _ nothing (le-leb (head_length kind) (length bytes) whole)
 
 -- the second total length, where k bytes before it are passed

@@ -202,7 +202,7 @@ passes r words is whole fits more some size told = record {
       ∙ ap (resolution_in order (4 * r.options + 3)) moved
       ∙ resolution-count order (4 * r.options + 3) (4 * (rest - 1) + 4) behind_it (omega arith) few))
       ∙ ap (λ k. behind (with_resolution r.section (resolution_in order (4 * (rest - 1) + 4) behind_it)) r k (r.word ++ left))
-          (let it : 4 * r.options + 4 ≡ 4 + 4 * words + (4 * (rest - 1) + 4) = omega arith in it)
+      (let it : 4 * r.options + 4 ≡ 4 + 4 * words + (4 * (rest - 1) + 4) = omega arith in it)
       ∙ behind-drop (with_resolution r.section (resolution_in order (4 * (rest - 1) + 4) behind_it)) r (4 + 4 * words) (4 * (rest - 1) + 4) (r.word ++ left)
       ∙ ap (behind (with_resolution r.section (resolution_in order (4 * (rest - 1) + 4) behind_it)) r (4 * (rest - 1) + 4))
       (ap (λ k. drop k (r.word ++ left)) (let it : 4 + 4 * words ≡ length r.word + 4 * words = omega arith in it) ∙ drop-append-add r.word left (4 * words))

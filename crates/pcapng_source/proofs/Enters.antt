@@ -90,7 +90,7 @@ head-opens before n offset head left kind k size total accepted is whole some to
     ≡ after (record_of kind s bytes) (closed s.order total offset (total - 4) bytes (blocks_from (section_by kind s bytes) (n - 1) (offset + total) (drop total bytes))) =
     blocks-open before (n - 1) offset bytes kind done named fits
     ∙ ap (λ t. after (record_of kind t bytes) (closed t.order (total_of t.order bytes) offset (total_of t.order bytes - 4) bytes
-        (blocks_from (section_by kind t bytes) (n - 1) (offset + total_of t.order bytes) (drop (total_of t.order bytes) bytes)))) same
+    (blocks_from (section_by kind t bytes) (n - 1) (offset + total_of t.order bytes) (drop (total_of t.order bytes) bytes)))) same
     ∙ ap (λ t. after (record_of kind s bytes) (closed s.order t offset (t - 4) bytes (blocks_from (section_by kind s bytes) (n - 1) (offset + t) (drop t bytes)))) sized in
     ap (λ m. blocks_from before m offset bytes) (sym more) ∙ opened
     ∙ ap (λ l. after (record_of kind s bytes) (closed s.order total offset (total - 4) bytes (blocks_from (section_by kind s bytes) (n - 1) (offset + total) l))) rest

@@ -90,7 +90,7 @@ kind_firm SimplePacket section offset front left long =
 kind_firm EnhancedPacket section offset front left long =
     firm_has _ 12 front left _ _ (λ whole. omega arith) (λ fits. subst
     (λ i. Firm (28 ≤ length front) (packet_by 28 24 EnhancedPacket section.order (interface_of EnhancedPacket section front) offset front)
-        (packet_by 28 24 EnhancedPacket section.order i offset (front ++ left)))
+    (packet_by 28 24 EnhancedPacket section.order i offset (front ++ left)))
     (sym (interface_of-front section front left fits))
     (packet_firm _ 28 24 EnhancedPacket section.order (interface_of EnhancedPacket section front) offset front left (λ whole. omega arith) (omega arith)
     (λ i there. enhanced-front section.order i front left there)))
@@ -133,13 +133,13 @@ pub refusal_firm : (before : SectionState) (offset : ℕ) (front left : List ℕ
     → Firm (head_length (kind_of before.order front) ≤ length front) (refusal_of before offset front) (refusal_of before offset (front ++ left))
 refusal_firm before offset front left long =
     let one : refusal_of before offset front ≡ cond (is_section front) (cond (has 12 front) (header_by (order_told front) offset front) None)
-        (block_by (kind_of before.order front) before offset front) =
+    (block_by (kind_of before.order front) before offset front) =
     cond-true (has 8 front) _ None (has-there 8 front long) in
     let two : refusal_of before offset (front ++ left) ≡ cond (is_section front)
-        (cond (has 12 (front ++ left)) (header_by (order_told (front ++ left)) offset (front ++ left)) None)
-        (block_by (kind_of before.order (front ++ left)) before offset (front ++ left)) =
+    (cond (has 12 (front ++ left)) (header_by (order_told (front ++ left)) offset (front ++ left)) None)
+    (block_by (kind_of before.order (front ++ left)) before offset (front ++ left)) =
     cond-true (has 8 (front ++ left)) _ None (has-front 8 front left long)
     ∙ ap (λ b. cond b (cond (has 12 (front ++ left)) (header_by (order_told (front ++ left)) offset (front ++ left)) None)
-        (block_by (kind_of before.order (front ++ left)) before offset (front ++ left))) (is_section-front front left (omega arith)) in
+    (block_by (kind_of before.order (front ++ left)) before offset (front ++ left))) (is_section-front front left (omega arith)) in
     let it = firm_by before offset front left (is_section front) refl long in
     record { decided = λ w. two ∙ it.decided w ∙ sym one; refused = λ fault is. two ∙ it.refused fault (sym one ∙ is) }

@@ -163,8 +163,13 @@ simple_record-front order interface head left long = ap (λ n. record_head 0 (wi
 enhanced_record-front : (order : Order) (interface : Interface) (head left : List ℕ) → 28 ≤ length head
     → record_by EnhancedPacket order interface (head ++ left) ≡ record_by EnhancedPacket order interface head
 enhanced_record-front order interface head left long =
-    rw (number_at-front order 4 12 head left (omega arith), number_at-front order 4 16 head left (omega arith), number_at-front order 4 20 head left
-        (omega arith), number_at-front order 4 24 head left (omega arith)) refl
+    rw (
+      number_at-front order 4 12 head left (omega arith),
+      number_at-front order 4 16 head left (omega arith),
+      number_at-front order 4 20 head left
+          (omega arith),
+      number_at-front order 4 24 head left (omega arith),
+    ) refl
 
 pub opens-simple : (r : Reader) (interface : Interface) (total captured skip : ℕ) → IsWhole SimplePacket r → slice_get r.section.interfaces 0 ≡ Some interface
     → total_of r.section.order r.head ≡ total → captured_of SimplePacket r.section.order interface r.head ≡ captured → skip ≡ total - 16 - captured
@@ -190,7 +195,7 @@ opens-simple r interface total captured skip it found sized told parts =
     (omega (arith, most, sized)) (omega (arith, data_fits)) refl
     (λ left. ap (λ i. record_on 12 SimplePacket r.section.order i (r.head ++ left)) found
     ∙ ap (λ l. l ++ take (captured_of SimplePacket r.section.order interface (r.head ++ left)) (drop 12 (r.head ++ left)))
-        (simple_record-front r.section.order interface r.head left (omega (arith, size)))
+    (simple_record-front r.section.order interface r.head left (omega (arith, size)))
     ∙ ap (λ n. record_by SimplePacket r.section.order interface r.head ++ take n (drop 12 (r.head ++ left))) (simple-front r.section.order interface r.head left (omega (arith, size)) ∙ told)
     ∙ ap (λ l. record_by SimplePacket r.section.order interface r.head ++ take captured l) (drop_at r.head left 12 size))
     (λ left there. refl)
@@ -213,14 +218,14 @@ opens-enhanced r interface total captured skip it found sized told parts =
     let most = bounds.most in
     let size = it.whole in
     let packet = packet-accepted 28 24 EnhancedPacket r.section.order (interface_of EnhancedPacket r.section r.head) r.place.offset r.head
-        (omega (arith, size)) (sym (cond-true (has 12 r.head) _ None (has-there 12 r.head (omega (arith, size)))) ∙ facts.2) in
+    (omega (arith, size)) (sym (cond-true (has 12 r.head) _ None (has-there 12 r.head (omega (arith, size)))) ∙ facts.2) in
     let same : packet.0 ≡ interface = some_same (sym packet.1 ∙ found) in
     let data_fits : 28 + captured + 4 ≤ total = omega (arith, packet.2, ap (λ i. captured_of EnhancedPacket r.section.order i r.head) same, told, sized) in
     opens r EnhancedPacket r.section r.section (record_by EnhancedPacket r.section.order interface r.head) total captured skip 0 it facts.0 sized
     (omega (arith, most, sized)) (omega (arith, data_fits)) refl
     (λ left. ap (λ i. record_on 28 EnhancedPacket r.section.order i (r.head ++ left)) (interface_of-front r.section r.head left (omega (arith, size)) ∙ found)
     ∙ ap (λ l. l ++ take (captured_of EnhancedPacket r.section.order interface (r.head ++ left)) (drop 28 (r.head ++ left)))
-        (enhanced_record-front r.section.order interface r.head left (omega (arith, size)))
+    (enhanced_record-front r.section.order interface r.head left (omega (arith, size)))
     ∙ ap (λ n. record_by EnhancedPacket r.section.order interface r.head ++ take n (drop 28 (r.head ++ left))) (enhanced-front r.section.order interface r.head left (omega (arith, size)) ∙ told)
     ∙ ap (λ l. record_by EnhancedPacket r.section.order interface r.head ++ take captured l) (drop_at r.head left 28 size))
     (λ left there. refl)
@@ -237,14 +242,28 @@ interface-sections section head left total zero size sized parts =
 interface-sections section head left total (suc n) size sized parts =
     let some : total_of section.order (head ++ left) - 20 ≡ 4 * suc n = omega (arith, total_of-front section.order head left (omega (arith, size)), sized, parts) in
     ap (λ k. with_interface section (interface_by section.order k (head ++ left))) some
-    ∙ ap (λ k. with_interface section (record { link = k; snap = number_in section.order 4 (drop 12 (head ++ left)); resolution = resolution_in
-        section.order (4 * suc n) (take (4 * suc n) (drop 16 (head ++ left))) })) (number_at-front section.order 2 8 head left (omega (arith, size)))
-    ∙ ap (λ k. with_interface section (record { link = number_in section.order 2 (drop 8 head); snap = k; resolution = resolution_in section.order
-        (4 * suc n) (take (4 * suc n) (drop 16 (head ++ left))) })) (number_at-front section.order 4 12 head left (omega (arith, size)))
-    ∙ ap (λ l. with_interface section (record { link = number_in section.order 2 (drop 8 head); snap = number_in section.order 4 (drop 12 head);
-        resolution = resolution_in section.order (4 * suc n) (take (4 * suc n) l) })) (drop_at head left 16 size)
-    ∙ sym (resolved-added section (record { link = number_in section.order 2 (drop 8 head); snap = number_in section.order 4 (drop 12 head);
-        resolution = 6 }) (resolution_in section.order (4 * suc n) (take (4 * suc n) left)))
+    ∙ ap (λ k. with_interface section (record {
+      link = k;
+      snap = number_in section.order 4 (drop 12 (head ++ left));
+      resolution = resolution_in
+          section.order (4 * suc n) (take (4 * suc n) (drop 16 (head ++ left)));
+    })) (number_at-front section.order 2 8 head left (omega (arith, size)))
+    ∙ ap (λ k. with_interface section (record {
+      link = number_in section.order 2 (drop 8 head);
+      snap = k;
+      resolution = resolution_in section.order
+          (4 * suc n) (take (4 * suc n) (drop 16 (head ++ left)));
+    })) (number_at-front section.order 4 12 head left (omega (arith, size)))
+    ∙ ap (λ l. with_interface section (record {
+      link = number_in section.order 2 (drop 8 head);
+      snap = number_in section.order 4 (drop 12 head);
+      resolution = resolution_in section.order (4 * suc n) (take (4 * suc n) l);
+    })) (drop_at head left 16 size)
+    ∙ sym (resolved-added section (record {
+      link = number_in section.order 2 (drop 8 head);
+      snap = number_in section.order 4 (drop 12 head);
+      resolution = 6;
+    }) (resolution_in section.order (4 * suc n) (take (4 * suc n) left)))
 
 pub opens-interface : (r : Reader) (total words : ℕ) → IsWhole InterfaceBlock r → total_of r.section.order r.head ≡ total → words ≡ (total - 20) / 4
     → Goes r (record r {
@@ -267,7 +286,7 @@ opens-interface r total words it sized parts =
     let size = it.whole in
     let all : 20 + 4 * words ≡ total = words-all total words (omega (arith, sized, least)) (sym (ap (λ n. n % 4) sized) ∙ fours) parts in
     opens r InterfaceBlock r.section (with_interface r.section (record
-        { link = number_in r.section.order 2 (drop 8 r.head); snap = number_in r.section.order 4 (drop 12 r.head); resolution = 6 })) r.made total 0 0 words it facts.0 sized
+    { link = number_in r.section.order 2 (drop 8 r.head); snap = number_in r.section.order 4 (drop 12 r.head); resolution = 6 })) r.made total 0 0 words it facts.0 sized
     (omega (arith, most, sized)) (omega (arith, all)) refl
     (λ left. ap (λ l. l ++ take 0 left) (sym none))
     (λ left there. interface-sections r.section r.head left total words size sized all)

@@ -42,7 +42,7 @@ begins old met low high run is_met joined = record {
   end = ⊎_elim
       (λ (l : run.end ≡ high). inl l)
       (λ (f : (0 < length met) × (run.end ≡ (run_at met (length met - 1)).end)). let it = is_met.only (run_at met (length met - 1))
-          (item_at met (length met - 1) (omega arith)) in inr (run_at met (length met - 1), it.0, it.1, f.1))
+      (item_at met (length met - 1) (omega arith)) in inr (run_at met (length met - 1), it.0, it.1, f.1))
       joined.end;
 }
 

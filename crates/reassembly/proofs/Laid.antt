@@ -117,7 +117,7 @@ pub laid_window : (runs : List Run) (base low k : ℕ) (policy : Policy) (xs byt
     → ((i : ℕ) → i < length bytes → slice_index cells i ≡ laid_byte runs low policy (take k (drop (low - base) xs)) bytes i)
     → (p : ℕ) → base ≤ p
     → slice_index (put_mid (low - base) k xs cells) (p - base) ≡ cond (has_byte low bytes p && not (is_covered runs p && not (is_last policy)))
-        (slice_index bytes (p - low)) (slice_index xs (p - base))
+    (slice_index bytes (p - low)) (slice_index xs (p - base))
 laid_window runs base low k policy xs bytes cells from same within len laid p l =
     let a = low - base in
     let stays = is_covered runs p && not (is_last policy) in
@@ -134,7 +134,7 @@ laid_window runs base low k policy xs bytes cells from same within len laid p l 
     let again : a + (p - low) ≡ p - base = omega arith in
     let byte : slice_index cells (p - low) ≡ cond stays (slice_index (take k (drop a xs)) (p - low)) (slice_index bytes (p - low)) = rw back at (laid (p - low) (omega arith)) in
     let part : slice_index (take k (drop a xs)) (p - low) ≡ slice_index xs (p - base) = get_or-take k (drop a xs) (p - low) 0 (omega arith)
-        ∙ get_or-drop a xs (p - low) 0 ∙ ap (slice_index xs) again in
+    ∙ get_or-drop a xs (p - low) 0 ∙ ap (slice_index xs) again in
     rw (yes, and) (mid_in a k xs cells (p - base) 0 (omega arith) (omega arith) (omega arith)
     ∙ ap (slice_index cells) place ∙ byte ∙ ap (λ x. cond stays x (slice_index bytes (p - low))) part
     ∙ sym (swapped stays (slice_index bytes (p - low)) (slice_index xs (p - base)))))

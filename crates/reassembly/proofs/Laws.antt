@@ -110,10 +110,10 @@ counts_stand limit q bytes s r h is_limit =
     } in
     let same : counts_viewed s limit q bytes ≡ told = placed_is (counts_viewed s limit q bytes) told
     (count_below-same (λ i. is_new s.next limit (q + i) (held s.kept (q + i))) (λ i. is_new s.next limit (q + i) (held r.cells (q + i)))
-        (length bytes) (λ i l. ap (λ b. not b && ltb (q + i) limit) (old_same s r h (q + i))))
+    (length bytes) (λ i l. ap (λ b. not b && ltb (q + i) limit) (old_same s r h (q + i))))
     (count_below-same (λ i. is_old s.next (q + i) (held s.kept (q + i))) (λ i. is_old s.next (q + i) (held r.cells (q + i))) (length bytes) (λ i l. old_same s r h (q + i)))
     (count_below-same (λ i. is_differing s.next s.rbuf (q + i) (held s.kept (q + i)) (slice_index bytes i))
-        (λ i. is_differing s.next s.rbuf (q + i) (held r.cells (q + i)) (slice_index bytes i)) (length bytes) (λ i l. differing_same s r h (q + i) (slice_index bytes i)))
+    (λ i. is_differing s.next s.rbuf (q + i) (held r.cells (q + i)) (slice_index bytes i)) (length bytes) (λ i l. differing_same s r h (q + i) (slice_index bytes i)))
     (count_below-same (λ i. is_over s.next limit (q + i) (held s.kept (q + i))) (λ i. is_over s.next limit (q + i) (held r.cells (q + i)))
-        (length bytes) (λ i l. ap (λ b. not b && leb limit (q + i)) (old_same s r h (q + i)))) in
+    (length bytes) (λ i l. ap (λ b. not b && leb limit (q + i)) (old_same s r h (q + i)))) in
     rw (limit_is, ← same_next) same

@@ -144,9 +144,9 @@ laid_page old new runs low k from policy bytes cells h laid p l =
     (λ (same : (p - old.base) / 2048 ≡ k).
     let place_in : (p - old.base) % 2048 ≡ p - first = omega arith in
     let window : slice_index (put_mid (low - first) (length bytes) (page_at old k) cells) (p - first) ≡ cond
-        (has_byte low bytes p && not (is_covered runs p && not (is_last policy))) (slice_index bytes (p - low)) (slice_index (page_at old k) (p - first))
+    (has_byte low bytes p && not (is_covered runs p && not (is_last policy))) (slice_index bytes (p - low)) (slice_index (page_at old k) (p - first))
     = laid_window runs first low (length bytes) policy (page_at old k) bytes cells (omega arith) refl
-        (let w : from + length bytes ≤ length (page_at old k) = h.within in omega arith) h.len (rw start at laid) p (omega arith) in
+    (let w : from + length bytes ≤ length (page_at old k) = h.within in omega arith) h.len (rw start at laid) p (omega arith) in
     ap₂ (λ a b. slice_index (page_at new a) b) same place_in
     ∙ ap (λ (xs : List ℕ). slice_index xs (p - first)) h.page
     ∙ ap (λ a. slice_index (put_mid a (length bytes) (page_at old k) cells) (p - first)) start
@@ -201,7 +201,7 @@ beyond before now runs low policy bytes part n m k h p l =
     let from : before.base ≤ low = h.from in
     let past : ltb p (low + n) ≡ false = le-ltb p (low + n) l in
     h.laid p (omega arith) ∙ stays (leb low p && ltb p (low + n)) (is_covered runs p && not (is_last policy)) (slice_index bytes (p - low))
-        (byte_of before p) (λ t. true≢false (sym (and_parts (leb low p) (ltb p (low + n)) t).1 ∙ past))
+    (byte_of before p) (λ t. true≢false (sym (and_parts (leb low p) (ltb p (low + n)) t).1 ∙ past))
 
 pub laid_on : (before now after : Pages) (runs : List Run) (low : ℕ) (policy : Policy) (bytes part : List ℕ) (n m k : ℕ) → IsLaidOn before now runs low policy bytes part n m k
     → AreLaid now after runs (low + n) policy part
@@ -219,7 +219,7 @@ laid_on before now after runs low policy bytes part n m k h next p l =
     let none : leb (low + n) p ≡ false = lt-leb (low + n) p below in
     step
     ∙ stays (leb (low + n) p && ltb p (low + n + length part)) kept (slice_index part (p - (low + n))) (byte_of now p)
-        (λ t. true≢false (sym (and_parts (leb (low + n) p) (ltb p (low + n + length part)) t).0 ∙ none))
+    (λ t. true≢false (sym (and_parts (leb (low + n) p) (ltb p (low + n + length part)) t).0 ∙ none))
     ∙ h.laid p l
     ∙ ap (λ b. cond ((leb low p && b) && not kept) seg (byte_of before p)) (e1 ∙ sym e2))
     (λ (from : low + n ≤ p). ⊎_elim
@@ -238,7 +238,7 @@ laid_on before now after runs low policy bytes part n m k h next p l =
     let b2 : ltb p (low + k) ≡ false = le-ltb p (low + k) past in
     step
     ∙ stays (leb (low + n) p && ltb p (low + n + length part)) kept (slice_index part (p - (low + n))) (byte_of now p)
-        (λ t. true≢false (sym (and_parts (leb (low + n) p) (ltb p (low + n + length part)) t).1 ∙ a2))
+    (λ t. true≢false (sym (and_parts (leb (low + n) p) (ltb p (low + n + length part)) t).1 ∙ a2))
     ∙ beyond before now runs low policy bytes part n m k h p from
     ∙ sym (stays (leb low p && ltb p (low + k)) kept seg (byte_of before p) (λ t. true≢false (sym (and_parts (leb low p) (ltb p (low + k)) t).1 ∙ b2))))
     (cases_lt p (low + k)))

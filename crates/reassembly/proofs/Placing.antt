@@ -327,7 +327,7 @@ counts_placed w fin rbuf limit end start m k j segment laid bounded cut tally ag
     let differ : count_below differ_ n ≡ count_below here m + count_below there (k - m) + count_below there2 (j - k) + count_below (λ i. false) (n - j)
     = count_four differ_ here there there2 (λ i. false) m k j n (omega arith) (omega arith) (omega arith)
     (λ i l. ap (λ c. is_differing next rbuf (start + i) c (slice_index segment i)) (cell1 i l)
-        ∙ differs_below next rbuf (start + i) (byte_at w (start + i)) (slice_index segment i) (leb (next - rbuf) (start + i)) refl)
+    ∙ differs_below next rbuf (start + i) (byte_at w (start + i)) (slice_index segment i) (leb (next - rbuf) (start + i)) refl)
     (λ i l. ap (λ c. is_differing next rbuf (start + (m + i)) c (slice_index segment (m + i))) (cell2 i l)
     ∙ differs_above next rbuf (start + (m + i)) (byte_at w (low + i)) (slice_index segment (m + i)) (covered i) (omega arith)
     ∙ ap (λ b. covered i && not (eqb (byte_at w (low + i)) b)) (sym (part_byte m k n segment i refl (omega arith) (omega arith) l)))

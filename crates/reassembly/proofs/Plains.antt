@@ -41,7 +41,7 @@ pub written_more : (next limit : ℕ) (policy : Policy) (start i : ℕ) (bytes :
 written_more next limit policy start i bytes old cells w within l done rest e p b = ⊎_elim
     (λ (same : p ≡ start + i).
     let here : has_byte start bytes (start + i) ≡ true = and_from (leb start (start + i)) (ltb (start + i) (start + length bytes))
-        (le-leb start (start + i) (omega arith)) (lt-ltb (start + i) (start + length bytes) (omega arith)) in
+    (le-leb start (start + i) (omega arith)) (lt-ltb (start + i) (start + length bytes) (omega arith)) in
     let back : start + i - start ≡ i = omega arith in
     rw same (get_or-set_same cells (start + i) w None (omega arith) ∙ e ∙ (rw (here, back) refl)))
     (λ (other : p ≡ start + i → ⊥). get_or-set_other cells (start + i) p w None other ∙ done p (omega arith))
@@ -67,13 +67,13 @@ plain_counts r q rbuf bytes mid before e start =
     let told : Before = record { next = next; limit = limit; rbuf = rbuf } in
     ap (λ (b : Before). judged_below b q bytes mid (length bytes)) e ∙ placed_is (judged_below told q bytes mid (length bytes)) (counts_at r q bytes rbuf)
     (count_below-same (λ i. is_new next limit (q + i) (held mid (q + i))) (λ i. is_new next limit (q + i) (held r.cells (q + i))) (length bytes)
-        (λ i l. ap (is_new next limit (q + i)) (start (q + i))))
+    (λ i l. ap (is_new next limit (q + i)) (start (q + i))))
     (count_below-same (λ i. is_old next (q + i) (held mid (q + i))) (λ i. is_old next (q + i) (held r.cells (q + i))) (length bytes) (λ i l. ap (is_old next (q + i)) (start (q + i))))
     (count_below-same (λ i. is_differing next rbuf (q + i) (held mid (q + i)) (slice_index bytes i))
-        (λ i. is_differing next rbuf (q + i) (held r.cells (q + i)) (slice_index bytes i)) (length bytes)
-        (λ i l. ap (λ c. is_differing next rbuf (q + i) c (slice_index bytes i)) (start (q + i))))
+    (λ i. is_differing next rbuf (q + i) (held r.cells (q + i)) (slice_index bytes i)) (length bytes)
+    (λ i l. ap (λ c. is_differing next rbuf (q + i) c (slice_index bytes i)) (start (q + i))))
     (count_below-same (λ i. is_over next limit (q + i) (held mid (q + i))) (λ i. is_over next limit (q + i) (held r.cells (q + i))) (length bytes)
-        (λ i l. ap (is_over next limit (q + i)) (start (q + i))))
+    (λ i l. ap (is_over next limit (q + i)) (start (q + i))))
 
 -- empty cells at the end hold what no cell holds
 pub resized : (old mid : List (Option ℕ)) (end : ℕ) → length mid ≡ end → length old ≤ end

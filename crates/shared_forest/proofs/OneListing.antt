@@ -63,8 +63,8 @@ same_nodes before place (n ∷ ns) (m ∷ ms) slots ln lm pn pm e =
     let firsts : n.first ≡ m.first = pn.0 ∙ sym pm.0 in
     let counts : n.count ≡ m.count = sym (length-slots_of place n ns slots pn) ∙ (ap length held ∙ length-slots_of place m ms slots pm) in
     let rest : ns ≡ ms = same_nodes (path_after before n) (place + n.count) ns ms slots (subst (λ (d : ℕ). AreLaidOut d ns) (sym dn) ln.3)
-        (subst (λ (d : ℕ). AreLaidOut d ms) (sym dm ∙ ap length (sym paths)) lm.3) pn.1
-        (subst (λ (c : ℕ). ArePacked (place + c) ms (length slots)) (sym counts) pm.1) (tail ∙ ap (λ (p : List ℕ). listing_after p ms slots) (sym paths)) in
+    (subst (λ (d : ℕ). AreLaidOut d ms) (sym dm ∙ ap length (sym paths)) lm.3) pn.1
+    (subst (λ (c : ℕ). ArePacked (place + c) ms (length slots)) (sym counts) pm.1) (tail ∙ ap (λ (p : List ℕ). listing_after p ms slots) (sym paths)) in
     let belows : n.below ≡ m.below = ln.2 ∙ (ap (λ (d : ℕ). under d ns) depths ∙ (ap (λ (l : List Node). under m.depth l) rest ∙ sym lm.2)) in
     let heads : n ≡ m = same_node n m events depths belows firsts counts in
     cc
@@ -106,5 +106,5 @@ pub one_listing : (a b : TreeLists) → IsTree a.nodes a.slots → IsTree b.node
 one_listing a b ta tb e =
     let slots : a.slots ≡ b.slots = same_slots a.nodes b.nodes a.slots b.slots ta tb e in
     let nodes : a.nodes ≡ b.nodes = same_topped a.nodes b.nodes a.slots ta (subst (λ (s : List Slot). IsTree b.nodes s) (sym slots) tb) (e
-        ∙ ap (λ (s : List Slot). listing_of b.nodes s) (sym slots)) in
+    ∙ ap (λ (s : List Slot). listing_of b.nodes s) (sym slots)) in
     same_lists a b nodes slots

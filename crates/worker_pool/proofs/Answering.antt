@@ -62,6 +62,8 @@ module _ (frame_of : ℕ → Captured) where
     answers_front before (Handed p ∷ done) bad framed =
         let a = arrival_of p.index p.frame in
         let here = framed_answer p (next_verdict app before a) (All-head IsFramed p (handed (done ++ bad)) framed) in
-        let rest = answers_front (with_event (Arrived a) before) done bad (All-tail IsFramed p (handed (done ++ bad)) framed) in
-        (rest.0, ap (λ (x : Answer). x ∷ (answers_of app (with_event (Arrived a) before) done ++ rest.0)) here
-            ∙ ap (λ xs. record { index = p.index; verdict = next_verdict app before a; frame = frame_of p.index } ∷ xs) rest.1)
+        let rest = answers_front (with_event (Arrived a) before) done bad (All-tail IsFramed p (handed (done ++ bad)) framed) in (
+          rest.0,
+          ap (λ (x : Answer). x ∷ (answers_of app (with_event (Arrived a) before) done ++ rest.0)) here
+              ∙ ap (λ xs. record { index = p.index; verdict = next_verdict app before a; frame = frame_of p.index } ∷ xs) rest.1,
+        )

@@ -68,9 +68,9 @@ module _ {L : Type 0} (g : Ghosts L) (keep : Bool) (app : Meaning) (script : Lis
   -- joined, they are the end of one run
   pub joined_run : (n : ℕ) → n ≡ length workers → (joined : Joined)
       → ((vs : List ℕ) × IsAllowedRun app (commands_of script) (floor script) (ceil script) (by_key (length workers)) (arrivals 0 frames) vs
-          × AreOneRun app (commands_of script) (by_key (length workers)) (arrivals 0 frames) lanes vs)
+      × AreOneRun app (commands_of script) (by_key (length workers)) (arrivals 0 frames) lanes vs)
       → ((vs : List ℕ) → AreOneRun app (commands_of script) (by_key (length workers)) (arrivals 0 frames) lanes vs
-          → IsJoined keep app (run_of app script vs frames) joined.records joined.callbacks joined.drops)
+      → IsJoined keep app (run_of app script vs frames) joined.records joined.callbacks joined.drops)
       → IsJoinedRun app script n frames keep (Ok joined)
   joined_run n same joined run joins = (run.0, subst (λ m. MayHave app script m frames run.0) (sym same) run.1, joins run.0 run.2)
 

@@ -144,7 +144,7 @@ module _ {L : Type 0} (workers : List (Worker L)) (all_answers : List LaneAnswer
 
     module _ (d : Worker L) (e : LaneAnswers) (answers : Option (RingTx Answer)) (lane_answers : LaneAnswers) (u : Waiting) (below : k < length all_answers) (among : k < length workers)
         (same : sent_in answers ≡ sent_in (get_or now k d).answers) (drains : Drains (sent_in (get_or now k d).answers) (get_or left k e) lane_answers)
-            (offers : Offers (get_or left k e) lane_answers v u) where
+        (offers : Offers (get_or left k e) lane_answers v u) where
       abbrev worker : Worker L
       worker = record (get_or now k d) { answers = answers }
 
@@ -188,9 +188,9 @@ module _ {L : Type 0} (workers : List (Worker L)) (all_answers : List LaneAnswer
               (ap (λ (x : LaneAnswers). x.sent) (is.same_all_answers k e (omega arith)) ∙ counts k e below)
               (get_or-map (λ (r : LaneAnswers). taken r.answers) left k e [] here_r)
               (ap (λ l. get_or l k []) (map-set (λ (r : LaneAnswers). taken r.answers) left k lane_answers)
-                  ∙ get_or-set_same (map (λ (r : LaneAnswers). taken r.answers) left) k (taken lane_answers.answers) [] here_m)
+              ∙ get_or-set_same (map (λ (r : LaneAnswers). taken r.answers) left) k (taken lane_answers.answers) [] here_m)
               (λ j not. ap (λ l. get_or l j []) (map-set (λ (r : LaneAnswers). taken r.answers) left k lane_answers)
-                  ∙ get_or-set_other (map (λ (r : LaneAnswers). taken r.answers) left) k j (taken lane_answers.answers) [] not)
+              ∙ get_or-set_other (map (λ (r : LaneAnswers). taken r.answers) left) k j (taken lane_answers.answers) [] not)
               (is.offers.leaves lane n old new counts l);
         };
       }

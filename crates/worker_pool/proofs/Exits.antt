@@ -276,7 +276,7 @@ module _ {L : Type 0} (g : Ghosts L) (app : Meaning) (script : List Stamped) (fr
     module _ (ended : List (Worker L)) (same : map (λ w. w.lane) ended ≡ map (λ w. w.lane) workers)
         (whole_law : (lanes : List (List LaneEvent)) × CameTo g false app script frames workers lanes × (AreGood g workers → LeavesAll app script frames workers lanes)) (w : Waiting)
         (leaves : Leaves (lane_at (length all_answers) frames) (length frames) (taken_from after) w before later) (none : first_of w ≡ None) (whole : Whole)
-            (stops : StopsAs frames start old new (Ok whole)) (is : old ≡ Some rest) where
+        (stops : StopsAs frames start old new (Ok whole)) (is : old ≡ Some rest) where
       abbrev lanes : List (List LaneEvent)
       lanes = whole_law.0
 
@@ -286,7 +286,7 @@ module _ {L : Type 0} (g : Ghosts L) (app : Meaning) (script : List Stamped) (fr
       -- the capture was read whole
       pub over_at : (r : Result (List ℕ) PoolError) → (IsOk r → AreGood g ended)
           → ((ls : List (List LaneEvent)) (vs : List ℕ) → whole.last ≡ greatest (arrivals 0 frames) → CameTo g false app script frames ended ls
-              → AreOneRun app (commands_of script) (by_key (length ended)) (arrivals 0 frames) ls vs
+          → AreOneRun app (commands_of script) (by_key (length ended)) (arrivals 0 frames) ls vs
           → MayHave app script (length ended) frames vs → IfOk r (λ versions. versions ≡ vs))
           → ((ls : List (List LaneEvent)) → CameTo g false app script frames ended ls → IfErr r (λ e. e ≡ NoMemory))
           → ForwardsOver app script (length begins) (frames_at start rest) before later r

@@ -94,7 +94,7 @@ arrivals-append : (n : ℕ) (frames more : List Captured) → arrivals n (frames
 arrivals-append n [] more = ap (λ k. arrivals k more) (let e : n ≡ n + 0 = omega arith in e)
 arrivals-append n (frame ∷ frames) more =
     ap (λ l. arrival_of n frame ∷ l)
-        (arrivals-append (n + 1) frames more ∙ ap (λ k. arrivals (n + 1) frames ++ arrivals k more) (let e : n + 1 + length frames ≡ n + suc (length frames) = omega arith in e))
+    (arrivals-append (n + 1) frames more ∙ ap (λ k. arrivals (n + 1) frames ++ arrivals k more) (let e : n + 1 + length frames ≡ n + suc (length frames) = omega arith in e))
 
 arrival_at : (n : ℕ) (frames : List Captured) (i : ℕ) (d : Arrival) (e : Captured) → i < length frames → get_or (arrivals n frames) i d ≡ arrival_of (n + i) (get_or frames i e)
 arrival_at n [] i d e lt = absurd (omega (arith, lt))
@@ -268,7 +268,7 @@ module _ {L : Type 0} (g : Ghosts L) (app : Meaning) (script : List Stamped) (fr
           → IsPrefix (taken_so_far l) (map right (numbers_of_share by_verdicts l (length frames)))
       taken_front few l =
           let long : length (map right (numbers_of_share by_verdicts l (length frames))) ≡ length (numbers_of_share by_verdicts l (length frames)) =
-              length-map (numbers_of_share by_verdicts l (length frames)) right in
+          length-map (numbers_of_share by_verdicts l (length frames)) right in
           shorter_front (taken_so_far l) (map right (numbers_of_share by_verdicts l (length frames))) (map right (numbers_of_share by_verdicts l (length js)))
           (IsPrefix-trans (taken_so_far l) (answers_from l) (map right (numbers_of_share by_verdicts l (length js)))
           (IsPrefix-trans (taken_so_far l) (sent_from workers l) (answers_from l) (are_sent l) (sent_front l)) (right_front l))
@@ -284,7 +284,7 @@ module _ {L : Type 0} (g : Ghosts L) (app : Meaning) (script : List Stamped) (fr
         module _ (whole_law : (s : Leaving) → Keeps by_verdicts (length frames) taken_so_far s → AreIndexed right → AreFronts by_verdicts right (length frames) taken_so_far → length frames ≤ length js
             → IsPrefix s.out (forwarded_numbers right (length js)))
             (cut_law : (s : Leaving) (a : Answer) (part : List ℕ) → Keeps by_verdicts (length frames) taken_so_far s → AreIndexed right → AreFronts by_verdicts right (length frames) taken_so_far
-                → length frames ≤ length js
+            → length frames ≤ length js
             → first_of s.waiting ≡ Some a → IsPrefix part (bytes_out a) → IsPrefix (s.out ++ part) (forwarded_numbers right (length js))) where
           part_where : (s : Leaving) (part : List ℕ) (o : Option Answer) → Keeps by_verdicts (length frames) taken_so_far s → first_of s.waiting ≡ o → IsPrefix part (bytes_of_first o)
               → IsPrefix (s.out ++ part) (forwarded_numbers right (length js))

@@ -37,7 +37,7 @@ module _ (script : List Stamped) (lanes : ℕ) (frames : List Captured) (frame :
   dealt-parts : (l : ℕ) → dealt lanes l (packets_from script 0 (frames ++ frame ∷ [])) ≡ dealt lanes l (packets_from script 0 frames) ++ dealt lanes l (sent_as script number frame ∷ [])
   dealt-parts l =
       ap (dealt lanes l) (packets-last script 0 frames frame
-          ∙ ap (λ k. packets_from script 0 frames ++ sent_as script k frame ∷ []) (let same : 0 + length frames ≡ number = omega (arith, count) in same))
+      ∙ ap (λ k. packets_from script 0 frames ++ sent_as script k frame ∷ []) (let same : 0 + length frames ≡ number = omega (arith, count) in same))
       ∙ filter-append (λ p. lane_of lanes p == l) (packets_from script 0 frames) (sent_as script number frame ∷ [])
 
   -- its own lane has one more
@@ -112,7 +112,7 @@ module _ {L : Type 0} (g : Ghosts L) (script : List Stamped) where
     -- one was sent the packet of one frame more
     pub was_sent : (lane : ℕ) (d input : LaneInput L) → lane ≡ lane_of (length inputs) (sent_as script number frame) → lane < length inputs
         → ((begin : Worker L) (packets : List Packet) → IsInput g (commands_of script) begin packets (get_or inputs lane d)
-            → IsInput g (commands_of script) begin (packets ++ sent_as script number frame ∷ []) input)
+        → IsInput g (commands_of script) begin (packets ++ sent_as script number frame ∷ []) input)
         → AreInputs g script begins (frames ++ frame ∷ []) (set inputs lane input)
     was_sent lane d input own within sends = record {
       count = are.count ∙ sym same;

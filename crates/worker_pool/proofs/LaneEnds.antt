@@ -41,7 +41,7 @@ module _ {L : Type 0} (g : Ghosts L) (last : Option Moment) where
 
   module _ (worker : Worker L) (r : Result LaneEnd LaneError) (failed : (e : LaneError) → g.failed worker.lane ≡ Some e → r ≡ Err e)
       (heavy : g.failed worker.lane ≡ None → r ≡ Err TooHeavy → (g.keeps worker.lane ≡ true)
-          × ((events : List LaneEvent) → g.stands worker.lane events → IsHeavyAtEnd (g.app worker.lane) events last)) where
+      × ((events : List LaneEvent) → g.stands worker.lane events → IsHeavyAtEnd (g.app worker.lane) events last)) where
     heavy_by : (o : Option LaneError) → g.failed worker.lane ≡ o → r ≡ Err TooHeavy → (g.failed worker.lane ≡ Some TooHeavy) ⊎ EndsHeavy g last worker
     heavy_by (Some e) is at = inl (let told = failed e is in let same : e ≡ TooHeavy = cc in is ∙ ap (λ x. Some x) same)
     heavy_by None is at = let why = heavy is at in inr (record { good = is; keeps = why.0; heavy = why.1 })

@@ -46,11 +46,11 @@ same_inputs {L} g script begins frames inputs lane d input below at still are = 
       (⊎_elim
       (λ is. subst (λ j. IsInput g (commands_of script) (get_or begins j w) (dealt (length inputs) j (packets_from script 0 frames)) (get_or (set inputs lane input) j p)) is
       (subst (λ (q : LaneInput L). IsInput g (commands_of script) (get_or begins lane w) (dealt (length inputs) lane (packets_from script 0 frames)) q)
-          (sym (get_or-set_same inputs lane input p below))
+      (sym (get_or-set_same inputs lane input p below))
       (still (get_or begins lane w) (dealt (length inputs) lane (packets_from script 0 frames))
       (subst (λ (q : LaneInput L). IsInput g (commands_of script) (get_or begins lane w) (dealt (length inputs) lane (packets_from script 0 frames)) q) (sym at) (are.each lane w d below)))))
       (λ not. subst (λ (q : LaneInput L). IsInput g (commands_of script) (get_or begins k w) (dealt (length inputs) k (packets_from script 0 frames)) q)
-          (sym (get_or-set_other inputs lane k input p (λ is. not (sym is))))
+      (sym (get_or-set_other inputs lane k input p (λ is. not (sym is))))
       (are.each k w p (let e = length-set inputs lane input in omega (arith, e, lt))))
       (cases_eq lane k));
 }
@@ -235,7 +235,7 @@ module _ {L : Type 0} (g : Ghosts L) (script : List Stamped) (inputs : List (Lan
     (few : length frames ≤ 1048576)
     (start now : CaptureState) (old left new : Option (List ℕ)) (reads : (bytes : List ℕ) → old ≡ Some bytes → IsReadTo start bytes frames now left)
     (begins : List (Worker L)) (before : Option (List ℕ)) (p : AreInputs g script begins [] inputs) (r : AreLaneAnswers begins [] all_answers)
-        (l : Leaves (lane_at (length all_answers) []) 0 (taken_from all_answers) w before out) where
+    (l : Leaves (lane_at (length all_answers) []) 0 (taken_from all_answers) w before out) where
   -- what is told of a run that has come to these frames and stops
   abbrev pub Told : List (LaneInput L) → List LaneAnswers → Waiting → Option (List ℕ) → Result Whole PoolError → Type 0
   Told inputs_now all_answers_now v after result = Dealt g script begins inputs_now (λ fs. Streamed begins fs all_answers_now v start old new before after result)
@@ -276,7 +276,7 @@ module _ {L : Type 0} (g : Ghosts L) (script : List Stamped) (inputs : List (Lan
           left = come_cut g script inputs all_answers w out frames inputs_mid inputs_now all_answers_mid all_answers_now v u mid after come begins before takes cut p r l;
           leaves = λ not.
               (come_on g script inputs all_answers w out frames inputs_mid inputs_now all_answers_mid all_answers_now v u mid after come still takes
-                  (whole (λ is. not (ap (λ x. Err x) is)))).leaves begins before p r l;
+              (whole (λ is. not (ap (λ x. Err x) is)))).leaves begins before p r l;
           front = λ bytes is. front_of start now bytes frames left (reads bytes is);
           stops = stops_early frames start old new e only;
         };

@@ -93,8 +93,8 @@ module _ (count : ℕ) where
   steps_by : (fit : Bool) (last : Option ℕ) (v : ℕ) (t : Turn) (ts us : List Turn)
       → (steps_of count (Some t.packet.index) (v + length t.commands) (ts ++ us)
       ≡ steps_of count (Some t.packet.index) (v + length t.commands) ts
-          ++ steps_of count (last_after (Some t.packet.index) (steps_of count (Some t.packet.index) (v + length t.commands) ts))
-          (version_after (v + length t.commands) (steps_of count (Some t.packet.index) (v + length t.commands) ts)) us)
+      ++ steps_of count (last_after (Some t.packet.index) (steps_of count (Some t.packet.index) (v + length t.commands) ts))
+      (version_after (v + length t.commands) (steps_of count (Some t.packet.index) (v + length t.commands) ts)) us)
       → (steps_of count last v (ts ++ us) ≡ steps_of count last v ts ++ steps_of count (last_after last (steps_of count last v ts)) (version_after v (steps_of count last v ts)) us)
       → let one : List Step = if fit then map Took t.commands ++ Handed t.packet ∷ steps_of count (Some t.packet.index) (v + length t.commands) ts else steps_of count last v ts in
       (if fit then map Took t.commands ++ Handed t.packet ∷ steps_of count (Some t.packet.index) (v + length t.commands) (ts ++ us) else steps_of count last v (ts ++ us))

@@ -74,7 +74,7 @@ module _ {L : Type 0} (g : Ghosts L) (script : List Command) (a : L) (from : Rin
   module _ (b c : L) (to : RingRx ℕ) (adv : Advanced g script a b from to) (well : g.failed b ≡ None) (floor : p.floor ≤ g.given b) (ceil : g.given b ≤ p.ceil)
       (all_known : min p.ceil (g.given a + length (known from)) ≤ g.given b)
       (stands : (events : List LaneEvent) → g.stands b events → g.stands c (with_event (Arrived (arrival_of p.index p.frame)) events)) (newest : g.last c ≡ Some p.index)
-          (version : g.given c ≡ g.given b) where
+      (version : g.given c ≡ g.given b) where
     abbrev cs : List Command
     cs = adv.done
 

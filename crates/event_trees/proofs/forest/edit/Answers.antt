@@ -20,66 +20,66 @@ Shown_list = List Shown
 pub tree_switched-requires-clause-short : goal.tree_switched-requires-clause-short
 tree_switched-requires-clause-short g c =
     subst (λ (t : TreeLists). AreShort (listing t)) (sym c.tree_of.ensures)
-        (edit-short c.args.defs.now c.requires.forest.0 (listing (g.F.ForestView.content c.args.f.now c.args.tree.now)) c.place-placed.ensures.defs c.requires.forest.1)
+    (edit-short c.args.defs.now c.requires.forest.0 (listing (g.F.ForestView.content c.args.f.now c.args.tree.now)) c.place-placed.ensures.defs c.requires.forest.1)
 
 pub tree_switched-requires-clause-canon : goal.tree_switched-requires-clause-canon
 tree_switched-requires-clause-canon g c =
     subst (λ (t : TreeLists). listing t ≡ canon_of (read_off (listing t))) (sym c.tree_of.ensures)
-        (edit-canon c.args.defs.now c.requires.forest.0 (listing (g.F.ForestView.content c.args.f.now c.args.tree.now)) c.requires.forest.1)
+    (edit-canon c.args.defs.now c.requires.forest.0 (listing (g.F.ForestView.content c.args.f.now c.args.tree.now)) c.requires.forest.1)
 
 pub tree_switched-requires-clause-new_order : goal.tree_switched-requires-clause-new_order
 tree_switched-requires-clause-new_order g c =
     let shown : Shown_list = listing (g.F.ForestView.content c.args.f.now c.args.tree.now) in
     let list : List Reg = c.requires.forest.0 in
     let private : IsPrivate c.args.defs.now (edited c.args.defs.now list c.args.reg.now c.args.on) = private-edited c.args.defs.now c.args.reg.now
-        c.args.on list c.requires.forest.1.private c.requires.forest.2 c.requires.low c.requires.high c.requires.event in
+    c.args.on list c.requires.forest.1.private c.requires.forest.2 c.requires.low c.requires.high c.requires.event in
     subst (λ (t : TreeLists). IsStrictlySortedBy placed_cmp (switched (seen c.place-placed.result) c.args.on (read_off (listing t)))) (sym c.tree_of.ensures)
     (edit-order c.args.defs.now (edited c.args.defs.now list c.args.reg.now c.args.on)
-        (switched (seen c.place-placed.result) c.args.on (read_off shown)) private
-        (edit-list c.args.defs.now list shown c.args.reg.now c.args.on (seen c.place-placed.result) c.requires.forest.1 c.place-placed.ensures.placed))
+    (switched (seen c.place-placed.result) c.args.on (read_off shown)) private
+    (edit-list c.args.defs.now list shown c.args.reg.now c.args.on (seen c.place-placed.result) c.requires.forest.1 c.place-placed.ensures.placed))
 
 pub tree_switched-requires-clause-new_few : goal.tree_switched-requires-clause-new_few
 tree_switched-requires-clause-new_few g c =
     let shown : Shown_list = listing (g.F.ForestView.content c.args.f.now c.args.tree.now) in
     let list : List Reg = c.requires.forest.0 in
     let private : IsPrivate c.args.defs.now (edited c.args.defs.now list c.args.reg.now c.args.on) = private-edited c.args.defs.now c.args.reg.now
-        c.args.on list c.requires.forest.1.private c.requires.forest.2 c.requires.low c.requires.high c.requires.event in
+    c.args.on list c.requires.forest.1.private c.requires.forest.2 c.requires.low c.requires.high c.requires.event in
     subst (λ (t : TreeLists). length (switched (seen c.place-placed.result) c.args.on (read_off (listing t))) ≤ 255) (sym c.tree_of.ensures)
     (edit-few c.args.defs.now (edited c.args.defs.now list c.args.reg.now c.args.on)
-        (switched (seen c.place-placed.result) c.args.on (read_off shown)) private
-        (edit-list c.args.defs.now list shown c.args.reg.now c.args.on (seen c.place-placed.result) c.requires.forest.1 c.place-placed.ensures.placed))
+    (switched (seen c.place-placed.result) c.args.on (read_off shown)) private
+    (edit-list c.args.defs.now list shown c.args.reg.now c.args.on (seen c.place-placed.result) c.requires.forest.1 c.place-placed.ensures.placed))
 
 pub tree_switched-requires-clause-order : goal.tree_switched-requires-clause-order
 tree_switched-requires-clause-order g c =
     subst (λ (t : TreeLists). IsStrictlySortedBy placed_cmp (read_off (listing t))) (sym c.tree_of.ensures)
-        (old-order c.args.defs.now c.requires.forest.0 (listing (g.F.ForestView.content c.args.f.now c.args.tree.now)) c.requires.forest.1)
+    (old-order c.args.defs.now c.requires.forest.0 (listing (g.F.ForestView.content c.args.f.now c.args.tree.now)) c.requires.forest.1)
 
 pub tree_switched-requires-clause-few : goal.tree_switched-requires-clause-few
 tree_switched-requires-clause-few g c =
     subst (λ (t : TreeLists). length (read_off (listing t)) ≤ 255) (sym c.tree_of.ensures)
-        (old-few c.args.defs.now c.requires.forest.0 (listing (g.F.ForestView.content c.args.f.now c.args.tree.now)) c.requires.forest.1)
+    (old-few c.args.defs.now c.requires.forest.0 (listing (g.F.ForestView.content c.args.f.now c.args.tree.now)) c.requires.forest.1)
 
 pub tree_switched-requires-clause-distinct : goal.tree_switched-requires-clause-distinct
 tree_switched-requires-clause-distinct g c =
     subst (λ (t : TreeLists). IsDistinct eqb (map (λ r. r.slot.number) (read_off (listing t)))) (sym c.tree_of.ensures)
-        (old-distinct c.args.defs.now c.requires.forest.0 (listing (g.F.ForestView.content c.args.f.now c.args.tree.now)) c.requires.forest.1)
+    (old-distinct c.args.defs.now c.requires.forest.0 (listing (g.F.ForestView.content c.args.f.now c.args.tree.now)) c.requires.forest.1)
 
 pub tree_switched-requires-clause-there : goal.tree_switched-requires-clause-there
 tree_switched-requires-clause-there g c = λ off.
     subst (λ (t : TreeLists). list_any (λ r. r.slot.number == c.place-placed.result.slot.number) (read_off (listing t)) ≡ true)
-        (sym c.tree_of.ensures) (old-there c.args.defs.now c.requires.forest.0 (listing (g.F.ForestView.content c.args.f.now c.args.tree.now))
-        c.args.reg.now c.args.on c.place-placed.result.slot.number c.requires.forest.1 c.requires.forest.2 (ap (λ (x : Placed). x.slot.number) c.place-placed.ensures.placed) off)
+    (sym c.tree_of.ensures) (old-there c.args.defs.now c.requires.forest.0 (listing (g.F.ForestView.content c.args.f.now c.args.tree.now))
+    c.args.reg.now c.args.on c.place-placed.result.slot.number c.requires.forest.1 c.requires.forest.2 (ap (λ (x : Placed). x.slot.number) c.place-placed.ensures.placed) off)
 
 pub returns-clause-listing : goal.returns-clause-listing
 returns-clause-listing g c = λ list forest switch.
     let shown : Shown_list = listing (g.F.ForestView.content c.args.f.now c.args.tree.now) in
     let private : IsPrivate c.args.defs.now (edited c.args.defs.now list c.args.reg.now c.args.on) = private-edited c.args.defs.now c.args.reg.now
-        c.args.on list forest.private switch c.requires.low c.requires.high c.requires.event in
+    c.args.on list forest.private switch c.requires.low c.requires.high c.requires.event in
     let same : switched (seen c.place-placed.result) c.args.on (read_off shown) ≡ placed c.args.defs.now
-        (edited c.args.defs.now list c.args.reg.now c.args.on) = edit-list c.args.defs.now list shown c.args.reg.now c.args.on
-        (seen c.place-placed.result) forest c.place-placed.ensures.placed in
+    (edited c.args.defs.now list c.args.reg.now c.args.on) = edit-list c.args.defs.now list shown c.args.reg.now c.args.on
+    (seen c.place-placed.result) forest c.place-placed.ensures.placed in
     let made : listing c.in_ok-new.new ≡ canon c.args.defs.now (edited c.args.defs.now list c.args.reg.now c.args.on) =
     c.in_ok-new.ensures ∙ (ap (λ (t : TreeLists). canon_of (switched (seen c.place-placed.result) c.args.on (read_off (listing t)))) c.tree_of.ensures ∙ ap canon_of same) in
     if_ok c.intern.result (λ s. g.F.ForestView.content c.intern.new.self s ≡ c.in_ok-new.new)
-        (λ s. IsForestOf c.args.defs.now (edited c.args.defs.now list c.args.reg.now c.args.on)
-        (listing (g.F.ForestView.content c.intern.new.self s))) c.intern.ensures.content (λ s is. record { private = private; listed = ap listing is ∙ made })
+    (λ s. IsForestOf c.args.defs.now (edited c.args.defs.now list c.args.reg.now c.args.on)
+    (listing (g.F.ForestView.content c.intern.new.self s))) c.intern.ensures.content (λ s is. record { private = private; listed = ap listing is ∙ made })

@@ -27,9 +27,12 @@ loop-i-init c =
 pub count_last-requires-clause-room : goal.count_last-requires-clause-room
 count_last-requires-clause-room c =
     let pushed : c.deref_mut.result.now ≡ c.loop-i.nodes.items ++ fresh_nodes c.loop-i.i c.events.result.now c.events-in-loop-i.result.now = c.deref_mut.ensures.value ∙ c.in_ok-push_nodes.ensures in
-    omega (arith, built-room_turn c.args.regs.now c.loop-i.i (path_of c.loop-i.last) c.events.result.now c.events-in-loop-i.result.now
-        c.loop-i.nodes.items c.deref_mut.result.now (record { event = 0; depth = 0; below = 0; first = 0; count = 0 }) (omega arith)
-        c.events.ensures.events pushed c.loop-i.invariant.0)
+    omega (
+      arith,
+      built-room_turn c.args.regs.now c.loop-i.i (path_of c.loop-i.last) c.events.result.now c.events-in-loop-i.result.now
+          c.loop-i.nodes.items c.deref_mut.result.now (record { event = 0; depth = 0; below = 0; first = 0; count = 0 }) (omega arith)
+          c.events.ensures.events pushed c.loop-i.invariant.0,
+    )
 
 pub loop-i-preserved : goal.loop-i-preserved
 loop-i-preserved c =
@@ -38,10 +41,12 @@ loop-i-preserved c =
     let long : length after ≡ c.push_nodes.new.nodes.len = omega (arith, ap length bump, bumped-length c.push_nodes.new.nodes.items, c.push_nodes.new.nodes.ok.0) in
     let back : take c.push_nodes.new.nodes.len (after ++ drop (length after) c.push_nodes.new.nodes.items) ≡ after = lent_back c.push_nodes.new.nodes.len after c.push_nodes.new.nodes.items long in
     let turn = built-turn c.args.regs.now c.loop-i.i c.index-regs-i.result (path_of c.loop-i.last) c.events.result.now c.events-in-loop-i.result.now
-        c.loop-i.nodes.items c.push_nodes.new.nodes.items after (omega arith) c.events.ensures.events c.events-in-loop-i.ensures.events
-        c.events-in-loop-i.ensures.within c.in_ok-push_nodes.ensures bump c.loop-i.invariant.0 c.loop-i.invariant.1 in
-    (subst (λ (l : List Node). Built (seen_slots c.args.regs.now) (take (c.loop-i.i + 1) (all_seen c.args.regs.now))
-        (path_of (get_or c.args.regs.now c.loop-i.i c.index-regs-i.result).path) l) (sym back) turn.0, turn.1)
+    c.loop-i.nodes.items c.push_nodes.new.nodes.items after (omega arith) c.events.ensures.events c.events-in-loop-i.ensures.events
+    c.events-in-loop-i.ensures.within c.in_ok-push_nodes.ensures bump c.loop-i.invariant.0 c.loop-i.invariant.1 in (
+      subst (λ (l : List Node). Built (seen_slots c.args.regs.now) (take (c.loop-i.i + 1) (all_seen c.args.regs.now))
+          (path_of (get_or c.args.regs.now c.loop-i.i c.index-regs-i.result).path) l) (sym back) turn.0,
+      turn.1,
+    )
 
 built-end : (regs : List PlacedReg) (i : ℕ) (q : List ℕ) (nodes after : List Node) → i ≡ length regs → after ≡ counted nodes
     → IsStrictlySortedBy placed_cmp (all_seen regs) → Built (seen_slots regs) (take i (all_seen regs)) q nodes → IsTree after (seen_slots regs)
@@ -65,11 +70,11 @@ returns-clause-tree c =
     let at_end : c.loop-i.i ≡ length c.args.regs.now = omega arith in
     let back = returned c.loop-i.nodes.len c.count_below.new.nodes c.loop-i.nodes.items c.deref_mut-2.result.now c.loop-i.nodes.ok.0 c.count_below.ensures c.deref_mut-2.ensures.value in
     (built-end c.args.regs.now c.loop-i.i (path_of c.loop-i.last) c.loop-i.nodes.items
-        (take c.loop-i.nodes.len (c.count_below.new.nodes ++ drop (length c.count_below.new.nodes) c.loop-i.nodes.items)) at_end back c.requires.order c.loop-i.invariant.0).0
+    (take c.loop-i.nodes.len (c.count_below.new.nodes ++ drop (length c.count_below.new.nodes) c.loop-i.nodes.items)) at_end back c.requires.order c.loop-i.invariant.0).0
 
 pub returns-clause-listing : goal.returns-clause-listing
 returns-clause-listing c =
     let at_end : c.loop-i.i ≡ length c.args.regs.now = omega arith in
     let back = returned c.loop-i.nodes.len c.count_below.new.nodes c.loop-i.nodes.items c.deref_mut-2.result.now c.loop-i.nodes.ok.0 c.count_below.ensures c.deref_mut-2.ensures.value in
     (built-end c.args.regs.now c.loop-i.i (path_of c.loop-i.last) c.loop-i.nodes.items
-        (take c.loop-i.nodes.len (c.count_below.new.nodes ++ drop (length c.count_below.new.nodes) c.loop-i.nodes.items)) at_end back c.requires.order c.loop-i.invariant.0).1
+    (take c.loop-i.nodes.len (c.count_below.new.nodes ++ drop (length c.count_below.new.nodes) c.loop-i.nodes.items)) at_end back c.requires.order c.loop-i.invariant.0).1

@@ -11,7 +11,7 @@ pub returns-in_ok-insert-clause-private : goal.returns-in_ok-insert-clause-priva
 returns-in_ok-insert-clause-private c =
     let made : c.insert.new.self.items ≡ edited c.args.defs.now c.args.active.now c.args.reg.now c.args.on = search rules in
     subst (IsPrivate c.args.defs.now) (sym made) (private-edited c.args.defs.now c.args.reg.now c.args.on c.args.active.now c.requires.private
-        c.requires.switchable c.requires.low (omega arith) c.requires.event)
+    c.requires.switchable c.requires.low (omega arith) c.requires.event)
 
 pub returns-else-on-clause-ok : goal.returns-else-on-clause-ok
 returns-else-on-clause-ok c =
@@ -22,7 +22,7 @@ returns-else-on-clause-ok c =
 pub returns-else-on-clause-private : goal.returns-else-on-clause-private
 returns-else-on-clause-private c =
     subst (IsPrivate c.args.defs.now) (sym (returns-else-on-clause-ok c))
-        (private-edited c.args.defs.now c.args.reg.now c.args.on c.args.active.now c.requires.private c.requires.switchable c.requires.low (omega arith) c.requires.event)
+    (private-edited c.args.defs.now c.args.reg.now c.args.on c.args.active.now c.requires.private c.requires.switchable c.requires.low (omega arith) c.requires.event)
 
 pub returns-in_err-insert-clause-few : goal.returns-in_err-insert-clause-few
 returns-in_err-insert-clause-few c =

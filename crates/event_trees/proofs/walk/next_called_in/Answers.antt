@@ -20,10 +20,10 @@ loop-number-preserved g c =
     let none : called c.args.hook (pending_at tree.slots p) ≡ [] = subst (λ (s : List Slot). called c.args.hook (drop p.slot (take p.end s)) ≡ []) slots_are c.in_default.ensures.none in
     let here : walked keep c.args.hook 0 (drop p.node tree.nodes) tree.slots ≡ called c.args.hook (slots_of n tree.slots) ++ walked keep c.args.hook 0 (drop c.in_ok-node.after tree.nodes) tree.slots =
     subst (λ (l : List Node). walked keep c.args.hook 0 (drop p.node l) tree.slots ≡ called c.args.hook (slots_of n tree.slots) ++ walked keep
-        c.args.hook 0 (drop c.in_ok-node.after l) tree.slots) nodes_are (c.in_ok-node.ensures.some c.args.hook tree.slots) in
+    c.args.hook 0 (drop c.in_ok-node.after l) tree.slots) nodes_are (c.in_ok-node.ensures.some c.args.hook tree.slots) in
     let next : walked keep c.args.hook 0 (drop p.node tree.nodes) tree.slots ≡ called c.args.hook (slots_of n tree.slots) ++ walked keep c.args.hook 0 (drop q.node tree.nodes) tree.slots =
     subst (λ (k : ℕ). walked keep c.args.hook 0 (drop p.node tree.nodes) tree.slots ≡ called c.args.hook (slots_of n tree.slots) ++ walked keep
-        c.args.hook 0 (drop k tree.nodes) tree.slots) (sym c.of-place.ensures.node) here in
+    c.args.hook 0 (drop k tree.nodes) tree.slots) (sym c.of-place.ensures.node) here in
     let held : Contains tree.nodes n = subst (λ (l : List Node). Contains l n) nodes_are c.in_ok-node.ensures.node in
     let within : n.first + n.count ≤ length tree.slots = node-within tree.nodes tree.slots n c.slots-slots.ensures.tree held in (
       omega (arith, within, ap length slots_are, c.of-place.ensures.end),

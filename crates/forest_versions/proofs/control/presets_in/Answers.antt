@@ -16,5 +16,5 @@ pub loop-reg-preserved : goal.loop-reg-preserved
 loop-reg-preserved c =
     let made : c.switch.new.active ≡ put_reg c.args.defs.now c.reg-item.result c.loop-reg.regs = c.in_ok-switch.ensures.ok in
     subst (λ (l : List Reg). Placing c.args.defs.now c.args.presets.now l (c.loop-reg.reg-index + 1)) (sym made)
-        (placing-next c.args.defs.now c.args.presets.now c.loop-reg.regs c.loop-reg.reg-index c.reg-item.result c.requires.none c.loop-reg.invariant
-        c.loop-reg-test.true c.reg-item.is (subst (IsPrivate c.args.defs.now) made c.in_ok-switch.ensures.private))
+    (placing-next c.args.defs.now c.args.presets.now c.loop-reg.regs c.loop-reg.reg-index c.reg-item.result c.requires.none c.loop-reg.invariant
+    c.loop-reg-test.true c.reg-item.is (subst (IsPrivate c.args.defs.now) made c.in_ok-switch.ensures.private))

@@ -15,15 +15,17 @@ pub build-requires : goal.build-requires
 build-requires g c =
     let list : c.in_ok-list.list ≡ filter (λ (r : Reg). r.on) c.args.control.now.regs = c.in_ok-list.ensures ∙ ap (filter (λ (r : Reg). r.on)) c.regs.ensures in
     let private : IsPrivate c.args.control.now.defs (filter (λ (r : Reg). r.on) c.args.control.now.regs) = private-filter c.args.control.now.defs
-        (λ (r : Reg). r.on) c.args.control.now.regs c.sound.ensures.private in
+    (λ (r : Reg). r.on) c.args.control.now.regs c.sound.ensures.private in
     subst (λ (d : List EventDef). IsPrivate d c.in_ok-list.list) (sym c.defs.ensures) (subst (IsPrivate c.args.control.now.defs) (sym list) private)
 
 pub returns-clause-forest : goal.returns-clause-forest
 returns-clause-forest g c =
     let list : c.in_ok-list.list ≡ active c.args.control.now = c.in_ok-list.ensures ∙ ap (filter (λ (r : Reg). r.on)) c.regs.ensures in
     let made : canon c.defs.result.now c.in_ok-list.list ≡ canon c.args.control.now.defs (active c.args.control.now) = ap
-        (λ (d : List EventDef). canon d c.in_ok-list.list) c.defs.ensures ∙ ap (canon c.args.control.now.defs) list in
+    (λ (d : List EventDef). canon d c.in_ok-list.list) c.defs.ensures ∙ ap (canon c.args.control.now.defs) list in
     ok-weaker (λ s. listing (g.F.ForestView.content c.build.new.f s) ≡ canon c.defs.result.now c.in_ok-list.list)
-        (λ s. IsForestOf c.args.control.now.defs (active c.args.control.now) (listing (g.F.ForestView.content c.build.new.f s))) c.build.result
-        (λ s h. record { private = private-filter c.args.control.now.defs (λ (r : Reg). r.on) c.args.control.now.regs c.sound.ensures.private;
-        listed = h ∙ made }) c.build.ensures.listing
+    (λ s. IsForestOf c.args.control.now.defs (active c.args.control.now) (listing (g.F.ForestView.content c.build.new.f s))) c.build.result
+    (λ s h. record {
+      private = private-filter c.args.control.now.defs (λ (r : Reg). r.on) c.args.control.now.regs c.sound.ensures.private;
+      listed = h ∙ made;
+    }) c.build.ensures.listing

@@ -24,7 +24,7 @@ returns-clause-light g c =
     on_ok_weaker c.packet.result (λ light keeps ps f.
     let now = c.give.ensures.follows good ps f in
     let over = packet_over (g.L.Recorder.app c.args.lane.now) c.args.script.now (g.L.Recorder.given lane) c.args.number c.args.frame.now
-        (g.L.Recorder.stands lane) ps (c.give.ensures.under good).within
+    (g.L.Recorder.stands lane) ps (c.give.ensures.under good).within
     (c.give.ensures.given good ∙ c.ceil.ensures.ceil) now c.one_event_more.ensures c.later_commands_change_none.ensures in
     λ is. light (c.give.ensures.keeps ∙ keeps) now.events now.stands_for
     (subst (λ a. IsHeavy a (with_event (Arrived (arrival_of c.args.number c.args.frame.now)) now.events)) (sym c.give.ensures.app) (over.1 is))) c.packet.ensures.light
@@ -38,7 +38,7 @@ returns-clause-heavy g c = λ bad.
       λ ps f.
           let now = c.give.ensures.follows good ps f in
           let over = packet_over (g.L.Recorder.app c.args.lane.now) c.args.script.now (g.L.Recorder.given lane) c.args.number c.args.frame.now
-              (g.L.Recorder.stands lane) ps (c.give.ensures.under good).within
+          (g.L.Recorder.stands lane) ps (c.give.ensures.under good).within
           (c.give.ensures.given good ∙ c.ceil.ensures.ceil) now c.one_event_more.ensures c.later_commands_change_none.ensures in
           over.0 (subst (λ a. IsHeavy a (with_event (Arrived (arrival_of c.args.number c.args.frame.now)) now.events)) c.give.ensures.app (heavy.1 now.events now.stands_for)),
     )

@@ -32,7 +32,7 @@ loop-alloc-preserved g c =
       before = omega (arith, version, less, c.version.ensures);
       follows = λ ps f. subst (λ n. Follows c.args.script.now n (g.L.Recorder.stands new) ps) (sym version)
           (follows_command c.one_event_more.ensures c.args.script.now (g.L.Recorder.given lane) c.in-Some.command.now (g.L.Recorder.stands lane)
-              (g.L.Recorder.stands new) ps at (e.stands inv.good) (inv.follows ps f));
+          (g.L.Recorder.stands new) ps at (e.stands inv.good) (inv.follows ps f));
       newest = e.newest ∙ inv.newest;
       app = e.app ∙ inv.app;
       keeps = e.keeps ∙ inv.keeps;

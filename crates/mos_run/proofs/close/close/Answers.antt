@@ -19,7 +19,7 @@ returns-in_err-items-clause-ends g c = λ header frames before count is_last rea
     let error = err_from_is_err_and c.from_residual.result c.from_residual.ensures.1 in
     rw (error.1, error.2)
     (reported_badly (g.L.Recorder.app lane) plan.script.now plan.output frames (g.L.Recorder.given lane) (g.L.Recorder.failed lane)
-        (g.L.Recorder.stands lane) (g.L.Recorder.keeps lane) c.args.last c.later_commands_change_none.ensures is_last read
+    (g.L.Recorder.stands lane) (g.L.Recorder.keeps lane) c.args.last c.later_commands_change_none.ensures is_last read
     c.in-Report.is c.requires.keeps c.args.packets c.args.tail count header before
     g.O.Sink.taken c.args.out.now c.report.new.out c.report.result c.in_err-items.field-0.0 c.weight_never_falls.ensures c.in_err-items.was
     c.report.ensures.failed c.in_err-items.ensures.text c.report.ensures.too_heavy c.report.ensures.heavy first front)
@@ -31,7 +31,7 @@ returns-in-Report-clause-ends g c = λ header frames before count is_last read f
     let good = was_good_report (g.L.Recorder.failed lane) c.report.result c.in_ok-items.items (λ e is. (c.report.ensures.failed e is).0) c.in_ok-items.was in
     let kept : g.L.Recorder.keeps lane ≡ true = c.requires.keeps ∙ ap (λ o. not (is_forward o)) c.in-Report.is in
     reported_well (g.L.Recorder.app lane) plan.script.now plan.output frames (g.L.Recorder.given lane) (g.L.Recorder.failed lane)
-        (g.L.Recorder.stands lane) (g.L.Recorder.keeps lane) c.args.last c.later_commands_change_none.ensures is_last read
+    (g.L.Recorder.stands lane) (g.L.Recorder.keeps lane) c.args.last c.later_commands_change_none.ensures is_last read
     c.in-Report.is c.requires.keeps c.args.packets c.args.tail count header before
     c.report.result c.in_ok-items.items c.in_ok-items.items.items (g.O.Sink.taken c.args.out.now) (g.O.Sink.taken c.report.new.out) c.in_ok-items.was good
     (c.in_ok-items.ensures.text good) (c.in_ok-items.ensures.versions good) (λ events s over. (c.report.ensures.too_heavy good kept events s over).0) first
@@ -46,7 +46,7 @@ returns-in_err-end-clause-ends g c = λ header frames before count is_last read 
     rw (error.1, error.2)
     (ends_not app plan.script.now (packets_of plan.script.now) plan.output frames header c.args.tail c.in_err-end.field-0.0 before (g.O.Sink.taken c.args.out.now)
     (λ heavy. end_is_heavy app plan.script.now plan.output frames (g.L.Recorder.given lane) (g.L.Recorder.failed lane) (g.L.Recorder.stands lane)
-        (g.L.Recorder.keeps lane) c.args.last c.later_commands_change_none.ensures is_last read
+    (g.L.Recorder.keeps lane) c.args.last c.later_commands_change_none.ensures is_last read
     c.weight_never_falls.ensures c.requires.keeps (λ good. c.count.ensures.heavy good (c.in_err-end.was ∙ ap (λ e. Err e) heavy)))
     front)
 
@@ -58,20 +58,20 @@ returns-in_err-write_counts-clause-ends g c = λ header frames before count is_l
     let end = c.in_ok-end.end in
     let good = was_good (g.L.Recorder.failed lane) c.count.result end c.count.ensures.failed c.in_ok-end.was in
     let is = counted_is app plan.script.now plan.output frames (g.L.Recorder.given lane) (g.L.Recorder.failed lane) (g.L.Recorder.stands lane)
-        (g.L.Recorder.keeps lane) c.args.last c.later_commands_change_none.ensures is_last read
+    (g.L.Recorder.keeps lane) c.args.last c.later_commands_change_none.ensures is_last read
     end.versions.items end.callbacks end.drops good (c.in_ok-end.ensures.counted good) in
     let light = end_is_light app plan.script.now plan.output frames (g.L.Recorder.given lane) (g.L.Recorder.failed lane) (g.L.Recorder.stands lane)
-        (g.L.Recorder.keeps lane) c.args.last c.later_commands_change_none.ensures is_last read
+    (g.L.Recorder.keeps lane) c.args.last c.later_commands_change_none.ensures is_last read
     good c.requires.keeps c.in_ok-end.ensures.light in
     let text = closing_is app plan.script.now plan.output frames end.versions.items end.callbacks end.drops c.args.packets
-        (length c.as_slice-versions.result.now) c.args.tail is count (ap length c.as_slice-versions.ensures.value) in
+    (length c.as_slice-versions.result.now) c.args.tail is count (ap length c.as_slice-versions.ensures.value) in
     let error = err_from_is_err_and c.from_residual-in_err-write_counts.result c.from_residual-in_err-write_counts.ensures.1 in
     let which = subst (λ e. ((e ≡ Run.WriteFault) × (is_forward plan.output ≡ false)) ⊎ (e ≡ Run.NoMemory)) (sym error.2) c.in_err-write_counts.ensures.only in
     let last = subst (AppendsFront (g.O.Sink.taken c.args.out.now) (g.O.Sink.taken c.write_counts.new.out)) text
-        (c.in_err-write_counts.ensures.text (map (record_of app) (records_of app plan.script.now (packets_of plan.script.now) frames))) in
+    (c.in_err-write_counts.ensures.text (map (record_of app) (records_of app plan.script.now (packets_of plan.script.now) frames))) in
     rw (error.1)
     (ends_badly app plan.script.now (packets_of plan.script.now) plan.output frames header c.args.tail error.0 before (g.O.Sink.taken c.args.out.now)
-        (g.O.Sink.taken c.write_counts.new.out) light which first last)
+    (g.O.Sink.taken c.write_counts.new.out) light which first last)
 
 pub returns-clause-ends : goal.returns-clause-ends
 returns-clause-ends g c = λ header frames before count is_last read first.
@@ -81,14 +81,14 @@ returns-clause-ends g c = λ header frames before count is_last read first.
     let end = c.in_ok-end.end in
     let good = was_good (g.L.Recorder.failed lane) c.count.result end c.count.ensures.failed c.in_ok-end.was in
     let is = counted_is app plan.script.now plan.output frames (g.L.Recorder.given lane) (g.L.Recorder.failed lane) (g.L.Recorder.stands lane)
-        (g.L.Recorder.keeps lane) c.args.last c.later_commands_change_none.ensures is_last read
+    (g.L.Recorder.keeps lane) c.args.last c.later_commands_change_none.ensures is_last read
     end.versions.items end.callbacks end.drops good (c.in_ok-end.ensures.counted good) in
     let light = end_is_light app plan.script.now plan.output frames (g.L.Recorder.given lane) (g.L.Recorder.failed lane) (g.L.Recorder.stands lane)
-        (g.L.Recorder.keeps lane) c.args.last c.later_commands_change_none.ensures is_last read
+    (g.L.Recorder.keeps lane) c.args.last c.later_commands_change_none.ensures is_last read
     good c.requires.keeps c.in_ok-end.ensures.light in
     let text = closing_is app plan.script.now plan.output frames end.versions.items end.callbacks end.drops c.args.packets
-        (length c.as_slice-versions.result.now) c.args.tail is count (ap length c.as_slice-versions.ensures.value) in
+    (length c.as_slice-versions.result.now) c.args.tail is count (ap length c.as_slice-versions.ensures.value) in
     let last = subst (Appends (g.O.Sink.taken c.args.out.now) (g.O.Sink.taken c.write_counts.new.out)) text
-        (c.in_ok-write_counts.ensures.text (map (record_of app) (records_of app plan.script.now (packets_of plan.script.now) frames))) in
+    (c.in_ok-write_counts.ensures.text (map (record_of app) (records_of app plan.script.now (packets_of plan.script.now) frames))) in
     ends_well app plan.script.now (packets_of plan.script.now) plan.output frames header c.args.tail _ before (g.O.Sink.taken c.args.out.now)
-        (g.O.Sink.taken c.write_counts.new.out) light is.versions_are first last
+    (g.O.Sink.taken c.write_counts.new.out) light is.versions_are first last

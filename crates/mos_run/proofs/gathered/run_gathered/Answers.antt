@@ -18,7 +18,7 @@ pub returns-in-Err-clause-ran : goal.returns-in-Err-clause-ran
 returns-in-Err-clause-ran g c =
     let refused = c.refuse-ended.ensures in
     ran_without_memory g.S.Source g.H.Shelf g.O.Sink g.E.Sink (map string_bytes c.args.words.now) c.args.capture.now c.args.shelf.now c.args.out _
-        c.args.err.now c.refuse-ended.new.err c.refuse-ended.result
+    c.args.err.now c.refuse-ended.new.err c.refuse-ended.result
     (λ x is. has_some c.what_one_worker_has_is_allowed.ensures.allowed _ _ _ x is) c.in-Err.ensures.err (either-six _ refused.status) refused.versions refused.told refused.lasts
 
 pub returns-clause-done : goal.returns-clause-done
@@ -49,7 +49,7 @@ returns-clause-ran g c =
     let sound = new.sound in
     let first : gathering_faults a ≡ g.O.Sink.faults out = omega (arith, below, sound) in
     let run = ran_below g.S.Source g.H.Shelf g.O.Sink g.E.Sink words c.args.capture.now c.run_mos-ended.new.capture c.args.shelf.now
-        c.run_mos-ended.new.shelf out got _ a b c.args.err.now c.run_mos-ended.new.err c.run_mos-ended.result (record {
+    c.run_mos-ended.new.shelf out got _ a b c.args.err.now c.run_mos-ended.new.err c.run_mos-ended.result (record {
       still = λ same. inner.inner ∙ ap inner_of (finish.idle (ap failures_of same ∙ new.sound) (ap held_of same ∙ new.empty)).1 ∙ ap inner_of same ∙ new.over;
       later = subst (λ x. g.O.Sink.faults x ≤ g.O.Sink.faults got) start inner.counts;
       rose = rose_below g.O.Sink.faults out (start_of handed) (gathering_faults a) (gathering_faults b) (gathering_faults handed) (g.O.Sink.faults got) start first finish.cause.later inner.cause;
@@ -61,7 +61,7 @@ returns-clause-ran g c =
     (λ same. let stays = after.stays same in rw (stays.0, stays.1) run)
     (λ failed zero.
     ran_failed g.S.Source g.H.Shelf g.O.Sink g.E.Sink words c.args.capture.now c.run_mos-ended.new.capture c.args.shelf.now c.run_mos-ended.new.shelf
-        out got c.args.err.now c.run_mos-ended.new.err c.handed_on-ended.new.err
+    out got c.args.err.now c.run_mos-ended.new.err c.handed_on-ended.new.err
     c.run_mos-ended.result c.handed_on-ended.result _ _ run zero (c.run_mos-ended.ensures.done zero)
     (rose_below g.O.Sink.faults out (start_of handed) (gathering_faults a) (gathering_faults handed) (gathering_faults handed) (g.O.Sink.faults got) start first (le_refl _) inner.cause
     (rose_since (gathering_faults a) (gathering_faults b) (gathering_faults handed) ran.write_fault.later (finish.cause.failed failed)))

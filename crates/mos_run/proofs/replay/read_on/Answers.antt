@@ -93,7 +93,7 @@ returns-in_err-next-clause-runs g c = λ bytes before r written.
     let p = err_from_is_err_and c.from_residual-in_err-next.result c.from_residual-in_err-next.ensures.1 in
     rw (p.1, p.2)
     (subst (λ a. RunsAs (outcome_over a plan.script.now (packets_of plan.script.now) plan.output bytes) before (g.O.Sink.taken c.hand_on.new.out)
-        (Err (record_refusal c.in_err-next.field-0.0))) inv.app (
+    (Err (record_refusal c.in_err-next.field-0.0))) inv.app (
       refused_record app plan.script.now plan.output bytes _ _ at.capture c.next.new.self read.0 c.next.new.frame c.in_err-next.field-0.0 rep step,
       front_so_far app plan.script.now plan.output bytes _ at.capture read.0 before (g.O.Sink.taken c.hand_on.new.out) rep
           (Appends-kept before (g.O.Sink.taken at.out) (g.O.Sink.taken c.hand_on.new.out) _ (read.4 before written) c.hand_on.ensures.bytes),
@@ -243,12 +243,12 @@ loop-frame-preserved g c =
         taken.reads refl read.0 read.1 read.3,
         λ before written.
             subst (λ a. Appends before (g.O.Sink.taken c.take.new.out)
-                (streamed a plan.script.now (packets_of plan.script.now) plan.output c.next.new.self.header (read.0 ++ frame ∷ []))) (sym c.take.ensures.app)
+            (streamed a plan.script.now (packets_of plan.script.now) plan.output c.next.new.self.header (read.0 ++ frame ∷ []))) (sym c.take.ensures.app)
             (subst (λ h. Appends before (g.O.Sink.taken c.take.new.out) (streamed app plan.script.now (packets_of plan.script.now) plan.output h (read.0 ++ frame ∷ []))) (sym moved.header)
             (subst (Appends before (g.O.Sink.taken c.take.new.out)) (sym (streamed_last app plan.script.now plan.output at.capture.header read.0 frame))
             (Appends-trans before (g.O.Sink.taken c.hand_on.new.out) (g.O.Sink.taken c.take.new.out) _ _
-                (Appends-kept before (g.O.Sink.taken at.out) (g.O.Sink.taken c.hand_on.new.out) _ (read.4 before written) c.hand_on.ensures.bytes)
-                (taken.writes read.0 read.1 read.3)))),
+            (Appends-kept before (g.O.Sink.taken at.out) (g.O.Sink.taken c.hand_on.new.out) _ (read.4 before written) c.hand_on.ensures.bytes)
+            (taken.writes read.0 read.1 read.3)))),
         λ bytes r.
             let rep = read.5 bytes r in
             let gives = subst (λ s. NextGives at.capture c.next.new.self (g.S.Source.left at.source) (g.S.Source.left c.next.new.source) frame (Ok s)) c.in-Frame.is c.in_ok-next.ensures.gives in
@@ -276,7 +276,7 @@ returns-in-Tail-clause-runs g c = λ bytes before r written.
     subst (λ a. RunsAs (outcome_over a plan.script.now (packets_of plan.script.now) plan.output bytes) before (g.O.Sink.taken c.close.new.out) c.close.result) inv.app
     (subst (λ o. RunsAs o before (g.O.Sink.taken c.close.new.out) c.close.result) (sym (ended_at app plan.script.now plan.output bytes _ at.capture read.0 c.in-Tail.bytes rep step.steps.0))
     (c.close.ensures.ends at.capture.header read.0 before read.1 read.2 read.3
-        (Appends-kept before (g.O.Sink.taken at.out) (g.O.Sink.taken c.hand_on.new.out) _ (read.4 before written) c.hand_on.ensures.bytes)))
+    (Appends-kept before (g.O.Sink.taken at.out) (g.O.Sink.taken c.hand_on.new.out) _ (read.4 before written) c.hand_on.ensures.bytes)))
 
 pub returns-in-Tail-clause-read : goal.returns-in-Tail-clause-read
 returns-in-Tail-clause-read g c = λ ok bytes r.
@@ -307,7 +307,7 @@ returns-in-End-clause-runs g c = λ bytes before r written.
     subst (λ a. RunsAs (outcome_over a plan.script.now (packets_of plan.script.now) plan.output bytes) before (g.O.Sink.taken c.close-in-End.new.out) c.close-in-End.result) inv.app
     (subst (λ o. RunsAs o before (g.O.Sink.taken c.close-in-End.new.out) c.close-in-End.result) (sym (ended_at app plan.script.now plan.output bytes _ at.capture read.0 0 rep step.steps.0))
     (c.close-in-End.ensures.ends at.capture.header read.0 before read.1 read.2 read.3
-        (Appends-kept before (g.O.Sink.taken at.out) (g.O.Sink.taken c.hand_on.new.out) _ (read.4 before written) c.hand_on.ensures.bytes)))
+    (Appends-kept before (g.O.Sink.taken at.out) (g.O.Sink.taken c.hand_on.new.out) _ (read.4 before written) c.hand_on.ensures.bytes)))
 
 pub returns-in-End-clause-read : goal.returns-in-End-clause-read
 returns-in-End-clause-read g c = λ ok bytes r.
@@ -320,7 +320,7 @@ returns-in-End-clause-read g c = λ ok bytes r.
 pub returns-in-End-clause-reads : goal.returns-in-End-clause-reads
 returns-in-End-clause-reads g c =
     reads_whole g.S.Source c.args.plan.now.output _ _ _ c.close-in-End.result (c.in_ok-next.ensures.ended (λ frame. let is = c.in-End.is in cc))
-        (no_read_end c.close-in-End.result c.close-in-End.ensures.only)
+    (no_read_end c.close-in-End.result c.close-in-End.ensures.only)
 
 pub returns-in-End-clause-silent : goal.returns-in-End-clause-silent
 returns-in-End-clause-silent g c = λ is. IfErr-weaker c.close-in-End.result _ _ (λ e same write memory. same write memory

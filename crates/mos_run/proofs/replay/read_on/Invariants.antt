@@ -27,7 +27,7 @@ invariant-loop-frame g l = record {
   read : (frames : List Captured) × (length frames ≡ l.packets) × (l.last ≡ greatest (arrivals 0 frames))
       × IsRead (g.L.Recorder.app l.lane) l.plan.script.now l.plan.output (g.L.Recorder.given l.lane) (g.L.Recorder.failed l.lane) (g.L.Recorder.stands l.lane) frames
       × ((before : Option (List ℕ)) → Appends before (g.O.Sink.taken l.fn.out)
-          (streamed (g.L.Recorder.app l.fn.lane) l.plan.script.now (packets_of l.plan.script.now) l.plan.output l.fn.capture.header [])
+      (streamed (g.L.Recorder.app l.fn.lane) l.plan.script.now (packets_of l.plan.script.now) l.plan.output l.fn.capture.header [])
       → Appends before (g.O.Sink.taken l.out) (streamed (g.L.Recorder.app l.lane) l.plan.script.now (packets_of l.plan.script.now) l.plan.output l.capture.header frames))
       × ((bytes : List ℕ) → Replaying bytes (g.S.Source.left l.fn.source) l.fn.capture [] → Replaying bytes (g.S.Source.left l.source) l.capture frames);
 }

@@ -74,7 +74,7 @@ returns-in_err-lane g c = record {
         let start = c.in_ok-capture.ensures.start in
         let rep = opened_replay (g.S.Source.left c.args.source.now) (g.S.Source.left c.open.new.source) c.in_ok-capture.capture bytes c.in_ok-capture.ensures.gives start.count start.offset told in
         let written = header_written app plan.script.now plan.output c.in_ok-capture.capture.header (g.O.Sink.taken c.args.out.now)
-            (g.O.Sink.taken c.write_front.new.out) c.in_ok-write_front.ensures.text in
+        (g.O.Sink.taken c.write_front.new.out) c.in_ok-write_front.ensures.text in
         let p = err_from_is_err_and c.from_residual-in_err-lane.result c.from_residual-in_err-lane.ensures.1 in
         rw (p.1, p.2)
         (inr (inr (inl refl)), front_so_far app plan.script.now plan.output bytes _ c.in_ok-capture.capture [] (g.O.Sink.taken c.args.out.now) (g.O.Sink.taken c.write_front.new.out) rep written);
@@ -105,9 +105,9 @@ returns g c = record {
         let start = c.in_ok-capture.ensures.start in
         let rep = opened_replay (g.S.Source.left c.args.source.now) (g.S.Source.left c.open.new.source) c.in_ok-capture.capture bytes c.in_ok-capture.ensures.gives start.count start.offset told in
         let written = header_written (meaning_of lane.world.app.0) plan.script.now plan.output c.in_ok-capture.capture.header
-            (g.O.Sink.taken c.args.out.now) (g.O.Sink.taken c.write_front.new.out) c.in_ok-write_front.ensures.text in
+        (g.O.Sink.taken c.args.out.now) (g.O.Sink.taken c.write_front.new.out) c.in_ok-write_front.ensures.text in
         subst (λ a. RunsAs (outcome_over a plan.script.now (packets_of plan.script.now) plan.output bytes) (g.O.Sink.taken c.args.out.now)
-            (g.O.Sink.taken c.read_on.new.out) c.read_on.result) c.in_ok-lane.ensures.app
+        (g.O.Sink.taken c.read_on.new.out) c.read_on.result) c.in_ok-lane.ensures.app
         (c.read_on.ensures.runs bytes (g.O.Sink.taken c.args.out.now) rep written);
     read = λ ok bytes told.
         let start = c.in_ok-capture.ensures.start in
@@ -123,7 +123,7 @@ returns g c = record {
           begun = λ kept. ⊎_elim (λ idle. inl (idle.0 ∙ (c.write_front.ensures.silent kept).1, idle.1)) (λ ended. inr ended) (reads.begun kept);
           cut = λ fault bytes told none.
               let rep = opened_replay (g.S.Source.left c.args.source.now) (g.S.Source.left c.open.new.source) c.in_ok-capture.capture bytes
-                  c.in_ok-capture.ensures.gives start.count start.offset told in
+              c.in_ok-capture.ensures.gives start.count start.offset told in
               reads.cut fault bytes rep none;
         };
     from = search rules;

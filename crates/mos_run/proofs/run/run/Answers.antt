@@ -10,7 +10,7 @@ returns-in_err-settings-clause-runs g c = λ t is.
     let p = err_from_is_err_and c.from_residual.result c.from_residual.ensures.1 in
     rw (p.1, p.2)
     (refused_words c.what_one_worker_has_is_allowed.ensures.allowed (map string_bytes c.args.words.now) (g.H.Shelf.content c.args.shelf.now)
-        (g.S.Source.left c.args.capture.now) (g.O.Sink.taken c.args.out.now) t
+    (g.S.Source.left c.args.capture.now) (g.O.Sink.taken c.args.out.now) t
     c.in_err-settings.field-0.0 c.in_err-settings.ensures.usage is)
 
 pub returns-in_err-script-clause-runs : goal.returns-in_err-script-clause-runs

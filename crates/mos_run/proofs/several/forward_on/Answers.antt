@@ -21,7 +21,7 @@ returns-in_err-capture g c = record {
         rw (p.1, p.2)
         (stopped_any app plan.script.now plan.workers plan.output bytes c.what_one_worker_has_is_allowed.ensures.allowed c.requires.job.order (g.O.Sink.taken c.args.out.now) _
         (λ vs. refused_header app plan.script.now (packets_with app plan.script.now vs) plan.output (g.S.Source.left c.args.source.now)
-            (g.S.Source.left c.open.new.source) bytes c.in_err-capture.field-0.0 c.in_err-capture.ensures.gives told));
+        (g.S.Source.left c.open.new.source) bytes c.in_err-capture.field-0.0 c.in_err-capture.ensures.gives told));
     read = search rules;
     silent = search rules;
     late = search rules;
@@ -89,9 +89,9 @@ returns-in_err-versions g c = record {
           begun = λ kept. absurd (let both = sym c.requires.forwards ∙ kept in cc);
           cut = λ fault bytes told none.
               let rep = opened_replay (g.S.Source.left c.args.source.now) (g.S.Source.left c.open.new.source) c.in_ok-capture.capture bytes
-                  c.in_ok-capture.ensures.gives c.in_ok-capture.ensures.start.count c.in_ok-capture.ensures.start.offset told in
+              c.in_ok-capture.ensures.gives c.in_ok-capture.ensures.start.count c.in_ok-capture.ensures.start.offset told in
               cut_lanes bytes _ c.in_ok-capture.capture rep (c.in_err-versions.ensures.reads.cut
-                  (ap (λ x. Err x) (pool_read_fault e (err_same (pool_refusal e) Run.ReadFault fault))) rep.rest rep.told none);
+              (ap (λ x. Err x) (pool_read_fault e (err_same (pool_refusal e) Run.ReadFault fault))) rep.rest rep.told none);
         });
     from = search rules;
     to = search rules;

@@ -26,7 +26,7 @@ returns-in_err-capture g c = record {
         rw (p.1, p.2)
         (stopped_any app plan.script.now plan.workers plan.output bytes c.what_one_worker_has_is_allowed.ensures.allowed c.requires.job.order (g.O.Sink.taken c.args.out.now) _
         (λ vs. refused_header app plan.script.now (packets_with app plan.script.now vs) plan.output (g.S.Source.left c.args.source.now)
-            (g.S.Source.left c.open.new.source) bytes c.in_err-capture.field-0.0 c.in_err-capture.ensures.gives told));
+        (g.S.Source.left c.open.new.source) bytes c.in_err-capture.field-0.0 c.in_err-capture.ensures.gives told));
     read = search rules;
     silent = search rules;
     late = search rules;
@@ -54,7 +54,7 @@ returns-in_err-end g c = record {
         let p = err_from_is_err_and c.from_residual-in_err-end.result c.from_residual-in_err-end.ensures.1 in
         rw (p.1, p.2)
         (stopped app plan.script.now plan.workers plan.output bytes (frames_at c.in_ok-capture.capture rep.rest) rep.holds c.requires.kept
-            c.what_one_worker_has_is_allowed.ensures.allowed c.requires.job.order
+        c.what_one_worker_has_is_allowed.ensures.allowed c.requires.job.order
         (g.O.Sink.taken c.args.out.now) c.in_err-end.field-0.0 ends);
     read = search rules;
     silent = search rules;
@@ -67,9 +67,9 @@ returns-in_err-end g c = record {
           begun = λ kept. inl (refl, no_write_told e c.in_err-end.ensures.no_write);
           cut = λ fault bytes told none.
               let rep = opened_replay (g.S.Source.left c.args.source.now) (g.S.Source.left c.open.new.source) c.in_ok-capture.capture bytes
-                  c.in_ok-capture.ensures.gives c.in_ok-capture.ensures.start.count c.in_ok-capture.ensures.start.offset told in
+              c.in_ok-capture.ensures.gives c.in_ok-capture.ensures.start.count c.in_ok-capture.ensures.start.offset told in
               cut_lanes bytes _ c.in_ok-capture.capture rep (c.in_err-end.ensures.reads.cut
-                  (ap (λ x. Err x) (pool_read_fault e (err_same (pool_refusal e) Run.ReadFault fault))) rep.rest rep.told none);
+              (ap (λ x. Err x) (pool_read_fault e (err_same (pool_refusal e) Run.ReadFault fault))) rep.rest rep.told none);
         });
     from = search rules;
     to = record {
@@ -92,7 +92,7 @@ write_end_by-requires-clause-tidy g c κs within report =
     let whole = c.in_ok-end.ensures.whole in
     subst (λ l. tidy l ≡ true) (sym c.as_slice.ensures)
     (whole_is_tidy c.records_are_tidy.ensures c.packets_of_a_capture_rise.ensures.run app plan.script.now plan.workers whole.1 whole.0 c.in_ok-end.end
-        (lawful_app plan.app) c.requires.job.lawful whole.2)
+    (lawful_app plan.app) c.requires.job.lawful whole.2)
 
 pub returns-in_err-write_end_by : goal.returns-in_err-write_end_by
 returns-in_err-write_end_by g c = record {
@@ -109,7 +109,7 @@ returns-in_err-write_end_by g c = record {
         (broke_off app plan.script.now plan.workers plan.output bytes (frames_at c.in_ok-capture.capture rep.rest) rep.holds c.requires.kept ends.0 ends.1 c.in_ok-end.end ends.2
         (g.O.Sink.taken c.args.out.now) (g.O.Sink.taken c.write_end_by.new.out) p.0 which
         (subst (λ l. AppendsFront (g.O.Sink.taken c.args.out.now) (g.O.Sink.taken c.write_end_by.new.out)
-            (closing plan.output l c.in_ok-end.end.totals)) c.as_slice.ensures c.in_err-write_end_by.ensures.text));
+        (closing plan.output l c.in_ok-end.end.totals)) c.as_slice.ensures c.in_err-write_end_by.ensures.text));
     read = search rules;
     silent = search rules;
     late = search rules;
@@ -136,7 +136,7 @@ returns g c = record {
         finished app plan.script.now plan.workers plan.output bytes f rep.holds c.requires.kept ends.0 ends.1 c.in_ok-end.end ends.2 c.a_run_has_its_versions.ensures.versions
         (g.O.Sink.taken c.args.out.now) (g.O.Sink.taken c.write_end_by.new.out)
         (subst (λ l. Appends (g.O.Sink.taken c.args.out.now) (g.O.Sink.taken c.write_end_by.new.out) (closing plan.output l c.in_ok-end.end.totals))
-            c.as_slice.ensures c.in_ok-write_end_by.ensures.text);
+        c.as_slice.ensures c.in_ok-write_end_by.ensures.text);
     read = search rules;
     silent = search rules;
     late = search rules;

@@ -41,7 +41,7 @@ loop-at-preserved c =
       λ i low.
           noted_on (get_or c.loop-at.heard i false) (get_or c.note.new.heard i false) _ _ _ _
           (c.note.ensures.each i low) (on.1.heard c.args.hook (256 + i)
-              ∙ ap (λ (b : Bool). (((get_or c.args.nodes.now c.loop-at.at no_node).event == 256 + i) && b) || is_heard c.args.hook (256 + i)
-              (listing_after [] (drop (c.loop-at.at + 1 + (get_or c.args.nodes.now c.loop-at.at no_node).below) c.args.nodes.now) c.args.slots.now))
-              is) (c.loop-at.invariant.4 i low),
+          ∙ ap (λ (b : Bool). (((get_or c.args.nodes.now c.loop-at.at no_node).event == 256 + i) && b) || is_heard c.args.hook (256 + i)
+          (listing_after [] (drop (c.loop-at.at + 1 + (get_or c.args.nodes.now c.loop-at.at no_node).below) c.args.nodes.now) c.args.slots.now))
+          is) (c.loop-at.invariant.4 i low),
     )

@@ -8,7 +8,7 @@ pub returns-in_err-write_lines-in-Ok-clause-text : goal.returns-in_err-write_lin
 returns-in_err-write_lines-in-Ok-clause-text g c =
     let n = c.loop-text.text-index in
     let text = text-at c.args.size c.args.records.now _ _ n c.text-item.result c.in-Ok.text c.in_ok-texts.ensures.each
-        c.as_slice-text-items.ensures.value c.loop-text-test.true c.text-item.is c.in-Ok.is in
+    c.as_slice-text-items.ensures.value c.loop-text-test.true c.text-item.is c.in-Ok.is in
     let next = records_text-part c.args.records.now n c.args.size
     ∙ ap (λ piece. piece ++ records_text (drop ((n + 1) * c.args.size) c.args.records.now)) (sym text ∙ sym c.as_bytes.ensures.value) in
     WriteAdds-err _ _ _ _ c.from_residual-in_err-write_lines-in-Ok.ensures.0
@@ -18,7 +18,7 @@ pub loop-text-preserved : goal.loop-text-preserved
 loop-text-preserved g c =
     let n = c.loop-text.text-index in
     let text = text-at c.args.size c.args.records.now _ _ n c.text-item.result c.in-Ok.text c.in_ok-texts.ensures.each
-        c.as_slice-text-items.ensures.value c.loop-text-test.true c.text-item.is c.in-Ok.is in
+    c.as_slice-text-items.ensures.value c.loop-text-test.true c.text-item.is c.in-Ok.is in
     let next = records_text-part c.args.records.now n c.args.size
     ∙ ap (λ piece. piece ++ records_text (drop ((n + 1) * c.args.size) c.args.records.now)) (sym text ∙ sym c.as_bytes.ensures.value) in (
       Writing-more g.O.Sink.taken g.O.Sink.faults _ _ _ _ _ _ _ c.loop-text.invariant.0 next c.in_ok-write_lines-in-Ok.ensures.text c.write_lines.ensures.cause.later,

@@ -6,7 +6,7 @@ use Rattle.worker_pool.proofs.worker.take_up.Goals as goal
 pub returns-then-has_failed-clause-taken_up : goal.returns-then-has_failed-clause-taken_up
 returns-then-has_failed-clause-taken_up g c =
     skipped g.L.Recorder (commands_of c.args.script.now) c.args.w.now c.args.packet c.take_from.new.ring c.take_from.result c.take_from.ensures.some c.take_from.ensures.none
-        (c.has_failed.ensures.0 c.if-has_failed.true)
+    (c.has_failed.ensures.0 c.if-has_failed.true)
 
 pub decide_packet-requires-clause-good : goal.decide_packet-requires-clause-good
 decide_packet-requires-clause-good g c = not_failed (g.L.Recorder.failed c.args.w.now.lane) c.has_failed.result c.if-has_failed.false c.has_failed.ensures.1

@@ -29,13 +29,13 @@ returns-clause-made g c = λ s force.
 pub returns-in_err-make_room-clause-failed : goal.returns-in_err-make_room-clause-failed
 returns-in_err-make_room-clause-failed g c = on_err_always c.from_residual.result (λ s force.
     raise_costs_none (g.A.App.meaning c.args.terms.now.app.now) s c.args.terms.now.keep
-        (active_in (registered c.args.terms.now.in_force) (g.F.ForestView.content c.args.forests.now c.args.self.now.forest))
+    (active_in (registered c.args.terms.now.in_force) (g.F.ForestView.content c.args.forests.now c.args.self.now.forest))
     (g.F.ForestView.interns c.args.forests.now) c.args.raise_at.now.number c.args.raise_at.now.from (raise_of c.args.raise_at.now) c.args.self.now.socket c.args.notes.now c.args.ledger.now)
 
 pub returns-in_err-call_at-clause-failed : goal.returns-in_err-call_at-clause-failed
 returns-in_err-call_at-clause-failed g c = on_err_always c.from_residual-in_err-call_at.result (λ s force.
     raise_costs_none (g.A.App.meaning c.args.terms.now.app.now) s c.args.terms.now.keep
-        (active_in (registered c.args.terms.now.in_force) (g.F.ForestView.content c.args.forests.now c.args.self.now.forest))
+    (active_in (registered c.args.terms.now.in_force) (g.F.ForestView.content c.args.forests.now c.args.self.now.forest))
     (g.F.ForestView.interns c.args.forests.now) c.args.raise_at.now.number c.args.raise_at.now.from (raise_of c.args.raise_at.now) c.args.self.now.socket c.args.notes.now c.args.ledger.now)
 
 pub returns-in_err-settle-clause-failed : goal.returns-in_err-settle-clause-failed

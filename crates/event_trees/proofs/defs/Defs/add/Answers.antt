@@ -24,14 +24,14 @@ pub returns-clause-map : goal.returns-clause-map
 returns-clause-map c =
     let new : defs_of c.push.new.self.items ≡ c.args.self.now ++ c.args.d ∷ [] =
     ap defs_of c.in_ok-push.ensures.items ∙ (defs_of-push c.self.inside.rows.items (record { def = c.args.d; path = c.with-path.result })
-        ∙ ap (λ (l : List EventDef). l ++ c.args.d ∷ []) c.self.view_is) in
+    ∙ ap (λ (l : List EventDef). l ++ c.args.d ∷ []) c.self.view_is) in
     λ event. ap (λ (l : List EventDef). found l event) new ∙ found-push c.args.self.now c.args.d event c.requires.absent
 
 pub returns-clause-paths : goal.returns-clause-paths
 returns-clause-paths c =
     let new : defs_of c.push.new.self.items ≡ c.args.self.now ++ c.args.d ∷ [] =
     ap defs_of c.in_ok-push.ensures.items ∙ (defs_of-push c.self.inside.rows.items (record { def = c.args.d; path = c.with-path.result })
-        ∙ ap (λ (l : List EventDef). l ++ c.args.d ∷ []) c.self.view_is) in
+    ∙ ap (λ (l : List EventDef). l ++ c.args.d ∷ []) c.self.view_is) in
     let addable : IsAddable c.args.self.now c.args.d = record { low = c.requires.low; high = c.requires.high; absent = c.requires.absent; parent = c.requires.parent; depth = c.requires.depth } in
     λ event h. ap (λ (l : List EventDef). path l event) new ∙ (stays-push c.args.self.now c.args.d addable).paths event h
 
@@ -39,6 +39,6 @@ pub returns-clause-private : goal.returns-clause-private
 returns-clause-private c =
     let new : defs_of c.push.new.self.items ≡ c.args.self.now ++ c.args.d ∷ [] =
     ap defs_of c.in_ok-push.ensures.items ∙ (defs_of-push c.self.inside.rows.items (record { def = c.args.d; path = c.with-path.result })
-        ∙ ap (λ (l : List EventDef). l ++ c.args.d ∷ []) c.self.view_is) in
+    ∙ ap (λ (l : List EventDef). l ++ c.args.d ∷ []) c.self.view_is) in
     let addable : IsAddable c.args.self.now c.args.d = record { low = c.requires.low; high = c.requires.high; absent = c.requires.absent; parent = c.requires.parent; depth = c.requires.depth } in
     λ list p. subst (λ (l : List EventDef). IsPrivate l list) (sym new) (private-stays c.args.self.now (c.args.self.now ++ c.args.d ∷ []) (stays-push c.args.self.now c.args.d addable) list p)

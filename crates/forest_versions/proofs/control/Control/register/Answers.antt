@@ -13,7 +13,7 @@ use Rattle.forest_versions.proofs.control.Control.register.Goals as goal
 pub switch-requires-clause-switchable : goal.switch-requires-clause-switchable
 switch-requires-clause-switchable c =
     All-from_recursion (λ (s : Reg). s.number ≢ c.args.r.now.number) c.self.inside.regs
-        (unlike c.self.inside.regs c.args.r.now.number (ap (λ (s : ControlState). reg_of s.regs c.args.r.now.number) c.self.view_is ∙ c.requires.absent))
+    (unlike c.self.inside.regs c.args.r.now.number (ap (λ (s : ControlState). reg_of s.regs c.args.r.now.number) c.self.view_is ∙ c.requires.absent))
 
 pub invariant_of-self : goal.invariant_of-self
 invariant_of-self c = record {

@@ -14,7 +14,7 @@ returns-clause-number c =
     let s : ControlState = master c.self.invariant.history.0 c.self.invariant.history.1.0 c.args.version in
     let told : Tells m c.args.version s = c.self.invariant.history.1.1.told c.args.version in
     some-weaker (λ (r : Bor Reg). IsGiven m c.args.number r.now) (λ (r : Bor Reg). r.now.number ≡ c.args.number) c.reg.result (λ r g. g.number)
-        (all-given m c.args.version c.args.number s c.reg.result told (c.reg.ensures ∙ told.regs c.args.number (omega arith)))
+    (all-given m c.args.version c.args.number s c.reg.result told (c.reg.ensures ∙ told.regs c.args.number (omega arith)))
 
 pub returns-clause-low : goal.returns-clause-low
 returns-clause-low c =
@@ -22,7 +22,7 @@ returns-clause-low c =
     let s : ControlState = master c.self.invariant.history.0 c.self.invariant.history.1.0 c.args.version in
     let told : Tells m c.args.version s = c.self.invariant.history.1.1.told c.args.version in
     some-weaker (λ (r : Bor Reg). IsGiven m c.args.number r.now) (λ (r : Bor Reg). 1 ≤ r.now.number) c.reg.result (λ r g. g.low)
-        (all-given m c.args.version c.args.number s c.reg.result told (c.reg.ensures ∙ told.regs c.args.number (omega arith)))
+    (all-given m c.args.version c.args.number s c.reg.result told (c.reg.ensures ∙ told.regs c.args.number (omega arith)))
 
 pub returns-clause-event : goal.returns-clause-event
 returns-clause-event c =
@@ -30,8 +30,8 @@ returns-clause-event c =
     let s : ControlState = master c.self.invariant.history.0 c.self.invariant.history.1.0 c.args.version in
     let told : Tells m c.args.version s = c.self.invariant.history.1.1.told c.args.version in
     let all : IfSome c.reg.result (λ r. IsTrue (is_event m.now.defs r.now.event)) = some-weaker (λ (r : Bor Reg). IsGiven m c.args.number r.now)
-        (λ (r : Bor Reg). IsTrue (is_event m.now.defs r.now.event)) c.reg.result (λ r g. g.event)
-        (all-given m c.args.version c.args.number s c.reg.result told (c.reg.ensures ∙ told.regs c.args.number (omega arith))) in
+    (λ (r : Bor Reg). IsTrue (is_event m.now.defs r.now.event)) c.reg.result (λ r g. g.event)
+    (all-given m c.args.version c.args.number s c.reg.result told (c.reg.ensures ∙ told.regs c.args.number (omega arith))) in
     subst (λ (n : Versions). IfSome c.reg.result (λ r. IsTrue (is_event n.now.defs r.now.event))) c.self.view_is all
 
 pub returns-clause-peek : goal.returns-clause-peek
@@ -40,4 +40,4 @@ returns-clause-peek c =
     let s : ControlState = master c.self.invariant.history.0 c.self.invariant.history.1.0 c.args.version in
     let told : Tells m c.args.version s = c.self.invariant.history.1.1.told c.args.version in
     some-weaker (λ (r : Bor Reg). IsGiven m c.args.number r.now) (λ (r : Bor Reg). IsTrue (peek_fits r.now.peek)) c.reg.result (λ r g. g.peek)
-        (all-given m c.args.version c.args.number s c.reg.result told (c.reg.ensures ∙ told.regs c.args.number (omega arith)))
+    (all-given m c.args.version c.args.number s c.reg.result told (c.reg.ensures ∙ told.regs c.args.number (omega arith)))

@@ -15,6 +15,6 @@ returns c = λ past from reg is.
     let within : c.args.number < length items = omega arith in
     let at : c.from.result < length items = omega arith in
     let undone : record old { regs = set items c.args.number back } ≡ past = take-back old past c.args.number from reg back within (c.self.view_is
-        ∙ is) (λ line v x e. c.step_back.ensures line v x (c.index_mut-line.ensures.value
-        ∙ (get_or_default items c.from.result c.index_mut-line.result.now never at ∙ (ap (λ (n : ℕ). get_or items n never) c.from.ensures ∙ e)))) in
+    ∙ is) (λ line v x e. c.step_back.ensures line v x (c.index_mut-line.ensures.value
+    ∙ (get_or_default items c.from.result c.index_mut-line.result.now never at ∙ (ap (λ (n : ℕ). get_or items n never) c.from.ensures ∙ e)))) in
     ap (λ (n : ℕ). record old { regs = set items n back }) c.from.ensures ∙ undone

@@ -53,9 +53,9 @@ returns-clause-ok c =
     let same : length new ≡ length mid = c.write_all-placed.auto.cells in
     let short : length (take (length bytes - cut) (drop cut bytes)) ≡ length bytes - cut = ap length (take_rest bytes cut) ∙ length-drop cut bytes in
     let after : (p : ℕ) → held new p ≡ held_after (next_of s.cells.items) (limit_at r c.args.rbuf) c.args.policy c.start_of-start.result.position
-        (take (length bytes - cut) (drop cut bytes)) p (held mid p)
+    (take (length bytes - cut) (drop cut bytes)) p (held mid p)
     = λ p. c.write_all-placed.ensures.cells p ∙ ap₂ (λ n l. held_after n l c.args.policy c.start_of-start.result.position
-        (take (length bytes - cut) (drop cut bytes)) p (held mid p)) (next_is c) (limit_is c) in
+    (take (length bytes - cut) (drop cut bytes)) p (held mid p)) (next_is c) (limit_is c) in
     ap (λ (cells : List (Option ℕ)). record { cells = cells; fin = s.fin; offer = s.offer }) (with_items_is c.resize.new.self new (omega arith))
     ∙ plain_accept r c.args.d c.args.rbuf bytes c.args.policy c.start_of-start.result.position c.start_of-start.result.below cut mid new
     (begins c) (begins_below c) c.min-below.ensures same (omega arith) (same_cells c) after

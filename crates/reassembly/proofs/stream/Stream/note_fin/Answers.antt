@@ -23,7 +23,7 @@ pub invariant_of-self : goal.invariant_of-self
 invariant_of-self c =
     let old = c.self.invariant in
     let bound = fin_bound c.self.inside.window c.self.inside.fin c.in-Some.position c.args.edge c.is_free_from-free.result c.judge-note.result
-        c.judge-note.ensures c.is_free_from-free.ensures.free old.fin in
+    c.judge-note.ensures c.is_free_from-free.ensures.free old.fin in
     record { laid = old.laid; sized = old.sized; least = old.least; most = old.most; fin = λ f e. bound f (sym c.noted_after-fin.ensures ∙ e) }
 
 natural : (c : goal.After-fin-1) → natural_of c.args.position ≡ Some c.in-Some.position

@@ -20,7 +20,7 @@ pub copy-requires-clause-from : goal.copy-requires-clause-from
 copy-requires-clause-from c =
     let s = c.self.inside in
     let can : IsReadable s.window s.rbuf c.args.position c.min-len.result = readable s.window s.rbuf c.args.position c.run_end-end.result
-        c.min-len.result c.run_end-end.ensures (omega arith) (omega arith) in
+    c.min-len.result c.run_end-end.ensures (omega arith) (omega arith) in
     let base : s.window.bytes.base ≤ s.window.next - s.rbuf = c.self.invariant.sized.kept in
     let from : s.window.next - s.rbuf ≤ c.args.position = can.from in
     omega arith
@@ -29,7 +29,7 @@ pub copy-requires-clause-accepted : goal.copy-requires-clause-accepted
 copy-requires-clause-accepted c p from below =
     let s = c.self.inside in
     let can : IsReadable s.window s.rbuf c.args.position c.min-len.result = readable s.window s.rbuf c.args.position c.run_end-end.result
-        c.min-len.result c.run_end-end.ensures (omega arith) (omega arith) in
+    c.min-len.result c.run_end-end.ensures (omega arith) (omega arith) in
     let len : length (take c.min-len.result c.args.buf.now) ≡ min c.min-len.result (length c.args.buf.now) = length-take c.min-len.result c.args.buf.now in
     can.accepted p from (omega arith)
 
@@ -39,7 +39,7 @@ read c r h =
     let len : length (take c.min-len.result c.args.buf.now) ≡ min c.min-len.result (length c.args.buf.now) = length-take c.min-len.result c.args.buf.now in
     subst (λ (k : StreamView). StandsFor k r → c.copy.new.buf ≡ bytes_from (kept r.cells k.rbuf) c.args.position (length c.args.buf.now)) c.self.view_is
     (bytes_read s.window s.fin s.rbuf c.args.position c.run_end-end.result (length c.args.buf.now) c.copy.new.buf c.self.invariant.laid
-        c.run_end-end.ensures (omega arith) (λ i l. c.copy.ensures i (omega arith)) r) h
+    c.run_end-end.ensures (omega arith) (λ i l. c.copy.ensures i (omega arith)) r) h
 
 pub returns-clause-len : goal.returns-clause-len
 returns-clause-len c r h =

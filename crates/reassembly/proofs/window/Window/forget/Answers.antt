@@ -12,7 +12,7 @@ forget-requires-clause-within c =
     ⊎_elim
     (λ (some : w.bytes.base < low).
     let last : (low - 1 - w.bytes.base) / 2048 < length w.bytes.keys.items = held_within w.bytes (low - 1)
-        (c.requires.laid.held (low - 1) (omega arith) (accepted_below w.next (runs_of w.runs) (low - 1) (omega arith))) in
+    (c.requires.laid.held (low - 1) (omega arith) (accepted_below w.next (runs_of w.runs) (low - 1) (omega arith))) in
     omega arith)
     (λ (none : low ≤ w.bytes.base). omega arith)
     (cases_lt w.bytes.base low)

@@ -16,7 +16,7 @@ drain_one-requires g c =
     let at = beside_now workers all_answers c.args.waiting.now c.loop-k.k c.loop-k.workers.items c.loop-k.all_answers.items c.loop-k.waiting c.loop-k.invariant d e c.requires.beside below in
     let here : IsBeside d e =
     subst (λ (x : Worker g.row.L.Denot). IsBeside x e) (sym c.index_mut-in-loop-k.ensures.value)
-        (subst (λ (x : LaneAnswers). IsBeside (get_or c.loop-k.workers.items c.loop-k.k d) x) (sym c.index_mut.ensures.value) at) in
+    (subst (λ (x : LaneAnswers). IsBeside (get_or c.loop-k.workers.items c.loop-k.k d) x) (sym c.index_mut.ensures.value) at) in
     record { ends = here.ends; counted = here.counted }
 
 pub loop-k-preserved : goal.loop-k-preserved
@@ -29,5 +29,5 @@ loop-k-preserved g c =
     let below : c.loop-k.k < length all_answers = (let t = c.loop-k-test.true in omega (arith, count_is, t)) in
     let among : c.loop-k.k < length workers = (let same = c.requires.beside.count in omega (arith, same, below)) in
     next_drained workers all_answers c.args.waiting.now c.loop-k.k c.loop-k.workers.items c.loop-k.all_answers.items c.loop-k.waiting c.loop-k.invariant d e c.drain_one.new.answers
-        c.drain_one.new.lane_answers c.drain_one.new.waiting
+    c.drain_one.new.lane_answers c.drain_one.new.waiting
     below among c.index_mut-in-loop-k.ensures.value c.index_mut.ensures.value c.drain_one.ensures.sent c.drain_one.ensures.drains c.drain_one.ensures.offers

@@ -24,7 +24,7 @@ loop-lane_answers-preserved c =
       grew = grown (taken c.args.lane_answers.now.answers) (taken before.answers) (taken c.take.new.self) x inv.grew took;
       front = subst (λ xs. IsPrefix xs (sent look.new.tx)) (sym c.in-Some.ensures.some)
           (next_front (taken look.new.self) (known look.new.self) (known c.take.new.self) (sent look.new.tx) x look.ensures.all c.in-Some.ensures.order
-              (λ none. c.if-beside-eq0.false (look.ensures.left ∙ none)));
+          (λ none. c.if-beside-eq0.false (look.ensures.left ∙ none)));
       offers = offers_one c.args.lane_answers.now before (record before { answers = c.take.new.self; taken = before.taken + 1 }) c.args.waiting.now c.loop-lane_answers.waiting c.offer.new.waiting x
           c.taking_stays_right.ensures.keeps inv.offers inv.same fewer took c.offer.ensures;
     }

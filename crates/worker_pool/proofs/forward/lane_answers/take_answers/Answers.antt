@@ -15,4 +15,4 @@ returns-clause-takes c =
 pub returns-clause-offers : goal.returns-clause-offers
 returns-clause-offers c =
     one_offers c.args.all_answers.now.items c.args.lane c.index_mut.result.now c.take_shown.new.lane_answers c.requires.within c.index_mut.ensures.value c.args.waiting.now c.take_shown.new.waiting
-        c.take_shown.ensures.offers
+    c.take_shown.ensures.offers

@@ -36,7 +36,7 @@ take_answers-requires-clause-counted g c =
     subst AreCounted (sym {A = List LaneAnswers} (c.count_sent.ensures r))
     (are_counted given.0 (given.1 ++ c.args.frame ∷ []) (counted_on all_answers lane r)
     (all_answers_sent c.sending_stays_right.ensures.own c.sending_stays_right.ensures.others c.later_lanes_change_nothing.ensures.share given.0 given.1 c.args.frame all_answers lane r below own
-        given.4))
+    given.4))
 
 pub returns-clause-sent : goal.returns-clause-sent
 returns-clause-sent g c = λ begins frames count inputs_are all_answers_are.
@@ -50,7 +50,7 @@ returns-clause-sent g c = λ begins frames count inputs_are all_answers_are.
       all_answers_after begins (frames ++ c.args.frame ∷ []) (counted_on all_answers lane r) c.take_answers.new.all_answers.items
           (subst (λ (xs : List LaneAnswers). HaveTaken xs c.take_answers.new.all_answers.items) (c.count_sent.ensures r) c.take_answers.ensures.takes)
           (all_answers_sent c.sending_stays_right.ensures.own c.sending_stays_right.ensures.others c.later_lanes_change_nothing.ensures.share begins frames c.args.frame all_answers lane r below own
-              all_answers_are),
+          all_answers_are),
     )
 
 pub returns-clause-leaves : goal.returns-clause-leaves
@@ -62,9 +62,9 @@ returns-clause-leaves g c = λ begins frames before now count inputs_are all_ans
     let lanes : length c.args.inputs.now.items ≡ length all_answers = omega (arith, inputs_are.count, all_answers_are.count) in
     let own : lane ≡ lane_of_sight (sight_of c.args.frame.bytes) (length all_answers) = c.send_frame-lane.ensures.lane ∙ ap (lane_of_sight (sight_of c.args.frame.bytes)) lanes in
     sent_and_taken c.later_lanes_change_nothing.ensures.keeps c.sending_stays_right.ensures.keeps begins frames c.args.frame c.args.index all_answers c.take_answers.new.all_answers.items lane r
-        c.args.waiting.now c.take_answers.new.waiting before now count place
+    c.args.waiting.now c.take_answers.new.waiting before now count place
     (all_answers_sent c.sending_stays_right.ensures.own c.sending_stays_right.ensures.others c.later_lanes_change_nothing.ensures.share begins frames c.args.frame all_answers lane r below own
-        all_answers_are)
+    all_answers_are)
     (subst (λ (xs : List LaneAnswers). HaveTaken xs c.take_answers.new.all_answers.items) (c.count_sent.ensures r) c.take_answers.ensures.takes)
     (subst (λ (xs : List LaneAnswers). OfferAll xs c.take_answers.new.all_answers.items c.args.waiting.now c.take_answers.new.waiting) (c.count_sent.ensures r) c.take_answers.ensures.offers)
     l

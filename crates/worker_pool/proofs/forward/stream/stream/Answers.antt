@@ -66,7 +66,7 @@ returns-in_err-next-clause-streamed g c = λ begins before inputs_are all_answer
     c.args.capture.now at.capture first (g.S.Source.left at.source) last read.3 begins before inputs_are all_answers_are l
     new.inputs.items new.all_answers.items new.waiting (g.O.Sink.taken new.out) _
     (come_on g.L.Recorder c.args.script.now c.args.inputs.now.items c.args.all_answers.now.items c.args.waiting.now
-        (g.O.Sink.taken c.args.out.now) read.0 at.inputs.items new.inputs.items at.all_answers.items new.all_answers.items
+    (g.O.Sink.taken c.args.out.now) read.0 at.inputs.items new.inputs.items at.all_answers.items new.all_answers.items
     at.waiting new.waiting (g.O.Sink.taken at.out) (g.O.Sink.taken new.out) read.2 c.await_place.ensures.inputs c.await_place.ensures.takes (c.in_ok-await_place.ensures.leaves (λ is. absurd (cc))))
     (stops_refused read.0 c.args.capture.now first last e
     (read_refused c.args.capture.now at.capture c.next.new.self read.0 c.next.new.frame first (g.S.Source.left at.source) last last e c.in_err-next.ensures.gives read.3)))
@@ -87,7 +87,7 @@ send_next-requires-clause-begins g c =
     let new = c.await_place.new in
     let come =
     come_on g.L.Recorder c.args.script.now c.args.inputs.now.items c.args.all_answers.now.items c.args.waiting.now
-        (g.O.Sink.taken c.args.out.now) read.0 at.inputs.items new.inputs.items at.all_answers.items new.all_answers.items
+    (g.O.Sink.taken c.args.out.now) read.0 at.inputs.items new.inputs.items at.all_answers.items new.all_answers.items
     at.waiting new.waiting (g.O.Sink.taken at.out) (g.O.Sink.taken new.out) read.2 c.await_place.ensures.inputs c.await_place.ensures.takes (c.in_ok-await_place.ensures.leaves (λ is. absurd (cc))) in
     let s = come.sent given.0 given.1 given.2 in
     (given.0, read.0, read.1, s.inputs_are, s.all_answers_are)
@@ -104,7 +104,7 @@ loop-spare-preserved g c =
     let gives = subst (λ s. NextGives at.capture c.next.new.self (g.S.Source.left at.source) (g.S.Source.left c.next.new.source) frame (Ok s)) c.in-Frame.is c.in_ok-next.ensures.gives in
     let come =
     come_on g.L.Recorder c.args.script.now c.args.inputs.now.items c.args.all_answers.now.items c.args.waiting.now
-        (g.O.Sink.taken c.args.out.now) read.0 at.inputs.items new.inputs.items at.all_answers.items new.all_answers.items
+    (g.O.Sink.taken c.args.out.now) read.0 at.inputs.items new.inputs.items at.all_answers.items new.all_answers.items
     at.waiting new.waiting (g.O.Sink.taken at.out) (g.O.Sink.taken new.out) read.2 c.await_place.ensures.inputs c.await_place.ensures.takes (c.in_ok-await_place.ensures.leaves (λ is. absurd (cc))) in
     record {
       live = c.in_ok-next.ensures.live.1 (ap (λ s. Ok s) c.in-Frame.is);
@@ -127,7 +127,7 @@ loop-spare-preserved g c =
             new.waiting sent.waiting (g.O.Sink.taken new.out) (g.O.Sink.taken new.out) come at.packets frame read.1
             (λ begins fs count inputs_are all_answers_are. c.send_next.ensures.sent begins fs count inputs_are all_answers_are)
             (λ begins fs before count inputs_are all_answers_are l. c.send_next.ensures.leaves begins fs before
-                (g.O.Sink.taken new.out) count inputs_are all_answers_are c.in_ok-await_place.ensures.place l),
+            (g.O.Sink.taken new.out) count inputs_are all_answers_are c.in_ok-await_place.ensures.place l),
         λ bytes told. read_more c.args.capture.now bytes read.0 at.capture c.next.new.self frame (g.S.Source.left at.source) (g.S.Source.left c.next.new.source) gives (read.3 bytes told),
         c.greatest_with-last.ensures.greatest read.0 read.4,
       );
@@ -146,7 +146,7 @@ returns-in-Tail-clause-streamed g c = λ begins before inputs_are all_answers_ar
     c.args.capture.now at.capture first (g.S.Source.left at.source) last read.3 begins before inputs_are all_answers_are l
     new.inputs.items new.all_answers.items new.waiting (g.O.Sink.taken new.out) _
     (come_on g.L.Recorder c.args.script.now c.args.inputs.now.items c.args.all_answers.now.items c.args.waiting.now
-        (g.O.Sink.taken c.args.out.now) read.0 at.inputs.items new.inputs.items at.all_answers.items new.all_answers.items
+    (g.O.Sink.taken c.args.out.now) read.0 at.inputs.items new.inputs.items at.all_answers.items new.all_answers.items
     at.waiting new.waiting (g.O.Sink.taken at.out) (g.O.Sink.taken new.out) read.2 c.await_place.ensures.inputs c.await_place.ensures.takes (c.in_ok-await_place.ensures.leaves (λ is. absurd (cc))))
     (record {
       count = read.1;
@@ -167,7 +167,7 @@ returns-in-End-clause-streamed g c = λ begins before inputs_are all_answers_are
     c.args.capture.now at.capture first (g.S.Source.left at.source) last read.3 begins before inputs_are all_answers_are l
     new.inputs.items new.all_answers.items new.waiting (g.O.Sink.taken new.out) _
     (come_on g.L.Recorder c.args.script.now c.args.inputs.now.items c.args.all_answers.now.items c.args.waiting.now
-        (g.O.Sink.taken c.args.out.now) read.0 at.inputs.items new.inputs.items at.all_answers.items new.all_answers.items
+    (g.O.Sink.taken c.args.out.now) read.0 at.inputs.items new.inputs.items at.all_answers.items new.all_answers.items
     at.waiting new.waiting (g.O.Sink.taken at.out) (g.O.Sink.taken new.out) read.2 c.await_place.ensures.inputs c.await_place.ensures.takes (c.in_ok-await_place.ensures.leaves (λ is. absurd (cc))))
     (record {
       count = read.1;

@@ -31,7 +31,7 @@ returns-clause-ends g c rest is =
     let script = c.args.job.now.script.now in
     let ran = c.in_ok-ran.ensures.ran in
     let end = c.conclude.ensures.ends app ran.0 c.in_ok-team.team.workers.items c.in_ok-team.team.packets.items ran.2.count ran.1 ran.2.last
-        c.in_ok-team.ensures.team c.in_ok-team.ensures.keep ran.3 in
+    c.in_ok-team.ensures.team c.in_ok-team.ensures.keep ran.3 in
     let over = subst (λ n. Concludes app script n ran.0 c.in_ok-ran.ran.whole.tail c.conclude.result) c.in_ok-team.ensures.count end in
     subst (λ (f : Frames). EndsOver app script c.args.job.now.workers f c.conclude.result) (sym (ran.2.holds rest is).0)
     (concluded app script c.args.job.now.workers ran.0 c.in_ok-ran.ran.whole.tail c.conclude.result over)
@@ -41,7 +41,7 @@ returns-clause-whole g c =
     let app = g.A.App.meaning c.args.job.now.app in
     let ran = c.in_ok-ran.ensures.ran in
     let end = c.conclude.ensures.ends app ran.0 c.in_ok-team.team.workers.items c.in_ok-team.team.packets.items ran.2.count ran.1 ran.2.last
-        c.in_ok-team.ensures.team c.in_ok-team.ensures.keep ran.3 in
+    c.in_ok-team.ensures.team c.in_ok-team.ensures.keep ran.3 in
     of_frames app c.args.job.now.script.now c.args.job.now.workers ran.0 c.in_ok-ran.ran.whole.tail c.conclude.result
     (subst (λ n. Concludes app c.args.job.now.script.now n ran.0 c.in_ok-ran.ran.whole.tail c.conclude.result) c.in_ok-team.ensures.count end)
 

@@ -30,7 +30,7 @@ loop-input-preserved g c = record {
   back = subst (λ (l : List (Worker g.row.L.Denot)). AllZip (IsBack g.L.Recorder (commands_of c.args.script.now)) (c.loop-input.invariant.front ++ c.in-Some.input ∷ []) l)
       (sym c.push_reserved.ensures.items)
       (AllZip-more (IsBack g.L.Recorder
-          (commands_of c.args.script.now)) c.loop-input.invariant.front c.loop-input.workers.items c.in-Some.input c.finish_one.result c.loop-input.invariant.back c.finish_one.ensures.back);
+      (commands_of c.args.script.now)) c.loop-input.invariant.front c.loop-input.workers.items c.in-Some.input c.finish_one.result c.loop-input.invariant.back c.finish_one.ensures.back);
   at_work = all_others (IsAtWork g.L.Recorder
       (commands_of c.args.script.now)) c.in-Some.input c.loop-input.inputs.items c.pop_front.new.self.items c.loop-input.invariant.at_work c.in-Some.ensures.items;
   room =

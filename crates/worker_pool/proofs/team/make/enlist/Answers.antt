@@ -6,8 +6,14 @@ returns-clause-begun g c = λ app keep fresh begun.
     let workers = c.in_ok-push.ensures.items in
     let packets = c.in_ok-push-2.ensures.items in
     rw (workers, packets) (begun_more g.L.Recorder app keep c.args.team.now.workers.items c.args.team.now.packets.items
-    (record { number = c.len.result; lane = c.args.lane; packets = c.in_ok-packets_tx.packets; commands = c.in_ok-commands_tx.commands; answers = c.args.answers;
-        used = c.args.used }) c.in_ok-packets_tx.packets_tx
+    (record {
+      number = c.len.result;
+      lane = c.args.lane;
+      packets = c.in_ok-packets_tx.packets;
+      commands = c.in_ok-commands_tx.commands;
+      answers = c.args.answers;
+      used = c.args.used;
+    }) c.in_ok-packets_tx.packets_tx
     begun
     (record {
       stands = fresh.stands;

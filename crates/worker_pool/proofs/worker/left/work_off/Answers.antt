@@ -24,7 +24,7 @@ work-w-requires-clause-lawful g c =
 pub loop-preserved : goal.loop-preserved
 loop-preserved g c =
     let look = worked_looked g.L.Recorder (commands_of c.args.script.now) c.loop.w c.beside.new.self
-        (looked c.loop.w.packets c.beside.new.self c.beside.ensures.ring c.beside.ensures.taken c.beside.ensures.known) in
+    (looked c.loop.w.packets c.beside.new.self c.beside.ensures.ring c.beside.ensures.taken c.beside.ensures.known) in
     let till = worked_two g.L.Recorder (commands_of c.args.script.now) c.args.w c.loop.w (record c.loop.w { packets = c.beside.new.self }) c.loop.invariant.worked look in
     record {
       worked = worked_two g.L.Recorder (commands_of c.args.script.now) c.args.w (record c.loop.w { packets = c.beside.new.self }) c.work-w.result till c.work-w.ensures.worked;
@@ -39,7 +39,7 @@ pub returns-then-beside-eq0-clause-worked : goal.returns-then-beside-eq0-clause-
 returns-then-beside-eq0-clause-worked g c =
     worked_two g.L.Recorder (commands_of c.args.script.now) c.args.w c.loop.w (record c.loop.w { packets = c.beside.new.self }) c.loop.invariant.worked
     (worked_looked g.L.Recorder (commands_of c.args.script.now) c.loop.w c.beside.new.self
-        (looked c.loop.w.packets c.beside.new.self c.beside.ensures.ring c.beside.ensures.taken c.beside.ensures.known))
+    (looked c.loop.w.packets c.beside.new.self c.beside.ensures.ring c.beside.ensures.taken c.beside.ensures.known))
 
 pub returns-then-beside-eq0-clause-ends : goal.returns-then-beside-eq0-clause-ends
 returns-then-beside-eq0-clause-ends g c =

@@ -30,5 +30,5 @@ pub returns-in_err-give_next-in-Some-take_from-clause-advanced :
 returns-in_err-give_next-in-Some-take_from-clause-advanced g c =
     let inv = c.loop.invariant in
     advanced_next g.L.Recorder (commands_of c.args.script.now) c.args.lane.now c.loop.lane c.give_next.new.lane c.args.commands.now c.loop.commands c.take_from.new.ring c.in-Some-take_from.field-0
-        inv.advanced inv.good
+    inv.advanced inv.good
     c.in-Some-take_from.ensures.some c.give_next.ensures.next

@@ -94,7 +94,7 @@ finish_all-workers-requires g c =
     c.loop-stop.stop-index (length c.captures.stops.now) c.from-workers.ensures.0 i.whole i.fresh i.flags c.loop-stop-test.false in
     let under = subst (λ (s : List Stamped). AreInputs g.L.Recorder s c.captures.workers.items [] c.loop-stop.inputs.items) (sym c.requires.starts.feed) are in
     let sent = dealt_under g.L.Recorder (g.E.Feed.script c.captures.feed.now) c.captures.script.now _ _ _ c.requires.starts.feed
-        (c.send_packets-read.ensures.dealt c.captures.workers.items under c.requires.may) in
+    (c.send_packets-read.ensures.dealt c.captures.workers.items under c.requires.may) in
     record {
       at_work = all_at_work g.L.Recorder c.captures.script.now c.captures.workers.items sent.frames c.send_packets-read.new.inputs.items sent.inputs_are;
       empty = c.requires.starts.none_back;
@@ -108,7 +108,7 @@ returns g c =
     c.loop-stop.stop-index (length c.captures.stops.now) c.from-workers.ensures.0 i.whole i.fresh i.flags c.loop-stop-test.false in
     let under = subst (λ (s : List Stamped). AreInputs g.L.Recorder s c.captures.workers.items [] c.loop-stop.inputs.items) (sym c.requires.starts.feed) are in
     let sent = dealt_under g.L.Recorder (g.E.Feed.script c.captures.feed.now) c.captures.script.now _ _ _ c.requires.starts.feed
-        (c.send_packets-read.ensures.dealt c.captures.workers.items under c.requires.may) in
+    (c.send_packets-read.ensures.dealt c.captures.workers.items under c.requires.may) in
     record {
       served = record {
         frames = sent.frames;
