@@ -2,6 +2,7 @@ pub mod App
 pub mod Changes
 pub mod Events
 pub mod Log
+pub mod Names
 pub mod Numbers
 pub mod Reaction
 pub mod Reg

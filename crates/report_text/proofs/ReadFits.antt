@@ -1,22 +1,23 @@
 -- What is read has numbers in their types' ranges, and bytes.
-use Rattle.std.proofs.Common.{◌≡◌, ℕ, zero, suc, ◌+◌, ◌*◌, ◌%◌, ◌^◌, ◌<◌, Bool, true, false, ◌&&◌, List, [], ◌∷◌, length, refl, arith, Result, Ok, Err}
+use Rattle.std.proofs.Common.{◌≡◌, ℕ, zero, suc, ◌+◌, ◌*◌, ◌%◌, ◌^◌, ◌<◌, Bool, true, false, ◌&&◌, List, [], ◌∷◌, length, refl, arith, Some, Result, Ok, Err}
 use Rattle.std.specs.Prelude.{nat_lt, slice_index, ◌==◌, if◌then◌else◌, bytes_eq}
 use Rattle.std.specs.Char.{digit_value}
 use Rattle.std.specs.Int.{w32, from_be_bytes}
-use Rattle.std.specs.List.{list_all}
+use Rattle.std.specs.List.{list_all, position_from}
+use Rattle.std.specs.Option.{unwrap_or}
 use Rattle.std.proofs.lemmas.Bool.Decides.{nat_tests}
 use Rattle.hex.specs.Hex.{decode_of, IsBytes}
 use Rattle.hex.specs.declared.error.FromHexError.{FromHexError}
 use Rattle.hex.proofs.HexLemmas.{decode_of-ok}
 use Rattle.app_api.specs.App.{is_name_byte}
+use Rattle.app_api.specs.Names.{event_names, event_named}
 use Rattle.app_api.specs.declared.entry.Seen.TheVariants.{Nothing, Next, At}
 use Rattle.app_api.specs.declared.reaction.Reason.TheVariants.{Reg, Rule}
 use Rattle.report_text.specs.declared.record.RecordKind.TheVariants.{Conn, Orphan}
 use Rattle.report_text.specs.declared.read.line.Line.{Line}
 use Rattle.report_text.specs.declared.read.line.Line.TheVariants.{Callback, Dropped, Field, Last}
-use Rattle.report_text.specs.Words.{event_names}
 use Rattle.report_text.specs.Ranges.{is_u8, is_u16, is_u32, is_u64, are_bytes, endpoint_fits, kind_fits, seen_fits, entry_fits, reason_fits, totals_fit}
-use Rattle.report_text.specs.ReadWords.{is_mark, first_word, skip, number_from, number, decimal_of, class_of, number_named, event_of, reason_of, group_of, joined, v4_of, v6_of, endpoint_of, is_v6, decoded, bytes_of, pieces_of, seen_of}
+use Rattle.report_text.specs.ReadWords.{is_mark, first_word, skip, number_from, number, decimal_of, class_of, event_of, reason_of, group_of, joined, v4_of, v6_of, endpoint_of, is_v6, decoded, bytes_of, pieces_of, seen_of}
 use Rattle.report_text.specs.ReadLines.{is_tidy_line, line_fits, entry_of, totals_of, orphan_of, server_at, conn_of, line_of}
 use Rattle.report_text.proofs.ReadNumbers.{and_parts}
 use Rattle.report_text.proofs.ReadSeen.{below, fit_pieces}
@@ -46,16 +47,17 @@ decimal-fits t = within (decimal_of t) (2 ^ 64) (number-small 10 0 t (omega arit
 mod-fits : (n k : ℕ) → 0 < k → nat_lt (n % k) k ≡ true
 mod-fits n k some = grind (arith, nat_tests)
 
-named-fits : (names : List (ℕ × List ℕ)) (w : List ℕ) → list_all (λ n. is_u16 n.0) names ≡ true → is_u16 (number_named names w) ≡ true
-named-fits [] w h = refl
-named-fits (named ∷ names) w h =
-    let parts = and_parts (is_u16 named.0) (list_all (λ n. is_u16 n.0) names) h in
-    of_if (λ x. is_u16 x ≡ true) (bytes_eq w named.1) named.0 (number_named names w) parts.0 (named-fits names w parts.1)
+named-fits : (names : List (List ℕ)) (w : List ℕ) (at : ℕ) → at + length names < 2 ^ 16
+    → is_u16 (unwrap_or (position_from (λ name. bytes_eq w name) at names) 0) ≡ true
+named-fits [] w at h = refl
+named-fits (name ∷ names) w at h =
+    of_if (λ o. is_u16 (unwrap_or o 0) ≡ true) (bytes_eq w name) (Some at) (position_from (λ known. bytes_eq w known) (at + 1) names)
+    (within at (2 ^ 16) (omega arith)) (named-fits names w (at + 1) (omega arith))
 
 event-fits : (t : List ℕ) → is_u16 (event_of t) ≡ true
 event-fits t =
-    of_if (λ x. is_u16 x ≡ true) (nat_lt (slice_index t 0) 97) (decimal_of t % 2 ^ 16) (number_named event_names (first_word t))
-    (mod-fits (decimal_of t) (2 ^ 16) (omega arith)) (named-fits event_names (first_word t) refl)
+    of_if (λ x. is_u16 x ≡ true) (nat_lt (slice_index t 0) 97) (decimal_of t % 2 ^ 16) (unwrap_or (event_named (first_word t)) 0)
+    (mod-fits (decimal_of t) (2 ^ 16) (omega arith)) (named-fits event_names (first_word t) 256 (omega arith))
 
 reason-fits : (t : List ℕ) → reason_fits (reason_of t) ≡ true
 reason-fits t =

@@ -1,8 +1,9 @@
 -- What is written is read: the parts of a line.
-use Rattle.std.proofs.Common.{◌≡◌, ℕ, suc, ◌%◌, ◌^◌, ◌<◌, ◌≤◌, true, false, List, [], ◌∷◌, ◌++◌, length, drop, refl, ap, sym, subst, ◌∙◌, arith, codes, inl, inr}
-use Rattle.std.specs.Prelude.{nat_lt, slice_index, ◌==◌}
+use Rattle.std.proofs.Common.{◌≡◌, ℕ, zero, suc, ◌-◌, ◌%◌, ◌^◌, ◌<◌, ◌≤◌, true, false, List, [], ◌∷◌, ◌++◌, length, drop, refl, ap, sym, subst, ◌∙◌, arith, codes, inl, inr}
+use Rattle.std.specs.Prelude.{nat_le, nat_lt, slice_get, slice_index, is_some}
 use Rattle.std.specs.Char.{digit_value}
 use Rattle.std.specs.Fmt.{decimal}
+use Rattle.std.specs.Option.{unwrap_or}
 use Rattle.std.specs.Str.Parse.{AllDigits}
 use Rattle.std.proofs.lemmas.Fmt.{decimal_is_IsNumeral}
 use Rattle.std.proofs.lemmas.Bool.{cases_lt}
@@ -11,9 +12,10 @@ use Rattle.native_filters.specs.declared.facts.Hook.{Hook}
 use Rattle.native_filters.specs.declared.facts.Hook.TheVariants.{Snd, Rcv}
 use Rattle.packet_views.specs.declared.packet.Class.{Class}
 use Rattle.packet_views.specs.declared.packet.Class.TheVariants.{Tcp, Other, Fragment, Cut, Bad}
-use Rattle.report_text.specs.Words.{class_text, hook_text, event_names, event_text, name_or_number}
+use Rattle.app_api.specs.Names.{event_names, event_name, event_named}
+use Rattle.report_text.specs.Words.{class_text, hook_text, event_text}
 use Rattle.report_text.specs.Tidy.{is_event}
-use Rattle.report_text.specs.ReadWords.{after_word, skip, decimal_of, class_of, hook_of, number_named, event_of}
+use Rattle.report_text.specs.ReadWords.{after_word, skip, decimal_of, class_of, hook_of, event_of}
 use Rattle.report_text.proofs.ReadNumbers.{plain, marked, after-word, first-word, plain-decimal, decimal_of-decimal}
 
 -- one word more is behind
@@ -58,9 +60,6 @@ digits-below : (ds t : List ℕ) → 0 < length ds → AllDigits 10 ds → nat_l
 digits-below [] t some all = absurd (omega arith)
 digits-below (c ∷ ds) t some all = digit-below c all.0
 
-differs : (n k : ℕ) → n < k → (n == k) ≡ false
-differs n k h = grind (arith, nat_tests)
-
 -- an event is read, and its text has no mark
 pub record EventRead (n : ℕ) (t : List ℕ) : Type 0 where
   pub read : event_of (event_text n ++ t) ≡ n
@@ -70,16 +69,8 @@ event-numbered : (n : ℕ) (t : List ℕ) → n < 256 → marked t ≡ true → 
 unfolding event_text
 event-numbered n t user m =
     let wide : n < 2 ^ 64 = omega arith in
-    let d0 : (n == 256) ≡ false = differs n 256 (omega arith) in
-    let d1 : (n == 257) ≡ false = differs n 257 (omega arith) in
-    let d2 : (n == 258) ≡ false = differs n 258 (omega arith) in
-    let d3 : (n == 259) ≡ false = differs n 259 (omega arith) in
-    let d4 : (n == 260) ≡ false = differs n 260 (omega arith) in
-    let d5 : (n == 261) ≡ false = differs n 261 (omega arith) in
-    let d6 : (n == 262) ≡ false = differs n 262 (omega arith) in
-    let d7 : (n == 263) ≡ false = differs n 263 (omega arith) in
-    let d8 : (n == 264) ≡ false = differs n 264 (omega arith) in
-    let text : name_or_number event_names n ≡ decimal n = rw (d0, d1, d2, d3, d4, d5, d6, d7, d8) refl in
+    let below : nat_le 256 n ≡ false = grind (arith, nat_tests) in
+    let text : unwrap_or (event_name n) (decimal n) ≡ decimal n = rw below refl in
     let is = decimal_is_IsNumeral n wide in
     let low = digits-below (decimal n) t is.0.0 is.0.1 in
     let value = decimal_of-decimal n t wide m in
@@ -89,14 +80,28 @@ event-numbered n t user m =
     }
 
 event-named : (n : ℕ) (w t : List ℕ) → event_text n ≡ w → plain w ≡ true → nat_lt (slice_index (w ++ t) 0) 97 ≡ false
-    → number_named event_names w ≡ n → marked t ≡ true → EventRead n t
+    → unwrap_or (event_named w) 0 ≡ n → marked t ≡ true → EventRead n t
 event-named n w t is p letter found m = record {
-  read = rw is (rw letter (ap (number_named event_names) (first-word w t p m) ∙ found));
+  read = rw is (rw letter (ap (λ x. unwrap_or (event_named x) 0) (first-word w t p m) ∙ found));
   is_plain = rw is p;
 }
 
+name-within : (names : List (List ℕ)) (i : ℕ) → is_some (slice_get names i) ≡ true → i < length names
+name-within [] i h = cc
+name-within (name ∷ names) zero h = omega arith
+name-within (name ∷ names) (suc i) h = let more = name-within names i h in omega (arith, more)
+
 event-range : (n : ℕ) → is_event n ≡ true → n < 265
-event-range n h = grind (arith, nat_tests)
+event-range n h =
+    elim (cases_lt n 256) [
+      | inl user ↦ omega (arith, user)
+      | inr up ↦
+          let one : nat_le 1 n ≡ true = grind (arith, nat_tests) in
+          let past : nat_le n 255 ≡ false = grind (arith, nat_tests) in
+          let built : nat_le 256 n ≡ true = grind (arith, nat_tests) in
+          let named : is_some (slice_get event_names (n - 256)) ≡ true = rw (one, past, built) at h in
+          let within = name-within event_names (n - 256) named in omega (arith, within)
+    ]
 
 event-built : (n k : ℕ) (t : List ℕ) → EventRead k t → n ≡ k → EventRead n t
 event-built n k t read is = subst (λ x. EventRead x t) (sym is) read

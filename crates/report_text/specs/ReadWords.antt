@@ -1,7 +1,8 @@
 -- How the words of a line are read: tolerantly, since what is read is written again and compared with the line.
-use Rattle.std.specs.Prelude.{ℕ, zero, suc, ◌+◌, ◌*◌, ◌%◌, ◌^◌, ◌==◌, ◌||◌, Bool, if◌then◌else◌, List, [], ◌∷◌, nat_lt, slice_index, bytes_eq, length, Result, Ok, Err}
+use Rattle.std.specs.Prelude.{ℕ, zero, suc, ◌+◌, ◌*◌, ◌%◌, ◌^◌, ◌==◌, ◌||◌, Bool, if◌then◌else◌, List, [], ◌∷◌, nat_lt, slice_index, length, Result, Ok, Err}
 use Rattle.std.specs.Char.{digit_value}
 use Rattle.std.specs.Int.{w32, from_be_bytes}
+use Rattle.std.specs.Option.{unwrap_or}
 use Rattle.hex.specs.Hex.{decode_of}
 use Rattle.hex.specs.declared.error.FromHexError.{FromHexError}
 use Rattle.flow_table.specs.declared.endpoint.Endpoint.{Endpoint}
@@ -10,11 +11,11 @@ use Rattle.native_filters.specs.declared.facts.Hook.{Hook}
 use Rattle.native_filters.specs.declared.facts.Hook.TheVariants.{Snd, Rcv}
 use Rattle.packet_views.specs.declared.packet.Class.{Class}
 use Rattle.packet_views.specs.declared.packet.Class.TheVariants.{Tcp, Other, Fragment, Cut, Bad}
+use Rattle.app_api.specs.Names.{event_named}
 use Rattle.app_api.specs.declared.entry.Seen.{Seen}
 use Rattle.app_api.specs.declared.entry.Seen.TheVariants.{Nothing, Next, At}
 use Rattle.app_api.specs.declared.reaction.Reason.{Reason}
 use Rattle.app_api.specs.declared.reaction.Reason.TheVariants.{Reg, Rule}
-use Rattle.report_text.specs.Words.{event_names}
 
 -- what stands between two words: a newline, a blank, a dot, a colon or a bracket
 abbrev pub is_mark : ℕ → Bool
@@ -57,15 +58,10 @@ class_of text =
 abbrev pub hook_of : List ℕ → Hook
 hook_of text = if slice_index text 0 == 115 then Snd else Rcv
 
--- the number that a name has in a list, else 0
-abbrev pub number_named : List (ℕ × List ℕ) → List ℕ → ℕ
-number_named [] word = 0
-number_named (named ∷ others) word = if bytes_eq word named.1 then named.0 else number_named others word
-
--- a number is below the letters
+-- a built-in event's name, or a number, which is below the letters; a name that there isn't is 0
 abbrev pub event_of : List ℕ → ℕ
 event_of text =
-    if nat_lt (slice_index text 0) 97 then decimal_of text % 2 ^ 16 else number_named event_names (first_word text)
+    if nat_lt (slice_index text 0) 97 then decimal_of text % 2 ^ 16 else unwrap_or (event_named (first_word text)) 0
 
 abbrev pub reason_of : List ℕ → Reason
 reason_of text = if slice_index text 1 == 101 then Reg (decimal_of (skip 1 text) % 2 ^ 8) else Rule (decimal_of (skip 1 text) % 2 ^ 8)

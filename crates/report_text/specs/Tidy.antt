@@ -1,19 +1,19 @@
 -- Which records a report may have. Endpoints are of IPv4 or IPv6.
-use Rattle.std.specs.Prelude.{ℕ, ◌+◌, Option, Some, None, ◌&&◌, ◌||◌, ◌==◌, Bool, true, List, length, map, nat_le, nat_lt}
-use Rattle.std.specs.List.{list_all, list_any}
+use Rattle.std.specs.Prelude.{ℕ, ◌+◌, Option, Some, None, is_some, ◌&&◌, ◌||◌, ◌==◌, Bool, true, List, length, map, nat_le, nat_lt}
+use Rattle.std.specs.List.{list_all}
 use Rattle.app_api.specs.declared.entry.Entry.{Entry}
 use Rattle.app_api.specs.declared.entry.Seen.{Seen}
 use Rattle.app_api.specs.declared.entry.Seen.TheVariants.{Nothing, Next, At}
 use Rattle.app_api.specs.App.{is_field_name}
+use Rattle.app_api.specs.Names.{event_name}
 use Rattle.app_api.specs.Numbers.{rise_from}
 use Rattle.report_text.specs.declared.record.RecordKind.{RecordKind}
 use Rattle.report_text.specs.declared.record.RecordKind.TheVariants.{Conn, Orphan}
 use Rattle.report_text.specs.declared.record.Record.{Record}
-use Rattle.report_text.specs.Words.{event_names}
 
 -- a user-defined event is 1 to 255, and the built-in ones are those with a name
 abbrev pub is_event : ℕ → Bool
-is_event event = nat_le 1 event && nat_le event 255 || list_any (λ named. named.0 == event) event_names
+is_event event = nat_le 1 event && nat_le event 255 || is_some (event_name event)
 
 abbrev pub has_byte : ℕ × List ℕ → Bool
 has_byte piece = nat_lt 0 (length piece.1)

@@ -1,9 +1,10 @@
 -- The parts of a report's lines. Numbers are decimal without leading zeros.
-use Rattle.std.specs.Prelude.{ℕ, ◌==◌, false, if◌then◌else◌, List, [], ◌∷◌, ◌++◌, codes, slice_index, drop}
+use Rattle.std.specs.Prelude.{ℕ, false, List, [], ◌∷◌, ◌++◌, codes, slice_index, drop}
 use Rattle.std.specs.Fmt.{decimal, digits}
 use Rattle.std.specs.Int.{w32, w128, to_be_bytes}
 use Rattle.std.specs.Net.Addr.{segments_of}
 use Rattle.std.specs.Net.Text.{ipv4_text}
+use Rattle.std.specs.Option.{unwrap_or}
 use Rattle.hex.specs.Hex.{encode_lower}
 use Rattle.flow_table.specs.declared.endpoint.Endpoint.{Endpoint}
 use Rattle.flow_table.specs.declared.endpoint.Endpoint.TheVariants.{V4, V6}
@@ -11,6 +12,7 @@ use Rattle.native_filters.specs.declared.facts.Hook.{Hook}
 use Rattle.native_filters.specs.declared.facts.Hook.TheVariants.{Snd, Rcv}
 use Rattle.packet_views.specs.declared.packet.Class.{Class}
 use Rattle.packet_views.specs.declared.packet.Class.TheVariants.{Tcp, Other, Fragment, Cut, Bad}
+use Rattle.app_api.specs.Names.{event_name}
 use Rattle.app_api.specs.declared.entry.Seen.{Seen}
 use Rattle.app_api.specs.declared.entry.Seen.TheVariants.{Nothing, Next, At}
 use Rattle.app_api.specs.declared.reaction.Reason.{Reason}
@@ -27,21 +29,9 @@ abbrev pub hook_text : Hook → List ℕ
 hook_text Snd = codes "snd"
 hook_text Rcv = codes "rcv"
 
--- the numbers of the built-in events with their names
-abbrev pub event_names : List (ℕ × List ℕ)
-event_names =
-    (256, codes "start") ∷ (257, codes "pkt_in") ∷ (258, codes "rexmit") ∷ (259, codes "new_data")
-    ∷ (260, codes "error") ∷ (261, codes "state") ∷ (262, codes "end") ∷ (263, codes "orphan")
-    ∷ (264, codes "timer") ∷ []
-
--- the name that a number has in a list, else the number
-abbrev pub name_or_number : List (ℕ × List ℕ) → ℕ → List ℕ
-name_or_number [] n = decimal n
-name_or_number (named ∷ others) n = if n == named.0 then named.1 else name_or_number others n
-
 -- a built-in event by its name, a user-defined one by its number
 unfoldable pub event_text : ℕ → List ℕ
-event_text event = name_or_number event_names event
+event_text event = unwrap_or (event_name event) (decimal event)
 
 -- the eight groups of 16 bits of an IPv6 address
 unfoldable pub groups_of : ℕ → List ℕ

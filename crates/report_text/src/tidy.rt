@@ -7,8 +7,7 @@ ghost use Rattle.app_api.specs.Numbers.{rise_from};
 ghost use Rattle.report_text.specs.Tidy.{has_byte, is_event, least_after, is_tidy_seen, is_tidy_entry, are_named, may_have, is_tidy_record, tidy};
 
 use crate::record::{Record, RecordKind};
-use crate::words::event_name;
-use app_api::{Bytes, Entry, Reason, Seen};
+use app_api::{Bytes, Entry, Reason, Seen, event_name};
 
 // A user-defined event is 1 to 255, and the built-in ones are those with a name.
 fn is_event(event: u16) -> bool

@@ -1,13 +1,12 @@
 //! The parts of a line: names of classes, hooks and events, endpoints, and what a callback saw.
 
-ghost use Rattle.std.specs.Prelude.{◌≡◌, ◌==◌, ◌<◌, ◌++◌, [], ◌∷◌, false, codes, IfSome, IfNone, IsTrue, is_some, OnOk, string_bytes};
+ghost use Rattle.std.specs.Prelude.{◌≡◌, ◌<◌, ◌++◌, [], ◌∷◌, false, codes, IsTrue, OnOk, string_bytes};
 ghost use Rattle.std.specs.Fmt.{decimal, digits, digit_glyph};
 ghost use Rattle.std.specs.Net.Text.{ipv4_text};
-ghost use Rattle.std.specs.List.{list_any};
-ghost use Rattle.report_text.specs.Words.{class_text, hook_text, event_names, event_text, groups_of, groups_text, v6_text, endpoint_text, bytes_text, piece_text, pieces_text, seen_text, reason_text};
+ghost use Rattle.report_text.specs.Words.{class_text, hook_text, event_text, groups_of, groups_text, v6_text, endpoint_text, bytes_text, piece_text, pieces_text, seen_text, reason_text};
 ghost use Rattle.app_api.specs.App.{is_field_name};
 
-use app_api::{Bytes, Reason, Seen};
+use app_api::{Bytes, Reason, Seen, event_name};
 use flow_table::Endpoint;
 use itoa::Buffer;
 use native_filters::Hook;
@@ -64,28 +63,8 @@ pub(crate) fn hook_word(hook: Hook) -> &'static str
     }
 }
 
-// The name of a built-in event.
-#[tactic(auto, unfolding(crate::specs::Words::event_text))]
-pub(crate) fn event_name(event: u16) -> Option<&'static str>
-    ensures named { IfSome result (λ name. event_text event ≡ name.now) }
-    ensures unnamed { IfNone result (event_text event ≡ decimal event) }
-    ensures some { is_some result ≡ list_any (λ named. named.0 == event) event_names }
-{
-    match event {
-        app_api::START => Some("start"),
-        app_api::PKT_IN => Some("pkt_in"),
-        app_api::REXMIT => Some("rexmit"),
-        app_api::NEW_DATA => Some("new_data"),
-        app_api::ERROR => Some("error"),
-        app_api::STATE => Some("state"),
-        app_api::END => Some("end"),
-        app_api::ORPHAN => Some("orphan"),
-        app_api::TIMER => Some("timer"),
-        _ => None,
-    }
-}
-
 // A built-in event by its name, a user-defined one by its number.
+#[tactic(auto, unfolding(crate::specs::Words::event_text))]
 pub(crate) fn push_event(line: &mut String, event: u16) -> Result<(), AllocError>
     ensures { OnOk result (string_bytes line.new ≡ string_bytes line.old ++ event_text event) }
 {

@@ -1,10 +1,9 @@
 -- The words after the program's name: which of them are accepted, and what they choose.
-use Rattle.std.specs.Prelude.{◌≡◌, ℕ, Bool, true, false, not, ◌&&◌, ◌==◌, if◌then◌else◌, nat_le, List, [], ◌∷◌, ◌++◌, map, length, slice_index, find, codes, Option, Some, None, option_map, option_and_then, Result, IfErr, String, string_bytes}
+use Rattle.std.specs.Prelude.{◌≡◌, ℕ, Bool, true, false, not, ◌&&◌, ◌==◌, if◌then◌else◌, nat_le, List, [], ◌∷◌, ◌++◌, map, length, find, codes, Option, Some, None, option_map, option_and_then, Result, IfErr, String, string_bytes}
 use Rattle.std.specs.List.{list_all, list_any, before_first, after_first}
 use Rattle.std.specs.Borrow.{Bor}
-use Rattle.std.specs.Char.{is_ascii_digit}
 use Rattle.std.specs.Str.{bytes_eq}
-use Rattle.std.specs.Str.Parse.{digits_value}
+use Rattle.number_text.specs.Numbers.{number_in}
 use Rattle.words.specs.Offers.{apps, emits, most_workers, most_made}
 use Rattle.words.specs.declared.settings.AppKind.{AppKind}
 use Rattle.words.specs.declared.settings.AppKind.TheVariants.{Log}
@@ -90,12 +89,6 @@ are_options items = list_all (λ i. has_name names i.name) items && (differ [] (
 abbrev pub value_of : List Item → List ℕ → Option (List ℕ)
 value_of items name = option_map (λ i. i.value) (find (λ i. bytes_eq i.name name) items)
 
--- decimal digits without sign or leading zero, which write a number from 1 to `most`
-abbrev pub number_up_to : ℕ → List ℕ → Option ℕ
-number_up_to most text =
-    let v = digits_value 10 text in
-    if list_all is_ascii_digit text && (not (slice_index text 0 == 48) && (nat_le 1 v && nat_le v most)) then Some v else None
-
 abbrev pub named_in : {X : Type 0} → List (List ℕ × X) → List ℕ → Option X
 named_in table text = option_map (λ row. row.1) (find (λ row. bytes_eq text row.0) table)
 
@@ -107,7 +100,7 @@ abbrev pub app_of : Option (List ℕ) → Option AppKind
 app_of = read_or Log (named_in apps)
 
 abbrev pub workers_of : Option (List ℕ) → Option ℕ
-workers_of = read_or 1 (number_up_to most_workers)
+workers_of = read_or 1 (number_in 1 most_workers)
 
 -- a script's name has at most 255 bytes
 abbrev pub script_of : Option (List ℕ) → Option (Option (List ℕ))
@@ -120,7 +113,7 @@ emit_of None (Some made) = Some Summary
 emit_of (Some emit) (Some made) = None
 
 abbrev pub make_of : Option (List ℕ) → Option (Option ℕ)
-make_of = read_or None (λ text. option_map (λ n. Some n) (number_up_to most_made text))
+make_of = read_or None (λ text. option_map (λ n. Some n) (number_in 1 most_made text))
 
 -- the settings, where each value makes a choice
 abbrev pub settings_of : (List ℕ → Option (List ℕ)) → Option Settings

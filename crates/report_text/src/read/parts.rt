@@ -1,11 +1,10 @@
 //! Reads the parts of a line, tolerantly: names of classes, hooks and events, endpoints, and what a callback saw.
 
-ghost use Rattle.std.specs.Prelude.{◌≡◌, ◌%◌, ◌^◌, IfOk, bytes_eq};
-ghost use Rattle.report_text.specs.ReadWords.{first_word, skip, decimal_of, class_of, hook_of, number_named, event_of, reason_of, v4_of, group_of, joined, v6_of, is_v6, endpoint_of, after_endpoint, bytes_of, pieces_of, seen_of};
-ghost use Rattle.report_text.specs.Words.{event_names};
+ghost use Rattle.std.specs.Prelude.{◌≡◌, ◌%◌, ◌^◌, IfOk};
+ghost use Rattle.report_text.specs.ReadWords.{first_word, skip, decimal_of, class_of, hook_of, event_of, reason_of, v4_of, group_of, joined, v6_of, is_v6, endpoint_of, after_endpoint, bytes_of, pieces_of, seen_of};
 
 use super::words::{decimal, decimal_u8, decimal_u16, first, first_word, number, second, skip};
-use app_api::{Bytes, PieceList, Reason, Seen};
+use app_api::{Bytes, PieceList, Reason, Seen, event_named};
 use flow_table::Endpoint;
 use hex::FromHexError;
 use native_filters::Hook;
@@ -35,41 +34,14 @@ pub(super) fn hook_of(text: &[u8]) -> Hook
     }
 }
 
-// The number of a built-in event's name, or 0.
-fn event_named(name: &[u8]) -> u16
-    ensures { result ≡ number_named event_names name.now }
-{
-    if name == "start".as_bytes() {
-        app_api::START
-    } else if name == "pkt_in".as_bytes() {
-        app_api::PKT_IN
-    } else if name == "rexmit".as_bytes() {
-        app_api::REXMIT
-    } else if name == "new_data".as_bytes() {
-        app_api::NEW_DATA
-    } else if name == "error".as_bytes() {
-        app_api::ERROR
-    } else if name == "state".as_bytes() {
-        app_api::STATE
-    } else if name == "end".as_bytes() {
-        app_api::END
-    } else if name == "orphan".as_bytes() {
-        app_api::ORPHAN
-    } else if name == "timer".as_bytes() {
-        app_api::TIMER
-    } else {
-        0
-    }
-}
-
-// A number is below the letters.
+// A built-in event's name, or 0 where there is none such; or a number, which is below the letters.
 pub(super) fn event_of(text: &[u8]) -> u16
     ensures { result ≡ event_of text.now }
 {
     if first(text) < b'a' {
         return decimal_u16(text);
     }
-    event_named(first_word(text))
+    event_named(first_word(text)).unwrap_or(0)
 }
 
 pub(super) fn reason_of(text: &[u8]) -> Reason
