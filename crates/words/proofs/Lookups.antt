@@ -17,7 +17,8 @@ same_bool false true there back = back refl
 same_bool false false there back = refl
 
 -- values that all are ones are found so
-passes-at : (t : Bool) (i : Item) (o : Option Item) → is_value i.value ≡ true → passes (option_map (λ (j : Item). j.value) o) ≡ true → passes (option_map (λ (j : Item). j.value) (cond t (Some i) o)) ≡ true
+passes-at : (t : Bool) (i : Item) (o : Option Item) → is_value i.value ≡ true → passes (option_map (λ (j : Item). j.value) o) ≡ true
+    → passes (option_map (λ (j : Item). j.value) (cond t (Some i) o)) ≡ true
 passes-at true i o this more = this
 passes-at false i o this more = more
 

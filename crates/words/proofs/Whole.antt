@@ -144,7 +144,8 @@ ok-at words f rows (Some items) is same good tested =
     let are : rows ≡ map row items = cc in
     settings_are words ∙ ap chosen tested ∙ sym (found_are f items (is ∙ are) good)
 
-usage-at : (words : List Text) (items : Option (List Item)) → None ≡ option_map (map row) items → through names [] (items_from None words) ≡ option_and_then by_values items → words_settings words ≡ None
+usage-at : (words : List Text) (items : Option (List Item)) → None ≡ option_map (map row) items
+    → through names [] (items_from None words) ≡ option_and_then by_values items → words_settings words ≡ None
 usage-at words None same tested = settings_are words ∙ ap chosen tested
 usage-at words (Some items) same tested = absurd (cc)
 

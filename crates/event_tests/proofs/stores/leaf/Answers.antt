@@ -32,4 +32,5 @@ tree : (event : ℕ) (slot : Slot) → IsTree (nodes event) (slot ∷ [])
 tree event slot = record { topped = search rules; packed = search rules; order = order event slot }
 
 pub new-requires : goal.new-requires
-new-requires c = subst (λ (l : List Node). IsTree l c.in_ok-slots.slots.items) (sym c.in_ok-nodes.ensures.items) (subst (λ (l : List Slot). IsTree (nodes c.args.event) l) (sym c.in_ok-slots.ensures.items) (tree c.args.event _))
+new-requires c = subst (λ (l : List Node). IsTree l c.in_ok-slots.slots.items) (sym c.in_ok-nodes.ensures.items)
+    (subst (λ (l : List Slot). IsTree (nodes c.args.event) l) (sym c.in_ok-slots.ensures.items) (tree c.args.event _))
