@@ -37,11 +37,13 @@ begins presets p none now = record {
   lawful = ap (λ (l : List Stamped). are_lawful (start presets) (commands_of l)) none;
 }
 
-pub stands-on : (presets : List Reg) (old new : Progress) (s : Stamped) → StandsOn presets old → is_lawful old.control s.command ≡ true → new.control ≡ after old.control s.command → new.script ≡ old.script ++ s ∷ [] → StandsOn presets new
+pub stands-on : (presets : List Reg) (old new : Progress) (s : Stamped) → StandsOn presets old → is_lawful old.control s.command ≡ true
+    → new.control ≡ after old.control s.command → new.script ≡ old.script ++ s ∷ [] → StandsOn presets new
 stands-on presets old new s stands one now more =
     let before = commands_of old.script in
     let behind : commands_of new.script ≡ before ++ s.command ∷ [] = ap commands_of more ∙ map-append (λ (t : Stamped). t.command) old.script (s ∷ []) in
     record {
       control = now ∙ ap (λ c. after c s.command) stands.control ∙ sym (control-behind presets before s.command) ∙ ap (control presets) (sym behind);
-      lawful = subst (λ (cs : List Command). are_lawful (start presets) cs ≡ true) (sym behind) (lawful-behind (start presets) before s.command stands.lawful (subst (λ c. is_lawful c s.command ≡ true) (stands.control ∙ control-is presets before) one));
+      lawful = subst (λ (cs : List Command). are_lawful (start presets) cs ≡ true) (sym behind)
+          (lawful-behind (start presets) before s.command stands.lawful (subst (λ c. is_lawful c s.command ≡ true) (stands.control ∙ control-is presets before) one));
     }

@@ -31,7 +31,10 @@ record FirstRefused (presets : List Reg) (n : ℕ) (ls : List (List ℕ)) (acc :
   read : lines_read presets n before acc ≡ Ok commands
   refused : line_read presets (number_after n (length before)) commands (without_return line) ≡ Err e
 
-at-line : (presets : List Reg) (n : ℕ) (l : List ℕ) (ls : List (List ℕ)) (acc : List Stamped) (e : ScriptError) (r : Result (List Stamped) ScriptError) → line_read presets n acc (without_return l) ≡ r → then_lines (lines_read presets (next_line n) ls) r ≡ Err e → ((now : List Stamped) → lines_read presets (next_line n) ls now ≡ Err e → FirstRefused presets (next_line n) ls now e) → FirstRefused presets n (l ∷ ls) acc e
+at-line : (presets : List Reg) (n : ℕ) (l : List ℕ) (ls : List (List ℕ)) (acc : List Stamped) (e : ScriptError)
+    (r : Result (List Stamped) ScriptError) → line_read presets n acc (without_return l) ≡ r
+    → then_lines (lines_read presets (next_line n) ls) r ≡ Err e → ((now : List Stamped) → lines_read presets (next_line n) ls now ≡ Err e
+    → FirstRefused presets (next_line n) ls now e) → FirstRefused presets n (l ∷ ls) acc e
 at-line presets n l ls acc e (Ok now) is h more =
     let found = more now h in
     record {

@@ -46,13 +46,15 @@ is_passed : (n k : ℕ) → ltb n k ≡ false → leb k n ≡ true
 is_passed n k h = grind (arith, nat_tests)
 
 -- the rows that packet n may see are those before the ceiling
-ceil-at : (t : Bool) (s : Stamp) (l n k : ℕ) (r : Row) (rs : List Row) → r.stamped.stamp ≡ At k → ltb n k ≡ t → r.latest ≡ max l k → l ≤ n → (r.latest ≤ n → prefix_len (λ r. leb r.latest n) rs ≡ ceil (stamped_of rs) n) → prefix_len (λ r. leb r.latest n) (r ∷ rs) ≡ ceil (stamped_of (r ∷ rs)) n
+ceil-at : (t : Bool) (s : Stamp) (l n k : ℕ) (r : Row) (rs : List Row) → r.stamped.stamp ≡ At k → ltb n k ≡ t → r.latest ≡ max l k → l ≤ n
+    → (r.latest ≤ n → prefix_len (λ r. leb r.latest n) rs ≡ ceil (stamped_of rs) n) → prefix_len (λ r. leb r.latest n) (r ∷ rs) ≡ ceil (stamped_of (r ∷ rs)) n
 ceil-at true s l n k r rs at h e le more = rw (at, h, bars l n k r.latest h e) refl
 ceil-at false s l n k r rs at h e le more =
     let seen : r.latest ≤ n = grind (arith, nat_tests) in
     rw (at, h, passes l n k r.latest h e le, more seen) (omega arith)
 
-ceil-step : (s : Stamp) (l n : ℕ) (r : Row) (rs : List Row) → r.stamped.stamp ≡ s → r.latest ≡ latest_with l s → l ≤ n → (r.latest ≤ n → prefix_len (λ r. leb r.latest n) rs ≡ ceil (stamped_of rs) n) → prefix_len (λ r. leb r.latest n) (r ∷ rs) ≡ ceil (stamped_of (r ∷ rs)) n
+ceil-step : (s : Stamp) (l n : ℕ) (r : Row) (rs : List Row) → r.stamped.stamp ≡ s → r.latest ≡ latest_with l s → l ≤ n
+    → (r.latest ≤ n → prefix_len (λ r. leb r.latest n) rs ≡ ceil (stamped_of rs) n) → prefix_len (λ r. leb r.latest n) (r ∷ rs) ≡ ceil (stamped_of (r ∷ rs)) n
 ceil-step (At k) l n r rs is e le more = ceil-at (ltb n k) (At k) l n k r rs is refl e le more
 ceil-step Live l n r rs is e le more =
     let seen : leb r.latest n ≡ true = le-leb r.latest n (omega arith) in
@@ -107,12 +109,17 @@ from-live : (p f v : ℕ) → from (p + 1) f v ≡ from p f (behind_one false v)
 from-live p f zero = refl
 from-live p f (suc v) = omega arith
 
-mark-at : (t : Bool) (p f n k : ℕ) (r : Row) (rs : List Row) → r.stamped.stamp ≡ At k → ltb n k ≡ t → r.forced ≡ p + 1 → list_all (λ t. not (is_later (At k) t.stamp)) (stamped_of rs) ≡ true → forced_at r.forced rs (ceil (stamped_of rs) n) ≡ from (p + 1) r.forced (floor (stamped_of rs) n) → forced_at f (r ∷ rs) (ceil (stamped_of (r ∷ rs)) n) ≡ from p f (floor (stamped_of (r ∷ rs)) n)
+mark-at : (t : Bool) (p f n k : ℕ) (r : Row) (rs : List Row) → r.stamped.stamp ≡ At k → ltb n k ≡ t → r.forced ≡ p + 1
+    → list_all (λ t. not (is_later (At k) t.stamp)) (stamped_of rs) ≡ true
+    → forced_at r.forced rs (ceil (stamped_of rs) n) ≡ from (p + 1) r.forced (floor (stamped_of rs) n)
+    → forced_at f (r ∷ rs) (ceil (stamped_of (r ∷ rs)) n) ≡ from p f (floor (stamped_of (r ∷ rs)) n)
 mark-at true p f n k r rs at h e later more = rw (at, h, floor-none n k (stamped_of rs) h later, not_forced n k h) refl
 mark-at false p f n k r rs at h e later more =
     rw (at, h, is_passed n k h) (more ∙ from-forced p f r.forced (floor (stamped_of rs) n) e)
 
-mark-step : (s : Stamp) (p f n : ℕ) (r : Row) (rs : List Row) → r.stamped.stamp ≡ s → r.forced ≡ forced_with f p s → list_all (λ t. not (is_later s t.stamp)) (stamped_of rs) ≡ true → forced_at r.forced rs (ceil (stamped_of rs) n) ≡ from (p + 1) r.forced (floor (stamped_of rs) n) → forced_at f (r ∷ rs) (ceil (stamped_of (r ∷ rs)) n) ≡ from p f (floor (stamped_of (r ∷ rs)) n)
+mark-step : (s : Stamp) (p f n : ℕ) (r : Row) (rs : List Row) → r.stamped.stamp ≡ s → r.forced ≡ forced_with f p s
+    → list_all (λ t. not (is_later s t.stamp)) (stamped_of rs) ≡ true → forced_at r.forced rs (ceil (stamped_of rs) n) ≡ from (p + 1) r.forced
+    (floor (stamped_of rs) n) → forced_at f (r ∷ rs) (ceil (stamped_of (r ∷ rs)) n) ≡ from p f (floor (stamped_of (r ∷ rs)) n)
 mark-step (At k) p f n r rs is e later more = mark-at (ltb n k) p f n k r rs is refl e later more
 mark-step Live p f n r rs is e later more =
     rw is (more ∙ ap (λ g. from (p + 1) g (floor (stamped_of rs) n)) e ∙ from-live p f (floor (stamped_of rs) n))
@@ -139,7 +146,8 @@ behind_one-forced : (v : ℕ) → behind_one true v ≡ suc v
 behind_one-forced zero = refl
 behind_one-forced (suc v) = refl
 
-below-at : (t : Bool) (n k : ℕ) (s : Stamped) (ss : List Stamped) → s.stamp ≡ At k → ltb n k ≡ t → list_all (λ t. not (is_later (At k) t.stamp)) ss ≡ true → floor ss n ≤ ceil ss n → floor (s ∷ ss) n ≤ ceil (s ∷ ss) n
+below-at : (t : Bool) (n k : ℕ) (s : Stamped) (ss : List Stamped) → s.stamp ≡ At k → ltb n k ≡ t
+    → list_all (λ t. not (is_later (At k) t.stamp)) ss ≡ true → floor ss n ≤ ceil ss n → floor (s ∷ ss) n ≤ ceil (s ∷ ss) n
 below-at true n k s ss at h later more = rw (at, h, floor-none n k ss h later, not_forced n k h) (omega arith)
 below-at false n k s ss at h later more = rw (at, h) (omega (arith, behind_one-most (leb k n) (floor ss n)))
 
@@ -151,11 +159,13 @@ pub floor-ceil : (n : ℕ) (ss : List Stamped) → are_in_order ss ≡ true → 
 floor-ceil n [] o = omega arith
 floor-ceil n (s ∷ ss) o = below-step s.stamp n s ss refl (first _ _ o) (floor-ceil n ss (second _ _ o))
 
-same-at : (t : Bool) (n k : ℕ) (s : Stamped) (ss : List Stamped) → s.stamp ≡ At k → ltb n k ≡ t → list_all (λ t. not (is_later (At k) t.stamp)) ss ≡ true → floor ss n ≡ ceil ss n → floor (s ∷ ss) n ≡ ceil (s ∷ ss) n
+same-at : (t : Bool) (n k : ℕ) (s : Stamped) (ss : List Stamped) → s.stamp ≡ At k → ltb n k ≡ t
+    → list_all (λ t. not (is_later (At k) t.stamp)) ss ≡ true → floor ss n ≡ ceil ss n → floor (s ∷ ss) n ≡ ceil (s ∷ ss) n
 same-at true n k s ss at h later more = rw (at, h, floor-none n k ss h later, not_forced n k h) refl
 same-at false n k s ss at h later more = rw (at, h, is_passed n k h) (behind_one-forced (floor ss n) ∙ ap suc more)
 
-same-step : (x : Stamp) (n : ℕ) (s : Stamped) (ss : List Stamped) → s.stamp ≡ x → not (is_live x) ≡ true → list_all (λ t. not (is_later x t.stamp)) ss ≡ true → floor ss n ≡ ceil ss n → floor (s ∷ ss) n ≡ ceil (s ∷ ss) n
+same-step : (x : Stamp) (n : ℕ) (s : Stamped) (ss : List Stamped) → s.stamp ≡ x → not (is_live x) ≡ true
+    → list_all (λ t. not (is_later x t.stamp)) ss ≡ true → floor ss n ≡ ceil ss n → floor (s ∷ ss) n ≡ ceil (s ∷ ss) n
 same-step (At k) n s ss is stamped later more = same-at (ltb n k) n k s ss is refl later more
 same-step Live n s ss is stamped later more = absurd (cc)
 
@@ -165,7 +175,8 @@ floor-is-ceil n (s ∷ ss) o a =
     same-step s.stamp n s ss refl (first _ _ a) (first _ _ o) (floor-is-ceil n ss (second _ _ o) (second _ _ a))
 
 -- one row more
-pub marked-more : (l f p : ℕ) (rows : List Row) (r : Row) → AreMarked l f p rows → r.latest ≡ latest_with (last_latest l rows) r.stamped.stamp → r.forced ≡ forced_with (last_forced f rows) (p + length rows) r.stamped.stamp → AreMarked l f p (rows ++ r ∷ [])
+pub marked-more : (l f p : ℕ) (rows : List Row) (r : Row) → AreMarked l f p rows → r.latest ≡ latest_with (last_latest l rows) r.stamped.stamp
+    → r.forced ≡ forced_with (last_forced f rows) (p + length rows) r.stamped.stamp → AreMarked l f p (rows ++ r ∷ [])
 marked-more l f p [] r m e g =
     let place : p + 0 ≡ p = omega arith in
     (e, (g ∙ ap (λ q. forced_with f q r.stamped.stamp) place, tt))
@@ -215,7 +226,8 @@ pub live-later : (ss : List Stamped) → list_any (λ b. is_later b.stamp Live) 
 live-later [] = refl
 live-later (s ∷ ss) = rw (live-step s.stamp) (live-later ss)
 
-pub last-marks : (l f : ℕ) (rows : List Row) (d : Row) → 0 < length rows → ((get_or rows (length rows - 1) d).latest ≡ last_latest l rows) × ((get_or rows (length rows - 1) d).forced ≡ last_forced f rows)
+pub last-marks : (l f : ℕ) (rows : List Row) (d : Row) → 0 < length rows → ((get_or rows (length rows - 1) d).latest ≡ last_latest l rows)
+    × ((get_or rows (length rows - 1) d).forced ≡ last_forced f rows)
 last-marks l f [] d some = absurd (omega arith)
 last-marks l f (r ∷ []) d some = (refl, refl)
 last-marks l f (r ∷ q ∷ rs) d some =
@@ -229,7 +241,8 @@ pub stamp-at : (rows : List Row) (k : ℕ) (r : Row) → slice_get rows k ≡ So
 stamp-at rows k r e = simp slice_get-map (rw e refl)
 
 -- what `may_follow` tests
-pub may-follow : (rows : List Row) (ss : List Stamped) (stamp : Stamp) (k x : ℕ) → AreMarked 0 0 0 rows → stamped_of rows ≡ ss → stamp ≡ At k → x ≡ last_latest 0 rows → leb x k ≡ not (list_any (λ b. is_later b.stamp stamp) ss)
+pub may-follow : (rows : List Row) (ss : List Stamped) (stamp : Stamp) (k x : ℕ) → AreMarked 0 0 0 rows → stamped_of rows ≡ ss → stamp ≡ At k
+    → x ≡ last_latest 0 rows → leb x k ≡ not (list_any (λ b. is_later b.stamp stamp) ss)
 may-follow rows ss stamp k x m v e g =
     rw (g, e, ← v) (latest-later 0 0 0 k rows m ∙ (rw (le-leb 0 k (omega arith)) refl))
 
@@ -244,13 +257,16 @@ seen-is (r ∷ rs) i n m le found =
     ∙ ceil-seen 0 0 0 n (r ∷ rs) m (omega arith)
 
 -- a row that is added
-pub rows-more : (rows : List Row) (r : Row) (s : Stamped) → AreRows rows → length (stamped_of rows) < 4096 → list_any (λ b. is_later b.stamp s.stamp) (stamped_of rows) ≡ false → r.stamped ≡ s → r.latest ≡ latest_with (last_latest 0 rows) s.stamp → r.forced ≡ forced_with (last_forced 0 rows) (length rows) s.stamp → AreRows (rows ++ r ∷ [])
+pub rows-more : (rows : List Row) (r : Row) (s : Stamped) → AreRows rows → length (stamped_of rows) < 4096
+    → list_any (λ b. is_later b.stamp s.stamp) (stamped_of rows) ≡ false → r.stamped ≡ s → r.latest ≡ latest_with (last_latest 0 rows) s.stamp
+    → r.forced ≡ forced_with (last_forced 0 rows) (length rows) s.stamp → AreRows (rows ++ r ∷ [])
 rows-more rows r s old few later same e g =
     let place : length rows ≡ 0 + length rows = omega arith in
     let stamp = ap (λ (t : Stamped). t.stamp) (sym same) in
     record {
       few = omega (arith, length-append rows (r ∷ []), length-map rows (λ (q : Row). q.stamped));
-      marked = marked-more 0 0 0 rows r old.marked (e ∙ ap (latest_with (last_latest 0 rows)) stamp) (g ∙ ap (forced_with (last_forced 0 rows) (length rows)) stamp ∙ ap (λ k. forced_with (last_forced 0 rows) k r.stamped.stamp) place);
+      marked = marked-more 0 0 0 rows r old.marked (e ∙ ap (latest_with (last_latest 0 rows)) stamp) (g
+          ∙ ap (forced_with (last_forced 0 rows) (length rows)) stamp ∙ ap (λ k. forced_with (last_forced 0 rows) k r.stamped.stamp) place);
       ordered = rw map-append (in_order-more (stamped_of rows) r.stamped old.ordered (rw (← stamp) later));
     }
 
@@ -259,7 +275,8 @@ none-forced rows ss n c old v e g =
     let order : are_in_order ss ≡ true = rw (← v) old.ordered in
     omega (arith, floor-ceil n ss order)
 
-pub last-forced : (rows : List Row) (ss : List Stamped) (n c : ℕ) (row : Row) → AreRows rows → stamped_of rows ≡ ss → c ≡ ceil ss n → (c ≡ 0 → ⊥) → c ≤ length ss → row ≡ get_or rows (c - 1) row → row.forced ≡ floor ss n
+pub last-forced : (rows : List Row) (ss : List Stamped) (n c : ℕ) (row : Row) → AreRows rows → stamped_of rows ≡ ss → c ≡ ceil ss n → (c ≡ 0 → ⊥)
+    → c ≤ length ss → row ≡ get_or rows (c - 1) row → row.forced ≡ floor ss n
 last-forced rows ss n c row old v e some le g =
     let size : length ss ≡ length rows = ap length (sym v) ∙ length-map rows (λ (q : Row). q.stamped) in
     let next : suc (c - 1) ≡ ceil (stamped_of rows) n = rw v (omega arith) in

@@ -6,7 +6,7 @@ use Rattle.std.specs.Prelude.{◌==◌}
 use Rattle.std.specs.List.{prefix_len, list_all}
 use Rattle.control_script.specs.Reader.{behind}
 use Rattle.control_script.specs.Lines.{lines, without_return, is_text}
-use Rattle.control_script.specs.Numbers.{place_of}
+use Rattle.control_script.specs.Cuts.{place_of}
 use Rattle.control_script.specs.Words.{Word, is_blank, is_in_word, words_behind, words}
 
 -- bytes of the word before make no other
@@ -26,7 +26,9 @@ word-step b bs (suc k) other e =
     let same : prefix_len is_in_word bs ≡ k = omega arith in
     rw (other, same) (ap (λ ws. record { text = b ∷ take k bs; behind = drop k bs } ∷ ws) (inside k bs))
 
-front-step : (t : Bool) (b : ℕ) (bs : List ℕ) (n m : ℕ) → is_blank b ≡ t → n ≡ cond t (1 + prefix_len is_blank bs) 0 → m ≡ prefix_len is_in_word (drop n (b ∷ bs)) → ((k j : ℕ) → k ≡ prefix_len is_blank bs → j ≡ prefix_len is_in_word (drop k bs) → words bs ≡ front k j bs) → words (b ∷ bs) ≡ front n m (b ∷ bs)
+front-step : (t : Bool) (b : ℕ) (bs : List ℕ) (n m : ℕ) → is_blank b ≡ t → n ≡ cond t (1 + prefix_len is_blank bs) 0
+    → m ≡ prefix_len is_in_word (drop n (b ∷ bs)) → ((k j : ℕ) → k ≡ prefix_len is_blank bs → j ≡ prefix_len is_in_word (drop k bs)
+    → words bs ≡ front k j bs) → words (b ∷ bs) ≡ front n m (b ∷ bs)
 front-step true b bs zero m same e f more = absurd (omega arith)
 front-step true b bs (suc n) m same e f more = rw same (more n m (omega arith) f)
 front-step false b bs (suc n) m other e f more = absurd (omega arith)
@@ -39,7 +41,8 @@ front-word [] zero (suc m) e f = absurd (omega arith)
 front-word [] (suc n) m e f = absurd (omega arith)
 front-word (b ∷ bs) n m e f = front-step (is_blank b) b bs n m refl e f (front-word bs)
 
-line-step : (t : Bool) (b : ℕ) (bs : List ℕ) (n : ℕ) → (b == 10) ≡ t → n ≡ cond (not t) (1 + place_of 10 bs) 0 → ((k : ℕ) → 0 < length bs → k ≡ place_of 10 bs → lines bs ≡ take k bs ∷ lines (drop (suc k) bs)) → lines (b ∷ bs) ≡ take n (b ∷ bs) ∷ lines (drop n bs)
+line-step : (t : Bool) (b : ℕ) (bs : List ℕ) (n : ℕ) → (b == 10) ≡ t → n ≡ cond (not t) (1 + place_of 10 bs) 0
+    → ((k : ℕ) → 0 < length bs → k ≡ place_of 10 bs → lines bs ≡ take k bs ∷ lines (drop (suc k) bs)) → lines (b ∷ bs) ≡ take n (b ∷ bs) ∷ lines (drop n bs)
 line-step true b bs zero same e more = rw same refl
 line-step true b bs (suc n) same e more = absurd (omega arith)
 line-step false b bs zero other e more = absurd (omega arith)
@@ -81,7 +84,8 @@ dropped p (suc n) [] h = refl
 dropped p (suc n) (b ∷ bs) h = dropped p n bs (second (p b) (list_all p bs) h)
 
 -- the first word as the code cuts it off
-pub cut-word : (text begun rest : List ℕ) (n m : ℕ) → begun ≡ drop n text → rest ≡ drop m begun → n ≡ prefix_len is_blank text → m ≡ prefix_len is_in_word begun → record { text = take m begun; behind = rest } ∷ behind (take m begun) (words rest) ≡ words text
+pub cut-word : (text begun rest : List ℕ) (n m : ℕ) → begun ≡ drop n text → rest ≡ drop m begun → n ≡ prefix_len is_blank text
+    → m ≡ prefix_len is_in_word begun → record { text = take m begun; behind = rest } ∷ behind (take m begun) (words rest) ≡ words text
 cut-word text begun rest n m e f g h =
     let size : m ≡ prefix_len is_in_word (drop n text) = h ∙ ap (prefix_len is_in_word) e in
     let same : rest ≡ drop m (drop n text) = f ∙ ap (drop m) e in

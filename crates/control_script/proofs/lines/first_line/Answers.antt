@@ -9,4 +9,8 @@ returns-clause-lines c =
     let end = c.place_of-end.result in
     let behind = c.if-end-text.behind in
     cut-line text end behind c.requires.some c.place_of-end.ensures.value
-    (elim c.if-end-text.branch [ then-end-text w ↦ (let next : behind ≡ suc end = omega arith in ap (λ k. drop k text) next) | else-end-text w ↦ behind-end text end behind (omega arith) (omega arith) ])
+    (elim c.if-end-text.branch [
+      | then-end-text w ↦ (let next : behind ≡ suc end = omega arith in ap (λ k. drop k text) next)
+      | else-end-text w ↦
+          behind-end text end behind (omega arith) (omega arith)
+    ])

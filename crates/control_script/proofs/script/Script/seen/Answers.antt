@@ -12,7 +12,9 @@ returns-clause-ceil c =
     let rows = c.self.inside.rows.items in
     let n = c.args.n in
     let i = c.partition_point.result in
-    let rises : IsNonDecreasingBy (λ (r : Row). r.latest) c.deref.result.now = subst (IsNonDecreasingBy (λ (r : Row). r.latest)) (sym c.deref.ensures.value) (latest-rises 0 0 0 rows c.self.invariant.marked) in
-    let point = IsPartitionPoint-from_clause (λ (r : Row). leb r.latest n) c.deref.result.now i c.partition_point.ensures.partitioned (IsPartitionedBy-leb (λ (r : Row). r.latest) c.deref.result.now n rises) (λ a r q k. search rules) in
+    let rises : IsNonDecreasingBy (λ (r : Row). r.latest) c.deref.result.now = subst (IsNonDecreasingBy (λ (r : Row). r.latest))
+    (sym c.deref.ensures.value) (latest-rises 0 0 0 rows c.self.invariant.marked) in
+    let point = IsPartitionPoint-from_clause (λ (r : Row). leb r.latest n) c.deref.result.now i c.partition_point.ensures.partitioned
+    (IsPartitionedBy-leb (λ (r : Row). r.latest) c.deref.result.now n rises) (λ a r q k. search rules) in
     seen-is rows i n c.self.invariant.marked (omega (arith, c.partition_point.ensures.bound, c.deref.ensures.len)) (rw c.deref.ensures.value at point)
     ∙ ap (λ (ss : List Stamped). ceil ss n) c.self.view_is

@@ -10,7 +10,10 @@ invariant_of-result c =
     let n = c.blanks.result in
     let m = c.word_len-len.result in
     let begun = take (length text - n) (drop n text) in
-    record { text = subst (λ bs. list_all is_text bs ≡ true) (sym (from_offset begun m)) (dropped is_text m begun (subst (λ bs. list_all is_text bs ≡ true) (sym (from_offset text n)) (dropped is_text n text c.requires.text))) }
+    record {
+      text = subst (λ bs. list_all is_text bs ≡ true) (sym (from_offset begun m))
+          (dropped is_text m begun (subst (λ bs. list_all is_text bs ≡ true) (sym (from_offset text n)) (dropped is_text n text c.requires.text)));
+    }
 
 pub returns-clause-ahead : goal.returns-clause-ahead
 returns-clause-ahead c =
