@@ -5,6 +5,7 @@ ghost use Rattle.shared_forest.specs.Rows.{HasRow, tree_at};
 ghost use Rattle.connection_core.specs.Trees.{IsForestInForce, HasPresentForest};
 
 use crate::masters::{Presets, master_after};
+use crate::natives::natives;
 use app_api::{DropList, FieldList, LogApp, Tally, Verdict};
 use builtin_events::raised_by_orphan;
 use connection_core::laws::first_tree_names_the_first_list;
@@ -12,10 +13,6 @@ use connection_core::{Arrived, Flow, InForce, Ledger, Notes, Terms, lone};
 use flow_table::Endpoint;
 use forest_versions::Master;
 use mos_bytes::MemSink;
-use native_filters::{
-    Native, NativeBook, has_differing_bytes, has_system_port, is_ending, is_keep_alive, is_opening,
-    is_private_traffic,
-};
 use packet_views::{ACK, Class, Head, SYN};
 use report_text::{Record, RecordKind, Totals, is_tidy, write_report};
 use shared_forest::{ForestView, Forests, Table};
@@ -59,7 +56,7 @@ struct Case {
     report: &'static str,
 }
 
-const CASES: [Case; 9] = [
+const CASES: &[Case] = &[
     Case {
         name: "pieces around a gap",
         presets: Presets::Log,
@@ -438,21 +435,13 @@ fn leaves(alloc: Global, presets: Presets, script: &str, traffic: Traffic, repor
     let Some(master) = master_after(alloc, &mut table, presets, script) else {
         return false;
     };
-    let natives = NativeBook::new(
-        Native::new(0, is_opening),
-        Native::new(1, has_system_port),
-        Native::new(2, is_private_traffic),
-        Native::new(3, is_keep_alive),
-        Native::new(4, is_ending),
-        Native::new(5, has_differing_bytes),
-    );
     let terms = Terms {
         app: &LogApp,
         in_force: InForce {
             master: &master,
             version: master.version(),
         },
-        natives: &natives,
+        natives: &natives(),
         keep: true,
     };
     plays(alloc, &terms, &mut table, traffic, report)
@@ -467,7 +456,7 @@ fn each_leaves_its_report(rt: HostRuntime) {
             script,
             traffic,
             report,
-        } = case;
+        } = *case;
         assert!(rt;
             leaves(rt.alloc(), presets, script, traffic, report),
             "{name}"

@@ -65,7 +65,7 @@ fn facts_of(row: PacketRow) -> Facts {
 }
 
 // A packet, what telnet's rule and that for the rest decide on it, and what the rule for the web does.
-const DECIDED: [(&str, PacketRow, (bool, u8), (bool, u8)); 7] = [
+const DECIDED: &[(&str, PacketRow, (bool, u8), (bool, u8))] = &[
     (
         "telnet up",
         (0, (CLIENT, 1000), (SERVER, 23)),
@@ -120,13 +120,13 @@ fn is_decided(row: PacketRow, telnet: (bool, u8), web: (bool, u8)) -> bool {
 
 #[test]
 fn least_matching_number_decides_in_both_directions(rt: HostRuntime) {
-    for (name, row, telnet, web) in DECIDED {
+    for &(name, row, telnet, web) in DECIDED {
         assert!(rt; is_decided(row, telnet, web), "{name}");
     }
 }
 
 // A net's length and address, and whether an address is within.
-const NETS: [(&str, u8, u32, u64, bool); 12] = [
+const NETS: &[(&str, u8, u32, u64, bool)] = &[
     ("/0, least", 0, 0xc0a8_0101, 0x0000_0000, true),
     ("/0, greatest", 0, 0xc0a8_0101, 0xffff_ffff, true),
     ("/1, first of its half", 1, 0xc0a8_0101, 0x8000_0000, true),
@@ -160,7 +160,7 @@ fn is_in_net(length: u8, net: u32, address: u64, within: bool) -> bool {
 
 #[test]
 fn nets_of_every_length(rt: HostRuntime) {
-    for (name, length, net, address, within) in NETS {
+    for &(name, length, net, address, within) in NETS {
         assert!(rt; is_in_net(length, net, address, within), "{name}");
     }
 }
@@ -173,7 +173,7 @@ const PORTS: Rule = Rule {
 };
 
 // A server's port, and whether it is in the range.
-const RANGE: [(&str, u64, bool); 4] = [
+const RANGE: &[(&str, u64, bool)] = &[
     ("before the first", 999, false),
     ("first", 1000, true),
     ("last", 2000, true),
@@ -182,7 +182,7 @@ const RANGE: [(&str, u64, bool); 4] = [
 
 #[test]
 fn both_ends_of_a_port_range(rt: HostRuntime) {
-    for (name, port, within) in RANGE {
+    for &(name, port, within) in RANGE {
         let facts = facts_of((0, (CLIENT, 1500), (SERVER, port)));
         assert!(rt; decide(&[PORTS], &facts).0 == within, "{name}");
     }
@@ -204,7 +204,7 @@ const TELNET: PacketRow = (0, (CLIENT, 1000), (SERVER, 23));
 const TO_WEB: PacketRow = (0, (CLIENT, 1001), (SERVER, 80));
 
 // Calls one after the other: a registration, its hook and packet, the rule that drops it, and the fields after it.
-const COUNTED: [(&str, u8, Hook, PacketRow, Option<Reason>, [u64; 3]); 5] = [
+const COUNTED: &[(&str, u8, Hook, PacketRow, Option<Reason>, [u64; 3])] = &[
     ("telnet", 1, Snd, TELNET, Some(Reason::Rule(10)), [0, 1, 10]),
     (
         "telnet again",
@@ -238,7 +238,7 @@ fn has_fields(tally: &Tally, fields: [u64; 3]) -> bool {
 #[test]
 fn packets_of_a_connection_are_counted(rt: HostRuntime) {
     let mut tally = FirewallApp.fresh();
-    for (name, reg, hook, row, drop, fields) in COUNTED {
+    for &(name, reg, hook, row, drop, fields) in COUNTED {
         let call = call(reg, hook, PKT_IN, facts_of(row));
         let reaction = FirewallApp.react(&mut tally, &call, &[NO_TELNET, REST]);
         let is_so = reaction.drop == drop && reaction.changes.as_slice().is_empty();
@@ -247,7 +247,7 @@ fn packets_of_a_connection_are_counted(rt: HostRuntime) {
 }
 
 // A class of orphans, and why these are dropped.
-const ORPHANS: [(&str, u64, Option<Reason>); 5] = [
+const ORPHANS: &[(&str, u64, Option<Reason>)] = &[
     ("tcp", 0, Some(Reason::Rule(0))),
     ("other", 1, None),
     ("fragment", 2, Some(Reason::Rule(0))),
@@ -268,13 +268,13 @@ fn is_judged(class: u64, drop: Option<Reason>) -> bool {
 
 #[test]
 fn orphans_but_those_of_class_other_are_dropped(rt: HostRuntime) {
-    for (name, class, drop) in ORPHANS {
+    for &(name, class, drop) in ORPHANS {
         assert!(rt; is_judged(class, drop), "{name}");
     }
 }
 
 // Numbers of presets, with the event and hook of those that there are.
-const PRESETS: [(&str, u8, Option<(u16, Hook)>); 5] = [
+const PRESETS: &[(&str, u8, Option<(u16, Hook)>)] = &[
     ("none at 0", 0, None),
     ("packets sent", 1, Some((PKT_IN, Snd))),
     ("packets that arrive", 2, Some((PKT_IN, Rcv))),
@@ -293,7 +293,7 @@ fn has_preset(number: u8, wanted: Option<(u16, Hook)>) -> bool {
 
 #[test]
 fn presets_are_on_without_peeks(rt: HostRuntime) {
-    for (name, number, wanted) in PRESETS {
+    for &(name, number, wanted) in PRESETS {
         assert!(rt; has_preset(number, wanted), "{name}");
     }
 }

@@ -7,26 +7,24 @@ use native_filters::{
     is_opening, is_private_traffic,
 };
 
-// The book of the plain functions. A function that made one couldn't hand it out.
-macro_rules! plain_book {
-    () => {
-        NativeBook::new(
-            Native::new(0, is_opening),
-            Native::new(1, has_system_port),
-            Native::new(2, is_private_traffic),
-            Native::new(3, is_keep_alive),
-            Native::new(4, is_ending),
-            Native::new(5, has_differing_bytes),
-        )
-    };
+/// The plain functions as native filters.
+pub fn natives() -> NativeBook {
+    NativeBook::new(
+        Native::new(0, is_opening),
+        Native::new(1, has_system_port),
+        Native::new(2, is_private_traffic),
+        Native::new(3, is_keep_alive),
+        Native::new(4, is_ending),
+        Native::new(5, has_differing_bytes),
+    )
 }
 
 /// Whether a filter is true of the facts.
 pub fn is_true(filter: &Expr, facts: &Facts) -> bool {
-    eval(filter, facts, &plain_book!())
+    eval(filter, facts, &natives())
 }
 
 /// The number of the next registration that fires.
 pub fn next_of(walk: &mut Walk, defs: &Defs) -> Option<u8> {
-    walk.next(defs, &plain_book!())
+    walk.next(defs, &natives())
 }

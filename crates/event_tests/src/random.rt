@@ -179,7 +179,7 @@ fn checked_alone(
 }
 
 // The raises of both phases.
-const RAISES: [(u16, Hook); 6] = [
+const RAISES: &[(u16, Hook)] = &[
     (START, Hook::Snd),
     (START, Hook::Rcv),
     (PKT_IN, Hook::Snd),
@@ -190,7 +190,7 @@ const RAISES: [(u16, Hook); 6] = [
 
 // Whether walks over the tree of a list give what checks of each registration alone give.
 fn walks_agree(alloc: Global, defs: &Defs, tree: &Tree, list: &[Reg], facts: &Facts) -> bool {
-    for (event, hook) in RAISES {
+    for &(event, hook) in RAISES {
         let Ok(numbers) = checked_alone(alloc, defs, list, hook, event, facts) else {
             return false;
         };

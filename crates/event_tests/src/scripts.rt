@@ -8,7 +8,7 @@ use native_filters::Hook;
 use std::alloc::Global;
 
 // Scripts of one line or two, each with its refusal.
-const REFUSED: [(&str, ScriptError); 53] = [
+const REFUSED: &[(&str, ScriptError)] = &[
     ("reg 15 pkt_in snd", ScriptError::Syntax(1)),
     ("reg 16 end snd", ScriptError::Syntax(1)),
     ("reg 16 new_data rcv do drop", ScriptError::Syntax(1)),
@@ -91,7 +91,7 @@ const REFUSED: [(&str, ScriptError); 53] = [
 
 #[test]
 fn scripts_that_are_refused(rt: HostRuntime) {
-    for (text, refusal) in REFUSED {
+    for &(text, refusal) in REFUSED {
         assert!(rt;
             script_of(rt.alloc(), text).err() == Some(refusal),
             "{text}"
@@ -115,7 +115,7 @@ const SEVEN_DEEP: &str =
     event 5 under 4 true\nevent 6 under 5 true\nevent 7 under 6 true\n";
 
 // So many commands, and the text behind them: a path of eight events with its root, and 4,096 commands at most.
-const LONGEST: [(&str, u16, &str, Result<u32, ScriptError>); 3] = [
+const LONGEST: &[(&str, u16, &str, Result<u32, ScriptError>)] = &[
     ("seven events", 0, SEVEN_DEEP, Ok(7)),
     ("4096 commands", 4096, "", Ok(4096)),
     (
@@ -128,13 +128,13 @@ const LONGEST: [(&str, u16, &str, Result<u32, ScriptError>); 3] = [
 
 #[test]
 fn the_longest_scripts(rt: HostRuntime) {
-    for (name, count, rest, outcome) in LONGEST {
+    for &(name, count, rest, outcome) in LONGEST {
         assert!(rt; read_many(rt.alloc(), count, rest) == outcome, "{name}");
     }
 }
 
 // A packet's number, its floor, and its ceiling.
-const BOUNDS: [(&str, u64, u32, u32); 6] = [
+const BOUNDS: &[(&str, u64, u32, u32)] = &[
     ("packet 0", 0, 0, 1),
     ("before the first stamp", 4, 0, 1),
     ("at the first stamp", 5, 2, 3),
@@ -144,7 +144,7 @@ const BOUNDS: [(&str, u64, u32, u32); 6] = [
 ];
 
 // The stamp of a place.
-const STAMPS: [(&str, u32, Option<Stamp>); 3] = [
+const STAMPS: &[(&str, u32, Option<Stamp>)] = &[
     ("first command", 0, Some(Stamp::Live)),
     ("second command", 1, Some(Stamp::At(5))),
     ("behind the last", 4, None),
@@ -167,7 +167,7 @@ fn is_bounded(alloc: Global, n: u64, floor: u32, ceil: u32) -> bool {
 
 #[test]
 fn floors_and_ceilings(rt: HostRuntime) {
-    for (name, n, floor, ceil) in BOUNDS {
+    for &(name, n, floor, ceil) in BOUNDS {
         assert!(rt; is_bounded(rt.alloc(), n, floor, ceil), "{name}");
     }
 }
@@ -183,13 +183,13 @@ fn is_stamped(alloc: Global, place: u32, stamp: Option<Stamp>) -> bool {
 
 #[test]
 fn stamps_by_place(rt: HostRuntime) {
-    for (name, place, stamp) in STAMPS {
+    for &(name, place, stamp) in STAMPS {
         assert!(rt; is_stamped(rt.alloc(), place, stamp), "{name}");
     }
 }
 
 // A command that sets a number or a rule.
-const COMMANDS: [(&str, &str, u32, Said); 5] = [
+const COMMANDS: &[(&str, &str, u32, Said)] = &[
     (
         "last of four",
         "live rbuf 10\nat 5 rbuf 20\nlive rbuf 30\nat 9 rbuf 40",
@@ -261,7 +261,7 @@ fn says(alloc: Global, text: &str, place: u32, said: Said) -> bool {
 
 #[test]
 fn commands_say_what_their_lines_do(rt: HostRuntime) {
-    for (name, text, place, said) in COMMANDS {
+    for &(name, text, place, said) in COMMANDS {
         assert!(rt; says(rt.alloc(), text, place, said), "{name}");
     }
 }

@@ -8,7 +8,7 @@ use std::thread;
 use std::thread::Threads;
 
 // So many trees with one registration each: whether they differ by its number or by its event.
-const TREES: [(&str, bool, u16); 2] = [
+const TREES: &[(&str, bool, u16)] = &[
     ("by the registration's number", true, 100),
     ("by the event", false, 2000),
 ];
@@ -122,7 +122,7 @@ fn table_has_rows(alloc: Global, by_number: bool, count: u16) -> bool {
 
 #[test]
 fn each_tree_has_a_row_of_its_own(rt: HostRuntime) {
-    for (name, by_number, count) in TREES {
+    for &(name, by_number, count) in TREES {
         assert!(rt; table_has_rows(rt.alloc(), by_number, count), "{name}");
     }
 }
@@ -158,7 +158,7 @@ fn store_has_rows<R: Wait + Copy + Drop>(
 
 #[test]
 fn users_find_the_trees_of_others(rt: HostRuntime) {
-    for (name, by_number, count) in TREES {
+    for &(name, by_number, count) in TREES {
         assert!(rt;
             store_has_rows(rt, rt.alloc(), by_number, count) == Ok(true),
             "{name}"

@@ -11,7 +11,7 @@ use std::alloc::Global;
 // A call of a table: its registration, hook and event, and its facts `dir`, `len`, `new` and `next`.
 type CallRow = (&'static str, u8, Hook, u16, [u64; 4]);
 
-const CALLS: [CallRow; 12] = [
+const CALLS: &[CallRow] = &[
     ("packet up", 1, Snd, PKT_IN, [0, 0, 0, 0]),
     ("state of the client", 3, Snd, STATE, [0, 0, 2, 0]),
     ("state of the server", 4, Rcv, STATE, [0, 0, 3, 0]),
@@ -90,7 +90,7 @@ fn asks_nothing(reaction: &Reaction) -> bool {
 fn accounts_of_a_short_connection(rt: HostRuntime) {
     let mut tally = AcctApp.fresh();
     for row in CALLS {
-        let reaction = AcctApp.react(&mut tally, &call_of(&row), &[]);
+        let reaction = AcctApp.react(&mut tally, &call_of(row), &[]);
         assert!(rt; asks_nothing(&reaction), "{}", row.0);
     }
     assert!(rt; has_fields(rt.alloc(), &AcctApp, &tally, &ACCOUNTS));

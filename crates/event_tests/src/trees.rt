@@ -53,7 +53,7 @@ pub const FALSE_CHAIN: [EventRow; 7] = [
 ];
 
 // Events, a private list, and its tree.
-const TREES: [(&str, &[EventRow], &[RegRow], &[NodeRow]); 7] = [
+const TREES: &[(&str, &[EventRow], &[RegRow], &[NodeRow])] = &[
     ("no registration", &FAMILY, &[], &[(0, 0, 0, 0, 0)]),
     (
         "one at a root",
@@ -173,7 +173,7 @@ fn has_tree(alloc: Global, events: &[EventRow], rows: &[RegRow], nodes: &[NodeRo
 
 #[test]
 fn lists_have_their_trees(rt: HostRuntime) {
-    for (name, events, rows, nodes) in TREES {
+    for &(name, events, rows, nodes) in TREES {
         assert!(rt; has_tree(rt.alloc(), events, rows, nodes), "{name}");
     }
 }

@@ -52,11 +52,11 @@ const LIMITS: &str = "idle 10\n\
 
 // A script; what is in force at each version, from 0 on: registrations with their events, the receive buffer, the policy,
 // numbers of rules and the limit of idleness; the registrations of the last tree; how many rows the table has, and how many interns it counts.
-const SCRIPTS: [(&str, &str, [&str; 13], &[u8], usize, u64); 3] = [
+const SCRIPTS: &[(&str, &str, &[&str; 13], &[u8], usize, u64)] = &[
     (
         "registrations come and go",
         REGISTRATIONS,
-        [
+        &[
             "1:257 2:257 3:263 65536 First",
             "1:257 2:257 3:263 65536 First",
             "1:257 2:257 3:263 16:1 65536 First",
@@ -78,7 +78,7 @@ const SCRIPTS: [(&str, &str, [&str; 13], &[u8], usize, u64); 3] = [
     (
         "settings and rules change",
         SETTINGS,
-        [
+        &[
             "1:257 2:257 3:263 65536 First",
             "1:257 2:257 3:263 65536 Last",
             "1:257 2:257 3:263 65536 Last 200",
@@ -100,7 +100,7 @@ const SCRIPTS: [(&str, &str, [&str; 13], &[u8], usize, u64); 3] = [
     (
         "limits of idleness",
         LIMITS,
-        [
+        &[
             "1:257 2:257 3:263 65536 First",
             "1:257 2:257 3:263 65536 First idle 10",
             "1:257 2:257 3:263 65536 First idle 10",
@@ -206,9 +206,9 @@ fn leaves(
 
 #[test]
 fn each_version_tells_what_was_in_force(rt: HostRuntime) {
-    for (name, script, lines, numbers, rows, interns) in SCRIPTS {
+    for &(name, script, lines, numbers, rows, interns) in SCRIPTS {
         assert!(rt;
-            leaves(rt.alloc(), script, &lines, numbers, rows, interns),
+            leaves(rt.alloc(), script, lines, numbers, rows, interns),
             "{name}"
         );
     }
@@ -237,7 +237,7 @@ const BEFORE: &str = "event 1 under pkt_in true\n\
     rule 7 allow any any any";
 
 // A command, why it can't be given after those, and whether it may be given.
-const JUDGED: [(&str, Judged, Option<Refusal>, bool); 20] = [
+const JUDGED: &[(&str, Judged, Option<Refusal>, bool)] = &[
     (
         "event twice, parent missing",
         Judged::Event(1, 9),
@@ -392,7 +392,7 @@ fn is_judged(alloc: Global, judged: Judged, refusal: Option<Refusal>, is_lawful:
 
 #[test]
 fn commands_are_judged_where_they_stand(rt: HostRuntime) {
-    for (name, judged, refusal, is_lawful) in JUDGED {
+    for &(name, judged, refusal, is_lawful) in JUDGED {
         assert!(rt; is_judged(rt.alloc(), judged, refusal, is_lawful), "{name}");
     }
 }

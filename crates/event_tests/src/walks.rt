@@ -18,7 +18,7 @@ const UNDER_FILTERS: [RegRow; 2] = [(16, 2, Snd), (17, 3, Snd)];
 const SIBLINGS: [EventRow; 2] = [(1, PKT_IN, "true"), (2, PKT_IN, "true")];
 
 // Events, a private list, the hook of a raise of pkt_in, the packet's length, and what it calls.
-const WALKS: [(&str, &[EventRow], &[RegRow], Hook, u64, &[u8]); 6] = [
+const WALKS: &[(&str, &[EventRow], &[RegRow], Hook, u64, &[u8])] = &[
     ("false filter", &FILTERED, &UNDER_FILTERS, Snd, 0, &[17]),
     (
         "in the order of paths",
@@ -126,7 +126,7 @@ fn calls(
 
 #[test]
 fn walks_give_what_passes(rt: HostRuntime) {
-    for (name, events, rows, hook, len, numbers) in WALKS {
+    for &(name, events, rows, hook, len, numbers) in WALKS {
         assert!(rt;
             calls(rt.alloc(), events, rows, hook, len, numbers),
             "{name}"

@@ -9,7 +9,7 @@ use native_filters::{Facts, Hook};
 use std::alloc::Global;
 
 // An event's number, the number that it should have, and whether it is raised at the sender and at the receiver.
-const EVENTS: [(&str, u16, u16, bool, bool); 11] = [
+const EVENTS: &[(&str, u16, u16, bool, bool)] = &[
     ("before the first", 255, 255, false, false),
     ("start", START, 256, true, false),
     ("pkt_in", PKT_IN, 257, true, true),
@@ -25,7 +25,7 @@ const EVENTS: [(&str, u16, u16, bool, bool); 11] = [
 
 #[test]
 fn hooks_of_the_built_in_events(rt: HostRuntime) {
-    for (name, event, number, at_sender, at_receiver) in EVENTS {
+    for &(name, event, number, at_sender, at_receiver) in EVENTS {
         assert!(rt;
             event == number
                 && allows_hook(number, Hook::Snd) == at_sender
@@ -53,7 +53,7 @@ fn changes_stand_in_order(rt: HostRuntime) {
 }
 
 // A preset's place and number, its event and side, and whether it is on.
-const PRESETS: [(&str, usize, (u8, u16, Hook, bool)); 3] = [
+const PRESETS: &[(&str, usize, (u8, u16, Hook, bool))] = &[
     ("at the sender", 0, (1, 257, Hook::Snd, true)),
     ("at the receiver", 1, (2, 257, Hook::Rcv, true)),
     ("orphans", 2, (3, 263, Hook::Snd, true)),
@@ -76,7 +76,7 @@ fn has_plain(presets: &[Reg], place: usize, wanted: (u8, u16, Hook, bool)) -> bo
 fn log_has_three_presets(rt: HostRuntime) {
     let presets = presets_of(rt.alloc(), &LogApp).expect(&rt, "memory");
     assert!(rt; presets.len() == 3);
-    for (name, place, wanted) in PRESETS {
+    for &(name, place, wanted) in PRESETS {
         assert!(rt; has_plain(&presets, place, wanted), "{name}");
     }
     assert!(rt; LogApp.preset(0).is_none() && LogApp.preset(4).is_none());

@@ -36,7 +36,7 @@ const SYN: [u8; 54] = [
     0x50, 0x02, 0xff, 0xff, 0x00, 0x00, 0x00, 0x00,
 ];
 
-const MIXED: [(&str, Endpoint, u64); 3] = [
+const MIXED: &[(&str, Endpoint, u64)] = &[
     ("port 1", ONE, 0x9e37_79b9_e17d_05ac),
     ("port 2", TWO, 0x3c6e_f372_c2fa_0b58),
     ("an IPv6 endpoint", ONE_OF_IPV6, 0x9e37_79b9_e17d_05ac),
@@ -44,19 +44,19 @@ const MIXED: [(&str, Endpoint, u64); 3] = [
 
 #[test]
 fn endpoints_are_mixed(rt: HostRuntime) {
-    for (name, endpoint, wanted) in MIXED {
+    for &(name, endpoint, wanted) in MIXED {
         assert!(rt; mix(&endpoint) == wanted, "{name}");
     }
 }
 
-const DIRECTIONS: [(&str, Endpoint, Endpoint); 2] = [
+const DIRECTIONS: &[(&str, Endpoint, Endpoint)] = &[
     ("one to two", ONE, TWO),
     ("two to one", TWO, ONE),
 ];
 
 #[test]
 fn both_directions_have_a_lane(rt: HostRuntime) {
-    for (name, from, to) in DIRECTIONS {
+    for &(name, from, to) in DIRECTIONS {
         let key = Key::between(from, to);
         let sum = mix(&key.lo).wrapping_add(mix(&key.hi));
         let lanes = (lane_of(&key, 16), lane_of(&key, 2));

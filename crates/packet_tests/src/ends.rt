@@ -111,7 +111,7 @@ const BOTH_CLOSE: [Step; 8] = [
 // The states and whether the ends are over, after some of the steps.
 type After = (State, State, bool);
 
-const OPENED: [(&str, &[Step], usize, After); 4] = [
+const OPENED: &[(&str, &[Step], usize, After)] = &[
     (
         "handshake",
         &HANDSHAKE,
@@ -138,7 +138,7 @@ const OPENED: [(&str, &[Step], usize, After); 4] = [
     ),
 ];
 
-const CLOSED: [(&str, &[Step], usize, After); 6] = [
+const CLOSED: &[(&str, &[Step], usize, After)] = &[
     (
         "FIN of the client",
         &CLIENT_CLOSES,
@@ -167,7 +167,7 @@ const CLOSED: [(&str, &[Step], usize, After); 6] = [
     ),
 ];
 
-const STATES: [(&str, u64, State); 11] = [
+const STATES: &[(&str, u64, State)] = &[
     ("CLOSED", 0, Closed),
     ("LISTEN", 1, Listen),
     ("SYN_SENT", 2, SynSent),
@@ -209,19 +209,11 @@ fn after(mut ends: Ends, steps: &[Step], count: usize) -> After {
 }
 
 #[test]
-fn opens(rt: HostRuntime) {
-    for (name, steps, count, wanted) in OPENED {
-        assert!(rt; after(Ends::new(), steps, count) == wanted, "{name}");
-    }
-}
-
-#[test]
-fn closes(rt: HostRuntime) {
-    for (name, steps, count, wanted) in CLOSED {
-        assert!(rt;
-            after(ends_at(Established, Established), steps, count) == wanted,
-            "{name}"
-        );
+fn opens_and_closes(rt: HostRuntime) {
+    for (ends, walks) in [(Ends::new(), OPENED), (ends_at(Established, Established), CLOSED)] {
+        for &(name, steps, count, wanted) in walks {
+            assert!(rt; after(ends, steps, count) == wanted, "{name}");
+        }
     }
 }
 
@@ -243,7 +235,7 @@ fn is_reset(state: State) -> bool {
 
 #[test]
 fn resets(rt: HostRuntime) {
-    for (name, number, state) in STATES {
+    for &(name, number, state) in STATES {
         assert!(rt; state.number() == number && is_reset(state), "{name}");
     }
 }

@@ -74,7 +74,7 @@ fn has_raised(raises: &RaiseList, hook: Hook, events: &[u16]) -> bool {
 }
 
 // The sender, the packet's place in its connection, and the sender's state before and after.
-const SENT: [(&str, Side, u64, State, State, &[u16]); 4] = [
+const SENT: &[(&str, Side, u64, State, State, &[u16])] = &[
     ("SYN", Client, 0, Closed, SynSent, &[START, PKT_IN, STATE]),
     // The server's state changed where it received the SYN.
     ("SYN and ACK", Server, 1, SynRcvd, SynRcvd, &[PKT_IN]),
@@ -84,7 +84,7 @@ const SENT: [(&str, Side, u64, State, State, &[u16]); 4] = [
 
 #[test]
 fn raises_at_the_sender(rt: HostRuntime) {
-    for (name, from, nth, old, new, events) in SENT {
+    for &(name, from, nth, old, new, events) in SENT {
         let sent = Sent {
             change: Change { old, new },
             next: 0,
@@ -111,7 +111,7 @@ const CAME_NEXT: Got = Got {
     ..QUIET
 };
 
-const RECEIVED: [(&str, Got, &[u16]); 8] = [
+const RECEIVED: &[(&str, Got, &[u16])] = &[
     (
         "SYN",
         Got {
@@ -185,7 +185,7 @@ const RECEIVED: [(&str, Got, &[u16]); 8] = [
 #[test]
 fn raises_at_the_receiver(rt: HostRuntime) {
     let head = Head { len: 8, ..HEAD };
-    for (name, got, events) in RECEIVED {
+    for &(name, got, events) in RECEIVED {
         let raises = phase_r(&head, Client, 3, &got);
         assert!(rt; has_raised(&raises, Hook::Rcv, events), "{name}");
     }
@@ -294,7 +294,7 @@ fn facts_are_kept_once(rt: HostRuntime) {
 }
 
 // Both endpoints of a connection, the number of its packets, and the facts of its silence.
-const SILENCES: [(&str, Endpoint, Endpoint, u64, Facts); 2] = [
+const SILENCES: &[(&str, Endpoint, Endpoint, u64, Facts)] = &[
     (
         "over IPv4",
         Endpoint::V4 {
@@ -337,7 +337,7 @@ const SILENCES: [(&str, Endpoint, Endpoint, u64, Facts); 2] = [
 
 #[test]
 fn a_connection_that_ended_by_idleness(rt: HostRuntime) {
-    for (name, client, server, members, facts) in SILENCES {
+    for &(name, client, server, members, facts) in SILENCES {
         let raised = raised_by_silence(client, server, members);
         assert!(rt;
             has_events(&raised, Hook::Rcv, &[264]) && raised.facts == facts,
@@ -346,7 +346,7 @@ fn a_connection_that_ended_by_idleness(rt: HostRuntime) {
     }
 }
 
-const ORPHANS: [(&str, Class, Facts); 5] = [
+const ORPHANS: &[(&str, Class, Facts)] = &[
     (
         "tcp",
         Class::Tcp,
@@ -364,7 +364,7 @@ const ORPHANS: [(&str, Class, Facts); 5] = [
 
 #[test]
 fn orphan_of_each_class(rt: HostRuntime) {
-    for (name, class, facts) in ORPHANS {
+    for &(name, class, facts) in ORPHANS {
         let raises = orphan_raise(class, Some(&ORPHANED));
         let orphan = Raise {
             hook: Hook::Snd,

@@ -70,7 +70,7 @@ fn facts_of(told: Told) -> Facts {
 }
 
 // The number of a native filter, and facts of which it is true or false.
-const CASES: [(&str, u8, Told, bool); 12] = [
+const CASES: &[(&str, u8, Told, bool)] = &[
     ("a SYN opens", 0, Flags(0x02), true),
     ("a SYN with ACK doesn't open", 0, Flags(0x12), false),
     ("port 80", 1, Ports(1024, 80), true),
@@ -123,7 +123,7 @@ fn answers<R: Threads + Sync>(
 #[test]
 fn each_native_filter_is_true_and_false(rt: HostRuntime) {
     let natives = own_book();
-    for (name, which, told, wanted) in CASES {
+    for &(name, which, told, wanted) in CASES {
         let facts = facts_of(told);
         assert!(rt;
             which <= 5 && answers(&rt, &natives, which, &facts) == (wanted, wanted),

@@ -39,7 +39,7 @@ const TAGGED_HEAD: Head = Head {
 type Edits = &'static [(usize, u8)];
 
 // How many bytes of the changed SYN there are, and its class.
-const CLASSES: [(&str, usize, Edits, Class); 28] = [
+const CLASSES: &[(&str, usize, Edits, Class)] = &[
     ("whole", 54, &[], Class::Tcp),
     ("padded", 60, &[], Class::Tcp),
     ("reserved flag", 54, &[(20, 0x80)], Class::Tcp),
@@ -76,7 +76,7 @@ const CLASSES: [(&str, usize, Edits, Class); 28] = [
 ];
 
 // Byte 13 of the TCP header, and whether it has FIN, SYN, RST and ACK.
-const FLAGS: [(&str, u8, (bool, bool, bool, bool)); 6] = [
+const FLAGS: &[(&str, u8, (bool, bool, bool, bool))] = &[
     ("FIN", 0x01, (true, false, false, false)),
     ("SYN", 0x02, (false, true, false, false)),
     ("RST", 0x04, (false, false, true, false)),
@@ -86,7 +86,7 @@ const FLAGS: [(&str, u8, (bool, bool, bool, bool)); 6] = [
 ];
 
 // Four bytes of options, and the window scale in them.
-const SCALES: [(&str, [u8; 4], Option<u8>); 7] = [
+const SCALES: &[(&str, [u8; 4], Option<u8>)] = &[
     ("above 14", [0x01, 0x03, 0x03, 0x0f], Some(14)),
     ("length 2", [0x03, 0x02, 0x01, 0x00], None),
     ("behind a length of 0", [0x02, 0x00, 0x03, 0x03], None),
@@ -141,7 +141,7 @@ fn payload_of(frame: &[u8]) -> Option<&[u8]> {
 
 #[test]
 fn first_test_that_holds_decides(rt: HostRuntime) {
-    for (name, len, edits, wanted) in CLASSES {
+    for &(name, len, edits, wanted) in CLASSES {
         assert!(rt; class_at(len, edits) == wanted, "{name}");
     }
 }
@@ -176,7 +176,7 @@ fn has_flags(flags: u8, wanted: (bool, bool, bool, bool)) -> bool {
 
 #[test]
 fn flags_by_their_bits(rt: HostRuntime) {
-    for (name, flags, wanted) in FLAGS {
+    for &(name, flags, wanted) in FLAGS {
         assert!(rt; has_flags(flags, wanted), "{name}");
     }
 }
@@ -202,7 +202,7 @@ fn has_scale(options: [u8; 4], wanted: Option<u8>) -> bool {
 
 #[test]
 fn walk_over_the_options(rt: HostRuntime) {
-    for (name, options, wanted) in SCALES {
+    for &(name, options, wanted) in SCALES {
         assert!(rt; has_scale(options, wanted), "{name}");
     }
 }

@@ -276,14 +276,26 @@ fn shows(frame: &[u8], wanted: &Segment) -> bool {
     }
 }
 
-// The class of the first bytes of a frame, after its changes.
-fn class_of(frame: &mut [u8], len: usize, edits: &[(usize, u8)]) -> Class {
-    for &(at, byte) in edits {
-        if at < frame.len() {
-            frame[at] = byte;
+// A frame with some bytes changed, and zeros behind it.
+fn changed(frame: &[u8], edits: &[(usize, u8)]) -> [u8; 146] {
+    let mut bytes = [0; 146];
+    for at in 0..frame.len() {
+        if at < 146 {
+            bytes[at] = frame[at];
         }
     }
-    match sight_of(&frame[..len.min(frame.len())]) {
+    for &(at, byte) in edits {
+        if at < 146 {
+            bytes[at] = byte;
+        }
+    }
+    bytes
+}
+
+// The class of the first bytes of a changed frame.
+fn class_of(frame: &[u8], len: usize, edits: &[(usize, u8)]) -> Class {
+    let bytes = changed(frame, edits);
+    match sight_of(&bytes[..len.min(146)]) {
         Sight::Tcp(_) => Class::Tcp,
         Sight::Other(class) => class,
     }
@@ -296,27 +308,19 @@ fn fields_of_a_segment(rt: HostRuntime) {
     }
 }
 
+// A frame, and changes of it.
+const CLASSES: &[(&str, &[u8], &[Row])] = &[
+    ("no header", &SYN, PLAIN),
+    ("one header", &EXTENDED, ONE),
+    ("many headers", &NINE, MANY),
+];
+
 #[test]
 fn first_test_that_holds_decides(rt: HostRuntime) {
-    for &(name, len, edits, wanted) in PLAIN {
-        let mut frame = SYN;
-        assert!(rt; class_of(&mut frame, len, edits) == wanted, "{name}");
-    }
-}
-
-#[test]
-fn walk_over_one_header(rt: HostRuntime) {
-    for &(name, len, edits, wanted) in ONE {
-        let mut frame = EXTENDED;
-        assert!(rt; class_of(&mut frame, len, edits) == wanted, "{name}");
-    }
-}
-
-#[test]
-fn walk_over_many_headers(rt: HostRuntime) {
-    for &(name, len, edits, wanted) in MANY {
-        let mut frame = NINE;
-        assert!(rt; class_of(&mut frame, len, edits) == wanted, "{name}");
+    for &(headers, frame, rows) in CLASSES {
+        for &(name, len, edits, wanted) in rows {
+            assert!(rt; class_of(frame, len, edits) == wanted, "{headers}, {name}");
+        }
     }
 }
 

@@ -15,7 +15,7 @@ enum Step {
 }
 
 // A receive buffer and a window of 8 bytes: the byte that came first stays, and each line goes on from the one above.
-const WORKED: [(&str, Step); 12] = [
+const WORKED: &[(&str, Step)] = &[
     ("behind a hole", Segment(4, b"EFGH", (4, 0, 0, 0), 0)),
     (
         "over the first two of them",
@@ -80,7 +80,7 @@ fn keeps_the_last_eight(stream: &Stream) -> bool {
 #[test]
 fn worked_segments(rt: HostRuntime) {
     let mut stream = Stream::new(rt.alloc(), 8);
-    for (name, step) in WORKED {
+    for &(name, step) in WORKED {
         assert!(rt; follows(&mut stream, step), "{name}");
     }
     assert!(rt; keeps_the_last_eight(&stream));
@@ -230,14 +230,14 @@ fn turns_alike(alloc: Global, policy: Policy, rbuf: u32, seed: u32) -> usize {
 }
 
 // The policy and the size of the receive buffer.
-const RUNS: [(&str, Policy, u32); 2] = [
+const RUNS: &[(&str, Policy, u32)] = &[
     ("the first byte stays", Policy::First, 16),
     ("the last byte stays", Policy::Last, 24),
 ];
 
 #[test]
 fn agrees_with_the_plain_receiver(rt: HostRuntime) {
-    for (name, policy, rbuf) in RUNS {
+    for &(name, policy, rbuf) in RUNS {
         for seed in 0..50 {
             let turns = turns_alike(rt.alloc(), policy, rbuf, seed);
             assert!(rt; turns == TURNS, "{name}, {seed}: {turns} turns");

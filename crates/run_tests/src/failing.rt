@@ -96,7 +96,7 @@ struct Failing {
 
 // A report is written by a call for each line, of which half is taken where it fails; a forwarded capture by one for the header
 // and two for each packet. A packet is read by two calls, and so is the header, whose first bytes tell the form; one more finds the end.
-const FAILING: [(&str, Failing); 12] = [
+const FAILING: &[(&str, Failing)] = &[
     (
         "reads of a handshake",
         Failing {
@@ -237,7 +237,7 @@ const TWO_CLIENTS_WRITTEN: &[usize] = &[
 
 // What is written is handed on by one call; so is a forwarded capture, since all of it is at hand. What was gathered leaves too where
 // a read fails.
-const GATHERED: [(&str, Failing); 4] = [
+const GATHERED: &[(&str, Failing)] = &[
     (
         "a report",
         Failing {
@@ -331,7 +331,7 @@ fn leaves<R: AllocGlobal + Abort + Threads + Wait + Sync + Send + Copy + Drop + 
 
 #[test]
 fn each_call_that_fails(rt: HostRuntime) {
-    for (name, failing) in &FAILING {
+    for (name, failing) in FAILING {
         for number in 0..=failing.left.len() {
             assert!(rt; leaves(&rt, failing, number), "{name}, {number}");
         }
@@ -353,7 +353,7 @@ fn hands_on<R: AllocGlobal + Abort + Threads + Wait + Sync + Send + Copy + Drop 
 
 #[test]
 fn each_call_of_a_gathered_run_that_fails(rt: HostRuntime) {
-    for (name, failing) in &GATHERED {
+    for (name, failing) in GATHERED {
         for number in 0..=failing.left.len() {
             assert!(rt; hands_on(&rt, failing, number), "{name}, {number}");
         }

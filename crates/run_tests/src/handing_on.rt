@@ -24,7 +24,7 @@ enum Seen {
 // With nothing at hand a packet has left before the head of the next one is read, and at most that head, of 16 bytes, waits for
 // the rest of its record. With all at hand the whole capture leaves in one call, behind its last packet. What was gathered leaves
 // too where the capture is refused further on.
-const RUNS: [(&str, &str, Traffic, bool, u8, Seen); 6] = [
+const RUNS: &[(&str, &str, Traffic, bool, u8, Seen)] = &[
     (
         "nothing at hand",
         "--emit forward",
@@ -110,7 +110,7 @@ fn forwards<R: AllocGlobal + Abort + Threads + Wait + Sync + Send + Copy + Drop 
 
 #[test]
 fn what_is_handed_on(rt: HostRuntime) {
-    for (name, words, traffic, is_at_hand, status, seen) in RUNS {
+    for &(name, words, traffic, is_at_hand, status, seen) in RUNS {
         assert!(rt;
             forwards(&rt, words, &traffic, is_at_hand, status, seen),
             "{name}"

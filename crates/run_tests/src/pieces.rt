@@ -8,7 +8,7 @@ use std::process::Abort;
 use std::sync::Wait;
 use std::thread::Threads;
 
-const PIECES: [(&str, usize); 3] = [
+const PIECES: &[(&str, usize)] = &[
     ("a byte", 1),
     ("seven bytes", 7),
     ("more than the capture", 4096),
@@ -26,7 +26,7 @@ fn accounts<R: AllocGlobal + Abort + Threads + Wait + Sync + Send + Copy + Drop 
 
 #[test]
 fn pieces_of_a_web_request(rt: HostRuntime) {
-    for (name, piece) in PIECES {
+    for &(name, piece) in PIECES {
         assert!(rt; accounts(&rt, piece), "{name}");
     }
 }

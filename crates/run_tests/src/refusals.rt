@@ -5,7 +5,7 @@ use mos_run::{RunError, ScriptFault, refuse};
 use std::process::Abort;
 
 // The refusal, its text, and the call of err that fails: the status, and what err got.
-const TOLD: [(&str, RunError, &str, u64, u8, &str); 2] = [
+const TOLD: &[(&str, RunError, &str, u64, u8, &str)] = &[
     (
         "a refusal that is half told",
         RunError::Script(ScriptFault::TooDeep, 7),
@@ -41,7 +41,7 @@ fn tells<R: AllocGlobal + Abort>(
 
 #[test]
 fn refusals_that_are_told(rt: HostRuntime) {
-    for (name, error, text, fails, status, told) in TOLD {
+    for &(name, error, text, fails, status, told) in TOLD {
         assert!(rt; tells(&rt, error, text, fails, status, told), "{name}");
     }
 }

@@ -31,23 +31,25 @@ const BIG_HEAD: [u8; 16] = [1, 2, 3, 4, 5, 6, 7, 8, 0, 0, 0, 54, 0, 0, 0, 60];
 const LITTLE_HEAD: [u8; 16] = [4, 3, 2, 1, 8, 7, 6, 5, 54, 0, 0, 0, 60, 0, 0, 0];
 
 // The three packets of a handshake.
-pub(crate) const PACKETS: [[u8; 54]; 3] = [
-    [
-        2, 0, 0, 0, 0, 2, 2, 0, 0, 0, 0, 1, 8, 0, 0x45, 0, 0, 0x28, 0, 0, 0x40, 0, 0x40, 6, 0, 0,
-        10, 0, 0, 1, 10, 0, 0, 2, 3, 0xe8, 0, 0x50, 0, 0, 0, 0x64, 0, 0, 0, 0, 0x50, 2, 0xff, 0xff,
-        0, 0, 0, 0,
-    ],
-    [
-        2, 0, 0, 0, 0, 1, 2, 0, 0, 0, 0, 2, 8, 0, 0x45, 0, 0, 0x28, 0, 0, 0x40, 0, 0x40, 6, 0, 0,
-        10, 0, 0, 2, 10, 0, 0, 1, 0, 0x50, 3, 0xe8, 0, 0, 1, 0x2c, 0, 0, 0, 0x65, 0x50, 0x12, 0xff,
-        0xff, 0, 0, 0, 0,
-    ],
-    [
-        2, 0, 0, 0, 0, 2, 2, 0, 0, 0, 0, 1, 8, 0, 0x45, 0, 0, 0x28, 0, 0, 0x40, 0, 0x40, 6, 0, 0,
-        10, 0, 0, 1, 10, 0, 0, 2, 3, 0xe8, 0, 0x50, 0, 0, 0, 0x65, 0, 0, 1, 0x2d, 0x50, 0x10, 0xff,
-        0xff, 0, 0, 0, 0,
-    ],
+pub(crate) const SYN: [u8; 54] = [
+    2, 0, 0, 0, 0, 2, 2, 0, 0, 0, 0, 1, 8, 0, 0x45, 0, 0, 0x28, 0, 0, 0x40, 0, 0x40, 6, 0, 0,
+    10, 0, 0, 1, 10, 0, 0, 2, 3, 0xe8, 0, 0x50, 0, 0, 0, 0x64, 0, 0, 0, 0, 0x50, 2, 0xff, 0xff,
+    0, 0, 0, 0,
 ];
+
+pub(crate) const SYN_ACK: [u8; 54] = [
+    2, 0, 0, 0, 0, 1, 2, 0, 0, 0, 0, 2, 8, 0, 0x45, 0, 0, 0x28, 0, 0, 0x40, 0, 0x40, 6, 0, 0,
+    10, 0, 0, 2, 10, 0, 0, 1, 0, 0x50, 3, 0xe8, 0, 0, 1, 0x2c, 0, 0, 0, 0x65, 0x50, 0x12, 0xff,
+    0xff, 0, 0, 0, 0,
+];
+
+pub(crate) const ACK: [u8; 54] = [
+    2, 0, 0, 0, 0, 2, 2, 0, 0, 0, 0, 1, 8, 0, 0x45, 0, 0, 0x28, 0, 0, 0x40, 0, 0x40, 6, 0, 0,
+    10, 0, 0, 1, 10, 0, 0, 2, 3, 0xe8, 0, 0x50, 0, 0, 0, 0x65, 0, 0, 1, 0x2d, 0x50, 0x10, 0xff,
+    0xff, 0, 0, 0, 0,
+];
+
+const PACKETS: [[u8; 54]; 3] = [SYN, SYN_ACK, ACK];
 
 // How many records a capture has, and what stands behind them; or why it isn't opened.
 type Read = Result<(usize, Result<Step, NextError>), OpenError>;
@@ -97,18 +99,18 @@ fn comes_to(alloc: Global, bytes: Vec<u8>, want: Read) -> bool {
     read(alloc, &mut MemSource::new(bytes, Vec::new(alloc))) == want
 }
 
-const FORMS: [(&str, [u8; 24], [u8; 16]); 4] = [
-    ("microseconds, the high byte first", BIG, BIG_HEAD),
-    ("microseconds, the low byte first", LITTLE, LITTLE_HEAD),
+const FORMS: &[(&str, &[u8; 24], &[u8; 16])] = &[
+    ("microseconds, the high byte first", &BIG, &BIG_HEAD),
+    ("microseconds, the low byte first", &LITTLE, &LITTLE_HEAD),
     (
         "nanoseconds, the high byte first",
-        BIG_NANOSECONDS,
-        BIG_HEAD,
+        &BIG_NANOSECONDS,
+        &BIG_HEAD,
     ),
     (
         "nanoseconds, the low byte first",
-        LITTLE_NANOSECONDS,
-        LITTLE_HEAD,
+        &LITTLE_NANOSECONDS,
+        &LITTLE_HEAD,
     ),
 ];
 
@@ -125,8 +127,8 @@ fn is_read_whole(alloc: Global, header: &[u8], head: &[u8]) -> Result<bool, Allo
 
 #[test]
 fn the_handshake_in_four_forms(rt: HostRuntime) -> Result<(), Fail> {
-    for (name, header, head) in FORMS {
-        assert!(rt; is_read_whole(rt.alloc(), &header, &head)?, "{name}");
+    for &(name, header, head) in FORMS {
+        assert!(rt; is_read_whole(rt.alloc(), header, head)?, "{name}");
     }
     Ok(())
 }
@@ -163,7 +165,7 @@ fn has_the_packets(alloc: Global, header: &[u8], head: &[u8], piece: usize) -> R
 }
 
 // The most bytes that a read gives.
-const PIECES: [(&str, usize); 5] = [
+const PIECES: &[(&str, usize)] = &[
     ("a byte at a time", 1),
     ("two bytes at a time", 2),
     ("seven bytes at a time", 7),
@@ -173,7 +175,7 @@ const PIECES: [(&str, usize); 5] = [
 
 #[test]
 fn frames_hold_the_packets(rt: HostRuntime) -> Result<(), Fail> {
-    for (name, piece) in PIECES {
+    for &(name, piece) in PIECES {
         assert!(rt;
             has_the_packets(rt.alloc(), &BIG, &BIG_HEAD, piece)?,
             "{name}, the high byte first"

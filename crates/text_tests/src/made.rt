@@ -43,7 +43,7 @@ const SECOND_GROUP: [u8; 70] = [
 ];
 
 // How many connections a capture has, a place in it, and the bytes that stand there.
-const FRAMES: [(&str, u32, usize, &[u8]); 4] = [
+const FRAMES: &[(&str, u32, usize, &[u8])] = &[
     ("the first SYN", 1, 24, &FIRST_SYN),
     ("the first answer", 1, 94, &FIRST_ANSWER),
     ("the late half", 1, 368, &LATE_HALF),
@@ -66,14 +66,14 @@ fn has(alloc: Global, n: u32, place: usize, want: &[u8]) -> Result<bool, AllocEr
 
 #[test]
 fn frames_are_those_of_the_table(rt: HostRuntime) -> Result<(), Fail> {
-    for (name, n, place, want) in FRAMES {
+    for &(name, n, place, want) in FRAMES {
         assert!(rt; has(rt.alloc(), n, place, want)?, "{name}");
     }
     Ok(())
 }
 
 // How many connections a capture has, its size, and a number that depends on every byte and its place.
-const WHOLE: [(&str, u32, usize, u32); 7] = [
+const WHOLE: &[(&str, u32, usize, u32)] = &[
     ("one connection", 1, 1_088, 2_044_074_718),
     ("9 connections", 9, 9_600, 3_194_439_541),
     ("10 connections", 10, 10_664, 3_261_617_131),
@@ -111,14 +111,14 @@ fn is_whole(alloc: Global, n: u32, size: usize, want: u32) -> Result<bool, Alloc
 
 #[test]
 fn captures_are_those_of_another_program(rt: HostRuntime) -> Result<(), Fail> {
-    for (name, n, size, want) in WHOLE {
+    for &(name, n, size, want) in WHOLE {
         assert!(rt; is_whole(rt.alloc(), n, size, want)?, "{name}");
     }
     Ok(())
 }
 
 // How much room each read has.
-const ROOMS: [(&str, usize); 5] = [
+const ROOMS: &[(&str, usize)] = &[
     ("a byte", 1),
     ("seven bytes", 7),
     ("a byte more than the header", 25),
@@ -146,7 +146,7 @@ fn comes_in_pieces(alloc: Global, room: usize) -> Result<bool, AllocError>
 
 #[test]
 fn reads_of_any_length_give_the_same_bytes(rt: HostRuntime) -> Result<(), Fail> {
-    for (name, room) in ROOMS {
+    for &(name, room) in ROOMS {
         assert!(rt; comes_in_pieces(rt.alloc(), room)?, "{name}");
     }
     Ok(())

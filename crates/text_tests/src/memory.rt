@@ -17,7 +17,7 @@ pub(crate) fn sink(alloc: Global, room: usize, fails: u64) -> Result<MemSink, Al
 }
 
 // What each read of three bytes answers, and what then stands in the room for them. There are five bytes.
-const READS: [(&str, Result<usize, Failed>, [u8; 3]); 4] = [
+const READS: &[(&str, Result<usize, Failed>, [u8; 3])] = &[
     ("three bytes", Ok(3), [1, 2, 3]),
     ("the listed call", Err(Failed), [1, 2, 3]),
     ("the rest", Ok(2), [4, 5, 3]),
@@ -29,7 +29,7 @@ const READS: [(&str, Result<usize, Failed>, [u8; 3]); 4] = [
 fn a_source_fails_at_its_listed_calls(rt: HostRuntime) -> Result<(), Fail> {
     let mut source = source(rt.alloc(), &[1, 2, 3, 4, 5], 1)?;
     let mut buf = [0; 3];
-    for (name, count, bytes) in READS {
+    for &(name, count, bytes) in READS {
         assert!(rt; source.read(&mut buf) == count && buf == bytes, "{name}");
     }
     Ok(())
@@ -57,7 +57,7 @@ fn fill_reads_to_the_end(rt: HostRuntime) -> Result<(), Fail> {
 const FORTY: &[u8; 40] = b"abcdefghijklmnopqrstuvwxyz0123456789ABCD";
 
 // The longest piece, and how much a read with room for 30 bytes gives.
-const PIECES: [(&str, usize, usize); 3] = [
+const PIECES: &[(&str, usize, usize)] = &[
     ("a byte at a time", 1, 1),
     ("seven bytes at a time", 7, 7),
     ("a piece longer than the room", 4_096, 30),
@@ -84,7 +84,7 @@ fn comes_in_pieces(alloc: Global, piece: usize, first: usize) -> Result<bool, Al
 
 #[test]
 fn a_source_in_pieces(rt: HostRuntime) -> Result<(), Fail> {
-    for (name, piece, first) in PIECES {
+    for &(name, piece, first) in PIECES {
         assert!(rt; comes_in_pieces(rt.alloc(), piece, first)?, "{name}");
     }
     Ok(())

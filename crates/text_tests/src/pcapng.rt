@@ -1,10 +1,9 @@
 //! Files in the pcapng form: what they give, in any cut of reads, and which blocks are refused.
 
-use crate::captures::PACKETS;
+use crate::captures::{ACK, SYN, SYN_ACK};
 use mos_bytes::{Failed, MemSource, Source};
 use pcapng_source::{AnySource, NgFault};
 use std::alloc::{AllocError, Global};
-use std::test::Fail;
 
 // A field of a block, in the byte order of its section; or bytes as they are.
 #[derive(Clone, Copy)]
@@ -70,13 +69,33 @@ fn put(bytes: &mut Vec<u8>, is_big: bool, parts: &[Part]) -> Result<(), AllocErr
     Ok(())
 }
 
-// A file of these blocks, in either order of bytes.
-fn file(alloc: Global, is_big: bool, blocks: &[&[Part]]) -> Result<Vec<u8>, AllocError> {
+// Blocks, and whether the high byte of their fields comes first.
+type Blocks<'a> = (bool, &'a [&'a [Part]]);
+
+// A file of these blocks.
+fn file(alloc: Global, all: &[Blocks<'_>]) -> Result<Vec<u8>, AllocError> {
     let mut bytes = Vec::new(alloc);
-    for block in blocks {
-        put(&mut bytes, is_big, block)?;
+    for &(is_big, blocks) in all {
+        for block in blocks {
+            put(&mut bytes, is_big, block)?;
+        }
     }
     Ok(bytes)
+}
+
+// How many bytes blocks have.
+fn length_of(blocks: &[&[Part]]) -> u32 {
+    let mut length: u32 = 0;
+    for block in blocks {
+        for part in *block {
+            length = length.wrapping_add(match *part {
+                Two(_) => 2,
+                Four(_) => 4,
+                Bytes(others) => others.len() as u32,
+            });
+        }
+    }
+    length
 }
 
 // Lists of bytes, one behind the other.
@@ -112,22 +131,45 @@ fn reads<S: Source>(any: &mut AnySource<S>, want: &[u8], fault: Option<NgFault>)
     false
 }
 
-const PIECES: [usize; 3] = [1, 5, 4_096];
+const PIECES: &[usize] = &[1, 5, 4_096];
 
 // Whether a file gives these bytes, and then the end or this refusal, in pieces of each of three lengths.
-fn gives(
-    alloc: Global,
-    file: &[u8],
-    want: &[u8],
-    fault: Option<NgFault>,
-) -> Result<bool, AllocError> {
-    for piece in PIECES {
-        let mut source = MemSource::new(file.to_vec(alloc)?, Vec::new(alloc)).cut(piece);
+fn gives(alloc: Global, file: &[u8], want: &[u8], fault: Option<NgFault>) -> bool {
+    for &piece in PIECES {
+        let Ok(bytes) = file.to_vec(alloc) else {
+            return false;
+        };
+        let mut source = MemSource::new(bytes, Vec::new(alloc)).cut(piece);
         if !reads(&mut AnySource::new(&mut source), want, fault) {
-            return Ok(false);
+            return false;
         }
     }
-    Ok(true)
+    true
+}
+
+// The same of bytes that are given as lists.
+fn gives_all(alloc: Global, file: &[u8], want: &[&[u8]], fault: Option<NgFault>) -> bool {
+    match joined(alloc, want) {
+        Ok(want) => gives(alloc, file, &want, fault),
+        Err(_) => false,
+    }
+}
+
+// The same of a file of these blocks, without so many bytes at its end.
+fn give(
+    alloc: Global,
+    all: &[Blocks<'_>],
+    left_out: usize,
+    want: &[&[u8]],
+    fault: Option<NgFault>,
+) -> bool {
+    match file(alloc, all) {
+        Ok(bytes) => {
+            let there = bytes.len().saturating_sub(left_out);
+            gives_all(alloc, bytes.get(..there).unwrap_or(&[]), want, fault)
+        }
+        Err(_) => false,
+    }
 }
 
 // ---- refusals
@@ -266,87 +308,77 @@ fn is_refused(
     is_big: bool,
     before: &[&[Part]],
     block: &[Part],
-    want: &[u8],
+    want: &[&[u8]],
     fault: NgFault,
-) -> Result<bool, AllocError> {
-    let mut bytes = file(alloc, is_big, before)?;
-    let fault = moved(fault, bytes.len() as u64);
-    put(&mut bytes, is_big, block)?;
-    let short = bytes.len().saturating_sub(1);
-    Ok(
-        gives(alloc, &bytes, want, Some(fault))?
-            && gives(alloc, bytes.get(..short).unwrap_or(&[]), want, None)?,
-    )
+) -> bool {
+    let all = [(is_big, before), (is_big, &[block])];
+    let fault = moved(fault, u64::from(length_of(before)));
+    give(alloc, &all, 0, want, Some(fault)) && give(alloc, &all, 1, want, None)
 }
 
-fn is_refused_anywhere(
-    alloc: Global,
-    is_big: bool,
-    block: &[Part],
-    fault: NgFault,
-) -> Result<bool, AllocError> {
-    let one = joined(alloc, &[HEADER, RECORD])?;
-    Ok(
-        is_refused(alloc, is_big, &[SECTION, INTERFACE], block, HEADER, fault)?
-            && is_refused(
-                alloc,
-                is_big,
-                &[SECTION, INTERFACE, PACKET],
-                block,
-                &one,
-                fault,
-            )?,
-    )
+fn is_refused_anywhere(alloc: Global, is_big: bool, block: &[Part], fault: NgFault) -> bool {
+    let empty = &[SECTION, INTERFACE];
+    let one = &[SECTION, INTERFACE, PACKET];
+    is_refused(alloc, is_big, empty, block, &[HEADER], fault)
+        && is_refused(alloc, is_big, one, block, &[HEADER, RECORD], fault)
 }
 
 #[test]
-fn each_refusal_where_its_bytes_are_there(rt: HostRuntime) -> Result<(), Fail> {
+fn each_refusal_where_its_bytes_are_there(rt: HostRuntime) {
     for &(name, block, fault) in REFUSED {
         for is_big in [true, false] {
             assert!(rt;
-                is_refused_anywhere(rt.alloc(), is_big, block, fault)?,
+                is_refused_anywhere(rt.alloc(), is_big, block, fault),
                 "{name}"
             );
         }
     }
-    Ok(())
 }
 
 // A packet whose second total length differs is given for all that.
-#[test]
-fn a_refused_trailer_comes_behind_its_packet(rt: HostRuntime) -> Result<(), Fail> {
-    let Some((_, cut)) = PACKET.split_last() else {
-        return Ok(());
-    };
-    let bytes = file(rt.alloc(), true, &[SECTION, INTERFACE, cut, &[Four(32)]])?;
-    let want = joined(rt.alloc(), &[HEADER, RECORD])?;
-    assert!(rt; gives(rt.alloc(), &bytes, &want, Some(NgFault::BadBlock(48)))?);
-    Ok(())
+fn has_two_lengths(alloc: Global) -> bool {
+    match PACKET.split_last() {
+        Some((_, cut)) => {
+            let blocks: &[&[Part]] = &[SECTION, INTERFACE, cut, &[Four(32)]];
+            let fault = Some(NgFault::BadBlock(48));
+            give(alloc, &[(true, blocks)], 0, &[HEADER, RECORD], fault)
+        }
+        None => false,
+    }
 }
 
-// How many interfaces a section has, and why it is refused. A packet of the last one follows.
-const INTERFACES: [(usize, Option<NgFault>); 2] = [
-    (64, None),
-    (65, Some(NgFault::TooManyInterfaces(1308))),
+#[test]
+fn a_refused_trailer_comes_behind_its_packet(rt: HostRuntime) {
+    assert!(rt; has_two_lengths(rt.alloc()));
+}
+
+// How many interfaces a section has, the bytes that are given, and why it is refused. A packet of the last one follows.
+const INTERFACES: &[(usize, &[&[u8]], Option<NgFault>)] = &[
+    (64, &[HEADER, RECORD], None),
+    (65, &[HEADER], Some(NgFault::TooManyInterfaces(1308))),
 ];
 
-fn has_interfaces(alloc: Global, count: usize, fault: Option<NgFault>) -> Result<bool, AllocError> {
-    let mut bytes = file(alloc, false, &[SECTION])?;
+fn with_interfaces(alloc: Global, count: usize) -> Result<Vec<u8>, AllocError> {
+    let mut bytes = file(alloc, &[(false, &[SECTION])])?;
     for _ in 0..count {
         put(&mut bytes, false, INTERFACE)?;
     }
     put(&mut bytes, false, PACKET)?;
-    let record: &[u8] = if fault.is_none() { RECORD } else { &[] };
-    let want = joined(alloc, &[HEADER, record])?;
-    gives(alloc, &bytes, &want, fault)
+    Ok(bytes)
+}
+
+fn has_interfaces(alloc: Global, count: usize, want: &[&[u8]], fault: Option<NgFault>) -> bool {
+    match with_interfaces(alloc, count) {
+        Ok(bytes) => gives_all(alloc, &bytes, want, fault),
+        Err(_) => false,
+    }
 }
 
 #[test]
-fn a_section_has_64_interfaces(rt: HostRuntime) -> Result<(), Fail> {
-    for (count, fault) in INTERFACES {
-        assert!(rt; has_interfaces(rt.alloc(), count, fault)?);
+fn a_section_has_64_interfaces(rt: HostRuntime) {
+    for &(count, want, fault) in INTERFACES {
+        assert!(rt; has_interfaces(rt.alloc(), count, want, fault), "{count}");
     }
-    Ok(())
 }
 
 // ---- files that are cut
@@ -364,7 +396,7 @@ const SIMPLE: &[Part] = &[Four(3), Four(20), Four(3), Bytes(&[4, 5, 6, 0]), Four
 const SIMPLE_RECORD: &[u8] = &[0, 0, 0, 0, 0, 0, 0, 0, 0, 0, 0, 3, 0, 0, 0, 3, 4, 5, 6];
 
 // From this length of a file on it gives so many bytes, and where that is said one more for each byte more.
-const CUTS: [(usize, usize, bool); 7] = [
+const CUTS: &[(usize, usize, bool)] = &[
     (0, 0, true),
     (4, 24, false),
     (76, 40, true),
@@ -377,7 +409,7 @@ const CUTS: [(usize, usize, bool); 7] = [
 // How many bytes a file gives of which so many are there.
 fn given_of(len: usize) -> usize {
     let mut given = 0;
-    for (start, count, grows) in CUTS {
+    for &(start, count, grows) in CUTS {
         if start <= len {
             given = if grows {
                 count.wrapping_add(len.wrapping_sub(start))
@@ -389,29 +421,36 @@ fn given_of(len: usize) -> usize {
     given
 }
 
-fn is_cut_well(alloc: Global, is_big: bool) -> Result<bool, AllocError> {
-    let bytes = file(alloc, is_big, &[SECTION, INTERFACE, PACKET, OTHER, SIMPLE])?;
-    let want = joined(alloc, &[HEADER, RECORD, SIMPLE_RECORD])?;
-    for len in 0..=bytes.len() {
-        let cut = bytes.get(..len).unwrap_or(&[]);
+// Whether a file that is cut at each of its bytes gives what it has to.
+fn is_cut_well(alloc: Global, file: &[u8], want: &[u8]) -> bool {
+    for len in 0..=file.len() {
+        let cut = file.get(..len).unwrap_or(&[]);
         let given = if len < 4 {
             cut
         } else {
             want.get(..given_of(len)).unwrap_or(&[])
         };
-        if !gives(alloc, cut, given, None)? {
-            return Ok(false);
+        if !gives(alloc, cut, given, None) {
+            return false;
         }
     }
-    Ok(bytes.len() == 124)
+    file.len() == 124
+}
+
+fn is_cut_in_order(alloc: Global, is_big: bool, want: &[u8]) -> bool {
+    let blocks: &[&[Part]] = &[SECTION, INTERFACE, PACKET, OTHER, SIMPLE];
+    match file(alloc, &[(is_big, blocks)]) {
+        Ok(bytes) => is_cut_well(alloc, &bytes, want),
+        Err(_) => false,
+    }
 }
 
 #[test]
-fn a_file_cut_at_each_byte(rt: HostRuntime) -> Result<(), Fail> {
+fn a_file_cut_at_each_byte(rt: HostRuntime) {
+    let want = joined(rt.alloc(), &[HEADER, RECORD, SIMPLE_RECORD]).expect(&rt, "memory");
     for is_big in [true, false] {
-        assert!(rt; is_cut_well(rt.alloc(), is_big)?);
+        assert!(rt; is_cut_in_order(rt.alloc(), is_big, &want));
     }
-    Ok(())
 }
 
 // Files that are no pcapng files.
@@ -423,23 +462,23 @@ const OTHERS: &[&[u8]] = &[
 ];
 
 #[test]
-fn other_files_as_they_are(rt: HostRuntime) -> Result<(), Fail> {
+fn other_files_as_they_are(rt: HostRuntime) {
     for &bytes in OTHERS {
-        assert!(rt; gives(rt.alloc(), bytes, bytes, None)?);
+        assert!(rt; gives(rt.alloc(), bytes, bytes, None));
     }
-    Ok(())
 }
 
-// A section in the other order begins anew: it has no interface of the one before.
+// Sections in either order, each of which begins anew: the last one has no interface of those before it.
+const SECTIONS: &[Blocks<'static>] = &[
+    (true, &[SECTION, INTERFACE, PACKET]),
+    (false, &[SECTION, INTERFACE, PACKET, SIMPLE]),
+    (true, &[SECTION, PACKET]),
+];
+
 #[test]
-fn sections_in_both_orders(rt: HostRuntime) -> Result<(), Fail> {
-    let big = file(rt.alloc(), true, &[SECTION, INTERFACE, PACKET])?;
-    let little = file(rt.alloc(), false, &[SECTION, INTERFACE, PACKET, SIMPLE])?;
-    let none = file(rt.alloc(), true, &[SECTION, PACKET])?;
-    let bytes = joined(rt.alloc(), &[&big, &little, &none])?;
-    let want = joined(rt.alloc(), &[HEADER, RECORD, RECORD, SIMPLE_RECORD])?;
-    assert!(rt; gives(rt.alloc(), &bytes, &want, Some(NgFault::BadBlock(216)))?);
-    Ok(())
+fn sections_in_both_orders(rt: HostRuntime) {
+    let want = &[HEADER, RECORD, RECORD, SIMPLE_RECORD];
+    assert!(rt; give(rt.alloc(), SECTIONS, 0, want, Some(NgFault::BadBlock(216))));
 }
 
 // ---- times
@@ -541,73 +580,54 @@ const TIMES: &[(&str, &[Part], u32, u32)] = &[
     ),
 ];
 
+// The packet behind such an interface: two halves of its time, no bytes of sixty.
+const TIMED: &[Part] = &[
+    Four(6),
+    Four(32),
+    Four(0),
+    Four(0x5_0000),
+    Four(7),
+    Four(0),
+    Four(60),
+    Four(32),
+];
+
+// The record of that packet, with this time.
+fn record_at(seconds: u32, fraction: u32) -> [u8; 16] {
+    let [a, b, c, d] = seconds.to_be_bytes();
+    let [e, f, g, h] = fraction.to_be_bytes();
+    [a, b, c, d, e, f, g, h, 0, 0, 0, 0, 0, 0, 0, 60]
+}
+
 // Whether a packet behind an interface with these options has this time.
-fn has_time(
-    alloc: Global,
-    is_big: bool,
-    options: &[Part],
-    seconds: u32,
-    fraction: u32,
-) -> Result<bool, AllocError> {
-    let size = match u32::try_from(file(alloc, is_big, &[options])?.len()) {
-        Ok(len) => len.wrapping_add(20),
-        Err(_) => return Ok(false),
-    };
+fn has_time(alloc: Global, is_big: bool, options: &[Part], seconds: u32, fraction: u32) -> bool {
+    let size = length_of(&[options]).wrapping_add(20);
     let blocks: [&[Part]; 5] = [
         SECTION,
         &[Four(1), Four(size), Two(1), Two(0), Four(0)],
         options,
         &[Four(size)],
-        &[
-            Four(6),
-            Four(32),
-            Four(0),
-            Four(0x5_0000),
-            Four(7),
-            Four(0),
-            Four(60),
-            Four(32),
-        ],
+        TIMED,
     ];
-    let bytes = file(alloc, is_big, &blocks)?;
-    let mut want = joined(alloc, &[HEADER])?;
-    put(
-        &mut want,
-        true,
-        &[Four(seconds), Four(fraction), Four(0), Four(60)],
-    )?;
-    gives(alloc, &bytes, &want, None)
+    let record = record_at(seconds, fraction);
+    give(alloc, &[(is_big, &blocks)], 0, &[HEADER, &record], None)
 }
 
 #[test]
-fn times_in_the_unit_of_their_interface(rt: HostRuntime) -> Result<(), Fail> {
+fn times_in_the_unit_of_their_interface(rt: HostRuntime) {
     for &(name, options, seconds, fraction) in TIMES {
         for is_big in [true, false] {
             assert!(rt;
-                has_time(rt.alloc(), is_big, options, seconds, fraction)?,
+                has_time(rt.alloc(), is_big, options, seconds, fraction),
                 "{name}"
             );
         }
     }
-    Ok(())
 }
 
 // ---- a handshake
 
-// The link type, how many bytes of the file are left out, how many bytes it gives, and why it is refused.
-const HANDSHAKES: [(&str, u16, usize, usize, Option<NgFault>); 3] = [
-    ("whole", 1, 0, 234, None),
-    ("without its last 60 bytes", 1, 60, 180, None),
-    (
-        "of another link type",
-        113,
-        0,
-        24,
-        Some(NgFault::BadLink(48)),
-    ),
-];
-
-// The head of an enhanced packet of 54 bytes at time 0, and the head of its record.
+// The head of an enhanced packet of 54 bytes at time 0, what stands behind its bytes, and the head of its record.
 const HEAD: &[Part] = &[
     Four(6),
     Four(88),
@@ -618,54 +638,71 @@ const HEAD: &[Part] = &[
     Four(54),
 ];
 
+const END: &[Part] = &[Two(0), Four(88)];
+
 const RECORD_HEAD: &[u8] = &[0, 0, 0, 0, 0, 0, 0, 0, 0, 0, 0, 54, 0, 0, 0, 54];
+
+// The link type, how many bytes of the file are left out, the bytes that it gives, and why it is refused.
+const HANDSHAKES: &[(&str, u16, usize, &[&[u8]], Option<NgFault>)] = &[
+    (
+        "whole",
+        1,
+        0,
+        &[HEADER, RECORD_HEAD, &SYN, RECORD_HEAD, &SYN_ACK, RECORD_HEAD, &ACK],
+        None,
+    ),
+    (
+        "without its last 60 bytes",
+        1,
+        60,
+        &[HEADER, RECORD_HEAD, &SYN, RECORD_HEAD, &SYN_ACK, RECORD_HEAD],
+        None,
+    ),
+    (
+        "of another link type",
+        113,
+        0,
+        &[HEADER],
+        Some(NgFault::BadLink(48)),
+    ),
+];
 
 fn is_handshake(
     alloc: Global,
     is_big: bool,
     link: u16,
     left_out: usize,
-    given: usize,
+    want: &[&[u8]],
     fault: Option<NgFault>,
-) -> Result<bool, AllocError> {
-    let interface = &[
-        Four(1),
-        Four(20),
-        Two(link),
-        Two(0),
-        Four(262_144),
-        Four(20),
-    ];
-    let mut bytes = file(alloc, is_big, &[SECTION, interface])?;
-    let mut want = joined(alloc, &[HEADER])?;
-    for packet in &PACKETS {
-        put(&mut bytes, is_big, HEAD)?;
-        bytes.extend_from_slice(packet)?;
-        put(&mut bytes, is_big, &[Two(0), Four(88)])?;
-        want.extend_from_slice(RECORD_HEAD)?;
-        want.extend_from_slice(packet)?;
-    }
-    let len = bytes.len().saturating_sub(left_out);
-    Ok(
-        bytes.len() == 312
-            && gives(
-                alloc,
-                bytes.get(..len).unwrap_or(&[]),
-                want.get(..given).unwrap_or(&[]),
-                fault,
-            )?,
-    )
+) -> bool {
+    let interface: &[Part] = &[Four(1), Four(20), Two(link), Two(0), Four(262_144), Four(20)];
+    let front: &[&[Part]] = &[SECTION, interface];
+    let all = [(is_big, front), (is_big, ENHANCED)];
+    let length = length_of(front).wrapping_add(length_of(ENHANCED));
+    length == 312 && give(alloc, &all, left_out, want, fault)
 }
 
+// The three packets.
+const ENHANCED: &[&[Part]] = &[
+    HEAD,
+    &[Bytes(&SYN)],
+    END,
+    HEAD,
+    &[Bytes(&SYN_ACK)],
+    END,
+    HEAD,
+    &[Bytes(&ACK)],
+    END,
+];
+
 #[test]
-fn the_handshake(rt: HostRuntime) -> Result<(), Fail> {
-    for (name, link, left_out, given, fault) in HANDSHAKES {
+fn the_handshake(rt: HostRuntime) {
+    for &(name, link, left_out, want, fault) in HANDSHAKES {
         for is_big in [true, false] {
             assert!(rt;
-                is_handshake(rt.alloc(), is_big, link, left_out, given, fault)?,
+                is_handshake(rt.alloc(), is_big, link, left_out, want, fault),
                 "{name}"
             );
         }
     }
-    Ok(())
 }

@@ -18,7 +18,7 @@ type Packet = (u32, &'static [u8; 54]);
 // packet of a connection has two, one of none has one, and so has the end of a connection by idleness.
 type Row = (&'static str, &'static [Packet], u32, &'static [u64], u64);
 
-const ROWS: [Row; 6] = [
+const ROWS: &[Row] = &[
     (
         "a packet after more than the limit begins a connection",
         &[(0, &SYN), (0, &SYN_ACK), (0, &ACK), (11, &SYN)],
@@ -104,8 +104,8 @@ fn ends<L: Recorder + Drop>(
     same
 }
 
-fn leaves(alloc: Global, row: Row) -> bool {
-    let (_, packets, greatest, names, callbacks) = row;
+fn leaves(alloc: Global, row: &Row) -> bool {
+    let (_, packets, greatest, names, callbacks) = *row;
     let Ok(mut lane) = Lane::new(alloc, LogApp, Table::new(alloc), true) else {
         return false;
     };

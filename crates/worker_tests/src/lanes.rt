@@ -25,7 +25,7 @@ type Row = (
     u64,
 );
 
-const ROWS: [Row; 2] = [
+const ROWS: &[Row] = &[
     (
         "a record lives under the commands before its first packet",
         true,
@@ -136,8 +136,8 @@ fn end_is_handed(end: LaneEnd) -> LaneEnd {
     handed(end)
 }
 
-fn leaves(alloc: Global, row: Row) -> bool {
-    let (_, keep, text, packets, versions, callbacks) = row;
+fn leaves(alloc: Global, row: &Row) -> bool {
+    let (_, keep, text, packets, versions, callbacks) = *row;
     let Some(script) = script(alloc, text) else {
         return false;
     };

@@ -45,7 +45,7 @@ fn are_named(records: &[Record], names: &[u64]) -> bool {
 }
 
 // The names of each lane's records, and those of the merged ones.
-const MERGED: [(&str, &[&[u64]], &[u64]); 3] = [
+const MERGED: &[(&str, &[&[u64]], &[u64])] = &[
     (
         "four lanes, one of them empty",
         &[&[2, 3, 9], &[], &[0, 4, 5, 8], &[1, 7]],
@@ -72,17 +72,17 @@ fn merges(alloc: Global, names: &[&[u64]], want: &[u64]) -> bool {
 
 #[test]
 fn lanes_are_merged_by_name(rt: HostRuntime) {
-    for (name, lanes, want) in MERGED {
+    for &(name, lanes, want) in MERGED {
         assert!(rt; merges(rt.alloc(), lanes, want), "{name}");
     }
 }
 
 // The names of three lanes' records, their callbacks, and their dropped packets.
-const ENDS: [(&[u64], u64, u64); 3] = [(&[2, 9], 5, 2), (&[1], 0, 1), (&[0, 4], 8, 0)];
+const ENDS: &[(&[u64], u64, u64)] = &[(&[2, 9], 5, 2), (&[1], 0, 1), (&[0, 4], 8, 0)];
 
 fn lane_ends(alloc: Global) -> Result<Vec<LaneEnd>, AllocError> {
     let mut ends = Vec::new(alloc);
-    for (names, callbacks, drops) in ENDS {
+    for &(names, callbacks, drops) in ENDS {
         ends.push(LaneEnd {
             records: records(alloc, names)?,
             versions: VersionOfList {

@@ -125,7 +125,7 @@ enum Move {
     Take(Option<u32>),
 }
 
-const MOVES: [(&str, Move); 8] = [
+const MOVES: &[(&str, Move)] = &[
     ("the first has room", Move::Send(7, Ok(()))),
     ("so has the second", Move::Send(8, Ok(()))),
     ("the third is handed back", Move::Send(9, Err(9))),
@@ -147,7 +147,7 @@ fn does(tx: &mut CommandTx, rx: &mut CommandRx, asked: Move) -> bool {
 fn a_full_ring_hands_back(rt: HostRuntime) -> Result<(), Fail> {
     let (tx, rx) = command_ring(rt.alloc(), 2)?;
     let (mut tx, mut rx) = (handed(tx), handed(rx));
-    for (name, asked) in MOVES {
+    for &(name, asked) in MOVES {
         assert!(rt; does(&mut tx, &mut rx, asked), "{name}");
     }
     Ok(())
@@ -193,7 +193,7 @@ enum Turn {
     Reaches(u64, bool),
 }
 
-const TURNS: [(&str, Turn); 12] = [
+const TURNS: &[(&str, Turn)] = &[
     ("one that comes early", Turn::Offer(2, None)),
     ("the first", Turn::Offer(0, None)),
     ("the last place", Turn::Reaches(3, true)),
@@ -223,7 +223,7 @@ fn goes(alloc: Global, r: &mut Resequencer, turn: Turn) -> bool {
 fn answers_leave_in_order(rt: HostRuntime) -> Result<(), Fail> {
     let alloc = rt.alloc();
     let mut r = handed(Resequencer::new(alloc, 4)?);
-    for (name, turn) in TURNS {
+    for &(name, turn) in TURNS {
         assert!(rt; goes(alloc, &mut r, turn), "{name}");
     }
     Ok(())

@@ -88,7 +88,7 @@ type Row = (
 
 const NEVER: u64 = u64::MAX;
 
-const ROWS: [Row; 7] = [
+const ROWS: &[Row] = &[
     ("one lane", 1, &[], NEVER, Ok(0)),
     ("two lanes", 2, &[], NEVER, Ok(0)),
     ("three lanes", 3, &[], NEVER, Ok(0)),
@@ -108,9 +108,9 @@ const ROWS: [Row; 7] = [
 fn runs<R: Threads + Wait + Sync + Send + Copy + Drop + 'static>(
     rt: &R,
     alloc: Global,
-    row: Row,
+    row: &Row,
 ) -> bool {
-    let (_, workers, behind, fails, want) = row;
+    let (_, workers, behind, fails, want) = *row;
     let Some(script) = script(alloc, DROPS) else {
         return false;
     };

@@ -303,7 +303,7 @@ fn answers_twice<R: Wait>(
 
 // A name, the packet at which the lane fails, and then the packets that are answered and the lane's version after each call, and
 // whether the lane failed.
-const ROWS: [(&str, Option<u64>, (Answered, Answered, bool)); 2] = [
+const ROWS: &[(&str, Option<u64>, (Answered, Answered, bool))] = &[
     (
         "packets that fit are answered, and places are left",
         None,
@@ -318,7 +318,7 @@ const ROWS: [(&str, Option<u64>, (Answered, Answered, bool)); 2] = [
 
 #[test]
 fn a_worker_answers_what_fits(rt: HostRuntime) {
-    for (name, fails_at, want) in ROWS {
+    for &(name, fails_at, want) in ROWS {
         assert!(rt;
             answers_twice(&rt, rt.alloc(), fails_at) == Some(want),
             "{name}"
