@@ -8,7 +8,7 @@ use Rattle.lane_rings.specs.Waiting.{Waiting, first_of}
 use Rattle.worker_laws.specs.Share.{share, rank}
 use Rattle.worker_laws.specs.Forwarded.{bytes_out, forwarded}
 use Rattle.worker_laws.specs.Forward.{Leaving, beginning, AreFronts, AreIndexed, is_taken, answer_of, IsRight, Keeps}
-use Rattle.worker_laws.proofs.Shares.{share-longer, rank-within}
+use Rattle.worker_laws.proofs.Ranks.{share-longer, rank-within}
 use Rattle.worker_laws.proofs.Fronts.{fronts_earlier}
 use Rattle.worker_laws.proofs.Writing.{forwarded-more, first_is, taken_sent}
 

@@ -7,7 +7,7 @@ use mathlib.Core.List.{IsPrefix}
 use Rattle.lane_rings.specs.declared.items.Answer.{Answer}
 use Rattle.worker_laws.specs.Share.{share, rank}
 use Rattle.worker_laws.specs.Forward.{AreFronts, is_taken, answer_of}
-use Rattle.worker_laws.proofs.Shares.{share-more, rank-one}
+use Rattle.worker_laws.proofs.Ranks.{share-more, rank-one}
 
 -- a test below one number more
 lt_more : (r t u : ℕ) → u ≡ t + 1 → (r ≡ t → ⊥) → nat_lt r u ≡ nat_lt r t

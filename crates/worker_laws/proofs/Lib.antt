@@ -22,7 +22,7 @@ mod Dealt
 mod Latest
 mod Answered
 mod Scripts
-mod Shares
+mod Ranks
 mod Fronts
 mod Offering
 mod Writing

@@ -7,7 +7,7 @@ use Rattle.lane_rings.specs.declared.items.Answer.{Answer}
 use Rattle.lane_rings.specs.Waiting.{Waiting, is_refused, holding}
 use Rattle.worker_laws.specs.Share.{share, rank}
 use Rattle.worker_laws.specs.Forward.{Leaving, offered, is_taken, answer_of, IsRight, Keeps}
-use Rattle.worker_laws.proofs.Shares.{ranked}
+use Rattle.worker_laws.proofs.Ranks.{ranked}
 use Rattle.worker_laws.proofs.Fronts.{fronts_before, taken_is, sent_after, was_not_taken, is_taken_now, no_other, other_answer}
 
 -- an answer whose place is free is taken up

@@ -5,7 +5,7 @@ use Rattle.std.proofs.lemmas.Bool.{cases_lt, false_from_ne_true}
 use Rattle.lane_rings.specs.declared.items.Answer.{Answer}
 use Rattle.worker_laws.specs.Share.{share}
 use Rattle.worker_laws.specs.Forward.{Leaving, AreFronts, is_taken, answer_of, IsRight, Keeps}
-use Rattle.worker_laws.proofs.Shares.{share-own, share-other}
+use Rattle.worker_laws.proofs.Ranks.{share-own, share-other}
 use Rattle.worker_laws.proofs.Writing.{taken_sent}
 
 pub own_more : (lane : ℕ → ℕ) (n : ℕ) → share lane (lane n) (n + 1) ≡ share lane (lane n) n ++ n ∷ []

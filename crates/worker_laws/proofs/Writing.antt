@@ -8,7 +8,7 @@ use Rattle.lane_rings.specs.Waiting.{Waiting, first_of, moved_on}
 use Rattle.worker_laws.specs.Share.{share, rank}
 use Rattle.worker_laws.specs.Forwarded.{bytes_out, forwarded}
 use Rattle.worker_laws.specs.Forward.{Leaving, bytes_of_first, left_first, is_taken, answer_of, IsRight, Keeps}
-use Rattle.worker_laws.proofs.Shares.{share-longer}
+use Rattle.worker_laws.proofs.Ranks.{share-longer}
 
 pub forwarded-more : (answer : ℕ → Answer) (n : ℕ) → forwarded answer (n + 1) ≡ forwarded answer n ++ bytes_out (answer n)
 unfolding forwarded
