@@ -63,7 +63,7 @@ module _ (endings : Endings) (lane : EndpointPair → ℕ) (packets : List Arriv
     within = subst (λ ms. All (λ m. IsWithin floor ceil m.version (name_of m)) ms) (sym listed_same)
         (all_of_records endings (IsWithin floor ceil) j.stamped
         (all_of_parts lane (λ p. IsWithin floor ceil p.version p.arrival.number) j.stamped
-            (λ l. subst (All (λ p. IsWithin floor ceil p.version p.arrival.number)) (sym (j.of_lanes l)) (stamped l).within)));
+        (λ l. subst (All (λ p. IsWithin floor ceil p.version p.arrival.number)) (sym (j.of_lanes l)) (stamped l).within)));
     along = λ l. subst (λ ms. NeverFalls (versions_of ms)) (sym (ap (part lane l) listed_same ∙ lane_records l)) (versions_along endings (parts l) (stamped l).along);
   }
 

@@ -100,7 +100,7 @@ share_above : (lane : EndpointPair → ℕ) (l n : ℕ) (ps : List Arrival) → 
 share_above lane l n [] above = All-nil (λ k. n < k)
 share_above lane l n (p ∷ ps) above =
     above_here n p (share lane l ps) (lane_of lane p.sight == l) (All-head (λ k. n < k) p.number (map (λ a. a.number) ps) above)
-        (share_above lane l n ps (All-tail (λ k. n < k) p.number (map (λ a. a.number) ps) above))
+    (share_above lane l n ps (All-tail (λ k. n < k) p.number (map (λ a. a.number) ps) above))
 
 rises_here : (p : Arrival) (ps : List Arrival) (b : Bool) → All (λ k. p.number < k) (map (λ a. a.number) ps) → Rises (map (λ a. a.number) ps) → Rises (map (λ a. a.number) (cond b (p ∷ ps) ps))
 unfolding Rises
@@ -130,7 +130,7 @@ module _ (floor ceil : ℕ → ℕ) (between : (n : ℕ) → floor n ≤ ceil n)
       (λ l. map-append (λ p. p.arrival) (parts l) (versioned ceil (rest l)) ∙ ap (λ x. arrivals_of (parts l) ++ x) (arrivals_versioned ceil (rest l)) ∙ are l)
       (λ l. continued_stamped floor ceil between rises (parts l) (rest l)
       (subst Rises (ap (map (λ a. a.number)) (sym (are l)) ∙ map-append (λ a. a.number) (arrivals_of (parts l)) (rest l) ∙ ap (λ x. x ++ map (λ a. a.number) (rest l)) (numbers_of_arrivals (parts l)))
-          (share_rises lane l packets numbered))
+      (share_rises lane l packets numbered))
       (stamped l))
 
   -- where none ran any packet, all versions are ceilings
@@ -139,7 +139,7 @@ module _ (floor ceil : ℕ → ℕ) (between : (n : ℕ) → floor n ≤ ceil n)
       joined_allowed endings lane packets (λ l. versioned ceil (share lane l packets))
       (record { stamped = versioned ceil packets; packets = arrivals_versioned ceil packets; of_lanes = λ l. sym (versioned_share lane l ceil packets) }) floor ceil
       (λ l. continued_stamped floor ceil between rises [] (share lane l packets) (share_rises lane l packets numbered)
-          (record { within = All-nil (λ p. IsWithin floor ceil p.version p.arrival.number); along = nothing_falls }))
+      (record { within = All-nil (λ p. IsWithin floor ceil p.version p.arrival.number); along = nothing_falls }))
 
 module _ (endings : Endings) (lane : EndpointPair → ℕ) (packets : List Arrival) (parts more : ℕ → List VersionedPacket) (vs : List ℕ)
     (runs : AreRuns endings lane packets (λ l. parts l ++ more l) vs) where

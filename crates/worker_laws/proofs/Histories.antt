@@ -152,7 +152,7 @@ module _ (app : Meaning) (control_at : ℕ → ControlState) where
   same_among p [] = refl
   same_among p (m ∷ ms) =
       ap (λ b. if b then verdict_after app (control_at (shown m).version) (shown m).first.sight p.arrival (shown m).history else lane_verdict_among app control_at p (map shown ms))
-          (same_takes p.arrival.sight m)
+      (same_takes p.arrival.sight m)
       ∙ judged_here p m (lane_verdict_among app control_at p (map shown ms)) (verdict_among ends (judge_by app control_at) p ms) (takes ends p.arrival.sight m) refl (same_among p ms)
 
   pub same_verdict : (p : VersionedPacket) (ms : List Members) → verdict_on app control_at p (map shown ms) ≡ verdict_of ends (judge_by app control_at) p ms

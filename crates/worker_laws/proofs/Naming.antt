@@ -95,7 +95,7 @@ module _ (endings : Endings) where
       anyhow_here : (v : ℕ) (m : Members) (ns : List Members) (b : Bool) → (b || list_any (takes endings p.arrival.sight) ns) ≡ true
           → (list_any (takes endings p.arrival.sight) ns ≡ true → verdict_among endings judge (record p { version = v }) ns ≡ verdict_among endings judge p ns)
           → (if b then judge m.version (packets_of m) p.arrival else verdict_among endings judge (record p { version = v }) ns)
-              ≡ (if b then judge m.version (packets_of m) p.arrival else verdict_among endings judge p ns)
+          ≡ (if b then judge m.version (packets_of m) p.arrival else verdict_among endings judge p ns)
       anyhow_here v m ns true some rest = refl
       anyhow_here v m ns false some rest = rest some
 
@@ -122,6 +122,6 @@ module _ (endings : Endings) where
   judged_again judge vs ms [] lists = refl
   judged_again judge vs ms (p ∷ ps) lists =
       ap (λ v. (p.arrival, v) ∷ judged_from endings judge (added endings (record { version = get_or vs (length ms) 0; arrival = p.arrival }) ms)
-          (named_from endings vs (added endings (record { version = get_or vs (length ms) 0; arrival = p.arrival }) ms) (arrivals_of ps))) (same_judged vs p ps ms lists judge)
+      (named_from endings vs (added endings (record { version = get_or vs (length ms) 0; arrival = p.arrival }) ms) (arrivals_of ps))) (same_judged vs p ps ms lists judge)
       ∙ ap (λ l. (p.arrival, verdict_of endings judge p ms) ∷ judged_from endings judge l (named_from endings vs l (arrivals_of ps))) (same_added vs p ps ms lists)
       ∙ ap (λ l. (p.arrival, verdict_of endings judge p ms) ∷ l) (judged_again judge vs (added endings p ms) ps lists)

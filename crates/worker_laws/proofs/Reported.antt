@@ -95,7 +95,7 @@ module _ (shown : Members → Record) (same : (m : Members) → (shown m).name �
     above_part n [] above = All-nil (λ k. n < k)
     above_part n (m ∷ ms) above =
         above_here n m (part lane l ms) (lane_of lane m.first.sight == l) (All-head (λ k. n < k) (name_of m) (names_of ms) above)
-            (above_part n ms (All-tail (λ k. n < k) (name_of m) (names_of ms) above))
+        (above_part n ms (All-tail (λ k. n < k) (name_of m) (names_of ms) above))
 
     rises_here : (m : Members) (ms : List Members) (b : Bool) → All (λ k. name_of m < k) (names_of ms) → Rises (names_of ms) → Rises (names_of (cond b (m ∷ ms) ms))
     unfolding Rises

@@ -1,5 +1,5 @@
 -- The records of some lanes' packets alone.
-use Rattle.std.proofs.Common.{◌≡◌, ℕ, Bool, true, false, cond, List, [], ◌∷◌, refl, sym, ap, ◌∙◌, map, ⊎_elim}
+use Rattle.std.proofs.Common.{◌≡◌, ℕ, Bool, true, false, cond, List, [], ◌∷◌, refl, sym, ap, ◌∙◌, ⊎_elim}
 use Rattle.std.specs.Prelude.{if◌then◌else◌, filter}
 use Rattle.std.proofs.lemmas.Bool.{and_parts, cases_Bool}
 use Rattle.app_api.specs.declared.reaction.Verdict.{Verdict}
@@ -147,7 +147,7 @@ module _ (endings : Endings) (lane : EndpointPair → ℕ) (lanes : ℕ → Bool
         → judged_from endings judge (filter record_in (added endings p ms)) (filter packet_in ps) ≡ filter judged_in (judged_from endings judge (added endings p ms) ps)
         → judged_from endings judge (filter record_in ms) (cond b (p ∷ filter packet_in ps) (filter packet_in ps))
         ≡ cond b ((p.arrival, verdict_of endings judge p ms) ∷ filter judged_in (judged_from endings judge (added endings p ms) ps))
-            (filter judged_in (judged_from endings judge (added endings p ms) ps))
+        (filter judged_in (judged_from endings judge (added endings p ms) ps))
     unfolding judged_from
     judged_here p ps ms true is rest =
         ap (λ v. (p.arrival, v) ∷ judged_from endings judge (added endings p (filter record_in ms)) (filter packet_in ps)) (same_verdict p ms is)

@@ -112,6 +112,6 @@ module _ (endings : Endings) where
   all_of_records P ps all =
       let pairs : All (λ (x : ℕ × ℕ). P x.0 x.1) (map (λ m. (m.version, name_of m)) (records_from endings [] ps)) =
       holds_of_records endings (λ m. (m.version, name_of m)) (λ p. (p.version, p.arrival.number)) (λ p. refl) (λ a m. refl) (λ m. refl) (All (λ (x : ℕ × ℕ). P x.0 x.1))
-          (All-without (λ (x : ℕ × ℕ). P x.0 x.1)) [] ps
+      (All-without (λ (x : ℕ × ℕ). P x.0 x.1)) [] ps
       (All-map (λ (x : ℕ × ℕ). P x.0 x.1) (λ p. (p.version, p.arrival.number)) ps all) in
       All-unmap (λ (x : ℕ × ℕ). P x.0 x.1) (λ m. (m.version, name_of m)) (records_from endings [] ps) pairs

@@ -1,5 +1,5 @@
 -- Where the floor of each packet is its ceiling, one list of versions is allowed.
-use Rattle.std.proofs.Common.{◌≡◌, ◌≤◌, ◌+◌, ℕ, Bool, false, List, [], ◌∷◌, ◌++◌, length, get_or, take, refl, sym, ap, ◌∙◌, subst, map, arith, ⊎_elim}
+use Rattle.std.proofs.Common.{◌≡◌, ◌≤◌, ◌+◌, ℕ, false, List, [], ◌∷◌, ◌++◌, length, get_or, take, refl, sym, ap, ◌∙◌, subst, map, arith, ⊎_elim}
 use Rattle.std.specs.List.{All, list_any}
 use Rattle.std.proofs.lemmas.List.{length-map, map-append, length-append, length_push, take_more, take_all}
 use Rattle.std.proofs.lemmas.Bool.{cases_Bool}
@@ -36,7 +36,7 @@ module _ (endings : Endings) (only : ℕ → ℕ) (vs : List ℕ) where
       let front = of_front endings pair (λ p. (p.version, p.arrival.number)) (λ p. refl) (λ b m. refl) (λ m. refl) now (named_from endings vs now rest) in
       let final : All P (map pair now ++ front.0) = subst (All P) front.1 (All-map P pair (records_from endings now (named_from endings vs now rest)) all) in
       let new : map pair now ≡ map pair ms ++ (get_or vs (length ms) 0, a.number) ∷ [] = ap (map pair) (added_new endings (named_by vs ms a) ms none)
-          ∙ map-append pair (found endings a ms) (begun_by (named_by vs ms a) ∷ []) ∙ ap (λ l. l ++ (get_or vs (length ms) 0, a.number) ∷ []) (of_found endings pair (λ m. refl) a ms) in
+      ∙ map-append pair (found endings a ms) (begun_by (named_by vs ms a) ∷ []) ∙ ap (λ l. l ++ (get_or vs (length ms) 0, a.number) ∷ []) (of_found endings pair (λ m. refl) a ms) in
       All-last P (map pair ms) (get_or vs (length ms) 0, a.number) (subst (All P) new (All-front P (map pair now) front.0 final))
 
   same_step : (ms : List Members) (a : Arrival) (rest : List Arrival)

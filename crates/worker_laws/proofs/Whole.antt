@@ -202,7 +202,7 @@ module _ (later : LaterCommandsChangeNone) (one : OneEventMore) (last : LastPack
   pub one_run : HaveRunAll lane packets lanes → (vs : List ℕ) × IsAllowedRun app commands least most lane packets vs × AreOneRun app commands lane packets lanes vs
   one_run whole =
       let made = one_allowed least most (over_under app commands) lane packets (packets_at lanes) (packets_whole least most commands lane packets lanes have whole)
-          (stamped_at least most commands lane packets lanes have) in
+      (stamped_at least most commands lane packets lanes have) in
       (made.0, made.1, whole_is later one last app commands lane packets lanes (commands_front least most commands lane packets lanes have) made.0 made.2)
 
   pub fronts_run : WeightNeverFalls → ((n : ℕ) → least n ≤ most n) → ((n m : ℕ) → n ≤ m → most n ≤ most m) → Rises (map (λ a. a.number) packets)
@@ -210,7 +210,7 @@ module _ (later : LaterCommandsChangeNone) (one : OneEventMore) (last : LastPack
   fronts_run never between rises numbered =
       let rest = packets_front least most commands lane packets lanes have in
       let made = continued least most between rises (over_under app commands) lane packets numbered (packets_at lanes) (λ l. (rest l).0) (λ l. (rest l).1)
-          (stamped_at least most commands lane packets lanes have) in (
+      (stamped_at least most commands lane packets lanes have) in (
         made.0,
         made.1,
         fronts_are later one last app commands lane packets lanes (commands_front least most commands lane packets lanes have) never (λ l. versioned most ((rest l).0)) made.0 made.2

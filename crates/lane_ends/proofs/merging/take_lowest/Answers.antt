@@ -7,7 +7,7 @@ pub returns : goal.returns
 returns c =
     let qs = c.args.queues.now.items in
     let low : IsLowest (waiting qs) (length qs) c.in-Some.place.0 c.in-Some.place.1 =
-        subst (λ x. IsLowest (waiting x) (length x) c.in-Some.place.0 c.in-Some.place.1) c.as_slice.ensures.value c.in-Some.ensures in
+    subst (λ x. IsLowest (waiting x) (length x) c.in-Some.place.0 c.in-Some.place.1) c.as_slice.ensures.value c.in-Some.ensures in
     let long = length-map qs (λ q. q.records.items) in
     let lowest : IsLowest (waiting qs) (length (waiting qs)) c.in-Some.place.0 c.in-Some.place.1 = subst (λ n. IsLowest (waiting qs) n c.in-Some.place.0 c.in-Some.place.1) (sym long) low in
     record {

@@ -5,5 +5,5 @@ pub returns : goal.returns
 returns c = record {
   run = λ app commands least most lane packets lanes between rises numbered have.
       fronts_run c.later_commands_change_none.ensures c.one_event_more.ensures c.last_packet_is_added.ensures app commands least most lane packets lanes have c.weight_never_falls.ensures between
-          rises numbered;
+      rises numbered;
 }

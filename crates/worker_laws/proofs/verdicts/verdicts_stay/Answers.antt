@@ -9,8 +9,10 @@ pub returns-clause-verdicts : goal.returns-clause-verdicts
 returns-clause-verdicts c = λ endings judge ps more. (judged_from endings judge (records endings ps) more, judged_more endings judge [] ps more)
 
 pub returns-clause-named : goal.returns-clause-named
-returns-clause-named c = λ endings judge vs ps more. (judged_from endings judge (records endings (named endings vs ps)) (named_from endings vs (records endings (named endings vs ps)) more),
-    judged_more endings judge [] (named endings vs ps) (named_from endings vs (records endings (named endings vs ps)) more) ∙ ap (judged endings judge) (named_more endings vs [] ps more))
+returns-clause-named c = λ endings judge vs ps more. (
+  judged_from endings judge (records endings (named endings vs ps)) (named_from endings vs (records endings (named endings vs ps)) more),
+  judged_more endings judge [] (named endings vs ps) (named_from endings vs (records endings (named endings vs ps)) more) ∙ ap (judged endings judge) (named_more endings vs [] ps more),
+)
 
 pub returns-clause-bytes : goal.returns-clause-bytes
 returns-clause-bytes c = forwarded_front
