@@ -1,5 +1,5 @@
 -- Verdicts depend on the packets before alone.
-use Rattle.std.proofs.Common.{◌≡◌, ℕ, Bool, List, [], ◌∷◌, ◌++◌, refl, ap, ◌∙◌, append_assoc}
+use Rattle.std.proofs.Common.{◌≡◌, ℕ, List, [], ◌∷◌, ◌++◌, refl, ap, ◌∙◌, append_assoc}
 use mathlib.Core.List.{IsPrefix}
 use Rattle.app_api.specs.declared.reaction.Verdict.{Verdict}
 use Rattle.lane_core.specs.Sight.{Arrival}

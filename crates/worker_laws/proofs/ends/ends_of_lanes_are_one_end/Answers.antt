@@ -1,4 +1,3 @@
-use Rattle.std.proofs.Common.{refl}
 use Rattle.worker_laws.proofs.Ended.{lists_of, is_joined}
 use Rattle.worker_laws.proofs.ends.ends_of_lanes_are_one_end.Goals as goal
 
