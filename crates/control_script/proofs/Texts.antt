@@ -6,7 +6,7 @@ use Rattle.std.specs.Prelude.{◌==◌}
 use Rattle.std.specs.List.{prefix_len, list_all}
 use Rattle.control_script.specs.Reader.{behind}
 use Rattle.control_script.specs.Lines.{lines, without_return, is_text}
-use Rattle.control_script.specs.Numbers.{place_of}
+use Rattle.control_script.specs.Cuts.{place_of}
 use Rattle.control_script.specs.Words.{Word, is_blank, is_in_word, words_behind, words}
 
 -- bytes of the word before make no other

@@ -9,11 +9,14 @@
 --
 -- For each place and word, `next` says what stands next, or why the word can't stand there. The filter of an event is
 -- the text behind the event's word.
-use Rattle.std.specs.Prelude.{ℕ, ◌==◌, ◌++◌, Bool, true, false, if◌then◌else◌, nat_lt, List, [], ◌∷◌, length, codes, Option, Some, None, Result, Ok, Err}
+use Rattle.std.specs.Prelude.{ℕ, ◌==◌, ◌++◌, Bool, true, false, if◌then◌else◌, nat_lt, List, [], ◌∷◌, length, slice_index, codes, Option, Some, None, Result, Ok, Err}
 use Rattle.std.specs.Str.{bytes_eq}
+use Rattle.std.specs.Char.{is_ascii_alphabetic}
+use Rattle.number_text.specs.Numbers.{number_in}
 use Rattle.native_filters.specs.declared.facts.Hook.{Hook}
 use Rattle.native_filters.specs.declared.facts.Hook.TheVariants.{Snd, Rcv}
 use Rattle.reassembly.specs.declared.answers.Policy.TheVariants.{First, Last}
+use Rattle.app_api.specs.Names.{event_named}
 use Rattle.app_api.specs.declared.registration.PeekSpec.{PeekSpec}
 use Rattle.app_api.specs.declared.registration.PeekSpec.TheVariants.{Nothing, Next as NextBytes, At as BytesAt}
 use Rattle.app_api.specs.declared.registration.Reg.{Reg}
@@ -30,9 +33,7 @@ use Rattle.control_script.specs.declared.error.ScriptError.TheVariants.{Syntax, 
 use Rattle.control_script.specs.declared.nets.Net.{Net}
 use Rattle.control_script.specs.declared.nets.Ports.{Ports}
 use Rattle.control_script.specs.declared.stamped.Stamped.{Stamped}
-use Rattle.control_script.specs.Names.{event_of, begins_with_letter}
 use Rattle.control_script.specs.Nets.{net_of, ports_of}
-use Rattle.control_script.specs.Numbers.{number_in}
 use Rattle.control_script.specs.Words.{Word}
 
 abbrev pub stamped : Stamp → Command → Stamped
@@ -111,6 +112,9 @@ number_next k (Some n) = go (k n)
 abbrev pub next_number : ℕ → ℕ → (ℕ → Place) → List ℕ → Next
 next_number low high k w = number_next k (number_in low high w)
 
+abbrev pub begins_with_letter : List ℕ → Bool
+begins_with_letter name = is_ascii_alphabetic (slice_index name 0)
+
 -- a word that names no built-in event: a number, or a name that isn't known
 abbrev pub defined_next : (ℕ → Next) → List ℕ → Option ℕ → Next
 defined_next k w None = if begins_with_letter w then stop UnknownName else stop Syntax
@@ -121,7 +125,7 @@ event_next k w None = defined_next k w (number_in 1 255 w)
 event_next k w (Some e) = k e
 
 abbrev pub next_event : (ℕ → Next) → List ℕ → Next
-next_event k w = event_next k w (event_of w)
+next_event k w = event_next k w (event_named w)
 
 abbrev pub next_hook : Stamp → ℕ → ℕ → List ℕ → Next
 next_hook st number event w =

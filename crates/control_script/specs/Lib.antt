@@ -1,6 +1,5 @@
 pub mod Words
-pub mod Numbers
-pub mod Names
+pub mod Cuts
 pub mod Nets
 pub mod Grammar
 pub mod Lines

@@ -3,7 +3,8 @@ use Rattle.std.specs.Prelude.{ℕ, ◌+◌, ◌*◌, if◌then◌else◌, nat_le
 use Rattle.std.specs.Str.{bytes_eq}
 use Rattle.control_script.specs.declared.nets.Net.{Net}
 use Rattle.control_script.specs.declared.nets.Ports.{Ports}
-use Rattle.control_script.specs.Numbers.{number_in, octet, cut_at}
+use Rattle.control_script.specs.Cuts.{cut_at}
+use Rattle.number_text.specs.Numbers.{number_in, octet}
 
 -- goes on with what was found
 abbrev pub with : {A B : Type 0} → Option A → (A → Option B) → Option B

@@ -1,63 +1,25 @@
 //! The names and numbers of events, and definitions of events.
 
-ghost use Rattle.std.specs.Prelude.{◌≡◌, ◌<◌, ◌≤◌, ℕ, None, Ok, Err, IfOk, IfErr, IfSome, IsTrue, length};
+ghost use Rattle.std.specs.Prelude.{◌≡◌, ◌<◌, ℕ, None, Ok, Err, IfOk, IfErr, IsTrue, length};
 ghost use Rattle.filter_lang.specs.Grammar.{filter};
 ghost use Rattle.filter_lang.specs.Shape.{Shape};
 ghost use Rattle.forest_versions.specs.Lawful.{may_be_event, is_within};
 ghost use Rattle.control_script.specs.declared.stamped.Stamped.{Stamped as StampedOf};
-ghost use Rattle.control_script.specs.Grammar.{Next, number_place, under_place, defined_next, with_filter};
-ghost use Rattle.control_script.specs.Names.{event_of, begins_with_letter};
+ghost use Rattle.control_script.specs.Grammar.{Next, number_place, under_place, begins_with_letter, defined_next, with_filter};
 ghost use Rattle.control_script.specs.Reader.{reads, takes, ReadsEvent, RefusesEvent};
 ghost use Rattle.control_script.specs.Script.{IfRefused};
 
 use crate::error::ScriptError;
-use crate::numbers::number_in;
 use crate::settings::number;
 use crate::stamped::Stamped;
 use crate::words::Words;
-use app_api::{END, ERROR, NEW_DATA, ORPHAN, PKT_IN, REXMIT, START, STATE, TIMER};
+use app_api::event_named;
 use event_trees::EventDef;
 use filter_lang::{Expr, FilterError, parse};
 use forest_versions::{Command, Stamp};
+use number_text::number_in;
 use std::alloc::Global;
 use std::str::from_utf8;
-
-// The built-in event of a name.
-fn event_of(words: &Words<'_>) -> Option<u16>
-    ensures event { result ≡ event_of words.now.word.now }
-    ensures low { IfSome result (λ e. 256 ≤ e) }
-    ensures high { IfSome result (λ e. e ≤ 264) }
-    ensures some { IfSome result (λ e. 0 < length words.now.word.now) }
-{
-    if words.is("start") {
-        return Some(START);
-    }
-    if words.is("pkt_in") {
-        return Some(PKT_IN);
-    }
-    if words.is("rexmit") {
-        return Some(REXMIT);
-    }
-    if words.is("new_data") {
-        return Some(NEW_DATA);
-    }
-    if words.is("error") {
-        return Some(ERROR);
-    }
-    if words.is("state") {
-        return Some(STATE);
-    }
-    if words.is("end") {
-        return Some(END);
-    }
-    if words.is("orphan") {
-        return Some(ORPHAN);
-    }
-    if words.is("timer") {
-        return Some(TIMER);
-    }
-    None
-}
 
 // Whether a word begins with a letter.
 fn begins_with_letter(word: &[u8]) -> bool
@@ -73,7 +35,7 @@ pub(crate) fn event(words: &Words<'_>) -> Result<u16, ScriptError>
     ensures some { IfOk result (λ e. 0 < length words.now.word.now) }
     ensures err { IfErr result (λ e. RefusesEvent words.now e) }
 {
-    match event_of(words) {
+    match event_named(words.word) {
         Some(event) => Ok(event),
         None => match number_in(1, 255, words.word) {
             Some(number) => Ok(number as u16),

@@ -2,12 +2,12 @@
 #![tactic(auto)]
 
 mod commands;
+mod cuts;
 mod error;
 mod events;
 mod laws;
 mod lines;
 mod nets;
-mod numbers;
 mod parse;
 mod progress;
 mod registrations;

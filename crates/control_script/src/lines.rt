@@ -9,8 +9,8 @@ ghost use Rattle.control_script.specs.Lines.{lines, without_return, is_skipped, 
 ghost use Rattle.control_script.specs.Script.{IfRefused, said};
 
 use crate::commands::command;
+use crate::cuts::place_of;
 use crate::error::ScriptError;
-use crate::numbers::place_of;
 use crate::stamped::Stamped;
 use crate::words::{Words, is_blank};
 use std::alloc::Global;

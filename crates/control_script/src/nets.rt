@@ -4,9 +4,10 @@ ghost use Rattle.std.specs.Prelude.{◌≡◌, ◌≤◌, ◌<◌, IfSome, IfOk,
 ghost use Rattle.control_script.specs.Nets.{address_of, net_of, one_port, ports_of, span_of};
 ghost use Rattle.control_script.specs.Reader.{ReadsNet, RefusesNet, ReadsPorts, RefusesPorts};
 
+use crate::cuts::cut_at;
 use crate::error::ScriptError;
-use crate::numbers::{cut_at, number_in, octet};
 use crate::words::{Words, is};
+use number_text::{number_in, octet};
 
 /// IPv4 addresses that begin as one does.
 #[derive(Clone, Copy, Debug, PartialEq, Eq)]

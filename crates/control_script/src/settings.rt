@@ -7,11 +7,11 @@ ghost use Rattle.control_script.specs.Reader.{reads, takes, left, ReadsNumber, R
 
 use crate::error::ScriptError;
 use crate::nets::{read_net, read_ports};
-use crate::numbers::number_in;
 use crate::stamped::Stamped;
 use crate::words::Words;
 use app_api::Rule;
 use forest_versions::{Command, Stamp};
+use number_text::number_in;
 use reassembly::Policy;
 
 /// The greatest limit of idleness, in seconds.
