@@ -6,7 +6,7 @@ pub mod Laws
 pub mod Places
 pub mod End
 pub mod Trees
-pub mod LaneSettings
+pub mod Settings
 pub mod Steps
 pub mod Silences
 pub mod Kept
