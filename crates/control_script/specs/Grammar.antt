@@ -105,12 +105,18 @@ pub data Next : Type 0 where
   done : Stamped → Next
   stop : (ℕ → ScriptError) → Next
 
-abbrev pub number_next : (ℕ → Place) → Option ℕ → Next
-number_next k None = stop Syntax
-number_next k (Some n) = go (k n)
+-- a word of a table, each with what follows it; else what another form says
+abbrev pub word_or : List (List ℕ × Next) → Next → List ℕ → Next
+word_or [] other w = other
+word_or (row ∷ rows) other w = if bytes_eq w row.0 then row.1 else word_or rows other w
 
-abbrev pub next_number : ℕ → ℕ → (ℕ → Place) → List ℕ → Next
-next_number low high k w = number_next k (number_in low high w)
+abbrev pub word_of : List (List ℕ × Next) → List ℕ → Next
+word_of rows w = word_or rows (stop Syntax) w
+
+-- goes on with what a word is, where it is that
+abbrev pub go_with : {A : Type 0} → (A → Place) → Option A → Next
+go_with k None = stop Syntax
+go_with k (Some a) = go (k a)
 
 abbrev pub begins_with_letter : List ℕ → Bool
 begins_with_letter name = is_ascii_alphabetic (slice_index name 0)
@@ -127,12 +133,6 @@ event_next k w (Some e) = k e
 abbrev pub next_event : (ℕ → Next) → List ℕ → Next
 next_event k w = event_next k w (event_named w)
 
-abbrev pub next_hook : Stamp → ℕ → ℕ → List ℕ → Next
-next_hook st number event w =
-    if bytes_eq w (codes "snd") then go (hooked_place st (plain_reg number event Snd)) else
-    if bytes_eq w (codes "rcv") then go (hooked_place st (plain_reg number event Rcv)) else
-    stop Syntax
-
 abbrev pub next_end : Stamped → List ℕ → Next
 next_end s w = if length w == 0 then done s else stop Syntax
 
@@ -142,91 +142,62 @@ next_change st r on = if nat_lt (length r.action.changes) 4 then go (number_plac
 
 -- an action of a registration: one drop at most, or a change
 abbrev pub next_action : Stamp → Reg → List ℕ → Next
-next_action st r w =
-    if bytes_eq w (codes "drop") then (if r.action.drop then stop Syntax else go (acting_place st (dropping r))) else
-    if bytes_eq w (codes "on") then next_change st r true else
-    if bytes_eq w (codes "off") then next_change st r false else
-    stop Syntax
-
-abbrev pub next_acting : Stamp → Reg → List ℕ → Next
-next_acting st r w = if length w == 0 then done (stamped st (Register r)) else next_action st r w
+next_action st r =
+    word_of ((codes "drop", if r.action.drop then stop Syntax else go (acting_place st (dropping r)))
+    ∷ (codes "on", next_change st r true) ∷ (codes "off", next_change st r false) ∷ [])
 
 abbrev pub next_peeked : Stamp → Reg → List ℕ → Next
-next_peeked st r w = if bytes_eq w (codes "do") then go (action_place st r) else next_end (stamped st (Register r)) w
+next_peeked st r w = word_or ((codes "do", go (action_place st r)) ∷ []) (next_end (stamped st (Register r)) w) w
 
 abbrev pub next_switched : Stamp → Reg → List ℕ → Next
 next_switched st r w =
-    if bytes_eq w (codes "peek") then go (number_place 1 256 (λ n. peeked_place st (peeking r (NextBytes n)))) else
-    if bytes_eq w (codes "peekat") then go (number_place 0 1099511627775 (λ off. number_place 1 256 (λ n. peeked_place st (peeking r (BytesAt off n))))) else
-    next_peeked st r w
-
-abbrev pub next_hooked : Stamp → Reg → List ℕ → Next
-next_hooked st r w = if bytes_eq w (codes "off") then go (switched_place st (switched_off r)) else next_switched st r w
-
-abbrev pub next_policy : Stamp → List ℕ → Next
-next_policy st w =
-    if bytes_eq w (codes "first") then go (end_place (stamped st (Overlap First))) else
-    if bytes_eq w (codes "last") then go (end_place (stamped st (Overlap Last))) else
-    stop Syntax
+    word_or ((codes "peek", go (number_place 1 256 (λ n. peeked_place st (peeking r (NextBytes n)))))
+    ∷ (codes "peekat", go (number_place 0 1099511627775 (λ off. number_place 1 256 (λ n. peeked_place st (peeking r (BytesAt off n))))))
+    ∷ []) (next_peeked st r w) w
 
 abbrev pub rule_place : Stamp → ℕ → Bool → Place
 rule_place st number allow = net_place (λ src. net_place (λ dst. ports_place (λ ports. end_place (rule st number allow src dst ports))))
 
-abbrev pub next_verb : Stamp → ℕ → List ℕ → Next
-next_verb st number w =
-    if bytes_eq w (codes "allow") then go (rule_place st number true) else
-    if bytes_eq w (codes "deny") then go (rule_place st number false) else
-    stop Syntax
-
-abbrev pub net_next : (Net → Place) → Option Net → Next
-net_next k None = stop Syntax
-net_next k (Some n) = go (k n)
-
-abbrev pub ports_next : (Ports → Place) → Option Ports → Next
-ports_next k None = stop Syntax
-ports_next k (Some p) = go (k p)
+-- a command of one number in a range
+abbrev pub of_number : Stamp → ℕ → ℕ → (ℕ → Command) → Next
+of_number st low high make = go (number_place low high (λ n. end_place (stamped st (make n))))
 
 -- the commands of one number, and `policy`
-abbrev pub next_setting : Stamp → List ℕ → Next
-next_setting st w =
-    if bytes_eq w (codes "unreg") then go (number_place 1 255 (λ n. end_place (stamped st (Unregister n)))) else
-    if bytes_eq w (codes "rbuf") then go (number_place 1 1048576 (λ n. end_place (stamped st (Buffer n)))) else
-    if bytes_eq w (codes "unrule") then go (number_place 1 255 (λ n. end_place (stamped st (RemoveRule n)))) else
-    if bytes_eq w (codes "idle") then go (number_place 1 4294967295 (λ n. end_place (stamped st (Idle n)))) else
-    if bytes_eq w (codes "policy") then go (policy_place st) else
-    stop Syntax
+abbrev pub settings : Stamp → List (List ℕ × Next)
+settings st =
+    (codes "unreg", of_number st 1 255 Unregister) ∷ (codes "rbuf", of_number st 1 1048576 Buffer)
+    ∷ (codes "unrule", of_number st 1 255 RemoveRule) ∷ (codes "idle", of_number st 1 4294967295 Idle)
+    ∷ (codes "policy", go (policy_place st)) ∷ []
 
-abbrev pub next_command : Stamp → List ℕ → Next
-next_command st w =
-    if bytes_eq w (codes "event") then go (number_place 1 255 (under_place st)) else
-    if bytes_eq w (codes "reg") then go (number_place 16 255 (event_place st)) else
-    if bytes_eq w (codes "rule") then go (number_place 1 255 (verb_place st)) else
-    next_setting st w
-
--- a line without a stamp is `at 0`
-abbrev pub next_line : List ℕ → Next
-next_line w =
-    if bytes_eq w (codes "at") then go (number_place 0 4294967295 (λ k. command_place (At k))) else
-    if bytes_eq w (codes "live") then go (command_place Live) else
-    next_command (At 0) w
+-- all commands
+abbrev pub commands : Stamp → List (List ℕ × Next)
+commands st =
+    (codes "event", go (number_place 1 255 (under_place st))) ∷ (codes "reg", go (number_place 16 255 (event_place st)))
+    ∷ (codes "rule", go (number_place 1 255 (verb_place st))) ∷ settings st
 
 abbrev pub next : Place → List ℕ → Next
-next line_place w = next_line w
-next (command_place st) w = next_command st w
-next (number_place low high k) w = next_number low high k w
-next (under_place st number) w = if bytes_eq w (codes "under") then go (parent_place st number) else stop Syntax
+-- a line without a stamp is `at 0`
+next line_place w =
+    word_or ((codes "at", go (number_place 0 4294967295 (λ k. command_place (At k)))) ∷ (codes "live", go (command_place Live)) ∷ [])
+    (word_of (commands (At 0)) w) w
+next (command_place st) w = word_of (commands st) w
+next (number_place low high k) w = go_with k (number_in low high w)
+next (under_place st number) w = word_of ((codes "under", go (parent_place st number)) ∷ []) w
 next (parent_place st number) w = next_event (λ e. rest (λ f. stamped st (Event (record { number = number; parent = e; filter = f })))) w
 next (event_place st number) w = next_event (λ e. go (hook_place st number e)) w
-next (hook_place st number event) w = next_hook st number event w
-next (hooked_place st r) w = next_hooked st r w
+next (hook_place st number event) w =
+    word_of ((codes "snd", go (hooked_place st (plain_reg number event Snd))) ∷ (codes "rcv", go (hooked_place st (plain_reg number event Rcv))) ∷ []) w
+next (hooked_place st r) w = word_or ((codes "off", go (switched_place st (switched_off r))) ∷ []) (next_switched st r w) w
 next (switched_place st r) w = next_switched st r w
 next (peeked_place st r) w = next_peeked st r w
 next (action_place st r) w = next_action st r w
-next (acting_place st r) w = next_acting st r w
-next (policy_place st) w = next_policy st w
-next (verb_place st number) w = next_verb st number w
-next (net_place k) w = net_next k (net_of w)
-next (ports_place k) w = ports_next k (ports_of w)
+next (acting_place st r) w = if length w == 0 then done (stamped st (Register r)) else next_action st r w
+next (policy_place st) w =
+    word_of ((codes "first", go (end_place (stamped st (Overlap First)))) ∷ (codes "last", go (end_place (stamped st (Overlap Last)))) ∷ []) w
+next (verb_place st number) w =
+    word_of ((codes "allow", go (rule_place st number true)) ∷ (codes "deny", go (rule_place st number false)) ∷ []) w
+next (net_place k) w = go_with k (net_of w)
+next (ports_place k) w = go_with k (ports_of w)
 next (end_place s) w = next_end s w
 
 -- a filter's refusal as the line's

@@ -2,7 +2,7 @@
 
 ghost use Rattle.std.specs.Prelude.{◌≡◌, ◌≤◌, ◌<◌, Ok, Err, IfOk, IfErr, OnOk, IsTrue};
 ghost use Rattle.forest_versions.specs.Lawful.{is_within};
-ghost use Rattle.control_script.specs.Grammar.{number_place, verb_place, end_place, stamped, next_setting};
+ghost use Rattle.control_script.specs.Grammar.{number_place, verb_place, end_place, stamped, settings, word_of};
 ghost use Rattle.control_script.specs.Reader.{reads, takes, left, ReadsNumber, RefusesNumber, Ends, RefusesEnd, ReadsPolicy, RefusesPolicy, ReadsVerb, RefusesVerb};
 
 use crate::error::ScriptError;
@@ -60,9 +60,9 @@ fn ended(words: &Words<'_>, stamp: Stamp, command: Command) -> Result<Stamped, S
 /// One of the commands of one number, or `policy`.
 #[tactic(auto, unfolding(forest_versions::specs::Lawful::is_within))]
 pub(crate) fn setting(words: &mut Words<'_>, stamp: Stamp) -> Result<Stamped, ScriptError>
-    ensures ok { IfOk result (λ s. takes words.old (next_setting stamp words.old.word.now) ≡ Ok s) }
+    ensures ok { IfOk result (λ s. takes words.old (word_of (settings stamp) words.old.word.now) ≡ Ok s) }
     ensures within { IfOk result (λ s. IsTrue (is_within s.command)) }
-    ensures err { IfErr result (λ e. takes words.old (next_setting stamp words.old.word.now) ≡ Err e) }
+    ensures err { IfErr result (λ e. takes words.old (word_of (settings stamp) words.old.word.now) ≡ Err e) }
 {
     if words.is("unreg") {
         words.advance();
