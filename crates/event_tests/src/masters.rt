@@ -13,7 +13,7 @@ use shared_forest::Table;
 use std::alloc::{AllocError, Global};
 
 /// Whose presets are in force before the first command.
-#[derive(Clone, Copy, Debug, PartialEq, Eq)]
+#[derive(Clone, Copy)]
 pub enum Presets {
     /// 1 pkt_in snd, 2 pkt_in rcv, 3 orphan snd.
     Log,

@@ -1,6 +1,6 @@
 //! Pseudo-random definitions and lists: a walk beside a check of each registration alone, and `edit` beside `build`.
 
-ghost use Rattle.std.specs.Prelude.{◌≤◌, length, IfSome};
+ghost use Rattle.std.specs.Prelude.{◌≤◌, length};
 
 use crate::definitions::define;
 use crate::forests::{are_built, built, switched};
@@ -100,48 +100,46 @@ fn some_regs(alloc: Global, defs: &Defs, random: &mut Random) -> Result<Vec<Reg>
     Ok(regs)
 }
 
-// The path of an event, from its root on.
-fn path_of(alloc: Global, defs: &Defs, event: u16) -> Result<Vec<u16>, AllocError> {
-    let mut path = Vec::new(alloc);
+// The path of an event, from its root on, and zeros behind it.
+fn path_of(defs: &Defs, event: u16) -> [u16; 8] {
+    let mut path = [0; 8];
     let mut event = event;
     for _ in 0..8 {
-        path.push(event)?;
+        let [first, second, third, fourth, fifth, sixth, seventh, _] = path;
+        path = [event, first, second, third, fourth, fifth, sixth, seventh];
         match defs.find(event) {
             Some(def) => event = def.parent,
             None => break,
         }
     }
-    path.reverse();
-    Ok(path)
+    path
 }
 
 // Whether a registration comes before another: by path, and then by number.
-fn comes_before(alloc: Global, defs: &Defs, one: &Reg, other: &Reg) -> Result<bool, AllocError> {
-    let path = path_of(alloc, defs, one.event)?;
-    let other_path = path_of(alloc, defs, other.event)?;
-    Ok((path.as_slice(), one.number) < (other_path.as_slice(), other.number))
+fn comes_before(defs: &Defs, one: &Reg, other: &Reg) -> bool {
+    let path = path_of(defs, one.event);
+    let other_path = path_of(defs, other.event);
+    (path.as_slice(), one.number) < (other_path.as_slice(), other.number)
 }
 
 // How many registrations of a list come before another.
-fn count_before(alloc: Global, defs: &Defs, list: &[Reg], reg: &Reg) -> Option<usize>
-    ensures { IfSome result (λ count. count ≤ length list.now) }
+fn count_before(defs: &Defs, list: &[Reg], reg: &Reg) -> usize
+    ensures { result ≤ length list.now }
 {
     let mut count = 0;
     for other in list {
-        match comes_before(alloc, defs, other, reg) {
-            Ok(true) => count += 1,
-            Ok(false) => {}
-            Err(_) => return None,
+        if comes_before(defs, other, reg) {
+            count += 1;
         }
     }
-    Some(count)
+    count
 }
 
 // The private list of these registrations.
 fn in_order(alloc: Global, defs: &Defs, regs: &[Reg]) -> Option<Vec<Reg>> {
     let mut list = Vec::new(alloc);
     for reg in regs {
-        let place = count_before(alloc, defs, list.as_slice(), reg)?;
+        let place = count_before(defs, list.as_slice(), reg);
         list.insert(place, *reg).ok()?;
     }
     Some(list)
@@ -170,8 +168,7 @@ fn checked_alone(
 ) -> Result<Vec<u8>, AllocError> {
     let mut numbers = Vec::new(alloc);
     for reg in list {
-        let path = path_of(alloc, defs, reg.event)?;
-        if reg.hook == hook && passes(defs, path.as_slice(), event, facts) {
+        if reg.hook == hook && passes(defs, &path_of(defs, reg.event), event, facts) {
             numbers.push(reg.number)?;
         }
     }

@@ -208,7 +208,7 @@ const COMMANDS: &[(&str, &str, u32, Said)] = &[
 ];
 
 // What a command of a row says.
-#[derive(Clone, Copy, Debug)]
+#[derive(Clone, Copy)]
 enum Said {
     Buffer(u32),
     Idle(u32),

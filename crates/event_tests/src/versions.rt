@@ -215,7 +215,7 @@ fn each_version_tells_what_was_in_force(rt: HostRuntime) {
 }
 
 // A command of a table: an event and the one above it, a registration with its event and hook, and numbers.
-#[derive(Clone, Copy, Debug)]
+#[derive(Clone, Copy)]
 enum Judged {
     Event(u16, u16),
     Register(u8, u16, Hook),
@@ -374,18 +374,36 @@ fn command_of(alloc: Global, judged: Judged) -> Option<Command> {
     }
 }
 
-// Whether a command is judged so.
-fn is_judged(alloc: Global, judged: Judged, refusal: Option<Refusal>, is_lawful: bool) -> bool {
+// Whether a command is judged so by what is in force.
+fn is_judged_by(
+    master: &Master,
+    command: &Command,
+    refusal: Option<Refusal>,
+    is_lawful: bool,
+) -> bool {
+    let control = master.control();
+    control.refusal(command) == refusal
+        && control.is_lawful(command) == is_lawful
+        && master.defs().root_of(7) == Some((PKT_IN, 8))
+}
+
+// The same where these commands came before it.
+fn is_judged_behind(
+    alloc: Global,
+    command: &Command,
+    refusal: Option<Refusal>,
+    is_lawful: bool,
+) -> bool {
     let mut table = Table::new(alloc);
-    let Some(command) = command_of(alloc, judged) else {
-        return false;
-    };
     match master_after(alloc, &mut table, Presets::Log, BEFORE) {
-        Some(master) => {
-            master.control().refusal(&command) == refusal
-                && master.control().is_lawful(&command) == is_lawful
-                && master.defs().root_of(7) == Some((PKT_IN, 8))
-        }
+        Some(master) => is_judged_by(&master, command, refusal, is_lawful),
+        None => false,
+    }
+}
+
+fn is_judged(alloc: Global, judged: Judged, refusal: Option<Refusal>, is_lawful: bool) -> bool {
+    match command_of(alloc, judged) {
+        Some(command) => is_judged_behind(alloc, &command, refusal, is_lawful),
         None => false,
     }
 }

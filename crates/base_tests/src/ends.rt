@@ -210,7 +210,10 @@ fn after(mut ends: Ends, steps: &[Step], count: usize) -> After {
 
 #[test]
 fn opens_and_closes(rt: HostRuntime) {
-    for (ends, walks) in [(Ends::new(), OPENED), (ends_at(Established, Established), CLOSED)] {
+    for (ends, walks) in [
+        (Ends::new(), OPENED),
+        (ends_at(Established, Established), CLOSED),
+    ] {
         for &(name, steps, count, wanted) in walks {
             assert!(rt; after(ends, steps, count) == wanted, "{name}");
         }
