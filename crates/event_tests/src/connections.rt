@@ -9,7 +9,7 @@ use crate::natives::natives;
 use app_api::{DropList, FieldList, LogApp, Tally, Verdict};
 use builtin_events::raised_by_orphan;
 use connection_core::laws::first_tree_names_the_first_list;
-use connection_core::{Arrived, Flow, InForce, Ledger, Notes, Terms, lone};
+use connection_core::{Arrived, Flow, InForce, Ledger, Notes, Terms, orphan};
 use flow_table::Endpoint;
 use forest_versions::Master;
 use mos_bytes::MemSink;
@@ -319,7 +319,7 @@ fn follow_orphan(alloc: Global, terms: &Terms<LogApp>, table: &Table, played: &m
         return false;
     }
     let flow = &played.flow;
-    match lone(
+    match orphan(
         alloc,
         terms,
         table,
