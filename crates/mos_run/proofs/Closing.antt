@@ -16,7 +16,7 @@ use Rattle.control_script.specs.declared.stamped.Stamped.{Stamped}
 use Rattle.lane_core.specs.declared.errors.LaneError.{LaneError}
 use Rattle.lane_core.specs.declared.errors.LaneError.TheVariants as Lane
 use Rattle.lane_core.specs.declared.report.ReportError.{ReportError}
-use Rattle.lane_core.specs.declared.report.ReportError.TheVariants as Report
+use Rattle.lane_core.specs.declared.report.ReportError.TheVariants as LaneReport
 use Rattle.lane_core.specs.Sight.{Moment, arrivals}
 use Rattle.lane_core.specs.Records.{VersionedPacket, RecordSoFar, ended_at}
 use Rattle.lane_core.specs.Run.{LaneEvent, ended_run}
@@ -185,7 +185,7 @@ module _ (app : Meaning) (script : List Stamped) (output : Output) (frames : Lis
   pub reported_well : {V : Type 0} (r : Result V ReportError) (v : V) (versions : List ℕ) (mid after : Option (List ℕ)) → r ≡ Ok v → failed ≡ None
       → ((events : List LaneEvent) → stands events → Appends mid after (end_text keep app (ended_run app events last) packets tail))
       → ((events : List LaneEvent) → stands events → versions ≡ map (λ r. r.version) (ended_run app events last))
-      → ((events : List LaneEvent) → stands events → IsHeavyAtEnd app events last → (r ≡ Err Report.Heavy) ⊎ (r ≡ Err Report.NoMemory))
+      → ((events : List LaneEvent) → stands events → IsHeavyAtEnd app events last → (r ≡ Err LaneReport.Heavy) ⊎ (r ≡ Err LaneReport.NoMemory))
       → Appends before mid (streamed app script (packets_of script) output header frames)
       → RunsAs (weighed app script (packets_of script) output header frames tail) before after (Ok versions)
   reported_well r v versions mid after ok good text names heavy first =
@@ -202,8 +202,8 @@ module _ (app : Meaning) (script : List Stamped) (output : Output) (frames : Lis
   pub reported_badly : {V O : Type 0} (taken : O → Option (List ℕ)) (o p : O) (r : Result V ReportError) (e : ReportError) → WeightNeverFalls → r ≡ Err e
       → ((le : LaneError) → failed ≡ Some le → (r ≡ Err (lane_fault le)) × (p ≡ o))
       → (failed ≡ None → (events : List LaneEvent) → stands events → AppendsFront (taken o) (taken p) (end_text keep app (ended_run app events last) packets tail))
-      → (failed ≡ None → keep ≡ true → (events : List LaneEvent) → stands events → IsHeavyAtEnd app events last → ((r ≡ Err Report.Heavy) ⊎ (r ≡ Err Report.NoMemory)) × (p ≡ o))
-      → (failed ≡ None → r ≡ Err Report.Heavy → (keep ≡ true) × ((events : List LaneEvent) → stands events → IsHeavyAtEnd app events last))
+      → (failed ≡ None → keep ≡ true → (events : List LaneEvent) → stands events → IsHeavyAtEnd app events last → ((r ≡ Err LaneReport.Heavy) ⊎ (r ≡ Err LaneReport.NoMemory)) × (p ≡ o))
+      → (failed ≡ None → r ≡ Err LaneReport.Heavy → (keep ≡ true) × ((events : List LaneEvent) → stands events → IsHeavyAtEnd app events last))
       → Appends before (taken o) (streamed app script (packets_of script) output header frames)
       → AppendsFront before (taken o) outcome_of.text
       → RunsAs outcome_of before (taken p) (Err (report_refusal e))
@@ -226,9 +226,9 @@ module _ (app : Meaning) (script : List Stamped) (output : Output) (frames : Lis
 
       light_end : (x : ReportError) → e ≡ x → failed ≡ None → is_heavy app script (packets_of script) output frames ≡ false
           → RunsAs outcome_of before (taken p) (Err (report_refusal e))
-      light_end Report.WriteFault is good light = written (report_refusal e) good light (inl (ap report_refusal is, ap is_forward report))
-      light_end Report.NoMemory is good light = written (report_refusal e) good light (inr (ap report_refusal is))
-      light_end Report.Heavy is good light =
+      light_end LaneReport.WriteFault is good light = written (report_refusal e) good light (inl (ap report_refusal is, ap is_forward report))
+      light_end LaneReport.NoMemory is good light = written (report_refusal e) good light (inr (ap report_refusal is))
+      light_end LaneReport.Heavy is good light =
           let over = end_is_heavy app script output frames given failed stands keep last later is_last read falls keeps (λ g. heavy g (was ∙ ap (λ x. Err x) is)) in
           absurd (let both = sym light ∙ over in cc)
 

@@ -17,7 +17,7 @@ use Rattle.pcapng_source.specs.declared.fault.NgFault.{NgFault}
 use Rattle.pcapng_source.specs.declared.fault.NgFault.TheVariants as Ng
 use Rattle.lane_core.specs.declared.errors.LaneError.{LaneError}
 use Rattle.lane_core.specs.declared.report.ReportError.{ReportError}
-use Rattle.lane_core.specs.declared.report.ReportError.TheVariants as Report
+use Rattle.lane_core.specs.declared.report.ReportError.TheVariants as LaneReport
 use Rattle.report_text.specs.declared.write.TextError.{TextError}
 use Rattle.report_text.specs.declared.write.TextError.TheVariants as Report
 use Rattle.worker_pool.specs.Refused.{read_refusal, lane_refusal as lane_failure}
@@ -109,9 +109,9 @@ text_refusal Report.NoMemory = NoMemory
 
 -- a report that one lane can't write
 abbrev pub report_refusal : ReportError → RunError
-report_refusal Report.WriteFault = WriteFault
-report_refusal Report.NoMemory = NoMemory
-report_refusal Report.Heavy = Heavy
+report_refusal LaneReport.WriteFault = WriteFault
+report_refusal LaneReport.NoMemory = NoMemory
+report_refusal LaneReport.Heavy = Heavy
 
 -- what ends a run early while its capture is read, however many lanes it has
 abbrev pub pool_refusal : PoolError → RunError
