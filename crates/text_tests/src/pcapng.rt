@@ -1,0 +1,671 @@
+//! Files in the pcapng form: what they give, in any cut of reads, and which blocks are refused.
+
+use crate::captures::PACKETS;
+use mos_bytes::{Failed, MemSource, Source};
+use pcapng_source::{AnySource, NgFault};
+use std::alloc::{AllocError, Global};
+use std::test::Fail;
+
+// A field of a block, in the byte order of its section; or bytes as they are.
+#[derive(Clone, Copy)]
+enum Part {
+    Two(u16),
+    Four(u32),
+    Bytes(&'static [u8]),
+}
+
+use Part::{Bytes, Four, Two};
+
+const MAGIC: Part = Four(0x1a2b_3c4d);
+
+const SECTION_TYPE: Part = Four(0x0a0d_0d0a);
+
+// Version 1.0, of unknown length.
+const SECTION: &[Part] = &[
+    SECTION_TYPE,
+    Four(28),
+    MAGIC,
+    Two(1),
+    Two(0),
+    Four(0xffff_ffff),
+    Four(0xffff_ffff),
+    Four(28),
+];
+
+// Ethernet, with no limit on lengths.
+const INTERFACE: &[Part] = &[Four(1), Four(20), Two(1), Two(0), Four(0), Four(20)];
+
+// Two bytes of sixty, at time 1.000002.
+const PACKET: &[Part] = &[
+    Four(6),
+    Four(36),
+    Four(0),
+    Four(0),
+    Four(1_000_002),
+    Four(2),
+    Four(60),
+    Bytes(&[7, 8, 0, 0]),
+    Four(36),
+];
+
+// The global header of each classic form.
+const HEADER: &[u8] = &[
+    0xa1, 0xb2, 0xc3, 0xd4, 0, 2, 0, 4, 0, 0, 0, 0, 0, 0, 0, 0, 0, 4, 0, 0, 0, 0, 0, 1,
+];
+
+// The record of the packet.
+const RECORD: &[u8] = &[0, 0, 0, 1, 0, 0, 0, 2, 0, 0, 0, 2, 0, 0, 0, 60, 7, 8];
+
+// Puts fields in either order of bytes.
+fn put(bytes: &mut Vec<u8>, is_big: bool, parts: &[Part]) -> Result<(), AllocError> {
+    for part in parts {
+        match *part {
+            Two(number) if is_big => bytes.extend_from_slice(&number.to_be_bytes())?,
+            Two(number) => bytes.extend_from_slice(&number.to_le_bytes())?,
+            Four(number) if is_big => bytes.extend_from_slice(&number.to_be_bytes())?,
+            Four(number) => bytes.extend_from_slice(&number.to_le_bytes())?,
+            Bytes(others) => bytes.extend_from_slice(others)?,
+        }
+    }
+    Ok(())
+}
+
+// A file of these blocks, in either order of bytes.
+fn file(alloc: Global, is_big: bool, blocks: &[&[Part]]) -> Result<Vec<u8>, AllocError> {
+    let mut bytes = Vec::new(alloc);
+    for block in blocks {
+        put(&mut bytes, is_big, block)?;
+    }
+    Ok(bytes)
+}
+
+// Lists of bytes, one behind the other.
+fn joined(alloc: Global, lists: &[&[u8]]) -> Result<Vec<u8>, AllocError> {
+    let mut bytes = Vec::new(alloc);
+    for list in lists {
+        bytes.extend_from_slice(list)?;
+    }
+    Ok(bytes)
+}
+
+// Whether reads of up to 30 bytes give these bytes, and then the end or this refusal.
+fn reads<S: Source>(any: &mut AnySource<S>, want: &[u8], fault: Option<NgFault>) -> bool {
+    let mut buf = [0; 30];
+    let mut at = 0;
+    for _ in 0..=want.len() {
+        match any.read(&mut buf) {
+            Ok(0) => return at == want.len() && fault.is_none() && any.fault().is_none(),
+            Ok(count) => {
+                if buf.get(..count) != want.get(at..).and_then(|rest| rest.get(..count)) {
+                    return false;
+                }
+                at = at.wrapping_add(count);
+            }
+            Err(Failed) => {
+                return at == want.len()
+                    && fault.is_some()
+                    && any.fault() == fault
+                    && any.read(&mut buf) == Err(Failed);
+            }
+        }
+    }
+    false
+}
+
+const PIECES: [usize; 3] = [1, 5, 4_096];
+
+// Whether a file gives these bytes, and then the end or this refusal, in pieces of each of three lengths.
+fn gives(
+    alloc: Global,
+    file: &[u8],
+    want: &[u8],
+    fault: Option<NgFault>,
+) -> Result<bool, AllocError> {
+    for piece in PIECES {
+        let mut source = MemSource::new(file.to_vec(alloc)?, Vec::new(alloc)).cut(piece);
+        if !reads(&mut AnySource::new(&mut source), want, fault) {
+            return Ok(false);
+        }
+    }
+    Ok(true)
+}
+
+// ---- refusals
+
+// A refusal so many bytes further on.
+fn moved(fault: NgFault, by: u64) -> NgFault {
+    match fault {
+        NgFault::TooManyBlocks(offset) => NgFault::TooManyBlocks(offset.wrapping_add(by)),
+        NgFault::BadBlock(offset) => NgFault::BadBlock(offset.wrapping_add(by)),
+        NgFault::BadVersion(offset) => NgFault::BadVersion(offset.wrapping_add(by)),
+        NgFault::TooManyInterfaces(offset) => NgFault::TooManyInterfaces(offset.wrapping_add(by)),
+        NgFault::BadLink(offset) => NgFault::BadLink(offset.wrapping_add(by)),
+        NgFault::TooLong(offset) => NgFault::TooLong(offset.wrapping_add(by)),
+    }
+}
+
+// Blocks behind a section header and an interface. The last one is refused at its last byte, and no earlier; the offset is
+// that behind the first two.
+const REFUSED: &[(&str, &[Part], NgFault)] = &[
+    (
+        "a total length that is no multiple of 4",
+        &[Four(5), Four(13)],
+        NgFault::BadBlock(0),
+    ),
+    (
+        "a total length of 8",
+        &[Four(5), Four(8)],
+        NgFault::BadBlock(0),
+    ),
+    (
+        "a total length of 2^24 and 4",
+        &[Four(5), Four(16_777_220)],
+        NgFault::BadBlock(0),
+    ),
+    (
+        "an obsolete packet of 8 bytes",
+        &[Four(2), Four(8)],
+        NgFault::BadBlock(0),
+    ),
+    (
+        "a section of 24 bytes",
+        &[SECTION_TYPE, Four(24), MAGIC],
+        NgFault::BadBlock(0),
+    ),
+    (
+        "a magic number that is none",
+        &[SECTION_TYPE, Four(28), Four(0x1a2b_3c4e)],
+        NgFault::BadBlock(0),
+    ),
+    (
+        "version 2",
+        &[SECTION_TYPE, Four(28), MAGIC, Two(2)],
+        NgFault::BadVersion(0),
+    ),
+    (
+        "an interface of 16 bytes",
+        &[Four(1), Four(16)],
+        NgFault::BadBlock(0),
+    ),
+    (
+        "a simple packet of 12 bytes",
+        &[Four(3), Four(12)],
+        NgFault::BadBlock(0),
+    ),
+    (
+        "an enhanced packet of 28 bytes",
+        &[Four(6), Four(28)],
+        NgFault::BadBlock(0),
+    ),
+    (
+        "an interface that isn't there",
+        &[Four(6), Four(32), Four(1)],
+        NgFault::BadBlock(0),
+    ),
+    (
+        "no interface",
+        &[
+            SECTION_TYPE,
+            Four(28),
+            MAGIC,
+            Two(1),
+            Two(0),
+            Four(0),
+            Four(0),
+            Four(28),
+            Four(3),
+            Four(16),
+        ],
+        NgFault::BadBlock(28),
+    ),
+    (
+        "a link type of 113",
+        &[
+            Four(1),
+            Four(20),
+            Two(113),
+            Two(0),
+            Four(0),
+            Four(20),
+            Four(6),
+            Four(32),
+            Four(1),
+        ],
+        NgFault::BadLink(20),
+    ),
+    (
+        "262,145 captured bytes",
+        &[Four(6), Four(32), Four(0), Four(0), Four(0), Four(262_145)],
+        NgFault::TooLong(0),
+    ),
+    (
+        "a simple packet of 262,145 bytes",
+        &[Four(3), Four(16), Four(262_145)],
+        NgFault::TooLong(0),
+    ),
+    (
+        "data past the block",
+        &[Four(6), Four(36), Four(0), Four(0), Four(0), Four(5)],
+        NgFault::BadBlock(0),
+    ),
+    (
+        "simple data past the block",
+        &[Four(3), Four(20), Four(5)],
+        NgFault::BadBlock(0),
+    ),
+    (
+        "two total lengths",
+        &[Four(5), Four(16), Four(0), Four(12)],
+        NgFault::BadBlock(0),
+    ),
+];
+
+// Whether a block is refused behind these blocks, which give these bytes, and not yet one byte before its end.
+fn is_refused(
+    alloc: Global,
+    is_big: bool,
+    before: &[&[Part]],
+    block: &[Part],
+    want: &[u8],
+    fault: NgFault,
+) -> Result<bool, AllocError> {
+    let mut bytes = file(alloc, is_big, before)?;
+    let fault = moved(fault, bytes.len() as u64);
+    put(&mut bytes, is_big, block)?;
+    let short = bytes.len().saturating_sub(1);
+    Ok(
+        gives(alloc, &bytes, want, Some(fault))?
+            && gives(alloc, bytes.get(..short).unwrap_or(&[]), want, None)?,
+    )
+}
+
+fn is_refused_anywhere(
+    alloc: Global,
+    is_big: bool,
+    block: &[Part],
+    fault: NgFault,
+) -> Result<bool, AllocError> {
+    let one = joined(alloc, &[HEADER, RECORD])?;
+    Ok(
+        is_refused(alloc, is_big, &[SECTION, INTERFACE], block, HEADER, fault)?
+            && is_refused(
+                alloc,
+                is_big,
+                &[SECTION, INTERFACE, PACKET],
+                block,
+                &one,
+                fault,
+            )?,
+    )
+}
+
+#[test]
+fn each_refusal_where_its_bytes_are_there(rt: HostRuntime) -> Result<(), Fail> {
+    for &(name, block, fault) in REFUSED {
+        for is_big in [true, false] {
+            assert!(rt;
+                is_refused_anywhere(rt.alloc(), is_big, block, fault)?,
+                "{name}"
+            );
+        }
+    }
+    Ok(())
+}
+
+// A packet whose second total length differs is given for all that.
+#[test]
+fn a_refused_trailer_comes_behind_its_packet(rt: HostRuntime) -> Result<(), Fail> {
+    let Some((_, cut)) = PACKET.split_last() else {
+        return Ok(());
+    };
+    let bytes = file(rt.alloc(), true, &[SECTION, INTERFACE, cut, &[Four(32)]])?;
+    let want = joined(rt.alloc(), &[HEADER, RECORD])?;
+    assert!(rt; gives(rt.alloc(), &bytes, &want, Some(NgFault::BadBlock(48)))?);
+    Ok(())
+}
+
+// How many interfaces a section has, and why it is refused. A packet of the last one follows.
+const INTERFACES: &[(usize, Option<NgFault>)] = &[
+    (64, None),
+    (65, Some(NgFault::TooManyInterfaces(1308))),
+];
+
+fn has_interfaces(alloc: Global, count: usize, fault: Option<NgFault>) -> Result<bool, AllocError> {
+    let mut bytes = file(alloc, false, &[SECTION])?;
+    for _ in 0..count {
+        put(&mut bytes, false, INTERFACE)?;
+    }
+    put(&mut bytes, false, PACKET)?;
+    let record: &[u8] = if fault.is_none() { RECORD } else { &[] };
+    let want = joined(alloc, &[HEADER, record])?;
+    gives(alloc, &bytes, &want, fault)
+}
+
+#[test]
+fn a_section_has_64_interfaces(rt: HostRuntime) -> Result<(), Fail> {
+    for &(count, fault) in INTERFACES {
+        assert!(rt; has_interfaces(rt.alloc(), count, fault)?);
+    }
+    Ok(())
+}
+
+// ---- files that are cut
+
+// A block of another kind, and a simple packet of three bytes.
+const OTHER: &[Part] = &[
+    Four(0xbad),
+    Four(20),
+    Bytes(&[1, 2, 3, 4, 5, 6, 7, 8]),
+    Four(20),
+];
+
+const SIMPLE: &[Part] = &[Four(3), Four(20), Four(3), Bytes(&[4, 5, 6, 0]), Four(20)];
+
+const SIMPLE_RECORD: &[u8] = &[0, 0, 0, 0, 0, 0, 0, 0, 0, 0, 0, 3, 0, 0, 0, 3, 4, 5, 6];
+
+// From this length of a file on it gives so many bytes, and where that is said one more for each byte more.
+const CUTS: &[(usize, usize, bool)] = &[
+    (0, 0, true),
+    (4, 24, false),
+    (76, 40, true),
+    (78, 42, false),
+    (116, 58, true),
+    (119, 61, false),
+    (124, 61, false),
+];
+
+// How many bytes a file gives of which so many are there.
+fn given_of(len: usize) -> usize {
+    let mut given = 0;
+    for &(start, count, grows) in CUTS {
+        if start <= len {
+            given = if grows {
+                count.wrapping_add(len.wrapping_sub(start))
+            } else {
+                count
+            };
+        }
+    }
+    given
+}
+
+fn is_cut_well(alloc: Global, is_big: bool) -> Result<bool, AllocError> {
+    let bytes = file(alloc, is_big, &[SECTION, INTERFACE, PACKET, OTHER, SIMPLE])?;
+    let want = joined(alloc, &[HEADER, RECORD, SIMPLE_RECORD])?;
+    for len in 0..=bytes.len() {
+        let cut = bytes.get(..len).unwrap_or(&[]);
+        let given = if len < 4 {
+            cut
+        } else {
+            want.get(..given_of(len)).unwrap_or(&[])
+        };
+        if !gives(alloc, cut, given, None)? {
+            return Ok(false);
+        }
+    }
+    Ok(bytes.len() == 124)
+}
+
+#[test]
+fn a_file_cut_at_each_byte(rt: HostRuntime) -> Result<(), Fail> {
+    for is_big in [true, false] {
+        assert!(rt; is_cut_well(rt.alloc(), is_big)?);
+    }
+    Ok(())
+}
+
+// Files that are no pcapng files.
+const OTHERS: &[&[u8]] = &[
+    b"",
+    b"\n\r\r",
+    b"\n\r\r\r and more",
+    b"\xa1\xb2\xc3\xd4 and whatever else stands in it, for more than one read",
+];
+
+#[test]
+fn other_files_as_they_are(rt: HostRuntime) -> Result<(), Fail> {
+    for &bytes in OTHERS {
+        assert!(rt; gives(rt.alloc(), bytes, bytes, None)?);
+    }
+    Ok(())
+}
+
+// A section in the other order begins anew: it has no interface of the one before.
+#[test]
+fn sections_in_both_orders(rt: HostRuntime) -> Result<(), Fail> {
+    let big = file(rt.alloc(), true, &[SECTION, INTERFACE, PACKET])?;
+    let little = file(rt.alloc(), false, &[SECTION, INTERFACE, PACKET, SIMPLE])?;
+    let none = file(rt.alloc(), true, &[SECTION, PACKET])?;
+    let bytes = joined(rt.alloc(), &[&big, &little, &none])?;
+    let want = joined(rt.alloc(), &[HEADER, RECORD, RECORD, SIMPLE_RECORD])?;
+    assert!(rt; gives(rt.alloc(), &bytes, &want, Some(NgFault::BadBlock(216)))?);
+    Ok(())
+}
+
+// ---- times
+
+// The options of an interface, and the seconds and microseconds of the time 5 * 2^48 + 7.
+const TIMES: &[(&str, &[Part], u32, u32)] = &[
+    ("no options", &[], 0x53e2d623, 0x00087147),
+    (
+        "nanoseconds",
+        &[Two(9), Two(1), Bytes(&[9, 0, 0, 0])],
+        0x0015798e,
+        0x000d7b61,
+    ),
+    (
+        "milliseconds",
+        &[Two(9), Two(1), Bytes(&[3, 0, 0, 0])],
+        0xae147ae1,
+        0x00046118,
+    ),
+    (
+        "seconds",
+        &[Two(9), Two(1), Bytes(&[0, 0, 0, 0])],
+        0x00000007,
+        0x00000000,
+    ),
+    (
+        "a power of ten above each time",
+        &[Two(9), Two(1), Bytes(&[39, 0, 0, 0])],
+        0x00000000,
+        0x00000000,
+    ),
+    (
+        "2^-10 seconds",
+        &[Two(9), Two(1), Bytes(&[138, 0, 0, 0])],
+        0x00000000,
+        0x00001ab3,
+    ),
+    (
+        "2^-127 seconds",
+        &[Two(9), Two(1), Bytes(&[255, 0, 0, 0])],
+        0x00000000,
+        0x00000000,
+    ),
+    (
+        "behind another option",
+        &[
+            Two(2),
+            Two(5),
+            Bytes(&[1, 2, 3, 4, 5, 0, 0, 0]),
+            Two(9),
+            Two(1),
+            Bytes(&[9, 0, 0, 0]),
+        ],
+        0x0015798e,
+        0x000d7b61,
+    ),
+    (
+        "behind an option without bytes",
+        &[Two(2), Two(0), Two(9), Two(1), Bytes(&[9, 0, 0, 0])],
+        0x0015798e,
+        0x000d7b61,
+    ),
+    (
+        "behind the end of the options",
+        &[Two(0), Two(0), Two(9), Two(1), Bytes(&[9, 0, 0, 0])],
+        0x53e2d623,
+        0x00087147,
+    ),
+    (
+        "of two the first",
+        &[
+            Two(9),
+            Two(1),
+            Bytes(&[3, 0, 0, 0]),
+            Two(9),
+            Two(1),
+            Bytes(&[9, 0, 0, 0]),
+        ],
+        0xae147ae1,
+        0x00046118,
+    ),
+    (
+        "a value of two bytes",
+        &[Two(9), Two(2), Bytes(&[9, 9, 0, 0])],
+        0x53e2d623,
+        0x00087147,
+    ),
+    (
+        "a value past the block",
+        &[Two(9), Two(1)],
+        0x53e2d623,
+        0x00087147,
+    ),
+    (
+        "behind an option past the block",
+        &[Two(2), Two(13), Two(9), Two(1), Bytes(&[9, 0, 0, 0])],
+        0x53e2d623,
+        0x00087147,
+    ),
+];
+
+// Whether a packet behind an interface with these options has this time.
+fn has_time(
+    alloc: Global,
+    is_big: bool,
+    options: &[Part],
+    seconds: u32,
+    fraction: u32,
+) -> Result<bool, AllocError> {
+    let size = match u32::try_from(file(alloc, is_big, &[options])?.len()) {
+        Ok(len) => len.wrapping_add(20),
+        Err(_) => return Ok(false),
+    };
+    let blocks: [&[Part]; 5] = [
+        SECTION,
+        &[Four(1), Four(size), Two(1), Two(0), Four(0)],
+        options,
+        &[Four(size)],
+        &[
+            Four(6),
+            Four(32),
+            Four(0),
+            Four(0x5_0000),
+            Four(7),
+            Four(0),
+            Four(60),
+            Four(32),
+        ],
+    ];
+    let bytes = file(alloc, is_big, &blocks)?;
+    let mut want = joined(alloc, &[HEADER])?;
+    put(
+        &mut want,
+        true,
+        &[Four(seconds), Four(fraction), Four(0), Four(60)],
+    )?;
+    gives(alloc, &bytes, &want, None)
+}
+
+#[test]
+fn times_in_the_unit_of_their_interface(rt: HostRuntime) -> Result<(), Fail> {
+    for &(name, options, seconds, fraction) in TIMES {
+        for is_big in [true, false] {
+            assert!(rt;
+                has_time(rt.alloc(), is_big, options, seconds, fraction)?,
+                "{name}"
+            );
+        }
+    }
+    Ok(())
+}
+
+// ---- a handshake
+
+// The link type, how many bytes of the file are left out, how many bytes it gives, and why it is refused.
+const HANDSHAKES: &[(&str, u16, usize, usize, Option<NgFault>)] = &[
+    ("whole", 1, 0, 234, None),
+    ("without its last 60 bytes", 1, 60, 180, None),
+    (
+        "of another link type",
+        113,
+        0,
+        24,
+        Some(NgFault::BadLink(48)),
+    ),
+];
+
+// The head of an enhanced packet of 54 bytes at time 0, and the head of its record.
+const HEAD: &[Part] = &[
+    Four(6),
+    Four(88),
+    Four(0),
+    Four(0),
+    Four(0),
+    Four(54),
+    Four(54),
+];
+
+const RECORD_HEAD: &[u8] = &[0, 0, 0, 0, 0, 0, 0, 0, 0, 0, 0, 54, 0, 0, 0, 54];
+
+fn is_handshake(
+    alloc: Global,
+    is_big: bool,
+    link: u16,
+    left_out: usize,
+    given: usize,
+    fault: Option<NgFault>,
+) -> Result<bool, AllocError> {
+    let interface = &[
+        Four(1),
+        Four(20),
+        Two(link),
+        Two(0),
+        Four(262_144),
+        Four(20),
+    ];
+    let mut bytes = file(alloc, is_big, &[SECTION, interface])?;
+    let mut want = joined(alloc, &[HEADER])?;
+    for packet in &PACKETS {
+        put(&mut bytes, is_big, HEAD)?;
+        bytes.extend_from_slice(packet)?;
+        put(&mut bytes, is_big, &[Two(0), Four(88)])?;
+        want.extend_from_slice(RECORD_HEAD)?;
+        want.extend_from_slice(packet)?;
+    }
+    let len = bytes.len().saturating_sub(left_out);
+    Ok(
+        bytes.len() == 312
+            && gives(
+                alloc,
+                bytes.get(..len).unwrap_or(&[]),
+                want.get(..given).unwrap_or(&[]),
+                fault,
+            )?,
+    )
+}
+
+#[test]
+fn the_handshake(rt: HostRuntime) -> Result<(), Fail> {
+    for &(name, link, left_out, given, fault) in HANDSHAKES {
+        for is_big in [true, false] {
+            assert!(rt;
+                is_handshake(rt.alloc(), is_big, link, left_out, given, fault)?,
+                "{name}"
+            );
+        }
+    }
+    Ok(())
+}
