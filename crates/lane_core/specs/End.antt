@@ -1,4 +1,4 @@
--- Only for proofs: records under way as records of the report.
+-- Records under way as records of the report.
 use Rattle.std.specs.Prelude.{ℕ, [], if◌then◌else◌}
 use Rattle.app_api.specs.declared.app.Tally.{Tally}
 use Rattle.app_api.specs.App.{Meaning}
@@ -12,7 +12,7 @@ abbrev pub new_slot : ℕ → RecordKind → ℕ → Tally → RecordUnderWay
 new_slot name kind version tally =
     record { name = name; kind = kind; version = version; notes = record { tally = tally; entries = [] }; drops = [] }
 
--- a record under way as it is shown; an orphan has no fields
+-- a record under way as the report shows it; an orphan has no fields
 abbrev pub ended : Meaning → RecordUnderWay → Record
 ended app slot = record {
   name = slot.name;

@@ -99,9 +99,3 @@ pub record IsEnd (keep : Bool) (app : Meaning) (so_far : List RecordSoFar) (reco
   pub versions_are : versions ≡ map (λ r. (r.first.number, r.version)) so_far
   pub callbacks_are : callbacks ≡ callbacks_of so_far
   pub drops_are : drops ≡ drops_of so_far
-
--- the same without the records
-pub record IsCounted (so_far : List RecordSoFar) (versions : List ℕ) (callbacks drops : ℕ) : Type 0 where
-  pub versions_are : versions ≡ map (λ r. r.version) so_far
-  pub callbacks_are : callbacks ≡ callbacks_of so_far
-  pub drops_are : drops ≡ drops_of so_far

@@ -13,4 +13,5 @@ pub mod Kept
 pub mod Packets
 pub mod Closing
 pub mod Lane
+pub mod KeptEnd
 pub mod Report

@@ -11,7 +11,7 @@ use Rattle.forest_versions.specs.Master.{Versions, StandsFor}
 use Rattle.forest_versions.specs.State.{active}
 use Rattle.lane_core.specs.declared.settings.LaneSettings.{LaneSettings}
 
--- this is said of what stands together in a settings: what its application answers, whether entries are kept, and its master
+-- this is said of the settings of a lane: what its application answers, whether entries are kept, and its master
 abbrev pub Under : {A : Type 0} {Said : Type 1} → (A → Meaning) → LaneSettings A → (Meaning → Bool → Versions → Said) → Said
 Under meaning settings said = said (meaning settings.app) settings.keep settings.master
 

@@ -46,13 +46,39 @@ pub struct LaneEnd {
     pub drops: u64,
 }
 
-/// What a lane ends with where no records are made of what it kept.
-#[derive(Debug, Drop)]
-pub struct LaneCounts {
-    /// The number of commands that each record lived under, in order of name.
-    pub versions: Vec<u32>,
+/// Records as lanes keep them, in order of name. Contracts see the list.
+#[derive(Drop)]
+pub struct KeptRecords {
+    pub items: Vec<RecordUnderWay>,
+}
+
+impl Model for KeptRecords {
+    ghost use Rattle.std.specs.Prelude.{List};
+    ghost use Rattle.lane_core.specs.declared.under_way.RecordUnderWay.{RecordUnderWay};
+
+    ghost Value = { List RecordUnderWay };
+
+    ghost view = { λ l. l.items.items };
+}
+
+impl KeptRecords {
+    /// The records in order.
+    pub fn as_slice(&self) -> &[RecordUnderWay]
+        ensures { result.now ≡ self.now }
+    {
+        self.items.as_slice()
+    }
+}
+
+/// What a lane ends with where its records stay as it kept them.
+#[derive(Drop)]
+pub struct KeptEnd {
+    /// The connections and orphans, in order of name; without their callbacks where these weren't kept.
+    pub records: KeptRecords,
     /// The callbacks of all records.
     pub callbacks: u64,
+    /// What these weigh: 32 each, and the bytes that they saw.
+    pub weight: u64,
     /// The dropped packets of all records.
     pub drops: u64,
 }
@@ -65,6 +91,8 @@ pub(crate) struct Closed<A> {
     pub(crate) slots: Vec<RecordUnderWay>,
     /// The callbacks of all records.
     pub(crate) callbacks: u64,
+    /// What these weigh.
+    pub(crate) weight: u64,
     /// The dropped packets of all records.
     pub(crate) drops: u64,
 }
@@ -108,8 +136,8 @@ fn ended<A: App>(alloc: Global, app: &A, slot: RecordUnderWay) -> Result<Record,
     })
 }
 
-/// The records of a lane that goes on no more.
-pub(crate) fn records_of<A: App>(
+/// The records of lanes that go on no more, as the report shows them.
+pub fn records_of<A: App>(
     alloc: Global,
     app: &A,
     slots: Vec<RecordUnderWay>,

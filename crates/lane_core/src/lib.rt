@@ -19,8 +19,9 @@ mod sides;
 mod silent;
 mod under_way;
 
-pub use end::{LaneCounts, LaneEnd, VersionOfList};
+pub use end::{KeptEnd, KeptRecords, LaneEnd, VersionOfList, records_of};
 pub use errors::LaneError;
 pub use lane::Lane;
 pub use recorder::Recorder;
-pub use report::{ReportError, Reporter};
+pub use report::{ReportError, Reporter, version_of_each, write_all_kept};
+pub use under_way::RecordUnderWay;

@@ -1,4 +1,4 @@
-//! The end of a lane that writes its records, or counts them, without a list of them.
+//! The end of a lane that hands its records out as it kept them, or writes them.
 
 ghost use Rattle.std.specs.Prelude.{◌≡◌, ◌⊎◌, IfOk, OnOk, IsErrOf, Err, None, map, true};
 ghost use Rattle.mos_bytes.specs.Causes.{HasCauseOf};
@@ -7,11 +7,12 @@ ghost use Rattle.mos_bytes.specs.Writes.{WriteAdds};
 ghost use Rattle.report_text.specs.declared.write.TextError.TheVariants.{WriteFault as TextFault};
 ghost use Rattle.report_text.specs.Report.{records_text};
 ghost use Rattle.lane_core.specs.End.{ended};
-ghost use Rattle.lane_core.specs.Lane.{ForEvents, HadFailed, IsCounted, IsHeavyBy, KeepsTooMuch, KeepsWithin};
+ghost use Rattle.lane_core.specs.Lane.{ForEvents, HadFailed, IsHeavyBy, KeepsTooMuch, KeepsWithin};
+ghost use Rattle.lane_core.specs.KeptEnd.{IsKeptEnd};
 ghost use Rattle.lane_core.specs.Report.{end_text, lane_fault};
 ghost use Rattle.lane_core.specs.Run.{ended_run};
 
-use crate::end::LaneCounts;
+use crate::end::KeptEnd;
 use crate::errors::LaneError;
 use crate::recorder::Recorder;
 use crate::under_way::RecordUnderWay;
@@ -72,18 +73,18 @@ impl From<AllocError> for ReportError {
     }
 }
 
-/// A recorder that can end by writing its records, or by counting them.
+/// A recorder that can end without a list of entries for each of its records.
 pub trait Reporter: Recorder {
-    /// Ends as `finish` does, but makes no records: it answers the version of each in order of name, and what is counted over them.
-    fn count(
+    /// Ends as `finish` does, but hands its records out as they were kept.
+    fn finish_kept(
         self,
         alloc: Global,
         greatest: Option<Moment>,
         natives: &NativeBook,
-    ) -> Result<LaneCounts, LaneError>
+    ) -> Result<KeptEnd, LaneError>
         ensures failed { HadFailed (Self.failed self) (λ e. result ≡ Err e) }
-        ensures counted { Self.failed self ≡ None → IfOk result (λ end. ForEvents (Self.stands self) (λ events.
-            IsCounted (ended_run (Self.app self) events greatest) end.versions.items end.callbacks end.drops)) }
+        ensures kept { Self.failed self ≡ None → IfOk result (λ end. ForEvents (Self.stands self) (λ events.
+            IsKeptEnd (Self.keeps self) (Self.app self) (ended_run (Self.app self) events greatest) end)) }
         ensures light { OnOk result (KeepsWithin Self.keeps Self.app Self.stands self (IsHeavyBy greatest)) }
         ensures heavy { Self.failed self ≡ None → result ≡ Err LaneError.Heavy
             → KeepsTooMuch Self.keeps Self.app Self.stands self (IsHeavyBy greatest) };
@@ -118,34 +119,31 @@ pub trait Reporter: Recorder {
 }
 
 /// The version of each record.
-pub(crate) fn version_of_each(
-    alloc: Global,
-    slots: &[RecordUnderWay],
-) -> Result<Vec<u32>, AllocError>
-    ensures { IfOk result (λ versions. versions.items ≡ map (λ s. s.version) slots.now) }
+pub fn version_of_each(alloc: Global, records: &[RecordUnderWay]) -> Result<Vec<u32>, AllocError>
+    ensures { IfOk result (λ versions. versions.items ≡ map (λ r. r.version) records.now) }
 {
-    let mut versions = Vec::with_capacity(alloc, slots.len())?;
-    for slot in slots {
-        versions.push(slot.version)?;
+    let mut versions = Vec::with_capacity(alloc, records.len())?;
+    for of in records {
+        versions.push(of.version)?;
     }
     Ok(versions)
 }
 
-/// Writes the lines of records in order. At an `Err` the sink holds a front of them.
-pub(crate) fn write_slots<A: App, O: Sink>(
+/// Writes the lines of records in order, each by one call. At an `Err` the sink holds a front of them.
+pub fn write_all_kept<A: App, O: Sink>(
     alloc: Global,
     app: &A,
     out: &mut O,
-    slots: &[RecordUnderWay],
+    records: &[RecordUnderWay],
 ) -> Result<(), TextError>
     ensures text { WriteAdds (O.taken out.old) (O.taken out.new) result
-        (records_text (map (ended (A.meaning app.now)) slots.now)) }
+        (records_text (map (ended (A.meaning app.now)) records.now)) }
     ensures cause { HasCauseOf (O.faults out.old) (O.faults out.new) (IsErrOf result TextFault) }
     ensures lasts { O.lasting out.new ≡ O.lasting out.old }
 {
     let mut line = String::new(alloc);
-    for slot in slots {
-        write_kept(alloc, app, out, &mut line, &slot.kept())?;
+    for of in records {
+        write_kept(alloc, app, out, &mut line, &of.kept())?;
     }
     Ok(())
 }

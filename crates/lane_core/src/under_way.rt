@@ -1,4 +1,4 @@
-//! Records under way.
+//! Records as a lane keeps them.
 
 ghost use Rattle.std.specs.Prelude.{◌≡◌, ◌++◌, OnOk};
 ghost use Rattle.app_api.specs.declared.app.Tally.{Tally as TallyOf};
@@ -12,18 +12,19 @@ use connection_core::Notes;
 use report_text::{KeptRecord, RecordKind};
 use std::alloc::{AllocError, Global};
 
-/// A record under way: all that the report will tell of it, but for the fields of its application.
+/// A record as a lane keeps it, while it is under way and at the end: all that the report will tell of it, but for the fields of its
+/// application.
 #[derive(Drop)]
-pub(crate) struct RecordUnderWay {
+pub struct RecordUnderWay {
     /// The number of its first packet.
-    pub(crate) name: u64,
-    pub(crate) kind: RecordKind,
+    pub name: u64,
+    pub kind: RecordKind,
     /// How many commands were in force for it.
-    pub(crate) version: u32,
+    pub version: u32,
     /// What the application keeps, and the callbacks where these are kept.
-    pub(crate) notes: Notes,
+    pub notes: Notes,
     /// Its dropped packets.
-    pub(crate) drops: DropList,
+    pub drops: DropList,
 }
 
 impl RecordUnderWay {
@@ -49,7 +50,7 @@ impl RecordUnderWay {
     }
 
     /// What is written of it.
-    pub(crate) fn kept(&self) -> KeptRecord<'_>
+    pub fn kept(&self) -> KeptRecord<'_>
         ensures { (app : Meaning) → kept_record app result ≡ ended app self.now }
     {
         KeptRecord {

@@ -1,4 +1,5 @@
 mod Lowest
 mod Merged
 mod Weighing
+mod Kept
 mod Latest

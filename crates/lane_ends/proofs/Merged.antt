@@ -5,25 +5,28 @@ use Rattle.std.specs.List.{All}
 use Rattle.std.proofs.lemmas.List.{map-append, get_or_past}
 use Rattle.std.proofs.lemmas.List.Elements.{All-nil, All-cons, All-head, All-tail, All-push, All-weaker}
 use Rattle.std.proofs.lemmas.Bool.{cases_eq, cases_lt, eq-eqb, ne_eqb}
-use Rattle.report_text.specs.declared.record.Record.{Record}
+use Rattle.lane_core.specs.declared.under_way.RecordUnderWay.{RecordUnderWay}
 use Rattle.worker_laws.specs.Rising.{Rises}
-use Rattle.worker_laws.specs.Merge.{list_at, names_in, AreOfLanes, IsMerge}
-use Rattle.lane_ends.specs.Queues.{first_name, AreEmpty, Moves}
+use Rattle.worker_laws.specs.Merge.{list_at, names_in as names_by, AreOfLanes, IsMerge}
+use Rattle.lane_ends.specs.Queues.{first_name, kept_name, AreEmpty, Moves}
+
+abbrev names_in : List RecordUnderWay → List ℕ
+names_in records = names_by kept_name records
 
 -- how many records wait
-abbrev pub left : List (List Record) → ℕ
+abbrev pub left : List (List RecordUnderWay) → ℕ
 left [] = 0
 left (l ∷ ls) = length l + left ls
 
-left_less : (ls : List (List Record)) (i : ℕ) (r : Record) (rest : List Record) → list_at ls i ≡ r ∷ rest → left (set ls i rest) + 1 ≡ left ls
+left_less : (ls : List (List RecordUnderWay)) (i : ℕ) (r : RecordUnderWay) (rest : List RecordUnderWay) → list_at ls i ≡ r ∷ rest → left (set ls i rest) + 1 ≡ left ls
 left_less [] i r rest e = absurd (cc)
 left_less (l ∷ ls) zero r rest e = let long = ap length e in omega arith
 left_less (l ∷ ls) (suc i) r rest e = let before = left_less ls i r rest e in omega arith
 
-pub left_moved : (old new : List (List Record)) (before after : List Record) → Moves old new before after → left new < left old
+pub left_moved : (old new : List (List RecordUnderWay)) (before after : List RecordUnderWay) → Moves old new before after → left new < left old
 left_moved old new before after moves = let less = left_less old moves.place moves.moved moves.rest moves.was in let e = ap left moves.new_is in omega arith
 
-pub record IsSoFar (of : ℕ → ℕ) (ls queues : List (List Record)) (merged : List Record) : Type 0 where
+pub record IsSoFar (of : ℕ → ℕ) (ls queues : List (List RecordUnderWay)) (merged : List RecordUnderWay) : Type 0 where
   pub rises : Rises (names_in merged)
   pub parts : (l : ℕ) → filter (λ r. of r.name == l) merged ++ list_at queues l ≡ list_at ls l
   pub above : (l : ℕ) → All (λ n. All (λ m. m < n) (names_in merged)) (names_in (list_at queues l))
@@ -36,14 +39,14 @@ no_fall : Rises []
 unfolding Rises
 no_fall = tt
 
-pub so_far_none : (of : ℕ → ℕ) (ls : List (List Record)) → IsSoFar of ls ls []
+pub so_far_none : (of : ℕ → ℕ) (ls : List (List RecordUnderWay)) → IsSoFar of ls ls []
 so_far_none of ls = record { rises = no_fall; parts = λ l. refl; above = λ l. all_above_none (names_in (list_at ls l)) }
 
-empty_by : (rs : List Record) → first_name rs ≡ None → rs ≡ []
+empty_by : (rs : List RecordUnderWay) → first_name rs ≡ None → rs ≡ []
 empty_by [] e = refl
 empty_by (r ∷ rs) e = absurd (cc)
 
-pub so_far_all : (of : ℕ → ℕ) (ls queues : List (List Record)) (merged : List Record) → IsSoFar of ls queues merged → AreEmpty queues (length queues) → IsMerge of ls merged
+pub so_far_all : (of : ℕ → ℕ) (ls queues : List (List RecordUnderWay)) (merged : List RecordUnderWay) → IsSoFar of ls queues merged → AreEmpty queues (length queues) → IsMerge kept_name of ls merged
 so_far_all of ls queues merged so_far empty = record {
   rises = so_far.rises;
   parts = λ l.
@@ -66,7 +69,7 @@ Rises-head : (n : ℕ) (ns : List ℕ) → Rises (n ∷ ns) → All (λ k. n < k
 unfolding Rises
 Rises-head n ns rises = rises.0
 
-All-end : (P : Record → Type 0) (xs ys : List Record) → All P (xs ++ ys) → All P ys
+All-end : (P : RecordUnderWay → Type 0) (xs ys : List RecordUnderWay) → All P (xs ++ ys) → All P ys
 All-end P [] ys all = all
 All-end P (x ∷ xs) ys all = All-end P xs ys (All-tail P x (xs ++ ys) all)
 
@@ -77,27 +80,27 @@ above_push ms x (n ∷ ns) above less =
     (All-push (λ m. m < n) ms x (All-head (λ k. All (λ m. m < k) ms) n ns above) (All-head (λ k. x < k) n ns less))
     (above_push ms x ns (All-tail (λ k. All (λ m. m < k) ms) n ns above) (All-tail (λ k. x < k) n ns less))
 
-kept_by : (b : Bool) (x : Record) (xs more ys : List Record) → ys ≡ xs ++ more → (if b then x ∷ ys else ys) ≡ (if b then x ∷ xs else xs) ++ more
+kept_by : (b : Bool) (x : RecordUnderWay) (xs more ys : List RecordUnderWay) → ys ≡ xs ++ more → (if b then x ∷ ys else ys) ≡ (if b then x ∷ xs else xs) ++ more
 kept_by true x xs more ys e = ap (λ y. x ∷ y) e
 kept_by false x xs more ys e = e
 
 module _ (of : ℕ → ℕ) (l : ℕ) where
-  kept_last : (xs : List Record) (r : Record) → of r.name ≡ l → filter (λ q. of q.name == l) (xs ++ r ∷ []) ≡ filter (λ q. of q.name == l) xs ++ r ∷ []
+  kept_last : (xs : List RecordUnderWay) (r : RecordUnderWay) → of r.name ≡ l → filter (λ q. of q.name == l) (xs ++ r ∷ []) ≡ filter (λ q. of q.name == l) xs ++ r ∷ []
   kept_last [] r own = let e = eq-eqb (of r.name) l own in rw e refl
   kept_last (x ∷ xs) r own = kept_by (of x.name == l) x (filter (λ q. of q.name == l) xs) (r ∷ []) (filter (λ q. of q.name == l) (xs ++ r ∷ [])) (kept_last xs r own)
 
-  dropped_last : (xs : List Record) (r : Record) → (of r.name ≡ l → ⊥) → filter (λ q. of q.name == l) (xs ++ r ∷ []) ≡ filter (λ q. of q.name == l) xs
+  dropped_last : (xs : List RecordUnderWay) (r : RecordUnderWay) → (of r.name ≡ l → ⊥) → filter (λ q. of q.name == l) (xs ++ r ∷ []) ≡ filter (λ q. of q.name == l) xs
   dropped_last [] r other = let e = ne_eqb (of r.name) l other in rw e refl
   dropped_last (x ∷ xs) r other = ap (λ y. if of x.name == l then x ∷ y else y) (dropped_last xs r other)
 
 some_name : {a b : ℕ} → Some a ≡ Some b → a ≡ b
 some_name e = cc
 
-nil_is_cons : (x : Record) (xs : List Record) → [] ≡ x ∷ xs → ⊥
+nil_is_cons : (x : RecordUnderWay) (xs : List RecordUnderWay) → [] ≡ x ∷ xs → ⊥
 nil_is_cons x xs e = cc
 
-module _ (of : ℕ → ℕ) (ls old new : List (List Record)) (before after : List Record) (are : AreOfLanes of ls) (so_far : IsSoFar of ls old before) (moves : Moves old new before after) where
-  abbrev part : ℕ → List Record
+module _ (of : ℕ → ℕ) (ls old new : List (List RecordUnderWay)) (before after : List RecordUnderWay) (are : AreOfLanes kept_name of ls) (so_far : IsSoFar of ls old before) (moves : Moves old new before after) where
+  abbrev part : ℕ → List RecordUnderWay
   part l = filter (λ r. of r.name == l) before
 
   -- the records that wait are of their lane, and their names_in rise
@@ -122,7 +125,7 @@ module _ (of : ℕ → ℕ) (ls old new : List (List Record)) (before after : Li
   behind_here : All (λ n. moves.moved.name < n) (names_in moves.rest)
   behind_here = Rises-head moves.moved.name (names_in moves.rest) (subst (λ x. Rises (names_in x)) moves.was (wait_rise moves.place))
 
-  behind_by : (l : ℕ) → (l ≡ moves.place → ⊥) → (rs : List Record) → list_at old l ≡ rs → All (λ n. moves.moved.name < n) (names_in rs)
+  behind_by : (l : ℕ) → (l ≡ moves.place → ⊥) → (rs : List RecordUnderWay) → list_at old l ≡ rs → All (λ n. moves.moved.name < n) (names_in rs)
   behind_by l other [] is = All-nil (λ n. moves.moved.name < n)
   behind_by l other (x ∷ xs) is =
       let of_x = All-head (λ r. of r.name ≡ l) x xs (subst (All (λ r. of r.name ≡ l)) is (wait_own l)) in

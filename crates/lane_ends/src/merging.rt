@@ -1,37 +1,37 @@
 //! Joins the records of several lanes to one list in order of name.
 
-ghost use Rattle.std.specs.Prelude.{◌≡◌, ◌<◌, ◌≤◌, ◌+◌, ◌+◌, ℕ, List, Some, None, true, false, length, map, get_or, IfOk, IfSome, MatchBool, OnOk};
-ghost use Rattle.report_text.specs.declared.record.Record.{Record};
+ghost use Rattle.std.specs.Prelude.{◌≡◌, ◌<◌, ◌≤◌, ◌+◌, ℕ, List, Some, None, true, false, length, map, get_or, IfOk, IfSome, MatchBool, OnOk};
+ghost use Rattle.lane_core.specs.declared.under_way.RecordUnderWay.{RecordUnderWay};
 ghost use Rattle.worker_laws.specs.Merge.{list_at, AreOfLanes, IsMerge};
-ghost use Rattle.lane_ends.specs.Queues.{waiting, IsLowest, IsBest, AreEmpty, lower_of, Moves};
+ghost use Rattle.lane_ends.specs.Queues.{kept_name, lists_in, waiting, IsLowest, IsBest, AreEmpty, lower_of, Moves};
 
-use report_text::{Record, RecordList};
+use lane_core::{KeptEnd, KeptRecords, RecordUnderWay};
 use std::alloc::{AllocError, Global};
 use std::collections::VecDeque;
 
 // The records of one lane that aren't taken yet, the lowest name first.
 #[derive(Drop)]
 struct Queue {
-    records: VecDeque<Record>,
+    records: VecDeque<RecordUnderWay>,
 }
 
-// A list as a queue, with nothing copied.
-fn queue_of(list: RecordList) -> Queue
-    ensures { result.records.items ≡ list }
+// The records of an end as a queue, with nothing copied.
+fn queue_of(end: KeptEnd) -> Queue
+    ensures { result.records.items ≡ end.records }
 {
     Queue {
-        records: VecDeque::from(list.items),
+        records: VecDeque::from(end.records.items),
     }
 }
 
-// All lists as queues.
-fn queues_of(alloc: Global, lists: Vec<RecordList>) -> Result<Vec<Queue>, AllocError>
-    ensures { IfOk result (λ queues. waiting queues.items ≡ lists.items) }
+// The records of all ends as queues.
+fn queues_of(alloc: Global, ends: Vec<KeptEnd>) -> Result<Vec<Queue>, AllocError>
+    ensures { IfOk result (λ queues. waiting queues.items ≡ lists_in ends.items) }
 {
-    let mut lists = VecDeque::from(lists);
-    let mut queues = Vec::with_capacity(alloc, lists.len())?;
-    while let Some(list) = lists.pop_front() {
-        queues.push(queue_of(list))?;
+    let mut ends = VecDeque::from(ends);
+    let mut queues = Vec::with_capacity(alloc, ends.len())?;
+    while let Some(end) = ends.pop_front() {
+        queues.push(queue_of(end))?;
     }
     Ok(queues)
 }
@@ -57,7 +57,7 @@ fn lower(best: Option<(usize, u64)>, place: usize, name: u64) -> Option<(usize, 
 
 // The better of the best place so far and the next one.
 fn better(best: Option<(usize, u64)>, place: usize, queue: &Queue) -> Option<(usize, u64)>
-    ensures { (ls : List (List Record)) → list_at ls place ≡ queue.now.records.items → IsBest best ls place
+    ensures { (ls : List (List RecordUnderWay)) → list_at ls place ≡ queue.now.records.items → IsBest best ls place
         → IsBest result ls (place + 1) }
 {
     match queue.records.front() {
@@ -78,7 +78,10 @@ fn lowest(queues: &[Queue]) -> Option<(usize, u64)>
 }
 
 // Takes the record with the lowest name; false where none is left.
-fn take_lowest(queues: &mut Vec<Queue>, merged: &mut Vec<Record>) -> Result<bool, AllocError>
+fn take_lowest(
+    queues: &mut Vec<Queue>,
+    merged: &mut Vec<RecordUnderWay>,
+) -> Result<bool, AllocError>
     ensures { IfOk result (λ more. MatchBool more
         (Moves (waiting queues.old.items) (waiting queues.new.items) merged.old.items merged.new.items)
         (AreEmpty (waiting queues.old.items) (length queues.old.items) × (merged.new.items ≡ merged.old.items))) }
@@ -96,12 +99,12 @@ fn take_lowest(queues: &mut Vec<Queue>, merged: &mut Vec<Record>) -> Result<bool
 /// The records of all lanes in order of name, in one pass over the first record of each list. Records move and aren't
 /// copied. Where lists are those of lanes, which no two have a name in common, and names rise in each, they rise in the
 /// merged list, and it has exactly the records of the lists.
-pub fn merge(alloc: Global, lists: Vec<RecordList>) -> Result<RecordList, AllocError>
-    ensures merged { (of : ℕ → ℕ) → AreOfLanes of lists.items
-        → IfOk result (λ merged. IsMerge of lists.items merged) }
+pub(crate) fn merge(alloc: Global, ends: Vec<KeptEnd>) -> Result<KeptRecords, AllocError>
+    ensures merged { (of : ℕ → ℕ) → AreOfLanes kept_name of (lists_in ends.items)
+        → IfOk result (λ merged. IsMerge kept_name of (lists_in ends.items) merged) }
 {
-    let mut queues = queues_of(alloc, lists)?;
+    let mut queues = queues_of(alloc, ends)?;
     let mut items = Vec::with_capacity(alloc, count_of(&queues))?;
     while take_lowest(&mut queues, &mut items)? {}
-    Ok(RecordList { items })
+    Ok(KeptRecords { items })
 }

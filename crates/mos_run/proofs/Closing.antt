@@ -21,7 +21,9 @@ use Rattle.lane_core.specs.Sight.{Moment, arrivals}
 use Rattle.lane_core.specs.Records.{VersionedPacket, RecordSoFar, ended_at}
 use Rattle.lane_core.specs.Run.{LaneEvent, ended_run}
 use Rattle.lane_core.specs.Shown.{record_of, callbacks_of, weight}
-use Rattle.lane_core.specs.Lane.{IsCounted, IsHeavyAtEnd}
+use Rattle.lane_core.specs.declared.end.KeptEnd.{KeptEnd}
+use Rattle.lane_core.specs.KeptEnd.{IsKeptEnd}
+use Rattle.lane_core.specs.Lane.{IsHeavyAtEnd}
 use Rattle.lane_core.specs.Report.{end_text, lane_fault}
 use Rattle.lane_core.specs.Laws.{LaterCommandsChangeNone, WeightNeverFalls}
 use Rattle.worker_laws.specs.Greatest.{greatest}
@@ -56,12 +58,12 @@ module _ (app : Meaning) (script : List Stamped) (output : Output) (frames : Lis
         ended_are app script given stands (packets_of script frames) f later last
         ∙ ap (λ l. map (ended_at app (control_at app script) l) (records_so_far app script (packets_of script) frames)) is_last
 
-    -- what the lane counts are these records
-    pub counted_is : (versions : List ℕ) (callbacks drops : ℕ) → failed ≡ None
-        → ((events : List LaneEvent) → stands events → IsCounted (ended_run app events last) versions callbacks drops) → IsCounted rs versions callbacks drops
-    counted_is versions callbacks drops good end =
+    -- the lane ended with these records
+    pub ended_with : (end : KeptEnd) → failed ≡ None → ((events : List LaneEvent) → stands events → IsKeptEnd keep app (ended_run app events last) end)
+        → IsKeptEnd keep app rs end
+    ended_with end good is =
         let f = read.follows good in
-        subst (λ so_far. IsCounted so_far versions callbacks drops) (at-end f) (end f.events f.stands_for)
+        subst (λ so_far. IsKeptEnd keep app so_far end) (at-end f) (is f.events f.stands_for)
 
     -- they aren't too heavy
     pub end_is_light : failed ≡ None → keep ≡ not (is_forward output)
@@ -83,21 +85,22 @@ module _ (app : Meaning) (script : List Stamped) (output : Output) (frames : Lis
             over_at_end app script output frames (sym keeps ∙ is.0) (subst (λ so_far. 134217728 < weight so_far) (at-end f) (is.1 f.events f.stands_for))
         by (Some e) bad = heavy_at_end app script falls output frames (read.heavy (λ good. let both = sym bad ∙ good in cc))
 
-  totals-are : (versions : List ℕ) (callbacks drops packets len tail : ℕ) → IsCounted rs versions callbacks drops → length frames ≡ packets → len ≡ length versions
-      → record { packets = packets; records = len; callbacks = callbacks; drops = drops; tail = tail } ≡ totals_of rs (length frames) tail
-  totals-are versions callbacks drops packets len tail counted count is_len =
-      let lengths : len ≡ length rs = is_len ∙ ap length counted.versions_are ∙ length-map rs (λ r. r.version) in
-      ap (λ n. record { packets = n; records = len; callbacks = callbacks; drops = drops; tail = tail }) (sym count)
-      ∙ ap (λ n. record { packets = length frames; records = n; callbacks = callbacks; drops = drops; tail = tail }) lengths
-      ∙ ap (λ n. record { packets = length frames; records = length rs; callbacks = n; drops = drops; tail = tail }) counted.callbacks_are
-      ∙ ap (λ n. record { packets = length frames; records = length rs; callbacks = callbacks_of rs; drops = n; tail = tail }) counted.drops_are
+  module _ (keep : Bool) (end : KeptEnd) (is : IsKeptEnd keep app rs end) (packets len tail : ℕ) (count : length frames ≡ packets) (is_len : len ≡ length end.records) where
+    abbrev counted : Totals
+    counted = record { packets = packets; records = len; callbacks = end.callbacks; drops = end.drops; tail = tail }
 
-  -- what is written of them
-  pub closing_is : (versions : List ℕ) (callbacks drops packets len tail : ℕ) → IsCounted rs versions callbacks drops → length frames ≡ packets → len ≡ length versions
-      → closing output (map (record_of app) rs) (record { packets = packets; records = len; callbacks = callbacks; drops = drops; tail = tail })
-      ≡ closing output (map (record_of app) rs) (totals_of rs (length frames) tail)
-  closing_is versions callbacks drops packets len tail counted count is_len =
-      ap (closing output (map (record_of app) rs)) (totals-are versions callbacks drops packets len tail counted count is_len)
+    totals-are : counted ≡ totals_of rs (length frames) tail
+    totals-are =
+        let lengths : len ≡ length rs =
+        is_len ∙ sym (length-map end.records (λ r. r.version)) ∙ ap length is.versions_are ∙ length-map rs (λ r. r.version) in
+        ap (λ n. record { packets = n; records = len; callbacks = end.callbacks; drops = end.drops; tail = tail }) (sym count)
+        ∙ ap (λ n. record { packets = length frames; records = n; callbacks = end.callbacks; drops = end.drops; tail = tail }) lengths
+        ∙ ap (λ n. record { packets = length frames; records = length rs; callbacks = n; drops = end.drops; tail = tail }) is.callbacks_are
+        ∙ ap (λ n. record { packets = length frames; records = length rs; callbacks = callbacks_of rs; drops = n; tail = tail }) is.drops_are
+
+    -- what is written of them
+    pub closing_is : closing output (map (record_of app) rs) counted ≡ closing output (map (record_of app) rs) (totals_of rs (length frames) tail)
+    closing_is = ap (closing output (map (record_of app) rs)) totals-are
 
 -- ---- how a run ends
 

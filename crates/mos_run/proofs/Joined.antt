@@ -5,22 +5,15 @@ use Rattle.std.specs.Io.KnownBytes.{Appends}
 use Rattle.std.proofs.KnownBytes.{Appends-nil}
 use Rattle.mos_bytes.specs.Writes.{AppendsFront}
 use Rattle.mos_bytes.proofs.Writes.{AppendsFront-nil}
-use Rattle.app_api.specs.App.{Meaning, IsLawful}
+use Rattle.app_api.specs.App.{Meaning}
 use Rattle.pcap_source.specs.Captured.{Captured}
 use Rattle.pcap_source.specs.Capture.{Frames, Ending, tail, too_long, too_many, capture_of}
 use Rattle.pcap_source.specs.declared.errors.CaptureFault.TheVariants as Fault
-use Rattle.report_text.specs.Tidy.{tidy}
-use Rattle.forest_versions.specs.declared.command.Command.{Command}
-use Rattle.forest_versions.specs.Lawful.{are_lawful}
-use Rattle.forest_versions.specs.State.{start}
 use Rattle.control_script.specs.declared.stamped.Stamped.{Stamped}
 use Rattle.control_script.specs.Order.{commands_of, are_in_order}
 use Rattle.lane_core.specs.Sight.{arrivals}
 use Rattle.lane_core.specs.Records.{VersionedPacket}
 use Rattle.lane_core.specs.Shown.{record_of, weight}
-use Rattle.lane_core.specs.Laws.{RecordsAreTidy, rise}
-use Rattle.worker_laws.specs.Greatest.{greatest}
-use Rattle.worker_laws.specs.Whole.{packets_under}
 use Rattle.worker_pool.specs.Run.{EndsOver, IsWhole, MayHave, totals_of}
 use Rattle.worker_pool.specs.declared.job.LanesEnd.{LanesEnd}
 use Rattle.worker_pool.specs.declared.job.PoolError.{PoolError}
@@ -28,7 +21,7 @@ use Rattle.worker_pool.specs.declared.job.PoolError.TheVariants as Pool
 use Rattle.mos_run.specs.declared.output.Output.{Output}
 use Rattle.mos_run.specs.declared.refusal.RunError.{RunError}
 use Rattle.mos_run.specs.declared.refusal.RunError.TheVariants as Run
-use Rattle.mos_run.specs.Records.{control_at, packets_with, records_of}
+use Rattle.mos_run.specs.Records.{packets_with, records_of}
 use Rattle.mos_run.specs.Forward.{forwarded}
 use Rattle.mos_run.specs.Outcome.{is_forward, is_heavy, streamed, closing, ended, followed, weighed, refused, outcome_by, outcome, outcome_over}
 use Rattle.mos_run.specs.Refusal.{pool_refusal}
@@ -38,7 +31,6 @@ use Rattle.mos_run.specs.Lanes.{FinishesWith, StopsWith}
 use Rattle.mos_run.specs.Laws.{ceilings_of, CeilingsMayBeHad}
 use Rattle.mos_run.proofs.Ceilings.{HasVersions}
 use Rattle.mos_run.proofs.Closing.{ends_well, ends_badly}
-use Rattle.mos_run.proofs.Events.{are_events}
 use Rattle.mos_run.proofs.Reading.{over-limit, under-limit}
 
 -- a run on lanes that tells no fault of writing is refused with none
@@ -49,17 +41,6 @@ no_write_told Pool.ReadFault never is = cc
 no_write_told Pool.WriteFault never is = never refl
 no_write_told Pool.Heavy never is = cc
 no_write_told Pool.NoMemory never is = cc
-
--- the records of a run are such as a report may have, whatever its versions
-abbrev pub NumbersOfRunRise : Type 0
-NumbersOfRunRise = (app : Meaning) (commands : List Command) (frames : List Captured) (vs : List ℕ) → rise 0 (packets_under app commands vs (arrivals 0 frames)) ≡ true
-
-pub whole_is_tidy : RecordsAreTidy → NumbersOfRunRise → (app : Meaning) (script : List Stamped) (lanes rest : ℕ) (frames : List Captured) (end : LanesEnd) → IsLawful app
-    → are_lawful (start app.presets) (commands_of script) ≡ true → IsWhole app script lanes frames rest end → tidy end.records ≡ true
-whole_is_tidy law rises app script lanes rest frames end lawful commands whole =
-    subst (λ l. tidy l ≡ true) (sym whole.records_are)
-    (law app (control_at app script) (greatest (arrivals 0 frames)) (packets_with app script end.versions frames) lawful
-    (λ v. are_events app (commands_of script) v lawful commands) (rises app (commands_of script) frames end.versions))
 
 module _ (app : Meaning) (script : List Stamped) (lanes : ℕ) (output : Output) (bytes : List ℕ) where
   -- nothing could be said of the capture, or the run stopped before its end, whatever its versions

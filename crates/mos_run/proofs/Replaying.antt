@@ -27,7 +27,7 @@ use Rattle.worker_laws.specs.Forwarded.{bytes_under as left_by}
 use Rattle.worker_pool.specs.Forward.{left_by_all}
 use Rattle.mos_run.specs.Forward.{forwarded}
 use Rattle.mos_run.specs.Refusal.{record_refusal, header_refusal}
-use Rattle.mos_run.specs.Outcome.{Outcome, is_forward, is_heavy, streamed, followed, weighed, refused, outcome_by, outcome, outcome_over}
+use Rattle.mos_run.specs.Outcome.{is_forward, is_heavy, streamed, followed, weighed, refused, outcome_by, outcome, outcome_over}
 use Rattle.mos_run.specs.Outcome as Outcomes
 use Rattle.mos_run.specs.Reading.{Replaying, behind, gained, packet_of}
 use Rattle.mos_run.proofs.Reading.{heavy_is_kept}

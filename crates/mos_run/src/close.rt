@@ -17,8 +17,8 @@ use crate::plan::Plan;
 use crate::summary::write_summary;
 use crate::{Output, RunError, VersionList};
 use flow_timers::Moment;
-use lane_core::Reporter;
 use lane_core::laws::{later_commands_change_none, weight_never_falls};
+use lane_core::{Reporter, version_of_each};
 use mos_bytes::Sink;
 use report_text::Totals;
 use std::alloc::Global;
@@ -79,17 +79,16 @@ pub(crate) fn close<L: Reporter + Drop, O: Sink>(
         let items = lane.report(alloc, last, plan.natives, packets, tail, out)?;
         return Ok(VersionList { items });
     }
-    let end = lane.count(alloc, last, plan.natives)?;
-    let versions = end.versions.as_slice();
+    let end = lane.finish_kept(alloc, last, plan.natives)?;
+    let records = end.records.as_slice();
+    let versions = version_of_each(alloc, records)?;
     let totals = Totals {
         packets,
-        records: versions.len() as u64,
+        records: records.len() as u64,
         callbacks: end.callbacks,
         drops: end.drops,
         tail,
     };
     write_counts(alloc, plan.output, &totals, out)?;
-    Ok(VersionList {
-        items: end.versions,
-    })
+    Ok(VersionList { items: versions })
 }

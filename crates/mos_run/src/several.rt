@@ -1,9 +1,9 @@
 //! The run of several workers.
 
-ghost use Rattle.std.specs.Prelude.{◌≡◌, ◌≤◌, ◌⊎◌, true, false, IfSome, IfErr, IsErrOf, IsTrue};
+ghost use Rattle.std.specs.Prelude.{◌≡◌, ◌≤◌, ◌⊎◌, true, false, IfSome, IfErr, IsErrOf};
 ghost use Rattle.mos_bytes.specs.Outside.{Writes};
 ghost use Rattle.mos_bytes.specs.Writes.{WriteAdds};
-ghost use Rattle.report_text.specs.Tidy.{tidy};
+ghost use Rattle.lane_core.specs.KeptEnd.{shown_as};
 ghost use Rattle.mos_run.specs.Apps.{meaning_of};
 ghost use Rattle.mos_run.specs.Lanes.{RunsWith};
 ghost use Rattle.mos_run.specs.Outcome.{closing, is_forward, output_of};
@@ -17,33 +17,31 @@ use crate::summary::write_summary;
 use crate::{Output, RunError, VersionList};
 use capture_maker::Maker;
 use control_script::Script;
-use lane_core::laws::records_are_tidy;
+use lane_core::RecordUnderWay;
 use mos_bytes::{Sink, Source};
 use native_filters::NativeBook;
 use pcap_source::Capture;
-use report_text::{Record, Totals};
+use report_text::Totals;
 use shared_text::write_report_by;
 use std::alloc::Global;
 use std::sync::Wait;
 use std::thread::Threads;
 use words::Settings;
-use worker_laws::packets::packets_of_a_capture_rise;
 use worker_laws::runs::a_run_has_its_versions;
-use worker_pool::{Gate, Job, forward_lanes, run_lanes};
+use worker_pool::{Gate, Job, forward_lanes, run_lanes_kept};
 
 // Writes what is written at the end. As many threads as there were workers share the making of a report's text.
 fn write_end_by<R: Threads + Sync, G, O: Sink>(
     crew: &Crew<'_, R, G>,
     alloc: Global,
     plan: &Plan<'_>,
-    records: &[Record],
+    records: &[RecordUnderWay],
     totals: &Totals,
     out: &mut O,
 ) -> Result<(), RunError>
     requires some { 1 ≤ plan.now.workers }
-    requires tidy { plan.now.output ≡ Output.Report → IsTrue (tidy records.now) }
     ensures text { WriteAdds (O.taken out.old) (O.taken out.new) result
-        (closing plan.now.output records.now totals.now) }
+        (closing plan.now.output (shown_as (meaning_of plan.now.app) records.now) totals.now) }
     ensures silent { is_forward plan.now.output ≡ true → out.new ≡ out.old }
     ensures only { IfErr result
         (λ e. ((e ≡ RunError.WriteFault) × (is_forward plan.now.output ≡ false)) ⊎ (e ≡ RunError.NoMemory)) }
@@ -51,7 +49,15 @@ fn write_end_by<R: Threads + Sync, G, O: Sink>(
 {
     match plan.output {
         Output::Report => {
-            write_report_by(crew.rt, alloc, plan.workers, out, records, totals)?;
+            write_report_by(
+                crew.rt,
+                alloc,
+                plan.workers,
+                &Chosen(plan.app),
+                out,
+                records,
+                totals,
+            )?;
             Ok(())
         }
         Output::Forward => Ok(()),
@@ -79,8 +85,6 @@ fn report_on<
         source.old source.new out.old out.new result }
 {
     a_run_has_its_versions();
-    packets_of_a_capture_rise();
-    records_are_tidy();
     what_one_worker_has_is_allowed();
     let mut capture = Capture::open(source)?;
     let job = Job {
@@ -88,7 +92,7 @@ fn report_on<
         script: plan.script,
         workers: plan.workers,
     };
-    let end = run_lanes(
+    let end = run_lanes_kept(
         crew.rt,
         alloc,
         &job,

@@ -1,4 +1,3 @@
-pub mod Rendering
 pub mod Pieces
 pub mod Each
 pub mod HexDigits

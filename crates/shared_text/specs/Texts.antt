@@ -1,10 +1,13 @@
 -- The text of records that is made in parts.
-use Rattle.std.specs.Prelude.{◌≡◌, ℕ, ◌<◌, List, String, length, slice_index_or, Result, IfOk, string_bytes}
+use Rattle.std.specs.Prelude.{◌≡◌, ℕ, ◌<◌, List, length, slice_index_or, Result, IfOk}
+use Rattle.std.specs.declared.vec.Vec.{Vec}
 use Rattle.std.specs.Fork.{slice_chunk}
-use Rattle.report_text.specs.declared.record.Record.{Record}
+use Rattle.app_api.specs.App.{Meaning}
+use Rattle.lane_core.specs.declared.under_way.RecordUnderWay.{RecordUnderWay}
+use Rattle.lane_core.specs.KeptEnd.{shown_as}
 use Rattle.report_text.specs.Report.{records_text}
 
 -- each text is that of so many records, in order, where memory wasn't refused for it
-abbrev pub AreTexts : {A E : Type 0} → ℕ → List Record → List (Result (String A) E) → Type 0
-AreTexts size records texts = (n : ℕ) (d : _) → n < length texts
-    → IfOk (slice_index_or texts n d) (λ text. string_bytes text ≡ records_text (slice_chunk records size n))
+abbrev pub AreTexts : {Z E : Type 0} → Meaning → ℕ → List RecordUnderWay → List (Result (Vec ℕ Z) E) → Type 0
+AreTexts app size records texts = (n : ℕ) (d : _) → n < length texts
+    → IfOk (slice_index_or texts n d) (λ text. text.items ≡ records_text (shown_as app (slice_chunk records size n)))

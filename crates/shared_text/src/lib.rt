@@ -3,5 +3,6 @@
 
 mod report;
 mod round;
+mod text;
 
 pub use report::write_report_by;

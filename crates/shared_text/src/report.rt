@@ -1,14 +1,16 @@
 //! The whole report.
 
-ghost use Rattle.std.specs.Prelude.{◌≡◌, ◌<◌, ◌≤◌, IsTrue, IsErrOf};
+ghost use Rattle.std.specs.Prelude.{◌≡◌, ◌<◌, ◌≤◌, IsErrOf};
 ghost use Rattle.mos_bytes.specs.Causes.{HasCauseOf};
+ghost use Rattle.lane_core.specs.KeptEnd.{shown_as};
 ghost use Rattle.report_text.specs.Report.{report_text};
-ghost use Rattle.report_text.specs.Tidy.{tidy};
 ghost use Rattle.report_text.specs.Written.{Adds};
 
 use crate::round::write_round;
+use app_api::App;
+use lane_core::RecordUnderWay;
 use mos_bytes::Sink;
-use report_text::{Record, TextError, Totals, write_totals};
+use report_text::{TextError, Totals, write_totals};
 use std::alloc::Global;
 use std::thread::Threads;
 
@@ -24,22 +26,24 @@ fn share_of(left: usize, threads: usize) -> usize
     left.div_ceil(threads).min(SHARE)
 }
 
-/// Writes a report as `report_text::write_report` does, each line by one call. Its text is made by up to `threads` threads at a time,
-/// each of which has up to 1,024 records: what it takes beside the records is the text of so many for each thread.
+/// Writes the report of records as lanes keep them, as `report_text::write_report` does of the records for which they stand, each
+/// line by one call. Its text is made by up to `threads` threads at a time, each of which has up to 1,024 records: what it takes
+/// beside the records is the text of so many for each thread.
 ///
-/// It asks at least one thread, and records that a report may have. Where no thread can be started, this one makes the text. At an
-/// `Err` the sink holds a front of the report.
-pub fn write_report_by<R: Threads + Sync, O: Sink>(
+/// It asks at least one thread. Where no thread can be started, this one makes the text. At an `Err` the sink holds a front of
+/// the report.
+pub fn write_report_by<R: Threads + Sync, A: App + Sync, O: Sink>(
     rt: &R,
     alloc: Global,
     threads: usize,
+    app: &A,
     out: &mut O,
-    records: &[Record],
+    records: &[RecordUnderWay],
     totals: &Totals,
 ) -> Result<(), TextError>
     requires threads { 0 < threads }
-    requires tidy { IsTrue (tidy records.now) }
-    ensures text { Adds O.Sink out.old out.new result (report_text records.now totals.now) }
+    ensures text { Adds O.Sink out.old out.new result
+        (report_text (shown_as (A.meaning app.now) records.now) totals.now) }
     ensures cause { HasCauseOf (O.faults out.old) (O.faults out.new) (IsErrOf result TextError.WriteFault) }
     ensures lasts { O.lasting out.new ≡ O.lasting out.old }
 {
@@ -47,7 +51,7 @@ pub fn write_report_by<R: Threads + Sync, O: Sink>(
     while !left.is_empty() {
         let share = share_of(left.len(), threads);
         let (round, behind) = left.split_at(share.saturating_mul(threads).min(left.len()));
-        write_round(rt, alloc, out, round, share)?;
+        write_round(rt, alloc, app, out, round, share)?;
         left = behind;
     }
     write_totals(alloc, out, totals)

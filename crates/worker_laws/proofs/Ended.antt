@@ -9,7 +9,9 @@ use Rattle.flow_table.specs.Key.{EndpointPair}
 use Rattle.app_api.specs.App.{Meaning}
 use Rattle.report_text.specs.declared.record.Record.{Record}
 use Rattle.forest_versions.specs.declared.command.Command.{Command}
-use Rattle.lane_core.specs.declared.end.LaneEnd.{LaneEnd}
+use Rattle.lane_core.specs.declared.end.KeptEnd.{KeptEnd}
+use Rattle.lane_core.specs.KeptEnd.{shown_as}
+use Rattle.connection_core.specs.History.{weight_of}
 use Rattle.lane_core.specs.Sight.{Moment, Arrival}
 use Rattle.lane_core.specs.Records.{RecordSoFar, records_from, ended_at}
 use Rattle.lane_core.specs.Run.{LaneEvent, control_of, lane_run, ended_run}
@@ -20,7 +22,7 @@ use Rattle.worker_laws.specs.Greatest.{greatest}
 use Rattle.worker_laws.specs.Lanes.{lane_of, part}
 use Rattle.worker_laws.specs.Counted.{total as total_by, total_of_lanes}
 use Rattle.worker_laws.specs.Rising.{Rises}
-use Rattle.worker_laws.specs.Merge.{list_at, AreOfLanes, IsMerge, lane_at}
+use Rattle.worker_laws.specs.Merge.{list_at, AreOfLanes, IsMerge, lane_at, shown_name}
 use Rattle.worker_laws.specs.Whole.{in_force, over_under, run_under}
 use Rattle.worker_laws.specs.Taken.{events_at, AreOneRun}
 use Rattle.worker_laws.specs.Ends.{AreEnds, IsJoined, sum_of}
@@ -32,14 +34,14 @@ use Rattle.worker_laws.proofs.Whole.{members, at_end, run_is, part_is}
 
 -- ---- sums
 
-sum_push : (count : LaneEnd → ℕ) (ends : List LaneEnd) (end : LaneEnd) → sum_of count (ends ++ end ∷ []) ≡ sum_of count ends + count end
+sum_push : (count : KeptEnd → ℕ) (ends : List KeptEnd) (end : KeptEnd) → sum_of count (ends ++ end ∷ []) ≡ sum_of count ends + count end
 sum_push count [] end = omega arith
 sum_push count (e ∷ ends) end = let rest = sum_push count ends end in omega arith
 
-pub sum_more : (count : LaneEnd → ℕ) (ends : List LaneEnd) (n : ℕ) (d : LaneEnd) → n < length ends → sum_of count (take (n + 1) ends) ≡ sum_of count (take n ends) + count (get_or ends n d)
+pub sum_more : (count : KeptEnd → ℕ) (ends : List KeptEnd) (n : ℕ) (d : KeptEnd) → n < length ends → sum_of count (take (n + 1) ends) ≡ sum_of count (take n ends) + count (get_or ends n d)
 sum_more count ends n d lt = ap (sum_of count) (take_more ends n d lt) ∙ sum_push count (take n ends) (get_or ends n d)
 
-pub sum_none : (count : LaneEnd → ℕ) → sum_of count [] ≡ 0
+pub sum_none : (count : KeptEnd → ℕ) → sum_of count [] ≡ 0
 sum_none count = refl
 
 total_shown : (shows : Members → RecordSoFar) (of : RecordSoFar → ℕ) (ms : List Members) → total of (map shows ms) ≡ total_by (λ m. of (shows m)) ms
@@ -72,7 +74,7 @@ no_end app last = ap (map (ended_at app (control_of app []) last)) (no_run app)
 
 module _ (keep : Bool) (app : Meaning) (commands : List Command) (lane : EndpointPair → ℕ) (packets : List Arrival) (lanes : List (List LaneEvent)) (vs : List ℕ)
     (one : AreOneRun app commands lane packets lanes vs)
-    (numbered : Rises (map (λ a. a.number) packets)) (ends : List LaneEnd) (are : AreEnds keep app (greatest packets) lanes ends) where
+    (numbered : Rises (map (λ a. a.number) packets)) (ends : List KeptEnd) (are : AreEnds keep app (greatest packets) lanes ends) where
   abbrev run : List RecordSoFar
   run = run_under app commands vs packets
 
@@ -86,10 +88,10 @@ module _ (keep : Bool) (app : Meaning) (commands : List Command) (lane : Endpoin
   show m = shown keep app (history m)
 
   abbrev lists : List (List Record)
-  lists = map (λ end. end.records) ends
+  lists = map (λ end. shown_as app end.records) ends
 
-  abbrev none : LaneEnd
-  none = record { records = []; versions = []; callbacks = 0; drops = 0 }
+  abbrev none : KeptEnd
+  none = record { records = []; callbacks = 0; weight = 0; drops = 0 }
 
   -- what lane l came to
   abbrev end_at : ℕ → List RecordSoFar
@@ -103,17 +105,17 @@ module _ (keep : Bool) (app : Meaning) (commands : List Command) (lane : Endpoin
 
   list_is : (l : ℕ) → list_at lists l ≡ map (shown keep app) (end_at l)
   list_is l = ⊎_elim
-      (λ lt. get_or-map (λ (end : LaneEnd). end.records) ends l none [] lt ∙ (are.each l none lt).records_are)
-      (λ le. let long = length-map ends (λ (end : LaneEnd). end.records) in get_or_past lists l [] (omega arith) ∙ sym (ap (map (shown keep app)) (nothing_beyond l le)))
+      (λ lt. get_or-map (λ (end : KeptEnd). shown_as app end.records) ends l none [] lt ∙ (are.each l none lt).records_are)
+      (λ le. let long = length-map ends (λ (end : KeptEnd). shown_as app end.records) in get_or_past lists l [] (omega arith) ∙ sym (ap (map (shown keep app)) (nothing_beyond l le)))
       (cases_lt l (length ends))
 
   lists_are : (l : ℕ) → list_at lists l ≡ map show (part lane l firsts)
   lists_are l = list_is l ∙ ap (map (shown keep app)) (one.records l ∙ part_is app commands packets vs lane l) ∙ maps (shown keep app) history (part lane l firsts)
 
-  pub lists_of : AreOfLanes (lane_at lane packets) lists
+  pub lists_of : AreOfLanes shown_name (lane_at lane packets) lists
   lists_of = lists_of_lanes show show_name (over_under app commands) lane packets vs numbered lists lists_are
 
-  records_are : (merged : List Record) → IsMerge (lane_at lane packets) lists merged → merged ≡ map (shown keep app) run
+  records_are : (merged : List Record) → IsMerge shown_name (lane_at lane packets) lists merged → merged ≡ map (shown keep app) run
   records_are merged is =
       merged_is show show_name (over_under app commands) lane packets vs numbered lists lists_are merged is
       ∙ sym (ap (map (shown keep app)) (run_is app commands packets vs) ∙ maps (shown keep app) history firsts)
@@ -125,7 +127,7 @@ module _ (keep : Bool) (app : Meaning) (commands : List Command) (lane : Endpoin
       nothing_shown [] e = refl
       nothing_shown (m ∷ ms) e = absurd (cc)
 
-  module _ (of : RecordSoFar → ℕ) (count : LaneEnd → ℕ) (counts : (l : ℕ) → l < length ends → count (get_or ends l none) ≡ total of (end_at l)) where
+  module _ (of : RecordSoFar → ℕ) (count : KeptEnd → ℕ) (counts : (l : ℕ) → l < length ends → count (get_or ends l none) ≡ total of (end_at l)) where
     abbrev by_first : Members → ℕ
     by_first m = of (history m)
 
@@ -147,10 +149,11 @@ module _ (keep : Bool) (app : Meaning) (commands : List Command) (lane : Endpoin
         sym (ap (sum_of count) (take_all (length ends) ends (omega arith))) ∙ sym (first_lanes (length ends) (omega arith))
         ∙ lanes_add_up lane by_first (length ends) firsts all_below ∙ sym (total_shown history of firsts) ∙ sym (ap (total of) (run_is app commands packets vs))
 
-  pub is_joined : (merged : List Record) → IsMerge (lane_at lane packets) lists merged
-      → IsJoined keep app run merged (min (sum_of (λ end. end.callbacks) ends) (2 ^ 64 - 1)) (min (sum_of (λ end. end.drops) ends) (2 ^ 64 - 1))
+  pub is_joined : (merged : List Record) → IsMerge shown_name (lane_at lane packets) lists merged
+      → IsJoined keep app run merged (min (sum_of (λ end. end.callbacks) ends) (2 ^ 64 - 1)) (min (sum_of (λ end. end.weight) ends) (2 ^ 64 - 1)) (min (sum_of (λ end. end.drops) ends) (2 ^ 64 - 1))
   is_joined merged is = record {
     records_are = records_are merged is;
     callbacks_are = ap (λ n. min n (2 ^ 64 - 1)) (sum_is (λ r. length r.history.entries) (λ end. end.callbacks) (λ l lt. (are.each l none lt).callbacks_are));
+    weight_is = ap (λ n. min n (2 ^ 64 - 1)) (sum_is (λ r. weight_of r.history.entries) (λ end. end.weight) (λ l lt. (are.each l none lt).weight_is));
     drops_are = ap (λ n. min n (2 ^ 64 - 1)) (sum_is (λ r. length r.history.drops) (λ end. end.drops) (λ l lt. (are.each l none lt).drops_are));
   }

@@ -17,7 +17,6 @@ mod Taken
 mod Whole
 mod Ended
 mod Fitting
-mod Weighing
 mod Dealt
 mod Latest
 mod Answered

@@ -13,7 +13,7 @@ use Rattle.worker_laws.specs.Lanes.{lane_of, part}
 use Rattle.worker_laws.specs.Named.{named_by, named_from, named, records_under}
 use Rattle.worker_laws.specs.Rising.{Rises}
 use Rattle.worker_laws.specs.Allowed.{arrivals_of}
-use Rattle.worker_laws.specs.Merge.{list_at, names_in, AreOfLanes, IsMerge, lane_at}
+use Rattle.worker_laws.specs.Merge.{list_at, names_in, AreOfLanes, IsMerge, lane_at, shown_name}
 use Rattle.worker_laws.proofs.Parts.{same_parts}
 use Rattle.worker_laws.proofs.Rising.{All-without, All-unmap, holds_of_records, names_of, numbers_of, names_rise}
 
@@ -62,9 +62,9 @@ above_here n m ms true lt above = All-cons (λ k. n < k) (name_of m) (names_of m
 above_here n m ms false lt above = above
 
 module _ (shown : Members → Record) (same : (m : Members) → (shown m).name ≡ name_of m) where
-  shown_names : (ms : List Members) → names_in (map shown ms) ≡ names_of ms
+  shown_names : (ms : List Members) → names_in shown_name (map shown ms) ≡ names_of ms
   shown_names [] = refl
-  shown_names (m ∷ ms) = ap (λ n. n ∷ names_in (map shown ms)) (same m) ∙ ap (λ l. name_of m ∷ l) (shown_names ms)
+  shown_names (m ∷ ms) = ap (λ n. n ∷ names_in shown_name (map shown ms)) (same m) ∙ ap (λ l. name_of m ∷ l) (shown_names ms)
 
   shown_here : (m : Members) (b : Bool) (rs : List Record) (ms : List Members) → rs ≡ map shown ms → cond b (shown m ∷ rs) rs ≡ map shown (cond b (m ∷ ms) ms)
   shown_here m true rs ms e = ap (λ l. shown m ∷ l) e
@@ -107,7 +107,7 @@ module _ (shown : Members → Record) (same : (m : Members) → (shown m).name �
     rises_part [] rises = tt
     rises_part (m ∷ ms) rises = rises_here m (part lane l ms) (lane_of lane m.first.sight == l) (above_part (name_of m) ms rises.0) (rises_part ms rises.1)
 
-    part_rises : (ms : List Members) → Rises (names_of ms) → Rises (names_in (map shown (part lane l ms)))
+    part_rises : (ms : List Members) → Rises (names_of ms) → Rises (names_in shown_name (map shown (part lane l ms)))
     part_rises ms rises = subst Rises (sym (shown_names (part lane l ms))) (rises_part ms rises)
 
   module _ (endings : Endings) (lane : EndpointPair → ℕ) (packets : List Arrival) (vs : List ℕ) (numbered : Rises (map (λ a. a.number) packets))
@@ -121,13 +121,13 @@ module _ (shown : Members → Record) (same : (m : Members) → (shown m).name �
     rise : Rises (names_of all_records)
     rise = names_rise endings (named endings vs packets) (subst Rises (sym (named_numbers (named endings vs packets) ∙ ap (map (λ a. a.number)) (named_packets endings vs [] packets))) numbered)
 
-    pub lists_of_lanes : AreOfLanes (lane_at lane packets) lists
+    pub lists_of_lanes : AreOfLanes shown_name (lane_at lane packets) lists
     lists_of_lanes = record {
       own = λ l. subst (All (λ r. lane_at lane packets r.name ≡ l)) (sym (lists_are l)) (part_own lane (lane_at lane packets) l all_records known);
-      rise = λ l. subst (λ x. Rises (names_in x)) (sym (lists_are l)) (part_rises lane (lane_at lane packets) l all_records rise);
+      rise = λ l. subst (λ x. Rises (names_in shown_name x)) (sym (lists_are l)) (part_rises lane (lane_at lane packets) l all_records rise);
     }
 
-    pub merged_is : (merged : List Record) → IsMerge (lane_at lane packets) lists merged → merged ≡ map shown all_records
+    pub merged_is : (merged : List Record) → IsMerge shown_name (lane_at lane packets) lists merged → merged ≡ map shown all_records
     merged_is merged is =
         same_parts (λ r. r.name) (λ r. lane_at lane packets r.name) merged (map shown all_records) is.rises (subst Rises (sym (shown_names all_records)) rise)
         (λ l. is.parts l ∙ lists_are l ∙ sym (shown_part lane (lane_at lane packets) l all_records known))

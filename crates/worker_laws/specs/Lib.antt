@@ -14,7 +14,6 @@ pub mod Streamed
 pub mod Whole
 pub mod Taken
 pub mod Ends
-pub mod Weight
 pub mod Share
 pub mod Forwarded
 pub mod Forward

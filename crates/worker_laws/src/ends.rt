@@ -5,12 +5,13 @@ ghost use Rattle.flow_table.specs.Key.{EndpointPair};
 ghost use Rattle.app_api.specs.App.{Meaning};
 ghost use Rattle.report_text.specs.declared.record.Record.{Record};
 ghost use Rattle.forest_versions.specs.declared.command.Command.{Command};
-ghost use Rattle.lane_core.specs.declared.end.LaneEnd.{LaneEnd};
+ghost use Rattle.lane_core.specs.declared.end.KeptEnd.{KeptEnd};
+ghost use Rattle.lane_core.specs.KeptEnd.{shown_as};
 ghost use Rattle.lane_core.specs.Sight.{Arrival};
 ghost use Rattle.lane_core.specs.Run.{LaneEvent};
 ghost use Rattle.worker_laws.specs.Rising.{Rises};
 ghost use Rattle.worker_laws.specs.Greatest.{greatest};
-ghost use Rattle.worker_laws.specs.Merge.{lane_at, AreOfLanes, IsMerge};
+ghost use Rattle.worker_laws.specs.Merge.{lane_at, AreOfLanes, IsMerge, shown_name};
 ghost use Rattle.worker_laws.specs.Whole.{run_under};
 ghost use Rattle.worker_laws.specs.Taken.{AreOneRun};
 ghost use Rattle.worker_laws.specs.Ends.{AreEnds, IsJoined, sum_of};
@@ -20,15 +21,16 @@ ghost use Rattle.worker_laws.specs.Ends.{AreEnds, IsJoined, sum_of};
 /// nothing: who joins ends calls it for what it says.
 pub fn ends_of_lanes_are_one_end()
     ensures mergeable { (keep : Bool) (app : Meaning) (commands : List Command) (lane : EndpointPair → ℕ)
-        (packets : List Arrival) (lanes : List (List LaneEvent)) (vs : List ℕ) (ends : List LaneEnd)
+        (packets : List Arrival) (lanes : List (List LaneEvent)) (vs : List ℕ) (ends : List KeptEnd)
         → AreOneRun app commands lane packets lanes vs → Rises (map (λ a. a.number) packets)
         → AreEnds keep app (greatest packets) lanes ends
-        → AreOfLanes (lane_at lane packets) (map (λ end. end.records) ends) }
+        → AreOfLanes shown_name (lane_at lane packets) (map (λ end. shown_as app end.records) ends) }
     ensures joined { (keep : Bool) (app : Meaning) (commands : List Command) (lane : EndpointPair → ℕ)
-        (packets : List Arrival) (lanes : List (List LaneEvent)) (vs : List ℕ) (ends : List LaneEnd)
+        (packets : List Arrival) (lanes : List (List LaneEvent)) (vs : List ℕ) (ends : List KeptEnd)
         (merged : List Record) → AreOneRun app commands lane packets lanes vs
         → Rises (map (λ a. a.number) packets) → AreEnds keep app (greatest packets) lanes ends
-        → IsMerge (lane_at lane packets) (map (λ end. end.records) ends) merged
+        → IsMerge shown_name (lane_at lane packets) (map (λ end. shown_as app end.records) ends) merged
         → IsJoined keep app (run_under app commands vs packets) merged
-        (min (sum_of (λ end. end.callbacks) ends) (2 ^ 64 - 1)) (min (sum_of (λ end. end.drops) ends) (2 ^ 64 - 1)) }
+        (min (sum_of (λ end. end.callbacks) ends) (2 ^ 64 - 1)) (min (sum_of (λ end. end.weight) ends) (2 ^ 64 - 1))
+        (min (sum_of (λ end. end.drops) ends) (2 ^ 64 - 1)) }
 {}

@@ -11,7 +11,7 @@ ghost use Rattle.lane_core.specs.Sight.{Arrival, arrivals};
 ghost use Rattle.lane_core.specs.Records.{RecordSoFar, VersionedPacket, records, versioned, ended_at};
 ghost use Rattle.lane_core.specs.Run.{LaneEvent, commands_of, versioned_from};
 ghost use Rattle.lane_core.specs.Shown.{weight, callbacks_of, drops_of};
-ghost use Rattle.lane_core.specs.Lane.{IsHeavy, IsHeavyAtEnd, shown};
+ghost use Rattle.lane_core.specs.Lane.{IsHeavy, IsHeavyAtEnd};
 ghost use Rattle.worker_laws.specs.Rising.{Rises};
 ghost use Rattle.worker_laws.specs.Greatest.{greatest};
 ghost use Rattle.worker_laws.specs.Lanes.{share};
@@ -21,7 +21,6 @@ ghost use Rattle.worker_laws.specs.Histories.{judge_by};
 ghost use Rattle.worker_laws.specs.Whole.{in_force, over_under, packets_under, run_under, verdicts_from, verdicts_under, IsAllowedRun};
 ghost use Rattle.worker_laws.specs.Taken.{events_at, packets_at, verdicts_behind, HaveRun, HaveRunAll, AreOneRun, AreFrontsOfRun};
 ghost use Rattle.worker_laws.specs.Streamed.{AreNumbered};
-ghost use Rattle.worker_laws.specs.Weight.{weight_in};
 
 use lane_core::laws::{
     last_packet_is_added, later_commands_change_none, one_event_more, weight_never_falls,
@@ -141,9 +140,4 @@ pub fn counts_of_a_run_fit()
     ensures drops { (app : Meaning) (commands : List Command) (packets : List Arrival) (vs : List ℕ)
         → length packets < 2 ^ 64
         → min (drops_of (run_under app commands vs packets)) (2 ^ 64 - 1) ≡ drops_of (run_under app commands vs packets) }
-{}
-
-/// What a report shows of records weighs what they weigh.
-pub fn shown_records_weigh_the_same()
-    ensures weight { (app : Meaning) (run : List RecordSoFar) → weight_in (map (shown true app) run) ≡ weight run }
 {}

@@ -16,7 +16,7 @@ ghost use Rattle.worker_laws.specs.Judged.{judged, verdict_of};
 ghost use Rattle.worker_laws.specs.Rising.{Rises};
 ghost use Rattle.worker_laws.specs.Allowed.{arrivals_of};
 ghost use Rattle.worker_laws.specs.Runs.{judged_part, AreRuns};
-ghost use Rattle.worker_laws.specs.Merge.{list_at, names_in, AreOfLanes, IsMerge, lane_at};
+ghost use Rattle.worker_laws.specs.Merge.{list_at, names_in, AreOfLanes, IsMerge, lane_at, shown_name};
 ghost use Rattle.worker_laws.specs.Histories.{judge_by, over_by, with_history};
 
 /// The records of a lane are those by their packets, each with the history of these; and what becomes of a packet after
@@ -81,7 +81,8 @@ pub fn parts_make_the_whole()
     ensures records { (lane : EndpointPair → ℕ) (ms ns : List Members) → Rises (map name_of ms)
         → Rises (map name_of ns)
         → ((l : ℕ) → part lane l ms ≡ part lane l ns) → ms ≡ ns }
-    ensures shown { (of : ℕ → ℕ) (rs ss : List Record) → Rises (names_in rs) → Rises (names_in ss)
+    ensures shown { (of : ℕ → ℕ) (rs ss : List Record) → Rises (names_in shown_name rs)
+        → Rises (names_in shown_name ss)
         → ((l : ℕ) → filter (λ r. of r.name == l) rs ≡ filter (λ r. of r.name == l) ss) → rs ≡ ss }
 {}
 
@@ -92,12 +93,14 @@ pub fn merged_lanes_are_one_run()
         (parts : ℕ → List VersionedPacket)
         (vs : List ℕ) (shown : Members → Record) (lists : List (List Record)) → AreRuns endings lane packets parts vs
         → Rises (map (λ a. a.number) packets) → ((m : Members) → (shown m).name ≡ name_of m)
-        → ((l : ℕ) → list_at lists l ≡ map shown (records endings (parts l))) → AreOfLanes (lane_at lane packets) lists }
+        → ((l : ℕ) → list_at lists l ≡ map shown (records endings (parts l)))
+        → AreOfLanes shown_name (lane_at lane packets) lists }
     ensures merged { (endings : Endings) (lane : EndpointPair → ℕ) (packets : List Arrival)
         (parts : ℕ → List VersionedPacket)
         (vs : List ℕ) (shown : Members → Record) (lists : List (List Record)) (merged : List Record)
         → AreRuns endings lane packets parts vs
         → Rises (map (λ a. a.number) packets) → ((m : Members) → (shown m).name ≡ name_of m)
-        → ((l : ℕ) → list_at lists l ≡ map shown (records endings (parts l))) → IsMerge (lane_at lane packets) lists merged
+        → ((l : ℕ) → list_at lists l ≡ map shown (records endings (parts l)))
+        → IsMerge shown_name (lane_at lane packets) lists merged
         → merged ≡ map shown (records_under endings vs packets) }
 {}

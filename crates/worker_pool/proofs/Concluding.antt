@@ -1,20 +1,22 @@
 -- The end of a run, from the ends of its lanes.
 use Rattle.std.proofs.Common.{◌≡◌, ◌≤◌, ◌<◌, ℕ, suc, ◌+◌, Bool, true, false, Option, List, [], ◌∷◌, length, get_or, map, refl, sym, ap, subst, ◌∙◌, ◌⊎◌, ⊎_elim, arith}
-use Rattle.std.specs.Prelude.{◌^◌, ◌-◌, min, Result, Ok, Err, IsErrOf, IfOk}
+use Rattle.std.specs.Prelude.{◌^◌, ◌-◌, min, nat_lt, Result, Ok, Err, IsErrOf, IfOk}
 use Rattle.std.proofs.lemmas.Bool.{ltb-true, ltb-false}
 use Rattle.std.proofs.lemmas.List.{length-map}
 use Rattle.app_api.specs.App.{Meaning}
 use Rattle.pcap_source.specs.Captured.{Captured}
 use Rattle.pcap_source.specs.Capture.{tail}
 use Rattle.control_script.specs.declared.stamped.Stamped.{Stamped}
-use Rattle.report_text.specs.declared.record.Record.{Record}
-use Rattle.lane_core.specs.declared.end.LaneEnd.{LaneEnd}
+use Rattle.lane_core.specs.declared.end.KeptEnd.{KeptEnd}
+use Rattle.lane_core.specs.declared.under_way.RecordUnderWay.{RecordUnderWay}
 use Rattle.lane_core.specs.declared.recorder.Recorder.{Ghosts}
 use Rattle.lane_core.specs.Sight.{Moment, arrivals}
 use Rattle.lane_core.specs.Records.{RecordSoFar}
 use Rattle.lane_core.specs.Run.{LaneEvent, ended_run}
 use Rattle.lane_core.specs.Shown.{record_of, weight, callbacks_of, drops_of}
-use Rattle.lane_core.specs.Lane.{IsEnd, IsHeavy, IsHeavyAtEnd, shown}
+use Rattle.lane_core.specs.End.{ended}
+use Rattle.lane_core.specs.KeptEnd.{IsKeptEnd, shown_as}
+use Rattle.lane_core.specs.Lane.{IsHeavy, IsHeavyAtEnd}
 use Rattle.control_script.specs.Order.{commands_of}
 use Rattle.control_script.specs.Versions.{floor, ceil}
 use Rattle.lane_ends.specs.declared.ends.Joined.{Joined}
@@ -24,10 +26,9 @@ use Rattle.worker_laws.specs.Lanes.{share}
 use Rattle.worker_laws.specs.Ends.{AreEnds, IsJoined}
 use Rattle.worker_laws.specs.Taken.{events_at, packets_at, HaveRunAll, AreOneRun}
 use Rattle.worker_laws.specs.Whole.{IsAllowedRun, run_under}
-use Rattle.worker_laws.specs.Weight.{weight_in, weighs_too_much}
 use Rattle.worker_pool.specs.declared.worker.Worker.{Worker}
-use Rattle.worker_pool.specs.declared.job.LanesEnd.{LanesEnd}
-use Rattle.worker_pool.specs.Run.{MayHave, run_of, IsWhole, IsTooHeavy, EndsOver}
+use Rattle.worker_pool.specs.declared.job.KeptLanes.{KeptLanes}
+use Rattle.worker_pool.specs.Run.{MayHave, run_of, as_shown, shown_end, IsWhole, IsTooHeavy, EndsOver}
 use Rattle.worker_pool.specs.declared.job.PoolError.{PoolError}
 use Rattle.worker_pool.specs.declared.job.PoolError.TheVariants.{TooLong, TooMany, ReadFault, WriteFault, Heavy, NoMemory}
 use Rattle.worker_pool.specs.Ending.{by_key, CameTo, AreEnded, IsCause, IsJoinedRun, Concludes}
@@ -40,7 +41,7 @@ any_of (x ∷ xs) k lt = x
 
 module _ {L : Type 0} (g : Ghosts L) (keep : Bool) (app : Meaning) (script : List Stamped) (frames : List Captured) (workers : List (Worker L)) (lanes : List (List LaneEvent))
     (came : CameTo g keep app script frames workers lanes)
-    (last : Option Moment) (ends : List LaneEnd) (ended : AreEnded g last workers ends) where
+    (last : Option Moment) (ends : List KeptEnd) (ended : AreEnded g last workers ends) where
   -- each is the end of the lane's run
   ends_at : AreEnds keep app last lanes ends
   ends_at = record {
@@ -50,8 +51,8 @@ module _ {L : Type 0} (g : Ghosts L) (keep : Bool) (app : Meaning) (script : Lis
         let w = any_of workers k below in
         let end = get_or ends k d in
         let ran = (ended.each k w d below).end_is (events_at lanes k) (came.stands k w below) in
-        subst (λ b. IsEnd b app (ended_run app (events_at lanes k) last) end.records end.versions end.callbacks end.drops) (came.keeps k w below)
-        (subst (λ (m : Meaning). IsEnd (g.keeps (get_or workers k w).lane) m (ended_run m (events_at lanes k) last) end.records end.versions end.callbacks end.drops) (came.app_is k w below) ran);
+        subst (λ b. IsKeptEnd b app (ended_run app (events_at lanes k) last) end) (came.keeps k w below)
+        (subst (λ (m : Meaning). IsKeptEnd (g.keeps (get_or workers k w).lane) m (ended_run m (events_at lanes k) last) end) (came.app_is k w below) ran);
   }
 
   pub lanes_end : last ≡ greatest (arrivals 0 frames) → AreEnds keep app (greatest (arrivals 0 frames)) lanes ends
@@ -70,7 +71,7 @@ module _ {L : Type 0} (g : Ghosts L) (keep : Bool) (app : Meaning) (script : Lis
       → ((vs : List ℕ) × IsAllowedRun app (commands_of script) (floor script) (ceil script) (by_key (length workers)) (arrivals 0 frames) vs
       × AreOneRun app (commands_of script) (by_key (length workers)) (arrivals 0 frames) lanes vs)
       → ((vs : List ℕ) → AreOneRun app (commands_of script) (by_key (length workers)) (arrivals 0 frames) lanes vs
-      → IsJoined keep app (run_of app script vs frames) joined.records joined.callbacks joined.drops)
+      → IsJoined keep app (run_of app script vs frames) (shown_as app joined.records) joined.callbacks joined.weight joined.drops)
       → IsJoinedRun app script n frames keep (Ok joined)
   joined_run n same joined run joins = (run.0, subst (λ m. MayHave app script m frames run.0) (sym same) run.1, joins run.0 run.2)
 
@@ -119,59 +120,62 @@ pub length-arrivals : (n : ℕ) (frames : List Captured) → length (arrivals n 
 length-arrivals n [] = refl
 length-arrivals n (frame ∷ frames) = ap suc (length-arrivals (n + 1) frames)
 
-module _ (app : Meaning) (script : List Stamped) (lanes : ℕ) (frames : List Captured) (vs : List ℕ) (allowed : MayHave app script lanes frames vs) (records : List Record) (callbacks drops : ℕ) where
+-- the version of a record is shown as it is
+pub versions_stay : (app : Meaning) (kept : List RecordUnderWay) → map (λ r. r.version) (shown_as app kept) ≡ map (λ r. r.version) kept
+versions_stay app [] = refl
+versions_stay app (r ∷ kept) = ap (λ l. r.version ∷ l) (versions_stay app kept)
+
+module _ (app : Meaning) (script : List Stamped) (lanes : ℕ) (frames : List Captured) (vs : List ℕ) (allowed : MayHave app script lanes frames vs)
+    (kept : List RecordUnderWay) (callbacks weighs drops : ℕ) (joined : IsJoined true app (run_of app script vs frames) (shown_as app kept) callbacks weighs drops) where
   abbrev run : List RecordSoFar
   run = run_of app script vs frames
 
-  -- `seen` are the records as the program looks at them
-  module _ (joined : IsJoined true app run records callbacks drops) (weighs : weight_in (map (shown true app) run) ≡ weight run) (seen : List Record) (same : seen ≡ records) where
-    weight_is : weight_in seen ≡ weight run
-    weight_is = ap weight_in (same ∙ joined.records_are) ∙ weighs
+  pub too_heavy : nat_lt 134217728 weighs ≡ true → IsTooHeavy app script lanes frames
+  too_heavy is = record {
+    versions = vs;
+    allowed = allowed;
+    heavy = let lt = ltb-true 134217728 weighs is in let e = joined.weight_is in omega arith;
+  }
 
-    pub too_heavy : weighs_too_much seen ≡ true → IsTooHeavy app script lanes frames
-    too_heavy is = record {
-      versions = vs;
-      allowed = allowed;
-      heavy = let lt = ltb-true 134217728 (weight_in seen) is in let e = weight_is in omega arith;
+  light : nat_lt 134217728 weighs ≡ false → weight run ≤ 134217728
+  light is = let le = ltb-false 134217728 weighs is in let e = joined.weight_is in omega arith
+
+  records_shown : shown_as app kept ≡ map (record_of app) run
+  records_shown = joined.records_are
+
+  versions_shown : (rs : List RecordSoFar) → map (λ r. r.version) (map (record_of app) rs) ≡ map (λ r. r.version) rs
+  versions_shown [] = refl
+  versions_shown (r ∷ rs) = ap (λ l. r.version ∷ l) (versions_shown rs)
+
+  -- `seen` are the records as the program looks at them
+  module _ (seen : List RecordUnderWay) (same : seen ≡ kept) (named : map (λ r. r.version) run ≡ vs)
+      (callbacks_fit : weight run ≤ 134217728 → min (callbacks_of run) (2 ^ 64 - 1) ≡ callbacks_of run)
+      (drops_fit : min (drops_of run) (2 ^ 64 - 1) ≡ drops_of run) (packets bytes : ℕ) (of_frames : length frames ≡ packets) (light_is : nat_lt 134217728 weighs ≡ false) where
+    abbrev pub end_of : List ℕ → KeptLanes
+    end_of versions = record {
+      records = kept;
+      versions = versions;
+      totals = record { packets = packets; records = length seen; callbacks = callbacks; drops = drops; tail = bytes };
     }
 
-    light : weighs_too_much seen ≡ false → weight run ≤ 134217728
-    light is = let le = ltb-false 134217728 (weight_in seen) is in let e = weight_is in omega arith
+    versions_are : map (λ r. r.version) seen ≡ vs
+    versions_are = ap (map (λ r. r.version)) same ∙ sym (versions_stay app kept) ∙ ap (map (λ r. r.version)) records_shown ∙ versions_shown run ∙ named
 
-    pub records_shown : records ≡ map (record_of app) run
-    records_shown = joined.records_are
+    under_vs : IsWhole app script lanes frames bytes (as_shown app (end_of vs))
+    under_vs = record {
+      allowed = allowed;
+      light = light light_is;
+      records_are = records_shown;
+      totals_are =
+          let a : packets ≡ length frames = sym of_frames in
+          let b : length seen ≡ length run = ap length same ∙ sym (length-map kept (ended app)) ∙ ap length records_shown ∙ length-map run (record_of app) in
+          let c : callbacks ≡ callbacks_of run = joined.callbacks_are ∙ callbacks_fit (light light_is) in
+          let d : drops ≡ drops_of run = joined.drops_are ∙ drops_fit in
+          cc;
+    }
 
-    versions_shown : (rs : List RecordSoFar) → map (λ r. r.version) (map (record_of app) rs) ≡ map (λ r. r.version) rs
-    versions_shown [] = refl
-    versions_shown (r ∷ rs) = ap (λ l. r.version ∷ l) (versions_shown rs)
-
-    module _ (named : map (λ r. r.version) run ≡ vs) (callbacks_fit : weight run ≤ 134217728 → min (callbacks_of run) (2 ^ 64 - 1) ≡ callbacks_of run)
-        (drops_fit : min (drops_of run) (2 ^ 64 - 1) ≡ drops_of run) (packets bytes : ℕ) (of_frames : length frames ≡ packets) (light_is : weighs_too_much seen ≡ false) where
-      abbrev pub end_of : List ℕ → LanesEnd
-      end_of versions = record {
-        records = records;
-        versions = versions;
-        totals = record { packets = packets; records = length seen; callbacks = callbacks; drops = drops; tail = bytes };
-      }
-
-      versions_are : map (λ r. r.version) seen ≡ vs
-      versions_are = ap (map (λ r. r.version)) (same ∙ records_shown) ∙ versions_shown run ∙ named
-
-      under_vs : IsWhole app script lanes frames bytes (end_of vs)
-      under_vs = record {
-        allowed = allowed;
-        light = light light_is;
-        records_are = records_shown;
-        totals_are =
-            let a : packets ≡ length frames = sym of_frames in
-            let b : length seen ≡ length run = ap length (same ∙ records_shown) ∙ length-map run (record_of app) in
-            let c : callbacks ≡ callbacks_of run = joined.callbacks_are ∙ callbacks_fit (light light_is) in
-            let d : drops ≡ drops_of run = joined.drops_are ∙ drops_fit in
-            cc;
-      }
-
-      pub is_whole : (versions : List ℕ) → versions ≡ map (λ r. r.version) seen → IsWhole app script lanes frames bytes (end_of versions)
-      is_whole versions e = subst (λ v. IsWhole app script lanes frames bytes (end_of v)) (sym (e ∙ versions_are)) under_vs
+    pub is_whole : (versions : List ℕ) → versions ≡ map (λ r. r.version) seen → IsWhole app script lanes frames bytes (as_shown app (end_of versions))
+    is_whole versions e = subst (λ v. IsWhole app script lanes frames bytes (as_shown app (end_of v))) (sym (e ∙ versions_are)) under_vs
 
 -- ---- how a run ends over a capture
 
@@ -185,7 +189,7 @@ module _ (app : Meaning) (script : List Stamped) (lanes : ℕ) (frames : List Ca
   not_joined (TooLong offset) is = is
   not_joined (TooMany offset) is = is
 
-  pub concluded : (r : Result LanesEnd PoolError) → Concludes app script lanes frames bytes r → EndsOver app script lanes (record { frames = frames; ending = tail bytes }) r
+  pub concluded : (r : Result KeptLanes PoolError) → Concludes app script lanes frames bytes r → EndsOver app script lanes (record { frames = frames; ending = tail bytes }) (shown_end app r)
   concluded (Ok end) is = (bytes, refl, is)
   concluded (Err NoMemory) is = is
   concluded (Err Heavy) is = (bytes, refl, is)
@@ -195,7 +199,7 @@ module _ (app : Meaning) (script : List Stamped) (lanes : ℕ) (frames : List Ca
   concluded (Err (TooMany offset)) is = absurd is
 
   -- a run that read all of it ends with no fault of the source
-  pub no_fault : (r : Result LanesEnd PoolError) → Concludes app script lanes frames bytes r → IsErrOf r ReadFault → ⊥
+  pub no_fault : (r : Result KeptLanes PoolError) → Concludes app script lanes frames bytes r → IsErrOf r ReadFault → ⊥
   no_fault (Ok end) is fault = cc
   no_fault (Err NoMemory) is fault = cc
   no_fault (Err Heavy) is fault = cc
@@ -205,7 +209,7 @@ module _ (app : Meaning) (script : List Stamped) (lanes : ℕ) (frames : List Ca
   no_fault (Err (TooMany offset)) is fault = is
 
   -- nor of a sink
-  pub no_write : (r : Result LanesEnd PoolError) → Concludes app script lanes frames bytes r → IsErrOf r WriteFault → ⊥
+  pub no_write : (r : Result KeptLanes PoolError) → Concludes app script lanes frames bytes r → IsErrOf r WriteFault → ⊥
   no_write (Ok end) is fault = cc
   no_write (Err NoMemory) is fault = cc
   no_write (Err Heavy) is fault = cc
@@ -215,7 +219,7 @@ module _ (app : Meaning) (script : List Stamped) (lanes : ℕ) (frames : List Ca
   no_write (Err (TooMany offset)) is fault = is
 
   -- a run that ends well is that of some frames
-  pub of_frames : (r : Result LanesEnd PoolError) → Concludes app script lanes frames bytes r
-      → IfOk r (λ end. (fs : List Captured) × (n : ℕ) × IsWhole app script lanes fs n end)
+  pub of_frames : (r : Result KeptLanes PoolError) → Concludes app script lanes frames bytes r
+      → IfOk r (λ end. (fs : List Captured) × (n : ℕ) × IsWhole app script lanes fs n (as_shown app end))
   of_frames (Ok end) is = (frames, bytes, is)
   of_frames (Err e) is = tt

@@ -20,8 +20,9 @@ use Rattle.lane_rings.specs.Ring.{taken, AreEnds, SameTx}
 use Rattle.worker_laws.specs.Share.{share}
 use Rattle.lane_rings.specs.Waiting.{Waiting, first_of}
 use Rattle.worker_laws.specs.Forward.{bytes_of_first}
-use Rattle.report_text.specs.declared.record.Record.{Record}
-use Rattle.lane_core.specs.declared.end.LaneEnd.{LaneEnd}
+use Rattle.lane_core.specs.declared.end.KeptEnd.{KeptEnd}
+use Rattle.lane_core.specs.declared.under_way.RecordUnderWay.{RecordUnderWay}
+use Rattle.lane_core.specs.KeptEnd.{shown_as}
 use Rattle.lane_core.specs.declared.recorder.Recorder.{Ghosts}
 use Rattle.lane_core.specs.Sight.{Moment, arrivals}
 use Rattle.lane_core.specs.Records.{RecordSoFar}
@@ -44,6 +45,7 @@ use Rattle.worker_pool.specs.Forward.{RefusedAs, ForwardsAll, ForwardsFront, For
 use Rattle.worker_pool.specs.Streamed.{AreLaneAnswers, Leaves, HasLeft, Streamed, StopsAs, lane_at, taken_from}
 use Rattle.worker_pool.specs.Drained.{AreAnswerEnds, Drains, AreBeside, AreDrained, OfferAll, sent_in, sent_from}
 use Rattle.worker_pool.specs.Explained.{AreGood, LeavesFront, LeavesAll}
+use Rattle.worker_pool.proofs.Concluding.{versions_stay}
 use Rattle.worker_pool.proofs.Fronts.{IsPrefix-trans}
 use Rattle.worker_pool.proofs.Rings.{SameRx-refl}
 use Rattle.worker_pool.proofs.Beside.{ends_after}
@@ -58,14 +60,14 @@ versions_shown : (keep : Bool) (app : Meaning) (run : List RecordSoFar) → map 
 versions_shown keep app [] = refl
 versions_shown keep app (r ∷ run) = ap (λ l. r.version ∷ l) (versions_shown keep app run)
 
-pub versions_joined : (keep : Bool) (app : Meaning) (run : List RecordSoFar) (vs versions : List ℕ) (records seen : List Record) (callbacks drops : ℕ) → IsJoined keep app run records callbacks drops
-    → map (λ r. r.version) run ≡ vs → seen ≡ records → versions ≡ map (λ r. r.version) seen → versions ≡ vs
-versions_joined keep app run vs versions records seen callbacks drops joined named same are =
-    are ∙ ap (map (λ r. r.version)) (same ∙ joined.records_are) ∙ versions_shown keep app run ∙ named
+pub versions_joined : (keep : Bool) (app : Meaning) (run : List RecordSoFar) (vs versions : List ℕ) (kept seen : List RecordUnderWay) (callbacks weighs drops : ℕ) → IsJoined keep app run (shown_as app kept) callbacks weighs drops
+    → map (λ r. r.version) run ≡ vs → seen ≡ kept → versions ≡ map (λ r. r.version) seen → versions ≡ vs
+versions_joined keep app run vs versions kept seen callbacks weighs drops joined named same are =
+    are ∙ ap (map (λ r. r.version)) same ∙ sym (versions_stay app kept) ∙ ap (map (λ r. r.version)) joined.records_are ∙ versions_shown keep app run ∙ named
 
 module _ {L : Type 0} (g : Ghosts L) (last : Option Moment) where
   -- lanes that ended have not failed
-  pub good_ended : (workers : List (Worker L)) (ends : List LaneEnd) → AreEnded g last workers ends → AreGood g workers
+  pub good_ended : (workers : List (Worker L)) (ends : List KeptEnd) → AreEnded g last workers ends → AreGood g workers
   good_ended workers ends ended k w lt =
       let among : k < length ends = (let e = ended.count in omega (arith, e, lt)) in
       (ended.each k w (any_of ends k among) lt).good

@@ -7,22 +7,23 @@ use Rattle.flow_table.specs.Lane.{lane_of_key}
 use Rattle.control_script.specs.declared.stamped.Stamped.{Stamped}
 use Rattle.control_script.specs.Order.{commands_of}
 use Rattle.control_script.specs.Versions.{floor, ceil}
-use Rattle.lane_core.specs.declared.end.LaneEnd.{LaneEnd}
+use Rattle.lane_core.specs.declared.end.KeptEnd.{KeptEnd}
 use Rattle.lane_core.specs.declared.errors.LaneError.TheVariants.{Heavy as TooHeavy}
 use Rattle.lane_core.specs.declared.recorder.Recorder.{Ghosts}
 use Rattle.lane_core.specs.Sight.{Moment, arrivals}
 use Rattle.lane_core.specs.Run.{LaneEvent, ended_run}
-use Rattle.lane_core.specs.Lane.{IsEnd, IsHeavy, IsHeavyAtEnd}
+use Rattle.lane_core.specs.KeptEnd.{IsKeptEnd, shown_as}
+use Rattle.lane_core.specs.Lane.{IsHeavy, IsHeavyAtEnd}
 use Rattle.lane_ends.specs.declared.ends.Joined.{Joined}
 use Rattle.worker_laws.specs.Allowed.{arrivals_of}
 use Rattle.worker_laws.specs.Ends.{IsJoined}
 use Rattle.worker_laws.specs.Lanes.{share}
 use Rattle.worker_laws.specs.Taken.{packets_at, events_at, HaveRun}
 use Rattle.worker_pool.specs.declared.worker.Worker.{Worker}
-use Rattle.worker_pool.specs.declared.job.LanesEnd.{LanesEnd}
+use Rattle.worker_pool.specs.declared.job.KeptLanes.{KeptLanes}
 use Rattle.worker_pool.specs.declared.job.PoolError.{PoolError}
 use Rattle.worker_pool.specs.declared.job.PoolError.TheVariants.{TooLong, TooMany, ReadFault, WriteFault, Heavy, NoMemory}
-use Rattle.worker_pool.specs.Run.{MayHave, run_of, IsWhole, IsTooHeavy}
+use Rattle.worker_pool.specs.Run.{MayHave, run_of, as_shown, IsWhole, IsTooHeavy}
 
 -- which of so many lanes has a key
 abbrev pub by_key : ℕ → EndpointPair → ℕ
@@ -44,11 +45,10 @@ module _ {L : Type 0} (g : Ghosts L) (keep : Bool) (app : Meaning) where
 -- `last` is the greatest moment of all packets
 module _ {L : Type 0} (g : Ghosts L) (last : Option Moment) where
   -- how a worker's lane ends: it hasn't failed, and its end is that of its run
-  pub record HasEnded (worker : Worker L) (end : LaneEnd) : Type 0 where
+  pub record HasEnded (worker : Worker L) (end : KeptEnd) : Type 0 where
     pub good : g.failed worker.lane ≡ None
     pub end_is : (events : List LaneEvent) → g.stands worker.lane events
-        → IsEnd (g.keeps worker.lane) (g.app worker.lane) (ended_run (g.app worker.lane) events last)
-        end.records end.versions end.callbacks end.drops
+        → IsKeptEnd (g.keeps worker.lane) (g.app worker.lane) (ended_run (g.app worker.lane) events last) end
 
   -- a worker's lane that hasn't failed keeps entries, and its records weigh too much at the end
   pub record EndsHeavy (worker : Worker L) : Type 0 where
@@ -66,25 +66,25 @@ module _ {L : Type 0} (g : Ghosts L) (last : Option Moment) where
   IsCause worker (TooMany offset) = ⊥
 
   -- what a worker's lane comes to at the end
-  abbrev pub ComesTo : Worker L → Result LaneEnd PoolError → Type 0
+  abbrev pub ComesTo : Worker L → Result KeptEnd PoolError → Type 0
   ComesTo worker (Ok end) = HasEnded worker end
   ComesTo worker (Err e) = IsCause worker e
 
   -- what each worker's lane comes to, in order
-  pub record HaveCome (workers : List (Worker L)) (came : List (Result LaneEnd PoolError)) : Type 0 where
+  pub record HaveCome (workers : List (Worker L)) (came : List (Result KeptEnd PoolError)) : Type 0 where
     pub count : length workers ≡ length came
-    pub each : (k : ℕ) (w : Worker L) (d : Result LaneEnd PoolError) → k < length workers → ComesTo (get_or workers k w) (get_or came k d)
+    pub each : (k : ℕ) (w : Worker L) (d : Result KeptEnd PoolError) → k < length workers → ComesTo (get_or workers k w) (get_or came k d)
 
   -- how the lanes of workers end
-  pub record AreEnded (workers : List (Worker L)) (ends : List LaneEnd) : Type 0 where
+  pub record AreEnded (workers : List (Worker L)) (ends : List KeptEnd) : Type 0 where
     pub count : length workers ≡ length ends
-    pub each : (k : ℕ) (w : Worker L) (d : LaneEnd) → k < length workers → HasEnded (get_or workers k w) (get_or ends k d)
+    pub each : (k : ℕ) (w : Worker L) (d : KeptEnd) → k < length workers → HasEnded (get_or workers k w) (get_or ends k d)
 
 module _ (app : Meaning) (script : List Stamped) (lanes : ℕ) (frames : List Captured) where
   -- The ends of lanes that keep entries, or don't, are those of one run over these frames, joined; or they keep entries, and such a run
   -- weighs too much.
   abbrev pub IsJoinedRun : Bool → Result Joined PoolError → Type 0
-  IsJoinedRun keep (Ok joined) = (vs : List ℕ) × MayHave app script lanes frames vs × IsJoined keep app (run_of app script vs frames) joined.records joined.callbacks joined.drops
+  IsJoinedRun keep (Ok joined) = (vs : List ℕ) × MayHave app script lanes frames vs × IsJoined keep app (run_of app script vs frames) (shown_as app joined.records) joined.callbacks joined.weight joined.drops
   IsJoinedRun keep (Err Heavy) = (keep ≡ true) × IsTooHeavy app script lanes frames
   IsJoinedRun keep (Err NoMemory) = ⊤
   IsJoinedRun keep (Err ReadFault) = ⊥
@@ -93,8 +93,8 @@ module _ (app : Meaning) (script : List Stamped) (lanes : ℕ) (frames : List Ca
   IsJoinedRun keep (Err (TooMany offset)) = ⊥
 
   -- how a run over these frames and such a tail ends
-  abbrev pub Concludes : ℕ → Result LanesEnd PoolError → Type 0
-  Concludes tail (Ok end) = IsWhole app script lanes frames tail end
+  abbrev pub Concludes : ℕ → Result KeptLanes PoolError → Type 0
+  Concludes tail (Ok end) = IsWhole app script lanes frames tail (as_shown app end)
   Concludes tail (Err Heavy) = IsTooHeavy app script lanes frames
   Concludes tail (Err NoMemory) = ⊤
   Concludes tail (Err ReadFault) = ⊥

@@ -8,10 +8,12 @@ use Rattle.report_text.specs.declared.record.Totals.{Totals}
 use Rattle.control_script.specs.declared.stamped.Stamped.{Stamped}
 use Rattle.control_script.specs.Order.{commands_of}
 use Rattle.control_script.specs.Versions.{floor, ceil}
+use Rattle.lane_core.specs.KeptEnd.{shown_as}
 use Rattle.lane_core.specs.Sight.{arrivals}
 use Rattle.lane_core.specs.Records.{RecordSoFar}
 use Rattle.lane_core.specs.Shown.{record_of, weight, callbacks_of, drops_of}
 use Rattle.worker_laws.specs.Whole.{IsAllowedRun, run_under}
+use Rattle.worker_pool.specs.declared.job.KeptLanes.{KeptLanes}
 use Rattle.worker_pool.specs.declared.job.LanesEnd.{LanesEnd}
 use Rattle.worker_pool.specs.declared.job.PoolError.{PoolError}
 use Rattle.worker_pool.specs.declared.job.PoolError.TheVariants.{TooLong, TooMany, ReadFault, WriteFault, Heavy, NoMemory}
@@ -35,6 +37,14 @@ MayHave app script lanes frames vs =
 -- the records of one run over these frames, of which the j-th has the j-th version
 abbrev pub run_of : Meaning → List Stamped → List ℕ → List Captured → List RecordSoFar
 run_of app script vs frames = run_under app (commands_of script) vs (arrivals 0 frames)
+
+-- what a run on lanes ends with, its records as the report shows them
+abbrev pub as_shown : Meaning → KeptLanes → LanesEnd
+as_shown app end = record { records = shown_as app end.records; versions = end.versions; totals = end.totals }
+
+abbrev pub shown_end : Meaning → Result KeptLanes PoolError → Result LanesEnd PoolError
+shown_end app (Ok end) = Ok (as_shown app end)
+shown_end app (Err e) = Err e
 
 module _ (app : Meaning) (script : List Stamped) (lanes : ℕ) where
   -- all records of such a run, their versions, and what is counted over them

@@ -4,7 +4,7 @@ ghost use Rattle.std.specs.Prelude.{◌≡◌};
 
 use crate::versions::VersionList;
 use control_script::Script;
-use lane_core::LaneError;
+use lane_core::{KeptRecords, LaneError};
 use mos_bytes::Failed;
 use pcap_source::NextError;
 use report_text::{RecordList, Totals};
@@ -25,6 +25,16 @@ pub struct Job<'a, A> {
 pub struct LanesEnd {
     /// The connections and orphans of all lanes, in order of name.
     pub records: RecordList,
+    /// The version of each.
+    pub versions: VersionList,
+    pub totals: Totals,
+}
+
+/// What a run on several lanes ends with where its records stay as the lanes kept them.
+#[derive(Drop)]
+pub struct KeptLanes {
+    /// The connections and orphans of all lanes, in order of name.
+    pub records: KeptRecords,
     /// The version of each.
     pub versions: VersionList,
     pub totals: Totals,

@@ -21,8 +21,8 @@ mod worker;
 
 pub use forward::lanes::forward_lanes;
 pub use gate::{Gate, OpenGate};
-pub use job::{Job, LanesEnd, PoolError};
-pub use report::lanes::run_lanes;
+pub use job::{Job, KeptLanes, LanesEnd, PoolError};
+pub use report::lanes::{run_lanes, run_lanes_kept};
 pub use versions::VersionList;
 pub use worker::left::work_off;
 pub use worker::{Worker, work};

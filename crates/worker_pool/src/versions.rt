@@ -2,7 +2,7 @@
 
 ghost use Rattle.std.specs.Prelude.{◌≡◌, IfOk, map};
 
-use report_text::Record;
+use lane_core::{RecordUnderWay, version_of_each};
 use std::alloc::{AllocError, Global};
 use std::marker::Model;
 
@@ -30,12 +30,10 @@ impl VersionList {
 }
 
 /// The versions of records.
-pub fn versions_of(alloc: Global, records: &[Record]) -> Result<VersionList, AllocError>
+pub fn versions_of(alloc: Global, records: &[RecordUnderWay]) -> Result<VersionList, AllocError>
     ensures { IfOk result (λ versions. versions ≡ map (λ r. r.version) records.now) }
 {
-    let mut items = Vec::with_capacity(alloc, records.len())?;
-    for of in records {
-        items.push(of.version)?;
-    }
-    Ok(VersionList { items })
+    Ok(VersionList {
+        items: version_of_each(alloc, records)?,
+    })
 }

@@ -8,14 +8,15 @@ ghost use Rattle.lane_core.specs.Closing.{IsClosed};
 ghost use Rattle.lane_core.specs.Lane.{ForEvents, HadFailed, IsHeavyAtEnd, IsHeavyBy, IsTreeFound};
 ghost use Rattle.lane_core.specs.Records.{open_at};
 ghost use Rattle.lane_core.specs.Run.{ended_run, lane_run};
+ghost use Rattle.lane_core.specs.Shown.{weight};
 
 use crate::closing::close;
-use crate::end::{Closed, LaneCounts, LaneEnd, records_of, versions_of};
+use crate::end::{Closed, KeptEnd, KeptRecords, LaneEnd, records_of, versions_of};
 use crate::errors::LaneError;
 use crate::kept::Kept;
 use crate::lane::Lane;
 use crate::recorder::Recorder;
-use crate::report::{ReportError, Reporter, version_of_each, write_slots};
+use crate::report::{ReportError, Reporter, version_of_each, write_all_kept};
 use crate::settings::LaneSettings;
 use app_api::{App, Verdict, presets_of};
 use flow_table::Key;
@@ -68,6 +69,9 @@ impl<A: App + Drop, F: Forests + Drop> Lane<A, F> {
             ForEvents (⟦<Lane<A, F> as Recorder>⟧.stands self) (λ events.
             IsClosed self.settings.keep (ended_run (A.meaning self.settings.app) events greatest)
             closed.slots.items closed.callbacks closed.drops)) }
+        ensures weighed { self.failed ≡ None → IfOk result (λ closed.
+            ForEvents (⟦<Lane<A, F> as Recorder>⟧.stands self) (λ events.
+            closed.weight ≡ weight (ended_run (A.meaning self.settings.app) events greatest))) }
         ensures light { OnOk result (self.settings.keep ≡ true → ForEvents (⟦<Lane<A, F> as Recorder>⟧.stands self)
             (λ events. IsHeavyAtEnd (A.meaning self.settings.app) events greatest → ⊥)) }
         ensures heavy { self.failed ≡ None → result ≡ Err LaneError.Heavy → (self.settings.keep ≡ true)
@@ -96,6 +100,7 @@ impl<A: App + Drop, F: Forests + Drop> Lane<A, F> {
             app,
             slots,
             callbacks: ledger.counts.callbacks,
+            weight: ledger.counts.weight,
             drops: dropped,
         })
     }
@@ -204,16 +209,19 @@ impl<A: App + Drop, F: Forests + Drop> Recorder for Lane<A, F> {
 }
 
 impl<A: App + Drop, F: Forests + Drop> Reporter for Lane<A, F> {
-    fn count(
+    fn finish_kept(
         self,
         alloc: Global,
         greatest: Option<Moment>,
         natives: &NativeBook,
-    ) -> Result<LaneCounts, LaneError> {
+    ) -> Result<KeptEnd, LaneError> {
         let closed = self.closed(alloc, greatest, natives)?;
-        Ok(LaneCounts {
-            versions: version_of_each(alloc, &closed.slots)?,
+        Ok(KeptEnd {
+            records: KeptRecords {
+                items: closed.slots,
+            },
             callbacks: closed.callbacks,
+            weight: closed.weight,
             drops: closed.drops,
         })
     }
@@ -236,7 +244,7 @@ impl<A: App + Drop, F: Forests + Drop> Reporter for Lane<A, F> {
             drops: closed.drops,
             tail,
         };
-        write_slots(alloc, &closed.app, out, &closed.slots)?;
+        write_all_kept(alloc, &closed.app, out, &closed.slots)?;
         write_totals(alloc, out, &totals)?;
         Ok(versions)
     }

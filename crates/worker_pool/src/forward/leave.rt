@@ -32,7 +32,7 @@ use crate::versions::{VersionList, versions_of};
 use crate::worker::Worker;
 use control_script::Script;
 use flow_timers::Moment;
-use lane_core::Recorder;
+use lane_core::Reporter;
 use lane_ends::join;
 use lane_rings::Resequencer;
 use mos_bytes::Sink;
@@ -44,7 +44,7 @@ use worker_laws::packets::packets_of_a_capture_rise;
 use worker_laws::runs::a_run_has_its_versions;
 
 // The versions of the records of lanes that keep no entries.
-fn versions_in<R: Threads + Sync, L: Recorder + Drop + Send>(
+fn versions_in<R: Threads + Sync, L: Reporter + Drop + Send>(
     rt: &R,
     alloc: Global,
     workers: Vec<Worker<L>>,
@@ -86,7 +86,7 @@ fn is_write_fault(read: &Result<Whole, PoolError>) -> bool
 ///
 /// `read` is what the dispatcher ended with; its error is told. Nothing more is written where it is a fault of writing.
 /// Of other errors a fault of writing here comes first, then that of `read`, then that a lane failed.
-pub(crate) fn leave<R: Threads + Sync, L: Recorder + Drop + Send, O: Sink>(
+pub(crate) fn leave<R: Threads + Sync, L: Reporter + Drop + Send, O: Sink>(
     rt: &R,
     alloc: Global,
     script: &Script,

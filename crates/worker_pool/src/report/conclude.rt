@@ -1,12 +1,13 @@
 //! The end of a run on several lanes, from what its workers have done.
 
-ghost use Rattle.std.specs.Prelude.{◌≡◌, ◌<◌, ◌≤◌, ◌⊎◌, ℕ, Bool, true, List, length, get_or, IfOk, IfErr};
+ghost use Rattle.std.specs.Prelude.{◌≡◌, ◌<◌, ◌≤◌, ◌⊎◌, ℕ, Bool, true, List, length, get_or, nat_lt, IfOk, IfErr};
 ghost use Rattle.app_api.specs.App.{Meaning};
 ghost use Rattle.pcap_source.specs.Captured.{Captured};
 ghost use Rattle.control_script.specs.declared.stamped.Stamped.{Stamped};
 ghost use Rattle.control_script.specs.Versions.{floor, ceil};
 ghost use Rattle.lane_rings.specs.declared.items.Packet.{Packet};
 ghost use Rattle.lane_rings.specs.declared.ring.RingTx.{RingTx};
+ghost use Rattle.lane_core.specs.KeptEnd.{shown_as};
 ghost use Rattle.lane_core.specs.Sight.{arrivals};
 ghost use Rattle.lane_core.specs.Run.{LaneEvent};
 ghost use Rattle.worker_laws.specs.Greatest.{greatest};
@@ -17,14 +18,15 @@ ghost use Rattle.worker_pool.specs.Team.{IsTeam, AllKeep, HaveServed};
 ghost use Rattle.worker_pool.specs.Ending.{CameTo, ComesTo, HaveCome, AreEnded, IsCause, IsJoinedRun, Concludes};
 ghost use Rattle.worker_pool.specs.Explained.{HaveAnswered};
 
-use crate::job::{LanesEnd, PoolError};
+use crate::job::{KeptLanes, PoolError};
 use crate::team::Ran;
 use crate::versions::versions_of;
 use crate::worker::Worker;
 use control_script::Script;
 use flow_timers::Moment;
-use lane_core::{LaneEnd, Recorder};
-use lane_ends::{Joined, is_heavy, join};
+use lane_core::limits::WEIGHT as WEIGHT_LIMIT;
+use lane_core::{KeptEnd, Recorder, Reporter};
+use lane_ends::{Joined, join};
 use native_filters::NativeBook;
 use report_text::Totals;
 use std::alloc::{AllocError, Global};
@@ -33,7 +35,6 @@ use std::thread::Threads;
 use worker_laws::packets::{packets_go_to_lanes, packets_of_a_capture_rise};
 use worker_laws::runs::{
     a_heavy_lane_makes_a_heavy_run, a_run_has_its_versions, counts_of_a_run_fit, lanes_are_one_run,
-    shown_records_weigh_the_same,
 };
 use worker_laws::versions::a_script_gives_floors_and_ceilings;
 
@@ -55,29 +56,29 @@ pub(crate) fn lanes_have_come<L: Recorder + Drop>(script: &Script, workers: &[Wo
 }
 
 // What the lane of a worker ends with.
-fn end_of<L: Recorder + Drop>(
+fn end_of<L: Reporter + Drop>(
     alloc: Global,
     worker: Worker<L>,
     last: Option<Moment>,
     natives: &NativeBook,
-) -> Result<LaneEnd, PoolError>
+) -> Result<KeptEnd, PoolError>
     ensures came { ComesTo L.Recorder last worker result }
 {
     let Worker { lane, .. } = worker;
-    Ok(lane.finish(alloc, last, natives)?)
+    Ok(lane.finish_kept(alloc, last, natives)?)
 }
 
 // What the lane of each worker comes to. Each is ended by a thread of its own, where one can be started.
-fn each_end<R: Threads + Sync, L: Recorder + Drop + Send>(
+fn each_end<R: Threads + Sync, L: Reporter + Drop + Send>(
     rt: &R,
     alloc: Global,
     workers: Vec<Worker<L>>,
     last: Option<Moment>,
     natives: &NativeBook,
-) -> Result<Vec<Result<LaneEnd, PoolError>>, AllocError>
+) -> Result<Vec<Result<KeptEnd, PoolError>>, AllocError>
     ensures come { IfOk result (λ came. HaveCome L.Recorder last workers.items came.items) }
 {
-    let f = |worker: Worker<L>| -> Result<LaneEnd, PoolError>
+    let f = |worker: Worker<L>| -> Result<KeptEnd, PoolError>
         ensures came { ComesTo L.Recorder last worker result }
     { end_of(alloc, worker, last, natives) };
     thread::map_vec(rt, workers, &f)
@@ -85,13 +86,13 @@ fn each_end<R: Threads + Sync, L: Recorder + Drop + Send>(
 
 /// What the lanes of workers end with, where `last` is the greatest moment of all packets. The first one that has no end
 /// tells why.
-pub(crate) fn ends_of<R: Threads + Sync, L: Recorder + Drop + Send>(
+pub(crate) fn ends_of<R: Threads + Sync, L: Reporter + Drop + Send>(
     rt: &R,
     alloc: Global,
     workers: Vec<Worker<L>>,
     last: Option<Moment>,
     natives: &NativeBook,
-) -> Result<Vec<LaneEnd>, PoolError>
+) -> Result<Vec<KeptEnd>, PoolError>
     ensures ended { IfOk result (λ ends. AreEnded L.Recorder last workers.items ends.items) }
     ensures failed { IfErr result (λ e. (e ≡ PoolError.NoMemory) ⊎ ((k : ℕ) × (k < length workers.items)
         × ((w : Begun L) → IsCause L.Recorder last (get_or workers.items k w) e))) }
@@ -104,7 +105,7 @@ pub(crate) fn ends_of<R: Threads + Sync, L: Recorder + Drop + Send>(
 }
 
 // What all lanes end with, as one.
-fn joined_of<R: Threads + Sync, L: Recorder + Drop + Send>(
+fn joined_of<R: Threads + Sync, L: Reporter + Drop + Send>(
     rt: &R,
     alloc: Global,
     script: &Script,
@@ -127,21 +128,28 @@ fn joined_of<R: Threads + Sync, L: Recorder + Drop + Send>(
     Ok(join(alloc, ends)?)
 }
 
+// Whether the callbacks of all records weigh more than a report may.
+fn is_heavy(weight: u64) -> bool
+    ensures { result ≡ nat_lt 134217728 weight }
+{
+    weight > WEIGHT_LIMIT
+}
+
 // The end of a run with these records, over a capture of so many packets and such a tail.
-fn whole_of(alloc: Global, joined: Joined, packets: u64, tail: u32) -> Result<LanesEnd, PoolError>
+fn whole_of(alloc: Global, joined: Joined, packets: u64, tail: u32) -> Result<KeptLanes, PoolError>
     ensures whole { (app : Meaning) (script : List Stamped) (lanes : ℕ) (frames : List Captured) (vs : List ℕ)
         → MayHave app script lanes frames vs
-        → IsJoined true app (run_of app script vs frames) joined.records joined.callbacks joined.drops
+        → IsJoined true app (run_of app script vs frames) (shown_as app joined.records)
+        joined.callbacks joined.weight joined.drops
         → length frames ≡ packets → length frames ≤ 1048576
         → Concludes app script lanes frames tail result }
 {
     a_run_has_its_versions();
     counts_of_a_run_fit();
-    shown_records_weigh_the_same();
-    let records = joined.records.as_slice();
-    if is_heavy(records) {
+    if is_heavy(joined.weight) {
         return Err(PoolError::Heavy);
     }
+    let records = joined.records.as_slice();
     let versions = versions_of(alloc, records)?;
     let totals = Totals {
         packets,
@@ -150,7 +158,7 @@ fn whole_of(alloc: Global, joined: Joined, packets: u64, tail: u32) -> Result<La
         drops: joined.drops,
         tail,
     };
-    Ok(LanesEnd {
+    Ok(KeptLanes {
         records: joined.records,
         versions,
         totals,
@@ -158,13 +166,13 @@ fn whole_of(alloc: Global, joined: Joined, packets: u64, tail: u32) -> Result<La
 }
 
 /// The end of a run whose workers have served a whole capture.
-pub(crate) fn conclude<R: Threads + Sync, L: Recorder + Drop + Send>(
+pub(crate) fn conclude<R: Threads + Sync, L: Reporter + Drop + Send>(
     rt: &R,
     alloc: Global,
     script: &Script,
     ran: Ran<L>,
     natives: &NativeBook,
-) -> Result<LanesEnd, PoolError>
+) -> Result<KeptLanes, PoolError>
     ensures ends { (app : Meaning) (frames : List Captured) (begins : List (Begun L)) (packets : List (RingTx Packet))
         → length frames ≡ ran.whole.packets → length frames ≤ 1048576 → ran.whole.last ≡ greatest (arrivals 0 frames)
         → IsTeam L.Recorder app begins packets → AllKeep L.Recorder true begins

@@ -2,5 +2,5 @@ use Rattle.std.proofs.Common.{◌≡◌, map, take}
 use Rattle.lane_core.proofs.report.version_of_each.Given as goal
 
 -- the versions of the records so far
-abbrev pub invariant-loop-slot : goal.invariant-loop-slot
-invariant-loop-slot l = l.versions.items ≡ map (λ s. s.version) (take l.slot-index l.slots)
+abbrev pub invariant-loop-of : goal.invariant-loop-of
+invariant-loop-of l = l.versions.items ≡ map (λ s. s.version) (take l.of-index l.records)

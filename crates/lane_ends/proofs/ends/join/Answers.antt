@@ -1,8 +1,10 @@
-use Rattle.std.proofs.Common.{◌∙◌, sym, ap, subst}
+use Rattle.std.proofs.Common.{◌∙◌, ap}
 use Rattle.std.specs.Prelude.{min, ◌-◌, ◌^◌}
-use Rattle.worker_laws.specs.Merge.{lane_at, AreOfLanes, IsMerge}
+use Rattle.lane_core.specs.KeptEnd.{shown_as}
+use Rattle.worker_laws.specs.Merge.{lane_at}
 use Rattle.worker_laws.specs.Whole.{run_under}
-use Rattle.worker_laws.specs.Ends.{IsJoined, sum_of}
+use Rattle.worker_laws.specs.Ends.{sum_of}
+use Rattle.lane_ends.proofs.Kept.{of_lanes, merge_shown}
 use Rattle.lane_ends.proofs.ends.join.Goals as goal
 
 pub returns : goal.returns
@@ -13,12 +15,15 @@ returns c = record {
       let of = lane_at lane packets in
       let run = run_under app commands vs packets in
       let records = c.in_ok-records.records in
-      let lists = c.in_ok-lists.ensures in
-      let mergeable = subst (AreOfLanes of) (sym lists) (law.mergeable keep app commands lane packets lanes vs ends one numbered are) in
-      let merged = subst (λ x. IsMerge of x records) lists (c.in_ok-records.ensures.merged of mergeable) in
-      let joined = law.joined keep app commands lane packets lanes vs ends records one numbered are merged in
-      let callbacks = c.callbacks_in-callbacks.ensures ∙ ap (λ x. min (sum_of (λ end. end.callbacks) x) (2 ^ 64 - 1)) c.as_slice.ensures.value in
-      let drops = c.drops_in-drops.ensures ∙ ap (λ x. min (sum_of (λ end. end.drops) x) (2 ^ 64 - 1)) c.as_slice-2.ensures.value in
-      subst (λ n. IsJoined keep app run records c.callbacks_in-callbacks.result n) (sym drops)
-      (subst (λ n. IsJoined keep app run records n (min (sum_of (λ end. end.drops) ends) (2 ^ 64 - 1))) (sym callbacks) joined);
+      let mergeable = of_lanes app of ends (law.mergeable keep app commands lane packets lanes vs ends one numbered are) in
+      let merged = merge_shown app of ends records (c.in_ok-records.ensures.merged of mergeable) in
+      let joined = law.joined keep app commands lane packets lanes vs ends (shown_as app records) one numbered are merged in
+      let seen = c.as_slice.ensures.value in
+      let sums = c.sums_of-sums.ensures in
+      record {
+        records_are = joined.records_are;
+        callbacks_are = sums.callbacks ∙ ap (λ x. min (sum_of (λ end. end.callbacks) x) (2 ^ 64 - 1)) seen ∙ joined.callbacks_are;
+        weight_is = sums.weight ∙ ap (λ x. min (sum_of (λ end. end.weight) x) (2 ^ 64 - 1)) seen ∙ joined.weight_is;
+        drops_are = sums.drops ∙ ap (λ x. min (sum_of (λ end. end.drops) x) (2 ^ 64 - 1)) seen ∙ joined.drops_are;
+      };
 }

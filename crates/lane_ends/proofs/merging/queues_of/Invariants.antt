@@ -1,9 +1,9 @@
 use Rattle.std.proofs.Common.{◌≡◌, ◌++◌, length}
-use Rattle.lane_ends.specs.Queues.{waiting}
+use Rattle.lane_ends.specs.Queues.{lists_in, waiting}
 use Rattle.lane_ends.proofs.merging.queues_of.Given as goal
 
-abbrev pub invariant-loop-list : goal.invariant-loop-list
-invariant-loop-list l = waiting l.queues.items ++ l.lists.items ≡ l.fn.lists.items
+abbrev pub invariant-loop-end : goal.invariant-loop-end
+invariant-loop-end l = waiting l.queues.items ++ (lists_in l.ends.items) ≡ (lists_in l.fn.ends.items)
 
-abbrev pub decreases-loop-list : goal.decreases-loop-list
-decreases-loop-list l = length l.lists.items
+abbrev pub decreases-loop-end : goal.decreases-loop-end
+decreases-loop-end l = length l.ends.items

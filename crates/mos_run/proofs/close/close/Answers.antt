@@ -3,11 +3,12 @@ use Rattle.std.specs.Prelude.{◌⊎◌}
 use Rattle.std.proofs.lemmas.Result.{err_from_is_err_and}
 use Rattle.mos_bytes.specs.Writes.{AppendsFront}
 use Rattle.std.specs.Io.KnownBytes.{Appends}
+use Rattle.lane_core.specs.declared.errors.LaneError.TheVariants as Lane
 use Rattle.lane_core.specs.Shown.{record_of}
 use Rattle.mos_run.specs.Records.{packets_of, records_of}
 use Rattle.mos_run.specs.Outcome.{is_forward}
 use Rattle.mos_run.specs.declared.refusal.RunError.TheVariants as Run
-use Rattle.mos_run.proofs.Closing.{was_good, counted_is, end_is_heavy, end_is_light, closing_is, ends_well, ends_badly, ends_not, was_good_report, reported_well, reported_badly}
+use Rattle.mos_run.proofs.Closing.{was_good, ended_with, end_is_heavy, end_is_light, closing_is, ends_well, ends_badly, ends_not, was_good_report, reported_well, reported_badly}
 use Rattle.mos_run.proofs.Replaying.{front_at_end}
 use Rattle.mos_run.proofs.close.close.Goals as goal
 
@@ -47,8 +48,18 @@ returns-in_err-end-clause-ends g c = λ header frames before count is_last read 
     (ends_not app plan.script.now (packets_of plan.script.now) plan.output frames header c.args.tail c.in_err-end.field-0.0 before (g.O.Sink.taken c.args.out.now)
     (λ heavy. end_is_heavy app plan.script.now plan.output frames (g.L.Recorder.given lane) (g.L.Recorder.failed lane) (g.L.Recorder.stands lane)
     (g.L.Recorder.keeps lane) c.args.last c.later_commands_change_none.ensures is_last read
-    c.weight_never_falls.ensures c.requires.keeps (λ good. c.count.ensures.heavy good (c.in_err-end.was ∙ ap (λ e. Err e) heavy)))
+    c.weight_never_falls.ensures c.requires.keeps (λ good. c.finish_kept.ensures.heavy good (c.in_err-end.was ∙ ap (λ e. Err e) heavy)))
     front)
+
+pub returns-in_err-versions-clause-ends : goal.returns-in_err-versions-clause-ends
+returns-in_err-versions-clause-ends g c = λ header frames before count is_last read first.
+    let plan = c.args.plan.now in
+    let app = g.L.Recorder.app c.args.lane in
+    let front = front_at_end app plan.script.now plan.output header frames c.args.tail before (g.O.Sink.taken c.args.out.now) first in
+    let error = err_from_is_err_and c.from_residual-in_err-versions.result c.from_residual-in_err-versions.ensures.1 in
+    rw (error.1, error.2)
+    (ends_not app plan.script.now (packets_of plan.script.now) plan.output frames header c.args.tail Lane.NoMemory before (g.O.Sink.taken c.args.out.now)
+    (λ heavy. cc) front)
 
 pub returns-in_err-write_counts-clause-ends : goal.returns-in_err-write_counts-clause-ends
 returns-in_err-write_counts-clause-ends g c = λ header frames before count is_last read first.
@@ -56,15 +67,15 @@ returns-in_err-write_counts-clause-ends g c = λ header frames before count is_l
     let plan = c.args.plan.now in
     let app = g.L.Recorder.app lane in
     let end = c.in_ok-end.end in
-    let good = was_good (g.L.Recorder.failed lane) c.count.result end c.count.ensures.failed c.in_ok-end.was in
-    let is = counted_is app plan.script.now plan.output frames (g.L.Recorder.given lane) (g.L.Recorder.failed lane) (g.L.Recorder.stands lane)
+    let good = was_good (g.L.Recorder.failed lane) c.finish_kept.result end c.finish_kept.ensures.failed c.in_ok-end.was in
+    let is = ended_with app plan.script.now plan.output frames (g.L.Recorder.given lane) (g.L.Recorder.failed lane) (g.L.Recorder.stands lane)
     (g.L.Recorder.keeps lane) c.args.last c.later_commands_change_none.ensures is_last read
-    end.versions.items end.callbacks end.drops good (c.in_ok-end.ensures.counted good) in
+    end good (c.in_ok-end.ensures.kept good) in
     let light = end_is_light app plan.script.now plan.output frames (g.L.Recorder.given lane) (g.L.Recorder.failed lane) (g.L.Recorder.stands lane)
     (g.L.Recorder.keeps lane) c.args.last c.later_commands_change_none.ensures is_last read
     good c.requires.keeps c.in_ok-end.ensures.light in
-    let text = closing_is app plan.script.now plan.output frames end.versions.items end.callbacks end.drops c.args.packets
-    (length c.as_slice-versions.result.now) c.args.tail is count (ap length c.as_slice-versions.ensures.value) in
+    let text = closing_is app plan.script.now plan.output frames (g.L.Recorder.keeps lane) end is c.args.packets
+    (length c.as_slice-records.result.now) c.args.tail count (ap length c.as_slice-records.ensures) in
     let error = err_from_is_err_and c.from_residual-in_err-write_counts.result c.from_residual-in_err-write_counts.ensures.1 in
     let which = subst (λ e. ((e ≡ Run.WriteFault) × (is_forward plan.output ≡ false)) ⊎ (e ≡ Run.NoMemory)) (sym error.2) c.in_err-write_counts.ensures.only in
     let last = subst (AppendsFront (g.O.Sink.taken c.args.out.now) (g.O.Sink.taken c.write_counts.new.out)) text
@@ -79,16 +90,17 @@ returns-clause-ends g c = λ header frames before count is_last read first.
     let plan = c.args.plan.now in
     let app = g.L.Recorder.app lane in
     let end = c.in_ok-end.end in
-    let good = was_good (g.L.Recorder.failed lane) c.count.result end c.count.ensures.failed c.in_ok-end.was in
-    let is = counted_is app plan.script.now plan.output frames (g.L.Recorder.given lane) (g.L.Recorder.failed lane) (g.L.Recorder.stands lane)
+    let good = was_good (g.L.Recorder.failed lane) c.finish_kept.result end c.finish_kept.ensures.failed c.in_ok-end.was in
+    let is = ended_with app plan.script.now plan.output frames (g.L.Recorder.given lane) (g.L.Recorder.failed lane) (g.L.Recorder.stands lane)
     (g.L.Recorder.keeps lane) c.args.last c.later_commands_change_none.ensures is_last read
-    end.versions.items end.callbacks end.drops good (c.in_ok-end.ensures.counted good) in
+    end good (c.in_ok-end.ensures.kept good) in
     let light = end_is_light app plan.script.now plan.output frames (g.L.Recorder.given lane) (g.L.Recorder.failed lane) (g.L.Recorder.stands lane)
     (g.L.Recorder.keeps lane) c.args.last c.later_commands_change_none.ensures is_last read
     good c.requires.keeps c.in_ok-end.ensures.light in
-    let text = closing_is app plan.script.now plan.output frames end.versions.items end.callbacks end.drops c.args.packets
-    (length c.as_slice-versions.result.now) c.args.tail is count (ap length c.as_slice-versions.ensures.value) in
+    let text = closing_is app plan.script.now plan.output frames (g.L.Recorder.keeps lane) end is c.args.packets
+    (length c.as_slice-records.result.now) c.args.tail count (ap length c.as_slice-records.ensures) in
     let last = subst (Appends (g.O.Sink.taken c.args.out.now) (g.O.Sink.taken c.write_counts.new.out)) text
     (c.in_ok-write_counts.ensures.text (map (record_of app) (records_of app plan.script.now (packets_of plan.script.now) frames))) in
     ends_well app plan.script.now (packets_of plan.script.now) plan.output frames header c.args.tail _ before (g.O.Sink.taken c.args.out.now)
-    (g.O.Sink.taken c.write_counts.new.out) light is.versions_are first last
+    (g.O.Sink.taken c.write_counts.new.out) light
+    (c.in_ok-versions.ensures ∙ ap (map (λ r. r.version)) c.as_slice-records.ensures ∙ is.versions_are) first last

@@ -1,10 +1,8 @@
 -- What the source over the file told in the run is put in place of the fault.
-use Rattle.std.proofs.Common.{◌≡◌, ◌≤◌, Err, ap, sym, subst, ◌∙◌, inl, inr, ⊎_elim}
+use Rattle.std.proofs.Common.{◌≡◌, ◌≤◌, ap, sym, subst, ◌∙◌, inl, inr, ⊎_elim}
 use Rattle.mos_bytes.specs.Causes.{Rose}
 use Rattle.pcapng_source.specs.Sources.{any_faults, any_source}
 use Rattle.mos_run.specs.Refusal.{explained}
-use Rattle.mos_run.specs.Run.{RunsUnder}
-use Rattle.mos_run.specs.Request.{Asked}
 use Rattle.mos_run.proofs.Files.{fault_before, file_comes, late_after, ok_before, read_by, silent_after, start_is, whole_is, write_before}
 use Rattle.mos_run.proofs.run.run_file.Goals as goal
 

@@ -1,16 +1,17 @@
-use Rattle.std.proofs.Common.{◌≡◌, ◌≤◌, true, false, Ok, Err, refl, sym, ap, subst, arith, inl, inr, rules}
+use Rattle.std.proofs.Common.{◌≡◌, ◌≤◌, false, Ok, Err, refl, sym, ap, subst, arith, inl, inr, rules}
 use Rattle.std.specs.Prelude.{◌⊎◌}
 use Rattle.std.specs.Io.KnownBytes.{Appends}
 use Rattle.std.proofs.lemmas.Result.{err_from_is_err_and}
 use Rattle.mos_bytes.specs.Writes.{AppendsFront}
-use Rattle.report_text.specs.Tidy.{tidy}
+use Rattle.lane_core.specs.KeptEnd.{shown_as}
+use Rattle.worker_pool.specs.Run.{as_shown}
 use Rattle.pcap_source.specs.Reading.{frames_at}
 use Rattle.mos_run.specs.declared.refusal.RunError.TheVariants as Run
-use Rattle.mos_run.specs.Apps.{meaning_of, lawful_app}
+use Rattle.mos_run.specs.Apps.{meaning_of}
 use Rattle.mos_run.specs.Records.{packets_with}
 use Rattle.mos_run.specs.Outcome.{closing, is_forward}
 use Rattle.mos_run.proofs.Replaying.{opened_replay, refused_header}
-use Rattle.mos_run.proofs.Joined.{no_write_told, whole_is_tidy, stopped_any, stopped, finished, broke_off}
+use Rattle.mos_run.proofs.Joined.{no_write_told, stopped_any, stopped, finished, broke_off}
 use Rattle.mos_run.specs.Refusal.{header_refusal, pool_refusal}
 use Rattle.mos_run.proofs.Refusals.{no_read_fault}
 use Rattle.mos_run.proofs.Ends.{cut_header, cut_lanes, err_same, heavy_of, no_heavy_header, no_write_header, pool_heavy, pool_read_fault, reads_refused, reads_whole}
@@ -85,15 +86,6 @@ returns-in_err-end g c = record {
   };
 }
 
-pub write_end_by-requires-clause-tidy : goal.write_end_by-requires-clause-tidy
-write_end_by-requires-clause-tidy g c κs within report =
-    let plan = c.args.plan.now in
-    let app = meaning_of plan.app in
-    let whole = c.in_ok-end.ensures.whole in
-    subst (λ l. tidy l ≡ true) (sym c.as_slice.ensures)
-    (whole_is_tidy c.records_are_tidy.ensures c.packets_of_a_capture_rise.ensures.run app plan.script.now plan.workers whole.1 whole.0 c.in_ok-end.end
-    (lawful_app plan.app) c.requires.job.lawful whole.2)
-
 pub returns-in_err-write_end_by : goal.returns-in_err-write_end_by
 returns-in_err-write_end_by g c = record {
   ran = record {
@@ -106,10 +98,10 @@ returns-in_err-write_end_by g c = record {
         let p = err_from_is_err_and c.from_residual-in_err-write_end_by.result c.from_residual-in_err-write_end_by.ensures.1 in
         let which = subst (λ e. ((e ≡ Run.WriteFault) × (is_forward plan.output ≡ false)) ⊎ (e ≡ Run.NoMemory)) (sym p.2) c.in_err-write_end_by.ensures.only in
         rw (p.1)
-        (broke_off app plan.script.now plan.workers plan.output bytes (frames_at c.in_ok-capture.capture rep.rest) rep.holds c.requires.kept ends.0 ends.1 c.in_ok-end.end ends.2
+        (broke_off app plan.script.now plan.workers plan.output bytes (frames_at c.in_ok-capture.capture rep.rest) rep.holds c.requires.kept ends.0 ends.1 (as_shown app c.in_ok-end.end) ends.2
         (g.O.Sink.taken c.args.out.now) (g.O.Sink.taken c.write_end_by.new.out) p.0 which
         (subst (λ l. AppendsFront (g.O.Sink.taken c.args.out.now) (g.O.Sink.taken c.write_end_by.new.out)
-        (closing plan.output l c.in_ok-end.end.totals)) c.as_slice.ensures c.in_err-write_end_by.ensures.text));
+        (closing plan.output (shown_as app l) c.in_ok-end.end.totals)) c.as_slice.ensures c.in_err-write_end_by.ensures.text));
     read = search rules;
     silent = search rules;
     late = search rules;
@@ -133,9 +125,9 @@ returns g c = record {
         let rep = opened_replay (g.S.Source.left c.args.source.now) (g.S.Source.left c.open.new.source) c.in_ok-capture.capture bytes c.in_ok-capture.ensures.gives start.count start.offset told in
         let ends = c.in_ok-end.ensures.ends rep.rest rep.told in
         let f = frames_at c.in_ok-capture.capture rep.rest in
-        finished app plan.script.now plan.workers plan.output bytes f rep.holds c.requires.kept ends.0 ends.1 c.in_ok-end.end ends.2 c.a_run_has_its_versions.ensures.versions
+        finished app plan.script.now plan.workers plan.output bytes f rep.holds c.requires.kept ends.0 ends.1 (as_shown app c.in_ok-end.end) ends.2 c.a_run_has_its_versions.ensures.versions
         (g.O.Sink.taken c.args.out.now) (g.O.Sink.taken c.write_end_by.new.out)
-        (subst (λ l. Appends (g.O.Sink.taken c.args.out.now) (g.O.Sink.taken c.write_end_by.new.out) (closing plan.output l c.in_ok-end.end.totals))
+        (subst (λ l. Appends (g.O.Sink.taken c.args.out.now) (g.O.Sink.taken c.write_end_by.new.out) (closing plan.output (shown_as app l) c.in_ok-end.end.totals))
         c.as_slice.ensures c.in_ok-write_end_by.ensures.text);
     read = search rules;
     silent = search rules;

@@ -18,6 +18,11 @@ returns-clause-closed g c = λ good events r.
           ∙ sym (drops-kept app (control_of app events) (ended_at app (control_of app events) last) (ends_at app (control_of app events) last) (lane_run app events));
     }
 
+pub returns-clause-weighed : goal.returns-clause-weighed
+returns-clause-weighed g c = λ good events r.
+    (c.in_ok-close.ensures.ends (control_of (g.A.App.meaning c.args.self.settings.app) events) (lane_run (g.A.App.meaning c.args.self.settings.app) events)
+    (r.commands good).told (r.records good)).weighed
+
 pub returns-clause-light : goal.returns-clause-light
 returns-clause-light g c = λ keeps events r heavy.
     let app = g.A.App.meaning c.args.self.settings.app in

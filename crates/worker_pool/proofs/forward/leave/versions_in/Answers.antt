@@ -26,7 +26,7 @@ pub returns-clause-versions : goal.returns-clause-versions
 returns-clause-versions g c app script frames lanes vs last came one may_have =
     let key = by_key (length c.args.workers.items) in
     let joined = c.in_ok-joined.joined in
-    versions_joined false app (run_of app script vs frames) vs c.in_ok-versions.versions joined.records c.as_slice.result.now joined.callbacks joined.drops
+    versions_joined false app (run_of app script vs frames) vs c.in_ok-versions.versions joined.records c.as_slice.result.now joined.callbacks joined.weight joined.drops
     (c.in_ok-joined.ensures.joined false app (commands_of script) key (arrivals 0 frames) lanes vs one (c.packets_of_a_capture_rise.ensures.numbers frames)
     (lanes_end g.L.Recorder false app script frames c.args.workers.items lanes came c.args.last c.in_ok-ends.ends.items c.in_ok-ends.ensures.ended last))
     (c.a_run_has_its_versions.ensures.versions app (commands_of script) (floor script) (ceil script) key (arrivals 0 frames) vs may_have)

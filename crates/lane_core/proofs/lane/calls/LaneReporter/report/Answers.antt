@@ -15,17 +15,17 @@ returns-in_err-closed-clause-text g c = λ good events r. WriteAdds-err _ _ _ _ 
 pub returns-in_err-versions-clause-text : goal.returns-in_err-versions-clause-text
 returns-in_err-versions-clause-text g c = λ good events r. WriteAdds-err _ _ _ _ c.from_residual-in_err-versions.ensures.0 (AppendsFront-nil _ _)
 
-pub returns-in_err-write_slots-clause-text : goal.returns-in_err-write_slots-clause-text
-returns-in_err-write_slots-clause-text g c = λ good events r.
+pub returns-in_err-write_all_kept-clause-text : goal.returns-in_err-write_all_kept-clause-text
+returns-in_err-write_all_kept-clause-text g c = λ good events r.
     let settings = c.args.self.settings in
     let lane = c.in_ok-closed in
     let lines = ap (λ ss. records_text (map (ended (g.A.App.meaning lane.closed.app)) ss)) c.deref-2.ensures.value
     ∙ ap (λ a. records_text (map (ended (g.A.App.meaning a)) lane.closed.slots.items)) lane.ensures.app in
-    WriteAdds-err _ _ _ _ c.from_residual-in_err-write_slots.ensures.0
+    WriteAdds-err _ _ _ _ c.from_residual-in_err-write_all_kept.ensures.0
     (lines_in_part settings.keep (g.A.App.meaning settings.app) (ended_run (g.A.App.meaning settings.app) events c.args.greatest)
     lane.closed.slots.items lane.closed.callbacks lane.closed.drops (lane.ensures.closed good events r)
     c.args.packets c.len.result c.args.tail (c.len.ensures ∙ sym c.deref-2.ensures.len ∙ ap length c.deref-2.ensures.value)
-    _ _ _ lines c.in_err-write_slots.ensures.text)
+    _ _ _ lines c.in_err-write_all_kept.ensures.text)
 
 pub returns-in_err-write_totals-clause-text : goal.returns-in_err-write_totals-clause-text
 returns-in_err-write_totals-clause-text g c = λ good events r.
@@ -37,7 +37,7 @@ returns-in_err-write_totals-clause-text g c = λ good events r.
     (totals_in_part settings.keep (g.A.App.meaning settings.app) (ended_run (g.A.App.meaning settings.app) events c.args.greatest)
     lane.closed.slots.items lane.closed.callbacks lane.closed.drops (lane.ensures.closed good events r)
     c.args.packets c.len.result c.args.tail (c.len.ensures ∙ sym c.deref-2.ensures.len ∙ ap length c.deref-2.ensures.value)
-    _ _ _ _ lines c.in_ok-write_slots.ensures.text c.in_err-write_totals.ensures.text)
+    _ _ _ _ lines c.in_ok-write_all_kept.ensures.text c.in_err-write_totals.ensures.text)
 
 pub returns-clause-text : goal.returns-clause-text
 returns-clause-text g c = λ good events r.
@@ -48,7 +48,7 @@ returns-clause-text g c = λ good events r.
     all_written settings.keep (g.A.App.meaning settings.app) (ended_run (g.A.App.meaning settings.app) events c.args.greatest) lane.closed.slots.items
     lane.closed.callbacks lane.closed.drops (lane.ensures.closed good events r)
     c.args.packets c.len.result c.args.tail (c.len.ensures ∙ sym c.deref-2.ensures.len ∙ ap length c.deref-2.ensures.value)
-    _ _ _ _ lines c.in_ok-write_slots.ensures.text c.in_ok-write_totals.ensures.text
+    _ _ _ _ lines c.in_ok-write_all_kept.ensures.text c.in_ok-write_totals.ensures.text
 
 pub returns-clause-versions : goal.returns-clause-versions
 returns-clause-versions g c = λ good events r.

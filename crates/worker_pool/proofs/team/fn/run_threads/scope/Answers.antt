@@ -1,5 +1,5 @@
-use denote.Param.Send.{sendable, param_send}
-use Rattle.std.proofs.Common.{true, None, ◌≡◌, ◌∷◌, [], ◌++◌, length, refl, sym, subst, List, ap, ◌∙◌, arith, rules}
+use denote.Param.Send.{sendable}
+use Rattle.std.proofs.Common.{None, ◌≡◌, ◌∷◌, [], ◌++◌, length, refl, sym, subst, List, ap, ◌∙◌, arith}
 use Rattle.std.proofs.lemmas.List.{length-append}
 use Rattle.std.specs.List.{AllZip}
 use Rattle.std.proofs.Crossing.{crosses}
@@ -8,15 +8,12 @@ use Rattle.lane_rings.specs.declared.ring.RingTx.{RingTx}
 use Rattle.lane_rings.specs.declared.items.Packet.{Packet}
 use Rattle.control_script.specs.Order.{commands_of}
 use Rattle.forest_versions.specs.declared.command.Command.{Command}
-use Rattle.forest_versions.specs.Lawful.{are_lawful}
-use Rattle.forest_versions.specs.State.{start}
 use Rattle.worker_pool.specs.Worked.{IsReady}
 use Rattle.worker_pool.specs.declared.worker.Worker.{Worker}
 use Rattle.worker_pool.specs.declared.team.lane_input.LaneInput.{LaneInput}
 use Rattle.worker_pool.specs.Inputs.{IsPlaced, AreInputs}
 use Rattle.control_script.specs.declared.stamped.Stamped.{Stamped}
 use Rattle.worker_pool.specs.AtWork.{MayBegin, IsFresh}
-use Rattle.worker_pool.proofs.Crossed.{flag_sync}
 use Rattle.worker_pool.proofs.Rows.{AllZip-more, moved, zip_first, zip_others}
 use Rattle.worker_pool.proofs.Forwarding.{dealt_under}
 use Rattle.worker_pool.proofs.Starting.{all_may_begin, fresh, inputs_of_all, all_at_work, all_served}
