@@ -13,8 +13,8 @@ pub struct Change1 {
     pub on: bool,
 }
 
-/// How many changes one callback may ask.
-const MOST: usize = 4;
+/// The most changes that one callback may ask, and that one registration of a script may have.
+pub const MOST_CHANGES: usize = 4;
 
 /// What stands behind the last change.
 const BLANK: Change1 = Change1 { reg: 0, on: false };
@@ -22,7 +22,7 @@ const BLANK: Change1 = Change1 { reg: 0, on: false };
 /// At most four changes, in the order in which they were asked. Contracts see the list of them.
 #[derive(Clone, Copy, Debug, PartialEq, Eq)]
 pub struct Changes {
-    items: [Change1; MOST],
+    items: [Change1; MOST_CHANGES],
     count: usize,
 }
 
@@ -52,7 +52,7 @@ impl Changes {
         ensures { result ≡ [] }
     {
         Changes {
-            items: [BLANK; MOST],
+            items: [BLANK; MOST_CHANGES],
             count: 0,
         }
     }

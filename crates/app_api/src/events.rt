@@ -24,6 +24,11 @@ pub const ORPHAN: u16 = 263;
 /// A connection ended by idleness.
 pub const TIMER: u16 = 264;
 
+/// The first of the built-in events.
+pub const FIRST_EVENT: u16 = START;
+/// The last of the built-in events. Each number between is one.
+pub const LAST_EVENT: u16 = TIMER;
+
 /// Whether a built-in event is raised at a side. No other number is.
 #[tactic(auto, unfolding(crate::specs::Events::allows_hook))]
 pub fn allows_hook(event: u16, hook: Hook) -> bool

@@ -16,9 +16,12 @@ mod rule;
 
 pub use answers::{fields_of, presets_of};
 pub use app::{App, Call, Tally};
-pub use changes::{Change1, Changes};
+pub use changes::{Change1, Changes, MOST_CHANGES};
 pub use entry::{Entry, Seen};
-pub use events::{END, ERROR, NEW_DATA, ORPHAN, PKT_IN, REXMIT, START, STATE, TIMER, allows_hook};
+pub use events::{
+    END, ERROR, FIRST_EVENT, LAST_EVENT, NEW_DATA, ORPHAN, PKT_IN, REXMIT, START, STATE, TIMER,
+    allows_hook,
+};
 pub use lists::{ActiveList, Bytes, DropList, EntryList, FieldList, PieceList, RegList};
 pub use log::LogApp;
 pub use names::{event_name, event_named};

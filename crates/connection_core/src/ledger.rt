@@ -62,7 +62,7 @@ impl Notes {
 }
 
 /// What a callback weighs beside the bytes that it saw.
-pub const CALLBACK_WEIGHT: u64 = 32;
+const CALLBACK_WEIGHT: u64 = 32;
 
 impl Ledger {
     /// Before the first packet. It takes no memory.

@@ -19,7 +19,7 @@ mod terms;
 pub use arrival::Arrived;
 pub use flow::{Flow, Step};
 pub use in_force::InForce;
-pub use ledger::{CALLBACK_WEIGHT, Counts, Ledger, Notes};
+pub use ledger::{Counts, Ledger, Notes};
 pub use orphans::orphan;
 pub use silent::silence;
 pub use terms::Terms;

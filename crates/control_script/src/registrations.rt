@@ -10,12 +10,9 @@ use crate::events::event;
 use crate::settings::{end, number};
 use crate::stamped::Stamped;
 use crate::words::Words;
-use app_api::{Action, Change1, Changes, PeekSpec, Reg};
+use app_api::{Action, Change1, Changes, MOST_CHANGES, PeekSpec, Reg};
 use forest_versions::{Command, Stamp};
 use native_filters::Hook;
-
-/// The most changes of one registration.
-const CHANGES: usize = 4;
 
 // Reads a hook.
 fn hook(words: &mut Words<'_>) -> Result<Hook, ScriptError>
@@ -166,7 +163,7 @@ fn change(words: &mut Words<'_>, reg: Reg, on: bool) -> Result<Reg, ScriptError>
     ensures left { IfOk result (λ r. left words.new < left words.old) }
     ensures err { IfErr result (λ e. RefusesChange on words.old reg e) }
 {
-    if reg.action.changes.as_slice().len() >= CHANGES {
+    if reg.action.changes.as_slice().len() >= MOST_CHANGES {
         return Err(ScriptError::Syntax(words.line));
     }
     words.advance();

@@ -6,15 +6,10 @@ ghost use Rattle.event_trees.specs.Defs.{found, is_root, is_event, path, AreDefs
 ghost use Rattle.event_trees.specs.Rows.{row_of, AreRows, ArePlaces};
 
 use crate::path::EventPath;
+use app_api::{FIRST_EVENT, LAST_EVENT};
 use filter_lang::Expr;
 use std::alloc::{AllocError, Global};
 use std::marker::Model;
-
-/// The first built-in event.
-const FIRST_ROOT: u16 = 256;
-
-/// The last built-in event.
-const LAST_ROOT: u16 = 264;
 
 /// The numbers of user-defined events are below this.
 const NUMBERS: usize = 256;
@@ -142,7 +137,7 @@ impl Defs {
     pub(crate) fn is_event(&self, event: u16) -> bool
         ensures { result ≡ is_event self.now event }
     {
-        (FIRST_ROOT..=LAST_ROOT).contains(&event) || self.find(event).is_some()
+        (FIRST_EVENT..=LAST_EVENT).contains(&event) || self.find(event).is_some()
     }
 
     // How many events there are, before one more is added.

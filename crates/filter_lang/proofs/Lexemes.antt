@@ -1,15 +1,16 @@
 -- The tokens of a text are those that its lexemes make, one behind another.
-use Rattle.std.proofs.Common.{◌≡◌, ℕ, zero, suc, ◌+◌, ◌-◌, ◌<◌, ◌≤◌, Bool, true, false, nat_lt, nat_eq, ◌==◌, ◌^◌, codes, slice_index, List, [], ◌∷◌, drop, take, length, length-drop, get_or, refl, cond, lt-ltb, ap, ◌∙◌, sym, subst, add-zero, arith}
+use Rattle.std.proofs.Common.{◌≡◌, ℕ, zero, suc, ◌+◌, ◌-◌, ◌<◌, ◌≤◌, Bool, true, false, nat_lt, nat_eq, ◌==◌, ◌^◌, codes, slice_index, List, [], ◌∷◌, drop, take, length, length-drop, get_or, refl, cond, lt-ltb, ap, ◌∙◌, sym, subst, add-zero, Option, Some, None, arith}
 use Rattle.std.proofs.lemmas.List.{drop-drop, drop_all, get_or-drop}
 use Rattle.std.proofs.lemmas.List.Sums.{prefix_len_stops}
 use Rattle.std.specs.Bool.{if◌then◌else◌}
 use Rattle.std.specs.Char.{is_ascii_digit, is_ascii_lowercase}
 use Rattle.std.specs.List.{prefix_len, starts_with}
+use Rattle.std.specs.Option.{option_map, unwrap_or}
 use Rattle.std.specs.Str.{bytes_eq}
 use Rattle.filter_lang.specs.declared.lexeme.Lexeme.{Lexeme}
 use Rattle.filter_lang.specs.declared.token.Token.{Token}
-use Rattle.filter_lang.specs.declared.token.Token.TheVariants.{End}
-use Rattle.filter_lang.specs.Tokens.{is_blank, fact_token, fact_names, word_token, name_at, numeral_token, begins_hex, is_part, is_dotted, last_part_len, quad_from, number_at, short_sign_at, sign_at, token_at, tokens_behind}
+use Rattle.filter_lang.specs.declared.token.Token.TheVariants.{Bad, End}
+use Rattle.filter_lang.specs.Tokens.{lexeme, is_blank, fact_token, fact_names, word_token, name_at, numeral_token, begins_hex, dotted_part, last_part, quad_from, number_at, signs, sign_in, token_at, tokens_behind}
 use Rattle.filter_lang.specs.Words.{is_end, has_fact_within}
 
 -- A token of the code is never the end, and its fact has a place.
@@ -41,44 +42,40 @@ word_token-sound name =
 numeral_token-sound : (v : ℕ) → IsSound (numeral_token v)
 numeral_token-sound v = sound_if (nat_lt v (2 ^ 64)) _ _ (record { open_ended = refl; fact = refl }) (record { open_ended = refl; fact = refl })
 
+part-sound : (o : Option (ℕ × ℕ)) (k : ℕ × ℕ → Lexeme) → ((part : ℕ × ℕ) → IsSound (k part).token) → IsSound (unwrap_or (option_map k o) (lexeme Bad 1)).token
+part-sound None k more = record { open_ended = refl; fact = refl }
+part-sound (Some part) k more = more part
+
 quad_from-sound : (parts value len : ℕ) (bs : List ℕ) → IsSound (quad_from parts value len bs).token
 unfolding quad_from
-quad_from-sound zero value len bs = lexeme_if (is_part (take (last_part_len bs) bs)) _ _ (record { open_ended = refl; fact = refl }) (record { open_ended = refl; fact = refl })
-quad_from-sound (suc parts) value len bs = lexeme_if (is_dotted bs) _ _ (quad_from-sound parts _ _ _) (record { open_ended = refl; fact = refl })
+quad_from-sound zero value len bs = part-sound (last_part bs) _ (λ part. record { open_ended = refl; fact = refl })
+quad_from-sound (suc parts) value len bs = part-sound (dotted_part bs) _ (λ part. quad_from-sound parts _ _ _)
 
 number_at-sound : (bs : List ℕ) → IsSound (number_at bs).token
 number_at-sound bs =
     lexeme_if (begins_hex bs) _ _ (numeral_token-sound _)
     (lexeme_if (slice_index bs (prefix_len is_ascii_digit bs) == 46) _ _ (quad_from-sound 3 0 0 bs) (numeral_token-sound _))
 
-short_sign_at-sound : (bs : List ℕ) → IsSound (short_sign_at bs).token
-short_sign_at-sound bs =
-    lexeme_if (starts_with nat_eq bs (codes "=")) _ _ (record { open_ended = refl; fact = refl })
-    (lexeme_if (starts_with nat_eq bs (codes "<")) _ _ (record { open_ended = refl; fact = refl })
-    (lexeme_if (starts_with nat_eq bs (codes ">")) _ _ (record { open_ended = refl; fact = refl })
-    (lexeme_if (starts_with nat_eq bs (codes "!")) _ _ (record { open_ended = refl; fact = refl })
-    (lexeme_if (starts_with nat_eq bs (codes "(")) _ _ (record { open_ended = refl; fact = refl })
-    (lexeme_if (starts_with nat_eq bs (codes ")")) _ _ (record { open_ended = refl; fact = refl })
-    (lexeme_if (starts_with nat_eq bs (codes "+")) _ _ (record { open_ended = refl; fact = refl })
-    (lexeme_if (starts_with nat_eq bs (codes "-")) _ _ (record { open_ended = refl; fact = refl })
-    (lexeme_if (starts_with nat_eq bs (codes "%")) _ _ (record { open_ended = refl; fact = refl })
-    (record { open_ended = refl; fact = refl })))))))))
+-- each sign has a byte or more, and a sound token
+abbrev pub AreSigns : List (List ℕ × Token) → Type 0
+AreSigns [] = Unit {0}
+AreSigns (row ∷ rows) = ((nat_lt 0 (length row.0) ≡ true) × IsSound row.1) × AreSigns rows
 
-sign_at-sound : (bs : List ℕ) → IsSound (sign_at bs).token
-sign_at-sound bs =
-    lexeme_if (starts_with nat_eq bs (codes "!=")) _ _ (record { open_ended = refl; fact = refl })
-    (lexeme_if (starts_with nat_eq bs (codes "<=")) _ _ (record { open_ended = refl; fact = refl })
-    (lexeme_if (starts_with nat_eq bs (codes ">=")) _ _ (record { open_ended = refl; fact = refl })
-    (lexeme_if (starts_with nat_eq bs (codes "&&")) _ _ (record { open_ended = refl; fact = refl })
-    (lexeme_if (starts_with nat_eq bs (codes "||")) _ _ (record { open_ended = refl; fact = refl })
-    (short_sign_at-sound bs)))))
+pub signs-are : AreSigns signs
+signs-are =
+    let s : (t : Token) → is_end t ≡ false → has_fact_within t ≡ true → (true ≡ true) × IsSound t = λ t p q. (refl, record { open_ended = p; fact = q }) in
+    (s _ refl refl, (s _ refl refl, (s _ refl refl, (s _ refl refl, (s _ refl refl, (s _ refl refl, (s _ refl refl, (s _ refl refl, (s _ refl refl, (s _ refl refl, (s _ refl refl, (s _ refl refl, (s _ refl refl, (s _ refl refl, tt))))))))))))))
+
+sign_in-sound : (rows : List (List ℕ × Token)) (bs : List ℕ) → AreSigns rows → IsSound (sign_in rows bs).token
+sign_in-sound [] bs h = record { open_ended = refl; fact = refl }
+sign_in-sound (row ∷ rows) bs h = lexeme_if (starts_with nat_eq bs row.0) _ _ h.0.1 (sign_in-sound rows bs h.1)
 
 pub token_at-sound : (bs : List ℕ) → IsSound (token_at bs).token
 unfolding token_at
 token_at-sound bs =
     let name = prefix_len is_ascii_lowercase bs in
     lexeme_if (is_ascii_digit (slice_index bs 0)) (number_at bs) _ (number_at-sound bs)
-    (lexeme_if (is_ascii_lowercase (slice_index bs 0)) (name_at bs) (sign_at bs) (word_token-sound (take name bs)) (sign_at-sound bs))
+    (lexeme_if (is_ascii_lowercase (slice_index bs 0)) (name_at bs) (sign_in signs bs) (word_token-sound (take name bs)) (sign_in-sound signs bs signs-are))
 
 -- blanks make no token
 blank_step : (t : Bool) (at b : ℕ) (bs : List ℕ) (n : ℕ) → is_blank b ≡ t → suc n ≡ cond t (1 + prefix_len is_blank bs) 0

@@ -1,28 +1,24 @@
 -- The steps of a dotted address.
-use Rattle.std.proofs.Common.{◌≡◌, ℕ, zero, suc, ◌+◌, ◌-◌, ◌*◌, ◌^◌, ◌<◌, List, drop, take, take_all, length, length-drop, false, refl, arith}
+use Rattle.std.proofs.Common.{◌≡◌, ℕ, zero, suc, ◌+◌, ◌-◌, ◌*◌, ◌^◌, ◌<◌, List, drop, take, take_all, length, length-drop, Option, ap, sym, arith}
 use Rattle.filter_lang.specs.declared.token.Token.TheVariants.{Quad, Bad}
-use Rattle.filter_lang.specs.Parts.{IsDottedPart, IsLastPart}
-use Rattle.filter_lang.specs.Tokens.{lexeme, quad_from, is_dotted, is_part, last_part_len}
+use Rattle.std.specs.Option.{option_map, unwrap_or}
+use Rattle.filter_lang.specs.Tokens.{lexeme, quad_from, dotted_part, last_part}
 
 -- the slice from an offset on
 pub from_offset : (bs : List ℕ) (n : ℕ) → take (length bs - n) (drop n bs) ≡ drop n bs
 from_offset bs n = take_all (length bs - n) (drop n bs) (omega (arith, length-drop n bs))
 
-pub quad_from-dotted : (parts value len : ℕ) (bs : List ℕ) (number n : ℕ) → IsDottedPart bs number n → quad_from (suc parts) value len bs ≡ quad_from parts (value * 256 + number) (len + n) (drop n bs)
+pub quad_from-part : (parts value len : ℕ) (bs : List ℕ) (found : Option (ℕ × ℕ)) → found ≡ dotted_part bs
+    → quad_from (suc parts) value len bs ≡ unwrap_or (option_map (λ part. quad_from parts (value * 256 + part.0) (len + part.1) (drop part.1 bs)) found) (lexeme Bad 1)
 unfolding quad_from
-quad_from-dotted parts value len bs number n h = rw (h.dotted, h.value, h.taken) refl
+quad_from-part parts value len bs found h =
+    ap (λ o. unwrap_or (option_map (λ part. quad_from parts (value * 256 + part.0) (len + part.1) (drop part.1 bs)) o) (lexeme Bad 1)) (sym h)
 
-pub quad_from-undotted : (parts value len : ℕ) (bs : List ℕ) → is_dotted bs ≡ false → quad_from (suc parts) value len bs ≡ lexeme Bad 1
+pub quad_from-last : (value len : ℕ) (bs : List ℕ) (found : Option (ℕ × ℕ)) → found ≡ last_part bs
+    → quad_from 0 value len bs ≡ unwrap_or (option_map (λ part. lexeme (Quad (value * 256 + part.0)) (len + part.1)) found) (lexeme Bad 1)
 unfolding quad_from
-quad_from-undotted parts value len bs h = rw h refl
-
-pub quad_from-last : (value len : ℕ) (bs : List ℕ) (number n : ℕ) → IsLastPart bs number n → quad_from 0 value len bs ≡ lexeme (Quad (value * 256 + number)) (len + n)
-unfolding quad_from
-quad_from-last value len bs number n h = rw (h.part, h.value, h.taken) refl
-
-pub quad_from-unended : (value len : ℕ) (bs : List ℕ) → is_part (take (last_part_len bs) bs) ≡ false → quad_from 0 value len bs ≡ lexeme Bad 1
-unfolding quad_from
-quad_from-unended value len bs h = rw h refl
+quad_from-last value len bs found h =
+    ap (λ o. unwrap_or (option_map (λ part. lexeme (Quad (value * 256 + part.0)) (len + part.1)) o) (lexeme Bad 1)) (sym h)
 
 -- an address grows by one byte a part
 pub fits_step : (i a n : ℕ) → i < 3 → a < 256 ^ i → n < 256 → (a * 256 + n < 256 ^ (i + 1)) × (a * 256 + n < 2 ^ 24)

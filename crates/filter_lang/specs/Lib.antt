@@ -2,7 +2,6 @@ pub mod Shape
 pub mod ShapeCode
 pub mod Meaning
 pub mod Tokens
-pub mod Parts
 pub mod Grammar
 pub mod Words
 pub mod Lexer

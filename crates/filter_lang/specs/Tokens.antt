@@ -1,9 +1,11 @@
 -- The tokens of a filter's text: the longest that fit, one after another, with blanks and tabs between.
-use Rattle.std.specs.Prelude.{ℕ, zero, suc, ◌+◌, ◌-◌, ◌*◌, ◌^◌, min, Bool, ◌&&◌, ◌||◌, ◌==◌, if◌then◌else◌, nat_lt, nat_eq, List, [], ◌∷◌, length, take, drop, slice_index, codes}
+use Rattle.std.specs.Prelude.{ℕ, zero, suc, ◌+◌, ◌-◌, ◌*◌, ◌^◌, min, Bool, ◌&&◌, ◌||◌, ◌==◌, if◌then◌else◌, nat_lt, nat_eq, List, [], ◌∷◌, length, take, drop, slice_index, codes, Option, None}
 use Rattle.std.specs.Char.{is_ascii_digit, is_ascii_hexdigit, is_ascii_lowercase}
 use Rattle.std.specs.List.{prefix_len, starts_with}
+use Rattle.std.specs.Option.{option_map, option_or, unwrap_or}
 use Rattle.std.specs.Str.{bytes_eq}
 use Rattle.std.specs.Str.Parse.{digits_value}
+use Rattle.number_text.specs.Numbers.{octet}
 use Rattle.filter_lang.specs.declared.term.Join.TheVariants.{Plus, Minus, Rem}
 use Rattle.filter_lang.specs.declared.term.Op.TheVariants.{Eq, Ne, Lt, Le, Gt, Ge, Has}
 use Rattle.filter_lang.specs.declared.lexeme.Lexeme.{Lexeme}
@@ -57,33 +59,26 @@ hex_at bs =
     let n = prefix_len is_ascii_hexdigit (drop 2 bs) in
     lexeme (numeral_token (digits_value 16 (take n (drop 2 bs)))) (n + 2)
 
--- one to three digits of at most 255
-abbrev pub is_part : List ℕ → Bool
-is_part ds = nat_lt 0 (length ds) && nat_lt (length ds) 4 && nat_lt (digits_value 10 ds) 256
-
--- one part, and then a dot
-abbrev pub is_dotted : List ℕ → Bool
-is_dotted bs =
+-- one part of a dotted address, and then a dot: the number, and the length of both
+abbrev pub dotted_part : List ℕ → Option (ℕ × ℕ)
+dotted_part bs =
     let n = prefix_len is_ascii_digit bs in
-    is_part (take n bs) && (slice_index bs n == 46)
+    if slice_index bs n == 46 then option_map (λ number. (number, n + 1)) (octet (take n bs)) else None
 
--- the last part of a dotted address is the longest that fits
-abbrev pub last_part_len : List ℕ → ℕ
-last_part_len bs =
-    let n = min 3 (prefix_len is_ascii_digit bs) in
-    if nat_lt (digits_value 10 (take n bs)) 256 then n else 2
+-- the number of a part that so many digits are, with their count
+abbrev pub part_of : ℕ → List ℕ → Option (ℕ × ℕ)
+part_of n bs = option_map (λ number. (number, n)) (octet (take n bs))
+
+-- the last part is the longest that fits
+abbrev pub last_part : List ℕ → Option (ℕ × ℕ)
+last_part bs = let n = prefix_len is_ascii_digit bs in option_or (part_of (min 3 n) bs) (part_of (min 2 n) bs)
 
 -- a dotted address of which so many parts before the last are still to come: the number and the length
 -- of what stands before, and the text from there on
 unfoldable pub quad_from : ℕ → ℕ → ℕ → List ℕ → Lexeme
-quad_from zero value len bs =
-    let n = last_part_len bs in
-    if is_part (take n bs) then lexeme (Quad (value * 256 + digits_value 10 (take n bs))) (len + n) else lexeme Bad 1
+quad_from zero value len bs = unwrap_or (option_map (λ part. lexeme (Quad (value * 256 + part.0)) (len + part.1)) (last_part bs)) (lexeme Bad 1)
 quad_from (suc parts) value len bs =
-    let n = prefix_len is_ascii_digit bs in
-    if is_dotted bs
-    then quad_from parts (value * 256 + digits_value 10 (take n bs)) (len + (n + 1)) (drop (n + 1) bs)
-    else lexeme Bad 1
+    unwrap_or (option_map (λ part. quad_from parts (value * 256 + part.0) (len + part.1) (drop part.1 bs)) (dotted_part bs)) (lexeme Bad 1)
 
 -- decimal digits: a number, or the dotted form of an address where a dot follows them
 abbrev pub decimal_at : List ℕ → Lexeme
@@ -94,36 +89,24 @@ decimal_at bs =
 abbrev pub number_at : List ℕ → Lexeme
 number_at bs = if begins_hex bs then hex_at bs else decimal_at bs
 
--- a sign of one byte
-abbrev pub short_sign_at : List ℕ → Lexeme
-short_sign_at bs =
-    if starts_with nat_eq bs (codes "=") then lexeme (Compares Eq) 1 else
-    if starts_with nat_eq bs (codes "<") then lexeme (Compares Lt) 1 else
-    if starts_with nat_eq bs (codes ">") then lexeme (Compares Gt) 1 else
-    if starts_with nat_eq bs (codes "!") then lexeme Bang 1 else
-    if starts_with nat_eq bs (codes "(") then lexeme Open 1 else
-    if starts_with nat_eq bs (codes ")") then lexeme Close 1 else
-    if starts_with nat_eq bs (codes "+") then lexeme (Joins Plus) 1 else
-    if starts_with nat_eq bs (codes "-") then lexeme (Joins Minus) 1 else
-    if starts_with nat_eq bs (codes "%") then lexeme (Joins Rem) 1 else
-    lexeme Bad 1
+-- the signs, longer ones first, each with its token
+abbrev pub signs : List (List ℕ × Token)
+signs =
+    (codes "!=", Compares Ne) ∷ (codes "<=", Compares Le) ∷ (codes ">=", Compares Ge) ∷ (codes "&&", Both) ∷ (codes "||", Either)
+    ∷ (codes "=", Compares Eq) ∷ (codes "<", Compares Lt) ∷ (codes ">", Compares Gt) ∷ (codes "!", Bang) ∷ (codes "(", Open)
+    ∷ (codes ")", Close) ∷ (codes "+", Joins Plus) ∷ (codes "-", Joins Minus) ∷ (codes "%", Joins Rem) ∷ []
 
--- a sign, the longer ones first
-abbrev pub sign_at : List ℕ → Lexeme
-sign_at bs =
-    if starts_with nat_eq bs (codes "!=") then lexeme (Compares Ne) 2 else
-    if starts_with nat_eq bs (codes "<=") then lexeme (Compares Le) 2 else
-    if starts_with nat_eq bs (codes ">=") then lexeme (Compares Ge) 2 else
-    if starts_with nat_eq bs (codes "&&") then lexeme Both 2 else
-    if starts_with nat_eq bs (codes "||") then lexeme Either 2 else
-    short_sign_at bs
+-- the first sign of a table that a text begins with
+abbrev pub sign_in : List (List ℕ × Token) → List ℕ → Lexeme
+sign_in [] bs = lexeme Bad 1
+sign_in (row ∷ rows) bs = if starts_with nat_eq bs row.0 then lexeme row.1 (length row.0) else sign_in rows bs
 
 -- the token at the front of a text that begins with no blank
 unfoldable pub token_at : List ℕ → Lexeme
 token_at bs =
     if is_ascii_digit (slice_index bs 0) then number_at bs else
     if is_ascii_lowercase (slice_index bs 0) then name_at bs else
-    sign_at bs
+    sign_in signs bs
 
 -- the tokens of a text that stands at an offset, where so many of its bytes are still of the token
 -- before; the end is a token too

@@ -1,15 +1,15 @@
 //! The token at the front of a text.
 
-ghost use Rattle.std.specs.Prelude.{◌≡◌, ◌≤◌, ◌<◌, ◌&&◌, ◌^◌, ◌==◌, slice_index, take, true, false, length, IsTrue, MatchOption};
+ghost use Rattle.std.specs.Prelude.{◌≡◌, ◌≤◌, ◌<◌, ◌&&◌, ◌^◌, ◌==◌, slice_index, take, true, false, length, IsTrue, IfSome, MatchOption};
 ghost use Rattle.std.specs.Char.{digit_value, is_ascii_digit, is_ascii_hexdigit, is_ascii_lowercase};
 ghost use Rattle.std.specs.List.{prefix_len};
 ghost use Rattle.std.specs.Str.{bytes_eq};
 ghost use Rattle.std.specs.Str.Parse.{digits_value};
-ghost use Rattle.filter_lang.specs.Parts.{IsPart, IsDottedPart, IsLastPart};
-ghost use Rattle.filter_lang.specs.Tokens.{is_blank, lexeme, fact_token, fact_names, word_token, name_at, numeral_token, begins_hex, hex_at, is_part, last_part_len, is_dotted, quad_from, decimal_at, number_at, short_sign_at, sign_at, token_at};
+ghost use Rattle.filter_lang.specs.Tokens.{is_blank, lexeme, fact_token, fact_names, word_token, name_at, numeral_token, begins_hex, hex_at, dotted_part, last_part, quad_from, decimal_at, number_at, signs, sign_in, token_at};
 
 use crate::term::{Join, Op};
 use crate::token::Token;
+use number_text::octet;
 
 /// A token at the front of a text.
 #[derive(Clone, Copy, PartialEq, Eq, Debug)]
@@ -248,101 +248,65 @@ fn quad_at(bytes: &[u8]) -> Lexeme
 
 // A part of a dotted address with the dot behind it: its number, and the length of both.
 fn dotted_part(bytes: &[u8]) -> Option<(u32, usize)>
-    ensures { MatchOption result (is_dotted bytes.now ≡ false)
-        (λ found. IsDottedPart bytes.now found.0 found.1) }
+    ensures value { result ≡ dotted_part bytes.now }
+    ensures small { IfSome result (λ found. found.0 < 256) }
+    ensures some { IfSome result (λ found. 0 < found.1) }
+    ensures within { IfSome result (λ found. found.1 ≤ length bytes.now) }
 {
     let len = digits(bytes);
-    let number = part(&bytes[..len])?;
-    is_dot(bytes, len).then_some((number, len + 1))
+    if !is_dot(bytes, len) {
+        return None;
+    }
+    let number = octet(&bytes[..len])?;
+    Some((number, len + 1))
 }
 
 // The last part of a dotted address: its number and its length, the longest that fits.
 fn last_part(bytes: &[u8]) -> Option<(u32, usize)>
-    ensures { MatchOption result (is_part (take (last_part_len bytes.now) bytes.now) ≡ false)
-        (λ found. IsLastPart bytes.now found.0 found.1) }
+    ensures value { result ≡ last_part bytes.now }
+    ensures small { IfSome result (λ found. found.0 < 256) }
+    ensures within { IfSome result (λ found. found.1 ≤ length bytes.now) }
 {
-    let len = last_part_len(bytes);
-    let number = part(&bytes[..len])?;
-    Some((number, len))
-}
-
-// The number of one part of a dotted address: one to three digits of at most 255.
-fn part(digits: &[u8]) -> Option<u32>
-    ensures { MatchOption result (is_part digits.now ≡ false) (λ n. IsPart digits.now n) }
-{
-    match value(digits, 10) {
-        Some(n) if !digits.is_empty() && digits.len() < 4 && n < 256 => Some(n as u32),
-        _ => None,
+    let len = digits(bytes);
+    let (most, fewer) = (len.min(3), len.min(2));
+    match octet(&bytes[..most]) {
+        Some(number) => Some((number, most)),
+        None => Some((octet(&bytes[..fewer])?, fewer)),
     }
 }
 
-// How many digits the last part of a dotted address has: the most that fit.
-fn last_part_len(bytes: &[u8]) -> usize
-    ensures value { result ≡ last_part_len bytes.now }
-    ensures within { result ≤ length bytes.now }
-{
-    let n = digits(bytes).min(3);
-    match value(&bytes[..n], 10) {
-        Some(number) if number < 256 => n,
-        _ => 2,
-    }
-}
+/// The signs, longer ones first, each with its token.
+const SIGNS: &[(&str, Token)] = &[
+    ("!=", Token::Compares(Op::Ne)),
+    ("<=", Token::Compares(Op::Le)),
+    (">=", Token::Compares(Op::Ge)),
+    ("&&", Token::Both),
+    ("||", Token::Either),
+    ("=", Token::Compares(Op::Eq)),
+    ("<", Token::Compares(Op::Lt)),
+    (">", Token::Compares(Op::Gt)),
+    ("!", Token::Bang),
+    ("(", Token::Open),
+    (")", Token::Close),
+    ("+", Token::Joins(Join::Plus)),
+    ("-", Token::Joins(Join::Minus)),
+    ("%", Token::Joins(Join::Rem)),
+];
 
 // The sign at the front of the text.
 fn sign_at(bytes: &[u8]) -> Lexeme
     requires { 0 < length bytes.now }
-    ensures value { result ≡ sign_at bytes.now }
+    ensures value { result ≡ sign_in signs bytes.now }
     ensures some { 0 < result.len }
     ensures within { result.len ≤ length bytes.now }
 {
-    if bytes.starts_with(b"!=") {
-        return Lexeme::new(Token::Compares(Op::Ne), 2);
+    for &(sign, token) in SIGNS {
+        if bytes.starts_with(sign.as_bytes()) {
+            return Lexeme {
+                token,
+                len: sign.len(),
+            };
+        }
     }
-    if bytes.starts_with(b"<=") {
-        return Lexeme::new(Token::Compares(Op::Le), 2);
-    }
-    if bytes.starts_with(b">=") {
-        return Lexeme::new(Token::Compares(Op::Ge), 2);
-    }
-    if bytes.starts_with(b"&&") {
-        return Lexeme::new(Token::Both, 2);
-    }
-    if bytes.starts_with(b"||") {
-        return Lexeme::new(Token::Either, 2);
-    }
-    Lexeme::new(short_sign(bytes), 1)
-}
-
-// The sign of one byte at the front of the text.
-fn short_sign(bytes: &[u8]) -> Token
-    ensures { lexeme result 1 ≡ short_sign_at bytes.now }
-{
-    if bytes.starts_with(b"=") {
-        return Token::Compares(Op::Eq);
-    }
-    if bytes.starts_with(b"<") {
-        return Token::Compares(Op::Lt);
-    }
-    if bytes.starts_with(b">") {
-        return Token::Compares(Op::Gt);
-    }
-    if bytes.starts_with(b"!") {
-        return Token::Bang;
-    }
-    if bytes.starts_with(b"(") {
-        return Token::Open;
-    }
-    if bytes.starts_with(b")") {
-        return Token::Close;
-    }
-    if bytes.starts_with(b"+") {
-        return Token::Joins(Join::Plus);
-    }
-    if bytes.starts_with(b"-") {
-        return Token::Joins(Join::Minus);
-    }
-    if bytes.starts_with(b"%") {
-        return Token::Joins(Join::Rem);
-    }
-    Token::Bad
+    Lexeme::new(Token::Bad, 1)
 }

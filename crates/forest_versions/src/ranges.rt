@@ -6,10 +6,7 @@ ghost use Rattle.app_api.specs.Reg.{peek_fits};
 ghost use Rattle.forest_versions.specs.Lawful.{is_within, is_reg_within, is_rule_within, may_be_event, may_be_number};
 
 use crate::command::Command;
-use app_api::{Change1, PeekSpec, Reg, Rule};
-
-/// The last built-in event that commands may name.
-const LAST_EVENT: u16 = 264;
+use app_api::{Change1, LAST_EVENT, PeekSpec, Reg, Rule};
 
 /// The least number of a registration of a script; those below are presets.
 const FIRST_OWN: u8 = 16;

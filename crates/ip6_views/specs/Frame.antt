@@ -1,14 +1,7 @@
 -- The fixed header of an IPv6 packet in a captured Ethernet frame (RFC 8200, section 3), as numbers by their places.
 -- It is 40 bytes long. The tag, the version and the place of the header are those of an IPv4 frame.
-use Rattle.std.specs.Prelude.{◌==◌, ◌&&◌, not, ℕ, ◌+◌, Bool, nat_lt, List, length, slice_index}
-use Rattle.packet_views.specs.Frame.{field, is_tagged, ip_start, ether_type}
-
--- the link header is whole, and carries IPv6, whose type is 86dd (hex) (RFC 2464, section 3)
-unfoldable pub carries_ipv6 : List ℕ → Bool
-carries_ipv6 frame =
-    not (nat_lt (length frame) 14)
-    && not (is_tagged frame && nat_lt (length frame) 18)
-    && ether_type frame == 0x86dd
+use Rattle.std.specs.Prelude.{ℕ, ◌+◌, List, slice_index}
+use Rattle.packet_views.specs.Frame.{field, ip_start}
 
 -- where the fixed header ends
 abbrev pub header_end : List ℕ → ℕ

@@ -2,7 +2,7 @@
 use Rattle.std.specs.Prelude.{ℕ, ◌+◌, if◌then◌else◌, Option, List}
 use Rattle.packet_views.specs.declared.packet.Class.{Class}
 use Rattle.packet_views.specs.declared.packet.Head.{Head}
-use Rattle.packet_views.specs.Frame.{field}
+use Rattle.packet_views.specs.Frame.{field, carries}
 use Rattle.packet_views.specs.Packet.{class_of, head_of, payload_of}
 use Rattle.packet_views.specs.Options.{window_scale_of}
 use Rattle.flow_table.specs.declared.endpoint.Endpoint.{Endpoint}
@@ -10,7 +10,7 @@ use Rattle.flow_table.specs.declared.endpoint.Endpoint.TheVariants.{V6}
 use Rattle.flow_table.specs.Endpoint.{source_of, destination_of}
 use Rattle.flow_table.specs.Key.{EndpointPair, key_between}
 use Rattle.flow_table.specs.Lane.{lane_of_key}
-use Rattle.ip6_views.specs.Frame.{carries_ipv6, source_address, destination_address}
+use Rattle.ip6_views.specs.Frame.{source_address, destination_address}
 use Rattle.ip6_views.specs.Chain.{Found, TcpAt, Only}
 use Rattle.ip6_views.specs.Packet.{found6_in, head6_of, scale6_of, payload6_of}
 
@@ -57,7 +57,7 @@ sight6_with (Only class) frame = Other class
 -- what is seen of a frame
 unfoldable pub sight_of : List ℕ → Sight
 sight_of frame =
-    if carries_ipv6 frame then sight6_with (found6_in frame) frame
+    if carries 0x86dd frame then sight6_with (found6_in frame) frame
     else sight4_with (class_of frame) frame
 
 -- the key of the connection that a segment belongs to

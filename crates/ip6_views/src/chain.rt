@@ -4,13 +4,10 @@ ghost use Rattle.std.specs.Prelude.{◌≡◌, ◌≢◌, ◌+◌, ◌≤◌, �
 ghost use Rattle.packet_views.specs.declared.packet.Class.{Class};
 ghost use Rattle.ip6_views.specs.Chain.{TcpAt, Only, is_extension, extension_length, splits, blocked, chain};
 
-use crate::fields::u16_at;
-use packet_views::Class;
+use packet_views::{Class, PROTOCOL_TCP, u16_at};
 
 /// The numbers of the headers (RFC 8200, section 4; RFC 4302 for the Authentication header).
 const HOP_BY_HOP: u8 = 0;
-
-const TCP: u8 = 6;
 
 const ROUTING: u8 = 43;
 
@@ -51,7 +48,7 @@ fn walk(frame: &[u8], end: usize, most: usize, first: u8, start: usize) -> Resul
     let mut kind = first;
     let mut at = start;
     let mut left = most;
-    while kind != TCP {
+    while kind != PROTOCOL_TCP {
         if !is_extension(kind) {
             return Err(Class::Other);
         }

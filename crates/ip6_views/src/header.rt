@@ -3,46 +3,14 @@
 ghost use Rattle.std.specs.Prelude.{◌≡◌, ◌≢◌, ◌+◌, ◌≤◌, ◌<◌, ◌^◌, IfOk, IfErr, IfSome, IsNone, length, true, false};
 ghost use Rattle.packet_views.specs.declared.packet.Class.{Class};
 ghost use Rattle.packet_views.specs.Frame.{ip_start};
-ghost use Rattle.ip6_views.specs.Frame.{carries_ipv6, ip6_end, header_end, first_kind};
+ghost use Rattle.ip6_views.specs.Frame.{ip6_end, header_end, first_kind};
 ghost use Rattle.ip6_views.specs.Chain.{Only, chain};
 ghost use Rattle.ip6_views.specs.Packet.{is_tcp_bad_at, payload_start_at, checked, found6_in};
 ghost use Rattle.ip6_views.specs.Layout.{IsLayoutOf};
 
 use crate::chain::tcp_start;
-use crate::fields::u16_at;
 use crate::layout::Layout;
-use packet_views::Class;
-
-/// The type of a frame that carries an IPv6 packet (RFC 2464, section 3).
-const TYPE_IPV6: u16 = 0x86dd;
-
-/// The type of a frame with an 802.1Q tag.
-const TYPE_TAGGED: u16 = 0x8100;
-
-/// Where the IPv6 header begins, in a frame whose link header says that it carries one.
-#[tactic(auto, unfolding(crate::specs::Frame::carries_ipv6))]
-pub(crate) fn ip6_start(frame: &[u8]) -> Option<usize>
-    ensures start { IfSome result (λ start. start ≡ ip_start frame.now) }
-    ensures within { IfSome result (λ start. start ≤ 18) }
-    ensures carried { IfSome result (λ _. carries_ipv6 frame.now ≡ true) }
-    ensures lacking { IsNone result → carries_ipv6 frame.now ≡ false }
-{
-    if frame.len() < 14 {
-        return None;
-    }
-    let start = if u16_at(frame, 12) != TYPE_TAGGED {
-        14
-    } else if frame.len() < 18 {
-        return None;
-    } else {
-        18
-    };
-    if u16_at(frame, start - 2) == TYPE_IPV6 {
-        Some(start)
-    } else {
-        None
-    }
-}
+use packet_views::{Class, u16_at};
 
 /// The layout of a TCP segment in a frame whose IPv6 header begins at `ip`, or the class of what is none.
 pub(crate) fn layout_of(frame: &[u8], ip: usize) -> Result<Layout, Class>

@@ -8,10 +8,13 @@ ghost use Rattle.ip6_views.specs.Packet.{found6_in};
 ghost use Rattle.ip6_views.specs.Sight.{sight4_with, sight6_with, sight_of};
 ghost use Rattle.ip6_views.specs.Seen.{shown, IfOther};
 
-use crate::header::{ip6_start, layout_of};
+use crate::header::layout_of;
 use crate::segment::{segment4, segment6};
 use crate::sight::Sight;
-use packet_views::{View, view_of};
+use packet_views::{View, packet_start, view_of};
+
+/// The type of a frame that carries an IPv6 packet (RFC 2464, section 3).
+const TYPE_IPV6: u16 = 0x86dd;
 
 /// What a captured frame is: its TCP segment, over IPv4 or IPv6 and with its payload borrowed in place, or the class of
 /// what it is instead. Over IPv6 the walk passes over at most 8 extension headers (RFC 8200, section 4): Hop-by-Hop
@@ -21,7 +24,7 @@ pub fn sight_of(bytes: &[u8]) -> Sight<'_>
     ensures sight { shown result ≡ sight_of bytes.now }
     ensures not_tcp { IfOther result (λ class. class ≢ Class.Tcp) }
 {
-    match ip6_start(bytes) {
+    match packet_start(bytes, TYPE_IPV6) {
         Some(ip) => sight6(bytes, ip),
         None => sight4(bytes),
     }

@@ -8,11 +8,11 @@ ghost use Rattle.ip6_views.specs.Packet.{head6_of, scale6_of, payload6_of};
 ghost use Rattle.ip6_views.specs.Layout.{IsLayoutOf};
 ghost use Rattle.ip6_views.specs.Seen.{seen};
 
-use crate::fields::{u16_at, u32_at, u128_at};
+use crate::fields::u128_at;
 use crate::layout::Layout;
 use crate::sight::SightTcp;
 use flow_table::Endpoint;
-use packet_views::{Head, TcpView, scale_in, window_scale};
+use packet_views::{Head, TcpView, scale_in, u16_at, u32_at, window_scale};
 
 /// What a view of a frame over IPv4 shows.
 pub(crate) fn segment4<'a>(view: &TcpView<'a>) -> SightTcp<'a>

@@ -1,5 +1,5 @@
 -- Fields of a captured Ethernet frame, as numbers, by their places. All numbers are in network order, the highest byte first.
-use Rattle.std.specs.Prelude.{◌==◌, ℕ, ◌+◌, ◌*◌, ◌-◌, ◌/◌, ◌%◌, ◌^◌, Bool, cond, List, drop, slice_index, slice_range}
+use Rattle.std.specs.Prelude.{◌==◌, ◌&&◌, not, nat_lt, length, ℕ, ◌+◌, ◌*◌, ◌-◌, ◌/◌, ◌%◌, ◌^◌, Bool, cond, List, drop, slice_index, slice_range}
 use Rattle.byteorder.specs.Endian.{big_number}
 
 -- the number in `count` bytes from place `at`
@@ -11,13 +11,17 @@ field at count frame = big_number count (drop at frame)
 abbrev pub is_tagged : List ℕ → Bool
 is_tagged frame = field 12 2 frame == 0x8100
 
--- the place of the IPv4 header, where there is one
+-- the place of the IP header, where there is one
 abbrev pub ip_start : List ℕ → ℕ
 ip_start frame = cond (is_tagged frame) 18 14
 
 -- the type of what the frame carries, after a tag if there is one
 abbrev pub ether_type : List ℕ → ℕ
 ether_type frame = field (ip_start frame - 2) 2 frame
+
+-- the link header is whole, and has this type: IPv4 has 0800 (hex), and IPv6 86dd (RFC 2464, section 3)
+unfoldable pub carries : ℕ → List ℕ → Bool
+carries kind frame = not (nat_lt (length frame) 14) && not (is_tagged frame && nat_lt (length frame) 18) && ether_type frame == kind
 
 -- The IPv4 header (RFC 791, section 3.1). Its length is given in words of 4 bytes.
 

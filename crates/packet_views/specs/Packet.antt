@@ -1,18 +1,11 @@
 -- What a frame is as a packet: its class and, for a TCP segment, the header fields and the payload.
-use Rattle.std.specs.Prelude.{◌==◌, ◌||◌, ◌&&◌, not, ℕ, ◌+◌, ◌*◌, Bool, nat_lt, if◌then◌else◌, List, length, slice_index, slice_range}
+use Rattle.std.specs.Prelude.{◌==◌, ◌||◌, not, ℕ, ◌+◌, ◌*◌, Bool, nat_lt, if◌then◌else◌, List, length, slice_index, slice_range}
 use Rattle.packet_views.specs.declared.packet.Class.{Class}
 use Rattle.packet_views.specs.declared.packet.Class.TheVariants.{Tcp, Other, Fragment, Cut, Bad}
 use Rattle.packet_views.specs.declared.packet.Head.{Head}
-use Rattle.packet_views.specs.Frame.{field, is_tagged, ip_start, ether_type, ip_version, ip_words, total_length, fragment_bits, protocol, ip_end, tcp_start, segment_length, tcp_words, payload_start}
+use Rattle.packet_views.specs.Frame.{field, carries, ip_start, ip_version, ip_words, total_length, fragment_bits, protocol, ip_end, tcp_start, segment_length, tcp_words, payload_start}
 
 -- The tests of the class, in the order in which they are made.
-
--- the link header isn't whole, or carries something else than IPv4, whose type is 0800 (hex)
-unfoldable pub lacks_ipv4 : List ℕ → Bool
-lacks_ipv4 frame =
-    nat_lt (length frame) 14
-    || (is_tagged frame && nat_lt (length frame) 18)
-    || not (ether_type frame == 0x0800)
 
 -- not even the fixed part of the IPv4 header was captured
 abbrev pub is_ip_header_cut : List ℕ → Bool
@@ -44,7 +37,7 @@ segment_class frame = if is_tcp_header_bad frame then Bad else Tcp
 -- the class by the first test that holds; protocol 6 is TCP
 unfoldable pub class_of : List ℕ → Class
 class_of frame =
-    if lacks_ipv4 frame then Other
+    if not (carries 0x0800 frame) then Other
     else if is_ip_header_cut frame then Cut
     else if is_ip_header_bad frame then Bad
     else if not (protocol frame == 6) then Other

@@ -1,13 +1,14 @@
 //! The class of a frame: the tests of its headers, in their order.
 
 ghost use Rattle.std.specs.Prelude.{◌≡◌, ◌≢◌, ◌+◌, ◌*◌, ◌^◌, ◌<◌, ◌≤◌, ◌↔◌, IsTrue, IsNone, true, IfSome, IfOk, IfErr, length, slice_index, false};
-ghost use Rattle.packet_views.specs.Frame.{field, ip_start, ip_words, total_length, tcp_start, payload_start, ip_end};
-ghost use Rattle.packet_views.specs.Packet.{lacks_ipv4, is_ip_header_bad, is_fragment, class_of, segment_class, head_of, payload_of, packet_of, Segment, NoSegment};
+ghost use Rattle.packet_views.specs.Frame.{field, carries, ip_start, ip_words, total_length, tcp_start, payload_start, ip_end};
+ghost use Rattle.packet_views.specs.Packet.{is_ip_header_bad, is_fragment, class_of, segment_class, head_of, payload_of, packet_of, Segment, NoSegment};
 ghost use Rattle.packet_views.specs.Layout.{IsLayoutOf};
 ghost use Rattle.packet_views.specs.View.{IfTcp, IfOther};
 
 use crate::fields::u16_at;
 use crate::layout::Layout;
+use crate::link::packet_start;
 use crate::packet::Class;
 use crate::view::{TcpView, View};
 use std::ops::Range;
@@ -15,11 +16,9 @@ use std::ops::Range;
 /// The type of a frame that carries an IPv4 packet (IEEE 802.3).
 const TYPE_IPV4: u16 = 0x0800;
 
-/// The type of a frame with an 802.1Q tag.
-const TYPE_TAGGED: u16 = 0x8100;
-
-/// The number of TCP in the protocol field of IPv4 (RFC 791, section 3.1).
-const PROTOCOL_TCP: u8 = 6;
+/// The number of TCP in the protocol field of IPv4 (RFC 791, section 3.1), and in the field Next Header of IPv6 (RFC 8200,
+/// section 3).
+pub const PROTOCOL_TCP: u8 = 6;
 
 /// The More Fragments flag and the fragment offset in their field of the IPv4 header (RFC 791,
 /// section 3.1). The bit above them is Don't Fragment.
@@ -50,7 +49,7 @@ fn layout_of(frame: &[u8]) -> Result<Layout, Class>
     ensures other { IfErr result (λ class. class ≡ class_of frame.now) }
     ensures not_tcp { IfErr result (λ class. class ≢ Class.Tcp) }
 {
-    let ip = ip_start(frame).ok_or(Class::Other)?;
+    let ip = packet_start(frame, TYPE_IPV4).ok_or(Class::Other)?;
     let segment = segment_of(frame, ip)?;
     let payload = payload_start(frame, segment.start, segment.end)?;
     Ok(Layout {
@@ -66,7 +65,7 @@ fn layout_of(frame: &[u8]) -> Result<Layout, Class>
 fn segment_of(frame: &[u8], ip: usize) -> Result<Range<usize>, Class>
     requires start { ip ≡ ip_start frame.now }
     requires within { ip ≤ 18 }
-    requires carried { lacks_ipv4 frame.now ≡ false }
+    requires carried { carries 0x0800 frame.now ≡ true }
     ensures start { IfOk result (λ segment. segment.start ≡ tcp_start frame.now) }
     ensures end { IfOk result (λ segment. segment.end ≡ ip_end frame.now) }
     ensures class { IfOk result (λ _. class_of frame.now ≡ segment_class frame.now) }
@@ -147,29 +146,4 @@ fn payload_start(frame: &[u8], tcp: usize, end: usize) -> Result<usize, Class>
         return Err(Class::Bad);
     }
     Ok(tcp + header)
-}
-
-// Where the IPv4 header begins, in a frame whose link header says that it carries one.
-#[tactic(auto, unfolding(crate::specs::Packet::lacks_ipv4))]
-fn ip_start(frame: &[u8]) -> Option<usize>
-    ensures start { IfSome result (λ start. start ≡ ip_start frame.now) }
-    ensures within { IfSome result (λ start. start ≤ 18) }
-    ensures carried { IfSome result (λ _. lacks_ipv4 frame.now ≡ false) }
-    ensures lacking { IsNone result → lacks_ipv4 frame.now ≡ true }
-{
-    if frame.len() < 14 {
-        return None;
-    }
-    let start = if u16_at(frame, 12) != TYPE_TAGGED {
-        14
-    } else if frame.len() < 18 {
-        return None;
-    } else {
-        18
-    };
-    if u16_at(frame, start - 2) == TYPE_IPV4 {
-        Some(start)
-    } else {
-        None
-    }
 }

@@ -5,11 +5,14 @@
 mod classify;
 mod fields;
 mod layout;
+mod link;
 mod options;
 pub mod packet;
 pub mod view;
 
-pub use classify::view_of;
+pub use classify::{PROTOCOL_TCP, view_of};
+pub use fields::{u16_at, u32_at};
+pub use link::packet_start;
 pub use options::{scale_in, window_scale};
 pub use packet::{ACK, Class, FIN, Head, RST, SYN};
 pub use view::{TcpView, View};

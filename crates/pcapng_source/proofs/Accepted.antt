@@ -1,11 +1,11 @@
 -- What is known of a head that isn't refused.
 use Rattle.std.proofs.Common.{◌≡◌, ℕ, ◌+◌, ◌%◌, ◌≤◌, List, length, Bool, true, false, nat_le, nat_lt, ◌&&◌, ◌==◌, not, cond, Option, None, Some, refl, sym, ap, subst, ◌∙◌, arith}
 use Rattle.std.proofs.lemmas.Bool.{cond-false, cond-true, leb-true, ltb-false, eqb-true, and_parts, not-false}
-use Rattle.pcapng_source.specs.Order.{number_in}
+use Rattle.pcap_source.specs.Order.{number_in}
 use Rattle.pcapng_source.specs.Fields.{SectionState, has, is_section, is_total, kind_by, kind_of, least_total, order_told, section_in, total_of}
 use Rattle.pcapng_source.specs.Packets.{captured_of}
 use Rattle.pcapng_source.specs.Refusals.{block_by, header_by, kind_refusal, length_by, packet_by, refusal_of}
-use Rattle.pcapng_source.specs.declared.order.Order.{Order}
+use Rattle.pcap_source.specs.declared.order.Order.{Order}
 use Rattle.pcapng_source.specs.declared.kind.Kind.{Kind}
 use Rattle.pcapng_source.specs.declared.kind.Kind.TheVariants.{SectionHeader, InterfaceBlock, SimplePacket, EnhancedPacket, OtherBlock}
 use Rattle.pcapng_source.specs.declared.section.Interface.{Interface}

@@ -8,7 +8,7 @@ use Rattle.pcapng_source.specs.Fields.{SectionState, has, head_length, kind_of, 
 use Rattle.pcapng_source.specs.Packets.{record_of}
 use Rattle.pcapng_source.specs.Refusals.{refusal_of}
 use Rattle.pcapng_source.specs.Blocks.{accepted, blocks_from, closed, given_by}
-use Rattle.pcapng_source.specs.declared.order.Order.{Order}
+use Rattle.pcap_source.specs.declared.order.Order.{Order}
 use Rattle.pcapng_source.specs.declared.kind.Kind.{Kind}
 use Rattle.pcapng_source.specs.declared.kind.Kind.TheVariants.{SectionHeader, InterfaceBlock, SimplePacket, EnhancedPacket, OtherBlock}
 use Rattle.pcapng_source.specs.declared.fault.NgFault.{NgFault}

@@ -5,7 +5,7 @@ use Rattle.std.proofs.lemmas.List.{drop-drop, drop_at, drop-take, get_or-take, g
 use Rattle.std.proofs.Math.Seq.{take-append-add, drop-append-add}
 use Rattle.std.specs.Prelude.{slice_index}
 use Rattle.pcapng_source.specs.Given.{after, nothing, refused, whole}
-use Rattle.pcapng_source.specs.Order.{number_in}
+use Rattle.pcap_source.specs.Order.{number_in}
 use Rattle.pcapng_source.specs.Fields.{SectionState, has, is_resolution, is_section, option_size, resolution_in, with_resolution}
 use Rattle.pcapng_source.specs.Blocks.{blocks_from, classic_header, closed}
 use Rattle.pcapng_source.specs.Reading.{Goes, IsFitting, met_at, behind, behind_options, behind_words, rest_at}

@@ -7,12 +7,12 @@ use Rattle.std.specs.Io.{StartsWith}
 use Rattle.std.specs.Io.KnownBytes.{Consumes}
 use Rattle.mos_bytes.specs.Reads.{BeginsWith}
 use Rattle.pcapng_source.specs.Given.{after}
-use Rattle.pcapng_source.specs.Order.{number_in}
+use Rattle.pcap_source.specs.Order.{number_in}
 use Rattle.pcapng_source.specs.Fields.{has, head_length, kind_of}
 use Rattle.pcapng_source.specs.Blocks.{blocks_from}
 use Rattle.pcapng_source.specs.Outlooks.{Gives, outlook}
 use Rattle.pcapng_source.specs.Reading.{EndsInHead, IsBehindData, IsBorder, IsFitting, rest_of, stop_of}
-use Rattle.pcapng_source.specs.declared.order.Order.{Order}
+use Rattle.pcap_source.specs.declared.order.Order.{Order}
 use Rattle.pcapng_source.specs.declared.reader.Reader.{Reader}
 use Rattle.pcapng_source.specs.declared.reader.Stage.TheVariants.{Head, Trailer, Refused}
 use Rattle.pcapng_source.specs.declared.fault.NgFault.TheVariants.{BadBlock}

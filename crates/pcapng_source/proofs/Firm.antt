@@ -2,12 +2,12 @@
 use Rattle.std.proofs.Common.{◌≡◌, ℕ, ◌<◌, ◌≤◌, List, ◌++◌, length, drop, Bool, true, false, ◌==◌, not, cond, Option, None, Some, refl, sym, ap, subst, ◌∙◌, arith, ⊎_elim}
 use Rattle.std.proofs.lemmas.Bool.{cases_Bool, cond-true, leb-true, leb-false}
 use Rattle.std.specs.List.{slice_get}
-use Rattle.pcapng_source.specs.Order.{number_in}
+use Rattle.pcap_source.specs.Order.{number_in}
 use Rattle.pcapng_source.specs.Fields.{SectionState, has, head_length, is_section, is_total, kind_by, kind_of, order_told, total_of}
 use Rattle.pcapng_source.specs.Packets.{captured_of, interface_of, within_snap}
 use Rattle.pcapng_source.specs.Refusals.{block_by, header_by, kind_refusal, packet_by, refusal_of}
-use Rattle.pcapng_source.specs.declared.order.Order.{Order}
-use Rattle.pcapng_source.specs.declared.order.Order.TheVariants.{Big, Little}
+use Rattle.pcap_source.specs.declared.order.Order.{Order}
+use Rattle.pcap_source.specs.declared.order.Order.TheVariants.{Big, Little}
 use Rattle.pcapng_source.specs.declared.kind.Kind.{Kind}
 use Rattle.pcapng_source.specs.declared.kind.Kind.TheVariants.{SectionHeader, InterfaceBlock, SimplePacket, EnhancedPacket, OtherBlock}
 use Rattle.pcapng_source.specs.declared.section.Interface.{Interface}

@@ -3,10 +3,10 @@ use Rattle.std.proofs.Common.{◌≡◌, ℕ, ◌+◌, ◌≤◌, List, ◌++◌
 use Rattle.std.proofs.lemmas.Bool.{le-leb}
 use Rattle.std.proofs.lemmas.List.{drop-append-le}
 use Rattle.byteorder.specs.Numbers.{big_from-append, little_from-append}
-use Rattle.pcapng_source.specs.Order.{number_in}
+use Rattle.pcap_source.specs.Order.{number_in}
 use Rattle.pcapng_source.specs.Fields.{has}
-use Rattle.pcapng_source.specs.declared.order.Order.{Order}
-use Rattle.pcapng_source.specs.declared.order.Order.TheVariants.{Big, Little}
+use Rattle.pcap_source.specs.declared.order.Order.{Order}
+use Rattle.pcap_source.specs.declared.order.Order.TheVariants.{Big, Little}
 
 -- a number in front of others
 pub number_in-front : (order : Order) (n : ℕ) (front left : List ℕ) → n ≤ length front → number_in order n (front ++ left) ≡ number_in order n front

@@ -4,19 +4,19 @@ use Rattle.std.proofs.lemmas.Bool.{cases_Bool, cond-false, cond-true, leb-true}
 use Rattle.std.proofs.lemmas.List.{drop_at}
 use Rattle.std.specs.List.{slice_get}
 use Rattle.pcapng_source.specs.Given.{Given, after, nothing}
-use Rattle.pcapng_source.specs.Order.{number_in}
+use Rattle.pcap_source.specs.Order.{number_in}
 use Rattle.pcapng_source.specs.Fields.{SectionState, has, head_length, interface_by, order_told, resolution_in, section_by, section_in, total_of, with_interface, with_resolution}
 use Rattle.pcapng_source.specs.Packets.{captured_of, interface_of, record_by, record_head, record_of, record_on, within_snap}
 use Rattle.pcapng_source.specs.Refusals.{kind_refusal}
 use Rattle.pcapng_source.specs.Blocks.{blocks_from, closed}
 use Rattle.pcapng_source.specs.Reading.{Goes, IsWhole, met_at, behind_words}
-use Rattle.pcapng_source.specs.declared.order.Order.{Order}
+use Rattle.pcap_source.specs.declared.order.Order.{Order}
 use Rattle.pcapng_source.specs.declared.kind.Kind.{Kind}
 use Rattle.pcapng_source.specs.declared.kind.Kind.TheVariants.{SectionHeader, InterfaceBlock, SimplePacket, EnhancedPacket, OtherBlock}
 use Rattle.pcapng_source.specs.declared.section.Interface.{Interface}
 use Rattle.pcapng_source.specs.declared.reader.Reader.{Reader}
 use Rattle.pcapng_source.specs.declared.reader.Stage.TheVariants.{Head, Body}
-use Rattle.pcapng_source.specs.declared.order.Order.TheVariants.{Big}
+use Rattle.pcap_source.specs.declared.order.Order.TheVariants.{Big}
 use Rattle.pcapng_source.proofs.Numbers.{has-there, number_at-front}
 use Rattle.pcapng_source.proofs.Firm.{enhanced-front, interface_of-front, simple-front, total_of-front}
 use Rattle.pcapng_source.proofs.Accepted.{IsPlain, Total, block_accepted, is_section_header, packet-accepted, plain_section, section-accepted, total_is}

@@ -4,9 +4,9 @@ use Rattle.std.proofs.lemmas.Bool.{leb-true, ne_eqb, not-false, or_from, or_left
 use Rattle.std.proofs.lemmas.List.{drop_all, get_or-append-add, take_more, take_more_set}
 use Rattle.std.proofs.Math.Seq.{drop-append-add}
 use Rattle.std.specs.Prelude.{slice_index}
-use Rattle.pcapng_source.specs.Order.{number_in}
+use Rattle.pcap_source.specs.Order.{number_in}
 use Rattle.pcapng_source.specs.Fields.{SectionState, has, is_past_options, is_resolution, last_resolved, option_size, padded, resolution_in, with_interface, with_resolution}
-use Rattle.pcapng_source.specs.declared.order.Order.{Order}
+use Rattle.pcap_source.specs.declared.order.Order.{Order}
 use Rattle.pcapng_source.specs.declared.section.Interface.{Interface}
 use Rattle.pcapng_source.proofs.Numbers.{number_in-front, number_at-front, has-there}
 use Rattle.pcapng_source.proofs.Blocks.{has-short}

@@ -8,7 +8,7 @@ use Rattle.pcapng_source.specs.Fields.{SectionState, has, head_length, kind_of}
 use Rattle.pcapng_source.specs.Refusals.{refusal_of}
 use Rattle.pcapng_source.specs.Blocks.{blocks_from}
 use Rattle.pcapng_source.specs.Reading.{Goes, IsFitting, IsOpen, IsUnrefused, met_at, ready_at, behind, behind_words, rest_at, rest_of, stop_of, weight_at, weight_of}
-use Rattle.pcapng_source.specs.declared.order.Order.{Order}
+use Rattle.pcap_source.specs.declared.order.Order.{Order}
 use Rattle.pcapng_source.specs.declared.fault.NgFault.{NgFault}
 use Rattle.pcapng_source.specs.declared.fault.NgFault.TheVariants.{TooManyBlocks}
 use Rattle.pcapng_source.specs.declared.reader.Reader.{Reader}

@@ -1,12 +1,12 @@
 -- What a file gives: a classic capture in place of a pcapng file, and any other file as it is.
 use Rattle.std.specs.Prelude.{ℕ, zero, suc, ◌+◌, ◌-◌, List, [], ◌∷◌, drop, Bool, ◌&&◌, ◌==◌, if◌then◌else◌, Option, None, Some}
 use Rattle.pcapng_source.specs.Given.{Given, after, nothing, refused, whole}
-use Rattle.pcapng_source.specs.Order.{number_in}
+use Rattle.pcap_source.specs.Order.{number_in}
 use Rattle.pcapng_source.specs.Fields.{SectionState, has, head_length, is_section, kind_of, section_behind, section_in, total_of}
 use Rattle.pcapng_source.specs.Packets.{record_of}
 use Rattle.pcapng_source.specs.Refusals.{refusal_of}
-use Rattle.pcapng_source.specs.declared.order.Order.{Order}
-use Rattle.pcapng_source.specs.declared.order.Order.TheVariants.{Big}
+use Rattle.pcap_source.specs.declared.order.Order.{Order}
+use Rattle.pcap_source.specs.declared.order.Order.TheVariants.{Big}
 use Rattle.pcapng_source.specs.declared.fault.NgFault.{NgFault}
 use Rattle.pcapng_source.specs.declared.fault.NgFault.TheVariants.{TooManyBlocks, BadBlock}
 

@@ -2,9 +2,9 @@
 --     type u32, total length u32, body, total length u32 again.
 -- Its numbers are in the byte order of its section. A section header tells that order itself.
 use Rattle.std.specs.Prelude.{ℕ, zero, suc, ◌+◌, ◌-◌, ◌*◌, ◌/◌, ◌%◌, List, [], ◌∷◌, ◌++◌, length, take, drop, Bool, ◌&&◌, ◌||◌, ◌==◌, not, nat_le, slice_index, if◌then◌else◌, Option, None, Some, unwrap_or}
-use Rattle.pcapng_source.specs.Order.{number_in}
-use Rattle.pcapng_source.specs.declared.order.Order.{Order}
-use Rattle.pcapng_source.specs.declared.order.Order.TheVariants.{Big, Little}
+use Rattle.pcap_source.specs.Order.{number_in}
+use Rattle.pcap_source.specs.declared.order.Order.{Order}
+use Rattle.pcap_source.specs.declared.order.Order.TheVariants.{Big, Little}
 use Rattle.pcapng_source.specs.declared.kind.Kind.{Kind}
 use Rattle.pcapng_source.specs.declared.kind.Kind.TheVariants.{SectionHeader, InterfaceBlock, SimplePacket, EnhancedPacket, OtherBlock}
 use Rattle.pcapng_source.specs.declared.section.Interface.{Interface}

@@ -1,8 +1,8 @@
 -- What the head of an option says of the time resolution.
 use Rattle.std.specs.Prelude.{◌≡◌, ℕ, ◌+◌, ◌*◌, ◌<◌, List, ◌++◌, length, Bool, true, false}
-use Rattle.pcapng_source.specs.Order.{number_in}
+use Rattle.pcap_source.specs.Order.{number_in}
 use Rattle.pcapng_source.specs.Fields.{is_resolution, option_size, resolution_in}
-use Rattle.pcapng_source.specs.declared.order.Order.{Order}
+use Rattle.pcap_source.specs.declared.order.Order.{Order}
 use Rattle.pcapng_source.specs.declared.options.Found.{Found}
 use Rattle.pcapng_source.specs.declared.options.Found.TheVariants.{Nothing, Told, Other}
 

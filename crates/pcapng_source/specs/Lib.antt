@@ -1,5 +1,4 @@
 pub mod Given
-pub mod Order
 pub mod Fields
 pub mod Found
 pub mod Packets

@@ -4,7 +4,7 @@ use Rattle.pcapng_source.specs.Given.{Given, after, nothing, refused, whole}
 use Rattle.pcapng_source.specs.Fields.{SectionState, has, head_length, kind_of, resolution_in, with_resolution}
 use Rattle.pcapng_source.specs.Refusals.{refusal_of}
 use Rattle.pcapng_source.specs.Blocks.{begun, blocks_from, closed}
-use Rattle.pcapng_source.specs.declared.order.Order.{Order}
+use Rattle.pcap_source.specs.declared.order.Order.{Order}
 use Rattle.pcapng_source.specs.declared.kind.Kind.{Kind}
 use Rattle.pcapng_source.specs.declared.fault.NgFault.{NgFault}
 use Rattle.pcapng_source.specs.declared.reader.Reader.{Reader}

@@ -1,9 +1,9 @@
 -- Which blocks are refused, and why: each as soon as the bytes are there that the refusal reads.
 use Rattle.std.specs.Prelude.{ℕ, ◌+◌, List, length, drop, ◌==◌, not, nat_lt, nat_le, if◌then◌else◌, Option, None, Some}
-use Rattle.pcapng_source.specs.Order.{number_in}
+use Rattle.pcap_source.specs.Order.{number_in}
 use Rattle.pcapng_source.specs.Fields.{SectionState, has, is_section, is_total, kind_of, order_told, total_of}
 use Rattle.pcapng_source.specs.Packets.{captured_of, interface_of}
-use Rattle.pcapng_source.specs.declared.order.Order.{Order}
+use Rattle.pcap_source.specs.declared.order.Order.{Order}
 use Rattle.pcapng_source.specs.declared.kind.Kind.{Kind}
 use Rattle.pcapng_source.specs.declared.kind.Kind.TheVariants.{SectionHeader, InterfaceBlock, SimplePacket, EnhancedPacket, OtherBlock}
 use Rattle.pcapng_source.specs.declared.section.Interface.{Interface}

@@ -7,8 +7,8 @@ ghost use Rattle.pcapng_source.specs.declared.kind.Kind.TheVariants.{SimplePacke
 
 use crate::NgFault;
 use crate::kind::{Kind, begins_section};
-use crate::order::Order;
 use crate::section::{Interface, Section};
+use pcap_source::{CAPTURED_LIMIT, Order};
 
 // The magic number by which a section header tells its order of bytes.
 const BYTE_ORDER_MAGIC: u32 = 0x1a2b_3c4d;
@@ -16,9 +16,6 @@ const BYTE_ORDER_MAGIC: u32 = 0x1a2b_3c4d;
 const MAJOR: u16 = 1;
 
 const ETHERNET: u16 = 1;
-
-// How many bytes of a packet may be captured.
-const CAPTURED_LIMIT: u32 = 262_144;
 
 // How many bytes of a block are there before anything of it is judged: its type and its total length.
 const FIRST_FIELDS: usize = 8;

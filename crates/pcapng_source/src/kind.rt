@@ -3,7 +3,7 @@
 ghost use Rattle.std.specs.Prelude.{◌≡◌, ◌≤◌, length};
 ghost use Rattle.pcapng_source.specs.Fields.{head_length, is_section, is_total, kind_by, kind_of, least_total};
 
-use crate::order::Order;
+use pcap_source::Order;
 
 /// The kinds that are told apart.
 #[derive(Clone, Copy, Debug, PartialEq, Eq)]

@@ -17,7 +17,6 @@ mod kind;
 mod laws;
 mod open;
 mod options;
-mod order;
 mod packet;
 mod place;
 mod reader;

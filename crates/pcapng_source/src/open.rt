@@ -5,10 +5,10 @@ ghost use Rattle.std.specs.Prelude.{◌≡◌, ◌+◌, ◌-◌, ◌<◌, ◌≤
 use crate::held::Made;
 use crate::judge::told_order;
 use crate::kind::Kind;
-use crate::order::Order;
 use crate::packet::{enhanced_record, simple_record};
 use crate::reader::{Block, Reader, Stage};
 use crate::section::{Interface, Section};
+use pcap_source::Order;
 
 // The time resolution of an interface that tells none: microseconds.
 pub(crate) const MICROSECONDS: u8 = 6;

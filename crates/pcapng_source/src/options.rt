@@ -5,8 +5,8 @@ ghost use Rattle.pcapng_source.specs.Fields.{is_resolution, with_resolution};
 ghost use Rattle.pcapng_source.specs.Found.{FoundIs};
 
 use crate::open::MICROSECONDS;
-use crate::order::Order;
 use crate::reader::{Reader, Stage};
+use pcap_source::Order;
 
 // The code of the option that tells a time resolution, and the length of its value.
 const RESOLUTION_CODE: u16 = 9;

@@ -5,10 +5,10 @@ ghost use Rattle.byteorder.specs.Endian.{big_bytes};
 ghost use Rattle.pcapng_source.specs.Packets.{captured_of, record_by, time_of};
 ghost use Rattle.pcapng_source.specs.declared.kind.Kind.TheVariants.{SimplePacket, EnhancedPacket};
 
-use crate::order::Order;
 use crate::section::Interface;
 use crate::time::seconds_and_micros;
 use byteorder::{BigEndian, ByteOrder};
+use pcap_source::Order;
 
 // How many bytes the head of a record has.
 pub(crate) const RECORD_HEAD: usize = 16;

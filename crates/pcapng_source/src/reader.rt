@@ -5,9 +5,9 @@ ghost use Rattle.std.specs.Prelude.{◌≡◌, ◌+◌, ◌-◌, ◌*◌, ◌<�
 use crate::NgFault;
 use crate::held::{Head, Made, Word};
 use crate::kind::Kind;
-use crate::order::Order;
 use crate::place::Place;
 use crate::section::Section;
+use pcap_source::Order;
 
 // How many bytes of a block are there before anything of it is judged: its type and its total length.
 pub(crate) const FIRST_FIELDS: usize = 8;

@@ -4,7 +4,7 @@ ghost use Rattle.std.specs.Prelude.{◌≡◌, ◌<◌, ◌≤◌, [], ◌∷◌
 ghost use Rattle.std.specs.List.{slice_get};
 ghost use Rattle.pcapng_source.specs.Packets.{within_snap};
 
-use crate::order::Order;
+use pcap_source::Order;
 use std::marker::Model;
 
 // How many interfaces a section has at most.

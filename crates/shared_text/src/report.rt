@@ -14,21 +14,21 @@ use report_text::{TextError, Totals, write_totals};
 use std::alloc::Global;
 use std::thread::Threads;
 
-// How many records a thread has at a time: the text of so many is held at once for each thread.
-const SHARE: usize = 1024;
+// The most records that a thread has at a time.
+const MOST: usize = 1024;
 
-// How many of the records that are left each thread has next.
+// How many of the records that are left each thread has next: together a fourth of them, so that the text of few long records
+// isn't all held at once.
 fn share_of(left: usize, threads: usize) -> usize
-    requires some { 0 < left }
     requires threads { 0 < threads }
     ensures some { 0 < result }
 {
-    left.div_ceil(threads).min(SHARE)
+    (left / threads / 4).clamp(1, MOST)
 }
 
 /// Writes the report of records as lanes keep them, as `report_text::write_report` does of the records for which they stand, each
-/// line by one call. Its text is made by up to `threads` threads at a time, each of which has up to 1,024 records: what it takes
-/// beside the records is the text of so many for each thread.
+/// line by one call. Its text is made by up to `threads` threads at a time, each of which has up to 1,024 records, and all of
+/// them up to a fourth of those that are left: what it takes beside the records is the text of so many, or of one for each thread.
 ///
 /// It asks at least one thread. Where no thread can be started, this one makes the text. At an `Err` the sink holds a front of
 /// the report.

@@ -1,8 +1,7 @@
-use Rattle.std.proofs.Common.{◌≡◌, ◌<◌, take, ◌+◌, ◌-◌, ◌*◌, ◌^◌, suc, drop, length-drop, false, ap, sym, ◌∙◌, subst, arith}
+use Rattle.std.proofs.Common.{◌≡◌, ◌<◌, ◌+◌, ◌-◌, ◌*◌, ◌^◌, suc, drop, length-drop, ap, sym, ◌∙◌, subst, arith}
 use Rattle.std.proofs.lemmas.List.{drop-drop}
-use Rattle.filter_lang.specs.Parts.{IsDottedPart, IsLastPart}
-use Rattle.filter_lang.specs.Tokens.{quad_from, is_dotted, is_part, last_part_len}
-use Rattle.filter_lang.proofs.Quads.{quad_from-dotted, quad_from-undotted, quad_from-last, quad_from-unended, fits_step, from_offset}
+use Rattle.filter_lang.specs.Tokens.{quad_from, dotted_part, last_part}
+use Rattle.filter_lang.proofs.Quads.{quad_from-part, quad_from-last, fits_step, from_offset}
 use Rattle.filter_lang.proofs.lexeme.quad_at.Goals as goal
 
 pub returns-in_default-clause-value : goal.returns-in_default-clause-value
@@ -10,8 +9,8 @@ returns-in_default-clause-value c =
     let l = c.loop-part in
     let bs = c.args.bytes.now in
     let left : 3 - l._part ≡ suc (3 - (l._part + 1)) = omega arith in
-    let plain : is_dotted (drop l.len bs) ≡ false = subst (λ xs. is_dotted xs ≡ false) (from_offset bs l.len) c.in_default.ensures in
-    c.new.ensures ∙ sym (quad_from-undotted (3 - (l._part + 1)) l.address l.len _ plain) ∙ ap (λ k. quad_from k l.address l.len (drop l.len bs)) (sym left) ∙ l.invariant.same
+    let found = c.in_default.ensures.value ∙ ap dotted_part (from_offset bs l.len) in
+    c.new.ensures ∙ sym (quad_from-part (3 - (l._part + 1)) l.address l.len _ _ found) ∙ ap (λ k. quad_from k l.address l.len (drop l.len bs)) (sym left) ∙ l.invariant.same
 
 pub overflow_mul-address : goal.overflow_mul-address
 overflow_mul-address c =
@@ -30,13 +29,14 @@ loop-part-preserved c =
     let n = c.in-Some.number in
     let m = c.in-Some.more in
     let left : 3 - l._part ≡ suc (3 - (l._part + 1)) = omega arith in
-    let found : IsDottedPart (drop l.len bs) n m = subst (λ xs. IsDottedPart xs n m) (from_offset bs l.len) c.in-Some.ensures in
+    let found = c.in-Some.ensures.value ∙ ap dotted_part (from_offset bs l.len) in
     record {
       same =
           ap (λ xs. quad_from (3 - (l._part + 1)) (l.address * 256 + n) (l.len + m) xs) (sym (drop-drop m l.len bs))
-          ∙ sym (quad_from-dotted (3 - (l._part + 1)) l.address l.len _ n m found) ∙ ap (λ k. quad_from k l.address l.len (drop l.len bs)) (sym left) ∙ l.invariant.same;
-      fits = (fits_step l._part l.address n (omega arith) l.invariant.fits found.small).0;
-      within = omega (arith, found.within, length-drop l.len bs);
+          ∙ sym (quad_from-part (3 - (l._part + 1)) l.address l.len _ _ found) ∙ ap (λ k. quad_from k l.address l.len (drop l.len bs)) (sym left) ∙ l.invariant.same;
+      fits = (fits_step l._part l.address n (omega arith) l.invariant.fits c.in-Some.ensures.small).0;
+      some = omega (arith, c.in-Some.ensures.some, l.invariant.some);
+      within = omega (arith, c.in-Some.ensures.within, length-drop l.len bs);
     }
 
 pub overflow_mul-address-in-Some-last_part : goal.overflow_mul-address-in-Some-last_part
@@ -57,17 +57,14 @@ pub returns-in-Some-last_part-clause-value : goal.returns-in-Some-last_part-clau
 returns-in-Some-last_part-clause-value c =
     let l = c.loop-part in
     let bs = c.args.bytes.now in
-    let n = c.in-Some-last_part.number in
-    let m = c.in-Some-last_part.more in
     let left : 3 - l._part ≡ 0 = omega arith in
-    let found : IsLastPart (drop l.len bs) n m = subst (λ xs. IsLastPart xs n m) (from_offset bs l.len) c.in-Some-last_part.ensures in
-    c.new-in-Some-last_part.ensures ∙ sym (quad_from-last l.address l.len _ n m found) ∙ ap (λ k. quad_from k l.address l.len (drop l.len bs)) (sym left) ∙ l.invariant.same
+    let found = c.in-Some-last_part.ensures.value ∙ ap last_part (from_offset bs l.len) in
+    c.new-in-Some-last_part.ensures ∙ sym (quad_from-last l.address l.len _ _ found) ∙ ap (λ k. quad_from k l.address l.len (drop l.len bs)) (sym left) ∙ l.invariant.same
 
 pub returns-in-None-clause-value : goal.returns-in-None-clause-value
 returns-in-None-clause-value c =
     let l = c.loop-part in
     let bs = c.args.bytes.now in
     let left : 3 - l._part ≡ 0 = omega arith in
-    let unended : is_part (take (last_part_len (drop l.len bs)) (drop l.len bs)) ≡ false =
-    subst (λ xs. is_part (take (last_part_len xs) xs) ≡ false) (from_offset bs l.len) c.in-None.ensures in
-    c.new-in-None.ensures ∙ sym (quad_from-unended l.address l.len _ unended) ∙ ap (λ k. quad_from k l.address l.len (drop l.len bs)) (sym left) ∙ l.invariant.same
+    let found = c.in-None.ensures.value ∙ ap last_part (from_offset bs l.len) in
+    c.new-in-None.ensures ∙ sym (quad_from-last l.address l.len _ _ found) ∙ ap (λ k. quad_from k l.address l.len (drop l.len bs)) (sym left) ∙ l.invariant.same

@@ -1,4 +1,4 @@
-use Rattle.std.proofs.Common.{◌≡◌, ℕ, ◌+◌, ◌-◌, ◌≤◌, ◌<◌, ◌||◌, ◌&&◌, ◌==◌, [], List, Bool, false, length, drop, take, get_or, refl, sym, ap, subst, ◌∙◌, arith}
+use Rattle.std.proofs.Common.{◌≡◌, ℕ, ◌+◌, ◌-◌, ◌||◌, ◌&&◌, ◌==◌, [], Bool, false, length, drop, take, get_or, refl, sym, ap, ◌∙◌, arith}
 use Rattle.shared_forest.specs.Listing.{listing_after}
 use Rattle.shared_forest.specs.Heard.{has_hook, is_heard}
 use Rattle.shared_forest.proofs.Hearing.{start-laid, start-heard, packed-rest, no_node, next, noted_on}

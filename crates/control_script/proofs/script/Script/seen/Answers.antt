@@ -1,5 +1,5 @@
 use Rattle.std.proofs.Common.{leb, List, ◌∙◌, ap, sym, subst, rules, arith}
-use Rattle.std.specs.List.Sorted.{IsPartitionPoint, IsNonDecreasingBy}
+use Rattle.std.specs.List.Sorted.{IsNonDecreasingBy}
 use Rattle.std.proofs.lemmas.List.Sorted.{IsPartitionPoint-from_clause, IsPartitionedBy-leb}
 use Rattle.control_script.specs.declared.script.Row.{Row}
 use Rattle.control_script.specs.declared.stamped.Stamped.{Stamped}

@@ -1,7 +1,7 @@
 -- Behind the second total length.
 use Rattle.std.proofs.Common.{◌≡◌, arith}
 use Rattle.std.proofs.lemmas.Bool.{eq-eqb, ne_eqb}
-use Rattle.pcapng_source.specs.Order.{number_in}
+use Rattle.pcap_source.specs.Order.{number_in}
 use Rattle.pcapng_source.proofs.Bodies.{closes, closes-badly}
 use Rattle.pcapng_source.proofs.Enters.{blocks-short}
 use Rattle.pcapng_source.proofs.reader.Reader.close.Goals as goal

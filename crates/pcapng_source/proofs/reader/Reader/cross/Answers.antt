@@ -2,7 +2,7 @@
 use Rattle.std.proofs.Common.{◌≡◌, ◌+◌, ◌≤◌, length, drop, subst, sym, ◌∙◌, arith, length-drop}
 use Rattle.std.specs.List.{between}
 use Rattle.std.proofs.lemmas.Slice.{between_to_end}
-use Rattle.pcapng_source.specs.Order.{number_in}
+use Rattle.pcap_source.specs.Order.{number_in}
 use Rattle.pcapng_source.specs.Reading.{stop_of}
 use Rattle.pcapng_source.proofs.Borders.{crosses, crosses-badly}
 use Rattle.pcapng_source.proofs.reader.Reader.cross.Goals as goal

@@ -1,6 +1,6 @@
 -- Into the body of an interface.
 use Rattle.std.proofs.Common.{◌≡◌, drop, refl}
-use Rattle.pcapng_source.specs.Order.{number_in}
+use Rattle.pcap_source.specs.Order.{number_in}
 use Rattle.pcapng_source.specs.Fields.{total_of}
 use Rattle.pcapng_source.proofs.Opens.{opens-interface}
 use Rattle.pcapng_source.proofs.reader.Reader.open_interface.Goals as goal

@@ -1,7 +1,7 @@
 -- Into the body of a section header.
 use Rattle.std.proofs.Common.{◌≡◌, unwrap_or}
 use Rattle.pcapng_source.specs.Fields.{order_told, total_of}
-use Rattle.pcapng_source.specs.declared.order.Order.TheVariants.{Big}
+use Rattle.pcap_source.specs.declared.order.Order.TheVariants.{Big}
 use Rattle.pcapng_source.proofs.Opens.{opens-section}
 use Rattle.pcapng_source.proofs.reader.Reader.open_section.Goals as goal
 
