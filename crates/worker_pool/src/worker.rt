@@ -72,7 +72,7 @@ pub fn work<R: Wait, L: Recorder + Drop, G: Gate>(
     ensures emptied { known result.packets ≡ [] }
 {
     let mut w = w;
-    let mut backoff = Backoff::new();
+    let mut backoff = backoff_of(&w);
     for _ in rt.forever() {
         let stopped = stop.load(Ordering::SeqCst);
         let found = take_turn(rt, alloc, &mut w, script, natives, gate, failed);
@@ -82,6 +82,15 @@ pub fn work<R: Wait, L: Recorder + Drop, G: Gate>(
         backoff.looked(rt, found);
     }
     unreachable!()
+}
+
+// How a worker waits for packets. Where its answers are waited for, it stays awake for longer.
+fn backoff_of<L: Recorder + Drop>(w: &Worker<L>) -> Backoff {
+    if w.answers.is_some() {
+        Backoff::eager()
+    } else {
+        Backoff::patient()
+    }
 }
 
 /// Takes a packet out of the ring, and makes of it what the lane can. False where the ring shows none.

@@ -84,7 +84,7 @@ fn await_place<R: Wait, L: Recorder + Drop, S: Source, O: Sink, G: Gate>(
     ensures cause { HasCauseOf (O.faults out.old) (O.faults out.new) (IsErrOf result PoolError.WriteFault) }
     ensures lasts { O.lasting out.new ≡ O.lasting out.old }
 {
-    let mut backoff = Backoff::new();
+    let mut backoff = Backoff::eager();
     for _ in rt.forever() {
         write_ready(waiting, capture, out, spare)?;
         if may_read(all_answers.as_slice(), waiting, index, capture, source) {

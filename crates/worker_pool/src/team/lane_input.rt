@@ -90,7 +90,7 @@ pub(crate) fn send_to<R: Wait, L: Recorder + Drop, G: Gate>(
         → IsInput L.Recorder (commands_of script.now) begin (packets ++ packet ∷ []) input.new }
 {
     let mut packet = packet;
-    let mut backoff = Backoff::new();
+    let mut backoff = Backoff::eager();
     for _ in rt.forever() {
         match input.packets.send(packet) {
             Ok(()) => return,

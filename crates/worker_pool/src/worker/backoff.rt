@@ -6,27 +6,42 @@ use std::time::Duration;
 use std::{hint, thread};
 
 /// For so many looks in vain a thread spins: what it waits for is often there at once.
-const SPINS: u32 = 64;
+const SPINS: u32 = 16;
 
-/// For so many more it leaves its processor to others, and then sleeps.
+/// For so many more it leaves its processor to others, where another thread waits for it.
 const YIELDS: u32 = 128;
 
 /// The length of the first sleep in microseconds, by which each one is longer than the one before.
-const SLEEP: u64 = 50;
+const SLEEP: u64 = 20;
 
-/// How many sleeps grow: none is longer than a millisecond.
-const LONGER: u32 = 20;
+/// How many sleeps grow.
+const LONGER: u32 = 5;
 
 /// How often a thread has looked in vain for what it waits for. The oftener, the longer its next pause.
 #[derive(Drop)]
 pub(crate) struct Backoff {
     looks: u32,
+
+    // For so many looks in vain it stays awake.
+    awake: u32,
 }
 
 impl Backoff {
-    /// For a thread that has not looked yet.
-    pub(crate) fn new() -> Backoff {
-        Backoff { looks: 0 }
+    /// For a thread for which another one waits.
+    pub(crate) fn eager() -> Backoff {
+        Backoff {
+            looks: 0,
+            awake: SPINS + YIELDS,
+        }
+    }
+
+    /// For a thread for which none waits. It sleeps soon: one that only looks slows the other one down with which it shares
+    /// a processor.
+    pub(crate) fn patient() -> Backoff {
+        Backoff {
+            looks: 0,
+            awake: SPINS,
+        }
     }
 
     /// Has looked, and pauses where it found nothing.
@@ -42,12 +57,12 @@ impl Backoff {
     pub(crate) fn pause<R: Wait>(&mut self, rt: &R) {
         if self.looks < SPINS {
             hint::spin_loop();
-        } else if self.looks < SPINS + YIELDS {
+        } else if self.looks < self.awake {
             thread::yield_now();
         } else {
-            sleep(rt, self.looks - SPINS - YIELDS);
+            sleep(rt, self.looks - self.awake);
         }
-        if self.looks < SPINS + YIELDS + LONGER {
+        if self.looks < self.awake.saturating_add(LONGER) {
             self.looks += 1;
         }
     }

@@ -24,7 +24,7 @@ fn send_waiting<R: Wait>(rt: &R, tx: &mut AnswerTx, answer: Answer)
     ensures sent { sent tx.new ≡ sent tx.old ++ answer ∷ [] }
 {
     let mut answer = answer;
-    let mut backoff = Backoff::new();
+    let mut backoff = Backoff::eager();
     for _ in rt.forever() {
         match tx.send(answer) {
             Ok(()) => return,

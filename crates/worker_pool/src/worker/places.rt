@@ -66,7 +66,7 @@ pub(crate) fn take_places<R: Wait, L: Recorder>(
     ensures known { OnOk result (min ceil (L.given lane.old + length (known commands.old)) ≤ L.given lane.new) }
     ensures fails { IfErr result (λ e. L.failed lane.new ≡ Some e) }
 {
-    let mut backoff = Backoff::new();
+    let mut backoff = Backoff::eager();
     for _ in rt.forever() {
         if has_all(lane, ceil) {
             return Ok(());
