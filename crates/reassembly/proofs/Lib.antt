@@ -12,6 +12,7 @@ pub mod Paged
 pub mod Taken
 pub mod Placing
 pub mod Again
+pub mod InOrder
 pub mod Streams
 pub mod Fins
 pub mod KeptRuns

@@ -30,7 +30,7 @@ false_true : (b : Bool) → b ≡ false → b ≡ true → ⊥
 false_true b f t = both_ways b f t
 
 -- no byte stands where the bounds contradict each other
-no_byte : (low : ℕ) (bytes : List ℕ) (p : ℕ) → (low ≤ p → p < low + length bytes → ⊥) → has_byte low bytes p ≡ false
+pub no_byte : (low : ℕ) (bytes : List ℕ) (p : ℕ) → (low ≤ p → p < low + length bytes → ⊥) → has_byte low bytes p ≡ false
 no_byte low bytes p h = false_from_ne_true (has_byte low bytes p) (λ e.
     let parts = and_parts (leb low p) (ltb p (low + length bytes)) e in
     h (leb-true low p parts.0) (ltb-true p (low + length bytes) parts.1))

@@ -10,5 +10,6 @@ pub mod Laying
 pub mod Pages
 pub mod Waiting
 pub mod Window
+pub mod Buffer
 pub mod Steps
 pub mod Plain

@@ -6,6 +6,7 @@
 #![tactic(auto)]
 
 mod answers;
+mod buffer;
 mod fin;
 mod laying;
 mod offer;

@@ -1,6 +1,6 @@
 //! The bytes of a stream by position, in pages of 2,048 positions: those that lie below a place are given back one by one.
 
-ghost use Rattle.std.specs.Prelude.{◌≡◌, ℕ, ◌+◌, ◌-◌, ◌*◌, ◌/◌, ◌%◌, ◌<◌, ◌≤◌, ◌^◌, ◌⊎◌, [], length, min, vec_len, OnOk};
+ghost use Rattle.std.specs.Prelude.{◌≡◌, ℕ, ◌+◌, ◌-◌, ◌*◌, ◌/◌, ◌%◌, ◌<◌, ◌≤◌, ◌^◌, ◌⊎◌, [], length, min, vec_len, OnOk, OnErr};
 ghost use Rattle.reassembly.specs.Runs.{AreOrdered};
 ghost use Rattle.reassembly.specs.Laying.{HasBytes, HasSameBytes};
 
@@ -9,6 +9,7 @@ use crate::laying::{Tally, added, differing, lay};
 use crate::runs::Run;
 use slab::Slab;
 use std::alloc::{AllocError, Global};
+use std::mem::swap;
 
 /// How many positions a page has.
 pub const PAGE: usize = 2048;
@@ -82,6 +83,22 @@ impl Pages {
         self.keys.reserve(1)?;
         let key = self.slab.insert(Vec::new(self.alloc))?;
         self.keys.push_reserved(key);
+        Ok(())
+    }
+
+    /// Makes the bytes its first page, and leaves none. Where memory is refused, they stay.
+    pub fn begin(&mut self, bytes: &mut Vec<u8>) -> Result<(), AllocError>
+        requires keyed { IsKeyed self.old }
+        requires none { vec_len self.old.keys ≡ 0 }
+        ensures err { OnErr result (bytes.new ≡ bytes.old) }
+        ensures base { OnOk result (self.new.base ≡ self.old.base) }
+        ensures keyed { OnOk result (IsKeyed self.new) }
+        ensures first { OnOk result (page_at self.new 0 ≡ bytes.old.items) }
+        ensures others { OnOk result ((k : ℕ) → page_at self.new (k + 1) ≡ []) }
+    {
+        self.add()?;
+        let key = self.keys[0];
+        swap(&mut self.slab[key], bytes);
         Ok(())
     }
 

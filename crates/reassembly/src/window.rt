@@ -1,6 +1,6 @@
 //! The buffer of a stream: the bytes of its pages, of which those below `next` and those in a run are accepted.
 
-ghost use Rattle.std.specs.Prelude.{◌≡◌, ℕ, ◌+◌, ◌-◌, ◌<◌, ◌≤◌, ◌^◌, ◌⊎◌, [], length, min, true, OnOk, OnErr, IfOk, Option, IsTrue, IsFalse};
+ghost use Rattle.std.specs.Prelude.{◌≡◌, ℕ, ◌+◌, ◌-◌, ◌<◌, ◌≤◌, ◌^◌, ◌⊎◌, [], length, min, vec_len, true, OnOk, OnErr, IfOk, Option, IsTrue, IsFalse};
 ghost use Rattle.reassembly.specs.Runs.{AreOrdered, AreAbove, Gains, KeepsBounds};
 ghost use Rattle.reassembly.specs.Laying.{HasBytes};
 ghost use Rattle.reassembly.specs.Pages.{IsHeld, IsReady, IsGrown, tally_in};
@@ -21,7 +21,7 @@ pub struct Window {
 }
 
 // How many of `len` positions from `start` on lie below `position`.
-fn count_under(position: u64, start: u64, len: usize) -> usize
+pub fn count_under(position: u64, start: u64, len: usize) -> usize
     ensures { result ≡ min (position - start) len }
 {
     position.saturating_sub(start).min(len as u64) as usize
@@ -36,6 +36,7 @@ impl Window {
     pub fn new(alloc: Global) -> Self
         ensures laid { IsLaid result }
         ensures empty { (result.bytes.base ≡ 0) × (result.next ≡ 0) × (runs_of result.runs ≡ []) }
+        ensures pages { vec_len result.bytes.keys ≡ 0 }
     {
         Window {
             next: 0,

@@ -1,0 +1,239 @@
+//! The buffer of a stream, in the smaller one of two forms that is enough.
+
+ghost use Rattle.std.specs.Prelude.{◌≡◌, ℕ, ◌+◌, ◌-◌, ◌<◌, ◌≤◌, ◌^◌, length, min, true, Option, OnOk, OnErr, IfOk, IsTrue, IsFalse};
+ghost use Rattle.reassembly.specs.Runs.{KeepsBounds};
+ghost use Rattle.reassembly.specs.Laying.{HasBytes};
+ghost use Rattle.reassembly.specs.Steps.{StepsTo, counts_viewed};
+ghost use Rattle.reassembly.specs.Window.{view_of, byte_at, accepts, IsLaid, IsSized, IsBounded, IsSameWindow};
+ghost use Rattle.reassembly.specs.Buffer.{in_order, differing_from};
+
+use crate::laying::differing;
+use crate::pages::PAGE;
+use crate::window::{Window, count_under};
+use crate::{Placed, Policy};
+use std::alloc::{AllocError, Global};
+
+/// What was accepted. Most streams end within their first page, and their segments come in order.
+#[derive(Drop)]
+pub enum Buffer {
+    /// All bytes from position 0 to below the next one, at most a page.
+    InOrder(Vec<u8>),
+    /// Pages, and runs that wait behind the next position.
+    Spread(Box<Window>),
+}
+
+// Whether a segment leaves no hole behind the first `next` positions, and the first page has room for it.
+fn can_append(next: usize, start: u64, len: usize, limit: u64) -> bool
+    requires { start + len < 2 ^ 64 }
+    ensures { IsTrue result → (start ≤ next) × (start + min (limit - start) len ≤ 2048) }
+{
+    start <= next as u64 && start + count_under(limit, start, len) as u64 <= PAGE as u64
+}
+
+// How many bytes of a segment from `start` on differ from the kept ones, of those that have all the positions.
+fn compare(bytes: &[u8], start: u64, segment: &[u8], rbuf: u32) -> u32
+    requires within { start + length segment.now ≤ length bytes.now }
+    requires short { length segment.now ≤ 65535 }
+    ensures value { result ≡ differing_from (length bytes.now - rbuf) bytes.now start segment.now }
+    ensures bound { result ≤ length segment.now }
+{
+    let low = (bytes.len() as u64).saturating_sub(u64::from(rbuf));
+    let skip = count_under(low, start, segment.len());
+    let from = start as usize;
+    differing(&bytes[from + skip..from + segment.len()], &segment[skip..])
+}
+
+// Takes room for `len` bytes: twice what there was, where that is enough, and never more than a page.
+fn make_room(bytes: &mut Vec<u8>, len: usize) -> Result<(), AllocError>
+    requires { len ≤ 2048 }
+    ensures { bytes.new.items ≡ bytes.old.items }
+{
+    if bytes.capacity() < len {
+        let room = (2 * bytes.capacity()).clamp(len, PAGE);
+        bytes.reserve_exact(room - bytes.len())?;
+    }
+    Ok(())
+}
+
+// Places a segment whose bytes go on where these end, and fit into a page.
+fn append(
+    bytes: &mut Vec<u8>,
+    start: u64,
+    segment: &[u8],
+    limit: u64,
+    rbuf: u32,
+) -> Result<Placed, AllocError>
+    requires laid { IsLaid (in_order bytes.old) }
+    requires sized { IsSized (in_order bytes.old) rbuf }
+    requires order { length bytes.old.items ≤ limit }
+    requires window { limit ≤ length bytes.old.items + rbuf }
+    requires short { length segment.now ≤ 65535 }
+    requires from { start ≤ length bytes.old.items }
+    requires page { start + min (limit - start) (length segment.now) ≤ 2048 }
+    ensures err { OnErr result (bytes.new.items ≡ bytes.old.items) }
+    ensures laid { OnOk result (IsLaid (in_order bytes.new)) }
+    ensures sized { OnOk result (IsSized (in_order bytes.new) rbuf) }
+    ensures bounded { OnOk result (KeepsBounds (λ m. limit ≤ m) IsBounded (in_order bytes.old) (in_order bytes.new)) }
+    ensures steps { OnOk result ((policy : _) (fin : Option ℕ)
+        → StepsTo limit start segment.now policy (view_of (in_order bytes.old) fin rbuf) (view_of (in_order bytes.new) fin rbuf)) }
+    ensures counts { IfOk result (λ placed. (fin : Option ℕ)
+        → placed ≡ counts_viewed (view_of (in_order bytes.old) fin rbuf) limit start segment.now) }
+    ensures bounds { IfOk result (λ placed. placed.old ≤ length segment.now) }
+{
+    let below = count_under(bytes.len() as u64, start, segment.len());
+    let within = count_under(limit, start, segment.len());
+    let differ = compare(bytes, start, &segment[..below], rbuf);
+    make_room(bytes, start as usize + within)?;
+    bytes.extend_from_slice(&segment[below..within])?;
+    Ok(Placed {
+        new: (within - below) as u32,
+        old: below as u32,
+        differ,
+        over: (segment.len() - within) as u32,
+    })
+}
+
+// The window that has these bytes as its first page. Where memory is refused, they stay.
+fn spread(bytes: &mut Vec<u8>) -> Result<Box<Window>, AllocError>
+    requires { IsLaid (in_order bytes.old) }
+    ensures err { OnErr result (bytes.new.items ≡ bytes.old.items) }
+    ensures same { IfOk result (λ window. IsSameWindow (in_order bytes.old) window.value) }
+{
+    let alloc = *bytes.allocator();
+    let mut window = Box::new(alloc, Window::new(alloc))?;
+    window.next = bytes.len() as u64;
+    window.bytes.begin(bytes)?;
+    Ok(window)
+}
+
+impl Buffer {
+    ghost use Rattle.std.specs.Prelude.{[]};
+    ghost use Rattle.reassembly.specs.Buffer.{window_of};
+    ghost use Rattle.reassembly.specs.Kept.{IsRunEnd, IsFirstKept};
+    ghost use Rattle.reassembly.specs.Waiting.{runs_of};
+    ghost use Rattle.reassembly.specs.Window.{kept_at};
+
+    /// A buffer with nothing in it. It takes no memory.
+    pub fn new(alloc: Global) -> Self
+        ensures laid { IsLaid (window_of result) }
+        ensures empty { ((window_of result).bytes.base ≡ 0) × ((window_of result).next ≡ 0) × (runs_of (window_of result).runs ≡ []) }
+    {
+        Buffer::InOrder(Vec::new(alloc))
+    }
+
+    /// The least position that wasn't accepted.
+    pub fn next(&self) -> u64
+        ensures { result ≡ (window_of self.now).next }
+    {
+        match self {
+            Buffer::InOrder(bytes) => bytes.len() as u64,
+            Buffer::Spread(window) => window.next,
+        }
+    }
+
+    /// Places a segment that begins at `start`, as [`Window::place`] does. The buffer is spread at the first one that
+    /// leaves a hole or ends past the first page. Where memory is refused, the content is as before.
+    pub fn place(
+        &mut self,
+        start: u64,
+        segment: &[u8],
+        policy: Policy,
+        limit: u64,
+        rbuf: u32,
+    ) -> Result<Placed, AllocError>
+        requires laid { IsLaid (window_of self.old) }
+        requires sized { IsSized (window_of self.old) rbuf }
+        requires order { (window_of self.old).next ≤ limit }
+        requires window { limit ≤ (window_of self.old).next + rbuf }
+        requires short { length segment.now ≤ 65535 }
+        requires reach { (start + 65535 < 2 ^ 63) × ((window_of self.old).next + rbuf < 2 ^ 63) }
+        ensures err { OnErr result (IsSameWindow (window_of self.old) (window_of self.new)) }
+        ensures laid { OnOk result (IsLaid (window_of self.new)) }
+        ensures sized { OnOk result (IsSized (window_of self.new) rbuf) }
+        ensures bounded { OnOk result (KeepsBounds (λ m. limit ≤ m) IsBounded (window_of self.old) (window_of self.new)) }
+        ensures steps { OnOk result ((fin : Option ℕ)
+            → StepsTo limit start segment.now policy (view_of (window_of self.old) fin rbuf) (view_of (window_of self.new) fin rbuf)) }
+        ensures counts { IfOk result (λ placed. (fin : Option ℕ)
+            → placed ≡ counts_viewed (view_of (window_of self.old) fin rbuf) limit start segment.now) }
+        ensures bounds { IfOk result (λ placed. placed.old ≤ length segment.now) }
+    {
+        match self {
+            Buffer::InOrder(bytes) if can_append(bytes.len(), start, segment.len(), limit) => {
+                append(bytes, start, segment, limit, rbuf)
+            }
+            Buffer::InOrder(bytes) => {
+                let mut window = spread(bytes)?;
+                let placed = window.place(start, segment, policy, limit, rbuf);
+                *self = Buffer::Spread(window);
+                placed
+            }
+            Buffer::Spread(window) => window.place(start, segment, policy, limit, rbuf),
+        }
+    }
+
+    /// Whether no byte at `position` or past it is accepted.
+    pub fn is_free_from(&self, position: u64) -> bool
+        requires { IsLaid (window_of self.now) }
+        ensures free { IsTrue result → IsBounded (window_of self.now) position }
+        ensures taken { IsFalse result → (p : ℕ) × (position ≤ p) × (accepts (window_of self.now) p ≡ true) }
+    {
+        match self {
+            Buffer::InOrder(bytes) => bytes.len() as u64 <= position,
+            Buffer::Spread(window) => window.is_free_from(position),
+        }
+    }
+
+    /// Where the run of kept positions ends that has `position`: `position` itself, where it isn't kept.
+    pub fn run_end(&self, position: u64, rbuf: u32) -> u64
+        requires { IsLaid (window_of self.now) }
+        ensures { IsRunEnd (kept_at (window_of self.now) rbuf) position result }
+    {
+        match self {
+            Buffer::InOrder(bytes) => {
+                let next = bytes.len() as u64;
+                if position < next.saturating_sub(u64::from(rbuf)) {
+                    return position;
+                }
+                position.max(next)
+            }
+            Buffer::Spread(window) => window.run_end(position, rbuf),
+        }
+    }
+
+    /// The first kept position at or above `position`, if there is one.
+    pub fn first_kept(&self, position: u64, rbuf: u32) -> Option<u64>
+        requires laid { IsLaid (window_of self.now) }
+        requires least { 1 ≤ rbuf }
+        ensures { IsFirstKept (kept_at (window_of self.now) rbuf) position result }
+    {
+        match self {
+            Buffer::InOrder(bytes) => {
+                let next = bytes.len() as u64;
+                if position >= next {
+                    return None;
+                }
+                Some(position.max(next.saturating_sub(u64::from(rbuf))))
+            }
+            Buffer::Spread(window) => window.first_kept(position, rbuf),
+        }
+    }
+
+    /// Copies the bytes from `position` on, which are accepted and which the buffer still has, and fills `buf`.
+    pub fn copy(&self, position: u64, buf: &mut [u8])
+        requires laid { IsLaid (window_of self.now) }
+        requires from { (window_of self.now).bytes.base ≤ position }
+        requires some { 0 < length buf.old }
+        requires accepted { (p : ℕ) → position ≤ p → p < position + length buf.old
+            → accepts (window_of self.now) p ≡ true }
+        requires reach { position + length buf.old < 2 ^ 64 }
+        ensures { HasBytes buf.new (length buf.old) (λ i. byte_at (window_of self.now) (position + i)) }
+    {
+        match self {
+            Buffer::InOrder(bytes) => {
+                let from = position as usize;
+                buf.copy_from_slice(&bytes[from..from + buf.len()]);
+            }
+            Buffer::Spread(window) => window.copy(position, buf),
+        }
+    }
+}
