@@ -1,5 +1,5 @@
 -- The bytes of one page as a window: what it holds, a segment that goes on where they end, and the window that they become.
-use Rattle.std.proofs.Common.{◌≡◌, ℕ, ◌+◌, ◌-◌, ◌/◌, ◌%◌, ◌<◌, ◌≤◌, zero, suc, min, max, Bool, true, false, not, ◌&&◌, refl, ap, ap₂, ◌∙◌, sym, arith, List, [], ◌∷◌, ◌++◌, Option, Some, None, length, slice_index, map, take, drop, eqb, leb, ltb, le-leb, lt-ltb, rules, length-append, length-take-le, add-zero, ⊎_elim}
+use Rattle.std.proofs.Common.{◌≡◌, ℕ, ◌+◌, ◌-◌, ◌/◌, ◌%◌, ◌<◌, ◌≤◌, zero, suc, min, Bool, true, false, not, ◌&&◌, refl, ap, ap₂, ◌∙◌, sym, arith, List, [], ◌++◌, Option, Some, length, slice_index, map, take, drop, eqb, leb, ltb, le-leb, lt-ltb, rules, length-append, length-take-le, add-zero, ⊎_elim}
 use Rattle.std.specs.List.{range_with_len}
 use Rattle.std.proofs.lemmas.Bool.{cases_lt, lt-leb, and_from}
 use Rattle.std.proofs.lemmas.List.{get_or_append_left, get_or-append_right}
@@ -13,7 +13,7 @@ use Rattle.reassembly.specs.declared.window.Window.{Window}
 use Rattle.reassembly.specs.Buffer.{first_page, in_order, differing_from}
 use Rattle.reassembly.specs.Laying.{differing_of}
 use Rattle.reassembly.specs.Pages.{page_at, byte_of, IsKeyed}
-use Rattle.reassembly.specs.Runs.{is_accepted, is_covered}
+use Rattle.reassembly.specs.Runs.{is_accepted}
 use Rattle.reassembly.specs.Segment.{has_byte, count_below}
 use Rattle.reassembly.specs.Steps.{StepsTo, counts_viewed}
 use Rattle.reassembly.specs.View.{StreamView}

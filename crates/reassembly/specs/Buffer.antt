@@ -1,10 +1,9 @@
 -- What a buffer holds, as a window, whichever of its forms it has: private to the crate.
-use Rattle.std.specs.Prelude.{◌≡◌, ℕ, ◌+◌, ◌<◌, ◌≤◌, ◌^◌, ◌⊎◌, not, ◌&&◌, nat_le, nat_eq, List, [], ◌∷◌, length, slice_index, Some, refl}
+use Rattle.std.specs.Prelude.{ℕ, ◌+◌, ◌^◌, not, ◌&&◌, nat_le, nat_eq, List, [], ◌∷◌, length, slice_index, Some, refl}
 use Rattle.std.specs.Global.{Global}
 use Rattle.std.specs.declared.vec.Vec.{Vec}
 use Rattle.std.proofs.Common.{ltb-true, leb-true, inl}
 use Rattle.std_collections.specs.Layout.BTreeMap.{btree_map}
-use Rattle.slab.specs.Slab.{Slab}
 use Rattle.reassembly.specs.Segment.{count_below}
 use Rattle.reassembly.specs.declared.pages.Pages.{Pages}
 use Rattle.reassembly.specs.declared.waiting.Runs.{Runs}

@@ -3,14 +3,14 @@
 ghost use Rattle.std.specs.Prelude.{◌≡◌, ◌≤◌};
 ghost use Rattle.std.specs.Iterator.{YieldsFirst, item_count};
 
-use crate::window::Window;
+use crate::buffer::Buffer;
 use std::marker::Model;
 
 /// An iterator over the longest runs of kept positions in a range, also above `next`: each by its place and its
 /// length, in order. A contract sees the list of those that are left.
 #[derive(Drop)]
 pub struct Pieces<'a> {
-    window: &'a Window,
+    window: &'a Buffer,
     rbuf: u32,
     place: u64,
     left: u32,
@@ -19,24 +19,26 @@ pub struct Pieces<'a> {
 impl<'a> Model for Pieces<'a> {
     ghost use Rattle.std.specs.Prelude.{ℕ, ◌≤◌, List};
     ghost use Rattle.reassembly.specs.Kept.{runs_from};
+    ghost use Rattle.reassembly.specs.Buffer.{window_of};
     ghost use Rattle.reassembly.specs.Window.{kept_at, IsLaid};
 
     ghost Value = { List (ℕ × ℕ) };
 
-    ghost view = { λ p. runs_from (kept_at p.window.now p.rbuf) p.place p.left };
+    ghost view = { λ p. runs_from (kept_at (window_of p.window.now) p.rbuf) p.place p.left };
 
-    ghost invariant = { λ p. IsLaid p.window.now × (1 ≤ p.rbuf) };
+    ghost invariant = { λ p. IsLaid (window_of p.window.now) × (1 ≤ p.rbuf) };
 }
 
 impl<'a> Pieces<'a> {
     ghost use Rattle.reassembly.specs.Kept.{runs_from};
+    ghost use Rattle.reassembly.specs.Buffer.{window_of};
     ghost use Rattle.reassembly.specs.Window.{kept_at, IsLaid};
 
     /// The runs among the `len` positions from `position` on.
-    pub fn new(window: &'a Window, rbuf: u32, position: u64, len: u32) -> Self
-        requires laid { IsLaid window.now }
+    pub fn new(window: &'a Buffer, rbuf: u32, position: u64, len: u32) -> Self
+        requires laid { IsLaid (window_of window.now) }
         requires least { 1 ≤ rbuf }
-        ensures { result ≡ runs_from (kept_at window.now rbuf) position len }
+        ensures { result ≡ runs_from (kept_at (window_of window.now) rbuf) position len }
     {
         Pieces {
             window,

@@ -7,9 +7,9 @@ ghost use Rattle.reassembly.specs.Segment.{accept_above, counts_above};
 ghost use Rattle.reassembly.specs.Fin.{note_of, noted};
 ghost use Rattle.reassembly.specs.View.{StandsFor, ForReceiver, ForKept, ForWide, StandsAfter, StandsAfterWide};
 
+use crate::buffer::Buffer;
 use crate::fin::{judge, natural, noted_after};
 use crate::start::{limit, start_of};
-use crate::window::Window;
 use crate::{FinNote, Pieces, Placed, Policy};
 use std::alloc::{AllocError, Global};
 use std::marker::Model;
@@ -22,20 +22,21 @@ use std::marker::Model;
 /// isn't stored here: its owner keeps the offer, and tells `place` how wide the window is by it.
 #[derive(Drop)]
 pub struct Stream {
-    window: Window,
+    window: Buffer,
     fin: Option<u64>,
     rbuf: u32,
 }
 
 impl Model for Stream {
     ghost use Rattle.reassembly.specs.View.{StreamView};
+    ghost use Rattle.reassembly.specs.Buffer.{window_of};
     ghost use Rattle.reassembly.specs.Window.{view_of, IsWhole};
 
     ghost Value = { StreamView };
 
-    ghost view = { λ s. view_of s.window s.fin s.rbuf };
+    ghost view = { λ s. view_of (window_of s.window) s.fin s.rbuf };
 
-    ghost invariant = { λ s. IsWhole s.window s.fin s.rbuf };
+    ghost invariant = { λ s. IsWhole (window_of s.window) s.fin s.rbuf };
 }
 
 impl Stream {
@@ -49,7 +50,7 @@ impl Stream {
         ensures fin { result.fin ≡ None }
     {
         Stream {
-            window: Window::new(alloc),
+            window: Buffer::new(alloc),
             fin: None,
             rbuf,
         }
@@ -59,7 +60,7 @@ impl Stream {
     pub fn next(&self) -> u64
         ensures { result ≡ self.now.next }
     {
-        self.window.next
+        self.window.next()
     }
 
     /// The position of the FIN, once it is noted.
@@ -73,7 +74,7 @@ impl Stream {
     pub fn low(&self) -> u64
         ensures { ForReceiver self.now (λ r. result ≡ low_of r.cells self.now.rbuf) }
     {
-        self.window.next.saturating_sub(u64::from(self.rbuf))
+        self.window.next().saturating_sub(u64::from(self.rbuf))
     }
 
     /// Places the bytes of a segment whose first one stands `d` above `next`, where the receive window has the `wide`
@@ -99,8 +100,9 @@ impl Stream {
         ensures counts { IfOk result (λ placed. ForWide self.old wide
             (λ r. placed ≡ counts_above d bytes.now self.old.rbuf r)) }
     {
-        let limit = limit(self.window.next, self.fin, wide);
-        let start = start_of(self.window.next, d);
+        let next = self.window.next();
+        let limit = limit(next, self.fin, wide);
+        let start = start_of(next, d);
         let below = start.below.min(bytes.len() as u64) as usize;
         let placed = self
             .window

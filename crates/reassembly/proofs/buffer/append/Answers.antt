@@ -1,5 +1,4 @@
-use Rattle.std.proofs.Common.{◌≡◌, ◌-◌, ◌++◌, ap, ◌∙◌, arith, length, take, drop}
-use Rattle.reassembly.specs.Buffer.{differing_from}
+use Rattle.std.proofs.Common.{◌-◌, ◌++◌, ap, ◌∙◌, arith, take, drop}
 use Rattle.reassembly.proofs.InOrder.{IsAppended, steps_in_order, counts_in_order}
 use Rattle.reassembly.proofs.buffer.append.Goals as goal
 

@@ -1,4 +1,4 @@
-use Rattle.std.proofs.Common.{◌≡◌, ◌-◌, ap, ◌∙◌, arith, length}
+use Rattle.std.proofs.Common.{◌-◌, ◌∙◌, arith, length}
 use Rattle.reassembly.proofs.InOrder.{compared}
 use Rattle.reassembly.proofs.buffer.compare.Goals as goal
 

@@ -1,5 +1,4 @@
-use Rattle.std.proofs.Common.{◌≡◌, ◌∙◌, ap, arith, List, length}
-use Rattle.reassembly.specs.declared.runs.Run.{Run}
+use Rattle.std.proofs.Common.{◌≡◌, ◌∙◌, ap, arith}
 use Rattle.reassembly.specs.declared.window.Window.{Window}
 use Rattle.reassembly.specs.Waiting.{runs_of}
 use Rattle.reassembly.proofs.InOrder.{spread_same}

@@ -1,17 +1,18 @@
-use Rattle.std.proofs.Common.{◌≡◌, ◌∙◌, ◌+◌, ◌≤◌, ◌+ℤ◌, ℤ, pos, ap, sym, subst, to_z-of_z}
+use Rattle.std.proofs.Common.{◌≡◌, ◌∙◌, ◌+◌, ◌≤◌, ◌+ℤ◌, ℤ, pos, ap, ap₂, sym, subst, to_z-of_z}
 use Rattle.reassembly.specs.declared.answers.Placed.{Placed}
-use Rattle.reassembly.specs.Receiver.{next_of, wide_of}
+use Rattle.reassembly.specs.Receiver.{next_of, wide_of, limit_of}
 use Rattle.reassembly.specs.Segment.{accept, counts, from_zero, below_zero}
 use Rattle.reassembly.specs.View.{StandsFor, StreamView}
+use Rattle.reassembly.specs.Buffer.{window_of}
 use Rattle.reassembly.specs.Window.{view_of}
 use Rattle.reassembly.proofs.Streams.{next_limit, limit_within, limit_fin, whole_same, stream_stands, stream_counts}
 use Rattle.reassembly.proofs.stream.Stream.place.Goals as goal
 
 pub place-requires-clause-order : goal.place-requires-clause-order
-place-requires-clause-order c = rw c.limit-limit.ensures (next_limit _ _ _ _ c.self.invariant)
+place-requires-clause-order c = rw (c.limit-limit.ensures, c.next-next.ensures) (next_limit _ _ _ _ c.self.invariant)
 
 pub place-requires-clause-window : goal.place-requires-clause-window
-place-requires-clause-window c = rw c.limit-limit.ensures (limit_within _ _ _ _ (subst (λ (k : StreamView). c.args.wide ≤ k.rbuf) (sym c.self.view_is) c.requires.wide))
+place-requires-clause-window c = rw (c.limit-limit.ensures, c.next-next.ensures) (limit_within _ _ _ _ (subst (λ (k : StreamView). c.args.wide ≤ k.rbuf) (sym c.self.view_is) c.requires.wide))
 
 pub invariant_of-self : goal.invariant_of-self
 invariant_of-self c = whole_same _ _ _ _ c.in_err-placed.ensures.err c.self.invariant
@@ -28,20 +29,23 @@ invariant_of-self-2 c =
     }
 
 -- a signed argument stands in a call's clause as its bits
-begins : (c : goal.After-struct_known-1) → c.start_of-start.result.position ≡ from_zero (pos c.self.inside.window.next +ℤ c.args.d)
-begins c = c.start_of-start.ensures.position ∙ ap (λ (z : ℤ). from_zero (pos c.self.inside.window.next +ℤ z)) (to_z-of_z c.ranges.d)
+begins : (c : goal.After-struct_known-1) → c.start_of-start.result.position ≡ from_zero (pos (window_of c.self.inside.window).next +ℤ c.args.d)
+begins c = c.start_of-start.ensures.position ∙ ap₂ (λ x (z : ℤ). from_zero (pos x +ℤ z)) c.next-next.ensures (to_z-of_z c.ranges.d)
 
-begins_below : (c : goal.After-struct_known-1) → c.start_of-start.result.below ≡ below_zero (pos c.self.inside.window.next +ℤ c.args.d)
-begins_below c = c.start_of-start.ensures.below ∙ ap (λ (z : ℤ). below_zero (pos c.self.inside.window.next +ℤ z)) (to_z-of_z c.ranges.d)
+begins_below : (c : goal.After-struct_known-1) → c.start_of-start.result.below ≡ below_zero (pos (window_of c.self.inside.window).next +ℤ c.args.d)
+begins_below c = c.start_of-start.ensures.below ∙ ap₂ (λ x (z : ℤ). below_zero (pos x +ℤ z)) c.next-next.ensures (to_z-of_z c.ranges.d)
+
+ends : (c : goal.After-struct_known-1) → c.limit-limit.result ≡ limit_of (window_of c.self.inside.window).next c.self.inside.fin c.args.wide
+ends c = c.limit-limit.ensures ∙ ap (λ x. limit_of x c.self.inside.fin c.args.wide) c.next-next.ensures
 
 pub returns-clause-stands : goal.returns-clause-stands
 returns-clause-stands c r h is_wide =
     let s = c.self.inside in
     subst (λ (k : StreamView). StandsFor k r → c.args.wide ≡ wide_of r k.rbuf
-    → StandsFor (view_of c.place.new.self s.fin s.rbuf) (accept r (pos (next_of r.cells) +ℤ c.args.d) c.args.bytes.now c.args.policy k.rbuf)) c.self.view_is
-    (stream_stands s.window c.place.new.self s.fin s.rbuf c.args.wide c.limit-limit.result c.args.d c.args.bytes.now c.args.policy
+    → StandsFor (view_of (window_of c.place.new.self) s.fin s.rbuf) (accept r (pos (next_of r.cells) +ℤ c.args.d) c.args.bytes.now c.args.policy k.rbuf)) c.self.view_is
+    (stream_stands (window_of s.window) (window_of c.place.new.self) s.fin s.rbuf c.args.wide c.limit-limit.result c.args.d c.args.bytes.now c.args.policy
     c.start_of-start.result.position c.start_of-start.result.below c.min-below.result
-    (begins c) (begins_below c) c.min-below.ensures c.limit-limit.ensures (c.in_ok-placed.ensures.steps s.fin) r)
+    (begins c) (begins_below c) c.min-below.ensures (ends c) (c.in_ok-placed.ensures.steps s.fin) r)
     h is_wide
 
 pub returns-clause-counts : goal.returns-clause-counts
@@ -50,6 +54,6 @@ returns-clause-counts c r h is_wide =
     let placed = c.in_ok-placed.placed in
     let made : Placed = record { new = placed.new; old = c.min-below.result + placed.old; differ = placed.differ; over = placed.over } in
     subst (λ (k : StreamView). StandsFor k r → c.args.wide ≡ wide_of r k.rbuf → made ≡ counts r (pos (next_of r.cells) +ℤ c.args.d) c.args.bytes.now k.rbuf) c.self.view_is
-    (stream_counts s.window s.fin s.rbuf c.args.wide c.limit-limit.result c.args.d c.args.bytes.now c.start_of-start.result.position c.start_of-start.result.below c.min-below.result placed
-    (begins c) (begins_below c) c.min-below.ensures c.limit-limit.ensures (c.in_ok-placed.ensures.counts s.fin) r)
+    (stream_counts (window_of s.window) s.fin s.rbuf c.args.wide c.limit-limit.result c.args.d c.args.bytes.now c.start_of-start.result.position c.start_of-start.result.below c.min-below.result placed
+    (begins c) (begins_below c) c.min-below.ensures (ends c) (c.in_ok-placed.ensures.counts s.fin) r)
     h is_wide
