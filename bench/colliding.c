@@ -2,8 +2,8 @@
 // colliding COUNT > FILE. With a second word it takes endpoints as they come.
 //
 // The hash is that of the kit's standard library ("fold"): each number is multiplied to 128 bits and both halves are
-// joined by exclusive or. What is counted as a collision: the same sixteen low bits, so the same place in a table of up
-// to 65,536 places and, in a larger one, one of a few.
+// joined by exclusive or; the table joins both halves of the result once more. What is counted as a collision: the same
+// sixteen low bits then, so the same place in a table of up to 65,536 places and, in a larger one, one of a few.
 #include <stdint.h>
 #include <stdio.h>
 #include <stdlib.h>
@@ -18,13 +18,10 @@ static uint64_t fold(uint64_t a, uint64_t b) {
     return (uint64_t)product ^ (uint64_t)(product >> 64);
 }
 
-// A family of addresses, an address and a port, as an endpoint writes them into the hash.
-static uint64_t family(uint64_t state) { return fold(state ^ 0, FACTOR ^ 16); }
-static uint64_t address(uint64_t state, uint32_t addr) { return fold(state ^ (addr | (uint64_t)addr << 32), FACTOR ^ 8); }
-static uint64_t port(uint64_t state, uint16_t p) {
-    uint64_t high = p >> 8;
-    return fold(state ^ ((p & 255u) | high << 8 | high << 16), FACTOR ^ 4);
-}
+// An endpoint as it writes itself into the hash: one number of an address and a port.
+static uint64_t endpoint(uint64_t state, uint32_t addr, uint16_t p) { return fold(state ^ ((uint64_t)addr << 16 | p), FACTOR ^ 16); }
+
+static uint32_t place(uint64_t hash) { return (uint32_t)(hash ^ hash >> 32); }
 
 static void number(uint64_t value, int bytes) {
     while (bytes-- > 0) putchar((int)(value >> (8 * bytes) & 255));
@@ -40,13 +37,11 @@ static void syn(uint64_t count, uint32_t addr, uint16_t p) {
 int main(int words, char **word) {
     if (words < 2) return fputs("usage: colliding COUNT [any] > FILE\n", stderr), 2;
     uint64_t wanted = strtoull(word[1], NULL, 10), found = 0;
-    uint64_t mask = words > 2 ? 0 : 0xffff;
-    uint64_t server = family(port(address(family(START), SERVER), SERVER_PORT));
+    uint32_t mask = words > 2 ? 0 : 0xffff;
+    uint64_t server = endpoint(START, SERVER, SERVER_PORT);
     number(0xa1b2c3d4, 4), number(2, 2), number(4, 2), number(0, 4), number(0, 4), number(65535, 4), number(1, 4);
-    for (uint32_t addr = SERVER + 1; found < wanted; addr++) {
-        uint64_t client = address(server, addr);
+    for (uint32_t addr = SERVER + 1; found < wanted; addr++)
         for (uint32_t p = 1024; p < 65536 && found < wanted; p++)
-            if ((port(client, (uint16_t)p) & mask) == (5 & mask)) syn(found++, addr, (uint16_t)p);
-    }
+            if ((place(endpoint(server, addr, (uint16_t)p)) & mask) == (5 & mask)) syn(found++, addr, (uint16_t)p);
     return 0;
 }

@@ -89,8 +89,8 @@ impl CallbackLog {
     }
 }
 
-// Room for one note more. A full list grows by a quarter and four places, not to twice its length: a run keeps a list for each
-// of many records to its end, and most are short.
+// Room for one note more. A full list grows by a quarter and eight places, not to twice its length: a run keeps a list for each
+// of many records to its end, and most are short. Many have one or two notes, so the first room is for four.
 fn make_room(notes: &mut Vec<Note>) -> Result<(), AllocError>
     ensures room { OnOk result (vec_len notes.new < vec_capacity notes.new) }
     ensures same { notes.new.items ≡ notes.old.items }
@@ -99,7 +99,8 @@ fn make_room(notes: &mut Vec<Note>) -> Result<(), AllocError>
     if len < notes.capacity() {
         return Ok(());
     }
-    notes.reserve_exact(len / 4 + 4)
+    let more = if len == 0 { 4 } else { len / 4 + 8 };
+    notes.reserve_exact(more)
 }
 
 // Keeps what a callback saw, if it had a peek.

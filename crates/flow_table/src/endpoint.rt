@@ -1,12 +1,14 @@
 //! One end of a connection: an address and a port.
 
 ghost use Rattle.std.specs.Prelude.{◌≡◌};
+ghost use Rattle.flow_table.specs.Hashing.{hash_input, hashed_alike};
 
 use packet_views::Head;
+use std::hash::{Hash, Hasher};
 
 /// An IPv4 or IPv6 address with a TCP port. IPv4 comes before IPv6, then the address decides, then
 /// the port.
-#[derive(Clone, Copy, Debug, PartialEq, Eq, PartialOrd, Ord, Hash)]
+#[derive(Clone, Copy, Debug, PartialEq, Eq, PartialOrd, Ord)]
 pub enum Endpoint {
     /// An IPv4 address (RFC 791) as a number, the first byte highest.
     V4 { addr: u32, port: u16 },
@@ -36,6 +38,23 @@ impl Endpoint {
         Endpoint::V4 {
             addr: head.dst,
             port: head.dport,
+        }
+    }
+}
+
+/// An IPv4 endpoint is hashed as one number: one step of the hasher in place of three.
+impl Hash for Endpoint {
+    ghost hash_input = { hash_input };
+
+    ghost respects_eq = { hashed_alike };
+
+    fn hash<H: Hasher>(&self, state: &mut H) {
+        match *self {
+            Endpoint::V4 { addr, port } => (u64::from(addr) * 65536 + u64::from(port)).hash(state),
+            Endpoint::V6 { addr, port } => {
+                addr.hash(state);
+                port.hash(state);
+            }
         }
     }
 }
