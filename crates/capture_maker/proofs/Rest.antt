@@ -1,10 +1,13 @@
 -- The turns that are left, one after another.
-use Rattle.std.proofs.Common.{◌≡◌, ℕ, suc, ◌+◌, ◌-◌, ◌*◌, ◌/◌, ◌<◌, ◌≤◌, min, List, [], ◌∷◌, ◌++◌, flat_map, refl, sym, ap, ◌∙◌, arith, inl, inr}
+use Rattle.std.proofs.Common.{◌≡◌, ℕ, suc, ◌+◌, ◌-◌, ◌*◌, ◌/◌, ◌<◌, ◌≤◌, min, List, [], ◌∷◌, ◌++◌, drop, get_or, flat_map, refl, sym, ap, ◌∙◌, arith, add-one, inl, inr}
 use Rattle.std.proofs.lemmas.Bool.{cases_lt}
+use Rattle.std.proofs.lemmas.List.{drop_all}
+use Rattle.std.proofs.Math.Seq.{drop-cons}
 use Rattle.std.specs.List.{range_with_len}
-use Rattle.capture_maker.specs.Turns.{after, group_turns, groups_from, step_turns, turns_from, turns_of}
+use Rattle.capture_maker.specs.Turns.{group_turns, groups_from, step_turns, steps, turns_from, turns_of}
 use Rattle.capture_maker.specs.declared.step.Step.{Step}
 use Rattle.capture_maker.specs.declared.step.Step.TheVariants.{Syn}
+use Rattle.capture_maker.specs.declared.turns.Turn.{Turn}
 
 -- no connection takes no step
 no_turns : (first count : ℕ) (xs : List Step) → count ≡ 0 → flat_map (step_turns first count) xs ≡ []
@@ -18,63 +21,72 @@ no_groups n g behind =
     ap (λ k. flat_map (λ h. group_turns (16 * h) (min 16 (n - 16 * h))) (range_with_len g k)) none
 
 -- no turn behind the last connection
-pub none_left : (n g : ℕ) (step : Step) (c : ℕ) → n ≤ 16 * g → c ≡ 16 * g → turns_from n g step c ≡ []
-none_left n g step c behind is =
+pub none_left : (n g : ℕ) (left : List Step) (c : ℕ) → n ≤ 16 * g → c ≡ 16 * g → turns_from n g left c ≡ []
+none_left n g [] c behind is = no_groups n (g + 1) (omega arith)
+none_left n g (step ∷ further) c behind is =
     let none : 16 * g + min 16 (n - 16 * g) - c ≡ 0 = omega arith in
     let size : min 16 (n - 16 * g) ≡ 0 = omega arith in
-    ap (λ k. step_turns c k step ++ flat_map (step_turns (16 * g) (min 16 (n - 16 * g))) (after step) ++ groups_from n (g + 1)) none
-    ∙ ap (λ l. l ++ groups_from n (g + 1)) (no_turns (16 * g) (min 16 (n - 16 * g)) (after step) size)
+    ap (λ k. step_turns c k step ++ flat_map (step_turns (16 * g) (min 16 (n - 16 * g))) further ++ groups_from n (g + 1)) none
+    ∙ ap (λ l. l ++ groups_from n (g + 1)) (no_turns (16 * g) (min 16 (n - 16 * g)) further size)
     ∙ no_groups n (g + 1) (omega arith)
 
--- a group begins with the first step of its first connection
-group_begins : (n g : ℕ) → 16 * g < n → turns_from n g Syn (16 * g) ≡ groups_from n g
-group_begins n g some =
+-- the turns of a group's steps from its first connection on
+next_step : (n g : ℕ) (left : List Step) → turns_from n g left (16 * g) ≡ flat_map (step_turns (16 * g) (min 16 (n - 16 * g))) left ++ groups_from n (g + 1)
+next_step n g [] = refl
+next_step n g (step ∷ further) =
     let size = min 16 (n - 16 * g) in
     let all : 16 * g + size - 16 * g ≡ size = omega arith in
+    ap (λ k. step_turns (16 * g) k step ++ flat_map (step_turns (16 * g) size) further ++ groups_from n (g + 1)) all
+
+-- a group begins with all steps of its first connection
+group_begins : (n g : ℕ) → 16 * g < n → turns_from n g steps (16 * g) ≡ groups_from n g
+group_begins n g some =
     let more : (n + 15) / 16 - g ≡ suc ((n + 15) / 16 - (g + 1)) = omega arith in
-    ap (λ k. step_turns (16 * g) k Syn ++ flat_map (step_turns (16 * g) size) (after Syn) ++ groups_from n (g + 1)) all
+    next_step n g steps
     ∙ sym (ap (λ k. flat_map (λ h. group_turns (16 * h) (min 16 (n - 16 * h))) (range_with_len g k)) more)
 
-pub group_turns_begin : (n g : ℕ) → turns_from n g Syn (16 * g) ≡ groups_from n g
+pub group_turns_begin : (n g : ℕ) → turns_from n g steps (16 * g) ≡ groups_from n g
 group_turns_begin n g = elim (cases_lt (16 * g) n) [
   | inl some ↦ group_begins n g some
-  | inr none ↦ none_left n g Syn (16 * g) none refl ∙ sym (no_groups n g none)
+  | inr none ↦ none_left n g steps (16 * g) none refl ∙ sym (no_groups n g none)
 ]
 
-pub all_turns : (n : ℕ) → turns_from n 0 Syn 0 ≡ turns_of n
+pub all_turns : (n : ℕ) → turns_from n 0 steps 0 ≡ turns_of n
 unfolding turns_of
 all_turns n = group_turns_begin n 0
 
+-- the steps from a place on
+steps_from : (place : ℕ) → place < 10 → drop place steps ≡ get_or steps place Syn ∷ drop (place + 1) steps
+steps_from place few = drop-cons steps place Syn few ∙ ap (λ k. get_or steps place Syn ∷ drop k steps) (sym (add-one place))
+
 -- the next turn is gone: another connection of the group takes the step
-pub same_step : (n g : ℕ) (step : Step) (c : ℕ) → c + 1 < 16 * g + min 16 (n - 16 * g)
-    → turns_from n g step c ≡ record { step = step; connection = c } ∷ turns_from n g step (c + 1)
-same_step n g step c within =
+pub same_step : (n g place c : ℕ) → place < 10 → c + 1 < 16 * g + min 16 (n - 16 * g)
+    → turns_from n g (drop place steps) c ≡ record { step = get_or steps place Syn; connection = c } ∷ turns_from n g (drop place steps) (c + 1)
+same_step n g place c few within =
+    let step = get_or steps place Syn in
+    let further = drop (place + 1) steps in
     let more : 16 * g + min 16 (n - 16 * g) - c ≡ suc (16 * g + min 16 (n - 16 * g) - (c + 1)) = omega arith in
-    ap (λ k. step_turns c k step ++ flat_map (step_turns (16 * g) (min 16 (n - 16 * g))) (after step) ++ groups_from n (g + 1)) more
+    ap (λ l. turns_from n g l c) (steps_from place few)
+    ∙ ap (λ k. step_turns c k step ++ flat_map (step_turns (16 * g) (min 16 (n - 16 * g))) further ++ groups_from n (g + 1)) more
+    ∙ sym (ap (λ l. record { step = step; connection = c } ∷ turns_from n g l (c + 1)) (steps_from place few))
 
--- the last connection of the group has taken the step
-last_connection : (n g : ℕ) (step : Step) (c : ℕ) → c < 16 * g + min 16 (n - 16 * g) → 16 * g + min 16 (n - 16 * g) ≤ c + 1
-    → turns_from n g step c ≡ record { step = step; connection = c } ∷ (flat_map (step_turns (16 * g) (min 16 (n - 16 * g))) (after step) ++ groups_from n (g + 1))
-last_connection n g step c within last =
+-- the last connection of the group has taken the step: the group goes on with its other steps
+pub next_of_group : (n g place c : ℕ) → place < 10 → c < 16 * g + min 16 (n - 16 * g) → 16 * g + min 16 (n - 16 * g) ≤ c + 1
+    → turns_from n g (drop place steps) c ≡ record { step = get_or steps place Syn; connection = c } ∷ turns_from n g (drop (place + 1) steps) (16 * g)
+next_of_group n g place c few within last =
+    let step = get_or steps place Syn in
+    let further = drop (place + 1) steps in
     let one : 16 * g + min 16 (n - 16 * g) - c ≡ 1 = omega arith in
-    ap (λ k. step_turns c k step ++ flat_map (step_turns (16 * g) (min 16 (n - 16 * g))) (after step) ++ groups_from n (g + 1)) one
+    ap (λ l. turns_from n g l c) (steps_from place few)
+    ∙ ap (λ k. step_turns c k step ++ flat_map (step_turns (16 * g) (min 16 (n - 16 * g))) further ++ groups_from n (g + 1)) one
+    ∙ sym (ap (λ l. record { step = step; connection = c } ∷ l) (next_step n g further))
 
--- the group goes on with its next step
-pub next_of_group : (n g : ℕ) (step next : Step) (c : ℕ) → c < 16 * g + min 16 (n - 16 * g) → 16 * g + min 16 (n - 16 * g) ≤ c + 1 → after step ≡ next ∷ after next
-    → turns_from n g step c ≡ record { step = step; connection = c } ∷ turns_from n g next (16 * g)
-next_of_group n g step next c within last goes_on =
-    let size = min 16 (n - 16 * g) in
-    let all : size ≡ 16 * g + size - 16 * g = omega arith in
-    last_connection n g step c within last
-    ∙ ap (λ l. record { step = step; connection = c } ∷ (flat_map (step_turns (16 * g) size) l ++ groups_from n (g + 1))) goes_on
-    ∙ ap (λ k. record { step = step; connection = c } ∷ (step_turns (16 * g) k next ++ flat_map (step_turns (16 * g) size) (after next) ++ groups_from n (g + 1))) all
-
--- the next group begins
-pub next_group : (n g : ℕ) (step : Step) (c first : ℕ) → c < 16 * g + min 16 (n - 16 * g) → 16 * g + min 16 (n - 16 * g) ≤ c + 1 → after step ≡ [] → first ≡ 16 * (g + 1)
-    → turns_from n g step c ≡ record { step = step; connection = c } ∷ turns_from n (g + 1) Syn first
-next_group n g step c first within last ends is =
-    let size = min 16 (n - 16 * g) in
-    last_connection n g step c within last
-    ∙ ap (λ l. record { step = step; connection = c } ∷ (flat_map (step_turns (16 * g) size) l ++ groups_from n (g + 1))) ends
-    ∙ ap (λ l. record { step = step; connection = c } ∷ l) (sym (group_turns_begin n (g + 1)))
-    ∙ ap (λ k. record { step = step; connection = c } ∷ turns_from n (g + 1) Syn k) (sym is)
+-- it was the group's last step: the next group begins
+pub next_group : (n g place c first : ℕ) → place < 10 → 10 ≤ place + 1 → c < 16 * g + min 16 (n - 16 * g) → 16 * g + min 16 (n - 16 * g) ≤ c + 1 → first ≡ 16 * (g + 1)
+    → turns_from n g (drop place steps) c ≡ record { step = get_or steps place Syn; connection = c } ∷ turns_from n (g + 1) steps first
+next_group n g place c first few all within last is =
+    let turn : Turn = record { step = get_or steps place Syn; connection = c } in
+    next_of_group n g place c few within last
+    ∙ ap (λ l. turn ∷ turns_from n g l (16 * g)) (drop_all (place + 1) steps all)
+    ∙ ap (λ l. turn ∷ l) (sym (group_turns_begin n (g + 1)))
+    ∙ ap (λ k. turn ∷ turns_from n (g + 1) steps k) (sym is)

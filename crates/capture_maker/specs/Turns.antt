@@ -5,22 +5,9 @@ use Rattle.capture_maker.specs.declared.step.Step.{Step}
 use Rattle.capture_maker.specs.declared.step.Step.TheVariants.{Syn, SynAck, Opened, Request, LateHalf, FirstHalf, Repeated, ClientFin, ServerFin, LastAck}
 use Rattle.capture_maker.specs.declared.turns.Turn.{Turn}
 
--- the steps behind a step
-abbrev pub after : Step → List Step
-after Syn = SynAck ∷ Opened ∷ Request ∷ LateHalf ∷ FirstHalf ∷ Repeated ∷ ClientFin ∷ ServerFin ∷ LastAck ∷ []
-after SynAck = Opened ∷ Request ∷ LateHalf ∷ FirstHalf ∷ Repeated ∷ ClientFin ∷ ServerFin ∷ LastAck ∷ []
-after Opened = Request ∷ LateHalf ∷ FirstHalf ∷ Repeated ∷ ClientFin ∷ ServerFin ∷ LastAck ∷ []
-after Request = LateHalf ∷ FirstHalf ∷ Repeated ∷ ClientFin ∷ ServerFin ∷ LastAck ∷ []
-after LateHalf = FirstHalf ∷ Repeated ∷ ClientFin ∷ ServerFin ∷ LastAck ∷ []
-after FirstHalf = Repeated ∷ ClientFin ∷ ServerFin ∷ LastAck ∷ []
-after Repeated = ClientFin ∷ ServerFin ∷ LastAck ∷ []
-after ClientFin = ServerFin ∷ LastAck ∷ []
-after ServerFin = LastAck ∷ []
-after LastAck = []
-
--- all steps
+-- the steps of a connection, in order
 abbrev pub steps : List Step
-steps = Syn ∷ after Syn
+steps = Syn ∷ SynAck ∷ Opened ∷ Request ∷ LateHalf ∷ FirstHalf ∷ Repeated ∷ ClientFin ∷ ServerFin ∷ LastAck ∷ []
 
 -- a step of each of so many connections from this one on
 abbrev pub step_turns : ℕ → ℕ → Step → List Turn
@@ -34,11 +21,12 @@ group_turns first count = flat_map (step_turns first count) steps
 abbrev pub groups_from : ℕ → ℕ → List Turn
 groups_from n group = flat_map (λ g. group_turns (16 * g) (min 16 (n - 16 * g))) (range_with_len group ((n + 15) / 16 - group))
 
--- the turns from one on: the rest of its step, the further steps of its group, the further groups
-abbrev pub turns_from : ℕ → ℕ → Step → ℕ → List Turn
-turns_from n group step connection =
+-- the turns from a connection on where a group has these steps left: the rest of the first, the others, the further groups
+abbrev pub turns_from : ℕ → ℕ → List Step → ℕ → List Turn
+turns_from n group [] connection = groups_from n (group + 1)
+turns_from n group (step ∷ further) connection =
     step_turns connection (16 * group + min 16 (n - 16 * group) - connection) step
-    ++ flat_map (step_turns (16 * group) (min 16 (n - 16 * group))) (after step)
+    ++ flat_map (step_turns (16 * group) (min 16 (n - 16 * group))) further
     ++ groups_from n (group + 1)
 
 -- the turns of n connections

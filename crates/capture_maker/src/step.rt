@@ -1,8 +1,7 @@
 //! The steps of a connection: who sends what.
 
-ghost use Rattle.std.specs.Prelude.{◌≡◌, ℕ, ◌≤◌, MatchOption, [], ◌∷◌};
+ghost use Rattle.std.specs.Prelude.{◌≡◌, ℕ, ◌≤◌};
 ghost use Rattle.capture_maker.specs.Table.{client_number, segment_of, server_number};
-ghost use Rattle.capture_maker.specs.Turns.{after};
 
 // Flags of the TCP header.
 const SYN: u8 = 0x02;
@@ -48,6 +47,20 @@ pub enum Step {
     LastAck,
 }
 
+/// All steps, in order.
+pub(crate) const STEPS: [Step; 10] = [
+    Step::Syn,
+    Step::SynAck,
+    Step::Opened,
+    Step::Request,
+    Step::LateHalf,
+    Step::FirstHalf,
+    Step::Repeated,
+    Step::ClientFin,
+    Step::ServerFin,
+    Step::LastAck,
+];
+
 /// What a step sends: flags, sequence and acknowledgement number of the TCP header, and which of the sender's bytes.
 #[derive(Clone, Copy)]
 pub struct Segment {
@@ -73,24 +86,6 @@ fn server_syn(connection: u32) -> u32
     ensures { result ≡ server_number connection }
 {
     client_syn(connection).wrapping_add(1 << 31)
-}
-
-// The step after this one.
-pub(crate) fn next_step(step: Step) -> Option<Step>
-    ensures { MatchOption result (after step ≡ []) (λ next. after step ≡ next ∷ after next) }
-{
-    match step {
-        Step::Syn => Some(Step::SynAck),
-        Step::SynAck => Some(Step::Opened),
-        Step::Opened => Some(Step::Request),
-        Step::Request => Some(Step::LateHalf),
-        Step::LateHalf => Some(Step::FirstHalf),
-        Step::FirstHalf => Some(Step::Repeated),
-        Step::Repeated => Some(Step::ClientFin),
-        Step::ClientFin => Some(Step::ServerFin),
-        Step::ServerFin => Some(Step::LastAck),
-        Step::LastAck => None,
-    }
 }
 
 // A segment without payload.

@@ -1,10 +1,10 @@
 //! Whose turn it is: the packets of all connections in the order of the capture.
 
-ghost use Rattle.std.specs.Prelude.{◌≡◌, ◌+◌, ◌-◌, ◌*◌, ◌<◌, ◌≤◌, ◌⊎◌, min, List, [], ◌∷◌, IfSome, MatchOption};
-ghost use Rattle.capture_maker.specs.Turns.{turns_from, turns_of};
+ghost use Rattle.std.specs.Prelude.{◌≡◌, ◌+◌, ◌-◌, ◌*◌, ◌<◌, ◌≤◌, ◌⊎◌, min, List, [], ◌∷◌, drop, IfSome, MatchOption};
+ghost use Rattle.capture_maker.specs.Turns.{steps, turns_from, turns_of};
 ghost use Rattle.capture_maker.specs.declared.turns.Turn.{Turn};
 
-use crate::step::{Step, next_step};
+use crate::step::{STEPS, Step};
 use std::marker::Model;
 
 // How many connections take each step together.
@@ -22,18 +22,18 @@ pub struct Turn {
 pub(crate) struct Turns {
     // How many connections there are.
     count: u32,
-    // The number of the group, and the next turn in it. Behind the last group nothing is left.
+    // The number of the group, and the next turn in it, its step by its place. Behind the last group nothing is left.
     group: u32,
-    step: Step,
+    step: usize,
     connection: u32,
 }
 
 impl Model for Turns {
     ghost Value = { List Turn };
 
-    ghost view = { λ t. turns_from t.count t.group t.step t.connection };
+    ghost view = { λ t. turns_from t.count t.group (drop t.step steps) t.connection };
 
-    ghost invariant = { λ t. (t.count ≤ 100000) × (16 * t.group ≤ t.connection) × (t.group ≤ 6250)
+    ghost invariant = { λ t. (t.count ≤ 100000) × (16 * t.group ≤ t.connection) × (t.group ≤ 6250) × (t.step < 10)
         × ((t.connection < 16 * t.group + min 16 (t.count - 16 * t.group)) ⊎ ((t.count ≤ 16 * t.group) × (t.connection ≡ 16 * t.group))) };
 }
 
@@ -46,7 +46,7 @@ impl Turns {
         Turns {
             count,
             group: 0,
-            step: Step::Syn,
+            step: 0,
             connection: 0,
         }
     }
@@ -62,17 +62,17 @@ impl Turns {
             return None;
         }
         let turn = Turn {
-            step: self.step,
+            step: STEPS[self.step],
             connection: self.connection,
         };
         if self.connection + 1 < first + GROUP.min(self.count - first) {
             self.connection += 1;
-        } else if let Some(step) = next_step(self.step) {
-            self.step = step;
+        } else if self.step + 1 < STEPS.len() {
+            self.step += 1;
             self.connection = first;
         } else {
             self.group += 1;
-            self.step = Step::Syn;
+            self.step = 0;
             self.connection = first + GROUP;
         }
         Some(turn)

@@ -1,11 +1,12 @@
 -- The tokens of a filter's text: the longest that fit, one after another, with blanks and tabs between.
-use Rattle.std.specs.Prelude.{ℕ, zero, suc, ◌+◌, ◌-◌, ◌*◌, ◌^◌, min, Bool, ◌&&◌, ◌||◌, ◌==◌, if◌then◌else◌, nat_lt, nat_eq, List, [], ◌∷◌, length, take, drop, slice_index, codes, Option, None}
+use Rattle.std.specs.Prelude.{ℕ, zero, suc, ◌+◌, ◌-◌, ◌*◌, ◌^◌, min, Bool, ◌&&◌, ◌||◌, ◌==◌, if◌then◌else◌, nat_lt, nat_eq, List, [], ◌∷◌, length, map, take, drop, slice_index, codes, Option, None}
 use Rattle.std.specs.Char.{is_ascii_digit, is_ascii_hexdigit, is_ascii_lowercase}
 use Rattle.std.specs.List.{prefix_len, starts_with}
 use Rattle.std.specs.Option.{option_map, option_or, unwrap_or}
 use Rattle.std.specs.Str.{bytes_eq}
 use Rattle.std.specs.Str.Parse.{digits_value}
 use Rattle.number_text.specs.Numbers.{octet}
+use Rattle.native_filters.specs.Facts.{facts}
 use Rattle.filter_lang.specs.declared.term.Join.TheVariants.{Plus, Minus, Rem}
 use Rattle.filter_lang.specs.declared.term.Op.TheVariants.{Eq, Ne, Lt, Le, Gt, Ge, Has}
 use Rattle.filter_lang.specs.declared.lexeme.Lexeme.{Lexeme}
@@ -25,9 +26,7 @@ is_blank b = (b == 32) || (b == 9)
 
 -- the names of the facts, in the order of their places
 abbrev pub fact_names : List (List ℕ)
-fact_names =
-    codes "dir" ∷ codes "nth" ∷ codes "src" ∷ codes "dst" ∷ codes "sport" ∷ codes "dport" ∷ codes "seq" ∷ codes "ack" ∷ codes "flags" ∷ codes "win"
-    ∷ codes "len" ∷ codes "ttl" ∷ codes "old" ∷ codes "new" ∷ codes "fresh" ∷ codes "rexlen" ∷ codes "rexdiff" ∷ codes "fault" ∷ codes "next" ∷ codes "class" ∷ []
+fact_names = map (λ row. row.0) facts
 
 -- the token of a name: a fact, from this place on, or no fact
 abbrev pub fact_token : ℕ → List (List ℕ) → List ℕ → Token

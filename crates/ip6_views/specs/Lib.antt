@@ -1,7 +1,6 @@
 pub mod Frame
 pub mod Chain
 pub mod Packet
-pub mod Layout
 pub mod Sight
 pub mod Seen
 pub mod Laws

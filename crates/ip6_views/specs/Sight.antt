@@ -2,17 +2,18 @@
 use Rattle.std.specs.Prelude.{ℕ, ◌+◌, if◌then◌else◌, Option, List}
 use Rattle.packet_views.specs.declared.packet.Class.{Class}
 use Rattle.packet_views.specs.declared.packet.Head.{Head}
-use Rattle.packet_views.specs.Frame.{field, carries}
+use Rattle.packet_views.specs.Frame.{field, carries, tcp_start}
+use Rattle.packet_views.specs.Tcp.{head_at, payload_at}
 use Rattle.packet_views.specs.Packet.{class_of, head_of, payload_of}
-use Rattle.packet_views.specs.Options.{window_scale_of}
+use Rattle.packet_views.specs.Options.{scale_at}
 use Rattle.flow_table.specs.declared.endpoint.Endpoint.{Endpoint}
 use Rattle.flow_table.specs.declared.endpoint.Endpoint.TheVariants.{V6}
 use Rattle.flow_table.specs.Endpoint.{source_of, destination_of}
 use Rattle.flow_table.specs.Key.{EndpointPair, key_between}
 use Rattle.flow_table.specs.Lane.{lane_of_key}
-use Rattle.ip6_views.specs.Frame.{source_address, destination_address}
+use Rattle.ip6_views.specs.Frame.{destination_address, hop_limit, ip6_end, source_address}
 use Rattle.ip6_views.specs.Chain.{Found, TcpAt, Only}
-use Rattle.ip6_views.specs.Packet.{found6_in, head6_of, scale6_of, payload6_of}
+use Rattle.ip6_views.specs.Packet.{found6_in}
 
 -- a TCP segment: its header fields, who sent it to whom, the window scale that it offers, and its payload
 pub record Segment : Type 0 where
@@ -32,7 +33,7 @@ segment_of frame = record {
   head = head_of frame;
   sender = source_of (head_of frame);
   receiver = destination_of (head_of frame);
-  scale = window_scale_of frame;
+  scale = scale_at (tcp_start frame) frame;
   payload = payload_of frame;
 }
 
@@ -40,14 +41,15 @@ abbrev pub sight4_with : Class → List ℕ → Sight
 sight4_with Class.Tcp frame = Tcp (segment_of frame)
 sight4_with class frame = Other class
 
--- the segment of a frame over IPv6 whose TCP header begins at a place
+-- the segment of a frame over IPv6 whose TCP header begins at a place: the addresses of 32 bits are 0, and the time to live is the
+-- hop limit
 abbrev pub segment6_of : ℕ → List ℕ → Segment
 segment6_of tcp frame = record {
-  head = head6_of tcp frame;
+  head = head_at tcp (ip6_end frame) 0 0 (hop_limit frame) frame;
   sender = V6 (source_address frame) (field tcp 2 frame);
   receiver = V6 (destination_address frame) (field (tcp + 2) 2 frame);
-  scale = scale6_of tcp frame;
-  payload = payload6_of tcp frame;
+  scale = scale_at tcp frame;
+  payload = payload_at tcp (ip6_end frame) frame;
 }
 
 abbrev pub sight6_with : Found → List ℕ → Sight

@@ -1,34 +1,29 @@
 //! The headers of a frame that carries IPv6: the tests of its class, in their order.
 
-ghost use Rattle.std.specs.Prelude.{◌≡◌, ◌≢◌, ◌+◌, ◌≤◌, ◌<◌, ◌^◌, IfOk, IfErr, IfSome, IsNone, length, true, false};
+ghost use Rattle.std.specs.Prelude.{◌≡◌, ◌≢◌, ◌+◌, ◌≤◌, ◌<◌, ◌^◌, IfOk, IfErr, length};
 ghost use Rattle.packet_views.specs.declared.packet.Class.{Class};
 ghost use Rattle.packet_views.specs.Frame.{ip_start};
+ghost use Rattle.packet_views.specs.Layout.{IsLayoutOf};
 ghost use Rattle.ip6_views.specs.Frame.{ip6_end, header_end, first_kind};
-ghost use Rattle.ip6_views.specs.Chain.{Only, chain};
-ghost use Rattle.ip6_views.specs.Packet.{is_tcp_bad_at, payload_start_at, checked, found6_in};
-ghost use Rattle.ip6_views.specs.Layout.{IsLayoutOf};
+ghost use Rattle.ip6_views.specs.Chain.{Only, TcpAt, chain};
+ghost use Rattle.ip6_views.specs.Packet.{checked, found6_in};
 
 use crate::chain::tcp_start;
-use crate::layout::Layout;
-use packet_views::{Class, u16_at};
+use packet_views::{Class, Layout, u16_at};
 
 /// The layout of a TCP segment in a frame whose IPv6 header begins at `ip`, or the class of what is none.
 pub(crate) fn layout_of(frame: &[u8], ip: usize) -> Result<Layout, Class>
     requires start { ip ≡ ip_start frame.now }
     requires within { ip ≤ 18 }
     ensures layout { IfOk result (λ layout. IsLayoutOf frame.now layout) }
+    ensures found { IfOk result (λ layout. found6_in frame.now ≡ TcpAt layout.tcp) }
+    ensures end { IfOk result (λ layout. layout.end ≡ ip6_end frame.now) }
     ensures only { IfErr result (λ class. found6_in frame.now ≡ Only class) }
     ensures not_tcp { IfErr result (λ class. class ≢ Class.Tcp) }
 {
     let end = packet_end(frame, ip)?;
     let tcp = tcp_start(frame, end, frame[ip + 6], ip + 40)?;
-    let payload = payload_start(frame, tcp, end).ok_or(Class::Bad)?;
-    Ok(Layout {
-        ip,
-        tcp,
-        payload,
-        end,
-    })
+    Layout::of(frame, ip, tcp, end).ok_or(Class::Bad)
 }
 
 // Where the IPv6 packet ends, if it was captured whole.
@@ -57,29 +52,4 @@ fn packet_end(frame: &[u8], ip: usize) -> Result<usize, Class>
         return Err(Class::Cut);
     }
     Ok(end)
-}
-
-// Where the payload of a TCP segment begins, unless the fields of its header contradict each other.
-#[tactic(auto, unfolding(crate::specs::Packet::is_tcp_bad_at))]
-fn payload_start(frame: &[u8], tcp: usize, end: usize) -> Option<usize>
-    requires end { end ≡ ip6_end frame.now }
-    requires room { tcp ≤ end }
-    requires captured { end ≤ length frame.now }
-    ensures start { IfSome result (λ start. start ≡ payload_start_at tcp frame.now) }
-    ensures header { IfSome result (λ start. tcp + 20 ≤ start) }
-    ensures room { IfSome result (λ start. start ≤ end) }
-    ensures good { IfSome result (λ _. is_tcp_bad_at tcp frame.now ≡ false) }
-    ensures bad { IsNone result → is_tcp_bad_at tcp frame.now ≡ true }
-{
-    let segment = end - tcp;
-    if segment < 20 {
-        return None;
-    }
-    let words = frame[tcp + 12] >> 4;
-    let header = 4 * usize::from(words);
-    if words < 5 || segment < header {
-        None
-    } else {
-        Some(tcp + header)
-    }
 }

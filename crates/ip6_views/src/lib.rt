@@ -7,7 +7,6 @@ mod fields;
 mod header;
 mod key;
 mod laws;
-mod layout;
 mod seeing;
 mod segment;
 pub mod sight;

@@ -49,7 +49,7 @@ fn sight6(frame: &[u8], ip: usize) -> Sight<'_>
     ensures not_tcp { IfOther result (λ class. class ≢ Class.Tcp) }
 {
     match layout_of(frame, ip) {
-        Ok(layout) => Sight::Tcp(segment6(frame, &layout)),
+        Ok(layout) => Sight::Tcp(segment6(frame, layout)),
         Err(class) => Sight::Other(class),
     }
 }

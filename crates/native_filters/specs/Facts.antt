@@ -1,29 +1,18 @@
-use Rattle.std.specs.Prelude.{ℕ, ◌==◌, if◌then◌else◌}
+use Rattle.std.specs.Prelude.{ℕ, List, [], ◌∷◌, codes, slice_index_or}
 use Rattle.native_filters.specs.declared.facts.Facts.{Facts}
 
--- the fact at place i, in the order in which the fields stand
+-- the facts by their names, in the order of their places
+abbrev pub facts : List (List ℕ × (Facts → ℕ))
+facts =
+    (codes "dir", λ f. f.dir) ∷ (codes "nth", λ f. f.nth) ∷ (codes "src", λ f. f.src) ∷ (codes "dst", λ f. f.dst)
+    ∷ (codes "sport", λ f. f.sport) ∷ (codes "dport", λ f. f.dport) ∷ (codes "seq", λ f. f.seq) ∷ (codes "ack", λ f. f.ack)
+    ∷ (codes "flags", λ f. f.flags) ∷ (codes "win", λ f. f.win) ∷ (codes "len", λ f. f.len) ∷ (codes "ttl", λ f. f.ttl)
+    ∷ (codes "old", λ f. f.old) ∷ (codes "new", λ f. f.new) ∷ (codes "fresh", λ f. f.fresh) ∷ (codes "rexlen", λ f. f.rexlen)
+    ∷ (codes "rexdiff", λ f. f.rexdiff) ∷ (codes "fault", λ f. f.fault) ∷ (codes "next", λ f. f.next) ∷ (codes "class", λ f. f.class) ∷ []
+
+-- the fact at a place
 unfoldable pub fact : ℕ → Facts → ℕ
-fact i f =
-    if i == 0 then f.dir else
-    if i == 1 then f.nth else
-    if i == 2 then f.src else
-    if i == 3 then f.dst else
-    if i == 4 then f.sport else
-    if i == 5 then f.dport else
-    if i == 6 then f.seq else
-    if i == 7 then f.ack else
-    if i == 8 then f.flags else
-    if i == 9 then f.win else
-    if i == 10 then f.len else
-    if i == 11 then f.ttl else
-    if i == 12 then f.old else
-    if i == 13 then f.new else
-    if i == 14 then f.fresh else
-    if i == 15 then f.rexlen else
-    if i == 16 then f.rexdiff else
-    if i == 17 then f.fault else
-    if i == 18 then f.next else
-    f.class
+fact place f = (slice_index_or facts place (codes "class", λ g. g.class)).1 f
 
 -- the facts of nothing
 unfoldable pub no_facts : Facts

@@ -1,5 +1,5 @@
 -- Fields of a captured Ethernet frame, as numbers, by their places. All numbers are in network order, the highest byte first.
-use Rattle.std.specs.Prelude.{◌==◌, ◌&&◌, not, nat_lt, length, ℕ, ◌+◌, ◌*◌, ◌-◌, ◌/◌, ◌%◌, ◌^◌, Bool, cond, List, drop, slice_index, slice_range}
+use Rattle.std.specs.Prelude.{◌==◌, ◌&&◌, not, nat_lt, length, ℕ, ◌+◌, ◌*◌, ◌-◌, ◌/◌, ◌%◌, ◌^◌, Bool, cond, List, drop, slice_index}
 use Rattle.byteorder.specs.Endian.{big_number}
 
 -- the number in `count` bytes from place `at`
@@ -46,22 +46,6 @@ protocol frame = slice_index frame (ip_start frame + 9)
 abbrev pub ip_end : List ℕ → ℕ
 ip_end frame = ip_start frame + total_length frame
 
--- The TCP header (RFC 9293, section 3.1). Its length is given in words of 4 bytes, the data offset.
-
+-- where the TCP header behind the IPv4 header begins
 abbrev pub tcp_start : List ℕ → ℕ
 tcp_start frame = ip_start frame + 4 * ip_words frame
-
--- the bytes of the TCP segment, header and payload
-abbrev pub segment_length : List ℕ → ℕ
-segment_length frame = total_length frame - 4 * ip_words frame
-
-abbrev pub tcp_words : List ℕ → ℕ
-tcp_words frame = slice_index frame (tcp_start frame + 12) / 16
-
--- where the TCP header ends and the payload begins
-abbrev pub payload_start : List ℕ → ℕ
-payload_start frame = tcp_start frame + 4 * tcp_words frame
-
--- what stands between the fixed 20 bytes of the TCP header and the payload
-abbrev pub options_of : List ℕ → List ℕ
-options_of frame = slice_range frame (tcp_start frame + 20) (payload_start frame)

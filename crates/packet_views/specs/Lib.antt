@@ -1,4 +1,5 @@
 pub mod Frame
+pub mod Tcp
 pub mod Flags
 pub mod Packet
 pub mod Layout

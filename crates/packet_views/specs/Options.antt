@@ -1,7 +1,7 @@
 -- The TCP options (RFC 9293, section 3.1) and among them the window scale (RFC 7323, section 2.2).
 -- An option is its kind and, for every kind but 0 and 1, its length and its data; the length counts the kind and itself.
 use Rattle.std.specs.Prelude.{◌==◌, ◌||◌, ◌&&◌, ℕ, zero, suc, ◌+◌, ◌-◌, Bool, nat_lt, min, if◌then◌else◌, List, [], ◌∷◌, length, slice_index, Option, Some, None}
-use Rattle.packet_views.specs.Frame.{options_of}
+use Rattle.packet_views.specs.Tcp.{options_at}
 
 -- the length of an option by the bytes after its kind, 0 where they end before it
 abbrev pub option_length : List ℕ → ℕ
@@ -25,6 +25,6 @@ scale_after zero (kind ∷ rest) =
     else if kind == 3 && option_length rest == 3 then Some (min (slice_index rest 1) 14)
     else scale_after (option_length rest - 1) rest
 
--- the window scale of a frame that holds a TCP segment
-unfoldable pub window_scale_of : List ℕ → Option ℕ
-window_scale_of frame = scale_after 0 (options_of frame)
+-- the window scale of the TCP header at a place
+abbrev pub scale_at : ℕ → List ℕ → Option ℕ
+scale_at tcp frame = scale_after 0 (options_at tcp frame)

@@ -1,9 +1,10 @@
 -- What a frame is as a packet: its class and, for a TCP segment, the header fields and the payload.
-use Rattle.std.specs.Prelude.{◌==◌, ◌||◌, not, ℕ, ◌+◌, ◌*◌, Bool, nat_lt, if◌then◌else◌, List, length, slice_index, slice_range}
+use Rattle.std.specs.Prelude.{◌==◌, ◌||◌, not, ℕ, ◌+◌, ◌*◌, Bool, nat_lt, if◌then◌else◌, List, length, slice_index}
 use Rattle.packet_views.specs.declared.packet.Class.{Class}
 use Rattle.packet_views.specs.declared.packet.Class.TheVariants.{Tcp, Other, Fragment, Cut, Bad}
 use Rattle.packet_views.specs.declared.packet.Head.{Head}
-use Rattle.packet_views.specs.Frame.{field, carries, ip_start, ip_version, ip_words, total_length, fragment_bits, protocol, ip_end, tcp_start, segment_length, tcp_words, payload_start}
+use Rattle.packet_views.specs.Frame.{field, carries, ip_start, ip_version, ip_words, total_length, fragment_bits, protocol, ip_end, tcp_start}
+use Rattle.packet_views.specs.Tcp.{is_tcp_bad, head_at, payload_at}
 
 -- The tests of the class, in the order in which they are made.
 
@@ -24,16 +25,6 @@ is_fragment frame = not (fragment_bits frame == 0)
 abbrev pub is_packet_cut : List ℕ → Bool
 is_packet_cut frame = nat_lt (length frame) (ip_end frame)
 
-unfoldable pub is_tcp_header_bad : List ℕ → Bool
-is_tcp_header_bad frame =
-    nat_lt (segment_length frame) 20
-    || nat_lt (tcp_words frame) 5
-    || nat_lt (segment_length frame) (4 * tcp_words frame)
-
--- the class of a whole IPv4 packet whose protocol is TCP
-unfoldable pub segment_class : List ℕ → Class
-segment_class frame = if is_tcp_header_bad frame then Bad else Tcp
-
 -- the class by the first test that holds; protocol 6 is TCP
 unfoldable pub class_of : List ℕ → Class
 class_of frame =
@@ -43,26 +34,17 @@ class_of frame =
     else if not (protocol frame == 6) then Other
     else if is_fragment frame then Fragment
     else if is_packet_cut frame then Cut
-    else segment_class frame
+    else if is_tcp_bad (tcp_start frame) (ip_end frame) frame then Bad
+    else Tcp
 
 -- the bytes between the TCP header and the end of the IPv4 packet
-unfoldable pub payload_of : List ℕ → List ℕ
-payload_of frame = slice_range frame (payload_start frame) (ip_end frame)
+abbrev pub payload_of : List ℕ → List ℕ
+payload_of frame = payload_at (tcp_start frame) (ip_end frame) frame
 
--- the header fields of a TCP segment, by their places
+-- the header fields of a TCP segment
 unfoldable pub head_of : List ℕ → Head
-head_of frame = record {
-  src = field (ip_start frame + 12) 4 frame;
-  dst = field (ip_start frame + 16) 4 frame;
-  sport = field (tcp_start frame) 2 frame;
-  dport = field (tcp_start frame + 2) 2 frame;
-  seq = field (tcp_start frame + 4) 4 frame;
-  ack = field (tcp_start frame + 8) 4 frame;
-  flags = slice_index frame (tcp_start frame + 13);
-  win = field (tcp_start frame + 14) 2 frame;
-  len = length (payload_of frame);
-  ttl = slice_index frame (ip_start frame + 8);
-}
+head_of frame =
+    head_at (tcp_start frame) (ip_end frame) (field (ip_start frame + 12) 4 frame) (field (ip_start frame + 16) 4 frame) (slice_index frame (ip_start frame + 8)) frame
 
 -- a packet as data: a TCP segment with its header fields and its payload, or the class of what is none
 pub data Packet : Type 0 where

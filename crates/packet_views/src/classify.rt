@@ -1,8 +1,9 @@
 //! The class of a frame: the tests of its headers, in their order.
 
-ghost use Rattle.std.specs.Prelude.{◌≡◌, ◌≢◌, ◌+◌, ◌*◌, ◌^◌, ◌<◌, ◌≤◌, ◌↔◌, IsTrue, IsNone, true, IfSome, IfOk, IfErr, length, slice_index, false};
-ghost use Rattle.packet_views.specs.Frame.{field, carries, ip_start, ip_words, total_length, tcp_start, payload_start, ip_end};
-ghost use Rattle.packet_views.specs.Packet.{is_ip_header_bad, is_fragment, class_of, segment_class, head_of, payload_of, packet_of, Segment, NoSegment};
+ghost use Rattle.std.specs.Prelude.{◌≡◌, ◌≢◌, ◌+◌, ◌*◌, ◌^◌, ◌<◌, ◌≤◌, ◌↔◌, IsTrue, IsNone, if◌then◌else◌, true, IfSome, IfOk, IfErr, length, slice_index, false};
+ghost use Rattle.packet_views.specs.Frame.{field, carries, ip_start, ip_words, total_length, tcp_start, ip_end};
+ghost use Rattle.packet_views.specs.Tcp.{is_tcp_bad};
+ghost use Rattle.packet_views.specs.Packet.{is_ip_header_bad, is_fragment, class_of, head_of, payload_of, packet_of, Segment, NoSegment};
 ghost use Rattle.packet_views.specs.Layout.{IsLayoutOf};
 ghost use Rattle.packet_views.specs.View.{IfTcp, IfOther};
 
@@ -45,19 +46,15 @@ pub fn view_of(frame: &[u8]) -> View<'_>
 #[tactic(auto, unfolding(crate::specs::Packet::class_of))]
 fn layout_of(frame: &[u8]) -> Result<Layout, Class>
     ensures layout { IfOk result (λ layout. IsLayoutOf frame.now layout) }
+    ensures start { IfOk result (λ layout. layout.tcp ≡ tcp_start frame.now) }
+    ensures end { IfOk result (λ layout. layout.end ≡ ip_end frame.now) }
     ensures tcp { IfOk result (λ _. class_of frame.now ≡ Class.Tcp) }
     ensures other { IfErr result (λ class. class ≡ class_of frame.now) }
     ensures not_tcp { IfErr result (λ class. class ≢ Class.Tcp) }
 {
     let ip = packet_start(frame, TYPE_IPV4).ok_or(Class::Other)?;
     let segment = segment_of(frame, ip)?;
-    let payload = payload_start(frame, segment.start, segment.end)?;
-    Ok(Layout {
-        ip,
-        tcp: segment.start,
-        payload,
-        end: segment.end,
-    })
+    Layout::of(frame, ip, segment.start, segment.end).ok_or(Class::Bad)
 }
 
 // The bytes of the TCP segment in the IPv4 packet that begins at `ip`, or the class of what is none.
@@ -68,7 +65,8 @@ fn segment_of(frame: &[u8], ip: usize) -> Result<Range<usize>, Class>
     requires carried { carries 0x0800 frame.now ≡ true }
     ensures start { IfOk result (λ segment. segment.start ≡ tcp_start frame.now) }
     ensures end { IfOk result (λ segment. segment.end ≡ ip_end frame.now) }
-    ensures class { IfOk result (λ _. class_of frame.now ≡ segment_class frame.now) }
+    ensures class { IfOk result (λ segment. class_of frame.now
+        ≡ (if is_tcp_bad segment.start segment.end frame.now then Class.Bad else Class.Tcp)) }
     ensures header { IfOk result (λ segment. ip + 20 ≤ segment.start) }
     ensures room { IfOk result (λ segment. segment.start ≤ segment.end) }
     ensures captured { IfOk result (λ segment. segment.end ≤ length frame.now) }
@@ -120,30 +118,4 @@ fn is_fragment(frame: &[u8], ip: usize) -> bool
     ensures { result ≡ is_fragment frame.now }
 {
     u16_at(frame, ip + 6) & FRAGMENT_BITS != 0
-}
-
-// Where the payload of a TCP segment begins, or the class of what is none.
-#[tactic(auto, unfolding(crate::specs::Packet::segment_class, crate::specs::Packet::is_tcp_header_bad))]
-fn payload_start(frame: &[u8], tcp: usize, end: usize) -> Result<usize, Class>
-    requires start { tcp ≡ tcp_start frame.now }
-    requires end { end ≡ ip_end frame.now }
-    requires room { tcp ≤ end }
-    requires captured { end ≤ length frame.now }
-    ensures start { IfOk result (λ start. start ≡ payload_start frame.now) }
-    ensures header { IfOk result (λ start. tcp + 20 ≤ start) }
-    ensures room { IfOk result (λ start. start ≤ end) }
-    ensures tcp { IfOk result (λ _. segment_class frame.now ≡ Class.Tcp) }
-    ensures other { IfErr result (λ class. class ≡ segment_class frame.now) }
-    ensures not_tcp { IfErr result (λ class. class ≢ Class.Tcp) }
-{
-    let segment = end - tcp;
-    if segment < 20 {
-        return Err(Class::Bad);
-    }
-    let words = frame[tcp + 12] >> 4;
-    let header = 4 * usize::from(words);
-    if words < 5 || segment < header {
-        return Err(Class::Bad);
-    }
-    Ok(tcp + header)
 }

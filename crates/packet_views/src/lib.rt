@@ -4,7 +4,7 @@
 
 mod classify;
 mod fields;
-mod layout;
+pub mod layout;
 mod link;
 mod options;
 pub mod packet;
@@ -12,7 +12,8 @@ pub mod view;
 
 pub use classify::{PROTOCOL_TCP, view_of};
 pub use fields::{u16_at, u32_at};
+pub use layout::Layout;
 pub use link::packet_start;
-pub use options::{scale_in, window_scale};
+pub use options::window_scale;
 pub use packet::{ACK, Class, FIN, Head, RST, SYN};
 pub use view::{TcpView, View};

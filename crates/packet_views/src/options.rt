@@ -1,7 +1,8 @@
 //! The window scale among the options of a TCP header.
 
 ghost use Rattle.std.specs.Prelude.{◌≡◌, ◌+◌, ◌<◌, ◌≤◌, length, drop, true, false, IsNone, IfSome};
-ghost use Rattle.packet_views.specs.Options.{option_length, has_bad_length, scale_after, window_scale_of};
+ghost use Rattle.packet_views.specs.Frame.{tcp_start};
+ghost use Rattle.packet_views.specs.Options.{option_length, has_bad_length, scale_after, scale_at};
 
 use crate::view::TcpView;
 
@@ -17,18 +18,17 @@ const WINDOW_SCALE: u8 = 3;
 /// The greatest shift that counts: a greater one is read as this (RFC 7323, section 2.3).
 const MAX_SHIFT: u8 = 14;
 
-/// The shift of the first window scale option of the segment, at most 14. The walk over the
-/// options ends at kind 0 and at an option whose length is below 2 or doesn't fit.
-#[tactic(auto, unfolding(crate::specs::Options::window_scale_of))]
+/// The shift of the first window scale option of the segment, at most 14.
 pub fn window_scale(segment: &TcpView<'_>) -> Option<u8>
-    ensures shift { result ≡ window_scale_of segment.now }
+    ensures shift { result ≡ scale_at (tcp_start segment.now) segment.now }
     ensures bound { IfSome result (λ shift. shift ≤ 14) }
 {
-    scale_in(segment.options())
+    segment.scale()
 }
 
-/// The same by the options alone: the bytes between the fixed part of a TCP header and the payload.
-pub fn scale_in(options: &[u8]) -> Option<u8>
+// The same by the options alone: the bytes between the fixed part of a TCP header and the payload. The walk over them ends
+// at kind 0 and at an option whose length is below 2 or doesn't fit.
+pub(crate) fn scale_in(options: &[u8]) -> Option<u8>
     ensures shift { result ≡ scale_after 0 options.now }
     ensures bound { IfSome result (λ shift. shift ≤ 14) }
 {

@@ -1,8 +1,8 @@
 //! The views: a frame seen as a TCP segment, or the class of what it is instead.
 
-ghost use Rattle.std.specs.Prelude.{◌≡◌, ◌≤◌, length};
+ghost use Rattle.std.specs.Prelude.{◌≡◌, ◌≤◌, IfSome, length};
 
-use crate::fields::{u16_at, u32_at};
+use crate::fields::u32_at;
 use crate::layout::Layout;
 use crate::packet::{Class, Head};
 use std::marker::Model;
@@ -17,6 +17,7 @@ pub struct TcpView<'a> {
 impl<'a> Model for TcpView<'a> {
     ghost use Rattle.std.specs.Prelude.{◌≡◌, ℕ, List};
     ghost use Rattle.packet_views.specs.declared.packet.Class.{Class};
+    ghost use Rattle.packet_views.specs.Frame.{ip_end, tcp_start};
     ghost use Rattle.packet_views.specs.Packet.{class_of};
     ghost use Rattle.packet_views.specs.Layout.{IsLayoutOf};
 
@@ -24,16 +25,20 @@ impl<'a> Model for TcpView<'a> {
 
     ghost view = { λ v. v.frame.now };
 
-    ghost invariant = { λ v. (class_of v.frame.now ≡ Class.Tcp) × IsLayoutOf v.frame.now v.layout };
+    ghost invariant = { λ v. (class_of v.frame.now ≡ Class.Tcp) × (v.layout.tcp ≡ tcp_start v.frame.now)
+        × (v.layout.end ≡ ip_end v.frame.now) × IsLayoutOf v.frame.now v.layout };
 }
 
 impl<'a> TcpView<'a> {
-    ghost use Rattle.packet_views.specs.Frame.{options_of};
+    ghost use Rattle.packet_views.specs.Frame.{ip_end, tcp_start};
+    ghost use Rattle.packet_views.specs.Options.{scale_at};
     ghost use Rattle.packet_views.specs.Packet.{class_of, head_of, payload_of};
     ghost use Rattle.packet_views.specs.Layout.{IsLayoutOf};
 
     pub(crate) fn new(frame: &'a [u8], layout: Layout) -> TcpView<'a>
         requires class { class_of frame.now ≡ Class.Tcp }
+        requires tcp { layout.tcp ≡ tcp_start frame.now }
+        requires end { layout.end ≡ ip_end frame.now }
         requires layout { IsLayoutOf frame.now layout }
         ensures { result ≡ frame.now }
     {
@@ -48,37 +53,31 @@ impl<'a> TcpView<'a> {
         ensures bound { result.len ≤ 65535 }
         ensures class { class_of self.now ≡ Class.Tcp }
     {
-        let Layout { ip, tcp, .. } = self.layout;
+        let ip = self.layout.ip;
         let frame = self.frame;
-        Head {
-            src: u32_at(frame, ip + 12),
-            dst: u32_at(frame, ip + 16),
-            sport: u16_at(frame, tcp),
-            dport: u16_at(frame, tcp + 2),
-            seq: u32_at(frame, tcp + 4),
-            ack: u32_at(frame, tcp + 8),
-            flags: frame[tcp + 13],
-            win: u16_at(frame, tcp + 14),
-            len: self.payload().len() as u32,
-            ttl: frame[ip + 8],
-        }
+        self.layout.head(
+            frame,
+            u32_at(frame, ip + 12),
+            u32_at(frame, ip + 16),
+            frame[ip + 8],
+        )
     }
 
     /// The bytes between the TCP header and the end of the IPv4 packet, at most 65,535, borrowed
     /// from the frame: they may outlive the view. Padding of the frame is no part of them.
-    #[tactic(auto, unfolding(crate::specs::Packet::payload_of))]
     pub fn payload(&self) -> &'a [u8]
         ensures bytes { result.now ≡ payload_of self.now }
         ensures bound { length result.now ≤ 65535 }
     {
-        &self.frame[self.layout.payload..self.layout.end]
+        self.layout.payload(self.frame)
     }
 
-    // The TCP options: what stands between the fixed part of the TCP header and the payload.
-    pub(crate) fn options(&self) -> &[u8]
-        ensures { result.now ≡ options_of self.now }
+    // The window scale among the TCP options.
+    pub(crate) fn scale(&self) -> Option<u8>
+        ensures shift { result ≡ scale_at (tcp_start self.now) self.now }
+        ensures bound { IfSome result (λ shift. shift ≤ 14) }
     {
-        &self.frame[self.layout.tcp + 20..self.layout.payload]
+        self.layout.scale(self.frame)
     }
 }
 

@@ -2,7 +2,7 @@
 use Rattle.std.proofs.Common.{◌≡◌, ℕ, ◌+◌, ◌%◌, ◌≤◌, List, length, Bool, true, false, nat_le, nat_lt, ◌&&◌, ◌==◌, not, cond, Option, None, Some, refl, sym, ap, subst, ◌∙◌, arith}
 use Rattle.std.proofs.lemmas.Bool.{cond-false, cond-true, leb-true, ltb-false, eqb-true, and_parts, not-false}
 use Rattle.pcap_source.specs.Order.{number_in}
-use Rattle.pcapng_source.specs.Fields.{SectionState, has, is_section, is_total, kind_by, kind_of, least_total, order_told, section_in, total_of}
+use Rattle.pcapng_source.specs.Fields.{SectionState, has, head_length, is_section, is_total, kind_by, kind_of, least_total, order_told, section_in, total_of}
 use Rattle.pcapng_source.specs.Packets.{captured_of}
 use Rattle.pcapng_source.specs.Refusals.{block_by, header_by, kind_refusal, length_by, packet_by, refusal_of}
 use Rattle.pcap_source.specs.declared.order.Order.{Order}
@@ -106,10 +106,10 @@ length-accepted head total captured offset accepted =
     ltb-false total (head + captured + 4) inner.0
 
 -- a packet that isn't refused
-pub packet-accepted : (head needed : ℕ) (kind : Kind) (order : Order) (interface : Option Interface) (offset : ℕ) (bytes : List ℕ) → needed ≤ length bytes
-    → packet_by head needed kind order interface offset bytes ≡ None
-    → (it : Interface) × (interface ≡ Some it) × (head + captured_of kind order it bytes + 4 ≤ total_of order bytes)
-packet-accepted head needed kind order None offset bytes there accepted = cc
-packet-accepted head needed kind order (Some it) offset bytes there accepted =
+pub packet-accepted : (needed : ℕ) (kind : Kind) (order : Order) (interface : Option Interface) (offset : ℕ) (bytes : List ℕ) → needed ≤ length bytes
+    → packet_by needed kind order interface offset bytes ≡ None
+    → (it : Interface) × (interface ≡ Some it) × (head_length kind + captured_of kind order it bytes + 4 ≤ total_of order bytes)
+packet-accepted needed kind order None offset bytes there accepted = cc
+packet-accepted needed kind order (Some it) offset bytes there accepted =
     let link = none_else (not (it.link == 1)) _ _ accepted in
-    (it, refl, length-accepted head (total_of order bytes) (captured_of kind order it bytes) offset (sym (cond-true (has needed bytes) _ None (has-there needed bytes there)) ∙ link.1))
+    (it, refl, length-accepted (head_length kind) (total_of order bytes) (captured_of kind order it bytes) offset (sym (cond-true (has needed bytes) _ None (has-there needed bytes there)) ∙ link.1))

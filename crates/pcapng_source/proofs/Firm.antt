@@ -69,12 +69,12 @@ pub simple-front : (order : Order) (interface : Interface) (front left : List �
     → captured_of SimplePacket order interface (front ++ left) ≡ captured_of SimplePacket order interface front
 simple-front order interface front left long = ap (within_snap interface.snap) (number_at-front order 4 8 front left (omega arith))
 
-packet_firm : (whole : Type 0) (head needed : ℕ) (kind : Kind) (order : Order) (interface : Option Interface) (offset : ℕ) (front left : List ℕ)
+packet_firm : (whole : Type 0) (needed : ℕ) (kind : Kind) (order : Order) (interface : Option Interface) (offset : ℕ) (front left : List ℕ)
     → (whole → needed ≤ length front) → 8 ≤ needed
     → ((i : Interface) → needed ≤ length front → captured_of kind order i (front ++ left) ≡ captured_of kind order i front)
-    → Firm whole (packet_by head needed kind order interface offset front) (packet_by head needed kind order interface offset (front ++ left))
-packet_firm whole head needed kind order None offset front left needs long captured = firm_same whole _ _ refl
-packet_firm whole head needed kind order (Some i) offset front left needs long captured =
+    → Firm whole (packet_by needed kind order interface offset front) (packet_by needed kind order interface offset (front ++ left))
+packet_firm whole needed kind order None offset front left needs long captured = firm_same whole _ _ refl
+packet_firm whole needed kind order (Some i) offset front left needs long captured =
     firm_else whole (not (i.link == 1)) _ _ (Some (BadLink offset))
     (firm_has whole needed front left _ _ needs (λ fits. firm_same whole _ _
     (rw (total_of-front order front left (omega arith), captured i fits) refl)))
@@ -85,14 +85,14 @@ kind_firm SectionHeader section offset front left long = firm_same _ _ _ refl
 kind_firm InterfaceBlock section offset front left long = firm_same _ _ _ refl
 kind_firm OtherBlock section offset front left long = firm_same _ _ _ refl
 kind_firm SimplePacket section offset front left long =
-    packet_firm _ 12 12 SimplePacket section.order (slice_get section.interfaces 0) offset front left (λ whole. whole) (omega arith)
+    packet_firm _ 12 SimplePacket section.order (slice_get section.interfaces 0) offset front left (λ whole. whole) (omega arith)
     (λ i fits. simple-front section.order i front left fits)
 kind_firm EnhancedPacket section offset front left long =
     firm_has _ 12 front left _ _ (λ whole. omega arith) (λ fits. subst
-    (λ i. Firm (28 ≤ length front) (packet_by 28 24 EnhancedPacket section.order (interface_of EnhancedPacket section front) offset front)
-    (packet_by 28 24 EnhancedPacket section.order i offset (front ++ left)))
+    (λ i. Firm (28 ≤ length front) (packet_by 24 EnhancedPacket section.order (interface_of EnhancedPacket section front) offset front)
+    (packet_by 24 EnhancedPacket section.order i offset (front ++ left)))
     (sym (interface_of-front section front left fits))
-    (packet_firm _ 28 24 EnhancedPacket section.order (interface_of EnhancedPacket section front) offset front left (λ whole. omega arith) (omega arith)
+    (packet_firm _ 24 EnhancedPacket section.order (interface_of EnhancedPacket section front) offset front left (λ whole. omega arith) (omega arith)
     (λ i there. enhanced-front section.order i front left there)))
 
 block_firm : (kind : Kind) (section : SectionState) (offset : ℕ) (front left : List ℕ) → 8 ≤ length front

@@ -188,12 +188,12 @@ opens-simple r interface total captured skip it found sized told parts =
     let bounds = facts.1 in
     let most = bounds.most in
     let size = it.whole in
-    let packet = packet-accepted 12 12 SimplePacket r.section.order (slice_get r.section.interfaces 0) r.place.offset r.head (omega (arith, size)) facts.2 in
+    let packet = packet-accepted 12 SimplePacket r.section.order (slice_get r.section.interfaces 0) r.place.offset r.head (omega (arith, size)) facts.2 in
     let same : packet.0 ≡ interface = some_same (sym packet.1 ∙ found) in
     let data_fits : 12 + captured + 4 ≤ total = omega (arith, packet.2, ap (λ i. captured_of SimplePacket r.section.order i r.head) same, told, sized) in
     opens r SimplePacket r.section r.section (record_by SimplePacket r.section.order interface r.head) total captured skip 0 it facts.0 sized
     (omega (arith, most, sized)) (omega (arith, data_fits)) refl
-    (λ left. ap (λ i. record_on 12 SimplePacket r.section.order i (r.head ++ left)) found
+    (λ left. ap (λ i. record_on SimplePacket r.section.order i (r.head ++ left)) found
     ∙ ap (λ l. l ++ take (captured_of SimplePacket r.section.order interface (r.head ++ left)) (drop 12 (r.head ++ left)))
     (simple_record-front r.section.order interface r.head left (omega (arith, size)))
     ∙ ap (λ n. record_by SimplePacket r.section.order interface r.head ++ take n (drop 12 (r.head ++ left))) (simple-front r.section.order interface r.head left (omega (arith, size)) ∙ told)
@@ -217,13 +217,13 @@ opens-enhanced r interface total captured skip it found sized told parts =
     let bounds = facts.1 in
     let most = bounds.most in
     let size = it.whole in
-    let packet = packet-accepted 28 24 EnhancedPacket r.section.order (interface_of EnhancedPacket r.section r.head) r.place.offset r.head
+    let packet = packet-accepted 24 EnhancedPacket r.section.order (interface_of EnhancedPacket r.section r.head) r.place.offset r.head
     (omega (arith, size)) (sym (cond-true (has 12 r.head) _ None (has-there 12 r.head (omega (arith, size)))) ∙ facts.2) in
     let same : packet.0 ≡ interface = some_same (sym packet.1 ∙ found) in
     let data_fits : 28 + captured + 4 ≤ total = omega (arith, packet.2, ap (λ i. captured_of EnhancedPacket r.section.order i r.head) same, told, sized) in
     opens r EnhancedPacket r.section r.section (record_by EnhancedPacket r.section.order interface r.head) total captured skip 0 it facts.0 sized
     (omega (arith, most, sized)) (omega (arith, data_fits)) refl
-    (λ left. ap (λ i. record_on 28 EnhancedPacket r.section.order i (r.head ++ left)) (interface_of-front r.section r.head left (omega (arith, size)) ∙ found)
+    (λ left. ap (λ i. record_on EnhancedPacket r.section.order i (r.head ++ left)) (interface_of-front r.section r.head left (omega (arith, size)) ∙ found)
     ∙ ap (λ l. l ++ take (captured_of EnhancedPacket r.section.order interface (r.head ++ left)) (drop 28 (r.head ++ left)))
     (enhanced_record-front r.section.order interface r.head left (omega (arith, size)))
     ∙ ap (λ n. record_by EnhancedPacket r.section.order interface r.head ++ take n (drop 28 (r.head ++ left))) (enhanced-front r.section.order interface r.head left (omega (arith, size)) ∙ told)

@@ -116,10 +116,7 @@ with_resolution section resolution = record { order = section.order; interfaces 
 -- the section behind a block of this kind in it
 abbrev pub section_by : Kind → SectionState → List ℕ → SectionState
 section_by InterfaceBlock section bytes = with_interface section (interface_by section.order (total_of section.order bytes - 20) bytes)
-section_by SectionHeader section bytes = section
-section_by SimplePacket section bytes = section
-section_by EnhancedPacket section bytes = section
-section_by OtherBlock section bytes = section
+section_by _ section bytes = section
 
 -- the section behind the block at the front, which is in this section
 abbrev pub section_behind : SectionState → List ℕ → SectionState

@@ -3,10 +3,10 @@ use Rattle.std.specs.Prelude.{ℕ, ◌+◌, ◌-◌, ◌*◌, ◌/◌, ◌%◌, 
 use Rattle.std.specs.List.{slice_get}
 use Rattle.byteorder.specs.Endian.{big_bytes}
 use Rattle.pcap_source.specs.Order.{number_in}
-use Rattle.pcapng_source.specs.Fields.{SectionState}
+use Rattle.pcapng_source.specs.Fields.{SectionState, head_length}
 use Rattle.pcap_source.specs.declared.order.Order.{Order}
 use Rattle.pcapng_source.specs.declared.kind.Kind.{Kind}
-use Rattle.pcapng_source.specs.declared.kind.Kind.TheVariants.{SectionHeader, InterfaceBlock, SimplePacket, EnhancedPacket, OtherBlock}
+use Rattle.pcapng_source.specs.declared.kind.Kind.TheVariants.{SimplePacket, EnhancedPacket}
 use Rattle.pcapng_source.specs.declared.section.Interface.{Interface}
 
 -- A time of this resolution in microseconds, rounded down. With its highest bit clear the resolution is a power of ten,
@@ -27,9 +27,7 @@ record_head micros captured original =
 abbrev pub interface_of : Kind → SectionState → List ℕ → Option Interface
 interface_of EnhancedPacket section bytes = slice_get section.interfaces (number_in section.order 4 (drop 8 bytes))
 interface_of SimplePacket section bytes = slice_get section.interfaces 0
-interface_of SectionHeader section bytes = None
-interface_of InterfaceBlock section bytes = None
-interface_of OtherBlock section bytes = None
+interface_of _ section bytes = None
 
 -- how many bytes of a packet were captured where nobody says so: a snap length of 0 is no limit
 abbrev pub within_snap : ℕ → ℕ → ℕ
@@ -39,9 +37,7 @@ within_snap snap original = if snap == 0 then original else min original snap
 abbrev pub captured_of : Kind → Order → Interface → List ℕ → ℕ
 captured_of EnhancedPacket order interface bytes = number_in order 4 (drop 20 bytes)
 captured_of SimplePacket order interface bytes = within_snap interface.snap (number_in order 4 (drop 8 bytes))
-captured_of SectionHeader order interface bytes = 0
-captured_of InterfaceBlock order interface bytes = 0
-captured_of OtherBlock order interface bytes = 0
+captured_of _ order interface bytes = 0
 
 -- when an enhanced packet was captured, in the unit of its interface
 abbrev pub time_of : Order → List ℕ → ℕ
@@ -53,20 +49,14 @@ record_by EnhancedPacket order interface bytes =
     record_head (micros_of interface.resolution (time_of order bytes)) (captured_of EnhancedPacket order interface bytes) (number_in order 4 (drop 24 bytes))
 record_by SimplePacket order interface bytes =
     record_head 0 (captured_of SimplePacket order interface bytes) (number_in order 4 (drop 8 bytes))
-record_by SectionHeader order interface bytes = []
-record_by InterfaceBlock order interface bytes = []
-record_by OtherBlock order interface bytes = []
+record_by _ order interface bytes = []
 
--- the record of a packet whose block has a head of so many bytes: its head, and as many of the captured bytes as are there
-abbrev pub record_on : ℕ → Kind → Order → Option Interface → List ℕ → List ℕ
-record_on head kind order None bytes = []
-record_on head kind order (Some interface) bytes =
-    record_by kind order interface bytes ++ take (captured_of kind order interface bytes) (drop head bytes)
+-- the record of a packet of this interface, if it is there: its head, and as many of the captured bytes as are there
+abbrev pub record_on : Kind → Order → Option Interface → List ℕ → List ℕ
+record_on kind order None bytes = []
+record_on kind order (Some interface) bytes =
+    record_by kind order interface bytes ++ take (captured_of kind order interface bytes) (drop (head_length kind) bytes)
 
 -- the record that the block at the front gives: none where it holds no packet
 abbrev pub record_of : Kind → SectionState → List ℕ → List ℕ
-record_of EnhancedPacket section bytes = record_on 28 EnhancedPacket section.order (interface_of EnhancedPacket section bytes) bytes
-record_of SimplePacket section bytes = record_on 12 SimplePacket section.order (interface_of SimplePacket section bytes) bytes
-record_of SectionHeader section bytes = []
-record_of InterfaceBlock section bytes = []
-record_of OtherBlock section bytes = []
+record_of kind section bytes = record_on kind section.order (interface_of kind section bytes) bytes

@@ -1,11 +1,11 @@
 -- Which blocks are refused, and why: each as soon as the bytes are there that the refusal reads.
 use Rattle.std.specs.Prelude.{ℕ, ◌+◌, List, length, drop, ◌==◌, not, nat_lt, nat_le, if◌then◌else◌, Option, None, Some}
 use Rattle.pcap_source.specs.Order.{number_in}
-use Rattle.pcapng_source.specs.Fields.{SectionState, has, is_section, is_total, kind_of, order_told, total_of}
+use Rattle.pcapng_source.specs.Fields.{SectionState, has, head_length, is_section, is_total, kind_of, order_told, total_of}
 use Rattle.pcapng_source.specs.Packets.{captured_of, interface_of}
 use Rattle.pcap_source.specs.declared.order.Order.{Order}
 use Rattle.pcapng_source.specs.declared.kind.Kind.{Kind}
-use Rattle.pcapng_source.specs.declared.kind.Kind.TheVariants.{SectionHeader, InterfaceBlock, SimplePacket, EnhancedPacket, OtherBlock}
+use Rattle.pcapng_source.specs.declared.kind.Kind.TheVariants.{SectionHeader, InterfaceBlock, SimplePacket, EnhancedPacket}
 use Rattle.pcapng_source.specs.declared.section.Interface.{Interface}
 use Rattle.pcapng_source.specs.declared.fault.NgFault.{NgFault}
 use Rattle.pcapng_source.specs.declared.fault.NgFault.TheVariants.{BadBlock, BadVersion, TooManyInterfaces, BadLink, TooLong}
@@ -24,20 +24,19 @@ length_by head total captured offset = if nat_lt 262144 captured then Some (TooL
 
 -- a packet of this interface: it is there, its link type is Ethernet, and then the captured length, which stands in so
 -- many bytes
-abbrev pub packet_by : ℕ → ℕ → Kind → Order → Option Interface → ℕ → List ℕ → Option NgFault
-packet_by head needed kind order None offset bytes = Some (BadBlock offset)
-packet_by head needed kind order (Some interface) offset bytes = if not (interface.link == 1) then Some (BadLink offset)
-    else if has needed bytes then length_by head (total_of order bytes) (captured_of kind order interface bytes) offset else None
+abbrev pub packet_by : ℕ → Kind → Order → Option Interface → ℕ → List ℕ → Option NgFault
+packet_by needed kind order None offset bytes = Some (BadBlock offset)
+packet_by needed kind order (Some interface) offset bytes = if not (interface.link == 1) then Some (BadLink offset)
+    else if has needed bytes then length_by (head_length kind) (total_of order bytes) (captured_of kind order interface bytes) offset else None
 
 -- a block of this kind, behind its total length
 abbrev pub kind_refusal : Kind → SectionState → ℕ → List ℕ → Option NgFault
 kind_refusal InterfaceBlock section offset bytes = if nat_le 64 (length section.interfaces) then Some (TooManyInterfaces offset) else None
 kind_refusal SimplePacket section offset bytes =
-    packet_by 12 12 SimplePacket section.order (interface_of SimplePacket section bytes) offset bytes
+    packet_by 12 SimplePacket section.order (interface_of SimplePacket section bytes) offset bytes
 kind_refusal EnhancedPacket section offset bytes = if has 12 bytes
-    then packet_by 28 24 EnhancedPacket section.order (interface_of EnhancedPacket section bytes) offset bytes else None
-kind_refusal SectionHeader section offset bytes = None
-kind_refusal OtherBlock section offset bytes = None
+    then packet_by 24 EnhancedPacket section.order (interface_of EnhancedPacket section bytes) offset bytes else None
+kind_refusal _ section offset bytes = None
 
 -- a block of this kind
 abbrev pub block_by : Kind → SectionState → ℕ → List ℕ → Option NgFault
