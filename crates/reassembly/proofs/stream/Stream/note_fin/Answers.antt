@@ -31,7 +31,8 @@ natural : (c : goal.After-fin-1) → natural_of c.args.position ≡ Some c.in-So
 natural c = ap natural_of (sym (to_z-of_z c.ranges.position)) ∙ sym c.natural.ensures ∙ c.in-Some.is
 
 -- whether bytes were accepted there, by whichever receiver
-free : (c : goal.After-fin-1) (r : Receiver) → StandsFor (view_of (window_of c.self.inside.buffer) c.self.inside.fin c.self.inside.rbuf) r → c.is_free_from-free.result ≡ is_free_from r.cells c.in-Some.position
+free : (c : goal.After-fin-1) (r : Receiver) → StandsFor (view_of (window_of c.self.inside.buffer) c.self.inside.fin c.self.inside.rbuf) r
+    → c.is_free_from-free.result ≡ is_free_from r.cells c.in-Some.position
 free c r h =
     let s = c.self.inside in
     ⊎_elim
@@ -41,7 +42,8 @@ free c r h =
     t ∙ is_taken (window_of s.buffer) s.fin s.rbuf c.in-Some.position taken.0 c.self.invariant.laid taken.1 taken.2 r h)
     (cases_Bool c.is_free_from-free.result)
 
-judged : (c : goal.After-fin-1) (r : Receiver) → StandsFor (view_of (window_of c.self.inside.buffer) c.self.inside.fin c.self.inside.rbuf) r → c.judge-note.result ≡ note_of r c.args.position c.args.edge
+judged : (c : goal.After-fin-1) (r : Receiver) → StandsFor (view_of (window_of c.self.inside.buffer) c.self.inside.fin c.self.inside.rbuf) r
+    → c.judge-note.result ≡ note_of r c.args.position c.args.edge
 judged c r h = c.judge-note.ensures ∙ note_is r c.args.position c.in-Some.position c.args.edge c.self.inside.fin c.is_free_from-free.result (natural c) h.fin (free c r h)
 
 pub returns-clause-answer : goal.returns-clause-answer

@@ -9,7 +9,8 @@ use Rattle.reassembly.proofs.stream.Stream.read_at.Goals as goal
 nothing : (c : goal.Then-len-eq0) (r : Receiver) → StandsFor c.args.self.now r → [] ≡ bytes_from (kept r.cells c.args.self.now.rbuf) c.args.position (length c.args.buf.now)
 nothing c r h = let s = c.self.inside in
     subst (λ (k : StreamView). StandsFor k r → [] ≡ bytes_from (kept r.cells k.rbuf) c.args.position (length c.args.buf.now)) c.self.view_is
-    (bytes_read (window_of s.buffer) s.fin s.rbuf c.args.position c.run_end-end.result (length c.args.buf.now) [] c.self.invariant.laid c.run_end-end.ensures (omega arith) (λ i l. absurd (omega arith)) r) h
+    (bytes_read (window_of s.buffer) s.fin s.rbuf c.args.position c.run_end-end.result (length c.args.buf.now) []
+    c.self.invariant.laid c.run_end-end.ensures (omega arith) (λ i l. absurd (omega arith)) r) h
 
 pub returns-then-len-eq0-clause-len : goal.returns-then-len-eq0-clause-len
 returns-then-len-eq0-clause-len c r h = ap length (nothing c r h)
