@@ -71,14 +71,14 @@ fn compare(bytes: &[u8], start: u64, segment: &[u8], rbuf: u32) -> u32
     differing(&bytes[from + skip..from + segment.len()], &segment[skip..])
 }
 
-// Takes room for `len` bytes: twice what there was, where that is enough, and never more than a page.
+// Takes room for `len` bytes: four times what there was, where that is enough, and never more than a page.
 fn make_room(bytes: &mut Vec<u8>, len: usize) -> Result<(), AllocError>
     requires { len ≤ 2048 }
     ensures same { bytes.new.items ≡ bytes.old.items }
     ensures room { OnOk result (len ≤ vec_capacity bytes.new) }
 {
     if bytes.capacity() < len {
-        let room = (2 * bytes.capacity()).clamp(len, PAGE);
+        let room = (4 * bytes.capacity()).clamp(len, PAGE);
         bytes.reserve_exact(room - bytes.len())?;
     }
     Ok(())
