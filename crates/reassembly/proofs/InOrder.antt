@@ -1,7 +1,7 @@
 -- The bytes of one page as a window: what it holds, a segment that goes on where they end, and the window that they become.
-use Rattle.std.proofs.Common.{◌≡◌, ℕ, ◌+◌, ◌-◌, ◌/◌, ◌%◌, ◌<◌, ◌≤◌, zero, suc, min, Bool, true, false, not, ◌&&◌, refl, ap, ap₂, ◌∙◌, sym, arith, List, [], ◌++◌, Option, Some, length, slice_index, map, take, drop, eqb, leb, ltb, le-leb, lt-ltb, rules, length-append, length-take-le, add-zero, ⊎_elim}
+use Rattle.std.proofs.Common.{◌≡◌, ℕ, ◌+◌, ◌-◌, ◌/◌, ◌%◌, ◌<◌, ◌≤◌, zero, suc, min, Bool, true, false, not, ◌&&◌, refl, ap, ap₂, ◌∙◌, sym, arith, List, [], ◌++◌, Option, Some, length, slice_index, map, take, drop, eqb, leb, le-leb, rules, length-append, length-take-le, add-zero, ⊎_elim}
 use Rattle.std.specs.List.{range_with_len}
-use Rattle.std.proofs.lemmas.Bool.{cases_lt, lt-leb, and_from}
+use Rattle.std.proofs.lemmas.Bool.{cases_lt, lt-leb}
 use Rattle.std.proofs.lemmas.List.{get_or_append_left, get_or-append_right}
 use Rattle.std.specs.declared.alloc.Global.{Global}
 use Rattle.std.specs.declared.vec.Vec.{Vec}
@@ -12,7 +12,7 @@ use Rattle.reassembly.specs.declared.pages.Pages.{Pages}
 use Rattle.reassembly.specs.declared.window.Window.{Window}
 use Rattle.reassembly.specs.Buffer.{first_page, in_order, differing_from}
 use Rattle.reassembly.specs.Laying.{differing_of}
-use Rattle.reassembly.specs.Pages.{page_at, byte_of, IsKeyed}
+use Rattle.reassembly.specs.Pages.{page_at, byte_of, IsHeld, IsKeyed}
 use Rattle.reassembly.specs.Runs.{is_accepted}
 use Rattle.reassembly.specs.Segment.{has_byte, count_below}
 use Rattle.reassembly.specs.Steps.{StepsTo, counts_viewed}
@@ -24,12 +24,13 @@ use Rattle.reassembly.proofs.Laid.{length-part, tally_is}
 use Rattle.reassembly.proofs.Laws.{placed_is}
 use Rattle.reassembly.proofs.Paged.{byte_in_page, no_page, still_held}
 use Rattle.reassembly.proofs.Parts.{part_at}
-use Rattle.reassembly.proofs.Placing.{IsCut, placed_cell, no_byte, counts_placed, steps_placed}
+use Rattle.reassembly.proofs.Placing.{IsCut, placed_cell, no_byte, some_byte, counts_placed, steps_placed}
 use Rattle.reassembly.proofs.Taken.{accepted_below, accepted_from_next}
 
 -- the bytes that have a kept position, compared by index
 pub compared : (low start skip : ℕ) (bytes segment : List ℕ) → skip ≡ min (low - start) (length segment) → start + length segment ≤ length bytes
-    → differing_of (take (start + length segment - (start + skip)) (drop (start + skip) bytes)) (take (length segment - skip) (drop skip segment)) (length (take (length segment - skip) (drop skip segment)))
+    → differing_of (take (start + length segment - (start + skip)) (drop (start + skip) bytes)) (take (length segment - skip) (drop skip segment))
+    (length (take (length segment - skip) (drop skip segment)))
     ≡ differing_from low bytes start segment
 compared low start skip bytes segment e within =
     let n = length segment in
@@ -65,7 +66,7 @@ in_page v laid = ⊎_elim
 pub laid_in_order : (v : Vec ℕ Global) → length v.items ≤ 2048 → IsLaid (in_order v)
 laid_in_order v l = search rules
 
-bounded_in_order : (v : Vec ℕ Global) → IsBounded (in_order v) (length v.items)
+pub bounded_in_order : (v : Vec ℕ Global) → IsBounded (in_order v) (length v.items)
 bounded_in_order v = record { next = omega arith; runs = record { each = λ k l. absurd (omega arith) } }
 
 -- a segment that goes on where the bytes end, and what they are then
@@ -126,7 +127,7 @@ placed_in_order v w policy limit start segment m k h p =
     let there : is_accepted next [] p ≡ false = accepted_from_next next [] p over in
     ⊎_elim
     (λ (inside : p < next + length middle).
-    let in_middle : has_byte (start + m) middle p ≡ true = and_from (leb (start + m) p) (ltb p (start + m + length middle)) (le-leb (start + m) p (omega arith)) (lt-ltb p (start + m + length middle) (omega arith)) in
+    let in_middle : has_byte (start + m) middle p ≡ true = some_byte (start + m) middle p (omega arith) (omega arith) in
     let here : is_accepted (length w.items) [] p ≡ true = accepted_below (length w.items) [] p (omega arith) in
     let place : p - next ≡ p - (start + m) = omega arith in
     let byte : byte_at (in_order w) p ≡ slice_index middle (p - (start + m)) = byte_in_order w p (omega arith) ∙ ap (λ xs. slice_index xs p) h.items
@@ -195,25 +196,27 @@ counts_in_order v w fin rbuf limit start segment m k differ h told =
     placed_is _ made refl (omega arith) (omega arith) (omega arith)
     ∙ counts_placed (in_order v) fin rbuf limit next start m k k segment h.old_laid (bounded_in_order v) cut taken again differ (start + m) refl all_new no_more below
 
--- the window that has the bytes as its first page
+-- pages of which the first has the bytes, and the others have none
 pages_same : (v : Vec ℕ Global) (s : Pages) → page_at s 0 ≡ v.items → ((k : ℕ) → page_at s (k + 1) ≡ []) → (k : ℕ) → page_at s k ≡ page_at (first_page v) k
 pages_same v s first others zero = first
 pages_same v s first others (suc k) =
     let at : k + 1 ≡ suc k = omega arith in
     ap (page_at s) (sym at) ∙ others k ∙ sym (no_page (first_page v) (suc k) (omega arith))
 
+-- they have its bytes, and hold what it holds
+pub same_pages : (v : Vec ℕ Global) (s : Pages) → s.base ≡ 0 → page_at s 0 ≡ v.items → ((k : ℕ) → page_at s (k + 1) ≡ [])
+    → ((p : ℕ) → byte_of s p ≡ byte_of (first_page v) p) × ((p : ℕ) → IsHeld (first_page v) p → IsHeld s p)
+same_pages v s base first others =
+    let pages = pages_same v s first others in (
+      λ p. rw base (ap (λ (xs : List ℕ). slice_index xs ((p - 0) % 2048)) (pages ((p - 0) / 2048))),
+      still_held (first_page v) s base (λ k. let e : length (page_at s k) ≡ length (page_at (first_page v) k) = ap length (pages k) in omega arith),
+    )
+
 pub spread_same : (v : Vec ℕ Global) (w : Window) → w.next ≡ length v.items → runs_of w.runs ≡ [] → w.bytes.base ≡ 0 → IsKeyed w.bytes
     → page_at w.bytes 0 ≡ v.items → ((k : ℕ) → page_at w.bytes (k + 1) ≡ []) → IsSameWindow (in_order v) w
 spread_same v w next runs base keyed first others =
-    let pages = pages_same v w.bytes first others in
-    record {
-      base = base;
-      next = next;
-      runs = runs;
-      keyed = keyed;
-      bytes = λ p. rw base (ap (λ (xs : List ℕ). slice_index xs ((p - 0) % 2048)) (pages ((p - 0) / 2048)));
-      held = still_held (first_page v) w.bytes base (λ k. let e : length (page_at w.bytes k) ≡ length (page_at (first_page v) k) = ap length (pages k) in omega arith);
-    }
+    let same = same_pages v w.bytes base first others in
+    record { base = base; next = next; runs = runs; keyed = keyed; bytes = same.0; held = same.1 }
 
 -- what contracts see of the same content is the same
 kept_alike : (old new : Window) (rbuf : ℕ) → IsSameWindow old new → (p : ℕ) → kept_at new rbuf p ≡ kept_at old rbuf p

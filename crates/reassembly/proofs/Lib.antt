@@ -13,9 +13,12 @@ pub mod Taken
 pub mod Placing
 pub mod Again
 pub mod InOrder
+pub mod AllNew
+pub mod Holes
 pub mod Streams
 pub mod Fins
 pub mod KeptRuns
+pub mod Empty
 pub mod KeptBytes
 pub mod KeptPieces
 pub mod WholeRuns

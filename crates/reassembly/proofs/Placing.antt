@@ -35,6 +35,10 @@ no_byte low bytes p h = false_from_ne_true (has_byte low bytes p) (λ e.
     let parts = and_parts (leb low p) (ltb p (low + length bytes)) e in
     h (leb-true low p parts.0) (ltb-true p (low + length bytes) parts.1))
 
+-- and one stands between them
+pub some_byte : (low : ℕ) (bytes : List ℕ) (p : ℕ) → low ≤ p → p < low + length bytes → has_byte low bytes p ≡ true
+some_byte low bytes p from below = and_from (leb low p) (ltb p (low + length bytes)) (le-leb low p from) (lt-ltb p (low + length bytes) below)
+
 -- a cell that isn't written stays, whether a byte stands there or not
 stays : (here write : Bool) (byte : ℕ) (c : Option ℕ) → write ≡ false → cond here (cond write (Some byte) c) c ≡ c
 stays true write byte c e = rw e refl
@@ -72,7 +76,7 @@ next_open w above = accepted_from_next w.next (runs_of w.runs) w.next (omega ari
 -- no byte of the segment stands there, so none of a part does
 outside : (start : ℕ) (segment : List ℕ) (p : ℕ) → has_byte start segment p ≡ false → start ≤ p → p < start + length segment → ⊥
 outside start segment p gone a b = false_true (has_byte start segment p) gone
-    (and_from (leb start p) (ltb p (start + length segment)) (le-leb start p a) (lt-ltb p (start + length segment) b))
+    (some_byte start segment p a b)
 
 -- past all that was accepted no cell is filled
 both_none : (last here : Bool) (x y : ℕ) → cond ((true && false) || (last && false)) (Some x) None ≡ cond (here && false) (Some y) None
@@ -168,7 +172,7 @@ after_is_taken next limit end start m k j p policy segment c cut below past =
     let parts = and_parts (leb start p) (ltb p (start + n)) here in
     let from : start ≤ p = leb-true start p parts.0 in
     let to : p < start + n = ltb-true p (start + n) parts.1 in
-    let in_middle : has_byte low middle p ≡ true = and_from (leb low p) (ltb p (low + length middle)) (le-leb low p (omega arith)) (lt-ltb p (low + length middle) (omega arith)) in
+    let in_middle : has_byte low middle p ≡ true = some_byte low middle p (omega arith) (omega arith) in
     let again : m + (p - low) ≡ p - start = omega arith in
     let byte : slice_index middle (p - low) ≡ slice_index segment (p - start) = part_byte m k n segment (p - low) refl (omega arith) (omega arith) (omega arith) ∙ ap (slice_index segment) again in
     rw (here, in_middle, out2, e1, e2, e3, byte) (after_between c last (slice_index segment (p - start))))
@@ -186,7 +190,7 @@ after_is_taken next limit end start m k j p policy segment c cut below past =
     let to : p < start + n = ltb-true p (start + n) parts.1 in
     ⊎_elim
     (λ (waits : p < end).
-    let in_rest : has_byte low2 rest p ≡ true = and_from (leb low2 p) (ltb p (low2 + length rest)) (le-leb low2 p (omega arith)) (lt-ltb p (low2 + length rest) (omega arith)) in
+    let in_rest : has_byte low2 rest p ≡ true = some_byte low2 rest p (omega arith) (omega arith) in
     let again : k + (p - low2) ≡ p - start = omega arith in
     let byte : slice_index rest (p - low2) ≡ slice_index segment (p - start) = part_byte k j n segment (p - low2) refl (omega arith) (omega arith) (omega arith) ∙ ap (slice_index segment) again in
     rw (here, out, in_rest, e1, e2, e3, byte) (after_again c last (slice_index segment (p - start))))

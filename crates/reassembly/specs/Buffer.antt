@@ -1,15 +1,21 @@
 -- What a buffer holds, as a window, whichever of its forms it has: private to the crate.
-use Rattle.std.specs.Prelude.{ℕ, ◌+◌, ◌^◌, not, ◌&&◌, nat_le, nat_eq, List, [], ◌∷◌, length, slice_index, Some, refl}
+use Rattle.std.specs.Prelude.{◌≡◌, ℕ, ◌+◌, ◌-◌, ◌≤◌, ◌^◌, min, not, ◌&&◌, nat_le, nat_eq, List, [], ◌∷◌, length, slice_index, Option, Some, refl}
 use Rattle.std.specs.Global.{Global}
 use Rattle.std.specs.declared.vec.Vec.{Vec}
 use Rattle.std.proofs.Common.{ltb-true, leb-true, inl}
 use Rattle.std_collections.specs.Layout.BTreeMap.{btree_map}
+use Rattle.reassembly.specs.Runs.{KeepsBounds}
 use Rattle.reassembly.specs.Segment.{count_below}
+use Rattle.reassembly.specs.Steps.{StepsTo, counts_viewed}
+use Rattle.reassembly.specs.Window.{view_of, IsLaid, IsSized, IsBounded}
+use Rattle.reassembly.specs.declared.answers.Placed.{Placed}
+use Rattle.reassembly.specs.declared.answers.Policy.{Policy}
 use Rattle.reassembly.specs.declared.pages.Pages.{Pages}
 use Rattle.reassembly.specs.declared.waiting.Runs.{Runs}
 use Rattle.reassembly.specs.declared.window.Window.{Window}
+use Rattle.reassembly.specs.declared.holed.Holed.{Holed}
 use Rattle.reassembly.specs.declared.buffer.Buffer.{Buffer}
-use Rattle.reassembly.specs.declared.buffer.Buffer.TheVariants.{InOrder, Spread}
+use Rattle.reassembly.specs.declared.buffer.Buffer.TheVariants.{InOrder, Holed as HasHole, Spread}
 
 -- the key of the first page
 abbrev pub first_key : Vec ℕ Global → Vec ℕ Global
@@ -26,10 +32,37 @@ no_runs page = record { map = btree_map [] (inl tt); alloc = page.alloc }
 abbrev pub in_order : Vec ℕ Global → Window
 in_order page = record { next = length page.items; bytes = first_page page; runs = no_runs page }
 
+-- the run that ends where the page's bytes end
+abbrev pub last_run : Vec ℕ Global → ℕ → Runs
+last_run page start = record { map = btree_map ((start, length page.items) ∷ []) (inl tt); alloc = page.alloc }
+
+-- those of the page's bytes were accepted that lie below next, and those from start on
+abbrev pub holed : Holed → Window
+holed h = record { next = h.next; bytes = first_page h.bytes; runs = last_run h.bytes h.start }
+
 abbrev pub window_of : Buffer → Window
 window_of (InOrder page) = in_order page
+window_of (HasHole h) = holed h
 window_of (Spread window) = window.value
 
 -- how many bytes of a segment from q on differ from those of the list, at the positions from low on
 abbrev pub differing_from : ℕ → List ℕ → ℕ → List ℕ → ℕ
 differing_from low bytes q segment = count_below (λ i. nat_le low (q + i) && not (nat_eq (slice_index bytes (q + i)) (slice_index segment i))) (length segment)
+
+-- the counts of a segment of n bytes from q on, of which those below the limit are new
+abbrev pub new_below : ℕ → ℕ → ℕ → Placed
+new_below limit q n = let new = min (limit - q) n in record { new = new; old = 0; differ = 0; over = n - new }
+
+-- a segment of n bytes from q on is what is missing between next and the run, and lies below the limit
+pub record FillsHole (h : Holed) (limit q n : ℕ) : Type 0 where
+  pub from : q ≡ h.next
+  pub to : q + n ≡ h.start
+  pub below : h.start ≤ limit
+
+-- what a segment from q on does to a window where all its bytes below the limit are new
+pub record TakesAll (limit rbuf q : ℕ) (segment : List ℕ) (old new : Window) : Type 0 where
+  pub laid : IsLaid new
+  pub sized : IsSized old rbuf → IsSized new rbuf
+  pub bounded : KeepsBounds (λ m. limit ≤ m) IsBounded old new
+  pub steps : (policy : Policy) (fin : Option ℕ) → StepsTo limit q segment policy (view_of old fin rbuf) (view_of new fin rbuf)
+  pub counts : (fin : Option ℕ) → new_below limit q (length segment) ≡ counts_viewed (view_of old fin rbuf) limit q segment

@@ -1,33 +1,61 @@
-//! The buffer of a stream, in the smaller one of two forms that is enough.
+//! The buffer of a stream, in the smallest one of three forms that is enough.
 
-ghost use Rattle.std.specs.Prelude.{◌≡◌, ℕ, ◌+◌, ◌-◌, ◌<◌, ◌≤◌, ◌^◌, length, min, true, Option, OnOk, OnErr, IfOk, IsTrue, IsFalse};
+ghost use Rattle.std.specs.Prelude.{◌≡◌, ℕ, ◌+◌, ◌-◌, ◌<◌, ◌≤◌, ◌^◌, length, min, vec_capacity, true, Option, OnOk, OnErr, IfOk, IsTrue, IsFalse, ◌↔◌};
 ghost use Rattle.reassembly.specs.Runs.{KeepsBounds};
 ghost use Rattle.reassembly.specs.Laying.{HasBytes};
 ghost use Rattle.reassembly.specs.Steps.{StepsTo, counts_viewed};
 ghost use Rattle.reassembly.specs.Window.{view_of, byte_at, accepts, IsLaid, IsSized, IsBounded, IsSameWindow};
-ghost use Rattle.reassembly.specs.Buffer.{in_order, differing_from};
+ghost use Rattle.reassembly.specs.Buffer.{in_order, holed, differing_from, TakesAll};
 
+use crate::holed::Holed;
 use crate::laying::differing;
 use crate::pages::PAGE;
 use crate::window::{Window, count_under};
 use crate::{Placed, Policy};
 use std::alloc::{AllocError, Global};
+use std::mem::replace;
 
-/// What was accepted. Most streams end within their first page, and their segments come in order.
+/// What was accepted. Most streams end within their first page, and their segments come in order, or one comes early and
+/// the next one fills the hole that it left.
 #[derive(Drop)]
 pub enum Buffer {
     /// All bytes from position 0 to below the next one, at most a page.
     InOrder(Vec<u8>),
-    /// Pages, and runs that wait behind the next position.
+    /// At most a page, with one hole. The segment that is missing puts the bytes in order again.
+    Holed(Holed),
+    /// Pages, and runs that wait behind the next position. It stays so.
     Spread(Box<Window>),
+}
+
+// The answer for `len` bytes of which the first `new` are new, and the others lie past the limit.
+fn all_new(new: usize, len: usize) -> Placed
+    requires order { new ≤ len }
+    requires short { len ≤ 65535 }
+    ensures { result ≡ record { new = new; old = 0; differ = 0; over = len - new } }
+{
+    Placed {
+        new: new as u32,
+        old: 0,
+        differ: 0,
+        over: (len - new) as u32,
+    }
 }
 
 // Whether a segment leaves no hole behind the first `next` positions, and the first page has room for it.
 fn can_append(next: usize, start: u64, len: usize, limit: u64) -> bool
     requires { start + len < 2 ^ 64 }
-    ensures { IsTrue result → (start ≤ next) × (start + min (limit - start) len ≤ 2048) }
+    ensures { IsTrue result ↔ (start ≤ next) × (start + min (limit - start) len ≤ 2048) }
 {
     start <= next as u64 && start + count_under(limit, start, len) as u64 <= PAGE as u64
+}
+
+// Whether a segment leaves a hole behind the first `next` positions, and the first page has room for it.
+fn can_wait(next: usize, start: u64, len: usize, limit: u64) -> bool
+    requires { start + len < 2 ^ 64 }
+    ensures { IsTrue result ↔ (next < start) × (start < limit) × (start + min (limit - start) len ≤ 2048) }
+{
+    let end = start + count_under(limit, start, len) as u64;
+    (next as u64) < start && start < limit && end <= PAGE as u64
 }
 
 // How many bytes of a segment from `start` on differ from the kept ones, of those that have all the positions.
@@ -43,13 +71,14 @@ fn compare(bytes: &[u8], start: u64, segment: &[u8], rbuf: u32) -> u32
     differing(&bytes[from + skip..from + segment.len()], &segment[skip..])
 }
 
-// Takes room for `len` bytes: twice what there was, where that is enough, and never more than a page.
+// Takes room for `len` bytes: four times what there was, where that is enough, and never more than a page.
 fn make_room(bytes: &mut Vec<u8>, len: usize) -> Result<(), AllocError>
     requires { len ≤ 2048 }
-    ensures { bytes.new.items ≡ bytes.old.items }
+    ensures same { bytes.new.items ≡ bytes.old.items }
+    ensures room { OnOk result (len ≤ vec_capacity bytes.new) }
 {
     if bytes.capacity() < len {
-        let room = (2 * bytes.capacity()).clamp(len, PAGE);
+        let room = (4 * bytes.capacity()).clamp(len, PAGE);
         bytes.reserve_exact(room - bytes.len())?;
     }
     Ok(())
@@ -93,6 +122,36 @@ fn append(
     })
 }
 
+// Places a segment that leaves a hole behind these bytes, and lies in their page. Where memory is refused, they stay.
+fn leave_hole(
+    bytes: &mut Vec<u8>,
+    start: u64,
+    segment: &[u8],
+    limit: u64,
+) -> Result<Holed, AllocError>
+    requires laid { IsLaid (in_order bytes.old) }
+    requires some { 0 < length segment.now }
+    requires short { length segment.now ≤ 65535 }
+    requires hole { length bytes.old.items < start }
+    requires within { start < limit }
+    requires page { start + min (limit - start) (length segment.now) ≤ 2048 }
+    ensures err { OnErr result (bytes.new.items ≡ bytes.old.items) }
+    ensures ok { IfOk result (λ h. (rbuf : ℕ) → limit ≤ length bytes.old.items + rbuf
+        → TakesAll limit rbuf start segment.now (in_order bytes.old) (holed h)) }
+{
+    let next = bytes.len();
+    let within = count_under(limit, start, segment.len());
+    make_room(bytes, start as usize + within)?;
+    bytes.resize(start as usize, 0)?;
+    bytes.extend_from_slice(&segment[..within])?;
+    let alloc = *bytes.allocator();
+    Ok(Holed {
+        bytes: replace(bytes, Vec::new(alloc)),
+        next: next as u16,
+        start: start as u16,
+    })
+}
+
 // The window that has these bytes as its first page. Where memory is refused, they stay.
 fn spread(bytes: &mut Vec<u8>) -> Result<Box<Window>, AllocError>
     requires { IsLaid (in_order bytes.old) }
@@ -127,12 +186,13 @@ impl Buffer {
     {
         match self {
             Buffer::InOrder(bytes) => bytes.len() as u64,
+            Buffer::Holed(holed) => u64::from(holed.next),
             Buffer::Spread(window) => window.next,
         }
     }
 
-    /// Places a segment that begins at `start`, as [`Window::place`] does. The buffer is spread at the first one that
-    /// leaves a hole or ends past the first page. Where memory is refused, the content is as before.
+    /// Places a segment that begins at `start`, as [`Window::place`] does. The buffer is spread at the first one that the
+    /// other two forms have no place for. Where memory is refused, the content is as before.
     pub fn place(
         &mut self,
         start: u64,
@@ -157,12 +217,30 @@ impl Buffer {
             → placed ≡ counts_viewed (view_of (window_of self.old) fin rbuf) limit start segment.now) }
         ensures bounds { IfOk result (λ placed. placed.old ≤ length segment.now) }
     {
+        let len = segment.len();
+        if len == 0 {
+            return Ok(all_new(0, 0));
+        }
         match self {
-            Buffer::InOrder(bytes) if can_append(bytes.len(), start, segment.len(), limit) => {
+            Buffer::InOrder(bytes) if can_append(bytes.len(), start, len, limit) => {
                 append(bytes, start, segment, limit, rbuf)
+            }
+            Buffer::InOrder(bytes) if can_wait(bytes.len(), start, len, limit) => {
+                *self = Buffer::Holed(leave_hole(bytes, start, segment, limit)?);
+                Ok(all_new(count_under(limit, start, len), len))
             }
             Buffer::InOrder(bytes) => {
                 let mut window = spread(bytes)?;
+                let placed = window.place(start, segment, policy, limit, rbuf);
+                *self = Buffer::Spread(window);
+                placed
+            }
+            Buffer::Holed(holed) if holed.is_filled_by(start, len, limit) => {
+                *self = Buffer::InOrder(holed.fill(segment));
+                Ok(all_new(len, len))
+            }
+            Buffer::Holed(holed) => {
+                let mut window = holed.spread()?;
                 let placed = window.place(start, segment, policy, limit, rbuf);
                 *self = Buffer::Spread(window);
                 placed
@@ -179,6 +257,7 @@ impl Buffer {
     {
         match self {
             Buffer::InOrder(bytes) => bytes.len() as u64 <= position,
+            Buffer::Holed(holed) => holed.is_free_from(position),
             Buffer::Spread(window) => window.is_free_from(position),
         }
     }
@@ -196,6 +275,7 @@ impl Buffer {
                 }
                 position.max(next)
             }
+            Buffer::Holed(holed) => holed.run_end(position, rbuf),
             Buffer::Spread(window) => window.run_end(position, rbuf),
         }
     }
@@ -214,6 +294,7 @@ impl Buffer {
                 }
                 Some(position.max(next.saturating_sub(u64::from(rbuf))))
             }
+            Buffer::Holed(holed) => holed.first_kept(position, rbuf),
             Buffer::Spread(window) => window.first_kept(position, rbuf),
         }
     }
@@ -233,6 +314,7 @@ impl Buffer {
                 let from = position as usize;
                 buf.copy_from_slice(&bytes[from..from + buf.len()]);
             }
+            Buffer::Holed(holed) => holed.copy(position, buf),
             Buffer::Spread(window) => window.copy(position, buf),
         }
     }

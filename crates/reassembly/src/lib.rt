@@ -8,6 +8,7 @@
 mod answers;
 mod buffer;
 mod fin;
+mod holed;
 mod laying;
 mod offer;
 mod pages;

@@ -10,7 +10,7 @@ use std::marker::Model;
 /// length, in order. A contract sees the list of those that are left.
 #[derive(Drop)]
 pub struct Pieces<'a> {
-    window: &'a Buffer,
+    buffer: &'a Buffer,
     rbuf: u32,
     place: u64,
     left: u32,
@@ -24,9 +24,9 @@ impl<'a> Model for Pieces<'a> {
 
     ghost Value = { List (ℕ × ℕ) };
 
-    ghost view = { λ p. runs_from (kept_at (window_of p.window.now) p.rbuf) p.place p.left };
+    ghost view = { λ p. runs_from (kept_at (window_of p.buffer.now) p.rbuf) p.place p.left };
 
-    ghost invariant = { λ p. IsLaid (window_of p.window.now) × (1 ≤ p.rbuf) };
+    ghost invariant = { λ p. IsLaid (window_of p.buffer.now) × (1 ≤ p.rbuf) };
 }
 
 impl<'a> Pieces<'a> {
@@ -35,13 +35,13 @@ impl<'a> Pieces<'a> {
     ghost use Rattle.reassembly.specs.Window.{kept_at, IsLaid};
 
     /// The runs among the `len` positions from `position` on.
-    pub fn new(window: &'a Buffer, rbuf: u32, position: u64, len: u32) -> Self
-        requires laid { IsLaid (window_of window.now) }
+    pub fn new(buffer: &'a Buffer, rbuf: u32, position: u64, len: u32) -> Self
+        requires laid { IsLaid (window_of buffer.now) }
         requires least { 1 ≤ rbuf }
-        ensures { result ≡ runs_from (kept_at (window_of window.now) rbuf) position len }
+        ensures { result ≡ runs_from (kept_at (window_of buffer.now) rbuf) position len }
     {
         Pieces {
-            window,
+            buffer,
             rbuf,
             place: position,
             left: len,
@@ -57,7 +57,7 @@ impl<'a> Iterator for Pieces<'a> {
     ghost remaining = { item_count (λ pieces. pieces) };
 
     fn next(&mut self) -> Option<(u64, u32)> {
-        let Some(start) = self.window.first_kept(self.place, self.rbuf) else {
+        let Some(start) = self.buffer.first_kept(self.place, self.rbuf) else {
             self.left = 0;
             return None;
         };
@@ -66,7 +66,7 @@ impl<'a> Iterator for Pieces<'a> {
             self.left = 0;
             return None;
         }
-        let end = self.window.run_end(start, self.rbuf);
+        let end = self.buffer.run_end(start, self.rbuf);
         let left = self.left - skip as u32;
         let len = (end - start).min(u64::from(left)) as u32;
         self.place = start + u64::from(len);

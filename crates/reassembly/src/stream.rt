@@ -22,7 +22,7 @@ use std::marker::Model;
 /// isn't stored here: its owner keeps the offer, and tells `place` how wide the window is by it.
 #[derive(Drop)]
 pub struct Stream {
-    window: Buffer,
+    buffer: Buffer,
     fin: Option<u64>,
     rbuf: u32,
 }
@@ -34,9 +34,9 @@ impl Model for Stream {
 
     ghost Value = { StreamView };
 
-    ghost view = { λ s. view_of (window_of s.window) s.fin s.rbuf };
+    ghost view = { λ s. view_of (window_of s.buffer) s.fin s.rbuf };
 
-    ghost invariant = { λ s. IsWhole (window_of s.window) s.fin s.rbuf };
+    ghost invariant = { λ s. IsWhole (window_of s.buffer) s.fin s.rbuf };
 }
 
 impl Stream {
@@ -50,7 +50,7 @@ impl Stream {
         ensures fin { result.fin ≡ None }
     {
         Stream {
-            window: Buffer::new(alloc),
+            buffer: Buffer::new(alloc),
             fin: None,
             rbuf,
         }
@@ -60,7 +60,7 @@ impl Stream {
     pub fn next(&self) -> u64
         ensures { result ≡ self.now.next }
     {
-        self.window.next()
+        self.buffer.next()
     }
 
     /// The position of the FIN, once it is noted.
@@ -74,7 +74,7 @@ impl Stream {
     pub fn low(&self) -> u64
         ensures { ForReceiver self.now (λ r. result ≡ low_of r.cells self.now.rbuf) }
     {
-        self.window.next().saturating_sub(u64::from(self.rbuf))
+        self.buffer.next().saturating_sub(u64::from(self.rbuf))
     }
 
     /// Places the bytes of a segment whose first one stands `d` above `next`, where the receive window has the `wide`
@@ -100,12 +100,12 @@ impl Stream {
         ensures counts { IfOk result (λ placed. ForWide self.old wide
             (λ r. placed ≡ counts_above d bytes.now self.old.rbuf r)) }
     {
-        let next = self.window.next();
+        let next = self.buffer.next();
         let limit = limit(next, self.fin, wide);
         let start = start_of(next, d);
         let below = start.below.min(bytes.len() as u64) as usize;
         let placed = self
-            .window
+            .buffer
             .place(start.position, &bytes[below..], policy, limit, self.rbuf)?;
         Ok(Placed {
             new: placed.new,
@@ -125,7 +125,7 @@ impl Stream {
         let Some(position) = natural(position) else {
             return FinNote::Refused;
         };
-        let free = self.window.is_free_from(position);
+        let free = self.buffer.is_free_from(position);
         let note = judge(self.fin, position, edge, free);
         let fin = noted_after(self.fin, position, note);
         self.fin = fin;
@@ -140,12 +140,12 @@ impl Stream {
         ensures bytes { ForKept self.now
             (λ at. buf.new ≡ bytes_from at position (length buf.old) ++ drop result buf.old) }
     {
-        let end = self.window.run_end(position, self.rbuf);
+        let end = self.buffer.run_end(position, self.rbuf);
         let len = (end - position).min(buf.len() as u64) as usize;
         if len == 0 {
             return 0;
         }
-        self.window.copy(position, &mut buf[..len]);
+        self.buffer.copy(position, &mut buf[..len]);
         len
     }
 
@@ -156,6 +156,6 @@ impl Stream {
         ensures few { positions_in result ≤ len }
         ensures whole { ForKept self.now (λ at. AreWhole at result) }
     {
-        Pieces::new(&self.window, self.rbuf, position, len)
+        Pieces::new(&self.buffer, self.rbuf, position, len)
     }
 }

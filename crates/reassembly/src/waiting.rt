@@ -46,6 +46,16 @@ impl Runs {
         }
     }
 
+    /// Makes the positions from `low` to below `high` the first run.
+    pub fn begin(&mut self, low: u64, high: u64) -> Result<(), AllocError>
+        requires { runs_of self.old ≡ [] }
+        ensures err { OnErr result (runs_of self.new ≡ []) }
+        ensures ok { OnOk result (runs_of self.new ≡ record { start = low; end = high } ∷ []) }
+    {
+        self.map.insert(low, high)?;
+        Ok(())
+    }
+
     // The last run that begins at `position` or below it.
     fn begun_by(&self, position: u64) -> Option<Run>
         ensures some { IfSome result (λ run. HasRun self.now run × (run.start ≤ position)

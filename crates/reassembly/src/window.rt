@@ -1,4 +1,4 @@
-//! The buffer of a stream: the bytes of its pages, of which those below `next` and those in a run are accepted.
+//! A window: the bytes of a stream in pages, of which those below `next` and those in a run are accepted.
 
 ghost use Rattle.std.specs.Prelude.{◌≡◌, ℕ, ◌+◌, ◌-◌, ◌<◌, ◌≤◌, ◌^◌, ◌⊎◌, [], length, min, vec_len, true, OnOk, OnErr, IfOk, Option, IsTrue, IsFalse};
 ghost use Rattle.reassembly.specs.Runs.{AreOrdered, AreAbove, Gains, KeepsBounds};
@@ -32,7 +32,7 @@ impl Window {
     ghost use Rattle.reassembly.specs.Kept.{IsRunEnd, IsFirstKept};
     ghost use Rattle.reassembly.specs.Window.{view_of, kept_at, byte_at, accepts, IsLaid, IsSized, IsBounded, IsSameWindow, taken_tally, AreTaken, AreAgain, HaveAccepted, differing_below};
 
-    /// A buffer with nothing in it. It takes no memory.
+    /// A window with nothing in it. It takes no memory.
     pub fn new(alloc: Global) -> Self
         ensures laid { IsLaid result }
         ensures empty { (result.bytes.base ≡ 0) × (result.next ≡ 0) × (runs_of result.runs ≡ []) }
@@ -279,7 +279,7 @@ impl Window {
         }
     }
 
-    /// Copies the bytes from `position` on, which are accepted and which the buffer still has, and fills `buf`.
+    /// Copies the bytes from `position` on, which are accepted and which the window still has, and fills `buf`.
     pub fn copy(&self, position: u64, buf: &mut [u8])
         requires laid { IsLaid self.now }
         requires from { self.now.bytes.base ≤ position }

@@ -2,7 +2,8 @@ use Rattle.std.proofs.Common.{◌-◌, ◌++◌, ap, ◌∙◌, arith, take, dro
 use Rattle.reassembly.proofs.InOrder.{IsAppended, steps_in_order, counts_in_order}
 use Rattle.reassembly.proofs.buffer.append.Goals as goal
 
-appended : (c : goal.In_ok-extend_from_slice) → IsAppended c.args.bytes.now c.extend_from_slice.new.self c.args.limit c.args.start c.args.segment.now c.count_under-below.result c.count_under-within.result
+appended : (c : goal.In_ok-extend_from_slice) → IsAppended c.args.bytes.now c.extend_from_slice.new.self c.args.limit c.args.start c.args.segment.now
+    c.count_under-below.result c.count_under-within.result
 appended c = record {
   old_laid = c.requires.laid;
   from = c.requires.from;
@@ -10,7 +11,8 @@ appended c = record {
   below = omega arith;
   within = c.count_under-within.ensures;
   fits = omega arith;
-  items = c.in_ok-extend_from_slice.ensures.items ∙ ap (λ xs. xs ++ take (c.count_under-within.result - c.count_under-below.result) (drop c.count_under-below.result c.args.segment.now)) c.make_room.ensures;
+  items = c.in_ok-extend_from_slice.ensures.items
+      ∙ ap (λ xs. xs ++ take (c.count_under-within.result - c.count_under-below.result) (drop c.count_under-below.result c.args.segment.now)) c.make_room.ensures.same;
 }
 
 pub returns-clause-steps : goal.returns-clause-steps
@@ -19,5 +21,6 @@ returns-clause-steps c policy fin =
 
 pub returns-clause-counts : goal.returns-clause-counts
 returns-clause-counts c fin =
-    counts_in_order c.args.bytes.now c.extend_from_slice.new.self fin c.args.rbuf c.args.limit c.args.start c.args.segment.now c.count_under-below.result c.count_under-within.result c.compare-differ.result (appended c)
+    counts_in_order c.args.bytes.now c.extend_from_slice.new.self fin c.args.rbuf c.args.limit c.args.start c.args.segment.now
+    c.count_under-below.result c.count_under-within.result c.compare-differ.result (appended c)
     (rw c.deref.ensures.value at c.compare-differ.ensures.value)

@@ -23,7 +23,7 @@ returns-in_default-clause-stands c r h =
 pub invariant_of-self : goal.invariant_of-self
 invariant_of-self c =
     let old = c.self.invariant in
-    let bound = fin_bound (window_of c.self.inside.window) c.self.inside.fin c.in-Some.position c.args.edge c.is_free_from-free.result c.judge-note.result
+    let bound = fin_bound (window_of c.self.inside.buffer) c.self.inside.fin c.in-Some.position c.args.edge c.is_free_from-free.result c.judge-note.result
     c.judge-note.ensures c.is_free_from-free.ensures.free old.fin in
     record { laid = old.laid; sized = old.sized; least = old.least; most = old.most; fin = λ f e. bound f (sym c.noted_after-fin.ensures ∙ e) }
 
@@ -31,17 +31,19 @@ natural : (c : goal.After-fin-1) → natural_of c.args.position ≡ Some c.in-So
 natural c = ap natural_of (sym (to_z-of_z c.ranges.position)) ∙ sym c.natural.ensures ∙ c.in-Some.is
 
 -- whether bytes were accepted there, by whichever receiver
-free : (c : goal.After-fin-1) (r : Receiver) → StandsFor (view_of (window_of c.self.inside.window) c.self.inside.fin c.self.inside.rbuf) r → c.is_free_from-free.result ≡ is_free_from r.cells c.in-Some.position
+free : (c : goal.After-fin-1) (r : Receiver) → StandsFor (view_of (window_of c.self.inside.buffer) c.self.inside.fin c.self.inside.rbuf) r
+    → c.is_free_from-free.result ≡ is_free_from r.cells c.in-Some.position
 free c r h =
     let s = c.self.inside in
     ⊎_elim
-    (λ (t : c.is_free_from-free.result ≡ true). t ∙ is_free (window_of s.window) s.fin s.rbuf c.in-Some.position c.self.invariant.laid (c.is_free_from-free.ensures.free t) r h)
+    (λ (t : c.is_free_from-free.result ≡ true). t ∙ is_free (window_of s.buffer) s.fin s.rbuf c.in-Some.position c.self.invariant.laid (c.is_free_from-free.ensures.free t) r h)
     (λ (t : c.is_free_from-free.result ≡ false).
     let taken = c.is_free_from-free.ensures.taken t in
-    t ∙ is_taken (window_of s.window) s.fin s.rbuf c.in-Some.position taken.0 c.self.invariant.laid taken.1 taken.2 r h)
+    t ∙ is_taken (window_of s.buffer) s.fin s.rbuf c.in-Some.position taken.0 c.self.invariant.laid taken.1 taken.2 r h)
     (cases_Bool c.is_free_from-free.result)
 
-judged : (c : goal.After-fin-1) (r : Receiver) → StandsFor (view_of (window_of c.self.inside.window) c.self.inside.fin c.self.inside.rbuf) r → c.judge-note.result ≡ note_of r c.args.position c.args.edge
+judged : (c : goal.After-fin-1) (r : Receiver) → StandsFor (view_of (window_of c.self.inside.buffer) c.self.inside.fin c.self.inside.rbuf) r
+    → c.judge-note.result ≡ note_of r c.args.position c.args.edge
 judged c r h = c.judge-note.ensures ∙ note_is r c.args.position c.in-Some.position c.args.edge c.self.inside.fin c.is_free_from-free.result (natural c) h.fin (free c r h)
 
 pub returns-clause-answer : goal.returns-clause-answer
@@ -50,8 +52,8 @@ returns-clause-answer c r h = subst (λ (k : StreamView). StandsFor k r → c.ju
 pub returns-clause-stands : goal.returns-clause-stands
 returns-clause-stands c r h =
     let s = c.self.inside in
-    let old = view_of (window_of s.window) s.fin s.rbuf in
-    let new = view_of (window_of s.window) c.noted_after-fin.result s.rbuf in
+    let old = view_of (window_of s.buffer) s.fin s.rbuf in
+    let new = view_of (window_of s.buffer) c.noted_after-fin.result s.rbuf in
     subst (λ (k : StreamView). StandsFor k r → StandsFor new (noted r c.args.position c.args.edge)) c.self.view_is
     (λ stood. stands_noted old new r c.args.position c.args.edge stood refl refl refl
     (c.noted_after-fin.ensures ∙ fin_is r c.args.position c.in-Some.position s.fin c.judge-note.result (natural c) stood.fin ∙ ap (fin_after r c.args.position) (judged c r stood)))

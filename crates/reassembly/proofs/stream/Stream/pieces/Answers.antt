@@ -11,11 +11,12 @@ use Rattle.reassembly.proofs.stream.Stream.pieces.Goals as goal
 pub returns-clause-runs : goal.returns-clause-runs
 returns-clause-runs c r h = let s = c.self.inside in
     subst (λ (k : StreamView). StandsFor k r → c.new.result ≡ runs_from (kept r.cells k.rbuf) c.args.position c.args.len) c.self.view_is
-    (λ stood. c.new.ensures ∙ runs_same (kept_at (window_of s.window) s.rbuf) (kept r.cells s.rbuf) (kept_same (window_of s.window) s.fin s.rbuf c.self.invariant.laid r stood) c.args.len c.args.position) h
+    (λ stood. c.new.ensures
+    ∙ runs_same (kept_at (window_of s.buffer) s.rbuf) (kept r.cells s.rbuf) (kept_same (window_of s.buffer) s.fin s.rbuf c.self.invariant.laid r stood) c.args.len c.args.position) h
 
 pub returns-clause-few : goal.returns-clause-few
 returns-clause-few c =
-    subst (λ runs. positions_in runs ≤ c.args.len) (sym c.new.ensures) (few_positions (kept_at (window_of c.self.inside.window) c.self.inside.rbuf) c.args.len c.args.position)
+    subst (λ runs. positions_in runs ≤ c.args.len) (sym c.new.ensures) (few_positions (kept_at (window_of c.self.inside.buffer) c.self.inside.rbuf) c.args.len c.args.position)
 
 pub returns-clause-whole : goal.returns-clause-whole
 returns-clause-whole c r h =

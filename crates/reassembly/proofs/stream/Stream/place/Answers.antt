@@ -29,13 +29,13 @@ invariant_of-self-2 c =
     }
 
 -- a signed argument stands in a call's clause as its bits
-begins : (c : goal.After-struct_known-1) → c.start_of-start.result.position ≡ from_zero (pos (window_of c.self.inside.window).next +ℤ c.args.d)
+begins : (c : goal.After-struct_known-1) → c.start_of-start.result.position ≡ from_zero (pos (window_of c.self.inside.buffer).next +ℤ c.args.d)
 begins c = c.start_of-start.ensures.position ∙ ap₂ (λ x (z : ℤ). from_zero (pos x +ℤ z)) c.next-next.ensures (to_z-of_z c.ranges.d)
 
-begins_below : (c : goal.After-struct_known-1) → c.start_of-start.result.below ≡ below_zero (pos (window_of c.self.inside.window).next +ℤ c.args.d)
+begins_below : (c : goal.After-struct_known-1) → c.start_of-start.result.below ≡ below_zero (pos (window_of c.self.inside.buffer).next +ℤ c.args.d)
 begins_below c = c.start_of-start.ensures.below ∙ ap₂ (λ x (z : ℤ). below_zero (pos x +ℤ z)) c.next-next.ensures (to_z-of_z c.ranges.d)
 
-ends : (c : goal.After-struct_known-1) → c.limit-limit.result ≡ limit_of (window_of c.self.inside.window).next c.self.inside.fin c.args.wide
+ends : (c : goal.After-struct_known-1) → c.limit-limit.result ≡ limit_of (window_of c.self.inside.buffer).next c.self.inside.fin c.args.wide
 ends c = c.limit-limit.ensures ∙ ap (λ x. limit_of x c.self.inside.fin c.args.wide) c.next-next.ensures
 
 pub returns-clause-stands : goal.returns-clause-stands
@@ -43,7 +43,7 @@ returns-clause-stands c r h is_wide =
     let s = c.self.inside in
     subst (λ (k : StreamView). StandsFor k r → c.args.wide ≡ wide_of r k.rbuf
     → StandsFor (view_of (window_of c.place.new.self) s.fin s.rbuf) (accept r (pos (next_of r.cells) +ℤ c.args.d) c.args.bytes.now c.args.policy k.rbuf)) c.self.view_is
-    (stream_stands (window_of s.window) (window_of c.place.new.self) s.fin s.rbuf c.args.wide c.limit-limit.result c.args.d c.args.bytes.now c.args.policy
+    (stream_stands (window_of s.buffer) (window_of c.place.new.self) s.fin s.rbuf c.args.wide c.limit-limit.result c.args.d c.args.bytes.now c.args.policy
     c.start_of-start.result.position c.start_of-start.result.below c.min-below.result
     (begins c) (begins_below c) c.min-below.ensures (ends c) (c.in_ok-placed.ensures.steps s.fin) r)
     h is_wide
@@ -54,6 +54,6 @@ returns-clause-counts c r h is_wide =
     let placed = c.in_ok-placed.placed in
     let made : Placed = record { new = placed.new; old = c.min-below.result + placed.old; differ = placed.differ; over = placed.over } in
     subst (λ (k : StreamView). StandsFor k r → c.args.wide ≡ wide_of r k.rbuf → made ≡ counts r (pos (next_of r.cells) +ℤ c.args.d) c.args.bytes.now k.rbuf) c.self.view_is
-    (stream_counts (window_of s.window) s.fin s.rbuf c.args.wide c.limit-limit.result c.args.d c.args.bytes.now c.start_of-start.result.position c.start_of-start.result.below c.min-below.result placed
+    (stream_counts (window_of s.buffer) s.fin s.rbuf c.args.wide c.limit-limit.result c.args.d c.args.bytes.now c.start_of-start.result.position c.start_of-start.result.below c.min-below.result placed
     (begins c) (begins_below c) c.min-below.ensures (ends c) (c.in_ok-placed.ensures.counts s.fin) r)
     h is_wide
