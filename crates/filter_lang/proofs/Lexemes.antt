@@ -4,13 +4,13 @@ use Rattle.std.proofs.lemmas.List.{drop-drop, drop_all, get_or-drop}
 use Rattle.std.proofs.lemmas.List.Sums.{prefix_len_stops}
 use Rattle.std.specs.Bool.{if◌then◌else◌}
 use Rattle.std.specs.Char.{is_ascii_digit, is_ascii_lowercase}
-use Rattle.std.specs.List.{prefix_len, starts_with}
+use Rattle.std.specs.List.{position_from, prefix_len, starts_with}
 use Rattle.std.specs.Option.{option_map, unwrap_or}
 use Rattle.std.specs.Str.{bytes_eq}
 use Rattle.filter_lang.specs.declared.lexeme.Lexeme.{Lexeme}
 use Rattle.filter_lang.specs.declared.token.Token.{Token}
-use Rattle.filter_lang.specs.declared.token.Token.TheVariants.{Bad, End}
-use Rattle.filter_lang.specs.Tokens.{lexeme, is_blank, fact_token, fact_names, word_token, name_at, numeral_token, begins_hex, dotted_part, last_part, quad_from, number_at, signs, sign_in, token_at, tokens_behind}
+use Rattle.filter_lang.specs.declared.token.Token.TheVariants.{Bad, End, FactName, UnknownWord}
+use Rattle.filter_lang.specs.Tokens.{lexeme, is_blank, fact_names, word_token, name_at, numeral_token, begins_hex, dotted_part, last_part, quad_from, number_at, signs, sign_in, token_at, tokens_behind}
 use Rattle.filter_lang.specs.Words.{is_end, has_fact_within}
 
 -- A token of the code is never the end, and its fact has a place.
@@ -26,10 +26,15 @@ lexeme_if : (b : Bool) (x y : Lexeme) → IsSound x.token → IsSound y.token �
 lexeme_if true x y p q = p
 lexeme_if false x y p q = q
 
-fact_token-sound : (place : ℕ) (ns : List (List ℕ)) (name : List ℕ) → place + length ns ≤ 20 → IsSound (fact_token place ns name)
-fact_token-sound place [] name h = (record { open_ended = refl; fact = refl })
-fact_token-sound place (n ∷ ns) name h =
-    sound_if (bytes_eq name n) _ _ (record { open_ended = refl; fact = lt-ltb place 20 (omega arith) }) (fact_token-sound (place + 1) ns name (omega arith))
+found-sound : (b : Bool) (place : ℕ) (more : Option ℕ) → place < 20 → IsSound (unwrap_or (option_map FactName more) UnknownWord)
+    → IsSound (unwrap_or (option_map FactName (cond b (Some place) more)) UnknownWord)
+found-sound true place more h sound = record { open_ended = refl; fact = lt-ltb place 20 h }
+found-sound false place more h sound = sound
+
+fact-sound : (place : ℕ) (ns : List (List ℕ)) (name : List ℕ) → place + length ns ≤ 20
+    → IsSound (unwrap_or (option_map FactName (position_from (bytes_eq name) place ns)) UnknownWord)
+fact-sound place [] name h = record { open_ended = refl; fact = refl }
+fact-sound place (n ∷ ns) name h = found-sound (bytes_eq name n) place _ (omega arith) (fact-sound (place + 1) ns name (omega arith))
 
 word_token-sound : (name : List ℕ) → IsSound (word_token name)
 word_token-sound name =
@@ -37,7 +42,7 @@ word_token-sound name =
     (sound_if (bytes_eq name (codes "false")) _ _ (record { open_ended = refl; fact = refl })
     (sound_if (bytes_eq name (codes "native")) _ _ (record { open_ended = refl; fact = refl })
     (sound_if (bytes_eq name (codes "has")) _ _ (record { open_ended = refl; fact = refl })
-    (fact_token-sound 0 fact_names name (omega arith)))))
+    (fact-sound 0 fact_names name (omega arith)))))
 
 numeral_token-sound : (v : ℕ) → IsSound (numeral_token v)
 numeral_token-sound v = sound_if (nat_lt v (2 ^ 64)) _ _ (record { open_ended = refl; fact = refl }) (record { open_ended = refl; fact = refl })

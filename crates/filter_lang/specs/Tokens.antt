@@ -1,7 +1,7 @@
 -- The tokens of a filter's text: the longest that fit, one after another, with blanks and tabs between.
 use Rattle.std.specs.Prelude.{ℕ, zero, suc, ◌+◌, ◌-◌, ◌*◌, ◌^◌, min, Bool, ◌&&◌, ◌||◌, ◌==◌, if◌then◌else◌, nat_lt, nat_eq, List, [], ◌∷◌, length, map, take, drop, slice_index, codes, Option, None}
 use Rattle.std.specs.Char.{is_ascii_digit, is_ascii_hexdigit, is_ascii_lowercase}
-use Rattle.std.specs.List.{prefix_len, starts_with}
+use Rattle.std.specs.List.{position_from, prefix_len, starts_with}
 use Rattle.std.specs.Option.{option_map, option_or, unwrap_or}
 use Rattle.std.specs.Str.{bytes_eq}
 use Rattle.std.specs.Str.Parse.{digits_value}
@@ -28,19 +28,14 @@ is_blank b = (b == 32) || (b == 9)
 abbrev pub fact_names : List (List ℕ)
 fact_names = map (λ row. row.0) facts
 
--- the token of a name: a fact, from this place on, or no fact
-abbrev pub fact_token : ℕ → List (List ℕ) → List ℕ → Token
-fact_token place [] name = UnknownWord
-fact_token place (n ∷ ns) name = if bytes_eq name n then FactName place else fact_token (place + 1) ns name
-
--- the token of a name
+-- the token of a name: a word of the grammar, or a fact by its place
 abbrev pub word_token : List ℕ → Token
 word_token name =
     if bytes_eq name (codes "true") then TrueWord else
     if bytes_eq name (codes "false") then FalseWord else
     if bytes_eq name (codes "native") then NativeWord else
     if bytes_eq name (codes "has") then Compares Has else
-    fact_token 0 fact_names name
+    unwrap_or (option_map FactName (position_from (bytes_eq name) 0 fact_names)) UnknownWord
 
 -- a name is a longest run of lower-case letters
 abbrev pub name_at : List ℕ → Lexeme

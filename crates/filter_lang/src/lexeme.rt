@@ -2,10 +2,12 @@
 
 ghost use Rattle.std.specs.Prelude.{◌≡◌, ◌≤◌, ◌<◌, ◌&&◌, ◌^◌, ◌==◌, slice_index, take, true, false, length, IsTrue, IfSome, MatchOption};
 ghost use Rattle.std.specs.Char.{digit_value, is_ascii_digit, is_ascii_hexdigit, is_ascii_lowercase};
-ghost use Rattle.std.specs.List.{prefix_len};
+ghost use Rattle.std.specs.List.{position_from, prefix_len};
+ghost use Rattle.std.specs.Option.{option_map, unwrap_or};
 ghost use Rattle.std.specs.Str.{bytes_eq};
 ghost use Rattle.std.specs.Str.Parse.{digits_value};
-ghost use Rattle.filter_lang.specs.Tokens.{is_blank, lexeme, fact_token, fact_names, word_token, name_at, numeral_token, begins_hex, hex_at, dotted_part, last_part, quad_from, decimal_at, number_at, signs, sign_in, token_at};
+ghost use Rattle.filter_lang.specs.declared.token.Token.TheVariants.{FactName, UnknownWord};
+ghost use Rattle.filter_lang.specs.Tokens.{is_blank, lexeme, fact_names, word_token, name_at, numeral_token, begins_hex, hex_at, dotted_part, last_part, quad_from, decimal_at, number_at, signs, sign_in, token_at};
 
 use crate::term::{Join, Op};
 use crate::token::Token;
@@ -125,7 +127,7 @@ pub(crate) const FACTS: [&str; 20] = [
 
 // The token of a name that is no word of the grammar.
 fn fact_token(name: &[u8]) -> Token
-    ensures { result ≡ fact_token 0 fact_names name.now }
+    ensures { result ≡ unwrap_or (option_map FactName (position_from (bytes_eq name.now) 0 fact_names)) UnknownWord }
 {
     for place in 0..FACTS.len() {
         if is(name, FACTS[place]) {

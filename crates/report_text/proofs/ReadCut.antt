@@ -1,6 +1,6 @@
 -- A line ends at its first newline, so a text is cut into lines in one way.
 use Rattle.std.proofs.Common.{◌≡◌, ℕ, suc, ◌+◌, ◌^◌, ◌<◌, Bool, true, false, not, ◌&&◌, List, [], ◌∷◌, ◌++◌, length, take, drop, refl, ap, sym, subst, ◌∙◌, arith, append_assoc, codes, inl, inr}
-use Rattle.std.specs.Prelude.{nat_lt, slice_index, ◌==◌, if◌then◌else◌, ◌*◌, ◌/◌, ◌%◌}
+use Rattle.std.specs.Prelude.{nat_lt, slice_index, ◌==◌, if◌then◌else◌, ◌*◌, ◌/◌, ◌%◌, flat_map}
 use Rattle.std.specs.Fmt.{decimal, digits}
 use Rattle.std.specs.Int.{w32, to_be_bytes}
 use Rattle.std.specs.List.{list_all, position_or_len}
@@ -21,7 +21,7 @@ use Rattle.report_text.specs.declared.record.RecordKind.TheVariants.{Conn, Orpha
 use Rattle.report_text.specs.declared.record.Totals.{Totals}
 use Rattle.report_text.specs.declared.read.line.Line.{Line}
 use Rattle.report_text.specs.declared.read.line.Line.TheVariants.{First, Callback, Dropped, Field, Last}
-use Rattle.report_text.specs.Words.{class_text, hook_text, event_text, groups_of, groups_text, v6_text, endpoint_text, bytes_text, piece_text, pieces_text, seen_text, reason_text}
+use Rattle.report_text.specs.Words.{class_text, hook_text, event_text, groups_of, groups_text, v6_text, endpoint_text, bytes_text, piece_text, seen_text, reason_text}
 use Rattle.report_text.specs.Lines.{kind_text, first_line, callback_line, drop_line, field_line, totals_line}
 use Rattle.report_text.specs.Ranges.{is_u16, is_u32, is_u64, are_bytes, endpoint_fits, kind_fits, seen_fits, reason_fits}
 use Rattle.report_text.specs.ReadWords.{is_mark}
@@ -144,12 +144,12 @@ flat-endpoint (V6 addr port) h =
     (flat-append (groups_text (drop 1 (groups_of addr))) (codes "]:" ++ decimal port)
     (flat-groups (drop 1 (groups_of addr)) (tail-fits (groups_of addr) fit)) (flat-decimal port (omega arith)))
 
-flat-pieces : (ps : List (ℕ × List ℕ)) → fit_pieces ps ≡ true → flat (pieces_text ps) ≡ true
+flat-pieces : (ps : List (ℕ × List ℕ)) → fit_pieces ps ≡ true → flat (flat_map piece_text ps) ≡ true
 flat-pieces [] h = refl
 flat-pieces ((pos, bs) ∷ ps) h =
     let parts = and_parts (is_u64 pos && are_bytes bs) (fit_pieces ps) h in
     let here = and_parts (is_u64 pos) (are_bytes bs) parts.0 in
-    flat-append (piece_text (pos, bs)) (pieces_text ps)
+    flat-append (piece_text (pos, bs)) (flat_map piece_text ps)
     (flat-number pos (codes ":" ++ bytes_text bs) (below pos (2 ^ 64) here.0) (plain-flat (bytes_text bs) (plain-bytes bs here.1)))
     (flat-pieces ps parts.1)
 
@@ -162,7 +162,7 @@ flat-seen (Next at missed bytes) h =
     (flat-number missed (codes " " ++ bytes_text bytes) (below missed (2 ^ 64) more.1) (plain-flat (bytes_text bytes) (plain-bytes bytes parts.1)))
 flat-seen (At off pieces) h =
     let parts = and_parts (is_u64 off) (fit_pieces pieces) h in
-    flat-number off (pieces_text pieces) (below off (2 ^ 64) parts.0) (flat-pieces pieces parts.1)
+    flat-number off (flat_map piece_text pieces) (below off (2 ^ 64) parts.0) (flat-pieces pieces parts.1)
 
 flat-reason : (r : Reason) → reason_fits r ≡ true → flat (reason_text r) ≡ true
 flat-reason (Reg n) h = let small = below n (2 ^ 8) h in flat-decimal n (omega (arith, small))

@@ -1,6 +1,6 @@
 -- Reports as lists of lines: their text, and what is put together from them.
 use Rattle.std.proofs.Common.{◌≡◌, ℕ, ◌+◌, Bool, true, ◌&&◌, List, [], ◌∷◌, ◌++◌, length, map, refl, ap, sym, ◌∙◌, arith, append_assoc, append-nil, Option, Some, None}
-use Rattle.std.specs.Prelude.{nat_le, ◌==◌}
+use Rattle.std.specs.Prelude.{nat_le, ◌==◌, flat_map}
 use Rattle.std.specs.List.{list_all}
 use Rattle.std.specs.Option.{option_to_list}
 use Rattle.std.proofs.lemmas.Bool.Decides.{nat_tests}
@@ -17,7 +17,7 @@ use Rattle.report_text.specs.declared.read.line.Line.TheVariants.{First, Callbac
 use Rattle.report_text.specs.declared.read.taker.Taker.{Taker}
 use Rattle.report_text.specs.Lines.{first_line, callback_line, drop_line, field_line, totals_line}
 use Rattle.report_text.specs.Ranges.{is_u32, is_u64, kind_fits, entry_fits, drop_fits, field_fits, record_fits, totals_fit}
-use Rattle.report_text.specs.Report.{callbacks_text, drops_text, fields_text, rest_text, record_text, records_text, report_text}
+use Rattle.report_text.specs.Report.{rest_text, record_text, records_text, report_text}
 use Rattle.report_text.specs.Tidy.{is_tidy_entry, are_named, may_have, is_tidy_record, tidy}
 use Rattle.report_text.specs.ReadLines.{bare, line_text, is_tidy_line, line_fits, least_name, least_from, is_conn, with_entry, with_drop, with_field, reopened, with_record, put, start}
 use Rattle.report_text.proofs.ReadNumbers.{and_parts}
@@ -66,15 +66,15 @@ pub text-append : (ls ms : List Line) → text_of (ls ++ ms) ≡ text_of ls ++ t
 text-append [] ms = refl
 text-append (l ∷ ls) ms = ap (λ x. line_text l ++ x) (text-append ls ms) ∙ sym (append_assoc (line_text l) (text_of ls) (text_of ms))
 
-callbacks-lines : (es : List Entry) → text_of (map Callback es) ≡ callbacks_text es
+callbacks-lines : (es : List Entry) → text_of (map Callback es) ≡ flat_map callback_line es
 callbacks-lines [] = refl
 callbacks-lines (e ∷ es) = ap (λ x. callback_line e ++ x) (callbacks-lines es)
 
-drops-lines : (ds : List (ℕ × Reason)) → text_of (map dropped ds) ≡ drops_text ds
+drops-lines : (ds : List (ℕ × Reason)) → text_of (map dropped ds) ≡ flat_map drop_line ds
 drops-lines [] = refl
 drops-lines (d ∷ ds) = ap (λ x. drop_line d ++ x) (drops-lines ds)
 
-fields-lines : (fs : List (List ℕ × ℕ)) → text_of (map field fs) ≡ fields_text fs
+fields-lines : (fs : List (List ℕ × ℕ)) → text_of (map field fs) ≡ flat_map field_line fs
 fields-lines [] = refl
 fields-lines (f ∷ fs) = ap (λ x. field_line f ++ x) (fields-lines fs)
 

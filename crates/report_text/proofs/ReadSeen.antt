@@ -1,6 +1,6 @@
 -- What is written is read: reasons, bytes and what a callback saw.
 use Rattle.std.proofs.Common.{◌≡◌, ℕ, zero, suc, ◌/◌, ◌%◌, ◌^◌, ◌<◌, ◌≤◌, Bool, true, false, not, ◌&&◌, List, [], ◌∷◌, ◌++◌, length, drop, get_or, refl, ap, ◌∙◌, arith, append_assoc, codes, length-append}
-use Rattle.std.specs.Prelude.{nat_lt, slice_index}
+use Rattle.std.specs.Prelude.{nat_lt, slice_index, flat_map}
 use Rattle.std.specs.Fmt.{decimal}
 use Rattle.std.specs.List.{list_all}
 use Rattle.std.proofs.lemmas.List.Sums.{AllPass-from_list_all}
@@ -11,7 +11,7 @@ use Rattle.app_api.specs.declared.entry.Seen.{Seen}
 use Rattle.app_api.specs.declared.entry.Seen.TheVariants.{Nothing, Next, At}
 use Rattle.app_api.specs.declared.reaction.Reason.{Reason}
 use Rattle.app_api.specs.declared.reaction.Reason.TheVariants.{Reg, Rule}
-use Rattle.report_text.specs.Words.{bytes_text, piece_text, pieces_text, seen_text, reason_text}
+use Rattle.report_text.specs.Words.{bytes_text, piece_text, seen_text, reason_text}
 use Rattle.report_text.specs.Ranges.{is_u8, is_u64, are_bytes, reason_fits, seen_fits}
 use Rattle.report_text.specs.ReadWords.{is_mark, decimal_of, reason_of, decoded, bytes_of, pieces_of, seen_of}
 use Rattle.report_text.proofs.ReadNumbers.{plain, marked, and_parts, not_true, first-word, plain-decimal, decimal_of-decimal}
@@ -68,7 +68,7 @@ bytes-read bs t h m = ap (λ w. decoded (decode_of w)) (first-word (bytes_text b
 abbrev pub fit_pieces : List (ℕ × List ℕ) → Bool
 fit_pieces pieces = list_all (λ piece. is_u64 piece.0 && are_bytes piece.1) pieces
 
-pub pieces-marked : (ps : List (ℕ × List ℕ)) (t : List ℕ) → marked t ≡ true → marked (pieces_text ps ++ t) ≡ true
+pub pieces-marked : (ps : List (ℕ × List ℕ)) (t : List ℕ) → marked t ≡ true → marked (flat_map piece_text ps ++ t) ≡ true
 pieces-marked [] t m = m
 pieces-marked (p ∷ ps) t m = refl
 
@@ -81,17 +81,17 @@ nonempty : (a b : List ℕ) → 0 < length (a ++ (codes ":" ++ b))
 nonempty a b = simp length-append (omega arith)
 
 pub pieces-read : (most : ℕ) (ps : List (ℕ × List ℕ)) → length ps ≤ most → fit_pieces ps ≡ true
-    → pieces_of most (drop 1 (pieces_text ps ++ codes "\n")) ≡ ps
+    → pieces_of most (drop 1 (flat_map piece_text ps ++ codes "\n")) ≡ ps
 pieces-read most [] few fits = pieces_of-none most [] refl
 pieces-read zero (p ∷ ps) few fits = absurd (omega arith)
 pieces-read (suc most) ((pos, bs) ∷ ps) few fits =
     let parts = and_parts (is_u64 pos && are_bytes bs) (fit_pieces ps) fits in
     let here = and_parts (is_u64 pos) (are_bytes bs) parts.0 in
     let wide = below pos (2 ^ 64) here.0 in
-    let rest = pieces_text ps ++ codes "\n" in
+    let rest = flat_map piece_text ps ++ codes "\n" in
     let m = pieces-marked ps (codes "\n") refl in
     let at = decimal pos ++ (codes ":" ++ (bytes_text bs ++ rest)) in
-    let is = piece-spread pos bs (pieces_text ps) (codes "\n") in
+    let is = piece-spread pos bs (flat_map piece_text ps) (codes "\n") in
     let one = skip-on 0 at (decimal pos) (codes ":" ++ (bytes_text bs ++ rest)) (skip-zero at) (plain-decimal pos wide) refl in
     let two = skip-on 1 at (bytes_text bs) rest one (plain-bytes bs here.1) m in
     let value = decimal_of-decimal pos (codes ":" ++ (bytes_text bs ++ rest)) wide refl in
@@ -100,12 +100,12 @@ pieces-read (suc most) ((pos, bs) ∷ ps) few fits =
     ap (pieces_of (suc most)) is ∙ pieces_of-suc most at (nonempty (decimal pos) (bytes_text bs ++ rest))
     ∙ (λ i. (value i, bytes i) ∷ ih i)
 
-pub pieces-length : (ps : List (ℕ × List ℕ)) → length ps ≤ length (pieces_text ps)
+pub pieces-length : (ps : List (ℕ × List ℕ)) → length ps ≤ length (flat_map piece_text ps)
 pieces-length [] = omega arith
 pieces-length (p ∷ ps) = simp length-append (omega (arith, pieces-length ps))
 
 at-spread : (off : ℕ) (ps : List (ℕ × List ℕ))
-    → drop 1 (seen_text (At off ps) ++ codes "\n") ≡ codes "at " ++ (decimal off ++ (pieces_text ps ++ codes "\n"))
+    → drop 1 (seen_text (At off ps) ++ codes "\n") ≡ codes "at " ++ (decimal off ++ (flat_map piece_text ps ++ codes "\n"))
 at-spread off ps = simp append_assoc
 
 next-spread : (at missed : ℕ) (bytes : List ℕ)
@@ -118,13 +118,13 @@ seen-marked Nothing = refl
 seen-marked (Next at missed bytes) = refl
 seen-marked (At off pieces) = refl
 
-enough : (off : ℕ) (ps : List (ℕ × List ℕ)) → length ps ≤ length (codes "at " ++ (decimal off ++ (pieces_text ps ++ codes "\n")))
+enough : (off : ℕ) (ps : List (ℕ × List ℕ)) → length ps ≤ length (codes "at " ++ (decimal off ++ (flat_map piece_text ps ++ codes "\n")))
 enough off ps = simp length-append (omega (arith, pieces-length ps))
 
 seen-at : (off : ℕ) (ps : List (ℕ × List ℕ)) → off < 2 ^ 64 → fit_pieces ps ≡ true
-    → seen_of (codes "at " ++ (decimal off ++ (pieces_text ps ++ codes "\n"))) ≡ At off ps
+    → seen_of (codes "at " ++ (decimal off ++ (flat_map piece_text ps ++ codes "\n"))) ≡ At off ps
 seen-at off ps wide fits =
-    let rest = pieces_text ps ++ codes "\n" in
+    let rest = flat_map piece_text ps ++ codes "\n" in
     let m = pieces-marked ps (codes "\n") refl in
     let at = codes "at " ++ (decimal off ++ rest) in
     let one = skip-on 0 at (codes "at") (codes " " ++ (decimal off ++ rest)) (skip-zero at) refl refl in

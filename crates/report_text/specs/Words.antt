@@ -1,5 +1,5 @@
 -- The parts of a report's lines. Numbers are decimal without leading zeros.
-use Rattle.std.specs.Prelude.{ℕ, false, List, [], ◌∷◌, ◌++◌, codes, slice_index, drop}
+use Rattle.std.specs.Prelude.{ℕ, false, List, [], ◌∷◌, ◌++◌, codes, slice_index, drop, flat_map}
 use Rattle.std.specs.Fmt.{decimal, digits}
 use Rattle.std.specs.Int.{w32, w128, to_be_bytes}
 use Rattle.std.specs.Net.Addr.{segments_of}
@@ -60,15 +60,11 @@ bytes_text (b ∷ bytes) = encode_lower (b ∷ bytes)
 abbrev pub piece_text : ℕ × List ℕ → List ℕ
 piece_text piece = codes " " ++ (decimal piece.0 ++ (codes ":" ++ bytes_text piece.1))
 
-abbrev pub pieces_text : List (ℕ × List ℕ) → List ℕ
-pieces_text [] = []
-pieces_text (piece ∷ pieces) = piece_text piece ++ pieces_text pieces
-
 -- what a callback saw of the stream: nothing where it had no peek
 abbrev pub seen_text : Seen → List ℕ
 seen_text Nothing = []
 seen_text (Next at missed bytes) = codes " peek " ++ (decimal at ++ (codes " " ++ (decimal missed ++ (codes " " ++ bytes_text bytes))))
-seen_text (At off pieces) = codes " at " ++ (decimal off ++ pieces_text pieces)
+seen_text (At off pieces) = codes " at " ++ (decimal off ++ flat_map piece_text pieces)
 
 -- who asked for a drop: a registration or a rule, by its number
 abbrev pub reason_text : Reason → List ℕ

@@ -1,10 +1,10 @@
 //! Writes records as they are kept, without a list of their entries or a text of each field's name.
 
-ghost use Rattle.std.specs.Prelude.{◌≡◌, IsErrOf, [], if◌then◌else◌};
+ghost use Rattle.std.specs.Prelude.{◌≡◌, IsErrOf, [], if◌then◌else◌, flat_map};
 ghost use Rattle.mos_bytes.specs.Causes.{HasCauseOf};
 ghost use Rattle.report_text.specs.Kept.{is_conn, kept_record};
-ghost use Rattle.report_text.specs.Lines.{field_line};
-ghost use Rattle.report_text.specs.Report.{callbacks_text, fields_text, rest_text, record_text};
+ghost use Rattle.report_text.specs.Lines.{field_line, callback_line};
+ghost use Rattle.report_text.specs.Report.{rest_text, record_text};
 ghost use Rattle.report_text.specs.Written.{Adds};
 
 use crate::lines::push_named;
@@ -38,7 +38,7 @@ fn write_callbacks<O: Sink>(
     line: &mut String,
     log: &CallbackLog,
 ) -> Result<(), TextError>
-    ensures text { Adds O.Sink out.old out.new result (callbacks_text log.now) }
+    ensures text { Adds O.Sink out.old out.new result (flat_map callback_line log.now) }
     ensures cause { HasCauseOf (O.faults out.old) (O.faults out.new) (IsErrOf result TextError.WriteFault) }
     ensures lasts { O.lasting out.new ≡ O.lasting out.old }
 {
@@ -72,7 +72,7 @@ fn write_told<A: App, O: Sink>(
     line: &mut String,
     tally: &Tally,
 ) -> Result<(), TextError>
-    ensures text { Adds O.Sink out.old out.new result (fields_text ((A.meaning app.now).fields tally.now)) }
+    ensures text { Adds O.Sink out.old out.new result (flat_map field_line ((A.meaning app.now).fields tally.now)) }
     ensures cause { HasCauseOf (O.faults out.old) (O.faults out.new) (IsErrOf result TextError.WriteFault) }
     ensures lasts { O.lasting out.new ≡ O.lasting out.old }
 {
@@ -92,7 +92,7 @@ fn write_fields<A: App, O: Sink>(
     line: &mut String,
     of: &KeptRecord<'_>,
 ) -> Result<(), TextError>
-    ensures text { Adds O.Sink out.old out.new result (fields_text (kept_record (A.meaning app.now) of.now).fields) }
+    ensures text { Adds O.Sink out.old out.new result (flat_map field_line (kept_record (A.meaning app.now) of.now).fields) }
     ensures cause { HasCauseOf (O.faults out.old) (O.faults out.new) (IsErrOf result TextError.WriteFault) }
     ensures lasts { O.lasting out.new ≡ O.lasting out.old }
 {

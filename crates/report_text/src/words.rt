@@ -1,9 +1,9 @@
 //! The parts of a line: names of classes, hooks and events, endpoints, and what a callback saw.
 
-ghost use Rattle.std.specs.Prelude.{◌≡◌, ◌<◌, ◌++◌, [], ◌∷◌, false, codes, IsTrue, OnOk, string_bytes};
+ghost use Rattle.std.specs.Prelude.{◌≡◌, ◌<◌, ◌++◌, [], ◌∷◌, false, codes, IsTrue, OnOk, string_bytes, flat_map};
 ghost use Rattle.std.specs.Fmt.{decimal, digits, digit_glyph};
 ghost use Rattle.std.specs.Net.Text.{ipv4_text};
-ghost use Rattle.report_text.specs.Words.{class_text, hook_text, event_text, groups_of, groups_text, v6_text, endpoint_text, bytes_text, piece_text, pieces_text, seen_text, reason_text};
+ghost use Rattle.report_text.specs.Words.{class_text, hook_text, event_text, groups_of, groups_text, v6_text, endpoint_text, bytes_text, piece_text, seen_text, reason_text};
 ghost use Rattle.app_api.specs.App.{is_field_name};
 
 use app_api::{Bytes, Reason, Seen, event_name};
@@ -185,7 +185,7 @@ fn push_piece(alloc: Global, line: &mut String, at: u64, bytes: &[u8]) -> Result
 }
 
 fn push_pieces(alloc: Global, line: &mut String, pieces: &[(u64, Bytes)]) -> Result<(), AllocError>
-    ensures { OnOk result (string_bytes line.new ≡ string_bytes line.old ++ pieces_text pieces.now) }
+    ensures { OnOk result (string_bytes line.new ≡ string_bytes line.old ++ flat_map piece_text pieces.now) }
 {
     for (at, bytes) in pieces {
         push_piece(alloc, line, *at, bytes.as_slice())?;

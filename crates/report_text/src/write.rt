@@ -1,10 +1,10 @@
 //! Writes a report to a sink, each line by one call.
 
-ghost use Rattle.std.specs.Prelude.{◌≡◌, IsErrOf, IsTrue};
+ghost use Rattle.std.specs.Prelude.{◌≡◌, IsErrOf, IsTrue, flat_map};
 ghost use Rattle.mos_bytes.specs.Causes.{HasCauseOf};
 ghost use Rattle.callback_log.specs.Walk.{entry_lent};
 ghost use Rattle.report_text.specs.Lines.{head_line, callback_line, drop_line, field_line, totals_line};
-ghost use Rattle.report_text.specs.Report.{callbacks_text, drops_text, fields_text, rest_text, record_text, records_text, report_text};
+ghost use Rattle.report_text.specs.Report.{rest_text, record_text, records_text, report_text};
 ghost use Rattle.report_text.specs.Tidy.{are_named, is_tidy_record, tidy};
 ghost use Rattle.report_text.specs.Written.{Adds};
 ghost use Rattle.std.specs.List.{list_all};
@@ -136,7 +136,7 @@ fn write_entries<O: Sink>(
     line: &mut String,
     entries: &[Entry],
 ) -> Result<(), TextError>
-    ensures text { Adds O.Sink out.old out.new result (callbacks_text entries.now) }
+    ensures text { Adds O.Sink out.old out.new result (flat_map callback_line entries.now) }
     ensures cause { HasCauseOf (O.faults out.old) (O.faults out.new) (IsErrOf result TextError.WriteFault) }
     ensures lasts { O.lasting out.new ≡ O.lasting out.old }
 {
@@ -151,7 +151,7 @@ pub(crate) fn write_drops<O: Sink>(
     line: &mut String,
     drops: &[(u64, Reason)],
 ) -> Result<(), TextError>
-    ensures text { Adds O.Sink out.old out.new result (drops_text drops.now) }
+    ensures text { Adds O.Sink out.old out.new result (flat_map drop_line drops.now) }
     ensures cause { HasCauseOf (O.faults out.old) (O.faults out.new) (IsErrOf result TextError.WriteFault) }
     ensures lasts { O.lasting out.new ≡ O.lasting out.old }
 {
@@ -167,7 +167,7 @@ fn write_fields<O: Sink>(
     fields: &[(Bytes, u64)],
 ) -> Result<(), TextError>
     requires { IsTrue (are_named fields.now) }
-    ensures text { Adds O.Sink out.old out.new result (fields_text fields.now) }
+    ensures text { Adds O.Sink out.old out.new result (flat_map field_line fields.now) }
     ensures cause { HasCauseOf (O.faults out.old) (O.faults out.new) (IsErrOf result TextError.WriteFault) }
     ensures lasts { O.lasting out.new ≡ O.lasting out.old }
 {

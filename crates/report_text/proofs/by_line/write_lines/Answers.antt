@@ -1,4 +1,4 @@
-use Rattle.std.proofs.Common.{◌∙◌, ◌+◌, ◌++◌, ap, drop, sym}
+use Rattle.std.proofs.Common.{◌∙◌, ◌++◌, ap, drop, sym}
 use Rattle.std.proofs.lemmas.List.{take-append-drop}
 use Rattle.mos_bytes.proofs.Writing.{Writing-more, Writing-failed, WriteAdds-err}
 use Rattle.report_text.proofs.by_line.write_lines.Goals as goal
