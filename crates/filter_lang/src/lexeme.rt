@@ -127,7 +127,8 @@ pub(crate) const FACTS: [&str; 20] = [
 
 // The token of a name that is no word of the grammar.
 fn fact_token(name: &[u8]) -> Token
-    ensures { result ≡ unwrap_or (option_map FactName (position_from (bytes_eq name.now) 0 fact_names)) UnknownWord }
+    ensures { result
+        ≡ unwrap_or (option_map FactName (position_from (bytes_eq name.now) 0 fact_names)) UnknownWord }
 {
     for place in 0..FACTS.len() {
         if is(name, FACTS[place]) {

@@ -92,7 +92,8 @@ fn write_fields<A: App, O: Sink>(
     line: &mut String,
     of: &KeptRecord<'_>,
 ) -> Result<(), TextError>
-    ensures text { Adds O.Sink out.old out.new result (flat_map field_line (kept_record (A.meaning app.now) of.now).fields) }
+    ensures text { Adds O.Sink out.old out.new result
+        (flat_map field_line (kept_record (A.meaning app.now) of.now).fields) }
     ensures cause { HasCauseOf (O.faults out.old) (O.faults out.new) (IsErrOf result TextError.WriteFault) }
     ensures lasts { O.lasting out.new ≡ O.lasting out.old }
 {
