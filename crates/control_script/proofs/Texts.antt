@@ -7,7 +7,8 @@ use Rattle.std.specs.List.{prefix_len, list_all}
 use Rattle.control_script.specs.Reader.{behind}
 use Rattle.control_script.specs.Lines.{lines, without_return, is_text}
 use Rattle.control_script.specs.Cuts.{place_of}
-use Rattle.control_script.specs.Words.{Word, is_blank, is_in_word, words_behind, words}
+use Rattle.filter_lang.specs.Tokens.{is_blank}
+use Rattle.control_script.specs.Words.{Word, is_in_word, words_behind, words}
 
 -- bytes of the word before make no other
 inside : (n : ℕ) (bs : List ℕ) → words_behind n bs ≡ words_behind 0 (drop n bs)

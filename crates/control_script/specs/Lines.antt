@@ -1,7 +1,7 @@
 -- The lines of a text.
 use Rattle.std.specs.Prelude.{ℕ, Bool, true, ◌&&◌, ◌||◌, ◌==◌, ◌+◌, min, not, if◌then◌else◌, nat_le, List, [], ◌∷◌, Option, Some, None}
 use Rattle.std.specs.List.{find}
-use Rattle.control_script.specs.Words.{is_blank}
+use Rattle.filter_lang.specs.Tokens.{is_blank}
 
 -- a byte before a line's others
 abbrev pub with_byte : ℕ → List (List ℕ) → List (List ℕ)

@@ -1,9 +1,7 @@
 -- The words of a line: runs of bytes with blanks and tabs between.
-use Rattle.std.specs.Prelude.{ℕ, zero, suc, Bool, ◌||◌, ◌==◌, not, if◌then◌else◌, List, [], ◌∷◌, take, drop}
+use Rattle.std.specs.Prelude.{ℕ, zero, suc, Bool, not, if◌then◌else◌, List, [], ◌∷◌, take, drop}
 use Rattle.std.specs.List.{prefix_len}
-
-abbrev pub is_blank : ℕ → Bool
-is_blank b = (b == 32) || (b == 9)
+use Rattle.filter_lang.specs.Tokens.{is_blank}
 
 abbrev pub is_in_word : ℕ → Bool
 is_in_word b = not (is_blank b)

@@ -3,7 +3,7 @@
 ghost use Rattle.std.specs.Prelude.{◌≡◌, ◌<◌, ◌∷◌, Ok, Err, IfOk, IsTrue, length, not};
 ghost use Rattle.std.specs.List.{list_all, find};
 ghost use Rattle.std.specs.Option.{option_copied};
-ghost use Rattle.control_script.specs.Words.{is_blank};
+ghost use Rattle.filter_lang.specs.Tokens.{is_blank};
 ghost use Rattle.forest_versions.specs.Lawful.{is_within};
 ghost use Rattle.control_script.specs.Lines.{lines, without_return, is_skipped, is_text};
 ghost use Rattle.control_script.specs.Script.{IfRefused, said};

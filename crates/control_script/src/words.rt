@@ -4,7 +4,8 @@ ghost use Rattle.std.specs.Prelude.{◌≡◌, ◌≤◌, ◌<◌, length, IsTru
 ghost use Rattle.std.specs.List.{list_all, prefix_len};
 ghost use Rattle.std.specs.Str.{bytes_eq};
 ghost use Rattle.control_script.specs.Lines.{is_text};
-ghost use Rattle.control_script.specs.Words.{is_blank, is_in_word};
+ghost use Rattle.filter_lang.specs.Tokens.{is_blank};
+ghost use Rattle.control_script.specs.Words.{is_in_word};
 
 /// Goes over the words of a line. The one at which it stands is there to be looked at; at the end it is empty.
 #[derive(Drop)]

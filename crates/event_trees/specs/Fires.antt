@@ -12,8 +12,7 @@ use Rattle.event_trees.specs.Defs.{found, path}
 abbrev pub is_hook : Hook → Hook → Bool
 is_hook Snd Snd = true
 is_hook Rcv Rcv = true
-is_hook Snd Rcv = false
-is_hook Rcv Snd = false
+is_hook _ _ = false
 
 -- the filter of a definition; a built-in event has none
 abbrev pub filter_means : Option EventDef → Facts → Bool

@@ -21,9 +21,8 @@ port_of (V6 addr port) = port
 
 abbrev pub same_endpoint : Endpoint → Endpoint → Bool
 same_endpoint (V4 a p) (V4 b q) = a == b && p == q
-same_endpoint (V4 a p) (V6 b q) = false
-same_endpoint (V6 a p) (V4 b q) = false
 same_endpoint (V6 a p) (V6 b q) = a == b && p == q
+same_endpoint _ _ = false
 
 -- by version, then by address, then by port
 abbrev pub endpoint_cmp : Endpoint → Endpoint → Ordering

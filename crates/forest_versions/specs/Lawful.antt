@@ -80,11 +80,9 @@ unfoldable pub refusal : ControlState → Command → Option Refusal
 refusal s (Event d) = event_refusal s.defs d
 refusal s (Register r) = reg_refusal s.defs s.regs r
 refusal s (Unregister number) = missing (is_some (reg_of s.regs number))
-refusal s (Buffer bytes) = None
-refusal s (Overlap policy) = None
 refusal s (AddRule r) = taken (is_some (rule_of s.rules r.number))
 refusal s (RemoveRule number) = missing (is_some (rule_of s.rules number))
-refusal s (Idle seconds) = None
+refusal s _ = None
 
 -- whether a command may be given in a state
 unfoldable pub is_lawful : ControlState → Command → Bool
