@@ -10,12 +10,12 @@ use Rattle.lane_core.specs.Sight.{Sight, sight_of}
 use Rattle.lane_core.specs.Run.{LaneEvent}
 use Rattle.worker_laws.specs.Lanes.{lane_of}
 use Rattle.worker_laws.specs.Taken.{events_at}
-use Rattle.worker_pool.specs.declared.worker.Worker.{Worker}
+use Rattle.lane_worker.specs.declared.worker.Worker.{Worker}
 use Rattle.lane_rings.specs.declared.items.Packet.{Packet}
 use Rattle.lane_rings.specs.declared.ring.RingTx.{RingTx}
 use Rattle.worker_pool.specs.Team.{IsTeam, AllKeep, HaveServed}
 use Rattle.worker_pool.specs.Ending.{by_key, CameTo}
-use Rattle.worker_pool.specs.Explained.{HasAnswered, HaveAnswered}
+use Rattle.worker_pool.specs.Answered.{HasAnswered, HaveAnswered}
 use Rattle.worker_pool.proofs.Dealing.{AreOrdered}
 use Rattle.worker_pool.proofs.Standing.{HasCome, came_events, has_come, has_answered}
 

@@ -26,7 +26,7 @@ use Rattle.worker_laws.specs.Lanes.{share}
 use Rattle.worker_laws.specs.Ends.{AreEnds, IsJoined}
 use Rattle.worker_laws.specs.Taken.{events_at, packets_at, HaveRunAll, AreOneRun}
 use Rattle.worker_laws.specs.Whole.{IsAllowedRun, run_under}
-use Rattle.worker_pool.specs.declared.worker.Worker.{Worker}
+use Rattle.lane_worker.specs.declared.worker.Worker.{Worker}
 use Rattle.worker_pool.specs.declared.job.KeptLanes.{KeptLanes}
 use Rattle.worker_pool.specs.Run.{MayHave, run_of, as_shown, shown_end, IsWhole, IsTooHeavy, EndsOver}
 use Rattle.worker_pool.specs.declared.job.PoolError.{PoolError}

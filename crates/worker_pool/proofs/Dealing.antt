@@ -13,7 +13,7 @@ use Rattle.lane_rings.specs.declared.items.Packet.{Packet}
 use Rattle.lane_core.specs.Sight.{Arrival, arrivals, arrival_of, sight_of}
 use Rattle.worker_laws.specs.Lanes.{lane_of as lane_by, share}
 use Rattle.worker_pool.specs.Sent.{sent_as, packets_from, lane_of, dealt}
-use Rattle.worker_pool.specs.Steps.{is_behind}
+use Rattle.lane_worker.specs.Steps.{is_behind}
 use Rattle.worker_pool.proofs.Handing.{arrival_in, AreInTurn, IsMarked}
 
 -- ---- floors and ceilings

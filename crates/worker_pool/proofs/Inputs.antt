@@ -13,15 +13,15 @@ use Rattle.lane_rings.specs.declared.items.Packet.{Packet}
 use Rattle.lane_rings.specs.declared.ring.RingTx.{RingTx}
 use Rattle.lane_rings.specs.Ring.{sent, SameTx}
 use Rattle.lane_core.specs.declared.recorder.Recorder.{Ghosts}
-use Rattle.worker_pool.specs.declared.worker.Worker.{Worker}
+use Rattle.lane_worker.specs.declared.worker.Worker.{Worker}
 use Rattle.worker_pool.specs.declared.team.worker_place.WorkerPlace.TheVariants.{Inline}
 use Rattle.worker_pool.specs.declared.team.lane_input.LaneInput.{LaneInput}
-use Rattle.worker_pool.specs.Worked.{IsReady, Worked}
+use Rattle.lane_worker.specs.Worked.{IsReady, Worked}
 use Rattle.worker_pool.specs.Sent.{sent_as, packets_from, lane_of, dealt}
 use Rattle.worker_pool.specs.Inputs.{IsInput, AreInputs}
-use Rattle.worker_pool.proofs.Rings.{SameRx-refl}
-use Rattle.worker_pool.proofs.Beside.{ends_after}
-use Rattle.worker_pool.proofs.Composed.{worked_two}
+use Rattle.lane_worker.proofs.Rings.{SameRx-refl}
+use Rattle.lane_worker.proofs.Beside.{ends_after}
+use Rattle.lane_worker.proofs.Composed.{worked_two}
 
 -- ---- the packets of one frame more
 
@@ -133,3 +133,33 @@ module _ {L : Type 0} (g : Ghosts L) (script : List Stamped) where
         elsewhere k w p below other = subst (λ (q : LaneInput L). IsAt (length inputs) (frames ++ frame ∷ []) k w q) (sym (get_or-set_other inputs lane k input p (λ is. other (sym is))))
             (subst (λ l. IsInput g (commands_of script) (get_or begins k w) l (get_or inputs k p)) (sym (dealt_other script (length inputs) frames frame number count k (λ is. other (own ∙ is))))
             (are.each k w p below))
+
+-- ---- inputs to which nothing is sent
+
+pub same_inputs : {L : Type 0} (g : Ghosts L) (script : List Stamped) (begins : List (Worker L)) (frames : List Captured) (inputs : List (LaneInput L)) (lane : ℕ) (d input : LaneInput L)
+    → lane < length inputs → d ≡ get_or inputs lane d
+    → ((begin : Worker L) (packets : List Packet) → IsInput g (commands_of script) begin packets d → IsInput g (commands_of script) begin packets input)
+    → AreInputs g script begins frames inputs → AreInputs g script begins frames (set inputs lane input)
+same_inputs {L} g script begins frames inputs lane d input below at still are = record {
+  count = are.count ∙ sym (length-set inputs lane input);
+  each = λ k w p lt.
+      subst (λ n. IsInput g (commands_of script) (get_or begins k w) (dealt n k (packets_from script 0 frames)) (get_or (set inputs lane input) k p)) (sym (length-set inputs lane input))
+      (⊎_elim
+      (λ is. subst (λ j. IsInput g (commands_of script) (get_or begins j w) (dealt (length inputs) j (packets_from script 0 frames)) (get_or (set inputs lane input) j p)) is
+      (subst (λ (q : LaneInput L). IsInput g (commands_of script) (get_or begins lane w) (dealt (length inputs) lane (packets_from script 0 frames)) q)
+      (sym (get_or-set_same inputs lane input p below))
+      (still (get_or begins lane w) (dealt (length inputs) lane (packets_from script 0 frames))
+      (subst (λ (q : LaneInput L). IsInput g (commands_of script) (get_or begins lane w) (dealt (length inputs) lane (packets_from script 0 frames)) q) (sym at) (are.each lane w d below)))))
+      (λ not. subst (λ (q : LaneInput L). IsInput g (commands_of script) (get_or begins k w) (dealt (length inputs) k (packets_from script 0 frames)) q)
+      (sym (get_or-set_other inputs lane k input p (λ is. not (sym is))))
+      (are.each k w p (let e = length-set inputs lane input in omega (arith, e, lt))))
+      (cases_eq lane k));
+}
+
+-- one that is looked at is an input
+pub looked_at : {L : Type 0} (g : Ghosts L) (script : List Stamped) (begins : List (Worker L)) (frames : List Captured) (inputs : List (LaneInput L)) (lane : ℕ) (d : LaneInput L)
+    → d ≡ get_or inputs lane d → lane < length inputs
+    → AreInputs g script begins frames inputs → (begin : Worker L) × (packets : List Packet) × IsInput g (commands_of script) begin packets d
+looked_at {L} g script begins frames inputs lane d at below are =
+    let p = input_of g script begins frames inputs lane d are below in
+    (p.0, p.1, subst (λ (q : LaneInput L). IsInput g (commands_of script) p.0 p.1 q) (sym at) p.2)

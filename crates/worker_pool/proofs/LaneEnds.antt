@@ -9,7 +9,7 @@ use Rattle.lane_core.specs.declared.recorder.Recorder.{Ghosts}
 use Rattle.lane_core.specs.Sight.{Moment}
 use Rattle.lane_core.specs.Run.{LaneEvent}
 use Rattle.lane_core.specs.Lane.{IsHeavyAtEnd}
-use Rattle.worker_pool.specs.declared.worker.Worker.{Worker}
+use Rattle.lane_worker.specs.declared.worker.Worker.{Worker}
 use Rattle.worker_pool.specs.declared.job.PoolError.{PoolError}
 use Rattle.worker_pool.specs.declared.job.PoolError.TheVariants.{NoMemory}
 use Rattle.worker_pool.specs.Refused.{lane_refusal}

@@ -1,32 +1,15 @@
-mod Fronts
-mod Rings
-mod Commands
-mod Stepping
-mod Going
-mod Composed
-mod Advancing
-mod Turns
-mod Serving
-mod Beside
-mod Inputs
-mod Reading
-mod Source
-mod Stopping
+pub mod Inputs
+pub mod Reading
+pub mod Source
 mod Handing
 mod Dealing
 mod Answering
-mod Standing
+pub mod Standing
 mod AllLanes
-mod Making
-mod Concluding
+pub mod Making
+pub mod Concluding
 mod LaneEnds
 mod Returned
 mod Rows
 mod Starting
 mod Crossed
-mod Draining
-mod Explaining
-mod Exits
-mod Forwarding
-mod TakingAnswers
-mod Leaving

@@ -9,7 +9,7 @@ use Rattle.lane_rings.specs.declared.items.Packet.{Packet}
 use Rattle.lane_rings.specs.declared.ring.RingTx.{RingTx}
 use Rattle.lane_rings.specs.Ring.{sent, AreEnds}
 use Rattle.lane_core.specs.declared.recorder.Recorder.{Ghosts}
-use Rattle.worker_pool.specs.declared.worker.Worker.{Worker}
+use Rattle.lane_worker.specs.declared.worker.Worker.{Worker}
 use Rattle.worker_pool.specs.declared.team.Team.{Team}
 use Rattle.worker_pool.specs.Team.{IsNew, IsTeam, AllKeep}
 use Rattle.worker_pool.specs.Making.{AreBegun}

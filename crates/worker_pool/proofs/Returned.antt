@@ -8,14 +8,14 @@ use Rattle.lane_rings.specs.declared.items.Packet.{Packet}
 use Rattle.lane_rings.specs.declared.ring.RingTx.{RingTx}
 use Rattle.lane_rings.specs.Ring.{sent, taken, AreEnds}
 use Rattle.lane_core.specs.declared.recorder.Recorder.{Ghosts}
-use Rattle.worker_pool.specs.declared.worker.Worker.{Worker}
+use Rattle.lane_worker.specs.declared.worker.Worker.{Worker}
 use Rattle.worker_pool.specs.declared.team.lane_input.LaneInput.{LaneInput}
-use Rattle.worker_pool.specs.Worked.{Worked, WorkedOn}
+use Rattle.lane_worker.specs.Worked.{Worked, WorkedOn}
 use Rattle.worker_pool.specs.Inputs.{IsPlaced, IsInput}
 use Rattle.worker_pool.specs.AtWork.{IsBack}
-use Rattle.worker_pool.proofs.Rings.{SameTx-refl}
-use Rattle.worker_pool.proofs.Composed.{worked_two}
-use Rattle.worker_pool.proofs.Beside.{ends_after}
+use Rattle.lane_worker.proofs.Rings.{SameTx-refl}
+use Rattle.lane_worker.proofs.Composed.{worked_two}
+use Rattle.lane_worker.proofs.Beside.{ends_after}
 
 module _ {L : Type 0} (g : Ghosts L) (script : List Command) where
   -- its ring is still the one into which its packets are sent

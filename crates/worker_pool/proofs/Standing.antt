@@ -19,16 +19,16 @@ use Rattle.worker_laws.specs.Allowed.{arrivals_of, IsWithin}
 use Rattle.worker_laws.specs.Lanes.{lane_of, share}
 use Rattle.worker_laws.specs.Taken.{verdicts_in}
 use Rattle.worker_laws.specs.Streamed.{answers_to}
-use Rattle.worker_pool.specs.declared.worker.Worker.{Worker}
-use Rattle.worker_pool.specs.Steps.{Step, steps_of, events_of, answers_of, AreWithin}
-use Rattle.worker_pool.specs.Worked.{Ran, Sends, at_hand}
+use Rattle.lane_worker.specs.declared.worker.Worker.{Worker}
+use Rattle.lane_worker.specs.Steps.{Step, steps_of, events_of, answers_of, AreWithin}
+use Rattle.lane_worker.specs.Worked.{Ran, Sends, at_hand}
 use Rattle.worker_pool.specs.Sent.{packets_from, dealt}
 use Rattle.worker_pool.specs.Team.{IsNew, HasServed}
 use Rattle.worker_pool.specs.Ending.{by_key}
-use Rattle.worker_pool.specs.Explained.{HasAnswered}
+use Rattle.worker_pool.specs.Answered.{HasAnswered}
 use Rattle.worker_pool.proofs.Answering.{IsFramed, dealt_framed, answers_are, answers_front}
-use Rattle.worker_pool.proofs.Composed.{by_failure}
-use Rattle.worker_pool.proofs.Fronts.{IsPrefix-refl}
+use Rattle.lane_worker.proofs.Composed.{by_failure}
+use Rattle.lane_worker.proofs.Fronts.{IsPrefix-refl}
 use Rattle.worker_pool.proofs.Handing.{handed, arrival_in, AreInTurn, handed_front, handed_whole, arrivals-handed, arrive_within, IsMarked, All-front}
 use Rattle.worker_pool.proofs.Dealing.{AreOrdered, dealt_marked, dealt_in_turn, dealt_is_share}
 

@@ -12,12 +12,12 @@ use Rattle.lane_rings.specs.declared.items.Packet.{Packet}
 use Rattle.lane_rings.specs.declared.ring.RingTx.{RingTx}
 use Rattle.lane_rings.specs.Ring.{sent, AreEnds}
 use Rattle.lane_core.specs.declared.recorder.Recorder.{Ghosts}
-use Rattle.worker_pool.specs.declared.worker.Worker.{Worker}
+use Rattle.lane_worker.specs.declared.worker.Worker.{Worker}
 use Rattle.worker_pool.specs.declared.team.lane_input.LaneInput.{LaneInput}
 use Rattle.worker_pool.specs.declared.team.worker_place.WorkerPlace.{WorkerPlace}
-use Rattle.worker_pool.specs.Worked.{IsReady}
+use Rattle.lane_worker.specs.Worked.{IsReady}
 use Rattle.worker_pool.specs.Sent.{packets_from, dealt}
-use Rattle.worker_pool.specs.Inputs.{IsPlaced, AreInputs}
+use Rattle.worker_pool.specs.Inputs.{IsPlaced, AreInputs, Dealt}
 use Rattle.worker_pool.specs.Team.{IsNew, HasServed, HaveServed}
 use Rattle.worker_pool.specs.AtWork.{MayBegin, IsFresh, IsAtWork, IsBack, CanRun}
 use Rattle.worker_pool.proofs.Rows.{AllZip-length, AllZip-at, all_zip, no_other}
@@ -111,3 +111,8 @@ module _ {L : Type 0} (g : Ghosts L) where
             subst (λ n. HasServed g (commands_of script) (get_or begins k a) (dealt n k (packets_from script 0 frames)) (get_or workers k b)) same
             (one.served (get_or begins k a) (dealt (length inputs) k (packets_from script 0 frames)) (are.each k a p under));
       }
+
+  -- what was sent under the feed's script was sent under this one, which is the same
+  pub dealt_under : (script other : List Stamped) (begins : List (Worker L)) (inputs : List (LaneInput L)) (did : List Captured → Type 0) → script ≡ other
+      → Dealt g script begins inputs did → Dealt g other begins inputs did
+  dealt_under script other begins inputs did same dealt = subst (λ (s : List Stamped). Dealt g s begins inputs did) same dealt

@@ -11,9 +11,9 @@ use Rattle.lane_rings.specs.declared.items.Packet.{Packet}
 use Rattle.lane_rings.specs.declared.ring.RingTx.{RingTx}
 use Rattle.lane_rings.specs.Ring.{sent, AreEnds}
 use Rattle.lane_core.specs.declared.recorder.Recorder.{Ghosts}
-use Rattle.worker_pool.specs.declared.worker.Worker.{Worker}
+use Rattle.lane_worker.specs.declared.worker.Worker.{Worker}
 use Rattle.worker_pool.specs.declared.team.lane_input.LaneInput.{LaneInput}
-use Rattle.worker_pool.specs.Worked.{IsReady}
+use Rattle.lane_worker.specs.Worked.{IsReady}
 use Rattle.worker_pool.specs.Inputs.{IsInput}
 use Rattle.worker_pool.specs.Team.{IsTeam, HasServed, HaveServed}
 

@@ -19,7 +19,7 @@ use Rattle.worker_laws.specs.Allowed.{arrivals_of}
 use Rattle.worker_laws.specs.Ends.{IsJoined}
 use Rattle.worker_laws.specs.Lanes.{share}
 use Rattle.worker_laws.specs.Taken.{packets_at, events_at, HaveRun}
-use Rattle.worker_pool.specs.declared.worker.Worker.{Worker}
+use Rattle.lane_worker.specs.declared.worker.Worker.{Worker}
 use Rattle.worker_pool.specs.declared.job.KeptLanes.{KeptLanes}
 use Rattle.worker_pool.specs.declared.job.PoolError.{PoolError}
 use Rattle.worker_pool.specs.declared.job.PoolError.TheVariants.{TooLong, TooMany, ReadFault, WriteFault, Heavy, NoMemory}

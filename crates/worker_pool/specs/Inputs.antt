@@ -15,12 +15,12 @@ use Rattle.lane_rings.specs.Ring.{sent, AreEnds}
 use Rattle.lane_core.specs.declared.recorder.Recorder.{Ghosts}
 use Rattle.lane_core.specs.Sight.{arrivals}
 use Rattle.worker_laws.specs.Greatest.{greatest}
-use Rattle.worker_pool.specs.declared.worker.Worker.{Worker}
+use Rattle.lane_worker.specs.declared.worker.Worker.{Worker}
 use Rattle.worker_pool.specs.declared.team.worker_place.WorkerPlace.{WorkerPlace}
 use Rattle.worker_pool.specs.declared.team.worker_place.WorkerPlace.TheVariants.{Thread, Inline}
 use Rattle.worker_pool.specs.declared.team.lane_input.LaneInput.{LaneInput}
 use Rattle.worker_pool.specs.declared.team.dispatch.Whole.{Whole}
-use Rattle.worker_pool.specs.Worked.{WorkedOn}
+use Rattle.lane_worker.specs.Worked.{WorkedOn}
 use Rattle.worker_pool.specs.Sent.{packets_from, dealt}
 
 module _ {L : Type 0} where
@@ -65,3 +65,10 @@ module _ {L : Type 0} where
     pub few : length frames ≤ 1048576
     pub inputs_are : AreInputs g script begins frames inputs
     pub read : ReadsAs frames capture old new result
+
+  -- the packets of some frames were sent to these inputs, and this holds of the frames
+  pub record Dealt (g : Ghosts L) (script : List Stamped) (begins : List (Worker L)) (inputs : List (LaneInput L)) (did : List Captured → Type 0) : Type 0 where
+    pub frames : List Captured
+    pub few : length frames ≤ 1048576
+    pub inputs_are : AreInputs g script begins frames inputs
+    pub done : did frames

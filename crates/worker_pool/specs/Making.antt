@@ -1,16 +1,13 @@
 -- Only for proofs: workers that are made one after the other.
 use Rattle.std.specs.Prelude.{◌≡◌, ℕ, ◌<◌, Bool, List, [], length, get_or, None}
-use Rattle.std.specs.List.{All}
 use Rattle.app_api.specs.App.{Meaning}
 use Rattle.forest_versions.specs.State.{start}
 use Rattle.lane_rings.specs.declared.items.Packet.{Packet}
 use Rattle.lane_rings.specs.declared.ring.RingTx.{RingTx}
-use Rattle.lane_rings.specs.Ring.{sent, taken, AreEnds}
+use Rattle.lane_rings.specs.Ring.{sent, AreEnds}
 use Rattle.lane_core.specs.declared.recorder.Recorder.{Ghosts}
-use Rattle.worker_pool.specs.declared.worker.Worker.{Worker}
-use Rattle.worker_pool.specs.declared.forward.lane_answers.LaneAnswers.{LaneAnswers}
+use Rattle.lane_worker.specs.declared.worker.Worker.{Worker}
 use Rattle.worker_pool.specs.Team.{IsNew, AllKeep}
-use Rattle.worker_pool.specs.Streamed.{AreLaneAnswers}
 
 module _ {L : Type 0} (g : Ghosts L) (app : Meaning) (keep : Bool) where
   -- a lane that stands for no events, under the presets alone; it keeps entries, or doesn't
@@ -30,9 +27,3 @@ module _ {L : Type 0} (g : Ghosts L) (app : Meaning) (keep : Bool) where
     pub each_ends : (k : ℕ) (w : Worker L) (tx : RingTx Packet) → k < length workers → AreEnds (get_or packets k tx) (get_or workers k w).packets
     pub kept : AllKeep g keep workers
     pub each_sent : (k : ℕ) (tx : RingTx Packet) → k < length packets → sent (get_or packets k tx) ≡ []
-
-module _ {L : Type 0} where
-  -- the answers of workers that began so, to whose lanes nothing was sent, and from which nothing was taken
-  pub record AreUnused (workers : List (Worker L)) (all_answers : List LaneAnswers) : Type 0 where
-    pub all_answers_are : AreLaneAnswers workers [] all_answers
-    pub untaken : All (λ r. taken r.answers ≡ []) all_answers

@@ -12,12 +12,12 @@ use Rattle.lane_rings.specs.declared.ring.RingTx.{RingTx}
 use Rattle.lane_rings.specs.Ring.{sent, taken, AreEnds}
 use Rattle.lane_core.specs.declared.recorder.Recorder.{Ghosts}
 use Rattle.app_api.specs.App.{Meaning}
-use Rattle.worker_pool.specs.declared.worker.Worker.{Worker}
+use Rattle.lane_worker.specs.declared.worker.Worker.{Worker}
 use Rattle.worker_pool.specs.declared.team.Ran.{Ran}
 use Rattle.worker_pool.specs.declared.team.dispatch.Whole.{Whole}
 use Rattle.worker_pool.specs.declared.job.PoolError.{PoolError}
 use Rattle.worker_pool.specs.declared.job.PoolError.TheVariants.{TooLong, TooMany, ReadFault, WriteFault, Heavy, NoMemory}
-use Rattle.worker_pool.specs.Worked.{Worked}
+use Rattle.lane_worker.specs.Worked.{Worked}
 use Rattle.worker_pool.specs.Sent.{packets_from, dealt}
 use Rattle.worker_pool.specs.Inputs.{HasRead}
 

@@ -6,23 +6,22 @@ ghost use Rattle.std.specs.Thread.{IsSync};
 ghost use Rattle.forest_versions.specs.Lawful.{are_lawful};
 ghost use Rattle.forest_versions.specs.State.{start};
 ghost use Rattle.control_script.specs.Order.{commands_of};
-ghost use Rattle.worker_pool.specs.Worked.{MayWork, WorkedOn};
+ghost use Rattle.lane_worker.specs.Worked.{MayWork, WorkedOn};
 ghost use Rattle.worker_pool.specs.AtWork.{CanRun, MayStart, Served};
 ghost use Rattle.worker_pool.specs.Inputs.{IsPlaced};
 
-use crate::gate::Gate;
 use crate::job::PoolError;
+use crate::team::context::{WorkerContext, WorkerRunner};
 use crate::team::control::publish;
 use crate::team::dispatch::Whole;
 use crate::team::feed::Feed;
 use crate::team::finish::finish_all;
 use crate::team::lane_input::LaneInput;
 use crate::team::worker_place::{WorkerPlace, Works, start_work};
-use crate::worker::Worker;
-use crate::worker::context::{WorkerContext, WorkerRunner};
 use control_script::Script;
 use lane_core::Recorder;
 use lane_rings::{CommandTx, PacketTx};
+use lane_worker::{Gate, Worker};
 use native_filters::NativeBook;
 use std::alloc::{AllocError, Global};
 use std::collections::VecDeque;
@@ -32,21 +31,23 @@ use std::sync::atomic::{AtomicBool, Ordering};
 use std::thread;
 use std::thread::{JoinHandle, Scope, Threads};
 
+mod context;
 mod control;
-pub(crate) mod dispatch;
-pub(crate) mod feed;
+pub mod dispatch;
+pub mod ends;
+pub mod feed;
 mod finish;
-pub(crate) mod lane_input;
-pub(crate) mod make;
+pub mod lane_input;
+pub mod make;
 mod worker_place;
 
 /// Workers that have begun nothing, with the sending ends of their rings: each list has one for each lane, in order.
 #[derive(Drop)]
-pub(crate) struct Team<L: Recorder + Drop> {
-    pub(crate) workers: Vec<Worker<L>>,
-    pub(crate) packets: Vec<PacketTx>,
+pub struct Team<L: Recorder + Drop> {
+    pub workers: Vec<Worker<L>>,
+    pub packets: Vec<PacketTx>,
     /// Each has room for all commands of the script.
-    pub(crate) commands: Vec<CommandTx>,
+    pub commands: Vec<CommandTx>,
 }
 
 /// Workers that have served a whole capture.
@@ -248,7 +249,7 @@ fn run_lent_feed<
 ///
 /// An error is want of memory, before the feed has begun; it is as it was then. `failed` is raised where a lane
 /// fails.
-pub(crate) fn run_team<
+pub fn run_team<
     R: Threads + Wait + Sync + Send + Copy + Drop + 'static,
     L: Recorder + Drop + Send,
     E: Feed<L>,

@@ -4,7 +4,7 @@ ghost use Rattle.std.specs.Prelude.{◌≡◌, ◌≤◌, [], None, IsTrue, IfOk
 ghost use Rattle.forest_versions.specs.Lawful.{are_lawful};
 ghost use Rattle.forest_versions.specs.State.{start};
 ghost use Rattle.control_script.specs.Order.{commands_of};
-ghost use Rattle.worker_pool.specs.Worked.{IsReady};
+ghost use Rattle.lane_worker.specs.Worked.{IsReady};
 
 use crate::failing::Failing;
 use crate::frames::{SYN, captured, higher};
@@ -13,13 +13,13 @@ use app_api::{LogApp, Reason, Verdict};
 use control_script::Script;
 use lane_core::{Lane, Recorder};
 use lane_rings::{AnswerRx, CommandTx, Packet, PacketTx, answer_ring, command_ring, packet_ring};
+use lane_worker::{OpenGate, Worker, work};
 use shared_forest::{ForestStore, StoreUser, Table};
 use std::alloc::{AllocError, Global};
 use std::sync::atomic::{AtomicBool, Ordering};
 use std::sync::{Arc, Wait};
 use std::thread;
 use std::thread::Threads;
-use worker_pool::{OpenGate, Worker, work};
 
 // From packet 100 on all is dropped, until a command that may come at any time.
 const SCRIPT: &str = "at 100 reg 16 pkt_in snd do drop\nlive unreg 16";

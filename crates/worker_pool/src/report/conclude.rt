@@ -1,108 +1,38 @@
 //! The end of a run on several lanes, from what its workers have done.
 
-ghost use Rattle.std.specs.Prelude.{◌≡◌, ◌<◌, ◌≤◌, ◌⊎◌, ℕ, Bool, true, List, length, get_or, nat_lt, IfOk, IfErr};
+ghost use Rattle.std.specs.Prelude.{◌≡◌, ◌≤◌, ℕ, Bool, true, List, length, nat_lt};
 ghost use Rattle.app_api.specs.App.{Meaning};
 ghost use Rattle.pcap_source.specs.Captured.{Captured};
 ghost use Rattle.control_script.specs.declared.stamped.Stamped.{Stamped};
-ghost use Rattle.control_script.specs.Versions.{floor, ceil};
 ghost use Rattle.lane_rings.specs.declared.items.Packet.{Packet};
 ghost use Rattle.lane_rings.specs.declared.ring.RingTx.{RingTx};
 ghost use Rattle.lane_core.specs.KeptEnd.{shown_as};
 ghost use Rattle.lane_core.specs.Sight.{arrivals};
-ghost use Rattle.lane_core.specs.Run.{LaneEvent};
 ghost use Rattle.worker_laws.specs.Greatest.{greatest};
 ghost use Rattle.worker_laws.specs.Ends.{IsJoined};
-ghost use Rattle.worker_pool.specs.declared.worker.Worker.{Worker as Begun};
+ghost use Rattle.lane_worker.specs.declared.worker.Worker.{Worker as Begun};
 ghost use Rattle.worker_pool.specs.Run.{MayHave, run_of};
 ghost use Rattle.worker_pool.specs.Team.{IsTeam, AllKeep, HaveServed};
-ghost use Rattle.worker_pool.specs.Ending.{CameTo, ComesTo, HaveCome, AreEnded, IsCause, IsJoinedRun, Concludes};
-ghost use Rattle.worker_pool.specs.Explained.{HaveAnswered};
+ghost use Rattle.worker_pool.specs.Ending.{IsJoinedRun, Concludes};
 
 use crate::job::{KeptLanes, PoolError};
 use crate::team::Ran;
+use crate::team::ends::{ends_of, lanes_have_come};
 use crate::versions::versions_of;
-use crate::worker::Worker;
 use control_script::Script;
 use flow_timers::Moment;
+use lane_core::Reporter;
 use lane_core::limits::WEIGHT as WEIGHT_LIMIT;
-use lane_core::{KeptEnd, Recorder, Reporter};
 use lane_ends::{Joined, join};
+use lane_worker::Worker;
 use native_filters::NativeBook;
 use report_text::Totals;
-use std::alloc::{AllocError, Global};
-use std::thread;
+use std::alloc::Global;
 use std::thread::Threads;
-use worker_laws::packets::{packets_go_to_lanes, packets_of_a_capture_rise};
+use worker_laws::packets::packets_of_a_capture_rise;
 use worker_laws::runs::{
     a_heavy_lane_makes_a_heavy_run, a_run_has_its_versions, counts_of_a_run_fit, lanes_are_one_run,
 };
-use worker_laws::versions::a_script_gives_floors_and_ceilings;
-
-/// The lanes of workers that have served a capture share its packets, under the commands of the script, and have
-/// answered them. This function does nothing: who ends the lanes calls it for what it says.
-pub(crate) fn lanes_have_come<L: Recorder + Drop>(script: &Script, workers: &[Worker<L>])
-    ensures came { (keep : Bool) (app : Meaning) (frames : List Captured) (begins : List (Begun L))
-        (packets : List (RingTx Packet))
-        → length frames ≤ 1048576 → IsTeam L.Recorder app begins packets → AllKeep L.Recorder keep begins
-        → HaveServed L.Recorder script.now begins frames workers.now
-        → (lanes : List (List LaneEvent)) × CameTo L.Recorder keep app script.now frames workers.now lanes
-        × HaveAnswered L.Recorder app frames begins workers.now lanes }
-    ensures floors { (n : ℕ) → floor script.now n ≤ ceil script.now n }
-    ensures ceilings { (n m : ℕ) → n ≤ m → ceil script.now n ≤ ceil script.now m }
-{
-    let _commands = script.len();
-    packets_go_to_lanes();
-    a_script_gives_floors_and_ceilings();
-}
-
-// What the lane of a worker ends with.
-fn end_of<L: Reporter + Drop>(
-    alloc: Global,
-    worker: Worker<L>,
-    last: Option<Moment>,
-    natives: &NativeBook,
-) -> Result<KeptEnd, PoolError>
-    ensures came { ComesTo L.Recorder last worker result }
-{
-    let Worker { lane, .. } = worker;
-    Ok(lane.finish_kept(alloc, last, natives)?)
-}
-
-// What the lane of each worker comes to. Each is ended by a thread of its own, where one can be started.
-fn each_end<R: Threads + Sync, L: Reporter + Drop + Send>(
-    rt: &R,
-    alloc: Global,
-    workers: Vec<Worker<L>>,
-    last: Option<Moment>,
-    natives: &NativeBook,
-) -> Result<Vec<Result<KeptEnd, PoolError>>, AllocError>
-    ensures come { IfOk result (λ came. HaveCome L.Recorder last workers.items came.items) }
-{
-    let f = |worker: Worker<L>| -> Result<KeptEnd, PoolError>
-        ensures came { ComesTo L.Recorder last worker result }
-    { end_of(alloc, worker, last, natives) };
-    thread::map_vec(rt, workers, &f)
-}
-
-/// What the lanes of workers end with, where `last` is the greatest moment of all packets. The first one that has no end
-/// tells why.
-pub(crate) fn ends_of<R: Threads + Sync, L: Reporter + Drop + Send>(
-    rt: &R,
-    alloc: Global,
-    workers: Vec<Worker<L>>,
-    last: Option<Moment>,
-    natives: &NativeBook,
-) -> Result<Vec<KeptEnd>, PoolError>
-    ensures ended { IfOk result (λ ends. AreEnded L.Recorder last workers.items ends.items) }
-    ensures failed { IfErr result (λ e. (e ≡ PoolError.NoMemory) ⊎ ((k : ℕ) × (k < length workers.items)
-        × ((w : Begun L) → IsCause L.Recorder last (get_or workers.items k w) e))) }
-{
-    let mut ends = Vec::with_capacity(alloc, workers.len())?;
-    for came in each_end(rt, alloc, workers, last, natives)? {
-        ends.push(came?)?;
-    }
-    Ok(ends)
-}
 
 // What all lanes end with, as one.
 fn joined_of<R: Threads + Sync, L: Reporter + Drop + Send>(

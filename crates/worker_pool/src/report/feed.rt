@@ -9,7 +9,6 @@ ghost use Rattle.control_script.specs.Order.{commands_of};
 ghost use Rattle.worker_pool.specs.Source.{ReadsOn};
 ghost use Rattle.worker_pool.specs.Team.{IsTeam, TeamRan};
 
-use crate::gate::Gate;
 use crate::job::PoolError;
 use crate::team::dispatch::{Whole, dispatch};
 use crate::team::feed::Feed;
@@ -18,6 +17,7 @@ use crate::team::{Ran, Team, run_team};
 use control_script::Script;
 use lane_core::Recorder;
 use lane_rings::PacketRx;
+use lane_worker::Gate;
 use mos_bytes::Source;
 use native_filters::NativeBook;
 use pcap_source::Capture;

@@ -9,13 +9,13 @@ ghost use Rattle.control_script.specs.Order.{commands_of};
 ghost use Rattle.worker_pool.specs.Run.{EndsOver, IsWhole, as_shown, shown_end};
 ghost use Rattle.worker_pool.specs.Source.{IsReadWhole, ReadsOn};
 
-use crate::gate::Gate;
 use crate::job::{Job, KeptLanes, LanesEnd, PoolError};
 use crate::report::conclude::conclude;
 use crate::report::feed::read_team;
 use crate::team::make::make_team;
 use app_api::App;
 use lane_core::records_of;
+use lane_worker::Gate;
 use mos_bytes::Source;
 use native_filters::NativeBook;
 use pcap_source::Capture;

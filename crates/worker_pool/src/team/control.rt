@@ -1,7 +1,7 @@
 //! The control thread: it tells the lanes of the script's commands.
 
-use crate::gate::Gate;
 use lane_rings::CommandTx;
+use lane_worker::Gate;
 
 // Sends a place into each ring. Each has room for all places of the script, so none is handed back.
 fn tell_all(lanes: &mut [CommandTx], place: u32) {

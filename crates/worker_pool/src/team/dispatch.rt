@@ -5,11 +5,10 @@ ghost use Rattle.pcap_source.specs.Captured.{Captured};
 ghost use Rattle.pcap_source.specs.Reading.{Opened};
 ghost use Rattle.flow_table.specs.Lane.{lane_of_key};
 ghost use Rattle.ip6_views.specs.Sight.{sight_of, lane_of_sight};
-ghost use Rattle.worker_pool.specs.declared.worker.Worker.{Worker as Begun};
+ghost use Rattle.lane_worker.specs.declared.worker.Worker.{Worker as Begun};
 ghost use Rattle.worker_pool.specs.Inputs.{AreInputs, Dispatched};
 ghost use Rattle.worker_pool.specs.Source.{ReadsOn};
 
-use crate::gate::Gate;
 use crate::team::lane_input::{LaneInput, send_to};
 use control_script::Script;
 use flow_table::{Key, mix};
@@ -18,6 +17,7 @@ use ip6_views::{Sight, key_between, sight_of};
 use lane_core::Recorder;
 use lane_ends::greatest_with;
 use lane_rings::{Packet, PacketRx};
+use lane_worker::Gate;
 use mos_bytes::Source;
 use native_filters::NativeBook;
 use pcap_source::{Capture, Frame, NextError, Step};
@@ -27,13 +27,13 @@ use std::sync::atomic::AtomicBool;
 
 /// A capture that was read to its end.
 #[derive(Clone, Copy, Debug, PartialEq, Eq)]
-pub(crate) struct Whole {
+pub struct Whole {
     /// How many packets it has.
-    pub(crate) packets: u64,
+    pub packets: u64,
     /// The bytes behind them that are no whole record.
-    pub(crate) tail: u32,
+    pub tail: u32,
     /// The greatest moment of its packets, of whatever class; none where it has no packet.
-    pub(crate) last: Option<Moment>,
+    pub last: Option<Moment>,
 }
 
 // The lane of a key. `flow_table::lane_of` says the same, but asks at most 16 lanes.
@@ -59,8 +59,9 @@ fn lane_of_frame(frame: &Frame, lanes: usize) -> usize
     }
 }
 
-/// Sends the next frame of a capture, of which so many were sent, to the input of its lane, and answers the lane.
-pub(crate) fn send_frame<R: Wait, L: Recorder + Drop, G: Gate>(
+/// Sends the next frame of a capture, of which so many were sent, to the input of its lane, and answers the lane. It waits
+/// where the ring of the lane is full, and works on a lane whose worker is in this thread.
+pub fn send_frame<R: Wait, L: Recorder + Drop, G: Gate>(
     rt: &R,
     alloc: Global,
     inputs: &mut Vec<LaneInput<L>>,

@@ -1,9 +1,8 @@
 //! What this thread does while the workers of a run are at work.
 
 ghost use Rattle.std.specs.Prelude.{◌≤◌, [], List, length};
-ghost use Rattle.worker_pool.specs.declared.worker.Worker.{Worker as Begun};
-ghost use Rattle.worker_pool.specs.Inputs.{AreInputs};
-ghost use Rattle.worker_pool.specs.Streamed.{Dealt};
+ghost use Rattle.lane_worker.specs.declared.worker.Worker.{Worker as Begun};
+ghost use Rattle.worker_pool.specs.Inputs.{AreInputs, Dealt};
 
 use crate::job::PoolError;
 use crate::team::dispatch::Whole;
@@ -11,11 +10,11 @@ use crate::team::lane_input::LaneInput;
 use lane_core::Recorder;
 
 /// Reads a capture, and sends its packets to the workers.
-pub(crate) trait Feed<L: Recorder + Drop> {
+pub trait Feed<L: Recorder + Drop> {
     ghost use Rattle.std.specs.Prelude.{List, Result};
     ghost use Rattle.pcap_source.specs.Captured.{Captured};
     ghost use Rattle.control_script.specs.declared.stamped.Stamped.{Stamped};
-    ghost use Rattle.worker_pool.specs.declared.worker.Worker.{Worker as Begun};
+    ghost use Rattle.lane_worker.specs.declared.worker.Worker.{Worker as Begun};
     ghost use Rattle.worker_pool.specs.declared.team.dispatch.Whole.{Whole};
     ghost use Rattle.worker_pool.specs.declared.job.PoolError.{PoolError};
 

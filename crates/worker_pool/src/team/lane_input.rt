@@ -3,17 +3,15 @@
 ghost use Rattle.std.specs.Prelude.{◌≡◌, ◌++◌, [], ◌∷◌, List};
 ghost use Rattle.control_script.specs.Order.{commands_of};
 ghost use Rattle.lane_rings.specs.declared.items.Packet.{Packet as Sent};
-ghost use Rattle.worker_pool.specs.declared.worker.Worker.{Worker as Begun};
+ghost use Rattle.lane_worker.specs.declared.worker.Worker.{Worker as Begun};
 ghost use Rattle.pcap_source.specs.Captured.{Captured};
 ghost use Rattle.worker_pool.specs.Inputs.{IsInput, AreInputs};
 
-use crate::gate::Gate;
 use crate::team::worker_place::WorkerPlace;
-use crate::worker::backoff::Backoff;
-use crate::worker::take_turn;
 use control_script::Script;
 use lane_core::Recorder;
 use lane_rings::{Packet, PacketTx};
+use lane_worker::{Backoff, Gate, take_turn};
 use native_filters::NativeBook;
 use std::alloc::Global;
 use std::sync::Wait;
@@ -21,7 +19,7 @@ use std::sync::atomic::AtomicBool;
 
 /// What feeds a lane: the ring into which its packets are sent, and where the worker is that takes them out of it.
 #[derive(Drop)]
-pub(crate) struct LaneInput<L: Recorder + Drop> {
+pub struct LaneInput<L: Recorder + Drop> {
     pub(crate) packets: PacketTx,
     pub(crate) place: WorkerPlace<L>,
 }
@@ -49,7 +47,7 @@ fn make_room<R: Wait, L: Recorder + Drop, G: Gate>(
 }
 
 /// Has each worker that is in this thread take one packet out of its ring. Whether one did.
-pub(crate) fn take_turns<R: Wait, L: Recorder + Drop, G: Gate>(
+pub fn take_turns<R: Wait, L: Recorder + Drop, G: Gate>(
     rt: &R,
     alloc: Global,
     inputs: &mut Vec<LaneInput<L>>,

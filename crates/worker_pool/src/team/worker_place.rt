@@ -2,12 +2,12 @@
 
 ghost use Rattle.std.specs.Prelude.{◌≡◌};
 ghost use Rattle.control_script.specs.Order.{commands_of};
-ghost use Rattle.worker_pool.specs.Worked.{WorkedOn};
+ghost use Rattle.lane_worker.specs.Worked.{WorkedOn};
 ghost use Rattle.worker_pool.specs.Inputs.{IsPlaced};
 
-use crate::worker::Worker;
 use control_script::Script;
 use lane_core::Recorder;
+use lane_worker::Worker;
 use std::snapshot::Snapshot;
 use std::sync::atomic::{AtomicBool, Ordering};
 use std::thread::{Promise, PromisedHandle, Scope};
@@ -22,7 +22,7 @@ pub(crate) struct Works<L: Recorder + Drop> {
 
 impl<L: Recorder + Drop> Promise<Worker<L>> for Works<L> {
     ghost use Rattle.control_script.specs.Order.{commands_of};
-    ghost use Rattle.worker_pool.specs.Worked.{WorkedOn};
+    ghost use Rattle.lane_worker.specs.Worked.{WorkedOn};
 
     ghost kept_by = { λ p w. WorkedOn L.Recorder (commands_of p.script.value) p.start.value w };
 }

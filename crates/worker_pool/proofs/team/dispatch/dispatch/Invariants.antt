@@ -2,7 +2,7 @@ use Rattle.std.proofs.Common.{◌≡◌, ℕ, ◌-◌, ◌≤◌, List, Some, tr
 use Rattle.pcap_source.specs.Captured.{Captured}
 use Rattle.lane_core.specs.Sight.{arrivals}
 use Rattle.worker_laws.specs.Greatest.{greatest}
-use Rattle.worker_pool.specs.declared.worker.Worker.{Worker}
+use Rattle.lane_worker.specs.declared.worker.Worker.{Worker}
 use Rattle.worker_pool.specs.Inputs.{AreInputs}
 use Rattle.worker_pool.specs.GoesOn.{IsReadTo}
 use Rattle.worker_pool.proofs.team.dispatch.dispatch.Given as goal

@@ -3,7 +3,7 @@ use Rattle.std.proofs.lemmas.List.{length-append}
 use Rattle.std.specs.List.{AllZip}
 use Rattle.control_script.specs.Order.{commands_of}
 use Rattle.worker_pool.specs.declared.team.lane_input.LaneInput.{LaneInput}
-use Rattle.worker_pool.specs.declared.worker.Worker.{Worker}
+use Rattle.lane_worker.specs.declared.worker.Worker.{Worker}
 use Rattle.worker_pool.specs.AtWork.{IsAtWork, IsBack}
 use Rattle.worker_pool.proofs.Rows.{AllZip-more, all_first, all_others, moved}
 use Rattle.worker_pool.proofs.team.finish.finish_all.Goals as goal

@@ -1,5 +1,5 @@
 use Rattle.std.proofs.Common.{◌<◌, length, arith}
-use Rattle.worker_pool.proofs.Leaving.{looked_at, same_inputs}
+use Rattle.worker_pool.proofs.Inputs.{looked_at, same_inputs}
 use Rattle.worker_pool.proofs.team.lane_input.take_turns.Goals as goal
 
 pub make_room-took-requires : goal.make_room-took-requires

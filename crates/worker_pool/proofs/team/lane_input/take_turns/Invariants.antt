@@ -1,6 +1,6 @@
 use Rattle.std.proofs.Common.{List}
 use Rattle.pcap_source.specs.Captured.{Captured}
-use Rattle.worker_pool.specs.declared.worker.Worker.{Worker}
+use Rattle.lane_worker.specs.declared.worker.Worker.{Worker}
 use Rattle.worker_pool.specs.Inputs.{AreInputs}
 use Rattle.worker_pool.proofs.team.lane_input.take_turns.Given as goal
 

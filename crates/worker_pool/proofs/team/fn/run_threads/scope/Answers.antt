@@ -8,15 +8,14 @@ use Rattle.lane_rings.specs.declared.ring.RingTx.{RingTx}
 use Rattle.lane_rings.specs.declared.items.Packet.{Packet}
 use Rattle.control_script.specs.Order.{commands_of}
 use Rattle.forest_versions.specs.declared.command.Command.{Command}
-use Rattle.worker_pool.specs.Worked.{IsReady}
-use Rattle.worker_pool.specs.declared.worker.Worker.{Worker}
+use Rattle.lane_worker.specs.Worked.{IsReady}
+use Rattle.lane_worker.specs.declared.worker.Worker.{Worker}
 use Rattle.worker_pool.specs.declared.team.lane_input.LaneInput.{LaneInput}
 use Rattle.worker_pool.specs.Inputs.{IsPlaced, AreInputs}
 use Rattle.control_script.specs.declared.stamped.Stamped.{Stamped}
 use Rattle.worker_pool.specs.AtWork.{MayBegin, IsFresh}
 use Rattle.worker_pool.proofs.Rows.{AllZip-more, moved, zip_first, zip_others}
-use Rattle.worker_pool.proofs.Forwarding.{dealt_under}
-use Rattle.worker_pool.proofs.Starting.{all_may_begin, fresh, inputs_of_all, all_at_work, all_served}
+use Rattle.worker_pool.proofs.Starting.{dealt_under, all_may_begin, fresh, inputs_of_all, all_at_work, all_served}
 use Rattle.worker_pool.proofs.team.fn.run_threads.scope.Goals as goal
 
 pub start_control-control-requires-send-F : goal.start_control-control-requires-send-F

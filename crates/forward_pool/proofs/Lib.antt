@@ -1,0 +1,7 @@
+mod Stopping
+mod Draining
+mod Explaining
+mod Exits
+mod Forwarding
+mod TakingAnswers
+mod Leaving

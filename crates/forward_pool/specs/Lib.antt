@@ -1,0 +1,5 @@
+pub mod Forward
+pub mod Streamed
+pub mod Drained
+pub mod Explained
+pub mod TakenAnswers

@@ -1,0 +1,160 @@
+-- What a worker did in one call, and then in another.
+use Rattle.std.proofs.Common.{◌≡◌, ◌≢◌, ℕ, ◌≤◌, Option, Some, None, List, [], ◌∷◌, ◌++◌, length, map, drop, refl, sym, ap, subst, ◌∙◌, arith}
+use Rattle.std.proofs.lemmas.List.{append-nil, length-append, map-append}
+use Rattle.forest_versions.specs.declared.command.Command.{Command}
+use Rattle.lane_rings.specs.declared.items.Packet.{Packet}
+use Rattle.lane_rings.specs.declared.ring.RingRx.{RingRx}
+use Rattle.lane_core.specs.declared.recorder.Recorder.{Ghosts}
+use Rattle.lane_worker.specs.declared.worker.Worker.{Worker}
+use Rattle.lane_worker.specs.Steps.{Turn, events_of, answers_of}
+use Rattle.lane_worker.specs.Worked.{Takes, Sends, WentOn, Ran, Worked, at_hand}
+use Rattle.lane_worker.specs.Turning.{TookUp}
+use Rattle.lane_worker.proofs.Rings.{takes_none, takes_then, known_kept, SameAnswers-refl, SameAnswers-trans, sends_none, sends_then}
+use Rattle.lane_worker.proofs.Stepping.{given_by, given-append, answers-append}
+use Rattle.lane_worker.proofs.Going.{went_two, went_failed}
+
+-- a lane failed, or it has not
+pub by_failure : {T P : Type 0} (o : Option T) → (o ≡ None → P) → (o ≢ None → P) → P
+by_failure None none some = none refl
+by_failure (Some x) none some = some (λ is. absurd (cc))
+
+-- packets that are taken unread
+abbrev pub unread : List Packet → List Turn
+unread packets = map (λ p. record { packet = p; commands = [] }) packets
+
+unread_are : (packets : List Packet) → map (λ t. t.packet) (unread packets) ≡ packets
+unread_are [] = refl
+unread_are (p ∷ packets) = ap (λ l. p ∷ l) (unread_are packets)
+
+module _ {L : Type 0} (g : Ghosts L) (script : List Command) where
+  -- before the first step
+  pub went_none : (least : ℕ) (a : L) → g.failed a ≡ None → WentOn g script least [] a a [] []
+  went_none least a well = record {
+    stands = λ events s. subst (g.stands a) (sym (append-nil events)) s;
+    commands = (drop (g.given a) script, refl);
+    within = tt;
+    newest = refl;
+    good = λ ok. refl;
+    whole = λ ok. refl;
+    version = λ ok. omega arith;
+    one = λ bad. absurd (bad well);
+    front = λ bad. ([], refl);
+    keeping = λ is. absurd (cc);
+    heavy = λ is. absurd (cc);
+  }
+
+  -- nothing but a look into the packet ring
+  pub worked_looked : (a : Worker L) (ring : RingRx Packet) → Takes a.packets ring [] → Worked g script a (record a { packets = ring })
+  worked_looked a ring took = record {
+    packets = [];
+    places = [];
+    number = refl;
+    took_packets = took;
+    took_places = takes_none a.commands;
+    answering = SameAnswers-refl a.answers;
+    app = refl;
+    keeps = refl;
+    stayed = λ bad. refl;
+    silent = λ bad. sends_none a.answers;
+    ran = λ well. record {
+      turns = [];
+      done = [];
+      bad = [];
+      of_packets = refl;
+      went = went_none (at_hand g a) a.lane well;
+      of_places = λ ok. refl;
+      answers = λ events s. sends_none a.answers;
+    };
+  }
+
+  -- a packet was taken out of the ring and taken up
+  pub worked_one : (a b : Worker L) (ring : RingRx Packet) (p : Packet) → Takes a.packets ring (p ∷ []) → TookUp g script (record a { packets = ring }) b p → Worked g script a b
+  worked_one a b ring p took up = record {
+    packets = p ∷ [];
+    places = up.places;
+    number = up.number;
+    took_packets = subst (λ (r : RingRx Packet). Takes a.packets r (p ∷ [])) (sym up.same) took;
+    took_places = up.took_places;
+    answering = up.answering;
+    app = up.app;
+    keeps = up.keeps;
+    stayed = up.stayed;
+    silent = up.silent;
+    ran = λ well. let r = up.ran well in record {
+      turns = r.turns;
+      done = r.done;
+      bad = r.bad;
+      of_packets = r.of_packets;
+      went = r.went;
+      of_places = r.of_places;
+      answers = r.answers;
+    };
+  }
+
+  module _ (a b c : Worker L) (p : Worked g script a b) (q : Worked g script b c) where
+    ran_two : g.failed a.lane ≡ None → g.failed b.lane ≡ None → Ran g script a c (p.packets ++ q.packets) (p.places ++ q.places)
+    ran_two well between =
+        let r = p.ran well in
+        let s = q.ran between in
+        let kept = known_kept a.commands b.commands p.places p.took_places in
+        let version = r.went.version between in
+        let places = r.of_places between in
+        record {
+          turns = r.turns ++ s.turns;
+          done = r.done ++ s.done;
+          bad = s.bad;
+          of_packets = map-append (λ t. t.packet) r.turns s.turns ∙ ap (λ l. l ++ map (λ t. t.packet) s.turns) r.of_packets ∙ ap (λ l. p.packets ++ l) s.of_packets;
+          went = went_two g script (at_hand g a) (at_hand g b) r.turns s.turns a.lane b.lane c.lane r.done r.bad s.done s.bad r.went s.went between
+              (let less : at_hand g a ≤ at_hand g b = omega (arith, kept, version, places) in less) p.app p.keeps;
+          of_places = λ ok.
+              let e = ap length (given-append r.done s.done) in
+              let f = length-append (given_by r.done) (given_by s.done) in
+              let h = s.of_places ok in
+              let n = length-append p.places q.places in
+              omega (arith, e, f, h, n, places);
+          answers = λ events stands.
+              let first = r.answers events stands in
+              let now : g.stands b.lane (events ++ events_of r.done) =
+              subst (λ l. g.stands b.lane (events ++ events_of l)) (ap (λ l. r.done ++ l) (r.went.good between) ∙ append-nil r.done) (r.went.stands events stands) in
+              let second = subst (λ m. Sends b.answers c.answers (answers_of m (events ++ events_of r.done) s.done)) p.app (s.answers (events ++ events_of r.done) now) in
+              subst (Sends a.answers c.answers) (sym (answers-append (g.app a.lane) events r.done s.done))
+              (sends_then a.answers b.answers c.answers (answers_of (g.app a.lane) events r.done) (answers_of (g.app a.lane) (events ++ events_of r.done) s.done) first second);
+        }
+
+    ran_failed : g.failed a.lane ≡ None → g.failed b.lane ≢ None → Ran g script a c (p.packets ++ q.packets) (p.places ++ q.places)
+    ran_failed well between =
+        let r = p.ran well in
+        let same = q.stayed between in
+        record {
+          turns = r.turns ++ unread q.packets;
+          done = r.done;
+          bad = r.bad;
+          of_packets = map-append (λ t. t.packet) r.turns (unread q.packets) ∙ ap (λ l. l ++ map (λ t. t.packet) (unread q.packets)) r.of_packets ∙ ap (λ l. p.packets ++ l) (unread_are q.packets);
+          went = subst (λ (l : L). WentOn g script (at_hand g a) (r.turns ++ unread q.packets) a.lane l r.done r.bad) (sym same)
+              (went_failed g script (at_hand g a) r.turns (unread q.packets) a.lane b.lane r.done r.bad r.went between);
+          of_places = λ ok. absurd (between (subst (λ (l : L). g.failed l ≡ None) same ok));
+          answers = λ events stands. subst (Sends a.answers c.answers) (append-nil (answers_of (g.app a.lane) events r.done))
+              (sends_then a.answers b.answers c.answers (answers_of (g.app a.lane) events r.done) [] (r.answers events stands) (q.silent between));
+        }
+
+    still : g.failed a.lane ≢ None → g.failed b.lane ≢ None
+    still bad is = bad (subst (λ (l : L). g.failed l ≡ None) (p.stayed bad) is)
+
+    -- one call, and then another
+    pub worked_two : Worked g script a c
+    worked_two = record {
+      packets = p.packets ++ q.packets;
+      places = p.places ++ q.places;
+      number = q.number ∙ p.number;
+      took_packets = takes_then a.packets b.packets c.packets p.packets q.packets p.took_packets q.took_packets;
+      took_places = takes_then a.commands b.commands c.commands p.places q.places p.took_places q.took_places;
+      answering = SameAnswers-trans a.answers b.answers c.answers p.answering q.answering;
+      app = q.app ∙ p.app;
+      keeps = q.keeps ∙ p.keeps;
+      stayed = λ bad. q.stayed (still bad) ∙ p.stayed bad;
+      silent = λ bad. sends_then a.answers b.answers c.answers [] [] (p.silent bad) (q.silent (still bad));
+      ran = λ well. by_failure (g.failed b.lane) (ran_two well) (ran_failed well);
+    }
+
+  pub worked_none : (a : Worker L) → Worked g script a a
+  worked_none a = worked_looked a a.packets (takes_none a.packets)

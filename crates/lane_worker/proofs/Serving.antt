@@ -1,0 +1,163 @@
+-- A worker that takes up a packet.
+use Rattle.std.proofs.Common.{◌≡◌, ◌≢◌, ℕ, ◌+◌, true, false, Bool, Option, Some, None, List, [], ◌∷◌, ◌++◌, length, take, drop, refl, sym, ap, subst, ◌∙◌, arith}
+use Rattle.std.specs.Prelude.{if◌then◌else◌, Ok, Err, IfSome}
+use Rattle.std.proofs.lemmas.List.{append-nil}
+use mathlib.Core.List.{IsPrefix}
+use Rattle.app_api.specs.declared.reaction.Verdict.{Verdict}
+use Rattle.forest_versions.specs.declared.command.Command.{Command}
+use Rattle.forest_versions.specs.State.{control}
+use Rattle.lane_rings.specs.declared.items.Packet.{Packet}
+use Rattle.lane_rings.specs.declared.items.Answer.{Answer}
+use Rattle.lane_rings.specs.declared.ring.RingRx.{RingRx}
+use Rattle.lane_rings.specs.declared.ring.RingTx.{RingTx}
+use Rattle.lane_rings.specs.Ring.{taken, known}
+use Rattle.lane_core.specs.declared.recorder.Recorder.{Ghosts}
+use Rattle.lane_core.specs.declared.errors.LaneError.{LaneError}
+use Rattle.lane_worker.specs.declared.worker.Worker.{Worker}
+use Rattle.lane_worker.specs.Steps.{Handed, fits, events_of, answer_to}
+use Rattle.lane_worker.specs.Worked.{Takes, Sends, IsReady, Ran}
+use Rattle.lane_worker.specs.Turning.{IsUnder, Turned, TookUp}
+use Rattle.lane_worker.proofs.Commands.{take-two}
+use Rattle.lane_worker.proofs.Rings.{takes_none, taken_more, SameAnswers-refl, sends_none, sends_same}
+use Rattle.lane_worker.proofs.Stepping.{commands-append, given_by}
+
+-- a lane that says that it has not failed
+pub not_failed : {T : Type 0} (o : Option T) (b : Bool) → b ≡ false → (o ≢ None → b ≡ true) → o ≡ None
+not_failed None b is has = refl
+not_failed (Some x) b is has = let yes : b ≡ true = has (λ no. cc) in absurd (cc)
+
+module _ {L : Type 0} (g : Ghosts L) (script : List Command) where
+  pub under_of : (lane : L) (ring : RingRx ℕ) → IsReady g script lane ring → IsUnder g script lane
+  under_of lane ring r = r.in_force ∙ ap (λ n. control (g.app lane).presets (take n script)) (sym r.version)
+
+  -- a worker that was ready is ready again
+  pub ready_again : (a b : Worker L) (packets : List Packet) (places : List ℕ) → IsReady g script a.lane a.commands → Ran g script a b packets places → Takes a.commands b.commands places
+      → g.failed b.lane ≡ None → IsUnder g script b.lane
+      → IsReady g script b.lane b.commands
+  ready_again a b packets places r ran took well under =
+      let more = taken_more a.commands b.commands places took in
+      let count = ran.of_places well in
+      let only : ran.done ++ ran.bad ≡ ran.done = ap (λ l. ran.done ++ l) (ran.went.good well) ∙ append-nil ran.done in
+      let version : g.given b.lane ≡ length (taken b.commands) = let v = ran.went.version well in let w = r.version in omega (arith, v, w, more, count) in
+      let next : IsPrefix (given_by ran.done) (drop (length (taken a.commands)) script) =
+      subst (λ v. IsPrefix (given_by ran.done) (drop v script)) r.version (subst (λ l. IsPrefix (given_by l) (drop (g.given a.lane) script)) only ran.went.commands) in
+      record {
+        events = r.events ++ events_of ran.done;
+        stands = subst (λ l. g.stands b.lane (r.events ++ events_of l)) only (ran.went.stands r.events r.stands);
+        commands = commands-append r.events (events_of ran.done) ∙ ap (λ l. l ++ given_by ran.done) r.commands ∙ sym (take-two script (given_by ran.done) (length (taken a.commands)) next)
+            ∙ ap (λ n. take n script) (let e : length (taken a.commands) + length (given_by ran.done) ≡ length (taken b.commands) = omega (arith, more, count) in e);
+        version = version;
+        in_force = under ∙ ap (λ n. control (g.app b.lane).presets (take n script)) version;
+      }
+
+  module _ (a : Worker L) (p : Packet) where
+    -- one that doesn't fit is let go
+    pub let_go : g.failed a.lane ≡ None → fits (length script) (g.last a.lane) (g.given a.lane) p ≡ false → TookUp g script a a p
+    let_go well unfit = record {
+      places = [];
+      same = refl;
+      number = refl;
+      took_places = takes_none a.commands;
+      answering = SameAnswers-refl a.answers;
+      app = refl;
+      keeps = refl;
+      stayed = λ bad. refl;
+      silent = λ bad. sends_none a.answers;
+      ran = λ ok. record {
+        turns = record { packet = p; commands = [] } ∷ [];
+        done = [];
+        bad = [];
+        of_packets = refl;
+        went = record {
+          stands = λ events s. subst (g.stands a.lane) (sym (append-nil events)) s;
+          commands = (drop (g.given a.lane) script, refl);
+          within = tt;
+          newest = refl;
+          good = λ is. refl;
+          whole = λ is. sym (ap (λ (b : Bool). if b then Handed p ∷ [] else []) unfit);
+          version = λ is. omega arith;
+          one = λ bad. absurd (bad well);
+          front = λ bad. absurd (bad well);
+          keeping = λ is. absurd (cc);
+          heavy = λ is. absurd (cc);
+        };
+        of_places = λ is. refl;
+        answers = λ events s. sends_none a.answers;
+      };
+    }
+
+    -- a lane that had failed takes nothing
+    pub skipped : (ring : RingRx ℕ) (o : Option ℕ) → IfSome o (λ place. Takes a.commands ring (place ∷ [])) → (o ≡ None → Takes a.commands ring [] × (known ring ≡ [])) → g.failed a.lane ≢ None
+        → TookUp g script a (record a { commands = ring }) p
+    skipped ring (Some place) some none bad = record {
+      places = place ∷ [];
+      same = refl;
+      number = refl;
+      took_places = some;
+      answering = SameAnswers-refl a.answers;
+      app = refl;
+      keeps = refl;
+      stayed = λ is. refl;
+      silent = λ is. sends_none a.answers;
+      ran = λ ok. absurd (bad ok);
+    }
+    skipped ring None some none bad = record {
+      places = [];
+      same = refl;
+      number = refl;
+      took_places = (none refl).0;
+      answering = SameAnswers-refl a.answers;
+      app = refl;
+      keeps = refl;
+      stayed = λ is. refl;
+      silent = λ is. sends_none a.answers;
+      ran = λ ok. absurd (bad ok);
+    }
+
+    -- a packet that fits was handed over, and answered where the lane did
+    module _ (lane : L) (ring : RingRx ℕ) (well : g.failed a.lane ≡ None) (app : g.app lane ≡ g.app a.lane) (keeps : g.keeps lane ≡ g.keeps a.lane) where
+      pub answered : (answers : Option (RingTx Answer)) (used : Option (RingTx Packet)) (v : Verdict) → Turned g script a.lane lane a.commands ring p (Ok v)
+          → Sends a.answers answers (answer_to p v ∷ [])
+          → TookUp g script a (record a { lane = lane; commands = ring; answers = answers; used = used }) p
+      answered answers used v t sends = record {
+        places = t.places;
+        same = refl;
+        number = refl;
+        took_places = t.took;
+        answering = sends_same a.answers answers (answer_to p v ∷ []) sends;
+        app = app;
+        keeps = keeps;
+        stayed = λ bad. absurd (bad well);
+        silent = λ bad. absurd (bad well);
+        ran = λ ok. record {
+          turns = record { packet = p; commands = t.turn } ∷ [];
+          done = t.done;
+          bad = t.bad;
+          of_packets = refl;
+          went = t.went;
+          of_places = t.of_places;
+          answers = λ events s. subst (Sends a.answers answers) (sym (t.answered v refl events s)) sends;
+        };
+      }
+
+      pub unanswered : (e : LaneError) → Turned g script a.lane lane a.commands ring p (Err e) → TookUp g script a (record a { lane = lane; commands = ring }) p
+      unanswered e t = record {
+        places = t.places;
+        same = refl;
+        number = refl;
+        took_places = t.took;
+        answering = SameAnswers-refl a.answers;
+        app = app;
+        keeps = keeps;
+        stayed = λ bad. absurd (bad well);
+        silent = λ bad. absurd (bad well);
+        ran = λ ok. record {
+          turns = record { packet = p; commands = t.turn } ∷ [];
+          done = t.done;
+          bad = t.bad;
+          of_packets = refl;
+          went = t.went;
+          of_places = t.of_places;
+          answers = λ events s. subst (Sends a.answers a.answers) (sym (t.silent e refl events s)) (sends_none a.answers);
+        };
+      }

@@ -1,0 +1,173 @@
+//! A worker and its work.
+
+ghost use Rattle.std.specs.Prelude.{◌≡◌, ◌≤◌, [], length, IsTrue, None, true, false};
+ghost use Rattle.forest_versions.specs.Lawful.{are_lawful};
+ghost use Rattle.forest_versions.specs.State.{start};
+ghost use Rattle.control_script.specs.Order.{commands_of};
+ghost use Rattle.lane_rings.specs.Ring.{known};
+ghost use Rattle.lane_worker.specs.Steps.{fits};
+ghost use Rattle.lane_worker.specs.Worked.{MayWork, IsReady, Worked};
+ghost use Rattle.lane_worker.specs.Turning.{TookUp};
+
+use crate::backoff::Backoff;
+use crate::ends::{send_answer, take_from};
+use crate::gate::Gate;
+use crate::turn::{hand_over, is_fit};
+use control_script::Script;
+use lane_core::Recorder;
+use lane_rings::{AnswerTx, CommandRx, Packet, PacketRx, PacketTx};
+use native_filters::NativeBook;
+use std::alloc::Global;
+use std::sync::Wait;
+use std::sync::atomic::{AtomicBool, Ordering};
+
+/// What one thread owns: a lane, and its ends of the rings.
+#[derive(Drop)]
+pub struct Worker<L: Recorder + Drop> {
+    /// The number of the lane, from 0.
+    pub number: usize,
+    pub lane: L,
+    /// The packets of the lane.
+    pub packets: PacketRx,
+    /// Places in the script: for each, the lane may take the script's next command.
+    pub commands: CommandRx,
+    /// Where the lane's verdicts go; none where nobody waits for them.
+    pub answers: Option<AnswerTx>,
+    /// Where packets go back that no answer takes along, so that the memory of their frames serves again; none where they
+    /// are let go.
+    pub used: Option<PacketTx>,
+}
+
+/// Works until `stop` is raised and the packet ring then shows no packet.
+///
+/// It takes the packets of its ring. For one that fits it takes places from the command ring until the lane's version
+/// is at least the packet's floor, and then those that the ring shows, up to the packet's ceiling; the lane takes one
+/// command of the script for each. Then the lane takes the packet, and with an answer ring its verdict is sent. A
+/// packet that doesn't fit is let go. Where the lane fails, `failed` is raised, and from then on packets and places are
+/// taken unread and no answer is sent.
+///
+/// It may be called again with the worker that it answers. It waits for packets, for places and for room in the answer
+/// ring.
+pub fn work<R: Wait, L: Recorder + Drop, G: Gate>(
+    rt: &R,
+    alloc: Global,
+    w: Worker<L>,
+    script: &Script,
+    natives: &NativeBook,
+    gate: &G,
+    stop: &AtomicBool,
+    failed: &AtomicBool,
+) -> Worker<L>
+    requires ready { MayWork L.Recorder (commands_of script.now) w }
+    requires lawful { IsTrue (are_lawful (start (L.app w.lane).presets) (commands_of script.now)) }
+    ensures worked { Worked L.Recorder (commands_of script.now) w result }
+    ensures ready { MayWork L.Recorder (commands_of script.now) result }
+    ensures emptied { known result.packets ≡ [] }
+{
+    let mut w = w;
+    let mut backoff = backoff_of(&w);
+    for _ in rt.forever() {
+        let stopped = stop.load(Ordering::SeqCst);
+        let found = take_turn(rt, alloc, &mut w, script, natives, gate, failed);
+        if stopped && !found {
+            return w;
+        }
+        backoff.looked(rt, found);
+    }
+    unreachable!()
+}
+
+// How a worker waits for packets. Where its answers are waited for, it stays awake for longer.
+fn backoff_of<L: Recorder + Drop>(w: &Worker<L>) -> Backoff {
+    if w.answers.is_some() {
+        Backoff::eager()
+    } else {
+        Backoff::patient()
+    }
+}
+
+/// Takes a packet out of the ring, and makes of it what the lane can, as `work` does. False where the ring shows none. It
+/// waits for the places that the packet needs, and for room in the answer ring.
+pub fn take_turn<R: Wait, L: Recorder + Drop, G: Gate>(
+    rt: &R,
+    alloc: Global,
+    w: &mut Worker<L>,
+    script: &Script,
+    natives: &NativeBook,
+    gate: &G,
+    failed: &AtomicBool,
+) -> bool
+    requires ready { MayWork L.Recorder (commands_of script.now) w.old }
+    requires lawful { IsTrue (are_lawful (start (L.app w.old.lane).presets) (commands_of script.now)) }
+    ensures worked { Worked L.Recorder (commands_of script.now) w.old w.new }
+    ensures ready { MayWork L.Recorder (commands_of script.now) w.new }
+    ensures none { result ≡ false → known w.new.packets ≡ [] }
+{
+    match take_from(&mut w.packets) {
+        Some(packet) => {
+            take_up(rt, alloc, w, packet, script, natives, gate, failed);
+            true
+        }
+        None => false,
+    }
+}
+
+// Makes of a packet what the lane can.
+fn take_up<R: Wait, L: Recorder + Drop, G: Gate>(
+    rt: &R,
+    alloc: Global,
+    w: &mut Worker<L>,
+    packet: Packet,
+    script: &Script,
+    natives: &NativeBook,
+    gate: &G,
+    failed: &AtomicBool,
+)
+    requires ready { MayWork L.Recorder (commands_of script.now) w.old }
+    requires lawful { IsTrue (are_lawful (start (L.app w.old.lane).presets) (commands_of script.now)) }
+    ensures taken_up { TookUp L.Recorder (commands_of script.now) w.old w.new packet }
+    ensures ready { MayWork L.Recorder (commands_of script.now) w.new }
+{
+    if w.lane.has_failed() {
+        take_from(&mut w.commands);
+        return;
+    }
+    if !is_fit(&w.lane, script, &packet) {
+        return;
+    }
+    decide_packet(rt, alloc, w, packet, script, natives, gate, failed);
+}
+
+// Has the lane decide a packet that fits, and sends the answer or gives the packet back.
+fn decide_packet<R: Wait, L: Recorder + Drop, G: Gate>(
+    rt: &R,
+    alloc: Global,
+    w: &mut Worker<L>,
+    packet: Packet,
+    script: &Script,
+    natives: &NativeBook,
+    gate: &G,
+    failed: &AtomicBool,
+)
+    requires good { L.failed w.old.lane ≡ None }
+    requires ready { IsReady L.Recorder (commands_of script.now) w.old.lane w.old.commands }
+    requires lawful { IsTrue (are_lawful (start (L.app w.old.lane).presets) (commands_of script.now)) }
+    requires fits { fits (length (commands_of script.now)) (L.last w.old.lane) (L.given w.old.lane) packet ≡ true }
+    requires few { packet.ceil ≤ 4096 }
+    ensures taken_up { TookUp L.Recorder (commands_of script.now) w.old w.new packet }
+    ensures ready { MayWork L.Recorder (commands_of script.now) w.new }
+{
+    gate.pause(w.number, packet.index);
+    match hand_over(
+        rt,
+        alloc,
+        &mut w.lane,
+        &mut w.commands,
+        &packet,
+        script,
+        natives,
+    ) {
+        Ok(verdict) => send_answer(rt, &mut w.answers, &mut w.used, packet, verdict),
+        Err(_) => failed.store(true, Ordering::SeqCst),
+    }
+}
