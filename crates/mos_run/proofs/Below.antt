@@ -16,17 +16,18 @@ use Rattle.control_script.specs.declared.stamped.Stamped.{Stamped}
 use Rattle.lane_core.specs.Records.{VersionedPacket}
 use Rattle.lane_core.specs.Shown.{record_of}
 use Rattle.worker_pool.specs.Run.{totals_of}
-use Rattle.mos_run.specs.declared.output.Output.{Output}
-use Rattle.mos_run.specs.declared.output.Output.TheVariants.{Report, Forward, Summary}
-use Rattle.mos_run.specs.declared.refusal.RunError.{RunError}
-use Rattle.mos_run.specs.declared.refusal.RunError.TheVariants as Run
-use Rattle.mos_run.specs.Apps.{meaning_of}
-use Rattle.mos_run.specs.Records.{packets_with, records_of}
-use Rattle.mos_run.specs.Forward.{forwarded}
-use Rattle.mos_run.specs.Outcome.{is_heavy, refused, outcome_by, followed, weighed, ended, output_of, outcome}
+use Rattle.capture_replay.specs.declared.output.Output.{Output}
+use Rattle.capture_replay.specs.declared.output.Output.TheVariants.{Report, Forward, Summary}
+use Rattle.capture_replay.specs.declared.refusal.RunError.{RunError}
+use Rattle.capture_replay.specs.declared.refusal.RunError.TheVariants as Run
+use Rattle.capture_replay.specs.Apps.{meaning_of}
+use Rattle.capture_replay.specs.Records.{packets_with, records_of}
+use Rattle.capture_replay.specs.Forward.{forwarded}
+use Rattle.capture_replay.specs.Outcome.{is_heavy, refused, outcome_by, followed, weighed, ended, output_of, outcome}
 use Rattle.mos_run.specs.Request.{Request, Refused, Asked, outcome_under}
-use Rattle.mos_run.specs.Run.{FinishesUnder, StopsAs, UnderSome}
-use Rattle.mos_run.proofs.Closing.{some-closing}
+use Rattle.mos_run.specs.Run.{FinishesUnder, UnderSome}
+use Rattle.capture_replay.specs.Runs.{StopsAs}
+use Rattle.capture_replay.proofs.Closing.{some-closing}
 
 -- ---- what ends well writes something
 

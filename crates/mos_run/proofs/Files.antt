@@ -21,18 +21,19 @@ use Rattle.control_script.specs.declared.stamped.Stamped.{Stamped}
 use Rattle.words.specs.declared.settings.Settings.{Settings}
 use Rattle.lane_core.specs.Records.{VersionedPacket}
 use Rattle.worker_pool.specs.Source.{EndsInTail}
-use Rattle.mos_run.specs.declared.output.Output.{Output}
-use Rattle.mos_run.specs.declared.output.Output.TheVariants.{Report, Forward, Summary}
-use Rattle.mos_run.specs.declared.refusal.RunError.{RunError}
-use Rattle.mos_run.specs.declared.refusal.RunError.TheVariants as Run
-use Rattle.mos_run.specs.Apps.{meaning_of}
-use Rattle.mos_run.specs.Records.{packets_with}
-use Rattle.mos_run.specs.Outcome.{Outcome, cut_off, ended, followed, is_forward, is_heavy, outcome, outcome_by, output_of, refused, streamed, weighed}
-use Rattle.mos_run.specs.Refusal.{explained, file_refusal, met_in, status_of}
-use Rattle.mos_run.specs.Request.{Asked, bytes_under, given_under}
-use Rattle.mos_run.specs.Run.{RunsUnder, StopsAs}
-use Rattle.mos_run.specs.Runs.{AreUnrefused}
-use Rattle.mos_run.proofs.Ends.{err_same}
+use Rattle.capture_replay.specs.declared.output.Output.{Output}
+use Rattle.capture_replay.specs.declared.output.Output.TheVariants.{Report, Forward, Summary}
+use Rattle.capture_replay.specs.declared.refusal.RunError.{RunError}
+use Rattle.capture_replay.specs.declared.refusal.RunError.TheVariants as Run
+use Rattle.capture_replay.specs.Apps.{meaning_of}
+use Rattle.capture_replay.specs.Records.{packets_with}
+use Rattle.capture_replay.specs.Outcome.{Outcome, cut_off, ended, followed, is_forward, is_heavy, outcome, outcome_by, output_of, refused, streamed, weighed}
+use Rattle.mos_run.specs.Explained.{explained, met_in}
+use Rattle.capture_replay.specs.Refusal.{file_refusal, status_of}
+use Rattle.mos_run.specs.Request.{Asked, given_under}
+use Rattle.capture_replay.specs.Runs.{bytes_under, StopsAs, AreUnrefused}
+use Rattle.mos_run.specs.Run.{RunsUnder}
+use Rattle.capture_replay.proofs.Ends.{err_same}
 
 -- ---- what is told in place of a fault
 

@@ -1,15 +1,4 @@
 pub mod Files
-pub mod Ends
-pub mod Events
-pub mod Following
-pub mod Closing
-pub mod Reading
-pub mod Replaying
-pub mod Refusals
-pub mod Scripts
-pub mod Ceilings
 pub mod Outcomes
 pub mod Below
 pub mod Gathering
-pub mod Joined
-pub mod Forwarding

@@ -15,18 +15,20 @@ use Rattle.words.specs.declared.settings.WordsError.{WordsError}
 use Rattle.words.specs.declared.settings.WordsError.TheVariants as Words
 use Rattle.words.specs.Words.{words_settings}
 use Rattle.lane_core.specs.Records.{VersionedPacket}
-use Rattle.mos_run.specs.declared.output.Output.{Output}
-use Rattle.mos_run.specs.declared.refusal.RunError.{RunError}
-use Rattle.mos_run.specs.declared.refusal.RunError.TheVariants as Run
-use Rattle.mos_run.specs.Apps.{meaning_of}
-use Rattle.mos_run.specs.Records.{packets_of, records_of, versions_of}
-use Rattle.mos_run.specs.Outcome.{Outcome, refused, outcome_by, followed, ended, is_heavy, output_of, outcome, outcome_over}
-use Rattle.mos_run.specs.Request.{Request, Refused, Asked, Allows, AreAllowed, commands_in, text_under, given_under, asked, chosen, request_of, frames_in, outcome_under}
-use Rattle.mos_run.specs.Refusal.{status_of, words_refusal}
-use Rattle.mos_run.specs.Run.{Finishes, FinishesUnder, StopsAs, RunsAs, RunsUnder, EndsAs, EndsWell, UnderSome}
-use Rattle.mos_run.specs.Lanes.{RunsWith}
-use Rattle.mos_run.specs.Laws.{ceilings_of, CeilingsMayBeHad, CeilingsAreOneWorkers}
-use Rattle.mos_run.proofs.Scripts.{commands_order}
+use Rattle.capture_replay.specs.declared.output.Output.{Output}
+use Rattle.capture_replay.specs.declared.refusal.RunError.{RunError}
+use Rattle.capture_replay.specs.declared.refusal.RunError.TheVariants as Run
+use Rattle.capture_replay.specs.Apps.{meaning_of}
+use Rattle.capture_replay.specs.Records.{packets_of, records_of, versions_of, frames_in}
+use Rattle.capture_replay.specs.Outcome.{Outcome, refused, outcome_by, followed, ended, is_heavy, output_of, outcome, outcome_over}
+use Rattle.mos_run.specs.Request.{Request, Refused, Asked, Allows, AreAllowed, given_under, asked, chosen, request_of, outcome_under}
+use Rattle.capture_replay.specs.Script.{commands_in, text_under}
+use Rattle.capture_replay.specs.Refusal.{status_of, words_refusal}
+use Rattle.capture_replay.specs.Runs.{Finishes, StopsAs, RunsAs}
+use Rattle.mos_run.specs.Run.{FinishesUnder, RunsUnder, EndsAs, EndsWell, UnderSome}
+use Rattle.capture_replay.specs.Lanes.{RunsWith}
+use Rattle.capture_replay.specs.Laws.{ceilings_of, CeilingsMayBeHad, CeilingsAreOneWorkers}
+use Rattle.capture_replay.proofs.Scripts.{commands_order}
 
 request-by : (words : List (List ℕ)) (content : List ℕ → Option (List ℕ)) (left : Option (List ℕ)) (settings : Option Settings)
     → words_settings words ≡ settings → request_of words content left ≡ chosen settings content left

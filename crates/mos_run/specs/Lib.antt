@@ -1,12 +1,4 @@
-pub mod Apps
-pub mod Records
-pub mod Forward
-pub mod Summary
-pub mod Refusal
-pub mod Outcome
 pub mod Request
-pub mod Reading
+pub mod Explained
 pub mod Run
 pub mod Runs
-pub mod Lanes
-pub mod Laws

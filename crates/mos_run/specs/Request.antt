@@ -1,48 +1,24 @@
 -- What the words, the shelf and the capture come to.
-use Rattle.std.specs.Prelude.{◌≡◌, ℕ, List, [], length, nat_lt, if◌then◌else◌, Option, Some, None, option_map, option_and_then, Result, Ok, Err, ⊤}
+use Rattle.std.specs.Prelude.{◌≡◌, ℕ, List, Option, Some, None, option_map, option_and_then, Result, Ok, Err, ⊤}
 use Rattle.capture_maker.specs.Made.{made}
-use Rattle.pcap_source.specs.Captured.{Captured}
-use Rattle.pcap_source.specs.Capture.{Frames, capture_of}
-use Rattle.pcap_source.specs.declared.errors.OpenError.{OpenError}
+use Rattle.pcap_source.specs.Capture.{capture_of}
 use Rattle.pcapng_source.specs.Given.{Given, whole}
 use Rattle.pcapng_source.specs.Blocks.{any}
-use Rattle.control_script.specs.declared.error.ScriptError.{ScriptError}
 use Rattle.control_script.specs.declared.stamped.Stamped.{Stamped}
-use Rattle.control_script.specs.Script.{script}
-use Rattle.words.specs.declared.settings.AppKind.{AppKind}
 use Rattle.words.specs.declared.settings.Settings.{Settings}
 use Rattle.words.specs.Words.{words_settings}
 use Rattle.worker_pool.specs.Run.{MayHave}
-use Rattle.mos_run.specs.declared.refusal.RunError.{RunError}
-use Rattle.mos_run.specs.declared.refusal.RunError.TheVariants.{Usage, ScriptTooLong}
-use Rattle.mos_run.specs.Apps.{meaning_of}
-use Rattle.mos_run.specs.Records.{packets_of, packets_with, records_of, versions_of}
-use Rattle.mos_run.specs.Outcome.{Outcome, refused, outcome, output_of}
-use Rattle.mos_run.specs.Refusal.{script_refusal}
+use Rattle.capture_replay.specs.declared.refusal.RunError.{RunError}
+use Rattle.capture_replay.specs.declared.refusal.RunError.TheVariants.{Usage}
+use Rattle.capture_replay.specs.Apps.{meaning_of}
+use Rattle.capture_replay.specs.Records.{frames_in, packets_of, packets_with, records_of, versions_of}
+use Rattle.capture_replay.specs.Outcome.{Outcome, refused, outcome, output_of}
+use Rattle.capture_replay.specs.Script.{commands_in, text_under}
 
 -- what a run is told to do: it is refused before a packet is read, or these settings and this script are asked of what this file gives
 pub data Request : Type 0 where
   Refused : RunError → Request
   Asked : Settings → List Stamped → Given → Request
-
--- the commands of a script's text, or why it has none
-abbrev pub read_as : Result (List Stamped) ScriptError → Result (List Stamped) RunError
-read_as (Ok commands) = Ok commands
-read_as (Err e) = Err (script_refusal e)
-
--- the same of a text that may be too long: a script has at most 262,144 bytes
-abbrev pub commands_in : AppKind → List ℕ → Result (List Stamped) RunError
-commands_in app text = if nat_lt 262144 (length text) then Err ScriptTooLong else read_as (script text (meaning_of app).presets)
-
--- the text of the script: where none is named, the empty one; else what the shelf tells of its name
-abbrev pub text_under : Option (List ℕ) → (List ℕ → Option (List ℕ)) → Option (List ℕ)
-text_under None content = Some []
-text_under (Some name) content = content name
-
--- the bytes of a capture: those of the one that is made, else what the source tells
-abbrev pub bytes_under : Option ℕ → Option (List ℕ) → Option (List ℕ)
-bytes_under None left = left
-bytes_under (Some n) left = Some (made n)
 
 -- What the capture gives: the one that is made; else what the file gives whose bytes the source tells. A pcapng file gives a
 -- classic capture, up to the first block that is refused.
@@ -64,11 +40,6 @@ unfoldable pub request_of : List (List ℕ) → (List ℕ → Option (List ℕ))
 request_of words content left = chosen (words_settings words) content left
 
 -- ---- the versions that a run may have, and its outcome under them
-
--- the frames of a capture; none where its header is refused
-abbrev pub frames_in : Result Frames OpenError → List Captured
-frames_in (Ok f) = f.frames
-frames_in (Err e) = []
 
 -- The versions of records that a run of so many workers may have: each at least the floor of the record's first packet and at most
 -- its ceiling, and never falling along the records of one worker's lane. With one worker each is the ceiling.

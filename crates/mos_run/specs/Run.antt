@@ -1,6 +1,5 @@
 -- What the top call promises.
 use Rattle.std.specs.Prelude.{◌≡◌, ◌≢◌, ◌⊎◌, ◌≤◌, ℕ, Bool, false, List, [], Option, Some, None, Result, Ok, Err, IsOk}
-use Rattle.std.specs.Io.KnownBytes.{Appends}
 use Rattle.mos_bytes.specs.Causes.{Rose, HasCauseOf}
 use Rattle.mos_bytes.specs.declared.source.Source.{Ghosts as Source}
 use Rattle.mos_bytes.specs.declared.shelf.Shelf.{Ghosts as Shelf}
@@ -9,34 +8,16 @@ use Rattle.mos_bytes.specs.Writes.{AppendsFront}
 use Rattle.words.specs.Words.{words_settings}
 use Rattle.words.specs.declared.settings.Settings.{Settings}
 use Rattle.mos_run.specs.declared.ended.Ended.{Ended}
-use Rattle.mos_run.specs.declared.refusal.RunError.{RunError}
-use Rattle.mos_run.specs.declared.refusal.RunError.TheVariants.{ReadFault, WriteFault, NoMemory}
-use Rattle.mos_run.specs.Outcome.{Outcome, is_forward, output_of}
-use Rattle.mos_run.specs.Refusal.{status_of, refusal_text}
+use Rattle.capture_replay.specs.declared.refusal.RunError.{RunError}
+use Rattle.capture_replay.specs.declared.refusal.RunError.TheVariants.{NoMemory}
+use Rattle.capture_replay.specs.Outcome.{Outcome, is_forward, output_of}
+use Rattle.capture_replay.specs.Refusal.{WritesText, status_of, refusal_text}
+use Rattle.capture_replay.specs.Runs.{Finishes, StopsAs}
 use Rattle.mos_run.specs.Request.{Request, Allows, outcome_under, request_of}
-
--- the run ends well, under these versions, and all of its text was written, and nothing else
-pub record Finishes (o : Outcome) (versions : List ℕ) (old new : Option (List ℕ)) : Type 0 where
-  pub answered : o.ends ≡ Ok versions
-  pub written : Appends old new o.text
-
--- why a run with this outcome stopped: its refusal, or a fault or want of memory before; a fault of writing only where
--- something is written
-abbrev pub StopsAs : Outcome → RunError → Type 0
-StopsAs o e = (o.ends ≡ Err e) ⊎ (e ≡ ReadFault) ⊎ (e ≡ NoMemory) ⊎ ((e ≡ WriteFault) × (o.text ≢ []))
-
--- a run that answers versions, or why it stopped, with a front of its text
-abbrev pub RunsAs : Outcome → Option (List ℕ) → Option (List ℕ) → Result (List ℕ) RunError → Type 0
-RunsAs o old new (Ok versions) = Finishes o versions old new
-RunsAs o old new (Err e) = StopsAs o e × AppendsFront old new o.text
 
 -- the status of a run with this outcome
 abbrev pub EndsAs : Outcome → ℕ → Type 0
 EndsAs o status = (IsOk o.ends × (status ≡ 0)) ⊎ ((e : RunError) × StopsAs o e × (status ≡ status_of e))
-
--- a text was added, or a front of it where the sink failed
-abbrev pub WritesText : Option (List ℕ) → Option (List ℕ) → ℕ → ℕ → List ℕ → Type 0
-WritesText old new before now text = Appends old new text ⊎ (Rose before now × AppendsFront old new text)
 
 -- something holds of the outcome of a run under versions that it may have
 pub record UnderSome (request : Request) (P : Outcome → Type 0) : Type 0 where

@@ -1,11 +1,10 @@
 //! How a run ended.
 
 ghost use Rattle.std.specs.Prelude.{◌≡◌, ◌≢◌, ◌⊎◌, [], IsOk, IsErr};
-ghost use Rattle.mos_run.specs.Refusal.{status_of};
+ghost use Rattle.capture_replay.specs.Refusal.{status_of};
 ghost use Rattle.mos_run.specs.Run.{TellsOf};
 
-use crate::refusal::RunError;
-use crate::telling::tell;
+use capture_replay::{RunError, tell};
 use mos_bytes::{Failed, Sink};
 use std::alloc::Global;
 use worker_pool::VersionList;

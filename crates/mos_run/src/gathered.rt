@@ -5,9 +5,9 @@ ghost use Rattle.mos_run.specs.Request.{Request, request_of};
 ghost use Rattle.mos_run.specs.Run.{FinishesUnder, MosRun};
 
 use crate::ended::{Ended, handed_on, refuse};
-use crate::laws::what_one_worker_has_is_allowed;
-use crate::refusal::RunError;
 use crate::run::run_mos;
+use capture_replay::RunError;
+use capture_replay::laws::what_one_worker_has_is_allowed;
 use mos_bytes::{GatheringSink, Shelf, Sink, Source};
 use native_filters::NativeBook;
 use std::alloc::{AllocFailed, Global};

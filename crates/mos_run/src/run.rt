@@ -2,18 +2,16 @@
 
 ghost use Rattle.std.specs.Prelude.{◌≡◌, ◌≤◌, map, Some, IfSome, string_bytes};
 ghost use Rattle.pcapng_source.specs.Given.{whole};
-ghost use Rattle.mos_run.specs.Apps.{meaning_of};
+ghost use Rattle.capture_replay.specs.Apps.{meaning_of};
 ghost use Rattle.mos_run.specs.Request.{Request, Asked, request_of};
 ghost use Rattle.mos_run.specs.Run.{FinishesUnder, MosRun, RunsUnder};
-ghost use Rattle.mos_run.specs.Runs.{IsJob, RunsOverFile, RunsUnderSettings, RunsUnderWords};
+ghost use Rattle.capture_replay.specs.Runs.{IsJob, RunsUnderSettings};
+ghost use Rattle.mos_run.specs.Runs.{RunsOverFile, RunsUnderWords};
 
 use crate::ended::{Ended, refuse};
-use crate::laws::what_one_worker_has_is_allowed;
-use crate::plan::Crew;
-use crate::refusal::{RunError, explain};
-use crate::script::script_of;
-use crate::several::run_several;
-use crate::single::run_one;
+use crate::explained::explain;
+use capture_replay::laws::what_one_worker_has_is_allowed;
+use capture_replay::{Crew, RunError, run_one, run_several, script_of};
 use control_script::Script;
 use mos_bytes::{Shelf, Sink, Source};
 use native_filters::NativeBook;

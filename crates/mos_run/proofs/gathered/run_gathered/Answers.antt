@@ -4,10 +4,10 @@ use Rattle.std.specs.Prelude.{◌⊎◌, string_bytes}
 use Rattle.mos_bytes.specs.Gathering.{failures_of, gathering_faults, given_to, held_of, inner_of, start_of}
 use Rattle.mos_run.specs.Run.{FinishesUnder}
 use Rattle.mos_run.proofs.Below.{done_below, front_below, rose_below}
-use Rattle.mos_run.proofs.Following.{ok_value}
+use Rattle.capture_replay.proofs.Following.{ok_value}
 use Rattle.mos_run.proofs.Gathering.{handed_by, ran_below, ran_failed, ran_without_memory}
 use Rattle.mos_run.proofs.Outcomes.{has_some}
-use Rattle.mos_run.proofs.Refusals.{rose_since}
+use Rattle.capture_replay.proofs.Refusals.{rose_since}
 use Rattle.mos_run.proofs.gathered.run_gathered.Goals as goal
 
 either-six : (status : ℕ) → (status ≡ 6) ⊎ (status ≡ 6) → status ≡ 6

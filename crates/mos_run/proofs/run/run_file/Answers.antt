@@ -2,7 +2,7 @@
 use Rattle.std.proofs.Common.{◌≡◌, ◌≤◌, ap, sym, subst, ◌∙◌, inl, inr, ⊎_elim}
 use Rattle.mos_bytes.specs.Causes.{Rose}
 use Rattle.pcapng_source.specs.Sources.{any_faults, any_source}
-use Rattle.mos_run.specs.Refusal.{explained}
+use Rattle.mos_run.specs.Explained.{explained}
 use Rattle.mos_run.proofs.Files.{fault_before, file_comes, late_after, ok_before, read_by, silent_after, start_is, whole_is, write_before}
 use Rattle.mos_run.proofs.run.run_file.Goals as goal
 

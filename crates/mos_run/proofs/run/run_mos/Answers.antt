@@ -1,5 +1,6 @@
 use Rattle.std.proofs.Common.{rules}
-use Rattle.mos_run.specs.Run.{EndsAs, StopsAs}
+use Rattle.mos_run.specs.Run.{EndsAs}
+use Rattle.capture_replay.specs.Runs.{StopsAs}
 use Rattle.mos_bytes.specs.Writes.{AppendsFront}
 use Rattle.mos_run.proofs.Outcomes.{ends_as, under_more}
 use Rattle.mos_run.proofs.run.run_mos.Goals as goal

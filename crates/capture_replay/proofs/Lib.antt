@@ -1,0 +1,11 @@
+pub mod Ends
+pub mod Events
+pub mod Following
+pub mod Closing
+pub mod Reading
+pub mod Replaying
+pub mod Refusals
+pub mod Scripts
+pub mod Ceilings
+pub mod Joined
+pub mod Forwarding

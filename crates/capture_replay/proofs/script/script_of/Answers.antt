@@ -1,0 +1,19 @@
+use Rattle.std.proofs.Common.{IsTrue, [], subst, sym, ap, ◌∙◌}
+use Rattle.std.proofs.lemmas.Result.{err_from_is_err_and}
+use Rattle.app_api.specs.Reg.{are_presets}
+use Rattle.capture_replay.specs.Script.{text_under}
+use Rattle.capture_replay.specs.Apps.{lawful_app}
+use Rattle.capture_replay.proofs.Scripts.{never_refused}
+use Rattle.capture_replay.proofs.script.script_of.Goals as goal
+
+pub parse_script-requires : goal.parse_script-requires
+parse_script-requires g c = record {
+  lawful = subst (λ ps. IsTrue (are_presets ps)) (sym (c.deref-2.ensures.value ∙ c.in_ok-presets.ensures)) (lawful_app c.args.settings.now.app).presets;
+}
+
+pub returns-in_err-script-clause-unasked : goal.returns-in_err-script-clause-unasked
+returns-in_err-script-clause-unasked g c = λ none.
+    let asked = c.text_of.ensures.unasked none in
+    let error = err_from_is_err_and c.from_residual-in_err-script.result c.from_residual-in_err-script.ensures.1 in
+    let empty = c.in_ok-text.ensures.text [] (ap (λ name. text_under name (g.H.Shelf.content c.args.shelf.now)) none) in
+    (asked.1, rw (error.1) (error.2 ∙ never_refused _ _ c.in_err-script.field-0.0 (c.deref.ensures.value ∙ empty) c.in_err-script.ensures.err))

@@ -1,0 +1,11 @@
+pub mod Apps
+pub mod Records
+pub mod Forward
+pub mod Summary
+pub mod Refusal
+pub mod Script
+pub mod Outcome
+pub mod Reading
+pub mod Runs
+pub mod Lanes
+pub mod Laws

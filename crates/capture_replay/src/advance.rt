@@ -1,0 +1,92 @@
+//! A lane under a script: before each packet it takes the commands that the packet may see.
+
+ghost use Rattle.std.specs.Prelude.{◌≡◌, ◌≢◌, ◌+◌, ◌<◌, ◌≤◌, [], ◌∷◌, ◌++◌, List, length, true, None, Err, IsOk, OnOk, IfOk};
+ghost use Rattle.lane_core.specs.Records.{VersionedPacket, records, verdict_on};
+ghost use Rattle.capture_replay.specs.Records.{control_at};
+ghost use Rattle.capture_replay.specs.Reading.{LaneIsUnder, LaneIsReady, LaneFollows, IsOver, packet_of};
+ghost use Rattle.capture_replay.specs.Runs.{MayRun};
+
+use app_api::Verdict;
+use control_script::Script;
+use lane_core::laws::{last_packet_is_added, later_commands_change_none, one_event_more};
+use lane_core::{LaneError, Recorder};
+use native_filters::NativeBook;
+use pcap_source::Frame;
+use std::alloc::{AllocError, Global};
+
+// Gives the lane the commands of the script up to a version.
+fn give<L: Recorder>(
+    alloc: Global,
+    script: &Script,
+    lane: &mut L,
+    version: u32,
+) -> Result<(), AllocError>
+    requires good { L.failed lane.old ≡ None }
+    requires lawful { MayRun (L.app lane.old) script.now }
+    requires under { LaneIsUnder L.Recorder script.now lane.old }
+    requires before { L.given lane.old ≤ version }
+    requires within { version ≤ length script.now }
+    requires few { version ≤ 4096 }
+    ensures good { IsOk result → L.failed lane.new ≡ None }
+    ensures given { IsOk result → L.given lane.new ≡ version }
+    ensures under { IsOk result → LaneIsUnder L.Recorder script.now lane.new }
+    ensures follows { IsOk result → (ps : List VersionedPacket)
+        → LaneFollows L.Recorder script.now lane.old ps → LaneFollows L.Recorder script.now lane.new ps }
+    ensures newest { L.last lane.new ≡ L.last lane.old }
+    ensures app { L.app lane.new ≡ L.app lane.old }
+    ensures keeps { L.keeps lane.new ≡ L.keeps lane.old }
+{
+    one_event_more();
+    while lane.version() < version {
+        let Some(command) = script.command(lane.version()) else {
+            break;
+        };
+        if lane.command(alloc, command).is_err() {
+            return Err(AllocError);
+        }
+    }
+    Ok(())
+}
+
+/// One packet more, behind the commands up to its ceiling.
+///
+/// An error is want of memory, or that the lane keeps entries and they weigh too much with this packet.
+pub(crate) fn advance<L: Recorder>(
+    alloc: Global,
+    natives: &NativeBook,
+    script: &Script,
+    lane: &mut L,
+    number: u64,
+    frame: &Frame,
+) -> Result<Verdict, LaneError>
+    requires good { L.failed lane.old ≡ None }
+    requires lawful { MayRun (L.app lane.old) script.now }
+    requires ready { LaneIsReady L.Recorder script.now lane.old number }
+    requires bound { number < 1048576 }
+    ensures ok { OnOk result (L.failed lane.new ≡ None) }
+    ensures failed { result ≡ Err LaneError.Heavy → L.failed lane.new ≢ None }
+    ensures follows { OnOk result ((ps : List VersionedPacket) → LaneFollows L.Recorder script.now lane.old ps
+        → LaneFollows L.Recorder script.now lane.new (ps ++ packet_of script.now number frame.now ∷ [])) }
+    ensures verdict { IfOk result (λ verdict. (ps : List VersionedPacket)
+        → LaneFollows L.Recorder script.now lane.old ps
+        → verdict ≡ verdict_on (L.app lane.old) (control_at (L.app lane.old) script.now)
+        (packet_of script.now number frame.now)
+        (records (L.app lane.old) (control_at (L.app lane.old) script.now) ps)) }
+    ensures light { OnOk result (L.keeps lane.old ≡ true → (ps : List VersionedPacket)
+        → LaneFollows L.Recorder script.now lane.old ps
+        → IsOver (L.app lane.old) script.now (ps ++ packet_of script.now number frame.now ∷ []) → ⊥) }
+    ensures heavy { result ≡ Err LaneError.Heavy → (L.keeps lane.old ≡ true) × ((ps : List VersionedPacket)
+        → LaneFollows L.Recorder script.now lane.old ps
+        → IsOver (L.app lane.old) script.now (ps ++ packet_of script.now number frame.now ∷ [])) }
+    ensures ready { result ≢ Err LaneError.NoMemory → LaneIsReady L.Recorder script.now lane.new (number + 1) }
+    ensures app { L.app lane.new ≡ L.app lane.old }
+    ensures keeps { L.keeps lane.new ≡ L.keeps lane.old }
+{
+    one_event_more();
+    later_commands_change_none();
+    last_packet_is_added();
+    if give(alloc, script, lane, script.ceil(number)).is_err() {
+        return Err(LaneError::NoMemory);
+    }
+    lane.packet(alloc, number, frame, natives)
+}

@@ -1,0 +1,94 @@
+//! The end of a run: its records, and what is written of them.
+
+ghost use Rattle.std.specs.Prelude.{◌≡◌, ◌≢◌, ◌⊎◌, ℕ, List, Option, length, not, true, false, IfErr, IsErrOf};
+ghost use Rattle.std.specs.Io.KnownBytes.{Appends};
+ghost use Rattle.mos_bytes.specs.Writes.{WriteAdds};
+ghost use Rattle.report_text.specs.declared.record.Record.{Record};
+ghost use Rattle.pcap_source.specs.Captured.{Captured};
+ghost use Rattle.lane_core.specs.Sight.{arrivals};
+ghost use Rattle.worker_laws.specs.Greatest.{greatest};
+ghost use Rattle.capture_replay.specs.Records.{packets_of};
+ghost use Rattle.capture_replay.specs.Outcome.{is_forward, streamed, closing};
+ghost use Rattle.mos_bytes.specs.Outside.{Writes};
+ghost use Rattle.capture_replay.specs.Reading.{LaneHasRead};
+ghost use Rattle.capture_replay.specs.Runs.{EndsAlone};
+
+use crate::plan::Plan;
+use crate::summary::write_summary;
+use crate::{Output, RunError, VersionList};
+use flow_timers::Moment;
+use lane_core::laws::{later_commands_change_none, weight_never_falls};
+use lane_core::{Reporter, version_of_each};
+use mos_bytes::Sink;
+use report_text::Totals;
+use std::alloc::Global;
+
+// Writes what is written at the end of a run without a report: what was made and counted, and nothing where packets were
+// handed on.
+fn write_counts<O: Sink>(
+    alloc: Global,
+    output: Output,
+    totals: &Totals,
+    out: &mut O,
+) -> Result<(), RunError>
+    requires no_report { output ≢ Output.Report }
+    ensures text { (records : List Record)
+        → WriteAdds (O.taken out.old) (O.taken out.new) result (closing output records totals.now) }
+    ensures silent { is_forward output ≡ true → out.new ≡ out.old }
+    ensures only { IfErr result
+        (λ e. ((e ≡ RunError.WriteFault) × (is_forward output ≡ false)) ⊎ (e ≡ RunError.NoMemory)) }
+    ensures to { Writes O.Sink out.old out.new (IsErrOf result RunError.WriteFault) }
+{
+    match output {
+        Output::Summary(n) => write_summary(alloc, out, n, totals)?,
+        Output::Report | Output::Forward => {}
+    }
+    Ok(())
+}
+
+/// Ends a run whose lane took so many packets, of which `last` is the greatest moment, and behind which the capture has a
+/// tail of so many bytes.
+pub(crate) fn close<L: Reporter + Drop, O: Sink>(
+    alloc: Global,
+    plan: &Plan<'_>,
+    lane: L,
+    packets: u64,
+    last: Option<Moment>,
+    tail: u32,
+    out: &mut O,
+) -> Result<VersionList, RunError>
+    requires keeps { L.keeps lane ≡ not (is_forward plan.now.output) }
+    requires read { (frames : List Captured) × (length frames ≡ packets) × (last ≡ greatest (arrivals 0 frames))
+        × LaneHasRead L.Recorder plan.now.script.now plan.now.output lane frames }
+    ensures ends { (header : List ℕ) (frames : List Captured) (before : Option (List ℕ))
+        → length frames ≡ packets → last ≡ greatest (arrivals 0 frames)
+        → LaneHasRead L.Recorder plan.now.script.now plan.now.output lane frames
+        → Appends before (O.taken out.old)
+        (streamed (L.app lane) plan.now.script.now (packets_of plan.now.script.now) plan.now.output header frames)
+        → EndsAlone (L.app lane) plan.now.script.now plan.now.output header frames tail
+        before (O.taken out.new) result }
+    ensures silent { IfErr result
+        (λ e. e ≢ RunError.WriteFault → e ≢ RunError.NoMemory → out.new ≡ out.old) }
+    ensures only { IfErr result
+        (λ e. (e ≡ RunError.WriteFault) ⊎ (e ≡ RunError.NoMemory) ⊎ (e ≡ RunError.Heavy)) }
+    ensures to { Writes O.Sink out.old out.new (IsErrOf result RunError.WriteFault) }
+{
+    later_commands_change_none();
+    weight_never_falls();
+    if let Output::Report = plan.output {
+        let items = lane.report(alloc, last, plan.natives, packets, tail, out)?;
+        return Ok(VersionList { items });
+    }
+    let end = lane.finish_kept(alloc, last, plan.natives)?;
+    let records = end.records.as_slice();
+    let versions = version_of_each(alloc, records)?;
+    let totals = Totals {
+        packets,
+        records: records.len() as u64,
+        callbacks: end.callbacks,
+        drops: end.drops,
+        tail,
+    };
+    write_counts(alloc, plan.output, &totals, out)?;
+    Ok(VersionList { items: versions })
+}

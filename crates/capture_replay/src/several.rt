@@ -1,0 +1,212 @@
+//! The run of several workers.
+
+ghost use Rattle.std.specs.Prelude.{◌≡◌, ◌≤◌, ◌⊎◌, true, false, IfSome, IfErr, IsErrOf};
+ghost use Rattle.mos_bytes.specs.Outside.{Writes};
+ghost use Rattle.mos_bytes.specs.Writes.{WriteAdds};
+ghost use Rattle.lane_core.specs.KeptEnd.{shown_as};
+ghost use Rattle.capture_replay.specs.Apps.{meaning_of};
+ghost use Rattle.capture_replay.specs.Lanes.{RunsWith};
+ghost use Rattle.capture_replay.specs.Outcome.{closing, is_forward, output_of};
+ghost use Rattle.capture_replay.specs.Runs.{IsJob, Runs, RunsUnderSettings};
+
+use crate::chosen::Chosen;
+use crate::laws::what_one_worker_has_is_allowed;
+use crate::output::output_of;
+use crate::plan::{Crew, Plan};
+use crate::summary::write_summary;
+use crate::{Output, RunError, VersionList};
+use capture_maker::Maker;
+use control_script::Script;
+use forward_pool::forward_lanes;
+use lane_core::RecordUnderWay;
+use mos_bytes::{Sink, Source};
+use native_filters::NativeBook;
+use pcap_source::Capture;
+use report_text::Totals;
+use shared_text::write_report_by;
+use std::alloc::Global;
+use std::sync::Wait;
+use std::thread::Threads;
+use words::Settings;
+use worker_laws::runs::a_run_has_its_versions;
+use worker_pool::{Gate, Job, run_lanes_kept};
+
+// Writes what is written at the end. As many threads as there were workers share the making of a report's text.
+fn write_end_by<R: Threads + Sync, G, O: Sink>(
+    crew: &Crew<'_, R, G>,
+    alloc: Global,
+    plan: &Plan<'_>,
+    records: &[RecordUnderWay],
+    totals: &Totals,
+    out: &mut O,
+) -> Result<(), RunError>
+    requires some { 1 ≤ plan.now.workers }
+    ensures text { WriteAdds (O.taken out.old) (O.taken out.new) result
+        (closing plan.now.output (shown_as (meaning_of plan.now.app) records.now) totals.now) }
+    ensures silent { is_forward plan.now.output ≡ true → out.new ≡ out.old }
+    ensures only { IfErr result
+        (λ e. ((e ≡ RunError.WriteFault) × (is_forward plan.now.output ≡ false)) ⊎ (e ≡ RunError.NoMemory)) }
+    ensures to { Writes O.Sink out.old out.new (IsErrOf result RunError.WriteFault) }
+{
+    match plan.output {
+        Output::Report => {
+            write_report_by(
+                crew.rt,
+                alloc,
+                plan.workers,
+                &Chosen(plan.app),
+                out,
+                records,
+                totals,
+            )?;
+            Ok(())
+        }
+        Output::Forward => Ok(()),
+        Output::Summary(n) => write_summary(alloc, out, n, totals),
+    }
+}
+
+// Runs over a capture on the plan's lanes, and then writes what is written at the end.
+fn report_on<
+    R: Threads + Wait + Sync + Send + Copy + Drop + 'static,
+    S: Source,
+    O: Sink,
+    G: Gate + Sync,
+>(
+    crew: &Crew<'_, R, G>,
+    alloc: Global,
+    plan: &Plan<'_>,
+    source: &mut S,
+    out: &mut O,
+) -> Result<VersionList, RunError>
+    requires job { IsJob (meaning_of plan.now.app) plan.now.script.now plan.now.workers }
+    requires kept { is_forward plan.now.output ≡ false }
+    ensures ran { Runs S.Source O.Sink plan.now.output
+        (RunsWith (meaning_of plan.now.app) plan.now.script.now plan.now.workers plan.now.output)
+        source.old source.new out.old out.new result }
+{
+    a_run_has_its_versions();
+    what_one_worker_has_is_allowed();
+    let mut capture = Capture::open(source)?;
+    let job = Job {
+        app: Chosen(plan.app),
+        script: plan.script,
+        workers: plan.workers,
+    };
+    let end = run_lanes_kept(
+        crew.rt,
+        alloc,
+        &job,
+        &mut capture,
+        source,
+        plan.natives,
+        crew.gate,
+    )?;
+    write_end_by(crew, alloc, plan, end.records.as_slice(), &end.totals, out)?;
+    Ok(end.versions)
+}
+
+// Runs over a capture on the plan's lanes, and writes the capture without its dropped packets meanwhile.
+fn forward_on<
+    R: Threads + Wait + Sync + Send + Copy + Drop + 'static,
+    S: Source,
+    O: Sink,
+    G: Gate + Sync,
+>(
+    crew: &Crew<'_, R, G>,
+    alloc: Global,
+    plan: &Plan<'_>,
+    source: &mut S,
+    out: &mut O,
+) -> Result<VersionList, RunError>
+    requires job { IsJob (meaning_of plan.now.app) plan.now.script.now plan.now.workers }
+    requires forwards { is_forward plan.now.output ≡ true }
+    ensures ran { Runs S.Source O.Sink plan.now.output
+        (RunsWith (meaning_of plan.now.app) plan.now.script.now plan.now.workers plan.now.output)
+        source.old source.new out.old out.new result }
+{
+    a_run_has_its_versions();
+    what_one_worker_has_is_allowed();
+    let mut capture = Capture::open(source)?;
+    capture.write_header(out)?;
+    let job = Job {
+        app: Chosen(plan.app),
+        script: plan.script,
+        workers: plan.workers,
+    };
+    let versions = forward_lanes(
+        crew.rt,
+        alloc,
+        &job,
+        &mut capture,
+        source,
+        out,
+        plan.natives,
+        crew.gate,
+    )?;
+    Ok(versions)
+}
+
+// Runs over a capture on the plan's lanes.
+fn run_on<
+    R: Threads + Wait + Sync + Send + Copy + Drop + 'static,
+    S: Source,
+    O: Sink,
+    G: Gate + Sync,
+>(
+    crew: &Crew<'_, R, G>,
+    alloc: Global,
+    plan: &Plan<'_>,
+    source: &mut S,
+    out: &mut O,
+) -> Result<VersionList, RunError>
+    requires job { IsJob (meaning_of plan.now.app) plan.now.script.now plan.now.workers }
+    ensures ran { Runs S.Source O.Sink plan.now.output
+        (RunsWith (meaning_of plan.now.app) plan.now.script.now plan.now.workers plan.now.output)
+        source.old source.new out.old out.new result }
+{
+    if plan.output.is_forward() {
+        return forward_on(crew, alloc, plan, source, out);
+    }
+    report_on(crew, alloc, plan, source, out)
+}
+
+/// Replays a capture, or the one that is made, with the settings' workers, 1 to 16, each in a thread of its own, and writes
+/// what they ask for. Answers the version of each record, in order of name.
+///
+/// It asks a script that is lawful with the presets of the settings' application and in order, at most 100,000 connections
+/// to make. With a capture that is made, `capture` isn't read. At an `Err` `out` has gained a front of what was to be
+/// written; a report and a summary are written when the capture was read whole, a forwarded capture while it is read. It
+/// waits for its threads.
+pub fn run_several<
+    R: Threads + Wait + Sync + Send + Copy + Drop + 'static,
+    S: Source,
+    O: Sink,
+    G: Gate + Sync,
+>(
+    crew: &Crew<'_, R, G>,
+    alloc: Global,
+    settings: &Settings,
+    capture: &mut S,
+    script: &Script,
+    out: &mut O,
+    natives: &NativeBook,
+) -> Result<VersionList, RunError>
+    requires job { IsJob (meaning_of settings.now.app) script.now settings.now.workers }
+    requires few { IfSome settings.now.make (λ n. n ≤ 100000) }
+    ensures ran { RunsUnderSettings S.Source O.Sink settings.now
+        (RunsWith (meaning_of settings.now.app) script.now settings.now.workers (output_of settings.now))
+        capture.old capture.new out.old out.new result }
+{
+    let plan = Plan {
+        app: settings.app,
+        script,
+        natives,
+        output: output_of(settings),
+        workers: settings.workers,
+    };
+    match settings.make {
+        Some(n) => run_on(crew, alloc, &plan, &mut Maker::new(n), out),
+        None => run_on(crew, alloc, &plan, capture, out),
+    }
+}
