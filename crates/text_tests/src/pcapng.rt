@@ -56,16 +56,43 @@ const HEADER: &[u8] = &[
 // The record of the packet.
 const RECORD: &[u8] = &[0, 0, 0, 1, 0, 0, 0, 2, 0, 0, 0, 2, 0, 0, 0, 60, 7, 8];
 
+fn two(number: u16, is_big: bool) -> [u8; 2] {
+    if is_big {
+        number.to_be_bytes()
+    } else {
+        number.to_le_bytes()
+    }
+}
+
+fn four(number: u32, is_big: bool) -> [u8; 4] {
+    if is_big {
+        number.to_be_bytes()
+    } else {
+        number.to_le_bytes()
+    }
+}
+
+// Puts a field in either order of bytes.
+fn put_part(bytes: &mut Vec<u8>, is_big: bool, part: Part) -> Result<(), AllocError> {
+    match part {
+        Two(number) => bytes.extend_from_slice(&two(number, is_big)),
+        Four(number) => bytes.extend_from_slice(&four(number, is_big)),
+        Bytes(others) => bytes.extend_from_slice(others),
+    }
+}
+
 // Puts fields in either order of bytes.
 fn put(bytes: &mut Vec<u8>, is_big: bool, parts: &[Part]) -> Result<(), AllocError> {
     for part in parts {
-        match *part {
-            Two(number) if is_big => bytes.extend_from_slice(&number.to_be_bytes())?,
-            Two(number) => bytes.extend_from_slice(&number.to_le_bytes())?,
-            Four(number) if is_big => bytes.extend_from_slice(&number.to_be_bytes())?,
-            Four(number) => bytes.extend_from_slice(&number.to_le_bytes())?,
-            Bytes(others) => bytes.extend_from_slice(others)?,
-        }
+        put_part(bytes, is_big, *part)?;
+    }
+    Ok(())
+}
+
+// Puts blocks in either order of bytes.
+fn put_all(bytes: &mut Vec<u8>, is_big: bool, blocks: &[&[Part]]) -> Result<(), AllocError> {
+    for block in blocks {
+        put(bytes, is_big, block)?;
     }
     Ok(())
 }
@@ -73,43 +100,46 @@ fn put(bytes: &mut Vec<u8>, is_big: bool, parts: &[Part]) -> Result<(), AllocErr
 // A file of these blocks, in either order of bytes.
 fn file(alloc: Global, is_big: bool, blocks: &[&[Part]]) -> Result<Vec<u8>, AllocError> {
     let mut bytes = Vec::new(alloc);
-    for block in blocks {
-        put(&mut bytes, is_big, block)?;
-    }
+    put_all(&mut bytes, is_big, blocks)?;
     Ok(bytes)
 }
 
 // Lists of bytes, one behind the other.
 fn joined(alloc: Global, lists: &[&[u8]]) -> Result<Vec<u8>, AllocError> {
-    let mut bytes = Vec::new(alloc);
-    for list in lists {
-        bytes.extend_from_slice(list)?;
+    lists.concat(alloc)
+}
+
+// What is left of these bytes behind those that a read of up to 30 gives. None where it gives none or others.
+fn rest_of<'a, S: Source>(any: &mut AnySource<S>, want: &'a [u8]) -> Option<&'a [u8]> {
+    let mut buf = [0; 30];
+    let count = any.read(&mut buf).unwrap_or(0);
+    if count > 0 && buf.get(..count) == want.get(..count) {
+        want.get(count..)
+    } else {
+        None
     }
-    Ok(bytes)
+}
+
+// Whether the end or this refusal is reached.
+fn is_over<S: Source>(any: &mut AnySource<S>, fault: Option<NgFault>) -> bool {
+    let mut buf = [0; 30];
+    let end = if fault.is_some() { Err(Failed) } else { Ok(0) };
+    any.read(&mut buf) == end && any.fault() == fault && any.read(&mut buf) == end
 }
 
 // Whether reads of up to 30 bytes give these bytes, and then the end or this refusal.
 fn reads<S: Source>(any: &mut AnySource<S>, want: &[u8], fault: Option<NgFault>) -> bool {
-    let mut buf = [0; 30];
-    let mut at = 0;
-    for _ in 0..=want.len() {
-        match any.read(&mut buf) {
-            Ok(0) => return at == want.len() && fault.is_none() && any.fault().is_none(),
-            Ok(count) => {
-                if buf.get(..count) != want.get(at..).and_then(|rest| rest.get(..count)) {
-                    return false;
-                }
-                at = at.wrapping_add(count);
-            }
-            Err(Failed) => {
-                return at == want.len()
-                    && fault.is_some()
-                    && any.fault() == fault
-                    && any.read(&mut buf) == Err(Failed);
-            }
+    let mut rest = want;
+    for _ in 0..want.len() {
+        if rest.is_empty() {
+            break;
+        }
+        match rest_of(any, rest) {
+            Some(left) => rest = left,
+            None => return false,
         }
     }
-    false
+    rest.is_empty() && is_over(any, fault)
 }
 
 const PIECES: [usize; 3] = [1, 5, 4_096];
@@ -132,15 +162,14 @@ fn gives(
 
 // ---- refusals
 
-// A refusal so many bytes further on.
+// A refusal so many bytes further on, of those that one block alone brings about.
 fn moved(fault: NgFault, by: u64) -> NgFault {
     match fault {
-        NgFault::TooManyBlocks(offset) => NgFault::TooManyBlocks(offset.wrapping_add(by)),
         NgFault::BadBlock(offset) => NgFault::BadBlock(offset.wrapping_add(by)),
         NgFault::BadVersion(offset) => NgFault::BadVersion(offset.wrapping_add(by)),
-        NgFault::TooManyInterfaces(offset) => NgFault::TooManyInterfaces(offset.wrapping_add(by)),
         NgFault::BadLink(offset) => NgFault::BadLink(offset.wrapping_add(by)),
         NgFault::TooLong(offset) => NgFault::TooLong(offset.wrapping_add(by)),
+        others => others,
     }
 }
 
@@ -312,39 +341,35 @@ fn each_refusal_where_its_bytes_are_there(rt: HostRuntime) -> Result<(), Fail> {
     Ok(())
 }
 
-// A packet whose second total length differs is given for all that.
-#[test]
-fn a_refused_trailer_comes_behind_its_packet(rt: HostRuntime) -> Result<(), Fail> {
-    let Some((_, cut)) = PACKET.split_last() else {
-        return Ok(());
-    };
-    let bytes = file(rt.alloc(), true, &[SECTION, INTERFACE, cut, &[Four(32)]])?;
-    let want = joined(rt.alloc(), &[HEADER, RECORD])?;
-    assert!(rt; gives(rt.alloc(), &bytes, &want, Some(NgFault::BadBlock(48)))?);
-    Ok(())
-}
-
-// How many interfaces a section has, and why it is refused. A packet of the last one follows.
-const INTERFACES: &[(usize, Option<NgFault>)] = &[
-    (64, None),
-    (65, Some(NgFault::TooManyInterfaces(1308))),
+// How many interfaces a section has, what it gives, and why it is refused. A packet of the last one follows.
+const INTERFACES: &[(usize, &[&[u8]], Option<NgFault>)] = &[
+    (64, &[HEADER, RECORD], None),
+    (65, &[HEADER], Some(NgFault::TooManyInterfaces(1308))),
 ];
 
-fn has_interfaces(alloc: Global, count: usize, fault: Option<NgFault>) -> Result<bool, AllocError> {
-    let mut bytes = file(alloc, false, &[SECTION])?;
+fn put_interfaces(bytes: &mut Vec<u8>, count: usize) -> Result<(), AllocError> {
+    put(bytes, false, SECTION)?;
     for _ in 0..count {
-        put(&mut bytes, false, INTERFACE)?;
+        put(bytes, false, INTERFACE)?;
     }
-    put(&mut bytes, false, PACKET)?;
-    let record: &[u8] = if fault.is_none() { RECORD } else { &[] };
-    let want = joined(alloc, &[HEADER, record])?;
-    gives(alloc, &bytes, &want, fault)
+    put(bytes, false, PACKET)
+}
+
+fn has_interfaces(
+    alloc: Global,
+    count: usize,
+    given: &[&[u8]],
+    fault: Option<NgFault>,
+) -> Result<bool, AllocError> {
+    let mut bytes = Vec::new(alloc);
+    put_interfaces(&mut bytes, count)?;
+    gives(alloc, &bytes, &joined(alloc, given)?, fault)
 }
 
 #[test]
 fn a_section_has_64_interfaces(rt: HostRuntime) -> Result<(), Fail> {
-    for &(count, fault) in INTERFACES {
-        assert!(rt; has_interfaces(rt.alloc(), count, fault)?);
+    for &(count, given, fault) in INTERFACES {
+        assert!(rt; has_interfaces(rt.alloc(), count, given, fault)?);
     }
     Ok(())
 }
@@ -430,15 +455,67 @@ fn other_files_as_they_are(rt: HostRuntime) -> Result<(), Fail> {
     Ok(())
 }
 
-// A section in the other order begins anew: it has no interface of the one before.
+// ---- whole files
+
+// Blocks in either order of bytes.
+type Piece = (bool, &'static [&'static [Part]]);
+
+// The pieces of a file, what it gives, and why it is refused. A packet whose second total length differs is given for all
+// that. A section in the other order begins anew: it has no interface of the one before.
+const FILES: &[(&str, &[Piece], &[&[u8]], Option<NgFault>)] = &[
+    (
+        "a refused trailer behind its packet",
+        &[(
+            true,
+            &[
+                SECTION,
+                INTERFACE,
+                &[
+                    Four(6),
+                    Four(36),
+                    Four(0),
+                    Four(0),
+                    Four(1_000_002),
+                    Four(2),
+                    Four(60),
+                    Bytes(&[7, 8, 0, 0]),
+                    Four(32),
+                ],
+            ],
+        )],
+        &[HEADER, RECORD],
+        Some(NgFault::BadBlock(48)),
+    ),
+    (
+        "sections in both orders",
+        &[
+            (true, &[SECTION, INTERFACE, PACKET]),
+            (false, &[SECTION, INTERFACE, PACKET, SIMPLE]),
+            (true, &[SECTION, PACKET]),
+        ],
+        &[HEADER, RECORD, RECORD, SIMPLE_RECORD],
+        Some(NgFault::BadBlock(216)),
+    ),
+];
+
+fn is_file(
+    alloc: Global,
+    pieces: &[Piece],
+    given: &[&[u8]],
+    fault: Option<NgFault>,
+) -> Result<bool, AllocError> {
+    let mut bytes = Vec::new(alloc);
+    for &(is_big, blocks) in pieces {
+        put_all(&mut bytes, is_big, blocks)?;
+    }
+    gives(alloc, &bytes, &joined(alloc, given)?, fault)
+}
+
 #[test]
-fn sections_in_both_orders(rt: HostRuntime) -> Result<(), Fail> {
-    let big = file(rt.alloc(), true, &[SECTION, INTERFACE, PACKET])?;
-    let little = file(rt.alloc(), false, &[SECTION, INTERFACE, PACKET, SIMPLE])?;
-    let none = file(rt.alloc(), true, &[SECTION, PACKET])?;
-    let bytes = joined(rt.alloc(), &[&big, &little, &none])?;
-    let want = joined(rt.alloc(), &[HEADER, RECORD, RECORD, SIMPLE_RECORD])?;
-    assert!(rt; gives(rt.alloc(), &bytes, &want, Some(NgFault::BadBlock(216)))?);
+fn files_give_what_stands_before_their_refusal(rt: HostRuntime) -> Result<(), Fail> {
+    for &(name, pieces, given, fault) in FILES {
+        assert!(rt; is_file(rt.alloc(), pieces, given, fault)?, "{name}");
+    }
     Ok(())
 }
 
@@ -541,7 +618,31 @@ const TIMES: &[(&str, &[Part], u32, u32)] = &[
     ),
 ];
 
-// Whether a packet behind an interface with these options has this time.
+// An empty packet of sixty bytes at the time 5 * 2^48 + 7.
+const TIMED: &[Part] = &[
+    Four(6),
+    Four(32),
+    Four(0),
+    Four(0x5_0000),
+    Four(7),
+    Four(0),
+    Four(60),
+    Four(32),
+];
+
+// A file of this packet, behind an interface with these options.
+fn timed_file(alloc: Global, is_big: bool, options: &[Part]) -> Result<Vec<u8>, AllocError> {
+    let len = u32::try_from(file(alloc, is_big, &[options])?.len()).unwrap_or(0);
+    let size = len.wrapping_add(20);
+    let interface = [Four(1), Four(size), Two(1), Two(0), Four(0)];
+    file(
+        alloc,
+        is_big,
+        &[SECTION, &interface, options, &[Four(size)], TIMED],
+    )
+}
+
+// Whether the packet has this time.
 fn has_time(
     alloc: Global,
     is_big: bool,
@@ -549,33 +650,9 @@ fn has_time(
     seconds: u32,
     fraction: u32,
 ) -> Result<bool, AllocError> {
-    let size = match u32::try_from(file(alloc, is_big, &[options])?.len()) {
-        Ok(len) => len.wrapping_add(20),
-        Err(_) => return Ok(false),
-    };
-    let blocks: [&[Part]; 5] = [
-        SECTION,
-        &[Four(1), Four(size), Two(1), Two(0), Four(0)],
-        options,
-        &[Four(size)],
-        &[
-            Four(6),
-            Four(32),
-            Four(0),
-            Four(0x5_0000),
-            Four(7),
-            Four(0),
-            Four(60),
-            Four(32),
-        ],
-    ];
-    let bytes = file(alloc, is_big, &blocks)?;
-    let mut want = joined(alloc, &[HEADER])?;
-    put(
-        &mut want,
-        true,
-        &[Four(seconds), Four(fraction), Four(0), Four(60)],
-    )?;
+    let bytes = timed_file(alloc, is_big, options)?;
+    let record = [Four(seconds), Four(fraction), Four(0), Four(60)];
+    let want = file(alloc, true, &[&[Bytes(HEADER)], &record])?;
     gives(alloc, &bytes, &want, None)
 }
 
@@ -620,6 +697,42 @@ const HEAD: &[Part] = &[
 
 const RECORD_HEAD: &[u8] = &[0, 0, 0, 0, 0, 0, 0, 0, 0, 0, 0, 54, 0, 0, 0, 54];
 
+// The file of a handshake over this link type.
+fn handshake(alloc: Global, is_big: bool, link: u16) -> Result<Vec<u8>, AllocError> {
+    let interface = [
+        Four(1),
+        Four(20),
+        Two(link),
+        Two(0),
+        Four(262_144),
+        Four(20),
+    ];
+    let mut bytes = file(alloc, is_big, &[SECTION, &interface])?;
+    for packet in &PACKETS {
+        put_all(
+            &mut bytes,
+            is_big,
+            &[HEAD, &[Bytes(packet), Two(0), Four(88)]],
+        )?;
+    }
+    Ok(bytes)
+}
+
+// What the whole file gives.
+fn records(alloc: Global) -> Result<Vec<u8>, AllocError> {
+    let [first, second, third] = &PACKETS;
+    let lists: [&[u8]; 7] = [
+        HEADER,
+        RECORD_HEAD,
+        first,
+        RECORD_HEAD,
+        second,
+        RECORD_HEAD,
+        third,
+    ];
+    joined(alloc, &lists)
+}
+
 fn is_handshake(
     alloc: Global,
     is_big: bool,
@@ -628,32 +741,16 @@ fn is_handshake(
     given: usize,
     fault: Option<NgFault>,
 ) -> Result<bool, AllocError> {
-    let interface = &[
-        Four(1),
-        Four(20),
-        Two(link),
-        Two(0),
-        Four(262_144),
-        Four(20),
-    ];
-    let mut bytes = file(alloc, is_big, &[SECTION, interface])?;
-    let mut want = joined(alloc, &[HEADER])?;
-    for packet in &PACKETS {
-        put(&mut bytes, is_big, HEAD)?;
-        bytes.extend_from_slice(packet)?;
-        put(&mut bytes, is_big, &[Two(0), Four(88)])?;
-        want.extend_from_slice(RECORD_HEAD)?;
-        want.extend_from_slice(packet)?;
+    let bytes = handshake(alloc, is_big, link)?;
+    if bytes.len() != 312 {
+        return Ok(false);
     }
-    let len = bytes.len().saturating_sub(left_out);
-    Ok(
-        bytes.len() == 312
-            && gives(
-                alloc,
-                bytes.get(..len).unwrap_or(&[]),
-                want.get(..given).unwrap_or(&[]),
-                fault,
-            )?,
+    let want = records(alloc)?;
+    gives(
+        alloc,
+        bytes.get(..312_usize.wrapping_sub(left_out)).unwrap_or(&[]),
+        want.get(..given).unwrap_or(&[]),
+        fault,
     )
 }
 
