@@ -88,6 +88,14 @@ const FIRST_LINES: &[(&str, &str)] = &[
     ("no tail", "end packets 3 records 1 callbacks 6 drops 0"),
 ];
 
+#[test]
+fn first_lines_that_are_none(rt: HostRuntime) -> Result<(), Fail> {
+    for &(name, line) in FIRST_LINES {
+        assert!(rt; is_refused(rt.alloc(), "", line, 0)?, "{name}");
+    }
+    Ok(())
+}
+
 const CONNECTION: &str = "conn 3 10.0.0.1:1000 > 10.0.0.2:80 v 2\n";
 
 const LINES: &[(&str, &str)] = &[
@@ -124,52 +132,40 @@ const LINES: &[(&str, &str)] = &[
     ("an earlier orphan", "orphan 2 tcp v 5"),
 ];
 
+// Behind the 39 bytes of a connection's first line.
+#[test]
+fn lines_of_a_record_that_are_none(rt: HostRuntime) -> Result<(), Fail> {
+    for &(name, line) in LINES {
+        assert!(rt; is_refused(rt.alloc(), CONNECTION, line, 39)?, "{name}");
+    }
+    Ok(())
+}
+
 const DROPPED: &str = "conn 3 10.0.0.1:1000 > 10.0.0.2:80 v 2\ndrop 3 reg 16\n";
 
 const COUNTED: &str = "conn 3 10.0.0.1:1000 > 10.0.0.2:80 v 2\nfield up_pkts 5\n";
 
 const ORPHAN: &str = "orphan 9 tcp v 5\n";
 
-const BEHIND_A_DROP: &[(&str, &str)] = &[
-    ("a packet dropped twice", "drop 3 rule 0"),
-    ("drops out of order", "drop 2 rule 0"),
-    ("a callback behind a drop", "cb 3 snd 7 16"),
-];
-
-const BEHIND_A_FIELD: &[(&str, &str)] = &[
-    ("a drop behind a field", "drop 4 reg 1"),
-    ("a callback behind a field", "cb 3 snd 7 16"),
-];
-
-const BEHIND_AN_ORPHAN: &[(&str, &str)] = &[("a field of an orphan", "field up_pkts 5")];
-
-const BEHIND_THE_TOTALS: &[(&str, &str)] = &[
-    ("an orphan behind the totals", "orphan 9 tcp v 5"),
-    ("a callback behind the totals", "cb 3 snd 7 16"),
-    ("a drop behind the totals", "drop 4 reg 1"),
-    ("an empty line behind the totals", ""),
-];
-
-// What stands before a line, where the line begins, and lines that can't stand there: behind the first line of a connection
-// (39 bytes), a drop (14 bytes more), a field (16 more), an orphan (17), and the totals (51).
-const REFUSED: &[(&str, u64, &[(&str, &str)])] = &[
-    ("", 0, FIRST_LINES),
-    (CONNECTION, 39, LINES),
-    (DROPPED, 53, BEHIND_A_DROP),
-    (COUNTED, 55, BEHIND_A_FIELD),
-    (ORPHAN, 17, BEHIND_AN_ORPHAN),
-    (END, 51, BEHIND_THE_TOTALS),
+// What stands before the line, the line, and where it begins: behind a drop (39 + 14 bytes), behind a field (39 + 16),
+// behind an orphan (17), and behind the totals (51).
+const ORDER: &[(&str, &str, &str, u64)] = &[
+    ("a packet dropped twice", DROPPED, "drop 3 rule 0", 53),
+    ("drops out of order", DROPPED, "drop 2 rule 0", 53),
+    ("a callback behind a drop", DROPPED, "cb 3 snd 7 16", 53),
+    ("a drop behind a field", COUNTED, "drop 4 reg 1", 55),
+    ("a callback behind a field", COUNTED, "cb 3 snd 7 16", 55),
+    ("a field of an orphan", ORPHAN, "field up_pkts 5", 17),
+    ("an orphan behind the totals", END, "orphan 9 tcp v 5", 51),
+    ("a callback behind the totals", END, "cb 3 snd 7 16", 51),
+    ("a drop behind the totals", END, "drop 4 reg 1", 51),
+    ("an empty line behind the totals", END, "", 51),
 ];
 
 #[test]
-fn lines_that_can_not_stand_there(rt: HostRuntime) -> Result<(), Fail> {
-    for &(front, offset, rows) in REFUSED {
-        for &(name, line) in rows {
-            assert!(rt;
-                is_refused(rt.alloc(), front, line, offset)?,
-                "{name}, at {offset}"
-            );
-        }
+fn lines_out_of_their_order(rt: HostRuntime) -> Result<(), Fail> {
+    for &(name, front, line, offset) in ORDER {
+        assert!(rt; is_refused(rt.alloc(), front, line, offset)?, "{name}");
     }
     Ok(())
 }
