@@ -1,4 +1,4 @@
-//! Files in the pcapng form: what they give, in any cut of reads, and which blocks are refused.
+//! Files in the pcapng form: what they give, in any cut of reads.
 
 use crate::captures::PACKETS;
 use mos_bytes::{Failed, MemSource, Source};
@@ -8,7 +8,7 @@ use std::test::Fail;
 
 // A field of a block, in the byte order of its section; or bytes as they are.
 #[derive(Clone, Copy)]
-enum Part {
+pub(crate) enum Part {
     Two(u16),
     Four(u32),
     Bytes(&'static [u8]),
@@ -16,12 +16,12 @@ enum Part {
 
 use Part::{Bytes, Four, Two};
 
-const MAGIC: Part = Four(0x1a2b_3c4d);
+pub(crate) const MAGIC: Part = Four(0x1a2b_3c4d);
 
-const SECTION_TYPE: Part = Four(0x0a0d_0d0a);
+pub(crate) const SECTION_TYPE: Part = Four(0x0a0d_0d0a);
 
 // Version 1.0, of unknown length.
-const SECTION: &[Part] = &[
+pub(crate) const SECTION: &[Part] = &[
     SECTION_TYPE,
     Four(28),
     MAGIC,
@@ -33,10 +33,10 @@ const SECTION: &[Part] = &[
 ];
 
 // Ethernet, with no limit on lengths.
-const INTERFACE: &[Part] = &[Four(1), Four(20), Two(1), Two(0), Four(0), Four(20)];
+pub(crate) const INTERFACE: &[Part] = &[Four(1), Four(20), Two(1), Two(0), Four(0), Four(20)];
 
 // Two bytes of sixty, at time 1.000002.
-const PACKET: &[Part] = &[
+pub(crate) const PACKET: &[Part] = &[
     Four(6),
     Four(36),
     Four(0),
@@ -49,12 +49,12 @@ const PACKET: &[Part] = &[
 ];
 
 // The global header of each classic form.
-const HEADER: &[u8] = &[
+pub(crate) const HEADER: &[u8] = &[
     0xa1, 0xb2, 0xc3, 0xd4, 0, 2, 0, 4, 0, 0, 0, 0, 0, 0, 0, 0, 0, 4, 0, 0, 0, 0, 0, 1,
 ];
 
 // The record of the packet.
-const RECORD: &[u8] = &[0, 0, 0, 1, 0, 0, 0, 2, 0, 0, 0, 2, 0, 0, 0, 60, 7, 8];
+pub(crate) const RECORD: &[u8] = &[0, 0, 0, 1, 0, 0, 0, 2, 0, 0, 0, 2, 0, 0, 0, 60, 7, 8];
 
 fn two(number: u16, is_big: bool) -> [u8; 2] {
     if is_big {
@@ -82,7 +82,7 @@ fn put_part(bytes: &mut Vec<u8>, is_big: bool, part: Part) -> Result<(), AllocEr
 }
 
 // Puts fields in either order of bytes.
-fn put(bytes: &mut Vec<u8>, is_big: bool, parts: &[Part]) -> Result<(), AllocError> {
+pub(crate) fn put(bytes: &mut Vec<u8>, is_big: bool, parts: &[Part]) -> Result<(), AllocError> {
     for part in parts {
         put_part(bytes, is_big, *part)?;
     }
@@ -98,14 +98,14 @@ fn put_all(bytes: &mut Vec<u8>, is_big: bool, blocks: &[&[Part]]) -> Result<(), 
 }
 
 // A file of these blocks, in either order of bytes.
-fn file(alloc: Global, is_big: bool, blocks: &[&[Part]]) -> Result<Vec<u8>, AllocError> {
+pub(crate) fn file(alloc: Global, is_big: bool, blocks: &[&[Part]]) -> Result<Vec<u8>, AllocError> {
     let mut bytes = Vec::new(alloc);
     put_all(&mut bytes, is_big, blocks)?;
     Ok(bytes)
 }
 
 // Lists of bytes, one behind the other.
-fn joined(alloc: Global, lists: &[&[u8]]) -> Result<Vec<u8>, AllocError> {
+pub(crate) fn joined(alloc: Global, lists: &[&[u8]]) -> Result<Vec<u8>, AllocError> {
     lists.concat(alloc)
 }
 
@@ -145,7 +145,7 @@ fn reads<S: Source>(any: &mut AnySource<S>, want: &[u8], fault: Option<NgFault>)
 const PIECES: [usize; 3] = [1, 5, 4_096];
 
 // Whether a file gives these bytes, and then the end or this refusal, in pieces of each of three lengths.
-fn gives(
+pub(crate) fn gives(
     alloc: Global,
     file: &[u8],
     want: &[u8],
@@ -158,220 +158,6 @@ fn gives(
         }
     }
     Ok(true)
-}
-
-// ---- refusals
-
-// A refusal so many bytes further on, of those that one block alone brings about.
-fn moved(fault: NgFault, by: u64) -> NgFault {
-    match fault {
-        NgFault::BadBlock(offset) => NgFault::BadBlock(offset.wrapping_add(by)),
-        NgFault::BadVersion(offset) => NgFault::BadVersion(offset.wrapping_add(by)),
-        NgFault::BadLink(offset) => NgFault::BadLink(offset.wrapping_add(by)),
-        NgFault::TooLong(offset) => NgFault::TooLong(offset.wrapping_add(by)),
-        others => others,
-    }
-}
-
-// Blocks behind a section header and an interface. The last one is refused at its last byte, and no earlier; the offset is
-// that behind the first two.
-const REFUSED: &[(&str, &[Part], NgFault)] = &[
-    (
-        "a total length that is no multiple of 4",
-        &[Four(5), Four(13)],
-        NgFault::BadBlock(0),
-    ),
-    (
-        "a total length of 8",
-        &[Four(5), Four(8)],
-        NgFault::BadBlock(0),
-    ),
-    (
-        "a total length of 2^24 and 4",
-        &[Four(5), Four(16_777_220)],
-        NgFault::BadBlock(0),
-    ),
-    (
-        "an obsolete packet of 8 bytes",
-        &[Four(2), Four(8)],
-        NgFault::BadBlock(0),
-    ),
-    (
-        "a section of 24 bytes",
-        &[SECTION_TYPE, Four(24), MAGIC],
-        NgFault::BadBlock(0),
-    ),
-    (
-        "a magic number that is none",
-        &[SECTION_TYPE, Four(28), Four(0x1a2b_3c4e)],
-        NgFault::BadBlock(0),
-    ),
-    (
-        "version 2",
-        &[SECTION_TYPE, Four(28), MAGIC, Two(2)],
-        NgFault::BadVersion(0),
-    ),
-    (
-        "an interface of 16 bytes",
-        &[Four(1), Four(16)],
-        NgFault::BadBlock(0),
-    ),
-    (
-        "a simple packet of 12 bytes",
-        &[Four(3), Four(12)],
-        NgFault::BadBlock(0),
-    ),
-    (
-        "an enhanced packet of 28 bytes",
-        &[Four(6), Four(28)],
-        NgFault::BadBlock(0),
-    ),
-    (
-        "an interface that isn't there",
-        &[Four(6), Four(32), Four(1)],
-        NgFault::BadBlock(0),
-    ),
-    (
-        "no interface",
-        &[
-            SECTION_TYPE,
-            Four(28),
-            MAGIC,
-            Two(1),
-            Two(0),
-            Four(0),
-            Four(0),
-            Four(28),
-            Four(3),
-            Four(16),
-        ],
-        NgFault::BadBlock(28),
-    ),
-    (
-        "a link type of 113",
-        &[
-            Four(1),
-            Four(20),
-            Two(113),
-            Two(0),
-            Four(0),
-            Four(20),
-            Four(6),
-            Four(32),
-            Four(1),
-        ],
-        NgFault::BadLink(20),
-    ),
-    (
-        "262,145 captured bytes",
-        &[Four(6), Four(32), Four(0), Four(0), Four(0), Four(262_145)],
-        NgFault::TooLong(0),
-    ),
-    (
-        "a simple packet of 262,145 bytes",
-        &[Four(3), Four(16), Four(262_145)],
-        NgFault::TooLong(0),
-    ),
-    (
-        "data past the block",
-        &[Four(6), Four(36), Four(0), Four(0), Four(0), Four(5)],
-        NgFault::BadBlock(0),
-    ),
-    (
-        "simple data past the block",
-        &[Four(3), Four(20), Four(5)],
-        NgFault::BadBlock(0),
-    ),
-    (
-        "two total lengths",
-        &[Four(5), Four(16), Four(0), Four(12)],
-        NgFault::BadBlock(0),
-    ),
-];
-
-// Whether a block is refused behind these blocks, which give these bytes, and not yet one byte before its end.
-fn is_refused(
-    alloc: Global,
-    is_big: bool,
-    before: &[&[Part]],
-    block: &[Part],
-    want: &[u8],
-    fault: NgFault,
-) -> Result<bool, AllocError> {
-    let mut bytes = file(alloc, is_big, before)?;
-    let fault = moved(fault, bytes.len() as u64);
-    put(&mut bytes, is_big, block)?;
-    let short = bytes.len().saturating_sub(1);
-    Ok(
-        gives(alloc, &bytes, want, Some(fault))?
-            && gives(alloc, bytes.get(..short).unwrap_or(&[]), want, None)?,
-    )
-}
-
-fn is_refused_anywhere(
-    alloc: Global,
-    is_big: bool,
-    block: &[Part],
-    fault: NgFault,
-) -> Result<bool, AllocError> {
-    let one = joined(alloc, &[HEADER, RECORD])?;
-    Ok(
-        is_refused(alloc, is_big, &[SECTION, INTERFACE], block, HEADER, fault)?
-            && is_refused(
-                alloc,
-                is_big,
-                &[SECTION, INTERFACE, PACKET],
-                block,
-                &one,
-                fault,
-            )?,
-    )
-}
-
-#[test]
-fn each_refusal_where_its_bytes_are_there(rt: HostRuntime) -> Result<(), Fail> {
-    for &(name, block, fault) in REFUSED {
-        for is_big in [true, false] {
-            assert!(rt;
-                is_refused_anywhere(rt.alloc(), is_big, block, fault)?,
-                "{name}"
-            );
-        }
-    }
-    Ok(())
-}
-
-// How many interfaces a section has, what it gives, and why it is refused. A packet of the last one follows.
-const INTERFACES: &[(usize, &[&[u8]], Option<NgFault>)] = &[
-    (64, &[HEADER, RECORD], None),
-    (65, &[HEADER], Some(NgFault::TooManyInterfaces(1308))),
-];
-
-fn put_interfaces(bytes: &mut Vec<u8>, count: usize) -> Result<(), AllocError> {
-    put(bytes, false, SECTION)?;
-    for _ in 0..count {
-        put(bytes, false, INTERFACE)?;
-    }
-    put(bytes, false, PACKET)
-}
-
-fn has_interfaces(
-    alloc: Global,
-    count: usize,
-    given: &[&[u8]],
-    fault: Option<NgFault>,
-) -> Result<bool, AllocError> {
-    let mut bytes = Vec::new(alloc);
-    put_interfaces(&mut bytes, count)?;
-    gives(alloc, &bytes, &joined(alloc, given)?, fault)
-}
-
-#[test]
-fn a_section_has_64_interfaces(rt: HostRuntime) -> Result<(), Fail> {
-    for &(count, given, fault) in INTERFACES {
-        assert!(rt; has_interfaces(rt.alloc(), count, given, fault)?);
-    }
-    Ok(())
 }
 
 // ---- files that are cut
@@ -651,8 +437,14 @@ fn has_time(
     fraction: u32,
 ) -> Result<bool, AllocError> {
     let bytes = timed_file(alloc, is_big, options)?;
-    let record = [Four(seconds), Four(fraction), Four(0), Four(60)];
-    let want = file(alloc, true, &[&[Bytes(HEADER)], &record])?;
+    let parts = [
+        Bytes(HEADER),
+        Four(seconds),
+        Four(fraction),
+        Four(0),
+        Four(60),
+    ];
+    let want = file(alloc, true, &[&parts])?;
     gives(alloc, &bytes, &want, None)
 }
 
