@@ -21,20 +21,33 @@ pub enum Presets {
     Rexmit,
 }
 
+#[tactic(auto, unfolding(app_api::specs::Log::log, app_api::specs::Events::allows_hook))]
+fn log_presets(alloc: Global) -> Result<Vec<Reg>, AllocError>
+    ensures { IfOk result (λ presets. IsTrue (are_presets presets.items)) }
+{
+    presets_of(alloc, &LogApp)
+}
+
+#[tactic(auto, unfolding(app_traffic::specs::Rexmit::rexmit, app_api::specs::Events::allows_hook))]
+fn rexmit_presets(alloc: Global) -> Result<Vec<Reg>, AllocError>
+    ensures { IfOk result (λ presets. IsTrue (are_presets presets.items)) }
+{
+    presets_of(alloc, &RexmitApp)
+}
+
 /// The presets of an application.
-#[tactic(auto, unfolding(app_api::specs::Log::log, app_traffic::specs::Rexmit::rexmit, app_api::specs::Events::allows_hook))]
 pub fn first_presets(alloc: Global, whose: Presets) -> Result<Vec<Reg>, AllocError>
     ensures { IfOk result (λ presets. IsTrue (are_presets presets.items)) }
 {
     match whose {
-        Presets::Log => presets_of(alloc, &LogApp),
-        Presets::Rexmit => presets_of(alloc, &RexmitApp),
+        Presets::Log => log_presets(alloc),
+        Presets::Rexmit => rexmit_presets(alloc),
     }
 }
 
 /// The script that a text is, for the presets of the log application.
 pub fn script_of(alloc: Global, text: &str) -> Result<Script, ScriptError> {
-    let presets = first_presets(alloc, Presets::Log)?;
+    let presets = log_presets(alloc)?;
     parse_script(alloc, text.as_bytes(), &presets)
 }
 

@@ -100,16 +100,24 @@ fn some_regs(alloc: Global, defs: &Defs, random: &mut Random) -> Result<Vec<Reg>
     Ok(regs)
 }
 
+// How many events are on the path of an event, itself included.
+fn depth_of(defs: &Defs, event: u16) -> usize {
+    match defs.root_of(event) {
+        Some((_, len)) => usize::from(len),
+        None => 0,
+    }
+}
+
 // The path of an event, from its root on, and zeros behind it.
 fn path_of(defs: &Defs, event: u16) -> [u16; 8] {
     let mut path = [0; 8];
     let mut event = event;
-    for _ in 0..8 {
-        let [first, second, third, fourth, fifth, sixth, seventh, _] = path;
-        path = [event, first, second, third, fourth, fifth, sixth, seventh];
-        match defs.find(event) {
-            Some(def) => event = def.parent,
-            None => break,
+    for place in (0..depth_of(defs, event)).rev() {
+        if let Some(step) = path.get_mut(place) {
+            *step = event;
+        }
+        if let Some(def) = defs.find(event) {
+            event = def.parent;
         }
     }
     path

@@ -166,17 +166,40 @@ fn users_find_the_trees_of_others(rt: HostRuntime) {
     }
 }
 
-// The rows of two trees that a new user puts in, one after the other.
+// The row of a tree that a user puts in.
+fn row_of<R: Wait>(
+    alloc: Global,
+    user: &mut StoreUser<R>,
+    number: u8,
+) -> Result<usize, AllocError> {
+    let shared = user.intern(alloc, leaf(alloc, 257, number)?)?;
+    Ok(shared.row())
+}
+
+// The rows of two trees, one put in after the other.
+fn both_rows<R: Wait>(
+    alloc: Global,
+    user: &mut StoreUser<R>,
+    numbers: (u8, u8),
+) -> Result<(usize, usize), AllocError> {
+    let first = row_of(alloc, user, numbers.0)?;
+    let second = row_of(alloc, user, numbers.1)?;
+    Ok((first, second))
+}
+
+// The same by a new user.
 fn rows_of<R: Wait + Drop>(
     rt: R,
     alloc: Global,
     store: Arc<ForestStore, Global>,
     numbers: (u8, u8),
 ) -> Result<(usize, usize), AllocError> {
-    let mut user = StoreUser::new(store, rt);
-    let first = user.intern(alloc, leaf(alloc, 257, numbers.0)?)?;
-    let second = user.intern(alloc, leaf(alloc, 257, numbers.1)?)?;
-    Ok((first.row(), second.row()))
+    both_rows(alloc, &mut StoreUser::new(store, rt), numbers)
+}
+
+// Whether two pairs of rows are one, in opposite orders.
+fn are_opposite(forth: (usize, usize), back: (usize, usize)) -> bool {
+    forth.0 == back.1 && forth.1 == back.0 && forth.0 != forth.1
 }
 
 // Whether two threads that put in two trees in opposite orders get one pair of rows.
@@ -191,9 +214,7 @@ fn threads_agree<R: Threads + Wait + Sync + Send + Copy + Drop>(
         move || rows_of(rt, alloc, store, (1, 2)),
         move || rows_of(rt, alloc, other, (2, 1)),
     );
-    let (first, second) = forth?;
-    let (last, before) = back?;
-    Ok(first == before && second == last && first != second)
+    Ok(are_opposite(forth?, back?))
 }
 
 #[test]

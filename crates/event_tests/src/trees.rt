@@ -109,10 +109,29 @@ pub fn regs_of(alloc: Global, rows: &[RegRow]) -> Result<Vec<Reg>, AllocError> {
     Ok(regs)
 }
 
+fn is_node(node: &Node, row: NodeRow) -> bool {
+    let (event, depth, below, first, count) = row;
+    *node
+        == Node {
+            event,
+            depth,
+            below,
+            first,
+            count,
+        }
+}
+
 fn are_nodes(nodes: &[Node], rows: &[NodeRow]) -> bool {
     nodes.len() == rows.len()
-        && nodes.iter().zip(rows).all(|(n, row)| (n.event, n.depth, n.below, n.first, n.count)
-            == *row)
+        && nodes
+            .iter()
+            .zip(rows)
+            .all(|(node, row)| is_node(node, *row))
+}
+
+fn is_slot(slot: &Slot, row: RegRow) -> bool {
+    let (number, _, hook) = row;
+    *slot == Slot { number, hook }
 }
 
 fn are_slots(slots: &[Slot], rows: &[RegRow]) -> bool {
@@ -120,7 +139,7 @@ fn are_slots(slots: &[Slot], rows: &[RegRow]) -> bool {
         && slots
             .iter()
             .zip(rows)
-            .all(|(slot, row)| slot.number == row.0 && slot.hook == row.2)
+            .all(|(slot, row)| is_slot(slot, *row))
 }
 
 // Whether a tree has these nodes, and these registrations in their order.
@@ -147,28 +166,44 @@ fn edits_lead_to(alloc: Global, table: &mut Table, defs: &Defs, regs: &[Reg], ro
     }
 }
 
-// Whether a list has this tree: by `build`, and by edits in either order.
-fn list_has_tree(alloc: Global, defs: &Defs, rows: &[RegRow], nodes: &[NodeRow]) -> bool {
+// Whether a list has this tree by `build`, and edits lead to it in the order of the list and in the other.
+fn regs_have_tree(
+    alloc: Global,
+    defs: &Defs,
+    regs: &[Reg],
+    others: &[Reg],
+    rows: &[RegRow],
+    nodes: &[NodeRow],
+) -> bool {
     let mut table = Table::new(alloc);
-    let Ok(mut regs) = regs_of(alloc, rows) else {
-        return false;
-    };
-    let Some(whole) = built(alloc, &mut table, defs, &regs) else {
-        return false;
-    };
-    if !is_tree(table.tree_of(&whole.shared), rows, nodes) {
-        return false;
+    match built(alloc, &mut table, defs, regs) {
+        Some(whole) => {
+            let row = whole.shared.row();
+            is_tree(table.tree_of(&whole.shared), rows, nodes)
+                && edits_lead_to(alloc, &mut table, defs, regs, row)
+                && edits_lead_to(alloc, &mut table, defs, others, row)
+        }
+        None => false,
     }
-    let row = whole.shared.row();
-    let forth = edits_lead_to(alloc, &mut table, defs, &regs, row);
-    regs.reverse();
-    forth && edits_lead_to(alloc, &mut table, defs, &regs, row)
+}
+
+fn list_has_tree(
+    alloc: Global,
+    defs: &Defs,
+    rows: &[RegRow],
+    nodes: &[NodeRow],
+) -> Result<bool, AllocError> {
+    let regs = regs_of(alloc, rows)?;
+    let mut others = regs_of(alloc, rows)?;
+    others.reverse();
+    Ok(regs_have_tree(alloc, defs, &regs, &others, rows, nodes))
 }
 
 // Whether a list of these events' registrations has this tree.
 fn has_tree(alloc: Global, events: &[EventRow], rows: &[RegRow], nodes: &[NodeRow]) -> bool {
     let mut defs = Defs::new(alloc);
-    define_all(alloc, &mut defs, events) && list_has_tree(alloc, &defs, rows, nodes)
+    define_all(alloc, &mut defs, events)
+        && list_has_tree(alloc, &defs, rows, nodes).unwrap_or(false)
 }
 
 #[test]

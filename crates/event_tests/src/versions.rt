@@ -4,9 +4,9 @@ ghost use Rattle.shared_forest.specs.Rows.{HasRow};
 
 use crate::masters::{Presets, master_after};
 use app_api::{END, PKT_IN, Reg, Rule, TIMER};
-use event_trees::EventDef;
+use event_trees::{Defs, EventDef};
 use filter_lang::parse;
-use forest_versions::{Command, Master, Refusal};
+use forest_versions::{Command, Control, Master, Refusal};
 use native_filters::Hook::{self, Rcv, Snd};
 use shared_forest::{ForestView, Slot, Table};
 use std::alloc::{AllocError, Global};
@@ -121,6 +121,10 @@ const SCRIPTS: &[(&str, &str, &[&str; 13], &[u8], usize, u64)] = &[
     ),
 ];
 
+fn push_reg(alloc: Global, text: &mut String, reg: &Reg) -> Result<(), AllocError> {
+    text.push_str(&format!(in alloc; "{}:{} ", reg.number, reg.event)?)
+}
+
 // Adds the registrations that are in force at a version.
 fn push_regs(
     alloc: Global,
@@ -130,7 +134,7 @@ fn push_regs(
 ) -> Result<(), AllocError> {
     for number in 0..=u8::MAX {
         if let Some(reg) = master.reg_at(version, number) {
-            text.push_str(&format!(in alloc; "{}:{} ", reg.number, reg.event)?)?;
+            push_reg(alloc, text, reg)?;
         }
     }
     Ok(())
@@ -376,15 +380,20 @@ fn command_of(alloc: Global, judged: Judged) -> Option<Command> {
 
 // Whether a command is judged so by what is in force.
 fn is_judged_by(
-    master: &Master,
+    control: &Control,
     command: &Command,
     refusal: Option<Refusal>,
     is_lawful: bool,
 ) -> bool {
-    let control = master.control();
-    control.refusal(command) == refusal
-        && control.is_lawful(command) == is_lawful
-        && master.defs().root_of(7) == Some((PKT_IN, 8))
+    control.refusal(command) == refusal && control.is_lawful(command) == is_lawful
+}
+
+// Whether event 7 is the last of a path of eight.
+fn has_longest_path(defs: &Defs) -> bool {
+    match defs.root_of(7) {
+        Some((root, len)) => root == PKT_IN && len == 8,
+        None => false,
+    }
 }
 
 // The same where these commands came before it.
@@ -396,7 +405,10 @@ fn is_judged_behind(
 ) -> bool {
     let mut table = Table::new(alloc);
     match master_after(alloc, &mut table, Presets::Log, BEFORE) {
-        Some(master) => is_judged_by(&master, command, refusal, is_lawful),
+        Some(master) => {
+            is_judged_by(master.control(), command, refusal, is_lawful)
+                && has_longest_path(master.defs())
+        }
         None => false,
     }
 }

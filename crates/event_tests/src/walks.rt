@@ -4,7 +4,7 @@ use crate::definitions::{EventRow, define_all};
 use crate::forests::built;
 use crate::natives::next_of;
 use crate::trees::{FALSE_CHAIN, RegRow, regs_of};
-use app_api::{END, PKT_IN};
+use app_api::{END, PKT_IN, Reg};
 use event_trees::{Defs, Walk};
 use native_filters::Facts;
 use native_filters::Hook::{self, Rcv, Snd};
@@ -86,20 +86,17 @@ pub fn gives(
     next_of(&mut walk, defs).is_none()
 }
 
-// Whether a raise of pkt_in calls these of a list.
-fn list_calls(
+// Whether a raise of pkt_in calls these of some registrations.
+fn regs_call(
     alloc: Global,
     defs: &Defs,
-    rows: &[RegRow],
+    regs: &[Reg],
     hook: Hook,
     len: u64,
     numbers: &[u8],
 ) -> bool {
     let mut table = Table::new(alloc);
-    let Ok(regs) = regs_of(alloc, rows) else {
-        return false;
-    };
-    match built(alloc, &mut table, defs, &regs) {
+    match built(alloc, &mut table, defs, regs) {
         Some(forest) => gives(
             defs,
             table.tree_of(&forest.shared),
@@ -109,6 +106,21 @@ fn list_calls(
             numbers,
         ),
         None => false,
+    }
+}
+
+// Whether it calls these of a list.
+fn list_calls(
+    alloc: Global,
+    defs: &Defs,
+    rows: &[RegRow],
+    hook: Hook,
+    len: u64,
+    numbers: &[u8],
+) -> bool {
+    match regs_of(alloc, rows) {
+        Ok(regs) => regs_call(alloc, defs, &regs, hook, len, numbers),
+        Err(_) => false,
     }
 }
 

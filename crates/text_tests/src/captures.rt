@@ -59,13 +59,9 @@ fn handshake(
     head: &[u8],
     tail: &[u8],
 ) -> Result<Vec<u8>, AllocError> {
-    let mut bytes = header.to_vec(alloc)?;
-    for packet in &PACKETS {
-        bytes.extend_from_slice(head)?;
-        bytes.extend_from_slice(packet)?;
-    }
-    bytes.extend_from_slice(tail)?;
-    Ok(bytes)
+    let [first, second, third] = &PACKETS;
+    let pieces: [&[u8]; 8] = [header, head, first, head, second, head, third, tail];
+    pieces.concat(alloc)
 }
 
 // How many records are read, and the answer behind them.
@@ -131,7 +127,16 @@ fn the_handshake_in_four_forms(rt: HostRuntime) -> Result<(), Fail> {
     Ok(())
 }
 
-// Whether the next record is this packet, with the numbers of the heads above.
+// Whether a record is this packet, with the numbers of the heads above.
+fn is_packet(frame: &Frame, head: &[u8], packet: &[u8]) -> bool {
+    frame.seconds == 0x0102_0304
+        && frame.fraction == 0x0506_0708
+        && frame.original == 60
+        && frame.head.as_slice() == head
+        && frame.bytes.as_slice() == packet
+}
+
+// Whether the next record is this packet.
 fn gives<S: Source>(
     capture: &mut Capture,
     source: &mut S,
@@ -141,9 +146,7 @@ fn gives<S: Source>(
 ) -> bool {
     capture.is_live()
         && capture.next(source, frame) == Ok(Step::Frame)
-        && (frame.seconds, frame.fraction, frame.original) == (0x0102_0304, 0x0506_0708, 60)
-        && frame.head.as_slice() == head
-        && frame.bytes.as_slice() == packet
+        && is_packet(frame, head, packet)
 }
 
 // Whether a capture, of which a read gives at most so many bytes, has the three packets.
@@ -300,27 +303,55 @@ fn is_at_hand<S: Source>(source: &mut S, want: bool) -> bool {
     }
 }
 
-// A record that is cut or too long isn't at hand, nor is one that a reader wasn't asked for yet.
+// The same of a capture in memory that has no record but this one.
+fn record_is_at_hand(
+    alloc: Global,
+    captured: u32,
+    there: usize,
+    want: bool,
+) -> Result<bool, AllocError> {
+    let bytes = one_record(alloc, captured, there)?;
+    Ok(is_at_hand(&mut MemSource::new(bytes, Vec::new(alloc)), want))
+}
+
+// The same of one that a reader gives.
+fn record_is_read_ahead(
+    alloc: Global,
+    captured: u32,
+    there: usize,
+    want: bool,
+) -> Result<bool, AllocError> {
+    let bytes = one_record(alloc, captured, there)?;
+    Ok(is_at_hand(&mut ReadSource::new(bytes.as_slice()), want))
+}
+
+// A record that is cut or too long isn't at hand.
 #[test]
 fn whole_records_are_at_hand(rt: HostRuntime) -> Result<(), Fail> {
     for &(name, captured, there, want) in AT_HAND {
-        let bytes = one_record(rt.alloc(), captured, there)?;
         assert!(rt;
-            is_at_hand(&mut MemSource::new(bytes, Vec::new(rt.alloc())), want),
+            record_is_at_hand(rt.alloc(), captured, there, want)?,
             "{name}"
         );
     }
+    Ok(())
+}
+
+// Nor is one that a reader wasn't asked for yet.
+#[test]
+fn short_records_are_read_ahead(rt: HostRuntime) -> Result<(), Fail> {
     for &(name, captured, there, want) in READ_AHEAD {
-        let bytes = one_record(rt.alloc(), captured, there)?;
         assert!(rt;
-            is_at_hand(&mut ReadSource::new(bytes.as_slice()), want),
+            record_is_read_ahead(rt.alloc(), captured, there, want)?,
             "{name}"
         );
     }
-    assert!(rt;
-        is_at_hand(&mut source(rt.alloc(), &BIG, 99)?, false),
-        "no record"
-    );
+    Ok(())
+}
+
+#[test]
+fn no_record_is_at_hand(rt: HostRuntime) -> Result<(), Fail> {
+    assert!(rt; is_at_hand(&mut source(rt.alloc(), &BIG, 99)?, false));
     Ok(())
 }
 
@@ -364,14 +395,16 @@ const FAULTS: &[(&str, u64, Read)] = &[
     ("no call", 8, Ok((3, Ok(Step::End)))),
 ];
 
+// Whether the handshake from a source whose call of this number fails comes to this.
+fn fails_so(alloc: Global, call: u64, want: Read) -> Result<bool, AllocError> {
+    let bytes = handshake(alloc, &BIG, &BIG_HEAD, &[])?;
+    Ok(read(alloc, &mut source(alloc, &bytes, call)?) == want)
+}
+
 #[test]
 fn a_read_that_fails(rt: HostRuntime) -> Result<(), Fail> {
     for &(name, call, want) in FAULTS {
-        let bytes = handshake(rt.alloc(), &BIG, &BIG_HEAD, &[])?;
-        assert!(rt;
-            read(rt.alloc(), &mut source(rt.alloc(), &bytes, call)?) == want,
-            "{name}"
-        );
+        assert!(rt; fails_so(rt.alloc(), call, want)?, "{name}");
     }
     Ok(())
 }

@@ -1,7 +1,7 @@
 //! Files: a folder as a shelf, an open file as a source and as a sink.
 
 use crate::memory::shown;
-use mos_bytes::{FetchError, FolderShelf, ReadSource, Shelf, Sink, WriteSink, fill};
+use mos_bytes::{FetchError, FolderShelf, ReadSource, Shelf, Sink, Source, WriteSink, fill};
 use std::rt::Files;
 use std::test::Fail;
 use std::{fs, io};
@@ -87,28 +87,34 @@ const FILE: &str = "written.pcap";
 // More than a source over a reader reads ahead.
 const PIECE: [u8; 20_000] = [7; 20_000];
 
-// Whether a new file takes a short piece, an empty one, and a long one.
-fn is_written<R: Files>(rt: &R) -> io::Result<bool> {
-    let mut sink = WriteSink::new(fs::create(rt, FILE)?);
-    Ok(
-        sink.write_all(b"front").is_ok()
-            && sink.write_all(b"").is_ok()
-            && sink.write_all(&PIECE).is_ok(),
-    )
+// Whether a sink takes a short piece, an empty one, and a long one.
+fn takes_all<S: Sink>(sink: &mut S) -> bool {
+    sink.write_all(b"front").is_ok()
+        && sink.write_all(b"").is_ok()
+        && sink.write_all(&PIECE).is_ok()
 }
 
-// Whether these pieces come back, and then nothing.
+fn is_written<R: Files>(rt: &R) -> io::Result<bool> {
+    Ok(takes_all(&mut WriteSink::new(fs::create(rt, FILE)?)))
+}
+
+// Whether a source gives the short piece.
+fn gives_front<S: Source>(source: &mut S) -> bool {
+    let mut front = [0; 5];
+    fill(source, &mut front) == Ok(5) && front == *b"front"
+}
+
+// Whether a source gives the long piece, and then nothing.
+fn gives_rest<S: Source>(source: &mut S) -> bool {
+    let mut rest = [0; 20_001];
+    fill(source, &mut rest) == Ok(20_000)
+        && rest.get(..20_000) == Some(PIECE.as_slice())
+        && fill(source, &mut rest) == Ok(0)
+}
+
 fn is_read_back<R: Files>(rt: &R) -> io::Result<bool> {
     let mut source = ReadSource::new(fs::open(rt, FILE)?);
-    let mut front = [0; 5];
-    let mut rest = [0; 20_001];
-    Ok(
-        fill(&mut source, &mut front) == Ok(5)
-            && front == *b"front"
-            && fill(&mut source, &mut rest) == Ok(20_000)
-            && rest.get(..20_000) == Some(PIECE.as_slice())
-            && fill(&mut source, &mut front) == Ok(0),
-    )
+    Ok(gives_front(&mut source) && gives_rest(&mut source))
 }
 
 #[test]

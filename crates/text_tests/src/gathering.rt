@@ -40,7 +40,7 @@ fn laid(alloc: Global, lens: &[usize]) -> Result<Vec<u8>, AllocError> {
     let mut number: u8 = 0;
     for &len in lens {
         number = number.wrapping_add(1);
-        bytes.extend_from_slice(&vec![in alloc; number; len]?)?;
+        bytes.resize(bytes.len().saturating_add(len), number)?;
     }
     Ok(bytes)
 }

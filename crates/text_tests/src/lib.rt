@@ -18,6 +18,8 @@ mod memory;
 #[cfg(test)]
 mod pcapng;
 #[cfg(test)]
+mod pcapng_refusals;
+#[cfg(test)]
 mod records;
 #[cfg(test)]
 mod refusals;

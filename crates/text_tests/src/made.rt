@@ -54,14 +54,9 @@ const FRAMES: &[(&str, u32, usize, &[u8])] = &[
 fn has(alloc: Global, n: u32, place: usize, want: &[u8]) -> Result<bool, AllocError>
     requires { n ≤ 100000 }
 {
-    let mut before = vec![in alloc; 0; place]?;
-    let mut piece = vec![in alloc; 0; want.len()]?;
-    let mut maker = Maker::new(n);
-    Ok(
-        fill(&mut maker, &mut before) == Ok(place)
-            && fill(&mut maker, &mut piece) == Ok(want.len())
-            && piece.as_slice() == want,
-    )
+    let end = place.saturating_add(want.len());
+    let mut bytes = vec![in alloc; 0; end]?;
+    Ok(fill(&mut Maker::new(n), &mut bytes) == Ok(end) && bytes.get(place..) == Some(want))
 }
 
 #[test]
@@ -126,22 +121,34 @@ const ROOMS: &[(&str, usize)] = &[
     ("several records", 5_000),
 ];
 
-// Whether reads with so much room give the bytes of one read of all, and then none.
+// Whether a read with this room, filled as far as may be, gives these bytes.
+fn gives(maker: &mut Maker, room: &mut [u8], want: &[u8]) -> bool {
+    fill(maker, room) == Ok(want.len()) && room.get(..want.len()) == Some(want)
+}
+
+// Whether reads with so much room give these bytes, and then none.
+fn gives_in_pieces(whole: &[u8], piece: &mut [u8], room: usize) -> bool
+    requires { 1 ≤ room }
+{
+    let mut maker = Maker::new(17);
+    for want in whole.chunks(room) {
+        if !gives(&mut maker, piece, want) {
+            return false;
+        }
+    }
+    maker.read(piece) == Ok(0)
+}
+
+// The same of the bytes of one read of all.
 fn comes_in_pieces(alloc: Global, room: usize) -> Result<bool, AllocError>
     requires { 1 ≤ room }
 {
     let mut whole = vec![in alloc; 0; 18_112]?;
     let mut piece = vec![in alloc; 0; room]?;
-    if fill(&mut Maker::new(17), &mut whole) != Ok(18_112) {
-        return Ok(false);
-    }
-    let mut maker = Maker::new(17);
-    for want in whole.chunks(room) {
-        if fill(&mut maker, &mut piece) != Ok(want.len()) || piece.get(..want.len()) != Some(want) {
-            return Ok(false);
-        }
-    }
-    Ok(maker.read(&mut piece) == Ok(0))
+    Ok(
+        fill(&mut Maker::new(17), &mut whole) == Ok(18_112)
+            && gives_in_pieces(&whole, &mut piece, room),
+    )
 }
 
 #[test]

@@ -63,23 +63,27 @@ const PIECES: &[(&str, usize, usize)] = &[
     ("a piece longer than the room", 4_096, 30),
 ];
 
-// Whether a first read gives so many bytes, all others stay at hand, and a fill gives them.
+// Whether a read gives the first so many bytes, and all others stay at hand.
+fn gives_first(source: &mut MemSource, first: usize) -> bool {
+    let mut buf = [0; 30];
+    source.read(&mut buf) == Ok(first)
+        && buf.get(..first) == FORTY.get(..first)
+        && Some(source.at_hand()) == FORTY.get(first..)
+}
+
+// Whether a fill gives all bytes but the first so many.
+fn gives_others(source: &mut MemSource, first: usize) -> bool {
+    let mut rest = [0; 50];
+    let left = 40_usize.wrapping_sub(first);
+    fill(source, &mut rest) == Ok(left) && rest.get(..left) == FORTY.get(first..)
+}
+
+// Whether a first read gives so many bytes, and a fill the others.
 fn comes_in_pieces(alloc: Global, piece: usize, first: usize) -> Result<bool, AllocError>
     requires { 1 ≤ piece }
 {
     let mut source = MemSource::new(FORTY.to_vec(alloc)?, Vec::new(alloc)).cut(piece);
-    let mut buf = [0; 30];
-    let mut rest = [0; 50];
-    let count = source.read(&mut buf);
-    let others = FORTY.get(first..);
-    let left = 40_usize.wrapping_sub(first);
-    Ok(
-        count == Ok(first)
-            && buf.get(..first) == FORTY.get(..first)
-            && Some(source.at_hand()) == others
-            && fill(&mut source, &mut rest) == Ok(left)
-            && rest.get(..left) == others,
-    )
+    Ok(gives_first(&mut source, first) && gives_others(&mut source, first))
 }
 
 #[test]

@@ -1,4 +1,4 @@
-//! Files in the pcapng form: what they give, in any cut of reads, and which blocks are refused.
+//! Files in the pcapng form: what they give, in any cut of reads.
 
 use crate::captures::PACKETS;
 use mos_bytes::{Failed, MemSource, Source};
@@ -8,7 +8,7 @@ use std::test::Fail;
 
 // A field of a block, in the byte order of its section; or bytes as they are.
 #[derive(Clone, Copy)]
-enum Part {
+pub(crate) enum Part {
     Two(u16),
     Four(u32),
     Bytes(&'static [u8]),
@@ -16,12 +16,12 @@ enum Part {
 
 use Part::{Bytes, Four, Two};
 
-const MAGIC: Part = Four(0x1a2b_3c4d);
+pub(crate) const MAGIC: Part = Four(0x1a2b_3c4d);
 
-const SECTION_TYPE: Part = Four(0x0a0d_0d0a);
+pub(crate) const SECTION_TYPE: Part = Four(0x0a0d_0d0a);
 
 // Version 1.0, of unknown length.
-const SECTION: &[Part] = &[
+pub(crate) const SECTION: &[Part] = &[
     SECTION_TYPE,
     Four(28),
     MAGIC,
@@ -33,10 +33,10 @@ const SECTION: &[Part] = &[
 ];
 
 // Ethernet, with no limit on lengths.
-const INTERFACE: &[Part] = &[Four(1), Four(20), Two(1), Two(0), Four(0), Four(20)];
+pub(crate) const INTERFACE: &[Part] = &[Four(1), Four(20), Two(1), Two(0), Four(0), Four(20)];
 
 // Two bytes of sixty, at time 1.000002.
-const PACKET: &[Part] = &[
+pub(crate) const PACKET: &[Part] = &[
     Four(6),
     Four(36),
     Four(0),
@@ -49,73 +49,103 @@ const PACKET: &[Part] = &[
 ];
 
 // The global header of each classic form.
-const HEADER: &[u8] = &[
+pub(crate) const HEADER: &[u8] = &[
     0xa1, 0xb2, 0xc3, 0xd4, 0, 2, 0, 4, 0, 0, 0, 0, 0, 0, 0, 0, 0, 4, 0, 0, 0, 0, 0, 1,
 ];
 
 // The record of the packet.
-const RECORD: &[u8] = &[0, 0, 0, 1, 0, 0, 0, 2, 0, 0, 0, 2, 0, 0, 0, 60, 7, 8];
+pub(crate) const RECORD: &[u8] = &[0, 0, 0, 1, 0, 0, 0, 2, 0, 0, 0, 2, 0, 0, 0, 60, 7, 8];
+
+fn two(number: u16, is_big: bool) -> [u8; 2] {
+    if is_big {
+        number.to_be_bytes()
+    } else {
+        number.to_le_bytes()
+    }
+}
+
+fn four(number: u32, is_big: bool) -> [u8; 4] {
+    if is_big {
+        number.to_be_bytes()
+    } else {
+        number.to_le_bytes()
+    }
+}
+
+// Puts a field in either order of bytes.
+fn put_part(bytes: &mut Vec<u8>, is_big: bool, part: Part) -> Result<(), AllocError> {
+    match part {
+        Two(number) => bytes.extend_from_slice(&two(number, is_big)),
+        Four(number) => bytes.extend_from_slice(&four(number, is_big)),
+        Bytes(others) => bytes.extend_from_slice(others),
+    }
+}
 
 // Puts fields in either order of bytes.
-fn put(bytes: &mut Vec<u8>, is_big: bool, parts: &[Part]) -> Result<(), AllocError> {
+pub(crate) fn put(bytes: &mut Vec<u8>, is_big: bool, parts: &[Part]) -> Result<(), AllocError> {
     for part in parts {
-        match *part {
-            Two(number) if is_big => bytes.extend_from_slice(&number.to_be_bytes())?,
-            Two(number) => bytes.extend_from_slice(&number.to_le_bytes())?,
-            Four(number) if is_big => bytes.extend_from_slice(&number.to_be_bytes())?,
-            Four(number) => bytes.extend_from_slice(&number.to_le_bytes())?,
-            Bytes(others) => bytes.extend_from_slice(others)?,
-        }
+        put_part(bytes, is_big, *part)?;
+    }
+    Ok(())
+}
+
+// Puts blocks in either order of bytes.
+fn put_all(bytes: &mut Vec<u8>, is_big: bool, blocks: &[&[Part]]) -> Result<(), AllocError> {
+    for block in blocks {
+        put(bytes, is_big, block)?;
     }
     Ok(())
 }
 
 // A file of these blocks, in either order of bytes.
-fn file(alloc: Global, is_big: bool, blocks: &[&[Part]]) -> Result<Vec<u8>, AllocError> {
+pub(crate) fn file(alloc: Global, is_big: bool, blocks: &[&[Part]]) -> Result<Vec<u8>, AllocError> {
     let mut bytes = Vec::new(alloc);
-    for block in blocks {
-        put(&mut bytes, is_big, block)?;
-    }
+    put_all(&mut bytes, is_big, blocks)?;
     Ok(bytes)
 }
 
 // Lists of bytes, one behind the other.
-fn joined(alloc: Global, lists: &[&[u8]]) -> Result<Vec<u8>, AllocError> {
-    let mut bytes = Vec::new(alloc);
-    for list in lists {
-        bytes.extend_from_slice(list)?;
+pub(crate) fn joined(alloc: Global, lists: &[&[u8]]) -> Result<Vec<u8>, AllocError> {
+    lists.concat(alloc)
+}
+
+// What is left of these bytes behind those that a read of up to 30 gives. None where it gives none or others.
+fn rest_of<'a, S: Source>(any: &mut AnySource<S>, want: &'a [u8]) -> Option<&'a [u8]> {
+    let mut buf = [0; 30];
+    let count = any.read(&mut buf).unwrap_or(0);
+    if count > 0 && buf.get(..count) == want.get(..count) {
+        want.get(count..)
+    } else {
+        None
     }
-    Ok(bytes)
+}
+
+// Whether the end or this refusal is reached.
+fn is_over<S: Source>(any: &mut AnySource<S>, fault: Option<NgFault>) -> bool {
+    let mut buf = [0; 30];
+    let end = if fault.is_some() { Err(Failed) } else { Ok(0) };
+    any.read(&mut buf) == end && any.fault() == fault && any.read(&mut buf) == end
 }
 
 // Whether reads of up to 30 bytes give these bytes, and then the end or this refusal.
 fn reads<S: Source>(any: &mut AnySource<S>, want: &[u8], fault: Option<NgFault>) -> bool {
-    let mut buf = [0; 30];
-    let mut at = 0;
-    for _ in 0..=want.len() {
-        match any.read(&mut buf) {
-            Ok(0) => return at == want.len() && fault.is_none() && any.fault().is_none(),
-            Ok(count) => {
-                if buf.get(..count) != want.get(at..).and_then(|rest| rest.get(..count)) {
-                    return false;
-                }
-                at = at.wrapping_add(count);
-            }
-            Err(Failed) => {
-                return at == want.len()
-                    && fault.is_some()
-                    && any.fault() == fault
-                    && any.read(&mut buf) == Err(Failed);
-            }
+    let mut rest = want;
+    for _ in 0..want.len() {
+        if rest.is_empty() {
+            break;
+        }
+        match rest_of(any, rest) {
+            Some(left) => rest = left,
+            None => return false,
         }
     }
-    false
+    rest.is_empty() && is_over(any, fault)
 }
 
 const PIECES: [usize; 3] = [1, 5, 4_096];
 
 // Whether a file gives these bytes, and then the end or this refusal, in pieces of each of three lengths.
-fn gives(
+pub(crate) fn gives(
     alloc: Global,
     file: &[u8],
     want: &[u8],
@@ -128,225 +158,6 @@ fn gives(
         }
     }
     Ok(true)
-}
-
-// ---- refusals
-
-// A refusal so many bytes further on.
-fn moved(fault: NgFault, by: u64) -> NgFault {
-    match fault {
-        NgFault::TooManyBlocks(offset) => NgFault::TooManyBlocks(offset.wrapping_add(by)),
-        NgFault::BadBlock(offset) => NgFault::BadBlock(offset.wrapping_add(by)),
-        NgFault::BadVersion(offset) => NgFault::BadVersion(offset.wrapping_add(by)),
-        NgFault::TooManyInterfaces(offset) => NgFault::TooManyInterfaces(offset.wrapping_add(by)),
-        NgFault::BadLink(offset) => NgFault::BadLink(offset.wrapping_add(by)),
-        NgFault::TooLong(offset) => NgFault::TooLong(offset.wrapping_add(by)),
-    }
-}
-
-// Blocks behind a section header and an interface. The last one is refused at its last byte, and no earlier; the offset is
-// that behind the first two.
-const REFUSED: &[(&str, &[Part], NgFault)] = &[
-    (
-        "a total length that is no multiple of 4",
-        &[Four(5), Four(13)],
-        NgFault::BadBlock(0),
-    ),
-    (
-        "a total length of 8",
-        &[Four(5), Four(8)],
-        NgFault::BadBlock(0),
-    ),
-    (
-        "a total length of 2^24 and 4",
-        &[Four(5), Four(16_777_220)],
-        NgFault::BadBlock(0),
-    ),
-    (
-        "an obsolete packet of 8 bytes",
-        &[Four(2), Four(8)],
-        NgFault::BadBlock(0),
-    ),
-    (
-        "a section of 24 bytes",
-        &[SECTION_TYPE, Four(24), MAGIC],
-        NgFault::BadBlock(0),
-    ),
-    (
-        "a magic number that is none",
-        &[SECTION_TYPE, Four(28), Four(0x1a2b_3c4e)],
-        NgFault::BadBlock(0),
-    ),
-    (
-        "version 2",
-        &[SECTION_TYPE, Four(28), MAGIC, Two(2)],
-        NgFault::BadVersion(0),
-    ),
-    (
-        "an interface of 16 bytes",
-        &[Four(1), Four(16)],
-        NgFault::BadBlock(0),
-    ),
-    (
-        "a simple packet of 12 bytes",
-        &[Four(3), Four(12)],
-        NgFault::BadBlock(0),
-    ),
-    (
-        "an enhanced packet of 28 bytes",
-        &[Four(6), Four(28)],
-        NgFault::BadBlock(0),
-    ),
-    (
-        "an interface that isn't there",
-        &[Four(6), Four(32), Four(1)],
-        NgFault::BadBlock(0),
-    ),
-    (
-        "no interface",
-        &[
-            SECTION_TYPE,
-            Four(28),
-            MAGIC,
-            Two(1),
-            Two(0),
-            Four(0),
-            Four(0),
-            Four(28),
-            Four(3),
-            Four(16),
-        ],
-        NgFault::BadBlock(28),
-    ),
-    (
-        "a link type of 113",
-        &[
-            Four(1),
-            Four(20),
-            Two(113),
-            Two(0),
-            Four(0),
-            Four(20),
-            Four(6),
-            Four(32),
-            Four(1),
-        ],
-        NgFault::BadLink(20),
-    ),
-    (
-        "262,145 captured bytes",
-        &[Four(6), Four(32), Four(0), Four(0), Four(0), Four(262_145)],
-        NgFault::TooLong(0),
-    ),
-    (
-        "a simple packet of 262,145 bytes",
-        &[Four(3), Four(16), Four(262_145)],
-        NgFault::TooLong(0),
-    ),
-    (
-        "data past the block",
-        &[Four(6), Four(36), Four(0), Four(0), Four(0), Four(5)],
-        NgFault::BadBlock(0),
-    ),
-    (
-        "simple data past the block",
-        &[Four(3), Four(20), Four(5)],
-        NgFault::BadBlock(0),
-    ),
-    (
-        "two total lengths",
-        &[Four(5), Four(16), Four(0), Four(12)],
-        NgFault::BadBlock(0),
-    ),
-];
-
-// Whether a block is refused behind these blocks, which give these bytes, and not yet one byte before its end.
-fn is_refused(
-    alloc: Global,
-    is_big: bool,
-    before: &[&[Part]],
-    block: &[Part],
-    want: &[u8],
-    fault: NgFault,
-) -> Result<bool, AllocError> {
-    let mut bytes = file(alloc, is_big, before)?;
-    let fault = moved(fault, bytes.len() as u64);
-    put(&mut bytes, is_big, block)?;
-    let short = bytes.len().saturating_sub(1);
-    Ok(
-        gives(alloc, &bytes, want, Some(fault))?
-            && gives(alloc, bytes.get(..short).unwrap_or(&[]), want, None)?,
-    )
-}
-
-fn is_refused_anywhere(
-    alloc: Global,
-    is_big: bool,
-    block: &[Part],
-    fault: NgFault,
-) -> Result<bool, AllocError> {
-    let one = joined(alloc, &[HEADER, RECORD])?;
-    Ok(
-        is_refused(alloc, is_big, &[SECTION, INTERFACE], block, HEADER, fault)?
-            && is_refused(
-                alloc,
-                is_big,
-                &[SECTION, INTERFACE, PACKET],
-                block,
-                &one,
-                fault,
-            )?,
-    )
-}
-
-#[test]
-fn each_refusal_where_its_bytes_are_there(rt: HostRuntime) -> Result<(), Fail> {
-    for &(name, block, fault) in REFUSED {
-        for is_big in [true, false] {
-            assert!(rt;
-                is_refused_anywhere(rt.alloc(), is_big, block, fault)?,
-                "{name}"
-            );
-        }
-    }
-    Ok(())
-}
-
-// A packet whose second total length differs is given for all that.
-#[test]
-fn a_refused_trailer_comes_behind_its_packet(rt: HostRuntime) -> Result<(), Fail> {
-    let Some((_, cut)) = PACKET.split_last() else {
-        return Ok(());
-    };
-    let bytes = file(rt.alloc(), true, &[SECTION, INTERFACE, cut, &[Four(32)]])?;
-    let want = joined(rt.alloc(), &[HEADER, RECORD])?;
-    assert!(rt; gives(rt.alloc(), &bytes, &want, Some(NgFault::BadBlock(48)))?);
-    Ok(())
-}
-
-// How many interfaces a section has, and why it is refused. A packet of the last one follows.
-const INTERFACES: &[(usize, Option<NgFault>)] = &[
-    (64, None),
-    (65, Some(NgFault::TooManyInterfaces(1308))),
-];
-
-fn has_interfaces(alloc: Global, count: usize, fault: Option<NgFault>) -> Result<bool, AllocError> {
-    let mut bytes = file(alloc, false, &[SECTION])?;
-    for _ in 0..count {
-        put(&mut bytes, false, INTERFACE)?;
-    }
-    put(&mut bytes, false, PACKET)?;
-    let record: &[u8] = if fault.is_none() { RECORD } else { &[] };
-    let want = joined(alloc, &[HEADER, record])?;
-    gives(alloc, &bytes, &want, fault)
-}
-
-#[test]
-fn a_section_has_64_interfaces(rt: HostRuntime) -> Result<(), Fail> {
-    for &(count, fault) in INTERFACES {
-        assert!(rt; has_interfaces(rt.alloc(), count, fault)?);
-    }
-    Ok(())
 }
 
 // ---- files that are cut
@@ -430,15 +241,67 @@ fn other_files_as_they_are(rt: HostRuntime) -> Result<(), Fail> {
     Ok(())
 }
 
-// A section in the other order begins anew: it has no interface of the one before.
+// ---- whole files
+
+// Blocks in either order of bytes.
+type Piece = (bool, &'static [&'static [Part]]);
+
+// The pieces of a file, what it gives, and why it is refused. A packet whose second total length differs is given for all
+// that. A section in the other order begins anew: it has no interface of the one before.
+const FILES: &[(&str, &[Piece], &[&[u8]], Option<NgFault>)] = &[
+    (
+        "a refused trailer behind its packet",
+        &[(
+            true,
+            &[
+                SECTION,
+                INTERFACE,
+                &[
+                    Four(6),
+                    Four(36),
+                    Four(0),
+                    Four(0),
+                    Four(1_000_002),
+                    Four(2),
+                    Four(60),
+                    Bytes(&[7, 8, 0, 0]),
+                    Four(32),
+                ],
+            ],
+        )],
+        &[HEADER, RECORD],
+        Some(NgFault::BadBlock(48)),
+    ),
+    (
+        "sections in both orders",
+        &[
+            (true, &[SECTION, INTERFACE, PACKET]),
+            (false, &[SECTION, INTERFACE, PACKET, SIMPLE]),
+            (true, &[SECTION, PACKET]),
+        ],
+        &[HEADER, RECORD, RECORD, SIMPLE_RECORD],
+        Some(NgFault::BadBlock(216)),
+    ),
+];
+
+fn is_file(
+    alloc: Global,
+    pieces: &[Piece],
+    given: &[&[u8]],
+    fault: Option<NgFault>,
+) -> Result<bool, AllocError> {
+    let mut bytes = Vec::new(alloc);
+    for &(is_big, blocks) in pieces {
+        put_all(&mut bytes, is_big, blocks)?;
+    }
+    gives(alloc, &bytes, &joined(alloc, given)?, fault)
+}
+
 #[test]
-fn sections_in_both_orders(rt: HostRuntime) -> Result<(), Fail> {
-    let big = file(rt.alloc(), true, &[SECTION, INTERFACE, PACKET])?;
-    let little = file(rt.alloc(), false, &[SECTION, INTERFACE, PACKET, SIMPLE])?;
-    let none = file(rt.alloc(), true, &[SECTION, PACKET])?;
-    let bytes = joined(rt.alloc(), &[&big, &little, &none])?;
-    let want = joined(rt.alloc(), &[HEADER, RECORD, RECORD, SIMPLE_RECORD])?;
-    assert!(rt; gives(rt.alloc(), &bytes, &want, Some(NgFault::BadBlock(216)))?);
+fn files_give_what_stands_before_their_refusal(rt: HostRuntime) -> Result<(), Fail> {
+    for &(name, pieces, given, fault) in FILES {
+        assert!(rt; is_file(rt.alloc(), pieces, given, fault)?, "{name}");
+    }
     Ok(())
 }
 
@@ -541,7 +404,31 @@ const TIMES: &[(&str, &[Part], u32, u32)] = &[
     ),
 ];
 
-// Whether a packet behind an interface with these options has this time.
+// An empty packet of sixty bytes at the time 5 * 2^48 + 7.
+const TIMED: &[Part] = &[
+    Four(6),
+    Four(32),
+    Four(0),
+    Four(0x5_0000),
+    Four(7),
+    Four(0),
+    Four(60),
+    Four(32),
+];
+
+// A file of this packet, behind an interface with these options.
+fn timed_file(alloc: Global, is_big: bool, options: &[Part]) -> Result<Vec<u8>, AllocError> {
+    let len = u32::try_from(file(alloc, is_big, &[options])?.len()).unwrap_or(0);
+    let size = len.wrapping_add(20);
+    let interface = [Four(1), Four(size), Two(1), Two(0), Four(0)];
+    file(
+        alloc,
+        is_big,
+        &[SECTION, &interface, options, &[Four(size)], TIMED],
+    )
+}
+
+// Whether the packet has this time.
 fn has_time(
     alloc: Global,
     is_big: bool,
@@ -549,33 +436,15 @@ fn has_time(
     seconds: u32,
     fraction: u32,
 ) -> Result<bool, AllocError> {
-    let size = match u32::try_from(file(alloc, is_big, &[options])?.len()) {
-        Ok(len) => len.wrapping_add(20),
-        Err(_) => return Ok(false),
-    };
-    let blocks: [&[Part]; 5] = [
-        SECTION,
-        &[Four(1), Four(size), Two(1), Two(0), Four(0)],
-        options,
-        &[Four(size)],
-        &[
-            Four(6),
-            Four(32),
-            Four(0),
-            Four(0x5_0000),
-            Four(7),
-            Four(0),
-            Four(60),
-            Four(32),
-        ],
+    let bytes = timed_file(alloc, is_big, options)?;
+    let parts = [
+        Bytes(HEADER),
+        Four(seconds),
+        Four(fraction),
+        Four(0),
+        Four(60),
     ];
-    let bytes = file(alloc, is_big, &blocks)?;
-    let mut want = joined(alloc, &[HEADER])?;
-    put(
-        &mut want,
-        true,
-        &[Four(seconds), Four(fraction), Four(0), Four(60)],
-    )?;
+    let want = file(alloc, true, &[&parts])?;
     gives(alloc, &bytes, &want, None)
 }
 
@@ -620,6 +489,42 @@ const HEAD: &[Part] = &[
 
 const RECORD_HEAD: &[u8] = &[0, 0, 0, 0, 0, 0, 0, 0, 0, 0, 0, 54, 0, 0, 0, 54];
 
+// The file of a handshake over this link type.
+fn handshake(alloc: Global, is_big: bool, link: u16) -> Result<Vec<u8>, AllocError> {
+    let interface = [
+        Four(1),
+        Four(20),
+        Two(link),
+        Two(0),
+        Four(262_144),
+        Four(20),
+    ];
+    let mut bytes = file(alloc, is_big, &[SECTION, &interface])?;
+    for packet in &PACKETS {
+        put_all(
+            &mut bytes,
+            is_big,
+            &[HEAD, &[Bytes(packet), Two(0), Four(88)]],
+        )?;
+    }
+    Ok(bytes)
+}
+
+// What the whole file gives.
+fn records(alloc: Global) -> Result<Vec<u8>, AllocError> {
+    let [first, second, third] = &PACKETS;
+    let lists: [&[u8]; 7] = [
+        HEADER,
+        RECORD_HEAD,
+        first,
+        RECORD_HEAD,
+        second,
+        RECORD_HEAD,
+        third,
+    ];
+    joined(alloc, &lists)
+}
+
 fn is_handshake(
     alloc: Global,
     is_big: bool,
@@ -628,32 +533,16 @@ fn is_handshake(
     given: usize,
     fault: Option<NgFault>,
 ) -> Result<bool, AllocError> {
-    let interface = &[
-        Four(1),
-        Four(20),
-        Two(link),
-        Two(0),
-        Four(262_144),
-        Four(20),
-    ];
-    let mut bytes = file(alloc, is_big, &[SECTION, interface])?;
-    let mut want = joined(alloc, &[HEADER])?;
-    for packet in &PACKETS {
-        put(&mut bytes, is_big, HEAD)?;
-        bytes.extend_from_slice(packet)?;
-        put(&mut bytes, is_big, &[Two(0), Four(88)])?;
-        want.extend_from_slice(RECORD_HEAD)?;
-        want.extend_from_slice(packet)?;
+    let bytes = handshake(alloc, is_big, link)?;
+    if bytes.len() != 312 {
+        return Ok(false);
     }
-    let len = bytes.len().saturating_sub(left_out);
-    Ok(
-        bytes.len() == 312
-            && gives(
-                alloc,
-                bytes.get(..len).unwrap_or(&[]),
-                want.get(..given).unwrap_or(&[]),
-                fault,
-            )?,
+    let want = records(alloc)?;
+    gives(
+        alloc,
+        bytes.get(..312_usize.wrapping_sub(left_out)).unwrap_or(&[]),
+        want.get(..given).unwrap_or(&[]),
+        fault,
     )
 }
 

@@ -66,10 +66,20 @@ fn bytes(alloc: Global, bytes: &[u8]) -> Result<Bytes, AllocError> {
     })
 }
 
+fn push_piece(
+    alloc: Global,
+    items: &mut Vec<(u64, Bytes)>,
+    at: u64,
+    run: &[u8],
+) -> Result<(), AllocError> {
+    items.push((at, bytes(alloc, run)?))?;
+    Ok(())
+}
+
 fn pieces(alloc: Global, runs: &[(u64, &[u8])]) -> Result<PieceList, AllocError> {
     let mut items = Vec::new(alloc);
-    for (at, run) in runs {
-        items.push((*at, bytes(alloc, run)?))?;
+    for &(at, run) in runs {
+        push_piece(alloc, &mut items, at, run)?;
     }
     Ok(PieceList { items })
 }

@@ -201,31 +201,26 @@ const REPORTS: &[(&str, &[Row], &[u8])] = &[
     ),
 ];
 
-// Whether the records are tidy, and their report is this text.
+// Whether the records are tidy, writing their report comes to this, and the sink, whose call of this number fails, has then
+// taken this text.
 fn is_written(
     alloc: Global,
     records: &[Record],
     totals: &Totals,
+    fails: u64,
+    outcome: Result<(), TextError>,
     text: &[u8],
 ) -> Result<bool, AllocError> {
-    let mut out = sink(alloc, 2_048, 99)?;
+    let mut out = sink(alloc, 2_048, fails)?;
     Ok(
         is_tidy(records)
-            && write_report(alloc, &mut out, records, totals) == Ok(())
+            && write_report(alloc, &mut out, records, totals) == outcome
             && out.bytes() == text,
     )
 }
 
 fn is_report(alloc: Global, rows: &[Row], text: &[u8]) -> Result<bool, AllocError> {
-    is_written(alloc, &records(alloc, rows)?, &COUNTS, text)
-}
-
-#[test]
-fn records_are_written(rt: HostRuntime) -> Result<(), Fail> {
-    for &(name, rows, text) in REPORTS {
-        assert!(rt; is_report(rt.alloc(), rows, text)?, "{name}");
-    }
-    Ok(())
+    is_written(alloc, &records(alloc, rows)?, &COUNTS, 99, Ok(()), text)
 }
 
 fn is_read_back(alloc: Global, rows: &[Row], text: &[u8]) -> bool {
@@ -235,11 +230,16 @@ fn is_read_back(alloc: Global, rows: &[Row], text: &[u8]) -> bool {
     }
 }
 
+fn is_written_and_read_back(alloc: Global, rows: &[Row], text: &[u8]) -> Result<bool, AllocError> {
+    Ok(is_report(alloc, rows, text)? && is_read_back(alloc, rows, text))
+}
+
 #[test]
-fn records_are_read_back(rt: HostRuntime) {
+fn records_are_written_and_read_back(rt: HostRuntime) -> Result<(), Fail> {
     for &(name, rows, text) in REPORTS {
-        assert!(rt; is_read_back(rt.alloc(), rows, text), "{name}");
+        assert!(rt; is_written_and_read_back(rt.alloc(), rows, text)?, "{name}");
     }
+    Ok(())
 }
 
 // A report with each form of a line.
@@ -279,7 +279,7 @@ const TEXTS: &[(&str, &[u8])] = &[
 // Whether a text is read as records whose report it is.
 fn is_written_again(alloc: Global, text: &[u8]) -> Result<bool, AllocError> {
     match read_report(alloc, text) {
-        Ok((list, totals)) => is_written(alloc, list.as_slice(), &totals, text),
+        Ok((list, totals)) => is_written(alloc, list.as_slice(), &totals, 99, Ok(()), text),
         Err(_) => Ok(false),
     }
 }
@@ -303,11 +303,14 @@ const LARGE: Totals = Totals {
 const LARGE_TEXT: &[u8] =
     b"end packets 18446744073709551615 records 1 callbacks 22 drops 333 tail 4294967295\n";
 
+fn are_totals(alloc: Global, totals: &Totals, text: &[u8]) -> Result<bool, AllocError> {
+    let mut out = sink(alloc, 512, 99)?;
+    Ok(write_totals(alloc, &mut out, totals) == Ok(()) && out.bytes() == text)
+}
+
 #[test]
 fn the_totals(rt: HostRuntime) -> Result<(), Fail> {
-    let mut out = sink(rt.alloc(), 512, 99)?;
-    let written = write_totals(rt.alloc(), &mut out, &LARGE);
-    assert!(rt; written == Ok(()) && out.bytes() == LARGE_TEXT);
+    assert!(rt; are_totals(rt.alloc(), &LARGE, LARGE_TEXT)?);
     Ok(())
 }
 
@@ -320,13 +323,12 @@ const FAULTS: &[(&str, u64, usize)] = &[
 ];
 
 fn is_cut(alloc: Global, fails: u64, taken: usize) -> Result<bool, AllocError> {
+    let Some(text) = HANDSHAKE_TEXT.get(..taken) else {
+        return Ok(false);
+    };
     let records = records(alloc, &[HANDSHAKE])?;
-    let mut out = sink(alloc, 512, fails)?;
-    Ok(
-        is_tidy(&records)
-            && write_report(alloc, &mut out, &records, &COUNTS) == Err(TextError::WriteFault)
-            && Some(out.bytes()) == HANDSHAKE_TEXT.get(..taken),
-    )
+    let fault = Err(TextError::WriteFault);
+    is_written(alloc, &records, &COUNTS, fails, fault, text)
 }
 
 // Each line is written by one call. A call that fails takes half of its line, and none follows.
@@ -454,10 +456,14 @@ const UNTIDY: &[(&str, &[Row])] = &[
     ),
 ];
 
+fn is_untidy(alloc: Global, rows: &[Row]) -> Result<bool, AllocError> {
+    Ok(!is_tidy(&records(alloc, rows)?))
+}
+
 #[test]
 fn records_that_are_not_tidy(rt: HostRuntime) -> Result<(), Fail> {
     for &(name, rows) in UNTIDY {
-        assert!(rt; !is_tidy(&records(rt.alloc(), rows)?), "{name}");
+        assert!(rt; is_untidy(rt.alloc(), rows)?, "{name}");
     }
     Ok(())
 }

@@ -4,14 +4,18 @@ use std::alloc::Global;
 use std::test::Fail;
 use words::{AppKind, Emit, Settings, WordsError, read_words, usage_text};
 
+fn push_word(alloc: Global, words: &mut Vec<String>, word: &str) -> Result<(), Fail> {
+    words.push(String::from_str(alloc, word)?)?;
+    Ok(())
+}
+
 // The words of a line, between blanks.
 fn words_of(alloc: Global, line: &str) -> Result<Vec<String>, Fail> {
     let mut words = Vec::new(alloc);
-    if line.is_empty() {
-        return Ok(words);
-    }
-    for word in line.split(' ') {
-        words.push(String::from_str(alloc, word)?)?;
+    if !line.is_empty() {
+        for word in line.split(' ') {
+            push_word(alloc, &mut words, word)?;
+        }
     }
     Ok(words)
 }
@@ -170,28 +174,34 @@ fn refused(rt: HostRuntime) -> Result<(), Fail> {
 // 15 bytes with three blanks, so a name of 17 of them is no line of words.
 const PART: &str = "name of 15 byte";
 
-// What reading the words `--script=NAME` keeps of the name.
-fn name_kept(alloc: Global, name: &str) -> Result<Option<String>, Fail> {
-    let words = vec![in alloc; format!(in alloc; "--script={name}")?]?;
-    match read_words(alloc, words.as_slice()) {
-        Ok(settings) => Ok(settings.script.map(|name| name.text)),
-        Err(_) => Ok(None),
+// What 17 parts and this text come to, as a name: it is kept, or the words `--script=NAME` are refused.
+const NAMES: &[(&str, &str, Option<WordsError>)] = &[
+    ("255 bytes", "", None),
+    ("256 bytes", "x", Some(WordsError::Usage)),
+];
+
+// Whether reading these words keeps this name, or gives this error.
+fn keeps(alloc: Global, words: &[String], name: &str, error: Option<WordsError>) -> bool {
+    match read_words(alloc, words) {
+        Ok(settings) => {
+            error.is_none() && settings.script.as_ref().map(|name| name.as_str()) == Some(name)
+        }
+        Err(why) => error == Some(why),
     }
+}
+
+fn is_name(alloc: Global, rest: &str, error: Option<WordsError>) -> Result<bool, Fail> {
+    let name = format!(in alloc; "{}{rest}", PART.repeat(alloc, 17)?)?;
+    let mut words = Vec::new(alloc);
+    words.push(format!(in alloc; "--script={name}")?)?;
+    Ok(keeps(alloc, words.as_slice(), name.as_str(), error))
 }
 
 #[test]
 fn names_have_at_most_255_bytes(rt: HostRuntime) -> Result<(), Fail> {
-    let mut name = PART.repeat(rt.alloc(), 17)?;
-    assert!(rt;
-        name_kept(rt.alloc(), name.as_str())?.is_some_and(|kept| kept == name),
-        "255 bytes"
-    );
-    name.push('x')?;
-    let words = vec![in rt.alloc(); format!(in rt.alloc(); "--script={name}")?]?;
-    assert!(rt;
-        read_words(rt.alloc(), words.as_slice()).err() == Some(WordsError::Usage),
-        "256 bytes"
-    );
+    for &(name, rest, error) in NAMES {
+        assert!(rt; is_name(rt.alloc(), rest, error)?, "{name}");
+    }
     Ok(())
 }
 
