@@ -62,7 +62,7 @@ pub(crate) fn timer_facts(client: Endpoint, server: Endpoint, members: u64) -> F
     ensures { result ≡ timer_facts client server members }
 {
     Facts {
-        nth: members.max(0),
+        nth: members,
         src: fact_of_address(client),
         dst: fact_of_address(server),
         sport: fact_of_port(client),
