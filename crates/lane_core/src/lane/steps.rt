@@ -367,9 +367,10 @@ impl<A: App + Drop, F: Forests + Drop> Lane<A, F> {
             seconds: frame.seconds,
             fraction: frame.fraction,
         };
-        match sight_of(frame.bytes.as_slice()) {
-            Sight::Tcp(segment) => self.segment(alloc, natives, number, moment, &segment),
-            Sight::Other(class) => self.other(alloc, natives, number, moment, class),
+        let sight = sight_of(frame.bytes.as_slice());
+        match &sight {
+            Sight::Tcp(segment) => self.segment(alloc, natives, number, moment, segment),
+            Sight::Other(class) => self.other(alloc, natives, number, moment, *class),
         }
     }
 

@@ -1,7 +1,7 @@
-use Rattle.std.proofs.Common.{◌≡◌, ap, subst, ◌∙◌}
+use Rattle.std.proofs.Common.{◌≡◌, ap, sym, subst, ◌∙◌}
 use Rattle.std.proofs.lemmas.Result.{IfOk-weaker, on_err_weaker}
 use Rattle.pcap_source.specs.Captured.{Captured}
-use Rattle.ip6_views.specs.Seen.{seen}
+use Rattle.ip6_views.specs.Seen.{seen, shown}
 use Rattle.lane_core.specs.Sight.{Sight, Tcp, Other, sight_of}
 use Rattle.lane_core.specs.Kept.{AddsTo, CostsAtMost, arrived}
 use Rattle.lane_core.proofs.lane.Lane.arrive.Goals as goal
@@ -12,7 +12,7 @@ returns-in-Tcp-clause-stands g c =
     let new = c.segment.new.self in
     let bytes = c.args.frame.now.bytes in
     let same : c.as_slice.result.now ≡ bytes = c.as_slice.ensures.value ∙ ap (λ (f : Captured). f.bytes) c.frame.view_is in
-    let is : Tcp (seen c.in-Tcp.segment) ≡ sight_of bytes = c.in-Tcp.ensures.sight ∙ ap sight_of same in
+    let is : Tcp (seen c.in-Tcp.segment) ≡ sight_of bytes = sym (ap shown c.in-Tcp.is) ∙ (c.sight_of-sight.ensures.sight ∙ ap sight_of same) in
     IfOk-weaker c.segment.result _ _ (λ verdict all.
     subst (λ (f : Captured). AddsTo (g.A.App.meaning self.settings.app) self.settings.keep self.settings.master
     (arrived self.settings.master.version c.args.number (record { seconds = f.seconds; fraction = f.fraction }) (sight_of bytes))
@@ -28,7 +28,7 @@ returns-in-Other-clause-stands g c =
     let new = c.other.new.self in
     let bytes = c.args.frame.now.bytes in
     let same : c.as_slice.result.now ≡ bytes = c.as_slice.ensures.value ∙ ap (λ (f : Captured). f.bytes) c.frame.view_is in
-    let is : Other c.in-Other.class ≡ sight_of bytes = c.in-Other.ensures.sight ∙ ap sight_of same in
+    let is : Other c.in-Other.class ≡ sight_of bytes = sym (ap shown c.in-Other.is) ∙ (c.sight_of-sight.ensures.sight ∙ ap sight_of same) in
     IfOk-weaker c.other.result _ _ (λ verdict all.
     subst (λ (f : Captured). AddsTo (g.A.App.meaning self.settings.app) self.settings.keep self.settings.master
     (arrived self.settings.master.version c.args.number (record { seconds = f.seconds; fraction = f.fraction }) (sight_of bytes))
@@ -44,7 +44,7 @@ returns-in-Tcp-clause-costs g c =
     let new = c.segment.new.self in
     let bytes = c.args.frame.now.bytes in
     let same : c.as_slice.result.now ≡ bytes = c.as_slice.ensures.value ∙ ap (λ (f : Captured). f.bytes) c.frame.view_is in
-    let is : Tcp (seen c.in-Tcp.segment) ≡ sight_of bytes = c.in-Tcp.ensures.sight ∙ ap sight_of same in
+    let is : Tcp (seen c.in-Tcp.segment) ≡ sight_of bytes = sym (ap shown c.in-Tcp.is) ∙ (c.sight_of-sight.ensures.sight ∙ ap sight_of same) in
     on_err_weaker c.segment.result (λ all.
     subst (λ (f : Captured). CostsAtMost (g.A.App.meaning self.settings.app) self.settings.keep self.settings.master
     (arrived self.settings.master.version c.args.number (record { seconds = f.seconds; fraction = f.fraction }) (sight_of bytes))
@@ -60,7 +60,7 @@ returns-in-Other-clause-costs g c =
     let new = c.other.new.self in
     let bytes = c.args.frame.now.bytes in
     let same : c.as_slice.result.now ≡ bytes = c.as_slice.ensures.value ∙ ap (λ (f : Captured). f.bytes) c.frame.view_is in
-    let is : Other c.in-Other.class ≡ sight_of bytes = c.in-Other.ensures.sight ∙ ap sight_of same in
+    let is : Other c.in-Other.class ≡ sight_of bytes = sym (ap shown c.in-Other.is) ∙ (c.sight_of-sight.ensures.sight ∙ ap sight_of same) in
     on_err_weaker c.other.result (λ all.
     subst (λ (f : Captured). CostsAtMost (g.A.App.meaning self.settings.app) self.settings.keep self.settings.master
     (arrived self.settings.master.version c.args.number (record { seconds = f.seconds; fraction = f.fraction }) (sight_of bytes))
