@@ -104,6 +104,16 @@ impl<T> FlowTable<T> {
         self.flows.swap_remove(key)
     }
 
+    /// Lets go of a key with its value, where the key is there.
+    pub fn forget(&mut self, key: &Key)
+    where
+        T: Drop,
+        ensures removed { self.new ≡ map.remove self.old key.now }
+        ensures found { FindsAt self.old self.new key.now None }
+    {
+        let _ = self.flows.swap_remove(key);
+    }
+
     /// Removes some connection, where there is one.
     pub fn take_any(&mut self) -> Option<(Key, T)>
         ensures empty { IsNone result ↔ (self.old ≡ map.empty) }

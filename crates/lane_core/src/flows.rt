@@ -80,7 +80,7 @@ fn settle(flows: &mut FlowTable<Connection>, key: &Key, over: bool)
     ensures { IsPutWhere over flows.old flows.new key.now None }
 {
     if over {
-        let _closed = flows.close(key);
+        flows.forget(key);
     }
 }
 
