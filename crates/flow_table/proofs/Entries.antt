@@ -1,14 +1,15 @@
 -- A flow table's entries, read as a finite map.
-use Rattle.std.proofs.Common.{◌≡◌, ◌+◌, ◌-◌, ◌<◌, ℕ, zero, suc, Bool, true, false, cond, refl, sym, ap, ◌∙◌, true≢false, List, [], ◌∷◌, ◌++◌, length, Option, None, Some, is_some, IsSome, IsNone, IfSome, OnSome, arith}
+use Rattle.std.proofs.Common.{◌≡◌, ◌+◌, ◌-◌, ◌<◌, ℕ, zero, suc, Bool, true, false, cond, refl, sym, ap, ◌∙◌, true≢false, List, [], ◌∷◌, ◌++◌, length, Option, None, Some, is_some, arith}
 use Rattle.std.specs.FinMap as map
-use Rattle.std.specs.Borrow.{MutBor}
-use Rattle.std.specs.Option.{option_copied_mut}
+use Rattle.std.specs.Option.{option_map}
 use Rattle.std.specs.FinMap.{find, get-empty, get-insert, get-remove, get-from_entries, len-insert, len-remove, empty_of_len, same_map}
 use Rattle.std.specs.Ordering.{eq_by_cmp}
 use Rattle.std.proofs.lemmas.Cmp.{eq_by_cmp_equiv}
 use Rattle.std.specs.Map.{lookup}
 use Rattle.flow_table.specs.Key.{EndpointPair, same_key}
-use Rattle.flow_table.specs.Table.{key_cmp, Flows, found, Rewrites}
+use Rattle.std.specs.Global.{Box}
+use Rattle.std.specs.Box.{with_value}
+use Rattle.flow_table.specs.Table.{key_cmp, Flows, found, Rewrites, unboxed}
 use Rattle.flow_table.specs.contracts.key.KeyPartialEq.TheImpl.{ghosts as ends}
 use Rattle.flow_table.proofs.Keys.{keys_total, exact_keys, ties_key, eq_key}
 
@@ -19,26 +20,13 @@ tied a b = (eq_by_cmp_equiv keys_total).symm b a ∙ ties_key a b
 reflexive : (key : EndpointPair) → ends.eq key key ≡ true
 reflexive key = eq_key key key ∙ sym (ties_key key key) ∙ (eq_by_cmp_equiv keys_total).refl key
 
--- a fact on the value, from another one
-pub mapped : {A : Type 0} {P Q : A → Type 0} (r : Option A) → ((x : A) → r ≡ Some x → P x → Q x) → IfSome r P → IfSome r Q
-mapped None f h = tt
-mapped (Some x) f h = f x refl h
-
-pub none_or_some : {A : Type 0} (r : Option A) → IsNone r → IsSome r → ⊥
-none_or_some None none some = true≢false (sym some)
-none_or_some (Some x) none some = true≢false none
-
-pub none_if_not_some : {A : Type 0} (r : Option A) → (IsSome r → ⊥) → IsNone r
-none_if_not_some None h = refl
-none_if_not_some (Some x) h = absurd (h refl)
-
 module _ {T : Type 0} where
   find_lookup : (es : List (EndpointPair × T)) (key : EndpointPair) → find key_cmp key es ≡ lookup (ends.eq key) es
   find_lookup [] key = refl
   find_lookup (e ∷ es) key = λ i. cond ((ties_key key e.0 ∙ sym (eq_key key e.0)) i) (Some e.1) (find_lookup es key i)
 
   -- what the map that the entries make has at a key
-  pub found_is : (es : List (EndpointPair × T)) (key : EndpointPair) → found (map.from_entries es) key ≡ lookup (ends.eq key) es
+  found_is : (es : List (EndpointPair × T)) (key : EndpointPair) → found (map.from_entries es) key ≡ lookup (ends.eq key) es
   found_is es key = get-from_entries keys_total es key ∙ find_lookup es key
 
   pub found-insert : (flows : Flows T) (key : EndpointPair) (value : T) (other : EndpointPair) → found (map.insert flows key value) other ≡ cond (same_key key other) (Some value) (found flows other)
@@ -51,13 +39,13 @@ module _ {T : Type 0} where
   len-opened flows key value absent = len-insert keys_total flows key value ∙ ap (λ o. cond (is_some o) (map.len flows) (map.len flows + 1)) absent
 
   -- entries that differ from others at one key make maps that differ there
-  pub inserted : (es fs : List (EndpointPair × T)) (key : EndpointPair) (value : T)
+  inserted : (es fs : List (EndpointPair × T)) (key : EndpointPair) (value : T)
       → ((q : EndpointPair) → lookup (ends.eq q) fs ≡ cond (ends.eq key q) (Some value) (lookup (ends.eq q) es))
       → map.from_entries {R = key_cmp} fs ≡ map.insert (map.from_entries es) key value
   inserted es fs key value h = same_map keys_total exact_keys _ _ (λ q.
       found_is fs q ∙ h q ∙ (λ i. cond (eq_key key q i) (Some value) (sym (found_is es q) i)) ∙ sym (found-insert (map.from_entries es) key value q))
 
-  pub removed : (es fs : List (EndpointPair × T)) (key : EndpointPair)
+  removed : (es fs : List (EndpointPair × T)) (key : EndpointPair)
       → ((q : EndpointPair) → lookup (ends.eq q) fs ≡ cond (ends.eq key q) None (lookup (ends.eq q) es)) → map.from_entries {R = key_cmp} fs ≡ map.remove (map.from_entries es) key
   removed es fs key h = same_map keys_total exact_keys _ _ (λ q.
       found_is fs q ∙ h q ∙ (λ i. cond (eq_key key q i) None (sym (found_is es q) i)) ∙ sym (found-remove (map.from_entries es) key q))
@@ -76,27 +64,6 @@ module _ {T : Type 0} where
       by zero e less = absurd (none≢some v (sym (get-empty key_cmp key) ∙ ap (λ m. found m key) (sym (empty_of_len flows e)) ∙ there))
       by (suc n) e less = omega arith
 
-  pub len-taken : (r : Option T) (flows : Flows T) (key : EndpointPair) → r ≡ found flows key → IfSome r (λ _. map.len (map.remove flows key) + 1 ≡ map.len flows)
-  len-taken None flows key h = tt
-  len-taken (Some v) flows key h = len-closed flows key v (sym h)
-
-  -- a write through the reference to a key's value puts the value at the key
-  pub written : (r : Option (MutBor T)) (es fs : List (EndpointPair × T)) (key : EndpointPair) (w : T)
-      → option_copied_mut r ≡ lookup (ends.eq key) es
-      → (IsSome (lookup (ends.eq key) es) → (q : EndpointPair) → lookup (ends.eq q) fs ≡ cond (ends.eq key q) (Some w) (lookup (ends.eq q) es))
-      → OnSome r (Rewrites (map.from_entries {R = key_cmp} es) (map.from_entries fs) key w)
-  written None es fs key w value updates = tt
-  written (Some x) es fs key w value updates =
-      let flows : map.from_entries {R = key_cmp} fs ≡ map.insert (map.from_entries es) key w =
-      inserted es fs key w (updates (ap is_some (sym value))) in
-      let there : found (map.from_entries es) key ≡ Some x.now = found_is es key ∙ sym value in
-      record {
-        flows = flows;
-        found = λ other. ap (λ m. found m other) flows ∙ found-insert (map.from_entries es) key w other;
-        len = ap (λ m. map.len m) flows ∙ len-insert keys_total (map.from_entries es) key w
-            ∙ ap (λ (o : Option T). cond (is_some o) (map.len {R = key_cmp} (map.from_entries es)) (map.len {R = key_cmp} (map.from_entries es) + 1)) there;
-      }
-
   lookup_last : (test : EndpointPair → Bool) (es : List (EndpointPair × T)) (e : EndpointPair × T) → lookup test es ≡ None → test e.0 ≡ true → lookup test (es ++ e ∷ []) ≡ Some e.1
   lookup_last test [] e none last = ap (λ b. cond b (Some e.1) None) last
   lookup_last test (d ∷ es) e none last = by (test d.0) refl (λ rest. lookup_last test es e rest last)
@@ -107,16 +74,72 @@ module _ {T : Type 0} where
           ∙ later (sym (ap (λ b. cond b (Some d.1) (lookup test es)) h) ∙ none)
 
   -- the last entry is found by its key, where no other entry has it
-  pub found_last : (es fs : List (EndpointPair × T)) (e : EndpointPair × T) → es ≡ fs ++ e ∷ [] → lookup (ends.eq e.0) fs ≡ None → found (map.from_entries es) e.0 ≡ Some e.1
+  found_last : (es fs : List (EndpointPair × T)) (e : EndpointPair × T) → es ≡ fs ++ e ∷ [] → lookup (ends.eq e.0) fs ≡ None → found (map.from_entries es) e.0 ≡ Some e.1
   found_last es fs e split none = found_is es e.0 ∙ ap (lookup (ends.eq e.0)) split ∙ lookup_last (ends.eq e.0) fs e none (reflexive e.0)
 
-  pub no_entries : (es : List (EndpointPair × T)) → (0 < length es → ⊥) → map.from_entries {R = key_cmp} es ≡ map.empty
-  no_entries [] h = refl
-  no_entries (e ∷ es) h = absurd (h (omega arith))
-
-  pub some_entries : (es : List (EndpointPair × T)) → map.from_entries {R = key_cmp} es ≡ map.empty → 0 < length es → ⊥
+  some_entries : (es : List (EndpointPair × T)) → map.from_entries {R = key_cmp} es ≡ map.empty → 0 < length es → ⊥
   some_entries [] h more = omega arith
   some_entries (e ∷ es) h more =
       none≢some e.1 (sym (get-empty key_cmp e.0) ∙ ap (λ m. found m e.0) (sym h)
       ∙ found-insert (map.from_entries es) e.0 e.1 e.0
       ∙ ap (λ b. cond b (Some e.1) (found (map.from_entries es) e.0)) (sym (eq_key e.0 e.0) ∙ reflexive e.0))
+
+module _ {T : Type 0} where
+  -- what a box holds, where there is one
+  abbrev pub held : Option (Box T) → Option T
+  held r = option_map (λ b. b.value) r
+
+  held_cond : (b : Bool) (r s : Option (Box T)) → held (cond b r s) ≡ cond b (held r) (held s)
+  held_cond true r s = refl
+  held_cond false r s = refl
+
+  lookup_unboxed : (test : EndpointPair → Bool) (es : List (EndpointPair × Box T)) → lookup test (unboxed es) ≡ held (lookup test es)
+  lookup_unboxed test [] = refl
+  lookup_unboxed test (e ∷ es) = ap (cond (test e.0) (Some e.1.value)) (lookup_unboxed test es) ∙ sym (held_cond (test e.0) (Some e.1) (lookup test es))
+
+  -- entries whose boxes differ from others at one key
+  abbrev pub Differ : List (EndpointPair × Box T) → List (EndpointPair × Box T) → EndpointPair → Option (Box T) → Type 0
+  Differ es fs key r = (q : EndpointPair) → lookup (ends.eq q) fs ≡ cond (ends.eq key q) r (lookup (ends.eq q) es)
+
+  differ_unboxed : (es fs : List (EndpointPair × Box T)) (key : EndpointPair) (r : Option (Box T)) → Differ es fs key r
+      → (q : EndpointPair) → lookup (ends.eq q) (unboxed fs) ≡ cond (ends.eq key q) (held r) (lookup (ends.eq q) (unboxed es))
+  differ_unboxed es fs key r h q = lookup_unboxed (ends.eq q) fs ∙ ap held (h q) ∙ held_cond (ends.eq key q) r (lookup (ends.eq q) es)
+      ∙ ap (cond (ends.eq key q) (held r)) (sym (lookup_unboxed (ends.eq q) es))
+
+  pub found_boxed : (es : List (EndpointPair × Box T)) (key : EndpointPair) → found (map.from_entries (unboxed es)) key ≡ held (lookup (ends.eq key) es)
+  found_boxed es key = found_is (unboxed es) key ∙ lookup_unboxed (ends.eq key) es
+
+  pub inserted_boxed : (es fs : List (EndpointPair × Box T)) (key : EndpointPair) (box : Box T) → Differ es fs key (Some box)
+      → map.from_entries {R = key_cmp} (unboxed fs) ≡ map.insert (map.from_entries (unboxed es)) key box.value
+  inserted_boxed es fs key box h = inserted (unboxed es) (unboxed fs) key box.value (differ_unboxed es fs key (Some box) h)
+
+  pub removed_boxed : (es fs : List (EndpointPair × Box T)) (key : EndpointPair) → Differ es fs key None
+      → map.from_entries {R = key_cmp} (unboxed fs) ≡ map.remove (map.from_entries (unboxed es)) key
+  removed_boxed es fs key h = removed (unboxed es) (unboxed fs) key (differ_unboxed es fs key None h)
+
+  unboxed_append : (es fs : List (EndpointPair × Box T)) → unboxed (es ++ fs) ≡ unboxed es ++ unboxed fs
+  unboxed_append [] fs = refl
+  unboxed_append (e ∷ es) fs = ap (λ rest. (e.0, e.1.value) ∷ rest) (unboxed_append es fs)
+
+  pub found_last_boxed : (es fs : List (EndpointPair × Box T)) (e : EndpointPair × Box T) → es ≡ fs ++ e ∷ [] → lookup (ends.eq e.0) fs ≡ None
+      → found (map.from_entries (unboxed es)) e.0 ≡ Some e.1.value
+  found_last_boxed es fs e split none =
+      found_last (unboxed es) (unboxed fs) (e.0, e.1.value) (ap unboxed split ∙ unboxed_append fs (e ∷ [])) (lookup_unboxed (ends.eq e.0) fs ∙ ap held none)
+
+  pub some_entries_boxed : (es : List (EndpointPair × Box T)) → map.from_entries {R = key_cmp} (unboxed es) ≡ map.empty → 0 < length es → ⊥
+  some_entries_boxed [] h more = omega arith
+  some_entries_boxed (e ∷ es) h more = some_entries (unboxed (e ∷ es)) h (omega arith)
+
+  -- a write into the box of a key puts the value at the key
+  pub written : (box : Box T) (es fs : List (EndpointPair × Box T)) (key : EndpointPair) (w : T)
+      → Some box ≡ lookup (ends.eq key) es → Differ es fs key (Some (with_value box w))
+      → Rewrites (map.from_entries {R = key_cmp} (unboxed es)) (map.from_entries (unboxed fs)) key w
+  written box es fs key w there updates =
+      let flows : map.from_entries {R = key_cmp} (unboxed fs) ≡ map.insert (map.from_entries (unboxed es)) key w = inserted_boxed es fs key (with_value box w) updates in
+      record {
+        flows = flows;
+        found = λ other. ap (λ m. found m other) flows ∙ found-insert (map.from_entries (unboxed es)) key w other;
+        len = ap (λ m. map.len m) flows ∙ len-insert keys_total (map.from_entries (unboxed es)) key w
+            ∙ ap (λ (o : Option T). cond (is_some o) (map.len {R = key_cmp} (map.from_entries (unboxed es))) (map.len {R = key_cmp} (map.from_entries (unboxed es)) + 1))
+            (found_boxed es key ∙ ap held (sym there));
+      }

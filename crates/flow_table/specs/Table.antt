@@ -1,5 +1,6 @@
 -- What a flow table holds: a finite map from keys to values.
-use Rattle.std.specs.Prelude.{◌≡◌, ◌==◌, ℕ, refl, Option, Some, if◌then◌else◌}
+use Rattle.std.specs.Prelude.{◌≡◌, ◌==◌, ℕ, refl, List, map as each, Option, Some, if◌then◌else◌}
+use Rattle.std.specs.Global.{Box}
 use Rattle.std.specs.Coded.{Coded, code_by, coded×, coded_ℕ}
 use Rattle.std.specs.FinMap as map
 use Rattle.std.specs.declared.cmp.Ordering.{Ordering}
@@ -29,6 +30,10 @@ pub record Rewrites {T : Type 0} (old new : Flows T) (key : EndpointPair) (value
   pub flows : new ≡ map.insert old key value
   pub found : (other : EndpointPair) → found new other ≡ (if same_key key other then Some value else found old other)
   pub len : map.len new ≡ map.len old
+
+-- the entries of a table, with what the boxes hold
+abbrev pub unboxed : {T : Type 0} → List (EndpointPair × Box T) → List (EndpointPair × T)
+unboxed es = each (λ e. (e.0, e.1.value)) es
 
 -- an endpoint as numbers
 abbrev pub numbers_of : Endpoint → ℕ × (ℕ × ℕ)

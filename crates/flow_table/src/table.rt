@@ -13,22 +13,23 @@ use indexmap::IndexMap;
 use std::alloc::Global;
 use std::marker::Model;
 
-/// What is kept for each open connection, by its key. Contracts see it as a finite map. Every call
-/// takes constant time on average.
+/// What is kept for each open connection, by its key, in a box of its own. Contracts see it as a finite map.
+/// Every call takes constant time on average.
 #[derive(Drop)]
 pub struct FlowTable<T> {
-    flows: IndexMap<Key, T, KeyHashing>,
+    flows: IndexMap<Key, Box<T>, KeyHashing>,
+    alloc: Global,
 }
 
 impl<T> Model for FlowTable<T> {
     ghost use Rattle.std.specs.FinMap as map;
-    ghost use Rattle.flow_table.specs.Table.{key_cmp, Flows, coded_pair};
+    ghost use Rattle.flow_table.specs.Table.{key_cmp, Flows, coded_pair, unboxed};
 
     ghost Value = { Flows T };
 
     ghost coded = { map.code coded_pair T.code };
 
-    ghost view = { λ table. map.from_entries table.flows.entries };
+    ghost view = { λ table. map.from_entries (unboxed table.flows.entries) };
 }
 
 impl<T> FlowTable<T> {
@@ -42,6 +43,7 @@ impl<T> FlowTable<T> {
     {
         FlowTable {
             flows: IndexMap::with_hasher(alloc, KeyHashing::fixed()),
+            alloc,
         }
     }
 
@@ -53,6 +55,7 @@ impl<T> FlowTable<T> {
     {
         FlowTable {
             flows: IndexMap::with_hasher(alloc, KeyHashing::seeded(seed)),
+            alloc,
         }
     }
 
@@ -68,11 +71,15 @@ impl<T> FlowTable<T> {
         ensures err { OnErr result (self.new ≡ self.old) }
         ensures returned { IfErr result (λ back. back ≡ value) }
     {
-        match self.flows.insert(key, value) {
+        let boxed = match Box::new(self.alloc, value) {
+            Ok(boxed) => boxed,
+            Err(failed) => return Err(failed.value),
+        };
+        match self.flows.insert(key, boxed) {
             Ok(_) => Ok(()),
             Err(failed) => {
-                let (_, value) = failed.value;
-                Err(value)
+                let (_, boxed) = failed.value;
+                Err(Box::into_inner(boxed))
             }
         }
     }
@@ -81,7 +88,8 @@ impl<T> FlowTable<T> {
     pub fn get(&self, key: &Key) -> Option<&T>
         ensures value { option_copied result ≡ found self.now key.now }
     {
-        self.flows.get(key)
+        let boxed = self.flows.get(key)?;
+        Some(boxed.as_ref())
     }
 
     /// The value of a key, to write, where the key is there.
@@ -89,7 +97,10 @@ impl<T> FlowTable<T> {
         ensures* writes_back { sem 𝓛 (LendsFlow T.row self.entry key.now result) }
         ensures value { option_copied_mut result ≡ found self.old key.now }
     {
-        self.flows.get_mut(key)
+        match self.flows.get_mut(key) {
+            Some(boxed) => Some(boxed.as_mut()),
+            None => None,
+        }
     }
 
     /// Removes a key with its value, where the key is there. The other connections are not moved
@@ -101,7 +112,8 @@ impl<T> FlowTable<T> {
         ensures none { IfNone result (self.new ≡ self.old) }
         ensures len { IfSome result (λ _. map.len self.new + 1 ≡ map.len self.old) }
     {
-        self.flows.swap_remove(key)
+        let boxed = self.flows.swap_remove(key)?;
+        Some(Box::into_inner(boxed))
     }
 
     /// Lets go of a key with its value, where the key is there.
@@ -123,6 +135,7 @@ impl<T> FlowTable<T> {
         ensures none { IfNone result (self.new ≡ self.old) }
         ensures len { IfSome result (λ _. map.len self.new + 1 ≡ map.len self.old) }
     {
-        self.flows.pop()
+        let (key, boxed) = self.flows.pop()?;
+        Some((key, Box::into_inner(boxed)))
     }
 }

@@ -1,20 +1,37 @@
-use Rattle.std.proofs.Common.{refl, ap, sym, subst, ◌∙◌, OnSome}
+use Rattle.std.proofs.Common.{Some, is_some, refl, ap, sym, subst, ◌∙◌}
+use Rattle.std.specs.Box.{with_value}
 use Rattle.std.specs.FinMap as map
-use Rattle.flow_table.specs.Table.{key_cmp, found, Rewrites}
-use Rattle.flow_table.proofs.Entries.{found_is, written}
+use Rattle.flow_table.specs.Table.{key_cmp, found, Rewrites, unboxed}
+use Rattle.flow_table.proofs.Entries.{held, found_boxed, written}
 use Rattle.flow_table.proofs.table.FlowTable.get_mut.Goals as goal
 
-pub returns : goal.returns
-returns g c = (
+pub returns-in-Some : goal.returns-in-Some
+returns-in-Some g c = (
   (
     refl,
-    (λ w. subst (λ m. OnSome c.get_mut.result (Rewrites m (map.from_entries {R = key_cmp} (c.get_mut.follows.lender w).entries) c.args.key.now w)) c.self.view_is
-        (written c.get_mut.result c.self.inside.flows.entries (c.get_mut.follows.lender w).entries c.args.key.now w c.get_mut.ensures.value
-        (λ there. ((c.get_mut.follows.holds w).3 there).0))),
-    ap (λ flows. map.from_entries {R = key_cmp} flows.entries) c.get_mut.follows.holds-at-none ∙ c.self.view_is,
+    (λ w. let after = c.get_mut.follows.lender (with_value c.in-Some.boxed.now w) in
+        subst (λ m. Rewrites m (map.from_entries {R = key_cmp} (unboxed after.entries)) c.args.key.now w) c.self.view_is
+        (written c.in-Some.boxed.now c.self.inside.flows.entries after.entries c.args.key.now w c.in-Some.ensures.value
+        ((c.get_mut.follows.holds (with_value c.in-Some.boxed.now w)).3 (ap is_some (sym c.in-Some.ensures.value))).0)),
+    refl,
   ),
   record {
     writes_back = tt;
-    value = c.get_mut.ensures.value ∙ sym (found_is c.self.inside.flows.entries c.args.key.now) ∙ ap (λ m. found m c.args.key.now) c.self.view_is;
+    value = ap Some c.as_mut.ensures.value ∙ ap held c.in-Some.ensures.value
+        ∙ sym (found_boxed c.self.inside.flows.entries c.args.key.now) ∙ ap (λ m. found m c.args.key.now) c.self.view_is;
+  },
+)
+
+pub returns-in-None : goal.returns-in-None
+returns-in-None g c = (
+  (
+    refl,
+    (λ w. tt),
+    ap (λ flows. map.from_entries {R = key_cmp} (unboxed flows.entries)) c.get_mut.follows.holds-at-none ∙ c.self.view_is,
+  ),
+  record {
+    writes_back = tt;
+    value = ap held c.in-None.ensures.value
+        ∙ sym (found_boxed c.self.inside.flows.entries c.args.key.now) ∙ ap (λ m. found m c.args.key.now) c.self.view_is;
   },
 )
