@@ -141,6 +141,7 @@ impl Flow {
 
     // Makes the raises of a phase, one after the other, each over the list that the one before it left. Of those that
     // nobody hears nothing is made: they call nothing, and no change is asked that isn't made yet.
+    #[inline(always)]
     fn make<A: App, F: Forests>(
         &mut self,
         alloc: Global,

@@ -52,6 +52,7 @@ pub(crate) fn look(
 }
 
 // Reads on from the mark.
+#[inline(never)]
 fn look_next(
     alloc: Global,
     keep: bool,
@@ -112,6 +113,7 @@ fn kept_bytes(alloc: Global, keep: bool, bytes: &[u8]) -> Result<Bytes, AllocErr
 }
 
 // Reads what is kept in a range.
+#[inline(never)]
 fn look_at(
     alloc: Global,
     keep: bool,

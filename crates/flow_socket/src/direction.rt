@@ -90,6 +90,7 @@ impl KeptDirection {
     /// Takes a packet: its payload and its FIN, unless it has RST. The first packet sets the
     /// origin. The receive window is that from before the packet. Nothing changes where memory is
     /// refused.
+    #[inline(always)]
     pub(crate) fn take(
         &mut self,
         h: &Head,

@@ -87,6 +87,7 @@ impl FlowSocket {
     /// `from`, and the offer of its window (RFC 9293, section 3.8.6). The scale counts in the first
     /// packet with SYN that `from` sends.
     #[tactic(auto, unfolding(crate::specs::Emulation::sent, crate::specs::Emulation::sent_answer))]
+    #[inline(always)]
     pub fn send(&mut self, from: Side, h: &Head, scale: Option<u8>) -> Sent
         requires scale { ForSome scale (λ shift. shift ≤ 14) }
         ensures stands { SocketStandsAfter self.old self.new (sent from h.now scale) }
@@ -147,6 +148,7 @@ impl FlowSocket {
 
     /// Makes phase R of a packet that `from` sent: the step of its receiver. The payload has `h.len`
     /// bytes. Nothing changes where memory is refused.
+    #[inline(always)]
     pub fn receive(&mut self, from: Side, h: &Head, payload: &[u8]) -> Result<Got, AllocError>
         requires len { h.now.len ≡ length payload.now }
         requires bytes { length payload.now ≤ 65535 }

@@ -93,6 +93,7 @@ impl<T> FlowTable<T> {
     }
 
     /// The value of a key, to write, where the key is there.
+    #[inline(always)]
     pub fn get_mut(&mut self, key: &Key) -> Option<&mut T>
         ensures* writes_back { sem 𝓛 (LendsFlow T.row self.entry key.now result) }
         ensures value { option_copied_mut result ≡ found self.old key.now }

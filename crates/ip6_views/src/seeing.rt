@@ -42,6 +42,7 @@ fn sight4(frame: &[u8]) -> Sight<'_>
 }
 
 // What is seen of a frame whose IPv6 header begins at `ip`.
+#[inline(never)]
 fn sight6(frame: &[u8], ip: usize) -> Sight<'_>
     requires start { ip ≡ ip_start frame.now }
     requires within { ip ≤ 18 }

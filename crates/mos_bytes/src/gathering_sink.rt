@@ -193,6 +193,7 @@ impl<S: Sink> Sink for GatheringSink<S> {
     ghost lasting = { gathering_lasting };
 
     /// Holds the piece. Where it has no room, what is held is handed on before. It takes no memory.
+    #[inline(always)]
     fn write_all(&mut self, bytes: &[u8]) -> Result<(), Failed>
         ensures bytes { WriteAdds (given_to self.old) (given_to self.new) result bytes.now }
         ensures sound { IsOk result ↔ (failures_of self.new ≡ 0) }

@@ -231,6 +231,7 @@ impl Capture {
 
     /// Reads the next record into the frame, whose memory it uses again. After any answer but `Step::Frame` the capture
     /// is no longer live, and the frame holds nothing that counts.
+    #[inline(always)]
     pub fn next<S: Source>(&mut self, source: &mut S, frame: &mut Frame) -> Result<Step, NextError>
         requires live { IsTrue self.old.is_live }
         ensures gives { NextGives self.old self.new (S.left source.old) (S.left source.new) frame.new result }

@@ -123,6 +123,7 @@ fn append(
 }
 
 // Places a segment that leaves a hole behind these bytes, and lies in their page. Where memory is refused, they stay.
+#[inline(never)]
 fn leave_hole(
     bytes: &mut Vec<u8>,
     start: u64,
@@ -153,6 +154,7 @@ fn leave_hole(
 }
 
 // The window that has these bytes as its first page. Where memory is refused, they stay.
+#[inline(never)]
 fn spread(bytes: &mut Vec<u8>) -> Result<Box<Window>, AllocError>
     requires { IsLaid (in_order bytes.old) }
     ensures err { OnErr result (bytes.new.items ≡ bytes.old.items) }

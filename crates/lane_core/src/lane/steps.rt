@@ -195,6 +195,7 @@ impl<A: App + Drop, F: Forests + Drop> Lane<A, F> {
     }
 
     // A segment that begins a record: the open connection of its key, where there is one, was silent for too long.
+    #[inline(never)]
     fn start(
         &mut self,
         alloc: Global,
