@@ -120,7 +120,10 @@ impl Ledger {
         ensures counts { self.new.counts ≡ self.old.counts }
     {
         self.drop = self.drop.or(reaction.drop);
-        let changes = &reaction.changes;
-        self.changes.extend_from_slice(changes.as_slice())
+        let changes = reaction.changes.as_slice();
+        if changes.is_empty() {
+            return Ok(());
+        }
+        self.changes.extend_from_slice(changes)
     }
 }
