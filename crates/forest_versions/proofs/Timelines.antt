@@ -2,7 +2,7 @@
 use Rattle.std.proofs.Common.{◌≡◌, ℕ, suc, ◌+◌, ◌<◌, ◌≤◌, leb, true, false, cond, List, [], ◌∷◌, length, get_or, take, drop, refl, sym, ap, ◌∙◌, arith}
 use Rattle.std.specs.List.{fold}
 use Rattle.std.specs.List.Sorted.{IsPartitionPoint}
-use Rattle.std.proofs.lemmas.List.{take_more, take-append-drop, length-drop, get_or-drop}
+use Rattle.std.proofs.lemmas.List.{take_more, take_all, take-append-drop, length-drop, get_or-drop}
 use Rattle.std.proofs.lemmas.List.Sums.{fold-append}
 use Rattle.forest_versions.specs.Timeline.{Line, as_of}
 
@@ -38,3 +38,14 @@ module _ {T : Type 0} (line : Line T) (v : ℕ) where
       let after = late v (fold (chosen v) line.first (take (i + 1) line.steps)) (drop (i + 1) line.steps)
       (λ k e w. rw (get_or-drop (i + 1) line.steps k e) (found.1 (i + 1 + k) e (omega arith) (omega (arith, length-drop (i + 1) line.steps)))) in
       split ∙ (after ∙ before)
+
+  -- the last step gives the value where it isn't later
+  pub as_of-last : (i : ℕ) (d : ℕ × T) → i + 1 ≡ length line.steps → leb (get_or line.steps i d).0 v ≡ true → as_of line v ≡ (get_or line.steps i d).1
+  unfolding as_of
+  as_of-last i d ends now =
+      ap (fold (chosen v) line.first) (sym (take_all (i + 1) line.steps (omega arith))) ∙ taken v line.first line.steps i d (omega arith) now
+
+  -- without a step it is the first value
+  pub as_of-none : length line.steps ≡ 0 → as_of line v ≡ line.first
+  unfolding as_of
+  as_of-none none = ap (fold (chosen v) line.first) (sym (take_all 0 line.steps (omega arith)))

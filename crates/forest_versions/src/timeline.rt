@@ -35,8 +35,24 @@ impl<T: Drop> Timeline<T> {
         }
     }
 
-    /// The value at a version.
+    /// The value at a version. Nearly always it is the last one that is asked, so the last change is looked at first.
     pub(crate) fn at(&self, version: u32) -> &T
+        ensures { result.now ≡ as_of self.now version }
+    {
+        let count = self.steps.len();
+        if count == 0 {
+            return &self.first;
+        }
+        let last = &self.steps[count - 1];
+        if last.0 <= version {
+            &last.1
+        } else {
+            self.searched(version)
+        }
+    }
+
+    /// The value at a version, as `at` has it, by a search of the changes.
+    fn searched(&self, version: u32) -> &T
         ensures { result.now ≡ as_of self.now version }
     {
         let later = self.steps.partition_point(|step| step.0 <= version);
