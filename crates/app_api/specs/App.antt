@@ -9,6 +9,7 @@ use Rattle.app_api.specs.declared.rule.Rule.{Rule}
 use Rattle.app_api.specs.Events.{is_rcv}
 use Rattle.app_api.specs.Numbers.{rise_from}
 use Rattle.app_api.specs.Reg.{are_presets}
+use Rattle.app_api.specs.Reaction.{asks_nothing}
 
 -- what an application answers
 pub record Meaning : Type 0 where
@@ -40,6 +41,10 @@ pub record IsLawful (app : Meaning) : Type 0 where
   pub names : (t : Tally) → IsTrue (list_all (λ f. is_field_name f.0) (app.fields t))
   pub few : (t : Tally) → length (app.fields t) ≤ 256
   pub no_drop : (t : Tally) (call : Call) (rules : List Rule) → IsTrue (is_rcv call.hook) → (app.react t call rules).1.drop ≡ None
+
+-- at the receiver a callback changes nothing that is kept, and asks nothing
+abbrev pub RestsAtReceiver : Meaning → Type 0
+RestsAtReceiver app = (t : Tally) (call : Call) (rules : List Rule) → IsTrue (is_rcv call.hook) → app.react t call rules ≡ (t, asks_nothing)
 
 -- a field as plain data
 abbrev pub field_shown : Option (Bor (List ℕ) × ℕ) → Option (List ℕ × ℕ)

@@ -2,7 +2,7 @@ use Rattle.std.specs.Prelude.{true, List, [], ◌∷◌, refl}
 use Rattle.std.proofs.Common.{lit≤}
 use Rattle.native_filters.specs.declared.facts.Hook.TheVariants.{Snd, Rcv}
 use Rattle.app_api.specs.declared.registration.Reg.{Reg}
-use Rattle.app_api.specs.App.{Meaning, IsLawful}
+use Rattle.app_api.specs.App.{Meaning, IsLawful, RestsAtReceiver}
 use Rattle.app_api.specs.Events.{PKT_IN, ORPHAN, allows_hook}
 use Rattle.app_api.specs.Reg.{preset_reg}
 use Rattle.app_api.specs.Reaction.{asks_nothing}
@@ -29,3 +29,7 @@ log-lawful = record {
   few = λ t. lit≤ tt;
   no_drop = λ t call rules rcv. refl;
 }
+
+pub log-rests : RestsAtReceiver log
+unfolding log
+log-rests = λ t call rules rcv. refl

@@ -1,7 +1,7 @@
 //! Applications: what they answer at each callback.
 
-ghost use Rattle.std.specs.Prelude.{◌≡◌, IsTrue, slice_get};
-ghost use Rattle.app_api.specs.App.{Meaning, IsLawful, are_rules, field_shown};
+ghost use Rattle.std.specs.Prelude.{◌≡◌, Bool, true, IsTrue, slice_get};
+ghost use Rattle.app_api.specs.App.{Meaning, IsLawful, RestsAtReceiver, are_rules, field_shown};
 ghost use Rattle.app_api.specs.Reg.{reg_of};
 
 use crate::reaction::Reaction;
@@ -63,6 +63,9 @@ pub trait App {
     /// What it answers.
     ghost meaning: { Self → Meaning };
 
+    /// Whether it rests at the receiver.
+    ghost rests: { Self → Bool };
+
     /// The preset of a number, or `None` where it has none.
     fn preset(&self, number: u8) -> Option<Reg>
         ensures { result ≡ reg_of (meaning self.now).presets number };
@@ -78,10 +81,18 @@ pub trait App {
         ensures tally { t.new ≡ ((meaning self.now).react t.old call.now rules.now).0 }
         ensures reaction { result ≡ ((meaning self.now).react t.old call.now rules.now).1 };
 
+    /// Whether it rests at the receiver: there none of its callbacks changes the tally or asks anything. So where nobody
+    /// is told of such a callback it has only to be counted. An application of which that isn't known answers `false`.
+    fn rests_at_receiver(&self) -> bool
+        ensures { result ≡ rests self.now };
+
     /// The name and value of a field, by its place from 0, or `None` where there is none.
     fn field(&self, i: u8, t: &Tally) -> Option<(&str, u64)>
         ensures { field_shown result ≡ slice_get ((meaning self.now).fields t.now) i };
 
     /// Its presets may be presets, its fields' names are names, and at the receiver it asks no drop.
     ghost lawful: { (app : Self) → IsLawful (meaning app) };
+
+    /// One that rests at the receiver does nothing there.
+    ghost rested: { (app : Self) → rests app ≡ true → RestsAtReceiver (meaning app) };
 }

@@ -1,6 +1,7 @@
 //! The application that only logs.
 
-ghost use Rattle.app_api.specs.Log.{log, log-lawful};
+ghost use Rattle.std.specs.Prelude.{true};
+ghost use Rattle.app_api.specs.Log.{log, log-lawful, log-rests};
 
 use crate::app::{App, Call, Tally};
 use crate::events::{ORPHAN, PKT_IN};
@@ -17,7 +18,11 @@ pub struct LogApp;
 impl App for LogApp {
     ghost meaning = { λ _. log };
 
+    ghost rests = { λ _. true };
+
     ghost lawful = { λ _. log-lawful };
+
+    ghost rested = { λ _ _. log-rests };
 
     fn preset(&self, number: u8) -> Option<Reg> {
         match number {
@@ -34,6 +39,10 @@ impl App for LogApp {
 
     fn react(&self, _t: &mut Tally, _call: &Call, _rules: &[Rule]) -> Reaction {
         Reaction::nothing()
+    }
+
+    fn rests_at_receiver(&self) -> bool {
+        true
     }
 
     fn field(&self, _i: u8, _t: &Tally) -> Option<(&str, u64)> {

@@ -8,7 +8,7 @@ use Rattle.app_api.specs.declared.app.Tally.{Tally}
 use Rattle.app_api.specs.declared.reaction.Reaction.{Reaction}
 use Rattle.app_api.specs.declared.reaction.Reason.TheVariants as reason
 use Rattle.app_api.specs.declared.registration.Reg.{Reg}
-use Rattle.app_api.specs.App.{Meaning, IsLawful}
+use Rattle.app_api.specs.App.{Meaning, IsLawful, RestsAtReceiver}
 use Rattle.app_api.specs.Events.{PKT_IN, ORPHAN, is_snd, is_rcv, allows_hook}
 use Rattle.app_api.specs.Reaction.{asks_nothing}
 use Rattle.app_api.specs.Reg.{preset_reg}
@@ -82,3 +82,14 @@ firewall-lawful = record {
   few = λ t. lit≤ tt;
   no_drop = λ t call rules rcv. asked-no_drop call (decision rules call.facts) rcv;
 }
+
+rests-at : (t : Tally) (call : Call) (decided : Bool × ℕ) → IsTrue (is_rcv call.hook) → reaction_to t call decided ≡ (t, asks_nothing)
+rests-at t call decided rcv =
+    elim call.hook as (λ h. IsTrue (is_rcv h) → reaction_to t (record call { hook = h }) decided ≡ (t, asks_nothing)) [
+      | Snd ↦ λ rcv. absurd (false≢true rcv)
+      | Rcv ↦ λ _. refl
+    ] rcv
+
+pub firewall-rests : RestsAtReceiver firewall
+unfolding firewall
+firewall-rests = λ t call rules rcv. rests-at t call (decision rules call.facts) rcv

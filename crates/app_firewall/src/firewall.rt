@@ -1,8 +1,8 @@
 //! The firewall as an application.
 
-ghost use Rattle.std.specs.Prelude.{◌≡◌, ◌&&◌, ◌==◌};
+ghost use Rattle.std.specs.Prelude.{◌≡◌, ◌&&◌, ◌==◌, true};
 ghost use Rattle.app_api.specs.Events.{is_snd};
-ghost use Rattle.app_firewall.specs.Firewall.{firewall, firewall-lawful, drops_by};
+ghost use Rattle.app_firewall.specs.Firewall.{firewall, firewall-lawful, firewall-rests, drops_by};
 
 use crate::decision::decide;
 use app_api::{App, Call, Changes, ORPHAN, PKT_IN, Reaction, Reason, Reg, Rule, Tally};
@@ -21,7 +21,11 @@ pub struct FirewallApp;
 impl App for FirewallApp {
     ghost meaning = { λ _. firewall };
 
+    ghost rests = { λ _. true };
+
     ghost lawful = { λ _. firewall-lawful };
+
+    ghost rested = { λ _ _. firewall-rests };
 
     fn preset(&self, number: u8) -> Option<Reg> {
         match number {
@@ -52,6 +56,10 @@ impl App for FirewallApp {
         } else {
             Reaction::nothing()
         }
+    }
+
+    fn rests_at_receiver(&self) -> bool {
+        true
     }
 
     fn field(&self, i: u8, t: &Tally) -> Option<(&str, u64)> {

@@ -11,11 +11,15 @@ use words::AppKind;
 pub(crate) struct Chosen(pub(crate) AppKind);
 
 impl App for Chosen {
-    ghost use Rattle.capture_replay.specs.Apps.{meaning_of, lawful_app};
+    ghost use Rattle.capture_replay.specs.Apps.{meaning_of, lawful_app, rests_of, rested_app};
 
     ghost meaning = { λ chosen. meaning_of chosen.0 };
 
+    ghost rests = { λ chosen. rests_of chosen.0 };
+
     ghost lawful = { λ chosen. lawful_app chosen.0 };
+
+    ghost rested = { λ chosen is. rested_app chosen.0 is };
 
     fn preset(&self, number: u8) -> Option<Reg> {
         match self.0 {
@@ -41,6 +45,15 @@ impl App for Chosen {
             AppKind::Acct => AcctApp.react(t, call, rules),
             AppKind::Rexmit => RexmitApp.react(t, call, rules),
             AppKind::Firewall => FirewallApp.react(t, call, rules),
+        }
+    }
+
+    fn rests_at_receiver(&self) -> bool {
+        match self.0 {
+            AppKind::Log => LogApp.rests_at_receiver(),
+            AppKind::Acct => AcctApp.rests_at_receiver(),
+            AppKind::Rexmit => RexmitApp.rests_at_receiver(),
+            AppKind::Firewall => FirewallApp.rests_at_receiver(),
         }
     }
 

@@ -9,4 +9,5 @@ pub mod Phases
 pub mod FirstTrees
 pub mod Firing
 pub mod Unheard
+pub mod Resting
 pub mod Silenced

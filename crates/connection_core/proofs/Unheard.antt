@@ -34,7 +34,7 @@ called-none : (app : Meaning) (s : ControlState) (number : ℕ) (from : Side) (r
 unfolding called_at
 called-none app s number from raise c none = ap (called_all app s number from raise c) none
 
-settled-none : (s : ControlState) (c : PacketUnderWay) → c.asked ≡ [] → settled s c ≡ c
+pub settled-none : (s : ControlState) (c : PacketUnderWay) → c.asked ≡ [] → settled s c ≡ c
 unfolding settled
 settled-none s c none = ap (λ l. record (changed_all s l c) { asked = [] }) none ∙ (λ i. record c { asked = sym none i })
 
@@ -55,7 +55,7 @@ made_silent app s keep list i number from raise socket notes ledger silent none 
 
 -- ---- a phase
 
-phase-none : (app : Meaning) (s : ControlState) (number : ℕ) (from : Side) (raises : List Raise) (c : PacketUnderWay) → CallNothing s c.active raises → c.asked ≡ []
+pub phase-none : (app : Meaning) (s : ControlState) (number : ℕ) (from : Side) (raises : List Raise) (c : PacketUnderWay) → CallNothing s c.active raises → c.asked ≡ []
     → phase app s number from raises c ≡ c
 unfolding phase
 phase-none app s number from [] c silent none = refl

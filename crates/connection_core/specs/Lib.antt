@@ -5,6 +5,7 @@ pub mod History
 pub mod Silence
 pub mod Trees
 pub mod Unheard
+pub mod Resting
 pub mod Numbers
 pub mod Reach
 pub mod Laws

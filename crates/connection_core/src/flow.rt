@@ -105,6 +105,7 @@ impl Flow {
     // Makes one raise: calls what fires of the private list as it is, and then makes the changes that the callbacks
     // ask. The tree is borrowed from the store for the calls alone, so no walk sees it change. Room for the changes is
     // taken first; it is still there at the next raise.
+    #[inline(always)]
     fn raise<A: App, F: Forests>(
         &mut self,
         alloc: Global,
@@ -263,6 +264,10 @@ impl Flow {
         self.count += 1;
         let tree = forests.tree_of(&self.forest);
         if !hears_receiver(&terms.in_force, tree, arrived.head, &got) {
+            return Ok(());
+        }
+        if terms.rests(tree) {
+            ledger.count(0);
             return Ok(());
         }
         let phase = Phase {

@@ -13,6 +13,7 @@ pub mod laws;
 mod ledger;
 mod look;
 mod orphans;
+mod rests;
 mod silent;
 mod terms;
 

@@ -20,7 +20,7 @@ pub struct Terms<'a, A> {
 }
 
 /// Registrations below this number are presets.
-const FIRST_OF_SCRIPTS: u8 = 16;
+pub(crate) const FIRST_OF_SCRIPTS: u8 = 16;
 
 impl<A: App> Terms<'_, A> {
     /// Runs a callback: a preset's application, or the action of a script's registration.

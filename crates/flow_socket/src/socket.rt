@@ -105,6 +105,7 @@ impl FlowSocket {
     }
 
     // Steps the end that sends a packet. The shifts are read by the ends from before the step.
+    #[inline(always)]
     fn step_sender(&mut self, from: Side, h: &Head, scale: Option<u8>) -> Change
         requires scale { ForSome scale (λ shift. shift ≤ 14) }
         ensures stands { SocketStandsAfter self.old self.new (stepped from h.now scale) }
@@ -120,6 +121,7 @@ impl FlowSocket {
     }
 
     // Offers a packet's window on the stream that its sender receives, after the step.
+    #[inline(always)]
     fn offer(&mut self, from: Side, h: &Head)
         ensures stands { SocketStandsAfter self.old self.new (with_offer from h.now) }
         ensures client { self.new.client.stream ≡ self.old.client.stream }
@@ -178,6 +180,7 @@ impl FlowSocket {
     }
 
     // Steps the end that receives a packet.
+    #[inline(always)]
     fn step_receiver(&mut self, of: Side, facts: &SegFacts) -> Change
         ensures stands { SocketStandsAfter self.old self.new
             (λ e. record e { ends = ends_after_receive of facts.now e.ends }) }
@@ -191,6 +194,7 @@ impl FlowSocket {
     }
 
     // Which of the SYN and the FIN of `of` a number acknowledges.
+    #[inline(always)]
     fn acks(&self, of: Side, ack: u32) -> Acks
         requires next { next_at of self.now ≤ 2 ^ 62 }
         ensures syn { SocketTells self.now result.syn (λ e. acks_syn ack (direction_of of e)) }
@@ -213,6 +217,7 @@ impl FlowSocket {
     }
 
     // The packet's direction takes it.
+    #[inline(always)]
     fn take(&mut self, from: Side, h: &Head, payload: &[u8]) -> Result<Taken, AllocError>
         requires bytes { length payload.now ≤ 65535 }
         requires next { next_at from self.old ≤ 2 ^ 62 }

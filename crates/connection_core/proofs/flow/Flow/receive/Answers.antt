@@ -6,6 +6,8 @@ use Rattle.connection_core.specs.Trees.{active_in, InternsWithin}
 use Rattle.connection_core.proofs.Errors.{on_err_always}
 use Rattle.connection_core.proofs.Phases.{receiver_makes, receiver_costs_none}
 use Rattle.connection_core.proofs.Unheard.{phase_silent}
+use Rattle.connection_core.proofs.Resting.{CountsOne, phase_rests}
+use Rattle.connection_core.specs.Resting.{Rests}
 use Rattle.connection_core.specs.Unheard.{CallNothing}
 use Rattle.builtin_events.specs.Raises.{receiver_raises}
 use Rattle.shared_forest.specs.Lists.{TreeLists}
@@ -66,4 +68,32 @@ returns-then-not-hears_receiver-clause-stands g c = λ s force.
           (λ before after. Reached keep others (active_in at tree) c.receive.new.self c.args.notes.now c.args.ledger.now interns interns before.altered after)
           u c.in_ok-got.ensures.stands c.in_ok-got.ensures.answer refl
           (phase_silent app s keep others (active_in at tree) interns arrived.number arrived.from raises c.receive.new.self c.args.notes.now c.args.ledger.now silent c.requires.quiet);
+    }
+
+-- one thing is called of it, and that does nothing
+pub returns-then-rests-clause-stands : goal.returns-then-rests-clause-stands
+returns-then-rests-clause-stands g c = λ s force.
+    let app = g.A.App.meaning c.args.terms.now.app.now in
+    let lent = c.args.terms.now.in_force in
+    let at = registered lent in
+    let keep = c.args.terms.now.keep in
+    let tree = g.F.ForestView.content c.args.forests.now c.args.self.now.forest in
+    let interns = g.F.ForestView.interns c.args.forests.now in
+    let arrived = c.args.arrived.now in
+    let raises = receiver_raises arrived.head.now arrived.from c.args.self.now.count c.in_ok-got.got in
+    let rests = subst (λ (t : TreeLists). Rests app keep lent t) c.tree_of-tree.ensures (c.rests.ensures c.if-rests.true) in
+    let alone = rests.1.1 s force in
+    let counts : CountsOne c.args.ledger.now c.count.new.self = record {
+      callbacks = c.count.ensures.callbacks;
+      weight = c.count.ensures.weight;
+      changes = c.count.ensures.changes;
+      drop = c.count.ensures.drop;
+    } in record {
+      stands = λ others under_way u.
+          receiver_makes app s keep others (active_in at tree) arrived.number arrived.from arrived.head.now arrived.payload.now c.args.self.now.count
+          c.in_ok-got.got raises c.args.self.now.socket c.receive.new.self c.args.notes.now c.args.ledger.now under_way
+          (λ before after. Reached keep others (active_in at tree) c.receive.new.self c.args.notes.now c.count.new.self interns interns before.altered after)
+          u c.in_ok-got.ensures.stands c.in_ok-got.ensures.answer refl
+          (phase_rests app rests.1.0 s keep rests.0 others (active_in at tree) interns arrived.number arrived.from arrived.head.now c.args.self.now.count c.in_ok-got.got
+          alone.0 alone.1 c.receive.new.self c.args.notes.now c.args.ledger.now c.count.new.self counts c.requires.quiet);
     }

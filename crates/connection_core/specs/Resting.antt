@@ -1,0 +1,29 @@
+-- Packets of which one thing is called at their receiver, and that does nothing.
+use Rattle.std.specs.Prelude.{◌≡◌, ℕ, ◌==◌, nat_lt, Bool, true, false, List, [], ◌∷◌}
+use Rattle.native_filters.specs.declared.facts.Facts.{Facts}
+use Rattle.native_filters.specs.declared.facts.Hook.TheVariants.{Rcv}
+use Rattle.app_api.specs.declared.registration.Reg.{Reg}
+use Rattle.app_api.specs.declared.registration.PeekSpec.TheVariants.{Nothing}
+use Rattle.app_api.specs.App.{Meaning, RestsAtReceiver}
+use Rattle.shared_forest.specs.Lists.{TreeLists}
+use Rattle.event_trees.specs.Fires.{fires}
+use Rattle.forest_versions.specs.State.{ControlState}
+use Rattle.connection_core.specs.declared.in_force.InForce.{InForce}
+use Rattle.connection_core.specs.InForce.{ForControl}
+use Rattle.connection_core.specs.Trees.{list_in_force}
+
+-- a preset of `pkt_in` that looks at nothing
+pub record IsPlain (r : Reg) : Type 0 where
+  pub preset : nat_lt r.number 16 ≡ true
+  pub event : r.event ≡ 257
+  pub unseen : r.peek ≡ Nothing
+
+-- of a list this registration alone is called at the receiver, at `pkt_in`, whatever the facts are
+pub record CallsAlone (s : ControlState) (list : List Reg) (r : Reg) : Type 0 where
+  pub plain : IsPlain r
+  pub called : (facts : Facts) → fires s.defs facts Rcv 257 list ≡ r ∷ []
+  pub alone : (facts : Facts) (event : ℕ) → (257 == event) ≡ false → fires s.defs facts Rcv event list ≡ []
+
+-- no entries are kept, and all that a packet calls at its receiver is one preset of an application that does nothing there
+abbrev pub Rests : Meaning → Bool → InForce → TreeLists → Type 0
+Rests app keep lent tree = (keep ≡ false) × (RestsAtReceiver app × ForControl lent (λ s. (r : Reg) × CallsAlone s (list_in_force lent tree) r))
