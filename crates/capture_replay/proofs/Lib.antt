@@ -1,5 +1,4 @@
 pub mod Ends
-pub mod Events
 pub mod Following
 pub mod Closing
 pub mod Reading

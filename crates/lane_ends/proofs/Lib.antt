@@ -1,5 +1,4 @@
 mod Lowest
 mod Merged
-mod Weighing
 mod Kept
 mod Latest
