@@ -1,5 +1,4 @@
-use Rattle.std.proofs.Common.{◌≡◌, ◌++◌, drop, map}
-use Rattle.std.proofs.Common.{option_to_list}
+use Rattle.std.proofs.Common.{◌≡◌, ◌++◌, drop, option_to_list}
 use Rattle.native_filters.specs.declared.facts.Hook.TheVariants.{Rcv}
 use Rattle.event_trees.specs.Walk.{called}
 use Rattle.connection_core.proofs.rests.lone_receiver.Given as goal
