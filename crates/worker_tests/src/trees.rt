@@ -2,7 +2,7 @@
 
 use crate::counting::Counting;
 use crate::frames::{ACK, SYN, SYN_ACK};
-use crate::lanes::{Packet, follows};
+use crate::lanes::follows;
 use crate::plain::{natives, script};
 use app_api::LogApp;
 use control_script::Script;
@@ -19,39 +19,42 @@ reg 16 pkt_in snd do on 17 on 18
 reg 17 start snd off
 reg 18 pkt_in rcv off";
 
-// The handshake of a port this much higher: three packets, numbered from three times that on.
-fn handshake(by: u8) -> [Packet; 3] {
-    let first = 3 * u64::from(by);
-    [
-        (first, &SYN, by),
-        (first + 1, &SYN_ACK, by),
-        (first + 2, &ACK, by),
-    ]
-}
+const HANDSHAKE: &[&[u8; 54]] = &[&SYN, &SYN_ACK, &ACK];
 
+// Gives a lane the handshake of a port this much higher: three packets, numbered from three times that on.
 fn opens<L: Recorder>(alloc: Global, lane: &mut L, script: &Script, by: u8) -> bool {
-    follows(alloc, lane, script, &handshake(by))
-}
-
-// The rows of the store after the first handshake and after 99 more, and what the lane ends with.
-fn share(alloc: Global, script: &Script) -> bool {
-    let Ok(mut lane) = Lane::new(alloc, LogApp, Table::new(alloc), true) else {
-        return false;
-    };
-    if !opens(alloc, &mut lane, script, 0) {
-        return false;
-    }
-    let rows = lane.forests().rows();
-    for by in 1..100 {
-        if !opens(alloc, &mut lane, script, by) {
+    let mut number = 3 * u64::from(by);
+    for like in HANDSHAKE {
+        if !follows(alloc, lane, script, &[(number, *like, by)]) {
             return false;
         }
+        number = number.wrapping_add(1);
     }
-    lane.forests().rows() == rows
-        && match lane.finish(alloc, None, &natives()) {
-            Ok(end) => (end.records.as_slice().len(), end.callbacks) == (100, 600),
-            Err(_) => false,
-        }
+    true
+}
+
+// Whether 99 handshakes after the first add no row to the store.
+fn add_none(alloc: Global, lane: &mut Lane<LogApp, Table>, script: &Script) -> bool {
+    let mut all = opens(alloc, lane, script, 0);
+    let rows = lane.forests().rows();
+    for by in 1..100 {
+        all = all && opens(alloc, lane, script, by);
+    }
+    all && lane.forests().rows() == rows
+}
+
+// Whether a lane ends with so many records and callbacks.
+fn ends<L: Recorder + Drop>(alloc: Global, lane: L, records: usize, callbacks: u64) -> bool {
+    lane.finish(alloc, None, &natives()).is_ok_and(|end| {
+        (end.records.as_slice().len(), end.callbacks) == (records, callbacks)
+    })
+}
+
+fn share(alloc: Global, script: &Script) -> bool {
+    match Lane::new(alloc, LogApp, Table::new(alloc), true) {
+        Ok(mut lane) => { add_none(alloc, &mut lane, script) && ends(alloc, lane, 100, 600) }
+        Err(_) => false,
+    }
 }
 
 // Row by row the same trees: connections that change their registrations alike share what the change made.
@@ -99,8 +102,8 @@ fn an_open_connection_has_its_tree(rt: HostRuntime) {
 fn looks(alloc: Global, script: &Script) -> Option<[u64; 3]> {
     let mut lane = Lane::new(alloc, LogApp, Counting::new(alloc), true).ok()?;
     let mut looks = [0; 3];
-    for (place, packet) in handshake(0).iter().enumerate() {
-        if !follows(alloc, &mut lane, script, &[*packet]) {
+    for (place, like) in HANDSHAKE.iter().enumerate() {
+        if !follows(alloc, &mut lane, script, &[(place as u64, *like, 0)]) {
             return None;
         }
         looks[place % 3] = lane.forests().looks();
