@@ -33,7 +33,7 @@ use Rattle.worker_laws.specs.Ends.{IsJoined}
 use Rattle.worker_laws.specs.Taken.{events_at, HaveRun, AreOneRun}
 use Rattle.lane_worker.specs.declared.worker.Worker.{Worker}
 use Rattle.worker_pool.specs.declared.team.dispatch.Whole.{Whole}
-use Rattle.forward_pool.specs.declared.lane_answers.LaneAnswers.{LaneAnswers}
+use Rattle.forward_stream.specs.declared.lane_answers.LaneAnswers.{LaneAnswers}
 use Rattle.worker_pool.specs.declared.job.PoolError.{PoolError}
 use Rattle.worker_pool.specs.declared.job.PoolError.TheVariants.{TooLong, TooMany, ReadFault, WriteFault, Heavy, NoMemory}
 use Rattle.lane_worker.specs.Worked.{SameAnswers}
@@ -41,8 +41,8 @@ use Rattle.worker_pool.specs.Team.{HaveServed}
 use Rattle.worker_pool.specs.Run.{MayHave}
 use Rattle.worker_pool.specs.Ending.{by_key, CameTo, AreEnded, IsCause}
 use Rattle.forward_pool.specs.Forward.{RefusedAs, ForwardsAll, ForwardsFront, ForwardsOver}
-use Rattle.forward_pool.specs.Streamed.{AreLaneAnswers, Leaves, HasLeft, Streamed, StopsAs, lane_at, taken_from}
-use Rattle.forward_pool.specs.Drained.{AreAnswerEnds, Drains, AreBeside, AreDrained, OfferAll, sent_in, sent_from}
+use Rattle.forward_stream.specs.Streamed.{AreLaneAnswers, Leaves, HasLeft, Streamed, StopsAs, lane_at, taken_from}
+use Rattle.forward_stream.specs.Drained.{AreAnswerEnds, Drains, AreBeside, AreDrained, OfferAll, sent_in, sent_from}
 use Rattle.forward_pool.specs.Explained.{AreGood, LeavesFront, LeavesAll}
 use Rattle.worker_pool.proofs.Concluding.{versions_stay}
 use Rattle.lane_worker.proofs.Fronts.{IsPrefix-trans}

@@ -33,12 +33,12 @@ use Rattle.worker_laws.specs.Whole.{verdicts_under}
 use Rattle.worker_laws.specs.Taken.{packets_at, events_at, verdicts_in, HaveRun, HaveRunAll}
 use Rattle.worker_laws.specs.Streamed.{answers_to, answer_at, lane_in, frame_bytes}
 use Rattle.lane_worker.specs.declared.worker.Worker.{Worker}
-use Rattle.forward_pool.specs.declared.lane_answers.LaneAnswers.{LaneAnswers}
+use Rattle.forward_stream.specs.declared.lane_answers.LaneAnswers.{LaneAnswers}
 use Rattle.lane_worker.specs.Worked.{Sends}
 use Rattle.worker_pool.specs.Ending.{by_key, CameTo}
 use Rattle.forward_pool.specs.Forward.{left_by_all, forwarded_with}
-use Rattle.forward_pool.specs.Streamed.{IsAnswered, AreLaneAnswers, Leaves, HasLeft, lane_at}
-use Rattle.forward_pool.specs.Drained.{sent_in, sent_from}
+use Rattle.forward_stream.specs.Streamed.{IsAnswered, AreLaneAnswers, Leaves, HasLeft, lane_at}
+use Rattle.forward_stream.specs.Drained.{sent_in, sent_from}
 use Rattle.worker_pool.specs.Answered.{TellsFrames, HasAnswered, HaveAnswered}
 use Rattle.forward_pool.specs.Explained.{AreGood}
 use Rattle.lane_worker.proofs.Fronts.{IsPrefix-refl, IsPrefix-trans}

@@ -18,12 +18,12 @@ use Rattle.worker_laws.specs.Share.{share, rank}
 use Rattle.lane_rings.specs.Waiting.{Waiting}
 use Rattle.worker_laws.specs.Forward.{Leaving, Keeps, beginning}
 use Rattle.lane_worker.specs.declared.worker.Worker.{Worker}
-use Rattle.forward_pool.specs.declared.lane_answers.LaneAnswers.{LaneAnswers}
+use Rattle.forward_stream.specs.declared.lane_answers.LaneAnswers.{LaneAnswers}
 use Rattle.worker_pool.specs.declared.team.dispatch.Whole.{Whole}
 use Rattle.worker_pool.specs.declared.job.PoolError.{PoolError}
 use Rattle.worker_pool.specs.declared.job.PoolError.TheVariants.{NoMemory}
 use Rattle.forward_pool.specs.Forward.{ForwardsFront, ForwardsOver}
-use Rattle.forward_pool.specs.Streamed.{AreUnused, IsAnswered, AreLaneAnswers, Leaves, StopsAs, lane_at, taken_from}
+use Rattle.forward_stream.specs.Streamed.{AreUnused, IsAnswered, AreLaneAnswers, Leaves, StopsAs, lane_at, taken_from}
 
 module _ {L : Type 0} where
   no_lane_answers : AreLaneAnswers {L = L} [] [] []

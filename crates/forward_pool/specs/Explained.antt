@@ -18,8 +18,8 @@ use Rattle.lane_worker.specs.declared.worker.Worker.{Worker}
 use Rattle.worker_pool.specs.Run.{MayHave}
 use Rattle.worker_pool.specs.Ending.{by_key}
 use Rattle.forward_pool.specs.Forward.{forwarded_with}
-use Rattle.forward_pool.specs.Streamed.{Leaves, HasLeft, lane_at}
-use Rattle.forward_pool.specs.Drained.{sent_from}
+use Rattle.forward_stream.specs.Streamed.{Leaves, HasLeft, lane_at}
+use Rattle.forward_stream.specs.Drained.{sent_from}
 
 module _ {L : Type 0} where
   -- none of the lanes failed

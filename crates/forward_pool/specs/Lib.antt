@@ -1,5 +1,2 @@
 pub mod Forward
-pub mod Streamed
-pub mod Drained
 pub mod Explained
-pub mod TakenAnswers

@@ -8,10 +8,10 @@ ghost use Rattle.lane_rings.specs.declared.items.Packet.{Packet};
 ghost use Rattle.lane_rings.specs.declared.ring.RingTx.{RingTx};
 ghost use Rattle.lane_core.specs.Run.{LaneEvent};
 ghost use Rattle.lane_worker.specs.declared.worker.Worker.{Worker as Begun};
-ghost use Rattle.forward_pool.specs.declared.lane_answers.LaneAnswers.{LaneAnswers as Answers};
+ghost use Rattle.forward_stream.specs.declared.lane_answers.LaneAnswers.{LaneAnswers as Answers};
 ghost use Rattle.worker_pool.specs.Team.{IsTeam, AllKeep, HaveServed};
 ghost use Rattle.worker_pool.specs.Ending.{CameTo};
-ghost use Rattle.forward_pool.specs.Streamed.{AreLaneAnswers};
+ghost use Rattle.forward_stream.specs.Streamed.{AreLaneAnswers};
 ghost use Rattle.forward_pool.specs.Explained.{AreGood, LeavesFront, LeavesAll};
 
 use control_script::Script;

@@ -1,9 +1,8 @@
 //! A run that is forwarded: this thread reads the capture, sends its packets to the workers, and writes what they let
 //! pass.
 
-use crate::lane_answers::LaneAnswers;
-use crate::stream::stream;
 use control_script::Script;
+use forward_stream::{LaneAnswers, stream};
 use lane_core::Recorder;
 use lane_rings::Resequencer;
 use lane_worker::Gate;
@@ -43,7 +42,7 @@ impl<'a, R: Wait, L: Recorder + Drop, S: Source, O: Sink, G: Gate> Feed<L>
     ghost use Rattle.worker_pool.specs.declared.job.PoolError.TheVariants.{ReadFault, WriteFault, NoMemory};
     ghost use Rattle.worker_pool.specs.GoesOn.{GoesOn};
     ghost use Rattle.worker_pool.specs.Source.{ReadsOn};
-    ghost use Rattle.forward_pool.specs.Streamed.{AreLaneAnswers, Leaves, Streamed, lane_at, taken_from};
+    ghost use Rattle.forward_stream.specs.Streamed.{AreLaneAnswers, Leaves, Streamed, lane_at, taken_from};
 
     ghost script = { λ d. d.script.now };
 

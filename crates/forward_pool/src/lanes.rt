@@ -11,15 +11,15 @@ ghost use Rattle.control_script.specs.Order.{commands_of};
 ghost use Rattle.worker_pool.specs.GoesOn.{GoesOn};
 ghost use Rattle.worker_pool.specs.AtWork.{CanRun, Served};
 ghost use Rattle.worker_pool.specs.Source.{IsReadWhole, ReadsOn};
-ghost use Rattle.forward_pool.specs.Streamed.{AreLaneAnswers, Leaves, Streamed, lane_at, taken_from};
+ghost use Rattle.forward_stream.specs.Streamed.{AreLaneAnswers, Leaves, Streamed, lane_at, taken_from};
 ghost use Rattle.forward_pool.specs.Forward.{ForwardsFront, ForwardsOver};
 
 use crate::feed::ForwardFeed;
-use crate::lane_answers::LaneAnswers;
 use crate::leave::leave;
 use crate::make::{WAITING_ANSWERS, make_forward_team};
 use app_api::App;
 use control_script::Script;
+use forward_stream::LaneAnswers;
 use lane_core::Recorder;
 use lane_rings::Resequencer;
 use lane_worker::{Gate, Worker};

@@ -4,10 +4,10 @@ ghost use Rattle.std.specs.Prelude.{◌≡◌, ◌+◌, ◌≤◌, Bool, false, 
 ghost use Rattle.app_api.specs.App.{Meaning};
 ghost use Rattle.worker_pool.specs.Making.{IsFresh, AreBegun};
 ghost use Rattle.worker_pool.specs.Team.{IsTeam, AllKeep};
-ghost use Rattle.forward_pool.specs.Streamed.{AreUnused};
+ghost use Rattle.forward_stream.specs.Streamed.{AreUnused};
 
-use crate::lane_answers::LaneAnswers;
 use app_api::App;
+use forward_stream::LaneAnswers;
 use lane_core::{Lane, Recorder};
 use lane_rings::answer_ring;
 use shared_forest::{ForestStore, StoreUser};

@@ -6,7 +6,7 @@ use Rattle.lane_core.specs.Sight.{arrivals}
 use Rattle.worker_laws.specs.Whole.{verdicts_under}
 use Rattle.worker_laws.specs.Streamed.{answer_at, lane_in}
 use Rattle.worker_pool.specs.Ending.{by_key}
-use Rattle.forward_pool.specs.Streamed.{lane_at}
+use Rattle.forward_stream.specs.Streamed.{lane_at}
 use Rattle.lane_worker.proofs.Fronts.{IsPrefix-refl}
 use Rattle.forward_pool.proofs.Explaining.{blank, past, js_count, same_lanes, more_packets, ran_all, front_of_same, left_front, left_all}
 use Rattle.forward_pool.proofs.explain.lanes_have_answered.Goals as goal

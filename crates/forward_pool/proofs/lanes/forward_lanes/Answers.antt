@@ -11,7 +11,7 @@ use Rattle.shared_forest.specs.contracts.store_user.StoreUserForestView.TheImpl 
 use Rattle.lane_core.proofs.Handed.{lane_send}
 use Rattle.worker_pool.specs.declared.job.PoolError.TheVariants.{WriteFault}
 use Rattle.forward_pool.specs.Forward.{ForwardsOver}
-use Rattle.forward_pool.specs.Streamed.{lane_at}
+use Rattle.forward_stream.specs.Streamed.{lane_at}
 use Rattle.forward_pool.proofs.Stopping.{unread, told_last}
 use Rattle.forward_pool.proofs.Forwarding.{run_begins, ended_early, no_fault_early, read_all, rose_before, rose_after}
 use Rattle.worker_pool.proofs.Source.{reads_less, reads_nothing}

@@ -5,7 +5,7 @@ use Rattle.lane_core.specs.Run.{LaneEvent}
 use Rattle.lane_worker.specs.declared.worker.Worker.{Worker}
 use Rattle.worker_pool.specs.Team.{HaveServed}
 use Rattle.worker_pool.specs.Ending.{CameTo}
-use Rattle.forward_pool.specs.Streamed.{StopsAs, lane_at, taken_from}
+use Rattle.forward_stream.specs.Streamed.{StopsAs, lane_at, taken_from}
 use Rattle.forward_pool.specs.Explained.{AreGood, LeavesFront, LeavesAll}
 use Rattle.forward_pool.proofs.Exits.{came_after, never_too_heavy, are_beside, refused_as, leaves_now, cut_before, cut_at, stopped_at, over_at}
 use Rattle.forward_pool.proofs.leave.leave.Goals as goal

@@ -1,7 +1,7 @@
 use Rattle.std.proofs.Common.{◌≡◌, Bool, length, IfOk}
 use Rattle.app_api.specs.App.{Meaning}
 use Rattle.worker_pool.specs.Making.{IsFresh, AreBegun}
-use Rattle.forward_pool.specs.Streamed.{AreUnused}
+use Rattle.forward_stream.specs.Streamed.{AreUnused}
 use Rattle.forward_pool.proofs.make.answering_team_of.Given as goal
 
 -- the workers so far have begun nothing, where each lane that is made is fresh

@@ -1,5 +1,5 @@
 use Rattle.std.proofs.Common.{refl, sym, ap, length}
-use Rattle.forward_pool.specs.declared.lane_answers.LaneAnswers.{LaneAnswers}
+use Rattle.forward_stream.specs.declared.lane_answers.LaneAnswers.{LaneAnswers}
 use Rattle.forward_pool.proofs.Forwarding.{more_unused}
 use Rattle.forward_pool.proofs.make.enlist_answering.Goals as goal
 
