@@ -12,6 +12,7 @@ use worker_laws::forward::taking_stays_right;
 /// What a lane of a forward run answers: where its answers are taken, and how many.
 #[derive(Drop)]
 pub struct LaneAnswers {
+    /// Its end of the ring through which the lane's worker answers.
     pub answers: AnswerRx,
     /// How many packets were sent to the lane.
     pub sent: u64,
