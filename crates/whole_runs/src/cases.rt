@@ -17,7 +17,7 @@ struct Case<'a> {
     // A number of workers for each run, or none where the words stand as they are.
     workers: &'a str,
     status: &'a str,
-    // The file that is wanted on the output, or none.
+    // The file that is wanted on the output, or none. Behind `..` it is what the output ends with.
     output: &'a str,
     // The versions that are wanted, or none where any will do.
     versions: &'a str,
@@ -54,11 +54,24 @@ fn are_versions(versions: &[u32], wanted: &str) -> bool {
     wanted.is_empty() || left.is_empty()
 }
 
+// The file that an output's cell names.
+fn file_of(cell: &str) -> &str {
+    cell.strip_prefix("..").unwrap_or(cell).trim_ascii()
+}
+
+// Whether the output is what its cell wants, whose file has these bytes.
+fn is_output(out: &[u8], cell: &str, bytes: &[u8]) -> bool {
+    if cell.starts_with("..") {
+        return out.ends_with(bytes);
+    }
+    out == bytes
+}
+
 // Of a capture nothing is read where words or script are refused.
 fn is_as_wanted(case: &Case<'_>, run: &Finished, len: usize, output: &[u8]) -> bool {
     let status = run.ended.status;
     case.status.parse::<u8>() == Ok(status)
-        && run.out.as_slice() == output
+        && is_output(run.out.as_slice(), case.output, output)
         && is_told(run.err.as_slice(), case.told)
         && are_versions(run.ended.versions.as_slice(), case.versions)
         && (run.unread == len || (status != 1 && status != 2))
@@ -80,7 +93,7 @@ fn run_case<R: AllocGlobal + Files + Print + Threads + Wait + Sync + Send + Copy
     tally: &mut Tally,
 ) -> io::Result<()> {
     let capture = bytes_of(rt, case.capture)?;
-    let output = match case.output {
+    let output = match file_of(case.output) {
         "" => Vec::new(rt.alloc()),
         file => fs::read(rt, file)?,
     };

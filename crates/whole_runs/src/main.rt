@@ -1,6 +1,6 @@
 //! Whole runs of the program, from capture and script to output and status: prints how many there were, and which differ from
-//! what is wanted. Then it is the program itself, under its own words and over its own streams, so its exit status is that of a
-//! script that is refused.
+//! what is wanted. Then it is the program itself, under its own words and over its own streams: it forwards what a script lets pass
+//! of a capture that is refused at its end, so its exit status is 3.
 #![tactic(auto)]
 
 mod cases;
