@@ -1,6 +1,6 @@
 //! Applications: what they answer at each callback.
 
-ghost use Rattle.std.specs.Prelude.{◌≡◌, Bool, true, IsTrue, slice_get};
+ghost use Rattle.std.specs.Prelude.{◌≡◌, IsTrue, slice_get};
 ghost use Rattle.app_api.specs.App.{Meaning, IsLawful, RestsAtReceiver, are_rules, field_shown};
 ghost use Rattle.app_api.specs.Reg.{reg_of};
 
@@ -58,13 +58,10 @@ impl Tally {
     }
 }
 
-/// An application. No call takes memory.
+/// An application. No call takes memory. What one has to give is `meaning`, `lawful` and all calls but `rests_at_receiver`.
 pub trait App {
     /// What it answers.
     ghost meaning: { Self → Meaning };
-
-    /// Whether it rests at the receiver.
-    ghost rests: { Self → Bool };
 
     /// The preset of a number, or `None` where it has none.
     fn preset(&self, number: u8) -> Option<Reg>
@@ -82,9 +79,12 @@ pub trait App {
         ensures reaction { result ≡ ((meaning self.now).react t.old call.now rules.now).1 };
 
     /// Whether it rests at the receiver: there none of its callbacks changes the tally or asks anything. So where nobody
-    /// is told of such a callback it has only to be counted. An application of which that isn't known answers `false`.
+    /// is told of such a callback it has only to be counted. `false` is always an answer.
     fn rests_at_receiver(&self) -> bool
-        ensures { result ≡ rests self.now };
+        ensures rests { IsTrue result → RestsAtReceiver (meaning self.now) }
+    {
+        false
+    }
 
     /// The name and value of a field, by its place from 0, or `None` where there is none.
     fn field(&self, i: u8, t: &Tally) -> Option<(&str, u64)>
@@ -92,7 +92,4 @@ pub trait App {
 
     /// Its presets may be presets, its fields' names are names, and at the receiver it asks no drop.
     ghost lawful: { (app : Self) → IsLawful (meaning app) };
-
-    /// One that rests at the receiver does nothing there.
-    ghost rested: { (app : Self) → rests app ≡ true → RestsAtReceiver (meaning app) };
 }

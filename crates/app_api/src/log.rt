@@ -1,6 +1,7 @@
 //! The application that only logs.
 
-ghost use Rattle.std.specs.Prelude.{true};
+ghost use Rattle.std.specs.Prelude.{IsTrue};
+ghost use Rattle.app_api.specs.App.{RestsAtReceiver};
 ghost use Rattle.app_api.specs.Log.{log, log-lawful, log-rests};
 
 use crate::app::{App, Call, Tally};
@@ -18,11 +19,7 @@ pub struct LogApp;
 impl App for LogApp {
     ghost meaning = { λ _. log };
 
-    ghost rests = { λ _. true };
-
     ghost lawful = { λ _. log-lawful };
-
-    ghost rested = { λ _ _. log-rests };
 
     fn preset(&self, number: u8) -> Option<Reg> {
         match number {
@@ -41,7 +38,10 @@ impl App for LogApp {
         Reaction::nothing()
     }
 
-    fn rests_at_receiver(&self) -> bool {
+    fn rests_at_receiver(&self) -> bool
+        ensures rests { IsTrue result → RestsAtReceiver log }
+        ensures yes { IsTrue result }
+    {
         true
     }
 

@@ -1,6 +1,7 @@
 //! The firewall as an application.
 
-ghost use Rattle.std.specs.Prelude.{◌≡◌, ◌&&◌, ◌==◌, true};
+ghost use Rattle.std.specs.Prelude.{◌≡◌, ◌&&◌, ◌==◌, IsTrue};
+ghost use Rattle.app_api.specs.App.{RestsAtReceiver};
 ghost use Rattle.app_api.specs.Events.{is_snd};
 ghost use Rattle.app_firewall.specs.Firewall.{firewall, firewall-lawful, firewall-rests, drops_by};
 
@@ -21,11 +22,7 @@ pub struct FirewallApp;
 impl App for FirewallApp {
     ghost meaning = { λ _. firewall };
 
-    ghost rests = { λ _. true };
-
     ghost lawful = { λ _. firewall-lawful };
-
-    ghost rested = { λ _ _. firewall-rests };
 
     fn preset(&self, number: u8) -> Option<Reg> {
         match number {
@@ -58,7 +55,10 @@ impl App for FirewallApp {
         }
     }
 
-    fn rests_at_receiver(&self) -> bool {
+    fn rests_at_receiver(&self) -> bool
+        ensures rests { IsTrue result → RestsAtReceiver firewall }
+        ensures yes { IsTrue result }
+    {
         true
     }
 

@@ -1,12 +1,11 @@
 -- Accounting: which presets it has, what a call changes, and how its fields are named.
-use Rattle.std.proofs.lemmas.Bool.{false≢true}
 use Rattle.std.specs.Prelude.{◌≡◌, Bool, true, false, ◌||◌, List, [], ◌∷◌, refl, codes}
 use Rattle.std.proofs.Common.{lit≤}
 use Rattle.native_filters.specs.declared.facts.Hook.TheVariants.{Snd, Rcv}
 use Rattle.app_api.specs.declared.app.Call.{Call}
 use Rattle.app_api.specs.declared.app.Tally.{Tally}
 use Rattle.app_api.specs.declared.registration.Reg.{Reg}
-use Rattle.app_api.specs.App.{Meaning, IsLawful, RestsAtReceiver}
+use Rattle.app_api.specs.App.{Meaning, IsLawful}
 use Rattle.app_api.specs.Events.{PKT_IN, NEW_DATA, STATE, END, allows_hook}
 use Rattle.app_api.specs.Reaction.{asks_nothing}
 use Rattle.app_api.specs.Reg.{preset_reg}
@@ -74,7 +73,3 @@ acct-lawful = record {
   few = λ t. lit≤ tt;
   no_drop = λ t call rules rcv. refl;
 }
-
--- it counts at the receiver
-pub acct-rests : false ≡ true → RestsAtReceiver acct
-acct-rests is = absurd (false≢true is)

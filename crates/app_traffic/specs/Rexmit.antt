@@ -1,5 +1,4 @@
 -- Retransmissions: which presets it has, what a call changes and asks, and how its fields are named.
-use Rattle.std.proofs.lemmas.Bool.{false≢true}
 use Rattle.std.specs.Prelude.{◌≡◌, ℕ, Bool, true, false, if◌then◌else◌, List, [], ◌∷◌, None, refl, codes}
 use Rattle.std.proofs.Common.{lit≤}
 use Rattle.native_filters.specs.declared.facts.Hook.TheVariants.{Rcv}
@@ -7,7 +6,7 @@ use Rattle.app_api.specs.declared.app.Call.{Call}
 use Rattle.app_api.specs.declared.app.Tally.{Tally}
 use Rattle.app_api.specs.declared.reaction.Reaction.{Reaction}
 use Rattle.app_api.specs.declared.registration.Reg.{Reg}
-use Rattle.app_api.specs.App.{Meaning, IsLawful, RestsAtReceiver}
+use Rattle.app_api.specs.App.{Meaning, IsLawful}
 use Rattle.app_api.specs.Events.{REXMIT, PKT_IN, allows_hook}
 use Rattle.app_api.specs.Reaction.{asks_nothing}
 use Rattle.app_api.specs.Reg.{preset_reg}
@@ -65,7 +64,3 @@ rexmit-lawful = record {
   few = λ t. lit≤ tt;
   no_drop = λ t call rules rcv. asked-no_drop call;
 }
-
--- it counts at the receiver
-pub rexmit-rests : false ≡ true → RestsAtReceiver rexmit
-rexmit-rests is = absurd (false≢true is)

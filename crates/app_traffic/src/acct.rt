@@ -1,7 +1,7 @@
 //! Accounting: packets, bytes and states of each connection.
 
-ghost use Rattle.std.specs.Prelude.{false, ◌≡◌};
-ghost use Rattle.app_traffic.specs.Acct.{acct, acct-lawful, acct-rests, is_client_step, is_server_step};
+ghost use Rattle.std.specs.Prelude.{◌≡◌};
+ghost use Rattle.app_traffic.specs.Acct.{acct, acct-lawful, is_client_step, is_server_step};
 
 use crate::counting::{is_rcv_call_of, is_snd_call_of, plus_if, set_if};
 use app_api::{App, Call, END, NEW_DATA, PKT_IN, Reaction, Reg, Rule, STATE, Tally};
@@ -16,11 +16,7 @@ pub struct AcctApp;
 impl App for AcctApp {
     ghost meaning = { λ _. acct };
 
-    ghost rests = { λ _. false };
-
     ghost lawful = { λ _. acct-lawful };
-
-    ghost rested = { λ _ is. acct-rests is };
 
     fn preset(&self, number: u8) -> Option<Reg> {
         match number {
@@ -55,10 +51,6 @@ impl App for AcctApp {
             t7: set_if(is_server_step(call), t.t7, facts.new),
         };
         Reaction::nothing()
-    }
-
-    fn rests_at_receiver(&self) -> bool {
-        false
     }
 
     fn field(&self, i: u8, t: &Tally) -> Option<(&str, u64)> {

@@ -1,7 +1,7 @@
 //! Retransmissions of each connection.
 
-ghost use Rattle.std.specs.Prelude.{false, ◌≡◌};
-ghost use Rattle.app_traffic.specs.Rexmit.{rexmit, rexmit-lawful, rexmit-rests, switches_on};
+ghost use Rattle.std.specs.Prelude.{◌≡◌};
+ghost use Rattle.app_traffic.specs.Rexmit.{rexmit, rexmit-lawful, switches_on};
 
 use crate::counting::{is_rcv_call, plus_if};
 use app_api::{App, Call, Change1, Changes, PKT_IN, REXMIT, Reaction, Reg, Rule, Tally};
@@ -16,11 +16,7 @@ pub struct RexmitApp;
 impl App for RexmitApp {
     ghost meaning = { λ _. rexmit };
 
-    ghost rests = { λ _. false };
-
     ghost lawful = { λ _. rexmit-lawful };
-
-    ghost rested = { λ _ is. rexmit-rests is };
 
     fn preset(&self, number: u8) -> Option<Reg> {
         match number {
@@ -45,10 +41,6 @@ impl App for RexmitApp {
         } else {
             Reaction::nothing()
         }
-    }
-
-    fn rests_at_receiver(&self) -> bool {
-        false
     }
 
     fn field(&self, i: u8, t: &Tally) -> Option<(&str, u64)> {

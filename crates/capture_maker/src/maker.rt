@@ -4,13 +4,12 @@ ghost use Rattle.std.specs.Prelude.{◌≡◌, ◌+◌, ◌*◌, ◌<◌, ◌≤
 ghost use Rattle.std.specs.Io.{ReadsAtMost};
 ghost use Rattle.std.specs.Io.KnownBytes.{ReadConsumes};
 ghost use Rattle.mos_bytes.specs.Causes.{HasCause};
-ghost use Rattle.mos_bytes.specs.Reads.{BeginsWith, HasAtLeast};
 ghost use Rattle.capture_maker.specs.Made.{MakerState, made, records_from};
 
 use crate::piece::Piece;
 use crate::record::put_record;
 use crate::turns::Turns;
-use mos_bytes::{Failed, Source};
+use mos_bytes::{Failed, Source, copy_front};
 use std::marker::Model;
 
 // The global header: microseconds, version 2.4, records of up to 65,535 bytes, Ethernet.
@@ -64,16 +63,6 @@ impl Maker {
     }
 }
 
-// Copies as many bytes as stand in `from` and have room in `to`, and answers how many.
-fn copy_front(from: &[u8], to: &mut [u8]) -> usize
-    ensures count { result ≡ min (length from.now) (length to.old) }
-    ensures copied { to.new ≡ take result from.now ++ drop result to.old }
-{
-    let count = from.len().min(to.len());
-    to[..count].copy_from_slice(&from[..count]);
-    count
-}
-
 // Makes the record of the next packet, which has this index, and answers the index behind it. Where no turn is left
 // the piece is empty.
 fn make_next(piece: &mut Piece, turns: &mut Turns, index: u32) -> u32
@@ -92,6 +81,7 @@ fn make_next(piece: &mut Piece, turns: &mut Turns, index: u32) -> u32
     }
 }
 
+// Nothing is at hand, though a record may be there: a made capture is never forwarded, so nobody waits for what is held back.
 impl Source for Maker {
     ghost left = { λ m. Some m.left };
 
@@ -104,8 +94,6 @@ impl Source for Maker {
 
     // Nothing is left.
     ghost ended = { λ m. m.left ≡ [] };
-
-    ghost lent = { λ _. [] };
 
     /// Gives the rest of a record, or as much of it as `buf` has room for. It never fails.
     fn read(&mut self, buf: &mut [u8]) -> Result<usize, Failed>
@@ -124,27 +112,4 @@ impl Source for Maker {
         self.place += count;
         Ok(count)
     }
-
-    /// Nothing, though a record may be there: a made capture is never forwarded, so nobody waits for what is held back.
-    fn at_hand(&self) -> &[u8]
-        ensures front { BeginsWith (Some self.now.left) result.now }
-    {
-        &[]
-    }
-
-    /// Nothing, as `at_hand`.
-    fn count_at_hand(&self) -> usize
-        ensures least { HasAtLeast (Some self.now.left) result }
-    {
-        0
-    }
-
-    /// None, as at hand.
-    fn lend(&self) -> &[u8]
-        ensures lent { result.now ≡ [] }
-    {
-        &[]
-    }
-
-    fn pass(&mut self, _count: usize) {}
 }

@@ -3,6 +3,7 @@
 ghost use Rattle.std.specs.Prelude.{◌≡◌, ◌+◌, ◌<◌, ◌≤◌, List, ℕ, [], ◌∷◌, ◌++◌, length, take, drop, min};
 ghost use Rattle.capture_maker.specs.Frames.{four_bytes, two_bytes};
 
+use mos_bytes::put_behind;
 use std::marker::Model;
 
 // How many bytes the longest record has: its head of 16, headers of 54, a payload of 100.
@@ -21,18 +22,6 @@ impl Model for Piece {
     ghost view = { λ p. take p.len p.bytes };
 
     ghost invariant = { λ p. p.len ≤ 170 };
-}
-
-// Writes the bytes behind this place, and answers the place behind them.
-fn put_behind(room: &mut [u8], place: usize, bytes: &[u8]) -> usize
-    requires { place + length bytes.now ≤ length room.old }
-    ensures place { result ≡ place + length bytes.now }
-    ensures room { length room.new ≡ length room.old }
-    ensures put { take result room.new ≡ take place room.old ++ bytes.now }
-{
-    let end = place + bytes.len();
-    room[place..end].copy_from_slice(bytes);
-    end
 }
 
 impl Piece {

@@ -11,15 +11,11 @@ use words::AppKind;
 pub(crate) struct Chosen(pub(crate) AppKind);
 
 impl App for Chosen {
-    ghost use Rattle.capture_replay.specs.Apps.{meaning_of, lawful_app, rests_of, rested_app};
+    ghost use Rattle.capture_replay.specs.Apps.{meaning_of, lawful_app};
 
     ghost meaning = { λ chosen. meaning_of chosen.0 };
 
-    ghost rests = { λ chosen. rests_of chosen.0 };
-
     ghost lawful = { λ chosen. lawful_app chosen.0 };
-
-    ghost rested = { λ chosen is. rested_app chosen.0 is };
 
     fn preset(&self, number: u8) -> Option<Reg> {
         match self.0 {

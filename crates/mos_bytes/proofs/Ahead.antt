@@ -1,10 +1,11 @@
 -- Bytes that were read ahead, before those that a reader has left.
-use Rattle.std.proofs.Common.{◌≡◌, ℕ, ◌+◌, ◌-◌, ◌≤◌, List, [], ◌++◌, length, take, drop, slice_range, None, Some, Result, sym, ap, subst, ◌∙◌, arith, append_assoc, length-take-le}
+use Rattle.std.proofs.Common.{◌≡◌, ℕ, ◌+◌, ◌-◌, ◌≤◌, List, [], ◌++◌, length, take, drop, slice_range, None, Some, Result, sym, ap, subst, ◌∙◌, arith, append_assoc, drop_at, length-append, length-take-le}
 use Rattle.std.proofs.lemmas.List.{drop-take, take-append-drop}
 use Rattle.std.proofs.Math.Seq.{take-append_seam}
 use Rattle.std.specs.declared.option.Option.{Option}
 use Rattle.std.specs.Io.KnownBytes.{Consumes, ReadConsumes, prepend_known}
 use Rattle.std.proofs.KnownBytes.{prepend_known-nil}
+use Rattle.mos_bytes.specs.Reads.{PassesOver}
 use lib.Seq.{drop-drop}
 
 -- the front of what was read ahead is gone
@@ -24,6 +25,17 @@ ahead_passed known n start end buffer within =
     let parts : ahead ≡ take n ahead ++ slice_range buffer (start + n) end =
     sym (take-append-drop n ahead) ∙ ap (λ l. take n ahead ++ l) rest in
     prepend_known-front known ahead (take n ahead) (slice_range buffer (start + n) end) parts
+
+-- the same by how many they are
+pub ahead_passed_over : (known : Option (List ℕ)) (n start end : ℕ) (buffer : List ℕ) → n ≤ end - start → n ≤ length (slice_range buffer start end)
+    → PassesOver (prepend_known (slice_range buffer start end) known) (prepend_known (slice_range buffer (start + n) end) known) n
+ahead_passed_over None n start end buffer within fits = tt
+ahead_passed_over (Some left) n start end buffer within fits =
+    let ahead = slice_range buffer start end in
+    let rest = slice_range buffer (start + n) end ++ left in (
+      omega (arith, fits, length-append ahead left),
+      sym (ap (drop n) (ahead_passed (Some left) n start end buffer within) ∙ drop_at (take n ahead) rest n (length-take-le n ahead fits)),
+    )
 
 -- a read from a buffer, which copies n bytes to the front of another
 pub ahead_read : (known : Option (List ℕ)) (n start end : ℕ) (buffer to behind : List ℕ) → start ≤ end → n ≤ length (slice_range buffer start end)

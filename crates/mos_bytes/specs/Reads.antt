@@ -1,5 +1,5 @@
 -- What a source has at hand, and what `fill` does to the bytes that are left in it, where it tells them.
-use Rattle.std.specs.Prelude.{ℕ, ◌<◌, ◌≤◌, ⊤, List, length, take, Result, MatchResult}
+use Rattle.std.specs.Prelude.{◌≡◌, ℕ, ◌<◌, ◌≤◌, ⊤, List, length, take, drop, Result, MatchResult}
 use Rattle.std.specs.Io.{StartsWith}
 use Rattle.std.specs.declared.option.Option.{Option}
 use Rattle.std.specs.declared.option.Option.TheVariants.{None, Some}
@@ -15,6 +15,12 @@ BeginsWith (Some left) bytes = StartsWith left bytes
 abbrev pub HasAtLeast : Option (List ℕ) → ℕ → Type 0
 HasAtLeast None count = ⊤
 HasAtLeast (Some left) count = count ≤ length left
+
+-- the first so many bytes were left out
+abbrev pub PassesOver : Option (List ℕ) → Option (List ℕ) → ℕ → Type 0
+PassesOver None new count = ⊤
+PassesOver (Some old) None count = ⊥
+PassesOver (Some old) (Some new) count = (count ≤ length old) × (new ≡ drop count old)
 
 -- n bytes were consumed, those at the front of buf, and fewer than buf has room for only where none is left
 pub record Fills (old new : Option (List ℕ)) (n : ℕ) (buf : List ℕ) : Type 0 where

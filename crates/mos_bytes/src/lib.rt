@@ -18,6 +18,7 @@ mod sink;
 mod source;
 mod write_sink;
 
+pub use copy::{copy_front, put_behind};
 pub use failed::Failed;
 pub use folder_shelf::FolderShelf;
 pub use gathering_sink::GatheringSink;

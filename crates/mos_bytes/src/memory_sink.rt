@@ -6,7 +6,7 @@ ghost use Rattle.mos_bytes.specs.Causes.{HasCause, risen};
 ghost use Rattle.mos_bytes.specs.Memory.{SinkLasting, SinkState};
 ghost use Rattle.mos_bytes.specs.Writes.{WriteAdds};
 
-use crate::{Failed, Sink};
+use crate::{Failed, Sink, put_behind};
 use std::marker::Model;
 
 /// A sink that writes over a room of fixed length, and fails at the listed calls.
@@ -56,22 +56,12 @@ impl MemSink {
     }
 }
 
-// Writes the bytes over the room from this place on, and answers the place behind them.
-fn put(room: &mut [u8], place: usize, bytes: &[u8]) -> usize
-    requires { place + length bytes.now ≤ length room.old }
-    ensures place { result ≡ place + length bytes.now }
-    ensures room { length room.new ≡ length room.old }
-    ensures taken { take result room.new ≡ take place room.old ++ bytes.now }
-{
-    let end = place + bytes.len();
-    room[place..end].copy_from_slice(bytes);
-    end
-}
-
 impl Sink for MemSink {
     ghost taken = { λ s. Some s.taken };
 
     ghost faults = { λ s. s.faults };
+
+    ghost pieces = { λ s. Some s.calls };
 
     // The calls that are to fail, and how many bytes the sink has room for in all.
     ghost Lasting = { SinkLasting };
@@ -101,11 +91,11 @@ impl Sink for MemSink {
             return Err(Failed);
         }
         if self.fails.contains(&call) {
-            self.place = put(&mut self.room, self.place, &bytes[..bytes.len() / 2]);
+            self.place = put_behind(&mut self.room, self.place, &bytes[..bytes.len() / 2]);
             self.faults = self.faults.saturating_add(1);
             return Err(Failed);
         }
-        self.place = put(&mut self.room, self.place, bytes);
+        self.place = put_behind(&mut self.room, self.place, bytes);
         Ok(())
     }
 

@@ -7,8 +7,7 @@ ghost use Rattle.mos_bytes.specs.Causes.{HasCause, risen};
 ghost use Rattle.mos_bytes.specs.Memory.{SourceLasting, SourceState};
 ghost use Rattle.mos_bytes.specs.Reads.{BeginsWith, HasAtLeast};
 
-use crate::copy::copy_front;
-use crate::{Failed, Source};
+use crate::{Failed, Source, copy_front};
 use std::marker::Model;
 
 /// A source that gives bytes from memory, and fails at the listed calls.
@@ -82,7 +81,7 @@ impl Source for MemSource {
     // Nothing is left.
     ghost ended = { λ s. s.left ≡ [] };
 
-    ghost lent = { λ _. [] };
+    // It lends nothing: each byte is given by a read, so that the calls which are to fail are met.
 
     /// Gives as many bytes as `buf` has room for and are left, and no more than a piece. A listed call fails and gives none.
     fn read(&mut self, buf: &mut [u8]) -> Result<usize, Failed>
@@ -125,13 +124,4 @@ impl Source for MemSource {
     {
         self.bytes.len() - self.place
     }
-
-    /// None: each byte is given by a read, so that the calls which are to fail are met.
-    fn lend(&self) -> &[u8]
-        ensures lent { result.now ≡ [] }
-    {
-        &[]
-    }
-
-    fn pass(&mut self, _count: usize) {}
 }

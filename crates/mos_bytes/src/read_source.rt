@@ -1,13 +1,13 @@
 //! A source over any reader of std.
 
-ghost use Rattle.std.specs.Prelude.{◌≡◌, ◌≢◌, [], ◌+◌, ◌-◌, ◌≤◌, ⊤, length, take, min, IsOk, OnOk, OnErr};
+ghost use Rattle.std.specs.Prelude.{◌≡◌, ◌≢◌, ◌↔◌, [], ◌+◌, ◌-◌, ◌≤◌, length, take, min, IsTrue, IsOk, OnOk, OnErr};
+ghost use Rattle.std.specs.Bool.{OnTrue, OnFalse};
 ghost use Rattle.std.specs.Io.{ReadsAtMost};
 ghost use Rattle.std.specs.Io.KnownBytes.{Consumes, IsAtEnd, Keeps, ReadConsumes};
 ghost use Rattle.mos_bytes.specs.Causes.{HasCause, risen};
-ghost use Rattle.mos_bytes.specs.Reads.{BeginsWith, HasAtLeast};
+ghost use Rattle.mos_bytes.specs.Reads.{BeginsWith, HasAtLeast, PassesOver};
 
-use crate::copy::copy_front;
-use crate::{Failed, Source};
+use crate::{Failed, Source, copy_front};
 use std::io::Read;
 
 // One call of the system brings many small packets, and as much as a pipe holds at once.
@@ -100,13 +100,7 @@ impl<R: Read> Source for ReadSource<R> {
 
     ghost faults = { source_faults };
 
-    ghost Lasting = { ⊤ };
-
     ghost lasting = { λ _. tt };
-
-    ghost ended = { λ _. ⊤ };
-
-    ghost lent = { ahead_of };
 
     /// Gives what was read ahead, or asks the reader once. An error counts one fault more, any other answer none.
     fn read(&mut self, buf: &mut [u8]) -> Result<usize, Failed>
@@ -148,17 +142,24 @@ impl<R: Read> Source for ReadSource<R> {
 
     /// What was read ahead.
     fn lend(&self) -> &[u8]
-        ensures lent { result.now ≡ ahead_of self.now }
+        ensures front { BeginsWith (source_left R.remaining self.now) result.now }
+        ensures ahead { result.now ≡ ahead_of self.now }
     {
         &self.buffer[self.start..self.end]
     }
 
-    /// Passes over bytes that were read ahead.
-    fn pass(&mut self, count: usize)
-        requires within { count ≤ length (ahead_of self.old) }
-        ensures bytes { Consumes (source_left R.remaining self.old) (source_left R.remaining self.new) (take count (ahead_of self.old)) }
+    /// Passes over bytes that were read ahead, where there are so many.
+    fn pass(&mut self, count: usize) -> bool
+        ensures bytes { OnTrue result
+            (PassesOver (source_left R.remaining self.old) (source_left R.remaining self.new) count) }
+        ensures stays { OnFalse result (self.new ≡ self.old) }
         ensures faults { source_faults self.new ≡ source_faults self.old }
+        ensures answers { IsTrue result ↔ (count ≤ length (ahead_of self.old)) }
     {
+        if count > self.end - self.start {
+            return false;
+        }
         self.start += count;
+        true
     }
 }

@@ -1,6 +1,6 @@
 //! Where whole contents come from, by name.
 
-ghost use Rattle.std.specs.Prelude.{◌≡◌, ◌<◌, ◌≤◌, ℕ, List, length, Err, IfOk, IsErrOf};
+ghost use Rattle.std.specs.Prelude.{◌≡◌, ◌<◌, ◌≤◌, ℕ, List, length, Err, IfOk, OnOk, IsErrOf};
 ghost use Rattle.std.specs.declared.option.Option.{Option};
 ghost use Rattle.std.specs.Io.KnownBytes.{Consumes, IsAtEnd};
 ghost use Rattle.mos_bytes.specs.Causes.{HasCauseOf};
@@ -74,6 +74,7 @@ pub trait Shelf {
     fn fetch(&mut self, alloc: Global, name: &str, limit: usize) -> Result<Vec<u8>, FetchError>
         ensures whole { IfOk result (λ bytes. IsContentWithin limit (content self.old name.now) bytes.items) }
         ensures too_long { result ≡ Err FetchError.TooLong → IsLonger (content self.old name.now) limit }
+        ensures ok { OnOk result (faults self.new ≡ faults self.old) }
         ensures kept { (other : List ℕ) → content self.new other ≡ content self.old other }
         ensures cause { HasCauseOf (faults self.old) (faults self.new) (IsErrOf result FetchError.Failed) }
         ensures lasts { lasting self.new ≡ lasting self.old };

@@ -1,6 +1,6 @@
 //! A sink over any writer of std.
 
-ghost use Rattle.std.specs.Prelude.{◌≡◌, ⊤, IsOk, OnOk, OnErr};
+ghost use Rattle.std.specs.Prelude.{◌≡◌, IsOk, OnOk, OnErr};
 ghost use Rattle.std.specs.Bool.{OnTrue, OnFalse};
 ghost use Rattle.std.specs.Io.KnownBytes.{Appends, Keeps};
 ghost use Rattle.mos_bytes.specs.Causes.{HasCause, risen};
@@ -50,8 +50,6 @@ impl<W: Write> Sink for WriteSink<W> {
     ghost taken = { sink_taken W.contents };
 
     ghost faults = { sink_faults };
-
-    ghost Lasting = { ⊤ };
 
     ghost lasting = { λ _. tt };
 

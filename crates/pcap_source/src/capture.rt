@@ -1,6 +1,7 @@
 //! Reading a capture front to back.
 
 ghost use Rattle.std.specs.Prelude.{◌≡◌, ◌+◌, ◌*◌, ◌<◌, ◌≤◌, ◌⊎◌, ◌↔◌, ℕ, List, length, take, drop, Some, IsTrue, IfSome, IfOk, OnOk, OnErr, IfErr, IsErrOf, Err, true, false, ◌≢◌};
+ghost use Rattle.std.specs.Bool.{OnTrue, OnFalse};
 ghost use Rattle.std.specs.Io.KnownBytes.{Consumes};
 ghost use Rattle.mos_bytes.specs.Causes.{HasCauseOf};
 ghost use Rattle.mos_bytes.specs.Reads.{Fills, FillsPart};
@@ -118,30 +119,41 @@ fn copy_parts(front: &[u8], captured: usize, frame: &mut Frame) -> Result<(), Al
     Ok(())
 }
 
-// Copies the record at the front of what the source lends into the frame, and passes over it.
-fn copy_record<S: Source>(
+// Copies the record at the front of what the source lends into the frame, and passes over it. It answers whether it did:
+// a record stands there whole, and one more is allowed.
+fn take_lent<S: Source>(
     order: Order,
-    captured: usize,
+    count: u32,
     source: &mut S,
     frame: &mut Frame,
-) -> Result<(), AllocError>
-    requires within { 16 + captured ≤ length (S.lent source.old) }
-    requires bounded { captured ≤ 262144 }
-    requires told { captured ≡ number_in order 4 (drop 8 (take 16 (S.lent source.old))) }
-    ensures whole { OnOk result (IsRecord order frame.new) }
-    ensures consumed { OnOk result (Consumes (S.left source.old) (S.left source.new) (record_bytes frame.new)) }
-    ensures stays { OnErr result (source.new ≡ source.old) }
+) -> Result<bool, AllocError>
+    requires { count ≤ 1048576 }
+    ensures few { IfOk result (λ took. OnTrue took (count < 1048576)) }
+    ensures whole { IfOk result (λ took. OnTrue took (IsRecord order frame.new)) }
+    ensures consumed { IfOk result (λ took. OnTrue took
+        (Consumes (S.left source.old) (S.left source.new) (record_bytes frame.new))) }
+    ensures stays { IfOk result (λ took. OnFalse took (S.left source.new ≡ S.left source.old)) }
+    ensures refused { OnErr result (source.new ≡ source.old) }
     ensures faults { S.faults source.new ≡ S.faults source.old }
     ensures lasts { S.lasting source.new ≡ S.lasting source.old }
 {
-    copy_parts(source.lend(), captured, frame)?;
-    source.pass(HEAD + captured);
+    if count == RECORD_LIMIT {
+        return Ok(false);
+    }
+    let front = source.lend();
+    let Some(captured) = whole_data(order, front) else {
+        return Ok(false);
+    };
+    copy_parts(front, captured, frame)?;
+    if !source.pass(HEAD + captured) {
+        return Ok(false);
+    }
     read_numbers(order, frame);
-    Ok(())
+    Ok(true)
 }
 
-// Reads the record at this offset into the frame: at once where the source lends the whole of it, else its head and then its data.
-fn read_record<S: Source>(
+// Reads the record at this offset into the frame: its head and then its data.
+fn read_parts<S: Source>(
     order: Order,
     count: u32,
     offset: u64,
@@ -161,12 +173,6 @@ fn read_record<S: Source>(
     ensures cause { HasCauseOf (S.faults source.old) (S.faults source.new) (IsErrOf result NextError.ReadFault) }
     ensures lasts { S.lasting source.new ≡ S.lasting source.old }
 {
-    if count < RECORD_LIMIT {
-        if let Some(captured) = whole_data(order, source.lend()) {
-            copy_record(order, captured, source, frame)?;
-            return Ok(Step::Frame);
-        }
-    }
     let filled = fill(source, &mut frame.head)?;
     if filled == 0 {
         return Ok(Step::End);
@@ -187,6 +193,33 @@ fn read_record<S: Source>(
     }
     read_numbers(order, frame);
     Ok(Step::Frame)
+}
+
+// Reads the record at this offset into the frame: at once where the source lends the whole of it, else by its parts.
+fn read_record<S: Source>(
+    order: Order,
+    count: u32,
+    offset: u64,
+    source: &mut S,
+    frame: &mut Frame,
+) -> Result<Step, NextError>
+    requires { count ≤ 1048576 }
+    ensures gives { NextGives (reading order count offset)
+        (reading order (count + 1) (offset + 16 + length frame.new.bytes))
+        (S.left source.old) (S.left source.new) frame.new result }
+    ensures few { result ≡ Ok Step.Frame → count < 1048576 }
+    ensures ended { IfOk result (λ step. step ≢ Step.Frame → S.ended source.new) }
+    ensures refused { RefusesAt (reading order count offset) result }
+    ensures whole { result ≡ Ok Step.Frame → IsRecord order frame.new }
+    ensures consumed { result ≡ Ok Step.Frame
+        → Consumes (S.left source.old) (S.left source.new) (record_bytes frame.new) }
+    ensures cause { HasCauseOf (S.faults source.old) (S.faults source.new) (IsErrOf result NextError.ReadFault) }
+    ensures lasts { S.lasting source.new ≡ S.lasting source.old }
+{
+    if take_lent(order, count, source, frame)? {
+        return Ok(Step::Frame);
+    }
+    read_parts(order, count, offset, source, frame)
 }
 
 impl Capture {

@@ -69,9 +69,10 @@ pub record Going {S L : Type 0} (left : S → Option (List ℕ)) (faults : S →
   pub fits : IsFitting s
   pub spent : IsSpent s
   pub source_faults : faults old ≤ faults now
+  pub met : met_at s.stage ≡ met_at r.stage
 
 pub going-none : {S L : Type 0} (left : S → Option (List ℕ)) (faults : S → ℕ) (lasting : S → L) (s : S) (r : Reader) → IsFitting r → IsSpent r → Going left faults lasting s s r r
-going-none left faults lasting s r fits spent = record { gives = Gives-nothing (outlook r (left s)); later = omega arith; lasts = refl; fits = fits; spent = spent; source_faults = omega arith }
+going-none left faults lasting s r fits spent = record { gives = Gives-nothing (outlook r (left s)); later = omega arith; lasts = refl; fits = fits; spent = spent; source_faults = omega arith; met = refl }
 
 -- a cause of the last step
 pub cause-going : {T : Type 0} (before middle now : ℕ) (result : Result T Failed) → before ≤ middle → HasCause middle now result → HasCause before now result

@@ -1,7 +1,8 @@
 -- What a reader gives over a source of which these bytes are left, where they are told.
-use Rattle.std.specs.Prelude.{◌≡◌, ℕ, ◌+◌, ◌<◌, ◌≤◌, ⊤, List, [], length, take, zero, suc, refl, Option, None, Some, Result, Ok, Err, option_map}
+use Rattle.std.specs.Prelude.{◌≡◌, ℕ, ◌+◌, ◌<◌, ◌≤◌, ◌⊎◌, ⊤, List, [], length, take, zero, suc, refl, Option, None, Some, Result, Ok, Err, option_map}
 use Rattle.std.specs.Io.KnownBytes.{IsAtEnd}
 use Rattle.std.specs.Coded.{Coded, Coded-set, code_by, coded×, coded_option, coded_ℕ, Unit-prop}
+use Rattle.mos_bytes.specs.Causes.{Rose, risen}
 use Rattle.mos_bytes.specs.declared.failed.Failed.{Failed}
 use Rattle.pcapng_source.specs.Given.{Given, after, nothing}
 use Rattle.pcapng_source.specs.Blocks.{any}
@@ -58,6 +59,10 @@ StepFits (Err failed) buf = ⊤
 -- the faults of a source and the reads that met a refusal
 abbrev pub faults_with : Reader → ℕ → ℕ
 faults_with r faults = faults + met_at r.stage
+
+-- how a read fails: it has met the refusal, as one read more than before; or the source below failed
+abbrev pub MeetsOrFails : ℕ → ℕ → ℕ → ℕ → Type 0
+MeetsOrFails met_before met_now faults_before faults_now = (met_now ≡ risen met_before) ⊎ ((met_now ≡ met_before) × Rose faults_before faults_now)
 
 -- a read: it gave what it answers, or nothing
 abbrev pub ReadGives : Option Given → Option Given → Result ℕ Failed → List ℕ → Type 0

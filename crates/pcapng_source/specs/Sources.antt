@@ -1,10 +1,10 @@
 -- What a source over a file of either form tells.
-use Rattle.std.specs.Prelude.{◌≡◌, ℕ, ◌≤◌, ⊤, List, [], Option, None, Some, if◌then◌else◌}
+use Rattle.std.specs.Prelude.{◌≡◌, ℕ, ◌+◌, ◌≤◌, ⊤, List, [], Option, None, Some}
 use Rattle.std.specs.Io.KnownBytes.{IsAtEnd}
 use Rattle.mos_bytes.specs.declared.source.Source.{Ghosts}
 use Rattle.pcapng_source.specs.Blocks.{any}
-use Rattle.pcapng_source.specs.Outlooks.{IsOver, bytes_left, faults_with, outlook}
-use Rattle.pcapng_source.specs.Reading.{fault_at, is_plain_at}
+use Rattle.pcapng_source.specs.Outlooks.{IsOver, bytes_left, outlook}
+use Rattle.pcapng_source.specs.Reading.{fault_at, met_at}
 use Rattle.pcapng_source.specs.declared.fault.NgFault.{NgFault}
 use Rattle.pcapng_source.specs.declared.any_source.AnySource.{AnySource}
 
@@ -12,13 +12,17 @@ use Rattle.pcapng_source.specs.declared.any_source.AnySource.{AnySource}
 abbrev pub any_left : {S : Type 0} {source : Ghosts S} → AnySource S source → Option (List ℕ)
 any_left {source = source} a = bytes_left (outlook a.reader (source.left a.source.now))
 
--- the faults of the source below, and the reads that met a refusal
-abbrev pub any_faults : {S : Type 0} {source : Ghosts S} → AnySource S source → ℕ
-any_faults {source = source} a = faults_with a.reader (source.faults a.source.now)
+-- how many reads have met the refusal of the file
+abbrev pub refusals_met : {S : Type 0} {source : Ghosts S} → AnySource S source → ℕ
+refusals_met a = met_at a.reader.stage
 
--- what it lends: of a file that is no pcapng file what the source below does
-abbrev pub any_lent : {S : Type 0} {source : Ghosts S} → AnySource S source → List ℕ
-any_lent {source = source} a = if is_plain_at a.reader.stage a.reader then source.lent a.source.now else []
+-- how often the source below has failed
+abbrev pub faults_below : {S : Type 0} {source : Ghosts S} → AnySource S source → ℕ
+faults_below {source = source} a = source.faults a.source.now
+
+-- both
+abbrev pub any_faults : {S : Type 0} {source : Ghosts S} → AnySource S source → ℕ
+any_faults a = faults_below a + refusals_met a
 
 -- the source below
 abbrev pub any_source : {S : Type 0} {source : Ghosts S} → AnySource S source → S

@@ -1,13 +1,14 @@
 //! The source over a file of either form.
 
-ghost use Rattle.std.specs.Prelude.{◌≡◌, ◌+◌, ◌<◌, ◌≤◌, ℕ, List, [], length, take, option_map, IfOk};
+ghost use Rattle.std.specs.Prelude.{◌≡◌, ◌+◌, ◌<◌, ◌≤◌, ◌↔◌, ℕ, List, length, option_map, IsSome, IfOk, OnOk, OnErr};
+ghost use Rattle.std.specs.Bool.{OnTrue, OnFalse};
 ghost use Rattle.std.proofs.Props.{props};
 ghost use Rattle.std.specs.Io.{ReadsAtMost};
-ghost use Rattle.std.specs.Io.KnownBytes.{Consumes, ReadConsumes};
+ghost use Rattle.std.specs.Io.KnownBytes.{ReadConsumes};
 ghost use Rattle.mos_bytes.specs.Causes.{HasCause};
-ghost use Rattle.mos_bytes.specs.Reads.{BeginsWith, HasAtLeast};
+ghost use Rattle.mos_bytes.specs.Reads.{BeginsWith, HasAtLeast, PassesOver};
 ghost use Rattle.pcapng_source.specs.Reading.{IsFitting, IsSpent};
-ghost use Rattle.pcapng_source.specs.Outlooks.{IsLinked, IsLinked-prop};
+ghost use Rattle.pcapng_source.specs.Outlooks.{IsLinked, IsLinked-prop, MeetsOrFails};
 
 use crate::NgFault;
 use crate::reader::Reader;
@@ -48,12 +49,13 @@ impl<'a, S: Source> Drop for AnySource<'a, S> {
 
 impl<'a, S: Source> AnySource<'a, S> {
     ghost use Rattle.pcapng_source.specs.Blocks.{any};
-    ghost use Rattle.pcapng_source.specs.Sources.{Stands, any_ended, any_faults, any_lasting, any_left, any_source, any_start, met_fault};
+    ghost use Rattle.pcapng_source.specs.Sources.{Stands, any_ended, any_faults, any_lasting, any_left, any_source, any_start, faults_below, met_fault, refusals_met};
 
     /// A source over this one, from whose start the file is read. It takes no memory.
     pub fn new(source: &'a mut S) -> AnySource<'a, S>
         ensures left { any_left result ≡ option_map (λ file. (any file).bytes) (S.left source.old) }
         ensures faults { any_faults result ≡ S.faults source.old }
+        ensures refusals { refusals_met result ≡ 0 }
         ensures start { any_start result ≡ source.old }
         ensures source { any_source result ≡ source.old }
         ensures fault { met_fault result ≡ None }
@@ -70,6 +72,7 @@ impl<'a, S: Source> AnySource<'a, S> {
     /// Why the file is refused, where a read has met that: it is the refusal of the whole file.
     pub fn fault(&self) -> Option<NgFault>
         ensures met { result ≡ met_fault self.now }
+        ensures exactly { IsSome result ↔ (0 < refusals_met self.now) }
         ensures stands { Stands self.now }
     {
         self.reader.fault()
@@ -82,6 +85,9 @@ impl<'a, S: Source> AnySource<'a, S> {
         ensures bytes { ReadConsumes (any_left self.old) (any_left self.new) result buf.new }
         ensures ended { IfOk result (λ count. count ≡ 0 → any_ended self.new) }
         ensures cause { HasCause (any_faults self.old) (any_faults self.new) result }
+        ensures met { OnOk result (refusals_met self.new ≡ refusals_met self.old) }
+        ensures failed { OnErr result (MeetsOrFails (refusals_met self.old) (refusals_met self.new)
+            (faults_below self.old) (faults_below self.new)) }
         ensures lasts { any_lasting self.new ≡ any_lasting self.old }
     {
         if self.reader.made() > 0 {
@@ -102,6 +108,9 @@ impl<'a, S: Source> AnySource<'a, S> {
         ensures bytes { ReadConsumes (any_left self.old) (any_left self.new) result buf.new }
         ensures ended { IfOk result (λ count. count ≡ 0 → any_ended self.new) }
         ensures cause { HasCause (any_faults self.old) (any_faults self.new) result }
+        ensures met { OnOk result (refusals_met self.new ≡ refusals_met self.old) }
+        ensures failed { OnErr result (MeetsOrFails (refusals_met self.old) (refusals_met self.new)
+            (faults_below self.old) (faults_below self.new)) }
         ensures lasts { any_lasting self.new ≡ any_lasting self.old }
     {
         let count = self.read_next(buf)?;
@@ -113,7 +122,7 @@ impl<'a, S: Source> AnySource<'a, S> {
 }
 
 impl<'a, S: Source> Source for AnySource<'a, S> {
-    ghost use Rattle.pcapng_source.specs.Sources.{any_ended, any_faults, any_lasting, any_left, any_lent};
+    ghost use Rattle.pcapng_source.specs.Sources.{any_ended, any_faults, any_lasting, any_left, faults_below, refusals_met};
 
     ghost left = { any_left };
 
@@ -126,14 +135,17 @@ impl<'a, S: Source> Source for AnySource<'a, S> {
 
     ghost ended = { any_ended };
 
-    ghost lent = { any_lent };
-
     /// Gives bytes that were made or that stand in the file. At a refused block it fails, each time again.
     fn read(&mut self, buf: &mut [u8]) -> Result<usize, Failed>
         ensures bound { ReadsAtMost result buf.new }
         ensures bytes { ReadConsumes (any_left self.old) (any_left self.new) result buf.new }
         ensures ended { IfOk result (λ count. count ≡ 0 → 0 < length buf.new → any_ended self.new) }
         ensures cause { HasCause (any_faults self.old) (any_faults self.new) result }
+
+        // A read that answers `Ok` has met no refusal. One that fails has met it, once; or it met none, and the source below failed.
+        ensures met { OnOk result (refusals_met self.new ≡ refusals_met self.old) }
+        ensures failed { OnErr result (MeetsOrFails (refusals_met self.old) (refusals_met self.new)
+            (faults_below self.old) (faults_below self.new)) }
         ensures lasts { any_lasting self.new ≡ any_lasting self.old }
     {
         if buf.is_empty() {
@@ -168,9 +180,10 @@ impl<'a, S: Source> Source for AnySource<'a, S> {
         let made = self.reader.made();
         made.saturating_add(self.reader.direct(self.source.count_at_hand()))
     }
+
     /// Of a file that is no pcapng file what the source below lends, of any other none.
     fn lend(&self) -> &[u8]
-        ensures lent { result.now ≡ any_lent self.now }
+        ensures front { BeginsWith (any_left self.now) result.now }
     {
         if self.reader.is_plain() {
             self.source.lend()
@@ -179,14 +192,16 @@ impl<'a, S: Source> Source for AnySource<'a, S> {
         }
     }
 
-    fn pass(&mut self, count: usize)
-        requires within { count ≤ length (any_lent self.old) }
-        ensures bytes { Consumes (any_left self.old) (any_left self.new) (take count (any_lent self.old)) }
+    /// Passes over what the source below lends, where that does.
+    fn pass(&mut self, count: usize) -> bool
+        ensures bytes { OnTrue result (PassesOver (any_left self.old) (any_left self.new) count) }
+        ensures stays { OnFalse result (any_left self.new ≡ any_left self.old) }
         ensures faults { any_faults self.new ≡ any_faults self.old }
         ensures lasts { any_lasting self.new ≡ any_lasting self.old }
     {
         if self.reader.is_plain() {
-            self.source.pass(count);
+            return self.source.pass(count);
         }
+        false
     }
 }

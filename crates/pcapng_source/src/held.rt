@@ -2,6 +2,7 @@
 
 ghost use Rattle.std.specs.Prelude.{◌≡◌, ◌+◌, ◌-◌, ◌≤◌, List, ℕ, [], ◌++◌, length, take, drop, min, slice_range};
 
+use mos_bytes::{copy_front, put_behind};
 use std::marker::Model;
 
 // How many bytes the longest head of a block has.
@@ -12,29 +13,6 @@ const WORD_ROOM: usize = 4;
 
 // How many bytes are made at once: a global header.
 const MADE_ROOM: usize = 24;
-
-// Writes the bytes behind this place, and answers the place behind them.
-#[inline]
-fn put_behind(room: &mut [u8], place: usize, bytes: &[u8]) -> usize
-    requires { place + length bytes.now ≤ length room.old }
-    ensures place { result ≡ place + length bytes.now }
-    ensures room { length room.new ≡ length room.old }
-    ensures put { take result room.new ≡ take place room.old ++ bytes.now }
-{
-    let end = place + bytes.len();
-    room[place..end].copy_from_slice(bytes);
-    end
-}
-
-// Copies as many bytes as stand in `from` and have room in `to`, and answers how many.
-fn copy_front(from: &[u8], to: &mut [u8]) -> usize
-    ensures count { result ≡ min (length from.now) (length to.old) }
-    ensures copied { to.new ≡ take result from.now ++ drop result to.old }
-{
-    let count = from.len().min(to.len());
-    to[..count].copy_from_slice(&from[..count]);
-    count
-}
 
 // The head of a block, as far as it is there.
 #[derive(Drop)]

@@ -1,12 +1,12 @@
 //! Reading on: what comes from a source goes through a reader.
 
-ghost use Rattle.std.specs.Prelude.{◌≡◌, ◌+◌, ◌<◌, ◌≤◌, ℕ, List, [], length, min, IfOk};
+ghost use Rattle.std.specs.Prelude.{◌≡◌, ◌+◌, ◌<◌, ◌≤◌, ℕ, List, [], length, min, IfOk, OnOk, OnErr};
 ghost use Rattle.std.specs.Bool.{OnTrue};
 ghost use Rattle.std.specs.Io.{ReadsAtMost};
 ghost use Rattle.std.specs.Io.KnownBytes.{IsAtEnd};
-ghost use Rattle.mos_bytes.specs.Causes.{HasCause};
-ghost use Rattle.pcapng_source.specs.Outlooks.{Gives, IsOver, ReadGives, StepEnds, StepFalls, StepFits, StepGives, faults_with, outlook};
-ghost use Rattle.pcapng_source.specs.Reading.{IsFitting, IsOpen, IsSpent, direct_at, settled_at, skipped_at, wanted_at, weight_of};
+ghost use Rattle.mos_bytes.specs.Causes.{HasCause, Rose};
+ghost use Rattle.pcapng_source.specs.Outlooks.{Gives, IsOver, MeetsOrFails, ReadGives, StepEnds, StepFalls, StepFits, StepGives, faults_with, outlook};
+ghost use Rattle.pcapng_source.specs.Reading.{IsFitting, IsOpen, IsSpent, direct_at, met_at, settled_at, skipped_at, wanted_at, weight_of};
 
 use crate::border::BORDER;
 use crate::reader::{Next, Reader};
@@ -36,6 +36,8 @@ pub(crate) fn give<S: Source>(
         → IsAtEnd (S.left source.new) × S.ended source.new × IsOver reader.new) }
     ensures cause { HasCause (faults_with reader.old (S.faults source.old))
         (faults_with reader.new (S.faults source.new)) result }
+    ensures met { met_at reader.new.stage ≡ met_at reader.old.stage }
+    ensures failed { OnErr result (Rose (S.faults source.old) (S.faults source.new)) }
     ensures lasts { S.lasting source.new ≡ S.lasting source.old }
     ensures fits { IsFitting reader.new }
     ensures spent { IsSpent reader.new }
@@ -64,6 +66,8 @@ fn skip<S: Source>(
     ensures falls { StepFalls reader.old reader.new result }
     ensures cause { HasCause (faults_with reader.old (S.faults source.old))
         (faults_with reader.new (S.faults source.new)) result }
+    ensures met { met_at reader.new.stage ≡ met_at reader.old.stage }
+    ensures failed { OnErr result (Rose (S.faults source.old) (S.faults source.new)) }
     ensures lasts { S.lasting source.new ≡ S.lasting source.old }
     ensures fits { IsFitting reader.new }
     ensures spent { IsSpent reader.new }
@@ -96,6 +100,8 @@ fn hold<S: Source>(
     ensures falls { StepFalls reader.old reader.new result }
     ensures cause { HasCause (faults_with reader.old (S.faults source.old))
         (faults_with reader.new (S.faults source.new)) result }
+    ensures met { met_at reader.new.stage ≡ met_at reader.old.stage }
+    ensures failed { OnErr result (Rose (S.faults source.old) (S.faults source.new)) }
     ensures lasts { S.lasting source.new ≡ S.lasting source.old }
     ensures fits { IsFitting reader.new }
     ensures spent { IsSpent reader.new }
@@ -128,6 +134,9 @@ fn step<S: Source>(
     ensures falls { StepFalls reader.old reader.new result }
     ensures cause { HasCause (faults_with reader.old (S.faults source.old))
         (faults_with reader.new (S.faults source.new)) result }
+    ensures met { OnOk result (met_at reader.new.stage ≡ met_at reader.old.stage) }
+    ensures failed { OnErr result (MeetsOrFails (met_at reader.old.stage) (met_at reader.new.stage)
+        (S.faults source.old) (S.faults source.new)) }
     ensures lasts { S.lasting source.new ≡ S.lasting source.old }
     ensures fits { IsFitting reader.new }
     ensures spent { IsSpent reader.new }
@@ -165,6 +174,9 @@ pub(crate) fn read_on<S: Source>(
         → IsAtEnd (S.left source.new) × S.ended source.new × IsOver reader.new) }
     ensures cause { HasCause (faults_with reader.old (S.faults source.old))
         (faults_with reader.new (S.faults source.new)) result }
+    ensures met { OnOk result (met_at reader.new.stage ≡ met_at reader.old.stage) }
+    ensures failed { OnErr result (MeetsOrFails (met_at reader.old.stage) (met_at reader.new.stage)
+        (S.faults source.old) (S.faults source.new)) }
     ensures lasts { S.lasting source.new ≡ S.lasting source.old }
     ensures fits { IsFitting reader.new }
     ensures spent { IsSpent reader.new }
@@ -185,6 +197,7 @@ fn step_ahead<S: Source>(source: &mut S, reader: &mut Reader) -> bool
     ensures gives { Gives (outlook reader.old (S.left source.old)) (outlook reader.new (S.left source.new)) [] }
     ensures later { faults_with reader.old (S.faults source.old) ≤ faults_with reader.new (S.faults source.new) }
     ensures falls { OnTrue result (weight_of reader.new < weight_of reader.old) }
+    ensures met { met_at reader.new.stage ≡ met_at reader.old.stage }
     ensures lasts { S.lasting source.new ≡ S.lasting source.old }
     ensures fits { IsFitting reader.new }
     ensures spent { IsSpent reader.new }
@@ -208,6 +221,7 @@ fn cross<S: Source>(source: &mut S, reader: &mut Reader)
     requires spent { IsSpent reader.old }
     ensures gives { Gives (outlook reader.old (S.left source.old)) (outlook reader.new (S.left source.new)) [] }
     ensures later { faults_with reader.old (S.faults source.old) ≤ faults_with reader.new (S.faults source.new) }
+    ensures met { met_at reader.new.stage ≡ met_at reader.old.stage }
     ensures lasts { S.lasting source.new ≡ S.lasting source.old }
     ensures fits { IsFitting reader.new }
     ensures spent { IsSpent reader.new }
@@ -231,6 +245,7 @@ pub(crate) fn look_ahead<S: Source>(source: &mut S, reader: &mut Reader)
     requires spent { IsSpent reader.old }
     ensures gives { Gives (outlook reader.old (S.left source.old)) (outlook reader.new (S.left source.new)) [] }
     ensures later { faults_with reader.old (S.faults source.old) ≤ faults_with reader.new (S.faults source.new) }
+    ensures met { met_at reader.new.stage ≡ met_at reader.old.stage }
     ensures lasts { S.lasting source.new ≡ S.lasting source.old }
     ensures fits { IsFitting reader.new }
     ensures spent { IsSpent reader.new }

@@ -61,20 +61,15 @@ pub struct WatchedSource<'a, S> {
 }
 
 impl<'a, S: Source> Source for WatchedSource<'a, S> {
-    ghost use Rattle.std.specs.Prelude.{⊤, []};
     ghost use Rattle.std.specs.declared.option.Option.TheVariants.{None};
 
     ghost left = { λ s. None };
 
     ghost faults = { λ s. S.faults s.below };
 
-    ghost Lasting = { ⊤ };
-
     ghost lasting = { λ s. tt };
 
     ghost ended = { λ s. S.ended s.below };
-
-    ghost lent = { λ _. [] };
 
     fn read(&mut self, buf: &mut [u8]) -> Result<usize, Failed> {
         self.flow.note_read();
@@ -96,12 +91,6 @@ impl<'a, S: Source> Source for WatchedSource<'a, S> {
         }
         0
     }
-
-    fn lend(&self) -> &[u8] {
-        &[]
-    }
-
-    fn pass(&mut self, _count: usize) {}
 }
 
 // A sink that counts what it gets.
@@ -112,14 +101,11 @@ pub struct WatchedSink<'a> {
 }
 
 impl<'a> Sink for WatchedSink<'a> {
-    ghost use Rattle.std.specs.Prelude.{⊤};
     ghost use Rattle.std.specs.declared.option.Option.TheVariants.{None};
 
     ghost taken = { λ s. None };
 
     ghost faults = { λ s. s.below.faults };
-
-    ghost Lasting = { ⊤ };
 
     ghost lasting = { λ s. tt };
 

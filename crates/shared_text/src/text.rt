@@ -18,13 +18,11 @@ struct TextSink {
 }
 
 impl Sink for TextSink {
-    ghost use Rattle.std.specs.Prelude.{Some, ⊤};
+    ghost use Rattle.std.specs.Prelude.{Some};
 
     ghost taken = { λ s. Some s.text.items };
 
     ghost faults = { λ s. s.faults };
-
-    ghost Lasting = { ⊤ };
 
     ghost lasting = { λ s. tt };
 
@@ -33,10 +31,6 @@ impl Sink for TextSink {
             self.faults = self.faults.saturating_add(1);
             return Err(Failed);
         }
-        Ok(())
-    }
-
-    fn flush(&mut self) -> Result<(), Failed> {
         Ok(())
     }
 }

@@ -20,6 +20,8 @@ mod pcapng;
 #[cfg(test)]
 mod pcapng_refusals;
 #[cfg(test)]
+mod plain;
+#[cfg(test)]
 mod records;
 #[cfg(test)]
 mod refusals;

@@ -12,8 +12,7 @@ returns-in-Some-reg_at g c = λ is.
     let lent = c.args.self.now.in_force in
     let here : registered lent c.in-Some.number ≡ Some c.in-Some-reg_at.reg.now = sym c.in-Some-reg_at.ensures.reg in
     let one = ap (called Rcv) (sym c.slots.ensures.slots) ∙ c.in-Some.ensures in
-    let rests : c.rests_at_receiver.result ≡ true = c.if-not-rests_at_receiver.false in
-    let rested : RestsAtReceiver (g.A.App.meaning c.args.self.now.app.now) = g.met.A.App.rested c.args.self.now.app.now (sym c.rests_at_receiver.ensures ∙ rests) in (
+    let rested : RestsAtReceiver (g.A.App.meaning c.args.self.now.app.now) = c.rests_at_receiver.ensures.rests c.if-not-rests_at_receiver.false in (
       c.if-self.false,
       (
         rested,

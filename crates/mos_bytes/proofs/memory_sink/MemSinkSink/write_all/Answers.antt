@@ -11,13 +11,13 @@ returns-then-contains-clause-bytes c =
     let place = c.self.inside.place in
     let items = c.self.inside.room.items in
     let lent_is = c.deref_mut.ensures.value in
-    let all : c.self.inside.room.len ≡ length c.put-self-inside.new.room = omega (arith, c.put-self-inside.ensures.room, c.deref_mut.ensures.len) in
-    let taken : take c.put-self-inside.result c.put-self-inside.new.room ≡ take place items ++ front =
-    c.put-self-inside.ensures.taken ∙ ap (λ l. take place l ++ front) lent_is in
+    let all : c.self.inside.room.len ≡ length c.put_behind-self-inside.new.room = omega (arith, c.put_behind-self-inside.ensures.room, c.deref_mut.ensures.len) in
+    let taken : take c.put_behind-self-inside.result c.put_behind-self-inside.new.room ≡ take place items ++ front =
+    c.put_behind-self-inside.ensures.put ∙ ap (λ l. take place l ++ front) lent_is in
     record {
       front = front;
       rest = drop half c.args.bytes.now;
-      added = rw (← c.self.view_is) (room_front c.put-self-inside.result c.self.inside.room.len c.put-self-inside.new.room
-          (drop (length c.put-self-inside.new.room) items) (take place items ++ front) all taken);
+      added = rw (← c.self.view_is) (room_front c.put_behind-self-inside.result c.self.inside.room.len c.put_behind-self-inside.new.room
+          (drop (length c.put_behind-self-inside.new.room) items) (take place items ++ front) all taken);
       whole = sym (take-append-drop half c.args.bytes.now);
     }
