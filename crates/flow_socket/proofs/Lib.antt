@@ -4,3 +4,4 @@ pub mod Pieces
 pub mod Sides
 pub mod Phases
 pub mod Positions
+pub mod PlainSegments

@@ -5,3 +5,4 @@ pub mod Emulation
 pub mod Peek
 pub mod View
 pub mod Laws
+pub mod Quiet

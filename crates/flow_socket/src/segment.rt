@@ -18,6 +18,7 @@ pub(crate) struct Judged {
 
 /// Places the payload, and then notes the FIN. The receive window is `wide` positions wide, from
 /// before the segment for both. Nothing changes where memory is refused.
+#[inline(always)]
 #[tactic(auto, unfolding(crate::specs::Segment::with_payload, crate::specs::Segment::placed_at, crate::specs::Segment::note_at, crate::specs::Segment::with_fin))]
 pub(crate) fn take_segment(
     stream: &mut Stream,
@@ -59,6 +60,7 @@ pub(crate) fn take_segment(
 }
 
 /// Takes the segment of a packet. Neither payload nor FIN of one with RST is read.
+#[inline(always)]
 pub(crate) fn take_unless_reset(
     stream: &mut Stream,
     h: &Head,

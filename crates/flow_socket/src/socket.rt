@@ -1,7 +1,7 @@
 //! The socket of one connection: both ends with their shifts, both directions, the last packet.
 
-ghost use Rattle.std.specs.Prelude.{ℕ, ◌≡◌, ◌+◌, ◌^◌, ◌≤◌, ◌&&◌, not, nat_lt, length, OnOk, OnErr, IfOk};
-ghost use Rattle.packet_views.specs.Flags.{has_rst};
+ghost use Rattle.std.specs.Prelude.{ℕ, ◌≡◌, ◌+◌, ◌^◌, ◌≤◌, ◌&&◌, not, nat_lt, length, OnOk, OnErr, IfOk, IsTrue, false};
+ghost use Rattle.packet_views.specs.Flags.{has_syn, has_fin, has_rst};
 ghost use Rattle.std.specs.Option.{ForSome};
 ghost use Rattle.flow_socket.specs.Emulation.{facts_of, sent_facts, fault_of};
 
@@ -13,7 +13,7 @@ use packet_views::Head;
 use reassembly::{Pieces, Policy, Stream};
 use std::alloc::{AllocError, Global};
 use std::marker::Model;
-use tcp_emulation::{Change, Ends, SegFacts, Side};
+use tcp_emulation::{Change, Ends, SegFacts, Side, State};
 
 /// The monitoring socket of one connection. It stands for the emulated connection of the
 /// definitions: its ends and their shifts, its origins, offers, marks and kept bytes, and the last
@@ -63,6 +63,7 @@ impl FlowSocket {
     ghost use Rattle.reassembly.specs.Receiver.{kept};
     ghost use Rattle.reassembly.specs.Kept.{positions_in, AreWhole};
     ghost use Rattle.reassembly.specs.View.{StandsFor};
+    ghost use Rattle.flow_socket.specs.Quiet.{IsQuiet};
     ghost use Rattle.flow_socket.specs.View.{SocketStandsFor, ForEmulation, SocketTells, SocketStandsAfter, view_at, next_at};
 
     /// The socket of a connection before its first packet. Each receiver's buffer has `rbuf` bytes,
@@ -116,6 +117,13 @@ impl FlowSocket {
         ensures rbuf { self.new.rbuf ≡ self.old.rbuf }
     {
         self.last = Some(*h);
+        if is_plain(h) {
+            let state = self.ends.state(from);
+            return Change {
+                old: state,
+                new: state,
+            };
+        }
         self.shifts = self.shifts.after(from, h, scale, &self.ends);
         tcp_emulation::send_step(&mut self.ends, from, &sent_facts(h))
     }
@@ -163,6 +171,9 @@ impl FlowSocket {
         ensures peer { OnOk result (view_at (other from) self.new ≡ view_at (other from) self.old) }
         ensures rbuf { self.new.rbuf ≡ self.old.rbuf }
     {
+        if self.is_quiet(from, h) {
+            return self.receive_quiet(from, h, payload);
+        }
         let acks = self.acks(from.other(), h.ack);
         let before = self.stream(from).next();
         let taken = self.take(from, h, payload)?;
@@ -176,6 +187,48 @@ impl FlowSocket {
             rose: before < next,
             next,
             over: self.is_over(),
+        })
+    }
+
+    // Whether a packet changes no end: it has none of SYN, FIN and RST, its receiver is ESTABLISHED, and no FIN of its
+    // sender is noted.
+    #[inline(always)]
+    fn is_quiet(&self, from: Side, h: &Head) -> bool
+        ensures { IsTrue result → ForEmulation self.now (IsQuiet from h.now) }
+    {
+        is_plain(h)
+            && self.ends.state(from.other()) == State::Established
+            && self.stream(from).fin().is_none()
+    }
+
+    // Phase R of such a packet: its direction takes it, and that is all.
+    #[inline(always)]
+    fn receive_quiet(&mut self, from: Side, h: &Head, payload: &[u8]) -> Result<Got, AllocError>
+        requires quiet { ForEmulation self.old (IsQuiet from h.now) }
+        requires len { h.now.len ≡ length payload.now }
+        requires bytes { length payload.now ≤ 65535 }
+        requires client { next_at Side.Client self.old ≤ 2 ^ 62 }
+        requires server { next_at Side.Server self.old ≤ 2 ^ 62 }
+        ensures err { OnErr result (self.new ≡ self.old) }
+        ensures stands { OnOk result (SocketStandsAfter self.old self.new (received from h.now payload.now)) }
+        ensures answer { IfOk result (λ got. SocketTells self.old got (got_of from h.now payload.now)) }
+        ensures rise { OnOk result (next_at from self.new ≤ next_at from self.old + self.old.rbuf) }
+        ensures peer { OnOk result (view_at (other from) self.new ≡ view_at (other from) self.old) }
+        ensures rbuf { self.new.rbuf ≡ self.old.rbuf }
+    {
+        let before = self.stream(from).next();
+        let taken = self.take(from, h, payload)?;
+        let next = self.stream(from).next();
+        Ok(Got {
+            change: Change {
+                old: State::Established,
+                new: State::Established,
+            },
+            placed: taken.placed,
+            fault: fault_over(&taken),
+            rose: before < next,
+            next,
+            over: false,
         })
     }
 
@@ -301,6 +354,16 @@ impl FlowSocket {
     }
 }
 
+// Whether a packet has none of SYN, FIN and RST.
+#[inline(always)]
+fn is_plain(h: &Head) -> bool
+    ensures syn { IsTrue result → has_syn h.now ≡ false }
+    ensures fin { IsTrue result → has_fin h.now ≡ false }
+    ensures rst { IsTrue result → has_rst h.now ≡ false }
+{
+    !h.has_syn() && !h.has_fin() && !h.has_rst()
+}
+
 // The sum of the faults of a packet: bytes that weren't accepted, an RST out of the window, a
 // FIN that was refused.
 fn fault_of(h: &Head, taken: &Taken) -> u8
@@ -309,6 +372,14 @@ fn fault_of(h: &Head, taken: &Taken) -> u8
 {
     let is_reset_out = h.has_rst() && !taken.in_window;
     u8::from(taken.placed.over > 0) + 2 * u8::from(is_reset_out) + 4 * u8::from(taken.fin_refused)
+}
+
+// The fault of bytes that weren't accepted, alone.
+#[inline(always)]
+fn fault_over(taken: &Taken) -> u8
+    ensures { result ≡ fault_of (nat_lt 0 taken.now.placed.over) false false }
+{
+    u8::from(taken.placed.over > 0)
 }
 
 // What a step of an end reads of a packet.

@@ -7,9 +7,10 @@ mod fields;
 mod header;
 mod key;
 mod laws;
+mod plain;
 mod seeing;
 mod segment;
-pub mod sight;
+mod sight;
 
 pub use key::key_between;
 pub use laws::both_directions_have_one_lane;

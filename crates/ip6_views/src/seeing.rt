@@ -9,6 +9,7 @@ ghost use Rattle.ip6_views.specs.Sight.{sight4_with, sight6_with, sight_of};
 ghost use Rattle.ip6_views.specs.Seen.{shown, IfOther};
 
 use crate::header::layout_of;
+use crate::plain::plain_segment;
 use crate::segment::{segment4, segment6};
 use crate::sight::Sight;
 use packet_views::{View, packet_start, view_of};
@@ -19,8 +20,22 @@ const TYPE_IPV6: u16 = 0x86dd;
 /// What a captured frame is: its TCP segment, over IPv4 or IPv6 and with its payload borrowed in place, or the class of
 /// what it is instead. Over IPv6 the walk passes over at most 8 extension headers (RFC 8200, section 4): Hop-by-Hop
 /// Options, Routing, Fragment where it splits nothing, Authentication and Destination Options.
+#[inline(always)]
 #[tactic(auto, unfolding(crate::specs::Sight::sight_of))]
 pub fn sight_of(bytes: &[u8]) -> Sight<'_>
+    ensures sight { shown result ≡ sight_of bytes.now }
+    ensures not_tcp { IfOther result (λ class. class ≢ Class.Tcp) }
+{
+    match plain_segment(bytes) {
+        Some(segment) => Sight::Tcp(segment),
+        None => sight_of_any(bytes),
+    }
+}
+
+// The same of any frame, header by header.
+#[inline(never)]
+#[tactic(auto, unfolding(crate::specs::Sight::sight_of))]
+fn sight_of_any(bytes: &[u8]) -> Sight<'_>
     ensures sight { shown result ≡ sight_of bytes.now }
     ensures not_tcp { IfOther result (λ class. class ≢ Class.Tcp) }
 {

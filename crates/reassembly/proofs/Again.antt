@@ -2,7 +2,7 @@
 use Rattle.std.proofs.Common.{◌≡◌, ◌⊎◌, ℕ, ◌+◌, ◌-◌, ◌<◌, ◌≤◌, min, max, Bool, true, false, cond, not, ◌&&◌, refl, ap, ap₂, sym, ◌∙◌, arith, List, Some, None, is_some, length, take, drop, slice_index, eqb, leb, ltb, le-ltb, Option, ⊎_elim}
 use Rattle.std.proofs.lemmas.Bool.{cond-true}
 use Rattle.reassembly.specs.declared.answers.Policy.{Policy}
-use Rattle.reassembly.specs.declared.laying.Tally.{Tally}
+use Rattle.reassembly.specs.declared.laying.Judged.{Judged}
 use Rattle.reassembly.specs.declared.runs.Run.{Run}
 use Rattle.reassembly.specs.declared.window.Window.{Window}
 use Rattle.reassembly.specs.Runs.{is_accepted, is_covered}
@@ -16,7 +16,7 @@ use Rattle.reassembly.proofs.Taken.{accepted_from_next, met_covered}
 use Rattle.reassembly.proofs.Placing.{IsCut, placed_cell, some_of_cond}
 
 -- no more bytes are judged than there are
-pub few_in : (w : Window) (met : List Run) (low : ℕ) (bytes : List ℕ) (t : Tally) → t ≡ tally_in w.bytes met low bytes (length bytes) → IsFew t (length bytes)
+pub few_in : (w : Window) (met : List Run) (low : ℕ) (bytes : List ℕ) (t : Judged) → t ≡ tally_in w.bytes met low bytes (length bytes) → IsFew t (length bytes)
 few_in w met low bytes t e = rw e (record {
   new = count_below-le (λ i. not (is_covered met (low + i))) (length bytes);
   old = count_below-le (λ i. is_covered met (low + i)) (length bytes);

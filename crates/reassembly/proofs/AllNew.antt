@@ -3,7 +3,7 @@ use Rattle.std.proofs.Common.{◌≡◌, ℕ, ◌+◌, ◌-◌, ◌<◌, ◌≤�
 use Rattle.std.proofs.lemmas.Bool.{cases_lt}
 use Rattle.reassembly.specs.declared.answers.Placed.{Placed}
 use Rattle.reassembly.specs.declared.answers.Policy.{Policy}
-use Rattle.reassembly.specs.declared.laying.Tally.{Tally}
+use Rattle.reassembly.specs.declared.laying.Judged.{Judged}
 use Rattle.reassembly.specs.declared.window.Window.{Window}
 use Rattle.reassembly.specs.Buffer.{TakesAll}
 use Rattle.reassembly.specs.Runs.{is_covered, KeepsBounds}
@@ -100,8 +100,8 @@ counts_new old new fin rbuf limit end start segment k h =
     let bare : (i : ℕ) → i < length middle → is_covered (runs_of old.runs) (start + i) ≡ false = λ i l.
     covered_of_accepted old.next (runs_of old.runs) (start + i) (h.free (start + i) (omega arith) (omega arith)) in
     let none : (i : ℕ) → i < length rest → ⊥ = λ i l. omega arith in
-    let taken : Tally = record { new = k; old = 0; differ = 0 } in
-    let again : Tally = record { new = 0; old = 0; differ = 0 } in
+    let taken : Judged = record { new = k; old = 0; differ = 0 } in
+    let again : Judged = record { new = 0; old = 0; differ = 0 } in
     let all_new : taken ≡ taken_tally old start middle = tally_is taken (taken_tally old start middle)
     (sym (count_below-all (λ i. not (is_covered (runs_of old.runs) (start + i))) (length middle) (λ i l. ap not (bare i l)) ∙ len))
     (sym (count_below-none (λ i. is_covered (runs_of old.runs) (start + i)) (length middle) bare))

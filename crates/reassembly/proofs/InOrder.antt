@@ -7,7 +7,7 @@ use Rattle.std.specs.declared.alloc.Global.{Global}
 use Rattle.std.specs.declared.vec.Vec.{Vec}
 use Rattle.reassembly.specs.declared.answers.Placed.{Placed}
 use Rattle.reassembly.specs.declared.answers.Policy.{Policy}
-use Rattle.reassembly.specs.declared.laying.Tally.{Tally}
+use Rattle.reassembly.specs.declared.laying.Judged.{Judged}
 use Rattle.reassembly.specs.declared.pages.Pages.{Pages}
 use Rattle.reassembly.specs.declared.window.Window.{Window}
 use Rattle.reassembly.specs.Buffer.{first_page, in_order, differing_from}
@@ -177,8 +177,8 @@ counts_in_order v w fin rbuf limit start segment m k differ h told =
     let len2 : length rest ≡ k - k = length-part k k segment (omega arith) (omega arith) in
     let front : length (take m segment) ≡ m = length-take-le m segment (omega arith) in
     let none2 : length rest ≡ 0 = omega arith in
-    let taken : Tally = record { new = k - m; old = 0; differ = 0 } in
-    let again : Tally = record { new = 0; old = 0; differ = 0 } in
+    let taken : Judged = record { new = k - m; old = 0; differ = 0 } in
+    let again : Judged = record { new = 0; old = 0; differ = 0 } in
     let all_new : taken ≡ taken_tally (in_order v) (start + m) middle = tally_is taken (taken_tally (in_order v) (start + m) middle)
     (sym (count_below-all (λ i. true) (length middle) (λ i l. refl) ∙ len))
     (sym (count_below-none (λ i. false) (length middle) (λ i l. refl)))

@@ -4,7 +4,7 @@ use Rattle.std.specs.Prelude.{slice_index}
 use Rattle.std.proofs.lemmas.Bool.{cases_lt, cond_both, lt-leb, and_right}
 use Rattle.reassembly.specs.declared.answers.Policy.{Policy}
 use Rattle.reassembly.specs.declared.runs.Run.{Run}
-use Rattle.reassembly.specs.declared.laying.Tally.{Tally}
+use Rattle.reassembly.specs.declared.laying.Judged.{Judged}
 use Rattle.reassembly.specs.Segment.{is_last, count_below, has_byte}
 use Rattle.reassembly.specs.Runs.{is_covered}
 use Rattle.reassembly.specs.Laying.{differing_of, laid_byte, tally_of, tally_of_stretch, tally_sum}
@@ -14,19 +14,19 @@ use Rattle.std.proofs.Common.{length-drop, get_or-take, get_or-drop, leb, ltb, l
 use borrow.Rule.Slice.PartMut.{put_mid}
 use Rattle.reassembly.proofs.Parts.{part_at, mid_below, mid_in, mid_above}
 
-pub record IsFew (t : Tally) (n : ℕ) : Type 0 where
+pub record IsFew (t : Judged) (n : ℕ) : Type 0 where
   pub new : t.new ≤ n
   pub old : t.old ≤ n
   pub differ : t.differ ≤ n
 
-pub tally_few : (runs : List Run) (start : ℕ) (cells segment : List ℕ) (n : ℕ) (t : Tally) → t ≡ tally_of runs start cells segment n → IsFew t n
+pub tally_few : (runs : List Run) (start : ℕ) (cells segment : List ℕ) (n : ℕ) (t : Judged) → t ≡ tally_of runs start cells segment n → IsFew t n
 tally_few runs start cells segment n t e = rw e (record {
   new = count_below-le (λ i. not (is_covered runs (start + i))) n;
   old = count_below-le (λ i. is_covered runs (start + i)) n;
   differ = count_below-le (λ i. is_covered runs (start + i) && not (eqb (slice_index cells i) (slice_index segment i))) n;
 })
 
-pub stretch_few : (is_old : Bool) (cells segment : List ℕ) (t : Tally) → t ≡ tally_of_stretch is_old cells segment → IsFew t (length segment)
+pub stretch_few : (is_old : Bool) (cells segment : List ℕ) (t : Judged) → t ≡ tally_of_stretch is_old cells segment → IsFew t (length segment)
 stretch_few is_old cells segment t e =
     let few = count_below-le (λ i. not (eqb (slice_index cells i) (slice_index segment i))) (length segment) in
     rw e (elim is_old as (λ b. IsFew (tally_of_stretch b cells segment) (length segment)) [
@@ -34,9 +34,9 @@ stretch_few is_old cells segment t e =
       | false ↦ record { new = omega arith; old = omega arith; differ = omega arith }
     ])
 
-pub tally_is : (a b : Tally) → a.new ≡ b.new → a.old ≡ b.old → a.differ ≡ b.differ → a ≡ b
+pub tally_is : (a b : Judged) → a.new ≡ b.new → a.old ≡ b.old → a.differ ≡ b.differ → a ≡ b
 tally_is a b n o d =
-    let made : ℕ → ℕ → ℕ → Tally = λ x y z. record { new = x; old = y; differ = z } in
+    let made : ℕ → ℕ → ℕ → Judged = λ x y z. record { new = x; old = y; differ = z } in
     ap (λ x. made x a.old a.differ) n ∙ ap (λ y. made b.new y a.differ) o ∙ ap (λ z. made b.new b.old z) d
 
 -- the counts of a stretch of n bytes from index m on, where cells and segment are its parts

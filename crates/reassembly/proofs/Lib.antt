@@ -23,3 +23,4 @@ pub mod KeptBytes
 pub mod KeptPieces
 pub mod WholeRuns
 pub mod Plains
+pub mod NoBytes

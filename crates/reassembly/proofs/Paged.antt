@@ -6,7 +6,7 @@ use Rattle.std.specs.declared.alloc.Global.{Global}
 use Rattle.std.specs.declared.vec.Vec.{Vec}
 use Rattle.slab.specs.Slab.{get, Updates}
 use Rattle.reassembly.specs.declared.answers.Policy.{Policy}
-use Rattle.reassembly.specs.declared.laying.Tally.{Tally}
+use Rattle.reassembly.specs.declared.laying.Judged.{Judged}
 use Rattle.reassembly.specs.declared.pages.Pages.{Pages}
 use Rattle.reassembly.specs.declared.runs.Run.{Run}
 use Rattle.reassembly.specs.Segment.{is_last, has_byte, count_below}
@@ -164,7 +164,7 @@ laid_page old new runs low k from policy bytes cells h laid p l =
 pub judged_page : (old : Pages) (runs : List Run) (low k from : ℕ) (bytes : List ℕ) → IsPart old low k from → from + length bytes ≤ 2048
     → tally_of runs low (take (length bytes) (drop from (page_at old k))) bytes (length bytes) ≡ tally_in old runs low bytes (length bytes)
 judged_page old runs low k from bytes part fits =
-    let made : ℕ → Tally = λ d. record { new = count_below (λ i. not (is_covered runs (low + i))) (length bytes); old = count_below (λ i. is_covered runs (low + i)) (length bytes); differ = d } in
+    let made : ℕ → Judged = λ d. record { new = count_below (λ i. not (is_covered runs (low + i))) (length bytes); old = count_below (λ i. is_covered runs (low + i)) (length bytes); differ = d } in
     ap made (count_below-same
     (λ i. is_covered runs (low + i) && not (eqb (slice_index (take (length bytes) (drop from (page_at old k))) i) (slice_index bytes i)))
     (λ i. is_covered runs (low + i) && not (eqb (byte_of old (low + i)) (slice_index bytes i)))
@@ -173,12 +173,12 @@ judged_page old runs low k from bytes part fits =
     (part_byte (length bytes) from (page_at old k) i l ∙ sym (byte_in_page old low k from i part (omega arith)))))
 
 -- how many of the first n bytes
-pub record AreFew (t : Tally) (n : ℕ) : Type 0 where
+pub record AreFew (t : Judged) (n : ℕ) : Type 0 where
   pub new : t.new ≤ n
   pub old : t.old ≤ n
   pub differ : t.differ ≤ n
 
-pub tally_in_few : (s : Pages) (runs : List Run) (low : ℕ) (bytes : List ℕ) (n : ℕ) (t : Tally) → t ≡ tally_in s runs low bytes n → AreFew t n
+pub tally_in_few : (s : Pages) (runs : List Run) (low : ℕ) (bytes : List ℕ) (n : ℕ) (t : Judged) → t ≡ tally_in s runs low bytes n → AreFew t n
 tally_in_few s runs low bytes n t e = rw e (record {
   new = count_below-le (λ i. not (is_covered runs (low + i))) n;
   old = count_below-le (λ i. is_covered runs (low + i)) n;

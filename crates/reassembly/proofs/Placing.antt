@@ -3,7 +3,7 @@
 use Rattle.std.proofs.Common.{◌≡◌, ℕ, ◌+◌, ◌-◌, ◌<◌, ◌≤◌, min, max, Bool, true, false, cond, not, ◌&&◌, ◌||◌, refl, ap, ap₂, ◌∙◌, sym, arith, List, Option, Some, None, is_some, length, slice_index, take, drop, leb, ltb, eqb, le-leb, lt-ltb, le-ltb, ltb-true, leb-true, ◌⊎◌, ⊎_elim, inl, inr, get_or-take, get_or-drop, length-take-le}
 use Rattle.std.proofs.lemmas.Bool.{cases_lt, lt-leb, and_right, and_from, and_parts, cases_Bool, cond-true, cond-false, false_from_ne_true, both_ways}
 use Rattle.reassembly.specs.declared.answers.Policy.{Policy}
-use Rattle.reassembly.specs.declared.laying.Tally.{Tally}
+use Rattle.reassembly.specs.declared.laying.Judged.{Judged}
 use Rattle.reassembly.specs.declared.runs.Run.{Run}
 use Rattle.reassembly.specs.declared.window.Window.{Window}
 use Rattle.reassembly.specs.Receiver.{held}
@@ -269,7 +269,7 @@ differs_above next rbuf p byte b false l = refl
 
 -- the counts of the whole segment
 pub counts_placed : (w : Window) (fin : Option ℕ) (rbuf limit end start m k j : ℕ) (segment : List ℕ) → IsLaid w → IsBounded w end → IsCut w.next limit end start (length segment) m k j
-    → (tally again : Tally) (below from : ℕ) → from ≡ start + m → tally ≡ taken_tally w from (take (k - m) (drop m segment)) → again ≡ taken_tally w (start + k) (take (j - k) (drop k segment))
+    → (tally again : Judged) (below from : ℕ) → from ≡ start + m → tally ≡ taken_tally w from (take (k - m) (drop m segment)) → again ≡ taken_tally w (start + k) (take (j - k) (drop k segment))
     → below ≡ differing_below w rbuf start (take m segment)
     → record { new = tally.new; old = m + tally.old + again.old; differ = below + tally.differ + again.differ; over = length segment - j + again.new }
     ≡ counts_viewed (view_of w fin rbuf) limit start segment

@@ -2,7 +2,7 @@
 use Rattle.std.proofs.Common.{◌≡◌, ℕ, ◌+◌, ◌-◌, ◌<◌, ◌≤◌, suc, zero, max, ◌∷◌, true≢false, Bool, true, false, cond, not, ◌&&◌, ◌||◌, refl, ap, ap₂, sym, ◌∙◌, arith, List, [], Some, None, is_some, length, leb, ltb, le-ltb, lt-ltb, ltb-true, leb-true, ⊎_elim, slice_index, eqb}
 use Rattle.std.proofs.lemmas.Bool.{or_cases, or_parts, and_parts, cases_Bool}
 use Rattle.reassembly.specs.declared.answers.Policy.{Policy}
-use Rattle.reassembly.specs.declared.laying.Tally.{Tally}
+use Rattle.reassembly.specs.declared.laying.Judged.{Judged}
 use Rattle.reassembly.specs.declared.pages.Pages.{Pages}
 use Rattle.reassembly.specs.declared.runs.Run.{Run}
 use Rattle.reassembly.specs.declared.window.Window.{Window}
@@ -129,8 +129,8 @@ tally_taken old ready met low bytes grown is_met =
     (length bytes)
     (λ i l. ap₂ (λ b x. b && not (eqb x (slice_index bytes i))) (same i l) (grown.bytes (low + i))))
 
-pub taken_few : (w : Window) (low : ℕ) (bytes : List ℕ) (t : Tally) → t ≡ taken_tally w low bytes → (t.old ≤ length bytes) × (t.differ ≤ length bytes)
+pub taken_few : (w : Window) (low : ℕ) (bytes : List ℕ) (t : Judged) → t ≡ taken_tally w low bytes → (t.old ≤ length bytes) × (t.differ ≤ length bytes)
 taken_few w low bytes t e = (
-  rw (ap (λ (x : Tally). x.old) e) (count_below-le (λ i. is_covered (runs_of w.runs) (low + i)) (length bytes)),
-  rw (ap (λ (x : Tally). x.differ) e) (count_below-le (λ i. is_covered (runs_of w.runs) (low + i) && not (eqb (byte_at w (low + i)) (slice_index bytes i))) (length bytes)),
+  rw (ap (λ (x : Judged). x.old) e) (count_below-le (λ i. is_covered (runs_of w.runs) (low + i)) (length bytes)),
+  rw (ap (λ (x : Judged). x.differ) e) (count_below-le (λ i. is_covered (runs_of w.runs) (low + i) && not (eqb (byte_at w (low + i)) (slice_index bytes i))) (length bytes)),
 )

@@ -2,7 +2,7 @@
 use Rattle.std.specs.Prelude.{◌≡◌, ℕ, ◌+◌, ◌<◌, ◌≤◌, Bool, not, ◌&&◌, nat_eq, List, length, slice_index, if◌then◌else◌}
 use Rattle.reassembly.specs.declared.answers.Policy.{Policy}
 use Rattle.reassembly.specs.declared.runs.Run.{Run}
-use Rattle.reassembly.specs.declared.laying.Tally.{Tally}
+use Rattle.reassembly.specs.declared.laying.Judged.{Judged}
 use Rattle.reassembly.specs.declared.laying.Stretch.{Stretch}
 use Rattle.reassembly.specs.Segment.{is_last, count_below}
 use Rattle.reassembly.specs.Runs.{is_covered, IsCursor}
@@ -24,7 +24,7 @@ abbrev pub laid_byte : List Run → ℕ → Policy → List ℕ → List ℕ →
 laid_byte runs start policy cells segment i = if is_covered runs (start + i) && not (is_last policy) then slice_index cells i else slice_index segment i
 
 -- how the first n bytes of the segment are judged, where none lies below next or past the limit
-abbrev pub tally_of : List Run → ℕ → List ℕ → List ℕ → ℕ → Tally
+abbrev pub tally_of : List Run → ℕ → List ℕ → List ℕ → ℕ → Judged
 tally_of runs start cells segment n = record {
   new = count_below (λ i. not (is_covered runs (start + i))) n;
   old = count_below (λ i. is_covered runs (start + i)) n;
@@ -32,14 +32,14 @@ tally_of runs start cells segment n = record {
 }
 
 -- how a stretch of n bytes is judged that is accepted as a whole, or not at all
-abbrev pub tally_of_stretch : Bool → List ℕ → List ℕ → Tally
+abbrev pub tally_of_stretch : Bool → List ℕ → List ℕ → Judged
 tally_of_stretch is_old cells segment = record {
   new = if is_old then 0 else length segment;
   old = if is_old then length segment else 0;
   differ = if is_old then differing_of cells segment (length segment) else 0;
 }
 
-abbrev pub tally_sum : Tally → Tally → Tally
+abbrev pub tally_sum : Judged → Judged → Judged
 tally_sum a b = record { new = a.new + b.new; old = a.old + b.old; differ = a.differ + b.differ }
 
 -- the positions from `from` to below the stretch's end are all covered or all not, and its cursor stands there

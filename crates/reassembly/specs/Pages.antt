@@ -3,7 +3,7 @@ use Rattle.std.specs.Prelude.{◌≡◌, ℕ, ◌+◌, ◌-◌, ◌/◌, ◌%◌
 use Rattle.std.specs.declared.vec.Vec.{Vec}
 use Rattle.slab.specs.Slab.{get, ContainsKey}
 use Rattle.reassembly.specs.declared.answers.Policy.{Policy}
-use Rattle.reassembly.specs.declared.laying.Tally.{Tally}
+use Rattle.reassembly.specs.declared.laying.Judged.{Judged}
 use Rattle.reassembly.specs.declared.runs.Run.{Run}
 use Rattle.reassembly.specs.declared.pages.Pages.{Pages}
 use Rattle.reassembly.specs.Segment.{is_last, count_below}
@@ -65,7 +65,7 @@ AreLaid old new runs low policy bytes =
     (p : ℕ) → old.base ≤ p → byte_of new p ≡ laid_in old runs low policy bytes (length bytes) p
 
 -- how they are judged
-abbrev pub tally_in : Pages → List Run → ℕ → List ℕ → ℕ → Tally
+abbrev pub tally_in : Pages → List Run → ℕ → List ℕ → ℕ → Judged
 tally_in s runs low bytes n = record {
   new = count_below (λ i. not (is_covered runs (low + i))) n;
   old = count_below (λ i. is_covered runs (low + i)) n;

@@ -2,7 +2,7 @@
 use Rattle.std.specs.Prelude.{◌≡◌, ℕ, ◌+◌, ◌-◌, ◌<◌, ◌≤◌, Bool, max, not, ◌&&◌, nat_le, nat_eq, true, List, [], ◌∷◌, length, map, Option, Some, None, is_some, slice_index, if◌then◌else◌}
 use Rattle.std.specs.List.{range_with_len}
 use Rattle.reassembly.specs.declared.answers.Policy.{Policy}
-use Rattle.reassembly.specs.declared.laying.Tally.{Tally}
+use Rattle.reassembly.specs.declared.laying.Judged.{Judged}
 use Rattle.reassembly.specs.declared.runs.Run.{Run}
 use Rattle.reassembly.specs.declared.window.Window.{Window}
 use Rattle.reassembly.specs.Segment.{is_last, has_byte, count_below}
@@ -99,7 +99,7 @@ abbrev pub HaveAccepted : Window → List Run → ℕ → ℕ → Type 0
 HaveAccepted w met low high = (p : ℕ) → low ≤ p → p < high → is_covered met p ≡ accepts w p
 
 -- how those bytes are judged
-abbrev pub taken_tally : Window → ℕ → List ℕ → Tally
+abbrev pub taken_tally : Window → ℕ → List ℕ → Judged
 taken_tally w low bytes = tally_in w.bytes (runs_of w.runs) low bytes (length bytes)
 
 -- how many bytes of a segment from q on, all of them below next, differ from the kept ones

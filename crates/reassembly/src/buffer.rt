@@ -59,12 +59,16 @@ fn can_wait(next: usize, start: u64, len: usize, limit: u64) -> bool
 }
 
 // How many bytes of a segment from `start` on differ from the kept ones, of those that have all the positions.
+#[inline(always)]
 fn compare(bytes: &[u8], start: u64, segment: &[u8], rbuf: u32) -> u32
     requires within { start + length segment.now ≤ length bytes.now }
     requires short { length segment.now ≤ 65535 }
     ensures value { result ≡ differing_from (length bytes.now - rbuf) bytes.now start segment.now }
     ensures bound { result ≤ length segment.now }
 {
+    if segment.is_empty() {
+        return 0;
+    }
     let low = (bytes.len() as u64).saturating_sub(u64::from(rbuf));
     let skip = count_under(low, start, segment.len());
     let from = start as usize;
@@ -85,6 +89,7 @@ fn make_room(bytes: &mut Vec<u8>, len: usize) -> Result<(), AllocError>
 }
 
 // Places a segment whose bytes go on where these end, and fit into a page.
+#[inline(always)]
 fn append(
     bytes: &mut Vec<u8>,
     start: u64,

@@ -10,7 +10,7 @@ use crate::runs::{Run, ended_by};
 
 /// How bytes were judged that lie between `next` and the limit.
 #[derive(Clone, Copy)]
-pub struct Tally {
+pub struct Judged {
     pub new: u32,
     pub old: u32,
     pub differ: u32,
@@ -78,7 +78,7 @@ fn next_stretch(runs: &[Run], cursor: usize, from: u64, stop: u64) -> Stretch
 }
 
 // Lays one stretch: bytes at empty cells are copied, and others compared, and replaced where the last byte stays.
-fn lay_stretch(cells: &mut [u8], segment: &[u8], policy: Policy, is_old: bool) -> Tally
+fn lay_stretch(cells: &mut [u8], segment: &[u8], policy: Policy, is_old: bool) -> Judged
     requires length { length cells.old ≡ length segment.now }
     requires short { length segment.now ≤ 65535 }
     ensures cells { cells.new ≡ (if is_old && not (is_last policy) then cells.old else segment.now) }
@@ -87,7 +87,7 @@ fn lay_stretch(cells: &mut [u8], segment: &[u8], policy: Policy, is_old: bool) -
     let len = segment.len() as u32;
     if !is_old {
         cells.copy_from_slice(segment);
-        return Tally {
+        return Judged {
             new: len,
             old: 0,
             differ: 0,
@@ -97,7 +97,7 @@ fn lay_stretch(cells: &mut [u8], segment: &[u8], policy: Policy, is_old: bool) -
     if policy == Policy::Last {
         cells.copy_from_slice(segment);
     }
-    Tally {
+    Judged {
         new: 0,
         old: len,
         differ,
@@ -105,13 +105,13 @@ fn lay_stretch(cells: &mut [u8], segment: &[u8], policy: Policy, is_old: bool) -
 }
 
 /// The sum of two tallies.
-pub fn added(a: Tally, b: Tally) -> Tally
+pub fn added(a: Judged, b: Judged) -> Judged
     requires new { a.new + b.new < 2 ^ 32 }
     requires old { a.old + b.old < 2 ^ 32 }
     requires differ { a.differ + b.differ < 2 ^ 32 }
     ensures { result ≡ tally_sum a b }
 {
-    Tally {
+    Judged {
         new: a.new + b.new,
         old: a.old + b.old,
         differ: a.differ + b.differ,
@@ -119,7 +119,7 @@ pub fn added(a: Tally, b: Tally) -> Tally
 }
 
 /// Lays the segment over the cells from position `start` on: one search among the runs, and then one step a stretch.
-pub fn lay(cells: &mut [u8], runs: &[Run], start: u64, segment: &[u8], policy: Policy) -> Tally
+pub fn lay(cells: &mut [u8], runs: &[Run], start: u64, segment: &[u8], policy: Policy) -> Judged
     requires ordered { AreOrdered runs.now }
     requires length { length cells.old ≡ length segment.now }
     requires short { length segment.now ≤ 65535 }
@@ -128,7 +128,7 @@ pub fn lay(cells: &mut [u8], runs: &[Run], start: u64, segment: &[u8], policy: P
     ensures tally { result ≡ tally_of runs.now start cells.old segment.now (length segment.now) }
 {
     let stop = start + segment.len() as u64;
-    let mut tally = Tally {
+    let mut tally = Judged {
         new: 0,
         old: 0,
         differ: 0,

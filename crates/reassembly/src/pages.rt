@@ -5,7 +5,7 @@ ghost use Rattle.reassembly.specs.Runs.{AreOrdered};
 ghost use Rattle.reassembly.specs.Laying.{HasBytes, HasSameBytes};
 
 use crate::Policy;
-use crate::laying::{Tally, added, differing, lay};
+use crate::laying::{Judged, added, differing, lay};
 use crate::runs::Run;
 use slab::Slab;
 use std::alloc::{AllocError, Global};
@@ -169,7 +169,7 @@ impl Pages {
     }
 
     // Lays bytes from `low` on, which lie in one page.
-    fn lay_part(&mut self, runs: &[Run], low: u64, bytes: &[u8], policy: Policy) -> Tally
+    fn lay_part(&mut self, runs: &[Run], low: u64, bytes: &[u8], policy: Policy) -> Judged
         requires keyed { IsKeyed self.old }
         requires ordered { AreOrdered runs.now }
         requires from { self.old.base ≤ low }
@@ -195,7 +195,7 @@ impl Pages {
     }
 
     /// Lays bytes from `low` on, whose memory is there, page by page.
-    pub fn lay(&mut self, runs: &[Run], low: u64, bytes: &[u8], policy: Policy) -> Tally
+    pub fn lay(&mut self, runs: &[Run], low: u64, bytes: &[u8], policy: Policy) -> Judged
         requires keyed { IsKeyed self.old }
         requires ordered { AreOrdered runs.now }
         requires from { self.old.base ≤ low }
@@ -206,7 +206,7 @@ impl Pages {
         ensures bytes { AreLaid self.old self.new runs.now low policy bytes.now }
         ensures tally { result ≡ tally_in self.old runs.now low bytes.now (length bytes.now) }
     {
-        let mut tally = Tally {
+        let mut tally = Judged {
             new: 0,
             old: 0,
             differ: 0,

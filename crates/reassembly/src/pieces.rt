@@ -35,7 +35,7 @@ impl<'a> Pieces<'a> {
     ghost use Rattle.reassembly.specs.Window.{kept_at, IsLaid};
 
     /// The runs among the `len` positions from `position` on.
-    pub fn new(buffer: &'a Buffer, rbuf: u32, position: u64, len: u32) -> Self
+    pub(crate) fn new(buffer: &'a Buffer, rbuf: u32, position: u64, len: u32) -> Self
         requires laid { IsLaid (window_of buffer.now) }
         requires least { 1 ≤ rbuf }
         ensures { result ≡ runs_from (kept_at (window_of buffer.now) rbuf) position len }

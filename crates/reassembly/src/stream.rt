@@ -25,6 +25,9 @@ pub struct Stream {
     buffer: Buffer,
     fin: Option<u64>,
     rbuf: u32,
+
+    // That of the buffer, read with no look at its form.
+    next: u64,
 }
 
 impl Model for Stream {
@@ -36,7 +39,9 @@ impl Model for Stream {
 
     ghost view = { λ s. view_of (window_of s.buffer) s.fin s.rbuf };
 
-    ghost invariant = { λ s. IsWhole (window_of s.buffer) s.fin s.rbuf };
+    ghost use Rattle.std.specs.Prelude.{◌≡◌};
+
+    ghost invariant = { λ s. IsWhole (window_of s.buffer) s.fin s.rbuf × (s.next ≡ (window_of s.buffer).next) };
 }
 
 impl Stream {
@@ -53,14 +58,16 @@ impl Stream {
             buffer: Buffer::new(alloc),
             fin: None,
             rbuf,
+            next: 0,
         }
     }
 
     /// The least position that wasn't accepted: RCV.NXT, as a position.
+    #[inline(always)]
     pub fn next(&self) -> u64
         ensures { result ≡ self.now.next }
     {
-        self.buffer.next()
+        self.next
     }
 
     /// The position of the FIN, once it is noted.
@@ -74,12 +81,13 @@ impl Stream {
     pub fn low(&self) -> u64
         ensures { ForReceiver self.now (λ r. result ≡ low_of r.cells self.now.rbuf) }
     {
-        self.buffer.next().saturating_sub(u64::from(self.rbuf))
+        self.next.saturating_sub(u64::from(self.rbuf))
     }
 
     /// Places the bytes of a segment whose first one stands `d` above `next`, where the receive window has the `wide`
     /// positions from `next` on, and answers how they were judged: see [`wide`](crate::wide). A byte that was accepted
     /// before an offer left it outside the window is old. Where memory is refused, the stream is as before.
+    #[inline(always)]
     pub fn place(
         &mut self,
         d: i64,
@@ -100,13 +108,22 @@ impl Stream {
         ensures counts { IfOk result (λ placed. ForWide self.old wide
             (λ r. placed ≡ counts_above d bytes.now self.old.rbuf r)) }
     {
-        let next = self.buffer.next();
+        if bytes.is_empty() {
+            return Ok(Placed {
+                new: 0,
+                old: 0,
+                differ: 0,
+                over: 0,
+            });
+        }
+        let next = self.next;
         let limit = limit(next, self.fin, wide);
         let start = start_of(next, d);
         let below = start.below.min(bytes.len() as u64) as usize;
         let placed = self
             .buffer
             .place(start.position, &bytes[below..], policy, limit, self.rbuf)?;
+        self.next = self.buffer.next();
         Ok(Placed {
             new: placed.new,
             old: below as u32 + placed.old,

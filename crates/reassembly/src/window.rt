@@ -6,7 +6,7 @@ ghost use Rattle.reassembly.specs.Laying.{HasBytes};
 ghost use Rattle.reassembly.specs.Pages.{IsHeld, IsReady, IsGrown, tally_in};
 ghost use Rattle.reassembly.specs.Waiting.{runs_of, IsMet};
 
-use crate::laying::Tally;
+use crate::laying::Judged;
 use crate::pages::Pages;
 use crate::runs::Run;
 use crate::waiting::Runs;
@@ -132,7 +132,7 @@ impl Window {
     }
 
     // Takes bytes from `low` on, which lie at or above `next`. Memory comes first, and nothing fails after it.
-    fn take(&mut self, low: u64, bytes: &[u8], policy: Policy) -> Result<Tally, AllocError>
+    fn take(&mut self, low: u64, bytes: &[u8], policy: Policy) -> Result<Judged, AllocError>
         requires laid { IsLaid self.old }
         requires base { self.old.bytes.base ≤ self.old.next }
         requires from { (length bytes.now ≡ 0) ⊎ (self.old.next ≤ low) }
@@ -150,7 +150,7 @@ impl Window {
         ensures few { IfOk result (λ tally. (tally.old ≤ length bytes.now) × (tally.differ ≤ length bytes.now)) }
     {
         if bytes.is_empty() {
-            return Ok(Tally {
+            return Ok(Judged {
                 new: 0,
                 old: 0,
                 differ: 0,
@@ -164,7 +164,7 @@ impl Window {
 
     // Lays bytes from `low` on, past the limit, whose memory is there. They come again where `met` has their positions,
     // which are accepted: these are compared, and replaced where the last byte stays. None of the others is accepted.
-    fn repeat(&mut self, met: &[Run], low: u64, bytes: &[u8], policy: Policy) -> Tally
+    fn repeat(&mut self, met: &[Run], low: u64, bytes: &[u8], policy: Policy) -> Judged
         requires laid { IsLaid self.old }
         requires ordered { AreOrdered met.now }
         requires base { (length bytes.now ≡ 0) ⊎ (self.old.bytes.base ≤ low) }
@@ -181,7 +181,7 @@ impl Window {
         ensures few { (result.old ≤ length bytes.now) × (result.differ ≤ length bytes.now) }
     {
         if bytes.is_empty() {
-            return Tally {
+            return Judged {
                 new: 0,
                 old: 0,
                 differ: 0,

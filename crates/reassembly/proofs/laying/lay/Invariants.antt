@@ -1,13 +1,13 @@
 use Rattle.std.proofs.Common.{◌-◌, ◌≡◌, ℕ, ◌+◌, ◌<◌, ◌≤◌, length, slice_index, List}
 use Rattle.reassembly.specs.declared.answers.Policy.{Policy}
 use Rattle.reassembly.specs.declared.runs.Run.{Run}
-use Rattle.reassembly.specs.declared.laying.Tally.{Tally}
+use Rattle.reassembly.specs.declared.laying.Judged.{Judged}
 use Rattle.reassembly.specs.Runs.{IsCursor}
 use Rattle.reassembly.specs.Laying.{laid_byte, tally_of}
 use Rattle.reassembly.proofs.laying.lay.Given as goal
 
 -- the segment is laid and judged up to the position `at`
-pub record IsLaidTo (runs : List Run) (start : ℕ) (policy : Policy) (before segment cells : List ℕ) (tally : Tally) (cursor stop at : ℕ) : Type 0 where
+pub record IsLaidTo (runs : List Run) (start : ℕ) (policy : Policy) (before segment cells : List ℕ) (tally : Judged) (cursor stop at : ℕ) : Type 0 where
   pub end : stop ≡ start + length segment
   pub from : start ≤ at
   pub within : at ≤ stop

@@ -22,10 +22,10 @@ returns-in_default-clause-stands c r h =
 
 pub invariant_of-self : goal.invariant_of-self
 invariant_of-self c =
-    let old = c.self.invariant in
+    let old = c.self.invariant.0 in
     let bound = fin_bound (window_of c.self.inside.buffer) c.self.inside.fin c.in-Some.position c.args.edge c.is_free_from-free.result c.judge-note.result
     c.judge-note.ensures c.is_free_from-free.ensures.free old.fin in
-    record { laid = old.laid; sized = old.sized; least = old.least; most = old.most; fin = λ f e. bound f (sym c.noted_after-fin.ensures ∙ e) }
+    (record { laid = old.laid; sized = old.sized; least = old.least; most = old.most; fin = λ f e. bound f (sym c.noted_after-fin.ensures ∙ e) }, c.self.invariant.1)
 
 natural : (c : goal.After-fin-1) → natural_of c.args.position ≡ Some c.in-Some.position
 natural c = ap natural_of (sym (to_z-of_z c.ranges.position)) ∙ sym c.natural.ensures ∙ c.in-Some.is
@@ -36,10 +36,10 @@ free : (c : goal.After-fin-1) (r : Receiver) → StandsFor (view_of (window_of c
 free c r h =
     let s = c.self.inside in
     ⊎_elim
-    (λ (t : c.is_free_from-free.result ≡ true). t ∙ is_free (window_of s.buffer) s.fin s.rbuf c.in-Some.position c.self.invariant.laid (c.is_free_from-free.ensures.free t) r h)
+    (λ (t : c.is_free_from-free.result ≡ true). t ∙ is_free (window_of s.buffer) s.fin s.rbuf c.in-Some.position c.self.invariant.0.laid (c.is_free_from-free.ensures.free t) r h)
     (λ (t : c.is_free_from-free.result ≡ false).
     let taken = c.is_free_from-free.ensures.taken t in
-    t ∙ is_taken (window_of s.buffer) s.fin s.rbuf c.in-Some.position taken.0 c.self.invariant.laid taken.1 taken.2 r h)
+    t ∙ is_taken (window_of s.buffer) s.fin s.rbuf c.in-Some.position taken.0 c.self.invariant.0.laid taken.1 taken.2 r h)
     (cases_Bool c.is_free_from-free.result)
 
 judged : (c : goal.After-fin-1) (r : Receiver) → StandsFor (view_of (window_of c.self.inside.buffer) c.self.inside.fin c.self.inside.rbuf) r

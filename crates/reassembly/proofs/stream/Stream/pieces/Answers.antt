@@ -12,7 +12,7 @@ pub returns-clause-runs : goal.returns-clause-runs
 returns-clause-runs c r h = let s = c.self.inside in
     subst (λ (k : StreamView). StandsFor k r → c.new.result ≡ runs_from (kept r.cells k.rbuf) c.args.position c.args.len) c.self.view_is
     (λ stood. c.new.ensures
-    ∙ runs_same (kept_at (window_of s.buffer) s.rbuf) (kept r.cells s.rbuf) (kept_same (window_of s.buffer) s.fin s.rbuf c.self.invariant.laid r stood) c.args.len c.args.position) h
+    ∙ runs_same (kept_at (window_of s.buffer) s.rbuf) (kept r.cells s.rbuf) (kept_same (window_of s.buffer) s.fin s.rbuf c.self.invariant.0.laid r stood) c.args.len c.args.position) h
 
 pub returns-clause-few : goal.returns-clause-few
 returns-clause-few c =

@@ -1,42 +1,53 @@
-use Rattle.std.proofs.Common.{◌≡◌, ◌∙◌, ◌+◌, ◌≤◌, ◌+ℤ◌, ℤ, pos, ap, ap₂, sym, subst, to_z-of_z}
+use Rattle.std.proofs.Common.{◌≡◌, ◌∙◌, ◌+◌, ◌≤◌, ◌+ℤ◌, ℤ, pos, ap, ap₂, sym, subst, to_z-of_z, rules}
 use Rattle.reassembly.specs.declared.answers.Placed.{Placed}
 use Rattle.reassembly.specs.Receiver.{next_of, wide_of, limit_of}
 use Rattle.reassembly.specs.Segment.{accept, counts, from_zero, below_zero}
 use Rattle.reassembly.specs.View.{StandsFor, StreamView}
 use Rattle.reassembly.specs.Buffer.{window_of}
 use Rattle.reassembly.specs.Window.{view_of}
+use Rattle.reassembly.proofs.NoBytes.{nothing_stands, nothing_counts}
 use Rattle.reassembly.proofs.Streams.{next_limit, limit_within, limit_fin, whole_same, stream_stands, stream_counts}
 use Rattle.reassembly.proofs.stream.Stream.place.Goals as goal
 
+pub returns-then-is_empty-clause-stands : goal.returns-then-is_empty-clause-stands
+returns-then-is_empty-clause-stands c r h is_wide =
+    nothing_stands c.args.self.now r (pos (next_of r.cells) +ℤ c.args.d) c.args.bytes.now c.args.policy (search rules) h
+
+pub returns-then-is_empty-clause-counts : goal.returns-then-is_empty-clause-counts
+returns-then-is_empty-clause-counts c r h is_wide =
+    nothing_counts r (pos (next_of r.cells) +ℤ c.args.d) c.args.bytes.now c.args.self.now.rbuf (search rules)
+
 pub place-requires-clause-order : goal.place-requires-clause-order
-place-requires-clause-order c = rw (c.limit-limit.ensures, c.next-next.ensures) (next_limit _ _ _ _ c.self.invariant)
+place-requires-clause-order c = rw (c.limit-limit.ensures, c.self.invariant.1) (next_limit _ _ _ _ c.self.invariant.0)
 
 pub place-requires-clause-window : goal.place-requires-clause-window
-place-requires-clause-window c = rw (c.limit-limit.ensures, c.next-next.ensures) (limit_within _ _ _ _ (subst (λ (k : StreamView). c.args.wide ≤ k.rbuf) (sym c.self.view_is) c.requires.wide))
+place-requires-clause-window c = rw (c.limit-limit.ensures, c.self.invariant.1) (limit_within _ _ _ _ (subst (λ (k : StreamView). c.args.wide ≤ k.rbuf) (sym c.self.view_is) c.requires.wide))
 
 pub invariant_of-self : goal.invariant_of-self
-invariant_of-self c = whole_same _ _ _ _ c.in_err-placed.ensures.err c.self.invariant
+invariant_of-self c = (whole_same _ _ _ _ c.in_err-placed.ensures.err c.self.invariant.0, c.self.invariant.1 ∙ sym c.in_err-placed.ensures.err.next)
 
 pub invariant_of-self-2 : goal.invariant_of-self-2
 invariant_of-self-2 c =
-    let old = c.self.invariant in
-    record {
-      laid = c.in_ok-placed.ensures.laid;
-      sized = c.in_ok-placed.ensures.sized;
-      least = old.least;
-      most = old.most;
-      fin = λ f e. c.in_ok-placed.ensures.bounded f (rw c.limit-limit.ensures (limit_fin _ _ _ f e)) (old.fin f e);
-    }
+    let old = c.self.invariant.0 in (
+      record {
+        laid = c.in_ok-placed.ensures.laid;
+        sized = c.in_ok-placed.ensures.sized;
+        least = old.least;
+        most = old.most;
+        fin = λ f e. c.in_ok-placed.ensures.bounded f (rw c.limit-limit.ensures (limit_fin _ _ _ f e)) (old.fin f e);
+      },
+      c.next-self-inside.ensures,
+    )
 
 -- a signed argument stands in a call's clause as its bits
 begins : (c : goal.After-struct_known-1) → c.start_of-start.result.position ≡ from_zero (pos (window_of c.self.inside.buffer).next +ℤ c.args.d)
-begins c = c.start_of-start.ensures.position ∙ ap₂ (λ x (z : ℤ). from_zero (pos x +ℤ z)) c.next-next.ensures (to_z-of_z c.ranges.d)
+begins c = c.start_of-start.ensures.position ∙ ap₂ (λ x (z : ℤ). from_zero (pos x +ℤ z)) c.self.invariant.1 (to_z-of_z c.ranges.d)
 
 begins_below : (c : goal.After-struct_known-1) → c.start_of-start.result.below ≡ below_zero (pos (window_of c.self.inside.buffer).next +ℤ c.args.d)
-begins_below c = c.start_of-start.ensures.below ∙ ap₂ (λ x (z : ℤ). below_zero (pos x +ℤ z)) c.next-next.ensures (to_z-of_z c.ranges.d)
+begins_below c = c.start_of-start.ensures.below ∙ ap₂ (λ x (z : ℤ). below_zero (pos x +ℤ z)) c.self.invariant.1 (to_z-of_z c.ranges.d)
 
 ends : (c : goal.After-struct_known-1) → c.limit-limit.result ≡ limit_of (window_of c.self.inside.buffer).next c.self.inside.fin c.args.wide
-ends c = c.limit-limit.ensures ∙ ap (λ x. limit_of x c.self.inside.fin c.args.wide) c.next-next.ensures
+ends c = c.limit-limit.ensures ∙ ap (λ x. limit_of x c.self.inside.fin c.args.wide) c.self.invariant.1
 
 pub returns-clause-stands : goal.returns-clause-stands
 returns-clause-stands c r h is_wide =

@@ -10,7 +10,7 @@ nothing : (c : goal.Then-len-eq0) (r : Receiver) → StandsFor c.args.self.now r
 nothing c r h = let s = c.self.inside in
     subst (λ (k : StreamView). StandsFor k r → [] ≡ bytes_from (kept r.cells k.rbuf) c.args.position (length c.args.buf.now)) c.self.view_is
     (bytes_read (window_of s.buffer) s.fin s.rbuf c.args.position c.run_end-end.result (length c.args.buf.now) []
-    c.self.invariant.laid c.run_end-end.ensures (omega arith) (λ i l. absurd (omega arith)) r) h
+    c.self.invariant.0.laid c.run_end-end.ensures (omega arith) (λ i l. absurd (omega arith)) r) h
 
 pub returns-then-len-eq0-clause-len : goal.returns-then-len-eq0-clause-len
 returns-then-len-eq0-clause-len c r h = ap length (nothing c r h)
@@ -23,7 +23,7 @@ copy-requires-clause-from c =
     let s = c.self.inside in
     let can : IsReadable (window_of s.buffer) s.rbuf c.args.position c.min-len.result = readable (window_of s.buffer) s.rbuf c.args.position c.run_end-end.result
     c.min-len.result c.run_end-end.ensures (omega arith) (omega arith) in
-    let base : (window_of s.buffer).bytes.base ≤ (window_of s.buffer).next - s.rbuf = c.self.invariant.sized.kept in
+    let base : (window_of s.buffer).bytes.base ≤ (window_of s.buffer).next - s.rbuf = c.self.invariant.0.sized.kept in
     let from : (window_of s.buffer).next - s.rbuf ≤ c.args.position = can.from in
     omega arith
 
@@ -40,7 +40,7 @@ read c r h =
     let s = c.self.inside in
     let len : length (take c.min-len.result c.args.buf.now) ≡ min c.min-len.result (length c.args.buf.now) = length-take c.min-len.result c.args.buf.now in
     subst (λ (k : StreamView). StandsFor k r → c.copy.new.buf ≡ bytes_from (kept r.cells k.rbuf) c.args.position (length c.args.buf.now)) c.self.view_is
-    (bytes_read (window_of s.buffer) s.fin s.rbuf c.args.position c.run_end-end.result (length c.args.buf.now) c.copy.new.buf c.self.invariant.laid
+    (bytes_read (window_of s.buffer) s.fin s.rbuf c.args.position c.run_end-end.result (length c.args.buf.now) c.copy.new.buf c.self.invariant.0.laid
     c.run_end-end.ensures (omega arith) (λ i l. c.copy.ensures i (omega arith)) r) h
 
 pub returns-clause-len : goal.returns-clause-len

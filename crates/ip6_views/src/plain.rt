@@ -1,0 +1,103 @@
+//! Plain frames: without a tag, with a whole TCP segment over IPv4 whose header has no options and that is no fragment.
+//! All their fields but the options of TCP and the payload stand at fixed places.
+
+ghost use Rattle.std.specs.Prelude.{◌≡◌, ◌≤◌, IfSome, false};
+ghost use Rattle.packet_views.specs.declared.packet.Class.{Class};
+ghost use Rattle.packet_views.specs.Frame.{carries, ip_end, ip_start, tcp_start};
+ghost use Rattle.packet_views.specs.Layout.{IsLayoutOf};
+ghost use Rattle.packet_views.specs.Options.{scale_at};
+ghost use Rattle.packet_views.specs.Packet.{class_of};
+ghost use Rattle.ip6_views.specs.Sight.{segment_of};
+ghost use Rattle.ip6_views.specs.Seen.{seen};
+
+use crate::sight::SightTcp;
+use flow_table::Endpoint;
+use packet_views::{Layout, PROTOCOL_TCP, u16_at, u32_at};
+
+/// The type of a frame that carries an IPv4 packet (IEEE 802.3).
+const TYPE_IPV4: u16 = 0x0800;
+
+/// Version 4 and a header of 5 words: one without options (RFC 791, section 3.1).
+const VERSION_AND_WORDS: u8 = 0x45;
+
+/// The More Fragments flag and the fragment offset in their field of the IPv4 header (RFC 791, section 3.1).
+const FRAGMENT_BITS: u16 = 0x3fff;
+
+/// Where the IPv4 header begins.
+const IP: usize = 14;
+
+/// Where the TCP header begins.
+const TCP: usize = 34;
+
+/// Where what follows the fixed part of the TCP header begins.
+const AFTER_FIXED: usize = 54;
+
+/// The segment of a plain frame.
+#[inline(always)]
+#[tactic(auto, unfolding(packet_views::specs::Packet::head_of))]
+pub(crate) fn plain_segment(frame: &[u8]) -> Option<SightTcp<'_>>
+    ensures segment { IfSome result (λ s. seen s ≡ segment_of frame.now) }
+    ensures class { IfSome result (λ _. class_of frame.now ≡ Class.Tcp) }
+    ensures ipv4 { IfSome result (λ _. carries 0x86dd frame.now ≡ false) }
+{
+    let layout = plain_layout(frame)?;
+    let head = layout.head(
+        frame,
+        u32_at(frame, IP + 12),
+        u32_at(frame, IP + 16),
+        frame[IP + 8],
+    );
+    Some(SightTcp {
+        head,
+        from: Endpoint::source_of(&head),
+        to: Endpoint::destination_of(&head),
+        scale: plain_scale(frame, layout),
+        payload: layout.payload(frame),
+    })
+}
+
+// The window scale of a frame with a layout: without options there is none.
+#[inline(always)]
+fn plain_scale(frame: &[u8], layout: Layout) -> Option<u8>
+    requires layout { IsLayoutOf frame.now layout }
+    ensures shift { result ≡ scale_at layout.tcp frame.now }
+    ensures bound { IfSome result (λ shift. shift ≤ 14) }
+{
+    if layout.payload == layout.tcp + 20 {
+        None
+    } else {
+        layout.scale(frame)
+    }
+}
+
+// The layout of a plain frame.
+#[inline(always)]
+fn plain_layout(frame: &[u8]) -> Option<Layout>
+    ensures layout { IfSome result (λ layout. IsLayoutOf frame.now layout) }
+    ensures start { IfSome result (λ _. ip_start frame.now ≡ 14) }
+    ensures tcp { IfSome result (λ layout. layout.tcp ≡ tcp_start frame.now) }
+    ensures end { IfSome result (λ layout. layout.end ≡ ip_end frame.now) }
+    ensures class { IfSome result (λ _. class_of frame.now ≡ Class.Tcp) }
+    ensures ipv4 { IfSome result (λ _. carries 0x86dd frame.now ≡ false) }
+{
+    if frame.len() < AFTER_FIXED
+        || u16_at(frame, 12) != TYPE_IPV4
+        || frame[IP] != VERSION_AND_WORDS
+        || frame[IP + 9] != PROTOCOL_TCP
+        || u16_at(frame, IP + 6) & FRAGMENT_BITS != 0
+    {
+        return None;
+    }
+    let end = IP + usize::from(u16_at(frame, IP + 2));
+    let words = frame[TCP + 12] >> 4;
+    let payload = TCP + 4 * usize::from(words);
+    if frame.len() < end || words < 5 || end < payload {
+        return None;
+    }
+    Some(Layout {
+        ip: IP,
+        tcp: TCP,
+        payload,
+        end,
+    })
+}
