@@ -1,5 +1,5 @@
 -- Sums and last values over a list of calls, one call more at the front.
-use Rattle.std.proofs.Common.{◌≡◌, ℕ, ◌+◌, ◌<◌, ◌%◌, ◌^◌, Bool, true, false, if◌then◌else◌, List, [], ◌∷◌, fold, refl, sym, ap, ◌∙◌, arith}
+use Rattle.std.proofs.Common.{◌≡◌, ℕ, ◌+◌, ◌<◌, ◌%◌, ◌^◌, Bool, true, false, if◌then◌else◌, List, [], ◌∷◌, fold, refl, ap, ◌∙◌, arith}
 use Rattle.app_api.specs.declared.app.Call.{Call}
 use Rattle.app_api.specs.declared.app.Tally.{Tally}
 use Rattle.app_traffic.specs.Counting.{plus_if, set_if}

@@ -1,11 +1,15 @@
 //! Accounting: packets, bytes and states of each connection.
 
 ghost use Rattle.std.specs.Prelude.{◌≡◌};
-ghost use Rattle.app_traffic.specs.Acct.{acct, acct-lawful, is_client_step, is_server_step};
+ghost use Rattle.app_traffic.specs.Acct.{acct, acct-lawful};
 
-use crate::counting::{is_rcv_call_of, is_snd_call_of, plus_if, set_if};
 use app_api::{App, Call, END, NEW_DATA, PKT_IN, Reaction, Reg, Rule, STATE, Tally};
 use native_filters::Hook;
+
+// Directions: up from the client, and down from the server.
+const UP: u64 = 0;
+
+const DOWN: u64 = 1;
 
 /// Counts, for each direction of a connection, its packets and the bytes of their payload at their sender,
 /// keeps where its stream stands, and the state of each end. "Up" is from the client. It asks nothing.
@@ -36,20 +40,24 @@ impl App for AcctApp {
         }
     }
 
+    #[inline(always)]
     fn react(&self, t: &mut Tally, call: &Call, _rules: &[Rule]) -> Reaction {
         let facts = &call.facts;
-        let up = is_snd_call_of(call, 1, 0);
-        let down = is_snd_call_of(call, 1, 1);
-        *t = Tally {
-            t0: plus_if(up, t.t0, 1),
-            t1: plus_if(up, t.t1, facts.len),
-            t2: set_if(is_rcv_call_of(call, 2, 0), t.t2, facts.next),
-            t3: plus_if(down, t.t3, 1),
-            t4: plus_if(down, t.t4, facts.len),
-            t5: set_if(is_rcv_call_of(call, 2, 1), t.t5, facts.next),
-            t6: set_if(is_client_step(call), t.t6, facts.new),
-            t7: set_if(is_server_step(call), t.t7, facts.new),
-        };
+        match (call.reg, call.hook, facts.dir) {
+            (1, Hook::Snd, UP) => {
+                t.t0 = t.t0.wrapping_add(1);
+                t.t1 = t.t1.wrapping_add(facts.len);
+            }
+            (1, Hook::Snd, DOWN) => {
+                t.t3 = t.t3.wrapping_add(1);
+                t.t4 = t.t4.wrapping_add(facts.len);
+            }
+            (2, Hook::Rcv, UP) => t.t2 = facts.next,
+            (2, Hook::Rcv, DOWN) => t.t5 = facts.next,
+            (3, Hook::Snd, UP) | (4, Hook::Rcv, DOWN) => t.t6 = facts.new,
+            (3, Hook::Snd, DOWN) | (4, Hook::Rcv, UP) => t.t7 = facts.new,
+            _ => {}
+        }
         Reaction::nothing()
     }
 
@@ -66,18 +74,4 @@ impl App for AcctApp {
             _ => None,
         }
     }
-}
-
-// Whether a call tells of a new state of the client: as the sender of a packet, or as its receiver.
-fn is_client_step(call: &Call) -> bool
-    ensures { result ≡ is_client_step call.now }
-{
-    is_snd_call_of(call, 3, 0) || is_rcv_call_of(call, 4, 1)
-}
-
-// Whether a call tells of a new state of the server.
-fn is_server_step(call: &Call) -> bool
-    ensures { result ≡ is_server_step call.now }
-{
-    is_snd_call_of(call, 3, 1) || is_rcv_call_of(call, 4, 0)
 }

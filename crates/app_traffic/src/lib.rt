@@ -2,7 +2,6 @@
 #![tactic(auto)]
 
 mod acct;
-mod counting;
 mod laws;
 mod rexmit;
 

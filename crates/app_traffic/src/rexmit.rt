@@ -3,7 +3,6 @@
 ghost use Rattle.std.specs.Prelude.{◌≡◌};
 ghost use Rattle.app_traffic.specs.Rexmit.{rexmit, rexmit-lawful, switches_on};
 
-use crate::counting::{is_rcv_call, plus_if};
 use app_api::{App, Call, Change1, Changes, PKT_IN, REXMIT, Reaction, Reg, Rule, Tally};
 use native_filters::Hook;
 
@@ -30,16 +29,20 @@ impl App for RexmitApp {
         Tally::zeros()
     }
 
+    #[inline(always)]
     fn react(&self, t: &mut Tally, call: &Call, _rules: &[Rule]) -> Reaction {
-        let again = is_rcv_call(call, 1);
-        t.t0 = plus_if(again, t.t0, 1);
-        t.t1 = plus_if(again, t.t1, call.facts.rexlen);
-        t.t2 = plus_if(again, t.t2, call.facts.rexdiff);
-        t.t3 = plus_if(is_rcv_call(call, 2), t.t3, 1);
-        if again {
-            switches_on(2)
-        } else {
-            Reaction::nothing()
+        match (call.reg, call.hook) {
+            (1, Hook::Rcv) => {
+                t.t0 = t.t0.wrapping_add(1);
+                t.t1 = t.t1.wrapping_add(call.facts.rexlen);
+                t.t2 = t.t2.wrapping_add(call.facts.rexdiff);
+                switches_on(2)
+            }
+            (2, Hook::Rcv) => {
+                t.t3 = t.t3.wrapping_add(1);
+                Reaction::nothing()
+            }
+            _ => Reaction::nothing(),
         }
     }
 

@@ -89,8 +89,8 @@ impl CallbackLog {
     }
 }
 
-// Room for one note more. A full list grows by a quarter and eight places, not to twice its length: a run keeps a list for each
-// of many records to its end, and most are short. Many have one or two notes, so the first room is for four.
+// Room for one note more. A full list grows by half and eight places, not to twice its length: a run keeps a list for each of
+// many records to its end. The first room is for eight, since a list that grows is copied.
 fn make_room(notes: &mut Vec<Note>) -> Result<(), AllocError>
     ensures room { OnOk result (vec_len notes.new < vec_capacity notes.new) }
     ensures same { notes.new.items ≡ notes.old.items }
@@ -99,8 +99,7 @@ fn make_room(notes: &mut Vec<Note>) -> Result<(), AllocError>
     if len < notes.capacity() {
         return Ok(());
     }
-    let more = if len == 0 { 4 } else { len / 4 + 8 };
-    notes.reserve_exact(more)
+    notes.reserve_exact(len / 2 + 8)
 }
 
 // Keeps what a callback saw, if it had a peek.
