@@ -5,7 +5,7 @@ use Rattle.std.proofs.lemmas.List.{drop_at}
 use Rattle.std.specs.List.{slice_get}
 use Rattle.pcapng_source.specs.Given.{Given, after, nothing}
 use Rattle.pcap_source.specs.Order.{number_in}
-use Rattle.pcapng_source.specs.Fields.{SectionState, has, head_length, interface_by, order_told, resolution_in, section_by, section_in, total_of, with_interface, with_resolution}
+use Rattle.pcapng_source.specs.Fields.{SectionState, has, head_length, interface_by, order_told, resolution_in, resolution_told, section_by, section_in, snap_told, total_of, with_interface, with_resolution}
 use Rattle.pcapng_source.specs.Packets.{captured_of, interface_of, record_by, record_head, record_of, record_on, within_snap}
 use Rattle.pcapng_source.specs.Refusals.{kind_refusal}
 use Rattle.pcapng_source.specs.Blocks.{blocks_from, closed}
@@ -233,7 +233,7 @@ opens-enhanced r interface total captured skip it found sized told parts =
 -- the interface of a block, by its head and its options
 interface-sections : (section : SectionState) (head left : List ℕ) (total words : ℕ) → length head ≡ 16 → total_of section.order head ≡ total → 20 + 4 * words ≡ total
     → section_by InterfaceBlock section (head ++ left)
-    ≡ section_of_words (with_interface section (record { link = number_in section.order 2 (drop 8 head); snap = number_in section.order 4 (drop 12 head); resolution = 6 })) words left
+    ≡ section_of_words (with_interface section (record { link = number_in section.order 2 (drop 8 head); snap = snap_told (number_in section.order 4 (drop 12 head)); resolution = resolution_told 6 })) words left
 unfolding resolution_in
 interface-sections section head left total zero size sized parts =
     let none : total_of section.order (head ++ left) - 20 ≡ 0 = omega (arith, total_of-front section.order head left (omega (arith, size)), sized, parts) in
@@ -244,31 +244,31 @@ interface-sections section head left total (suc n) size sized parts =
     ap (λ k. with_interface section (interface_by section.order k (head ++ left))) some
     ∙ ap (λ k. with_interface section (record {
       link = k;
-      snap = number_in section.order 4 (drop 12 (head ++ left));
-      resolution = resolution_in
-          section.order (4 * suc n) (take (4 * suc n) (drop 16 (head ++ left)));
+      snap = snap_told (number_in section.order 4 (drop 12 (head ++ left)));
+      resolution = resolution_told (resolution_in
+          section.order (4 * suc n) (take (4 * suc n) (drop 16 (head ++ left))));
     })) (number_at-front section.order 2 8 head left (omega (arith, size)))
     ∙ ap (λ k. with_interface section (record {
       link = number_in section.order 2 (drop 8 head);
-      snap = k;
-      resolution = resolution_in section.order
-          (4 * suc n) (take (4 * suc n) (drop 16 (head ++ left)));
+      snap = snap_told k;
+      resolution = resolution_told (resolution_in section.order
+          (4 * suc n) (take (4 * suc n) (drop 16 (head ++ left))));
     })) (number_at-front section.order 4 12 head left (omega (arith, size)))
     ∙ ap (λ l. with_interface section (record {
       link = number_in section.order 2 (drop 8 head);
-      snap = number_in section.order 4 (drop 12 head);
-      resolution = resolution_in section.order (4 * suc n) (take (4 * suc n) l);
+      snap = snap_told (number_in section.order 4 (drop 12 head));
+      resolution = resolution_told (resolution_in section.order (4 * suc n) (take (4 * suc n) l));
     })) (drop_at head left 16 size)
     ∙ sym (resolved-added section (record {
       link = number_in section.order 2 (drop 8 head);
-      snap = number_in section.order 4 (drop 12 head);
-      resolution = 6;
+      snap = snap_told (number_in section.order 4 (drop 12 head));
+      resolution = resolution_told 6;
     }) (resolution_in section.order (4 * suc n) (take (4 * suc n) left)))
 
 pub opens-interface : (r : Reader) (total words : ℕ) → IsWhole InterfaceBlock r → total_of r.section.order r.head ≡ total → words ≡ (total - 20) / 4
     → Goes r (record r {
       stage = Body;
-      section = with_interface r.section (record { link = number_in r.section.order 2 (drop 8 r.head); snap = number_in r.section.order 4 (drop 12 r.head); resolution = 6 });
+      section = with_interface r.section (record { link = number_in r.section.order 2 (drop 8 r.head); snap = snap_told (number_in r.section.order 4 (drop 12 r.head)); resolution = resolution_told 6 });
       place = record { offset = r.place.offset + total; allowed = r.place.allowed - 1 };
       block = record { offset = r.place.offset; total = total };
       owed = 0;
@@ -286,7 +286,7 @@ opens-interface r total words it sized parts =
     let size = it.whole in
     let all : 20 + 4 * words ≡ total = words-all total words (omega (arith, sized, least)) (sym (ap (λ n. n % 4) sized) ∙ fours) parts in
     opens r InterfaceBlock r.section (with_interface r.section (record
-    { link = number_in r.section.order 2 (drop 8 r.head); snap = number_in r.section.order 4 (drop 12 r.head); resolution = 6 })) r.made total 0 0 words it facts.0 sized
+    { link = number_in r.section.order 2 (drop 8 r.head); snap = snap_told (number_in r.section.order 4 (drop 12 r.head)); resolution = resolution_told 6 })) r.made total 0 0 words it facts.0 sized
     (omega (arith, most, sized)) (omega (arith, all)) refl
     (λ left. ap (λ l. l ++ take 0 left) (sym none))
     (λ left there. interface-sections r.section r.head left total words size sized all)

@@ -5,7 +5,7 @@ use Rattle.std.proofs.lemmas.List.{drop_all, get_or-append-add, take_more, take_
 use Rattle.std.proofs.Math.Seq.{drop-append-add}
 use Rattle.std.specs.Prelude.{slice_index}
 use Rattle.pcap_source.specs.Order.{number_in}
-use Rattle.pcapng_source.specs.Fields.{SectionState, has, is_past_options, is_resolution, last_resolved, option_size, padded, resolution_in, with_interface, with_resolution}
+use Rattle.pcapng_source.specs.Fields.{SectionState, has, is_past_options, is_resolution, last_resolved, option_size, padded, resolution_in, resolution_told, with_interface, with_resolution}
 use Rattle.pcap_source.specs.declared.order.Order.{Order}
 use Rattle.pcapng_source.specs.declared.section.Interface.{Interface}
 use Rattle.pcapng_source.proofs.Numbers.{number_in-front, number_at-front, has-there}
@@ -56,24 +56,24 @@ resolution-count order (suc a) (suc b) options fits within =
 
 -- the last interface may be resolved before or after it is added
 last_resolved-push : (interfaces : List Interface) (interface : Interface) (resolution : ℕ)
-    → last_resolved (interfaces ++ interface ∷ []) resolution ≡ interfaces ++ record interface { resolution = resolution } ∷ []
+    → last_resolved (interfaces ++ interface ∷ []) resolution ≡ interfaces ++ record interface { resolution = resolution_told resolution } ∷ []
 last_resolved-push [] interface resolution = refl
 last_resolved-push (first ∷ []) interface resolution = refl
 last_resolved-push (first ∷ (second ∷ others)) interface resolution = ap (λ l. first ∷ l) (last_resolved-push (second ∷ others) interface resolution)
 
 -- in an array: y is the last of the first interfaces, with its resolution
 pub resolved-array : (interfaces : List Interface) (count resolution : ℕ) (last : Interface) → 0 < count → count ≤ length interfaces → last ≡ get_or interfaces (count - 1) last
-    → take count (set interfaces (count - 1) (record last { resolution = resolution })) ≡ last_resolved (take count interfaces) resolution
+    → take count (set interfaces (count - 1) (record last { resolution = resolution_told resolution })) ≡ last_resolved (take count interfaces) resolution
 resolved-array interfaces count resolution last some within read =
     let one : count ≡ count - 1 + 1 = omega arith in
-    ap (λ k. take k (set interfaces (count - 1) (record last { resolution = resolution }))) one
-    ∙ take_more_set interfaces (count - 1) (record last { resolution = resolution }) (omega arith)
+    ap (λ k. take k (set interfaces (count - 1) (record last { resolution = resolution_told resolution }))) one
+    ∙ take_more_set interfaces (count - 1) (record last { resolution = resolution_told resolution }) (omega arith)
     ∙ sym (last_resolved-push (take (count - 1) interfaces) last resolution)
     ∙ ap (λ l. last_resolved (take (count - 1) interfaces ++ l ∷ []) resolution) read
     ∙ ap (λ l. last_resolved l resolution) (sym (take_more interfaces (count - 1) last (omega arith)) ∙ ap (λ k. take k interfaces) (sym one))
 
 pub resolved-added : (section : SectionState) (interface : Interface) (resolution : ℕ)
-    → with_resolution (with_interface section interface) resolution ≡ with_interface section (record interface { resolution = resolution })
+    → with_resolution (with_interface section interface) resolution ≡ with_interface section (record interface { resolution = resolution_told resolution })
 resolved-added section interface resolution = ap (λ l. record { order = section.order; interfaces = l }) (last_resolved-push section.interfaces interface resolution)
 
 -- the head of an option, and the options behind it
@@ -98,21 +98,21 @@ module _ (order : Order) (word area : List ℕ) (whole : length word ≡ 4) wher
       (ap (λ n. n == 0) (number_in-front order 2 word area (omega arith)) ∙ ne_eqb _ 0 (λ none. omega arith))
       (rw (sized, has-there (option_size order word) (word ++ area) (omega (arith, length-append word area))) refl))
 
-  pub resolution-told : is_resolution order (word ++ area) ≡ is_resolution order word
-  resolution-told = rw (number_in-front order 2 word area (omega arith), number_at-front order 2 2 word area (omega arith)) refl
+  pub told-here : is_resolution order (word ++ area) ≡ is_resolution order word
+  told-here = rw (number_in-front order 2 word area (omega arith), number_at-front order 2 2 word area (omega arith)) refl
 
   -- the option tells the resolution
   pub resolution-here : (n : ℕ) → is_resolution order word ≡ true → 0 < number_in order 2 word → option_size order word ≤ length area + 4
       → resolution_in order (suc n) (word ++ area) ≡ slice_index area 0
   resolution-here n is some fits =
-      resolution-step order n (word ++ area) false true (not-past some fits) (resolution-told ∙ is)
+      resolution-step order n (word ++ area) false true (not-past some fits) (told-here ∙ is)
       ∙ ap (λ k. get_or (word ++ area) k 0) (let it : 4 ≡ length word + 0 = omega arith in it) ∙ get_or-append-add word area 0 0
 
   -- it is another one
   pub resolution-behind : (n : ℕ) → is_resolution order word ≡ false → 0 < number_in order 2 word → option_size order word ≤ length area + 4
       → resolution_in order (suc n) (word ++ area) ≡ resolution_in order n (drop (option_size order word - 4) area)
   resolution-behind n is some fits =
-      resolution-step order n (word ++ area) false false (not-past some fits) (resolution-told ∙ is)
+      resolution-step order n (word ++ area) false false (not-past some fits) (told-here ∙ is)
       ∙ ap (λ k. resolution_in order n (drop k (word ++ area))) (sized ∙ (let it : option_size order word ≡ length word + (option_size order word - 4) = omega arith in it))
       ∙ ap (resolution_in order n) (drop-append-add word area (option_size order word - 4))
 

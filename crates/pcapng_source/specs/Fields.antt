@@ -1,13 +1,15 @@
 -- The fields of a block. The pcapng form, in a profile of our own. Blocks follow each other, and each is
 --     type u32, total length u32, body, total length u32 again.
 -- Its numbers are in the byte order of its section. A section header tells that order itself.
-use Rattle.std.specs.Prelude.{ℕ, zero, suc, ◌+◌, ◌-◌, ◌*◌, ◌/◌, ◌%◌, List, [], ◌∷◌, ◌++◌, length, take, drop, Bool, ◌&&◌, ◌||◌, ◌==◌, not, nat_le, slice_index, if◌then◌else◌, Option, None, Some, unwrap_or}
+use Rattle.std.specs.Prelude.{ℕ, zero, suc, ◌+◌, ◌-◌, ◌*◌, ◌/◌, ◌%◌, List, [], ◌∷◌, ◌++◌, length, take, drop, Bool, ◌&&◌, ◌||◌, ◌==◌, not, nat_le, nat_lt, slice_index, if◌then◌else◌, Option, None, Some, unwrap_or}
 use Rattle.pcap_source.specs.Order.{number_in}
 use Rattle.pcap_source.specs.declared.order.Order.{Order}
 use Rattle.pcap_source.specs.declared.order.Order.TheVariants.{Big, Little}
 use Rattle.pcapng_source.specs.declared.kind.Kind.{Kind}
 use Rattle.pcapng_source.specs.declared.kind.Kind.TheVariants.{SectionHeader, InterfaceBlock, SimplePacket, EnhancedPacket, OtherBlock}
 use Rattle.pcapng_source.specs.declared.section.Interface.{Interface}
+use Rattle.pcapng_source.specs.declared.section.Resolution.{Resolution}
+use Rattle.pcapng_source.specs.declared.section.Resolution.TheVariants.{PowerOfTen, PowerOfTwo}
 
 -- so many bytes are there
 abbrev pub has : ℕ → List ℕ → Bool
@@ -85,7 +87,15 @@ is_past_options order options = not (has 4 options) || (number_in order 2 option
 abbrev pub is_resolution : Order → List ℕ → Bool
 is_resolution order options = number_in order 2 options == 9 && number_in order 2 (drop 2 options) == 1
 
--- the time resolution by the first n options: 6 where none tells it
+-- the time resolution that a byte tells: with its highest bit clear a power of ten, else the other bits are a power of two
+abbrev pub resolution_told : ℕ → Resolution
+resolution_told byte = if nat_lt byte 128 then PowerOfTen byte else PowerOfTwo (byte - 128)
+
+-- the limit that a snap length tells: 0 is none
+abbrev pub snap_told : ℕ → Option ℕ
+snap_told length = if length == 0 then None else Some length
+
+-- the byte of the time resolution by the first n options: 6, for microseconds, where none tells it
 unfoldable pub resolution_in : Order → ℕ → List ℕ → ℕ
 resolution_in order zero options = 6
 resolution_in order (suc n) options = if is_past_options order options then 6
@@ -96,22 +106,22 @@ resolution_in order (suc n) options = if is_past_options order options then 6
 abbrev pub interface_by : Order → ℕ → List ℕ → Interface
 interface_by order size bytes = record {
   link = number_in order 2 (drop 8 bytes);
-  snap = number_in order 4 (drop 12 bytes);
-  resolution = resolution_in order size (take size (drop 16 bytes));
+  snap = snap_told (number_in order 4 (drop 12 bytes));
+  resolution = resolution_told (resolution_in order size (take size (drop 16 bytes)));
 }
 
 -- one interface more
 abbrev pub with_interface : SectionState → Interface → SectionState
 with_interface section interface = record { order = section.order; interfaces = section.interfaces ++ interface ∷ [] }
 
--- the last interface gets this resolution
+-- the last interface gets the resolution that a byte tells
 abbrev pub last_resolved : List Interface → ℕ → List Interface
-last_resolved [] resolution = []
-last_resolved (interface ∷ []) resolution = record interface { resolution = resolution } ∷ []
-last_resolved (first ∷ (second ∷ others)) resolution = first ∷ last_resolved (second ∷ others) resolution
+last_resolved [] byte = []
+last_resolved (interface ∷ []) byte = record interface { resolution = resolution_told byte } ∷ []
+last_resolved (first ∷ (second ∷ others)) byte = first ∷ last_resolved (second ∷ others) byte
 
 abbrev pub with_resolution : SectionState → ℕ → SectionState
-with_resolution section resolution = record { order = section.order; interfaces = last_resolved section.interfaces resolution }
+with_resolution section byte = record { order = section.order; interfaces = last_resolved section.interfaces byte }
 
 -- the section behind a block of this kind in it
 abbrev pub section_by : Kind → SectionState → List ℕ → SectionState

@@ -8,11 +8,13 @@ use Rattle.pcap_source.specs.declared.order.Order.{Order}
 use Rattle.pcapng_source.specs.declared.kind.Kind.{Kind}
 use Rattle.pcapng_source.specs.declared.kind.Kind.TheVariants.{SimplePacket, EnhancedPacket}
 use Rattle.pcapng_source.specs.declared.section.Interface.{Interface}
+use Rattle.pcapng_source.specs.declared.section.Resolution.{Resolution}
+use Rattle.pcapng_source.specs.declared.section.Resolution.TheVariants.{PowerOfTen, PowerOfTwo}
 
--- A time of this resolution in microseconds, rounded down. With its highest bit clear the resolution is a power of ten,
--- else the other bits are a power of two.
-abbrev pub micros_of : ℕ → ℕ → ℕ
-micros_of resolution time = if nat_lt resolution 128 then time * 1000000 / 10 ^ resolution else time * 1000000 / 2 ^ (resolution - 128)
+-- a time of this resolution in microseconds, rounded down
+abbrev pub micros_of : Resolution → ℕ → ℕ
+micros_of (PowerOfTen exponent) time = time * 1000000 / 10 ^ exponent
+micros_of (PowerOfTwo exponent) time = time * 1000000 / 2 ^ exponent
 
 -- the head of a record of a classic capture, the highest byte first
 abbrev pub record_head : ℕ → ℕ → ℕ → List ℕ
@@ -29,9 +31,10 @@ interface_of EnhancedPacket section bytes = slice_get section.interfaces (number
 interface_of SimplePacket section bytes = slice_get section.interfaces 0
 interface_of _ section bytes = None
 
--- how many bytes of a packet were captured where nobody says so: a snap length of 0 is no limit
-abbrev pub within_snap : ℕ → ℕ → ℕ
-within_snap snap original = if snap == 0 then original else min original snap
+-- how many bytes of a packet were captured where nobody says so: all, or no more than the limit
+abbrev pub within_snap : Option ℕ → ℕ → ℕ
+within_snap None original = original
+within_snap (Some snap) original = min original snap
 
 -- how many bytes of the packet were captured
 abbrev pub captured_of : Kind → Order → Interface → List ℕ → ℕ

@@ -7,10 +7,10 @@ use crate::judge::told_order;
 use crate::kind::Kind;
 use crate::packet::{enhanced_record, simple_record};
 use crate::reader::{Block, Reader, Stage};
-use crate::section::{Interface, Section};
+use crate::section::{Interface, Resolution, Section, snap_told};
 use pcap_source::Order;
 
-// The time resolution of an interface that tells none: microseconds.
+// The byte of the time resolution of an interface that tells none: microseconds.
 pub(crate) const MICROSECONDS: u8 = 6;
 
 impl Reader {
@@ -62,8 +62,8 @@ impl Reader {
         let total = order.u32_at(head, 4);
         let interface = Interface {
             link: order.u16_at(head, 8),
-            snap: order.u32_at(head, 12),
-            resolution: MICROSECONDS,
+            snap: snap_told(order.u32_at(head, 12)),
+            resolution: Resolution::told(MICROSECONDS),
         };
         self.section.add(interface);
         self.enter(total, 0, 0, (total - 20) / 4);

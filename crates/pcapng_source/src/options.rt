@@ -92,21 +92,21 @@ impl Reader {
         ensures ready { ready_at self.new.stage self.new }
     {
         let word = self.word.as_slice();
-        let resolution = word[0];
-        self.resolve(resolution);
+        let byte = word[0];
+        self.resolve(byte);
     }
 
-    // Gives the last interface its time resolution. The options behind it are skipped.
-    fn resolve(&mut self, resolution: u8)
+    // Gives the last interface the time resolution that this byte tells. The options behind it are skipped.
+    fn resolve(&mut self, byte: u8)
         ensures { self.new ≡ record self.old {
           stage = Body;
-          section = with_resolution self.old.section resolution;
+          section = with_resolution self.old.section byte;
           owed = 0;
           skip = 4 * self.old.options;
           options = 0;
         } }
     {
-        self.section.resolve(resolution);
+        self.section.resolve(byte);
         self.owed = 0;
         self.skip = 4 * u64::from(self.options);
         self.options = 0;

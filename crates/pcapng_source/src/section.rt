@@ -2,6 +2,7 @@
 
 ghost use Rattle.std.specs.Prelude.{◌≡◌, ◌<◌, ◌≤◌, [], ◌∷◌, ◌++◌, length, take, nat_le, Option};
 ghost use Rattle.std.specs.List.{slice_get};
+ghost use Rattle.pcapng_source.specs.Fields.{resolution_told, snap_told};
 ghost use Rattle.pcapng_source.specs.Packets.{within_snap};
 
 use pcap_source::Order;
@@ -10,15 +11,47 @@ use std::marker::Model;
 // How many interfaces a section has at most.
 const INTERFACE_LIMIT: usize = 64;
 
+/// A resolution of time: how many of its units a second has.
+#[derive(Clone, Copy, Debug)]
+pub enum Resolution {
+    /// Ten to so much.
+    PowerOfTen(u8),
+    /// Two to so much.
+    PowerOfTwo(u8),
+}
+
+// The byte of a resolution has this bit set where it tells a power of two.
+const POWER_OF_TWO: u8 = 128;
+
+impl Resolution {
+    // The resolution that a byte tells.
+    pub(crate) fn told(byte: u8) -> Resolution
+        ensures { result ≡ resolution_told byte }
+    {
+        if byte < POWER_OF_TWO {
+            Resolution::PowerOfTen(byte)
+        } else {
+            Resolution::PowerOfTwo(byte - POWER_OF_TWO)
+        }
+    }
+}
+
 /// An interface on which packets were captured.
 #[derive(Clone, Copy, Debug)]
 pub struct Interface {
     /// Its link type.
     pub link: u16,
-    /// How many bytes of a packet were captured at most; 0 for no limit.
-    pub snap: u32,
-    /// Its resolution of time: a power of ten, or with the highest bit set a power of two.
-    pub resolution: u8,
+    /// How many bytes of a packet were captured at most, where there is a limit.
+    pub snap: Option<u32>,
+    /// Its resolution of time.
+    pub resolution: Resolution,
+}
+
+// The limit that a snap length tells: 0 is none.
+pub(crate) fn snap_told(length: u32) -> Option<u32>
+    ensures { result ≡ snap_told length }
+{
+    if length == 0 { None } else { Some(length) }
 }
 
 impl Interface {
@@ -26,10 +59,9 @@ impl Interface {
     pub(crate) fn captured(&self, original: u32) -> u32
         ensures { result ≡ within_snap self.now.snap original }
     {
-        if self.snap == 0 {
-            original
-        } else {
-            original.min(self.snap)
+        match self.snap {
+            Some(snap) => original.min(snap),
+            None => original,
         }
     }
 }
@@ -62,8 +94,8 @@ impl Section {
     {
         let none = Interface {
             link: 0,
-            snap: 0,
-            resolution: 0,
+            snap: None,
+            resolution: Resolution::PowerOfTen(0),
         };
         Section {
             order,
@@ -92,12 +124,12 @@ impl Section {
         self.interfaces[..self.count].get(number as usize).copied()
     }
 
-    // Sets the resolution of the interface that was added last.
-    pub(crate) fn resolve(&mut self, resolution: u8)
-        ensures { self.new ≡ with_resolution self.old resolution }
+    // Sets the resolution of the interface that was added last to the one that this byte tells.
+    pub(crate) fn resolve(&mut self, byte: u8)
+        ensures { self.new ≡ with_resolution self.old byte }
     {
         if self.count > 0 {
-            self.interfaces[self.count - 1].resolution = resolution;
+            self.interfaces[self.count - 1].resolution = Resolution::told(byte);
         }
     }
 
