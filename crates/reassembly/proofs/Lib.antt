@@ -24,3 +24,4 @@ pub mod KeptPieces
 pub mod WholeRuns
 pub mod Plains
 pub mod NoBytes
+pub mod Appended

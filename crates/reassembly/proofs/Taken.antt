@@ -11,7 +11,7 @@ use Rattle.reassembly.specs.Segment.{is_last, has_byte}
 use Rattle.reassembly.specs.Pages.{byte_of, IsGrown, IsSamePlace, IsReady, IsHeld, AreLaid, tally_in}
 use Rattle.reassembly.specs.Window.{last_end, end_of, byte_at, IsLaid, taken_tally, AreTaken}
 use Rattle.reassembly.specs.Waiting.{runs_of, IsMet}
-use Rattle.reassembly.proofs.Counts.{count_below-same, count_below-le}
+use Rattle.reassembly.proofs.Counts.{count_below-same, count_below-le, count_below-all, count_below-none}
 use Rattle.reassembly.proofs.Laid.{tally_is}
 use Rattle.reassembly.proofs.Covered.{covering, covered_by, uncovered}
 
@@ -128,6 +128,17 @@ tally_taken old ready met low bytes grown is_met =
     (λ i. is_covered runs (low + i) && not (eqb (byte_at old (low + i)) (slice_index bytes i)))
     (length bytes)
     (λ i l. ap₂ (λ b x. b && not (eqb x (slice_index bytes i))) (same i l) (grown.bytes (low + i))))
+
+-- where no run waits, all are new
+pub tally_alone : (w : Window) (low : ℕ) (bytes : List ℕ) → runs_of w.runs ≡ [] → record { new = length bytes; old = 0; differ = 0 } ≡ taken_tally w low bytes
+tally_alone w low bytes none =
+    let all_new : Judged = record { new = length bytes; old = 0; differ = 0 } in
+    let bare : (i : ℕ) → is_covered (runs_of w.runs) (low + i) ≡ false = λ i. ap (λ (runs : List Run). is_covered runs (low + i)) none in
+    tally_is all_new (taken_tally w low bytes)
+    (sym (count_below-all (λ i. not (is_covered (runs_of w.runs) (low + i))) (length bytes) (λ i l. ap not (bare i))))
+    (sym (count_below-none (λ i. is_covered (runs_of w.runs) (low + i)) (length bytes) (λ i l. bare i)))
+    (sym (count_below-none (λ i. is_covered (runs_of w.runs) (low + i) && not (eqb (byte_at w (low + i)) (slice_index bytes i))) (length bytes)
+    (λ i l. ap (λ b. b && not (eqb (byte_at w (low + i)) (slice_index bytes i))) (bare i))))
 
 pub taken_few : (w : Window) (low : ℕ) (bytes : List ℕ) (t : Judged) → t ≡ taken_tally w low bytes → (t.old ≤ length bytes) × (t.differ ≤ length bytes)
 taken_few w low bytes t e = (

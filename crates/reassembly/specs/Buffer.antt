@@ -21,9 +21,13 @@ use Rattle.reassembly.specs.declared.buffer.Buffer.TheVariants.{InOrder, Holed a
 abbrev pub first_key : Vec ℕ Global → Vec ℕ Global
 first_key page = record { ptr = page.ptr; len = 1; cap = 1; alloc = page.alloc; items = 0 ∷ []; ok = (refl, leb-true 1 1 refl); small = ltb-true 1 (2 ^ 63) refl }
 
+-- no bytes, and no room for any
+abbrev pub no_page : Vec ℕ Global → Vec ℕ Global
+no_page page = record { ptr = page.ptr; len = 0; cap = 0; alloc = page.alloc; items = []; ok = (refl, leb-true 0 0 refl); small = ltb-true 0 (2 ^ 63) refl }
+
 -- one page, which begins at position 0
 abbrev pub first_page : Vec ℕ Global → Pages
-first_page page = record { base = 0; keys = first_key page; slab = record { slots = Some page ∷ []; vacant_key = 1; capacity = 1 }; alloc = page.alloc }
+first_page page = record { base = 0; keys = first_key page; slab = record { slots = Some page ∷ []; vacant_key = 1; capacity = 1 }; spare = no_page page; alloc = page.alloc }
 
 abbrev pub no_runs : Vec ℕ Global → Runs
 no_runs page = record { map = btree_map [] (inl tt); alloc = page.alloc }

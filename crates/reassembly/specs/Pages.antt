@@ -64,6 +64,11 @@ abbrev pub AreLaid : Pages → Pages → List Run → ℕ → Policy → List �
 AreLaid old new runs low policy bytes =
     (p : ℕ) → old.base ≤ p → byte_of new p ≡ laid_in old runs low policy bytes (length bytes) p
 
+-- the bytes stand from low on, and the others are the old ones
+abbrev pub AreAppended : Pages → Pages → ℕ → List ℕ → Type 0
+AreAppended old new low bytes =
+    (p : ℕ) → old.base ≤ p → byte_of new p ≡ (if nat_le low p && nat_lt p (low + length bytes) then slice_index bytes (p - low) else byte_of old p)
+
 -- how they are judged
 abbrev pub tally_in : Pages → List Run → ℕ → List ℕ → ℕ → Judged
 tally_in s runs low bytes n = record {

@@ -1,6 +1,7 @@
-//! The bytes of a stream by position, in pages of 2,048 positions: those that lie below a place are given back one by one.
+//! The bytes of a stream by position, in pages of 2,048 positions: those that lie below a place are given back one by one,
+//! and the last of these becomes the next page.
 
-ghost use Rattle.std.specs.Prelude.{◌≡◌, ℕ, ◌+◌, ◌-◌, ◌*◌, ◌/◌, ◌%◌, ◌<◌, ◌≤◌, ◌^◌, ◌⊎◌, [], length, min, vec_len, OnOk, OnErr};
+ghost use Rattle.std.specs.Prelude.{◌≡◌, ℕ, ◌+◌, ◌-◌, ◌*◌, ◌/◌, ◌%◌, ◌<◌, ◌≤◌, ◌^◌, ◌⊎◌, ◌++◌, [], length, min, vec_len, OnOk, OnErr, IsTrue, is_ok, if◌then◌else◌};
 ghost use Rattle.reassembly.specs.Runs.{AreOrdered};
 ghost use Rattle.reassembly.specs.Laying.{HasBytes, HasSameBytes};
 
@@ -9,17 +10,19 @@ use crate::laying::{Judged, added, differing, lay};
 use crate::runs::Run;
 use slab::Slab;
 use std::alloc::{AllocError, Global};
-use std::mem::swap;
+use std::mem::{replace, swap};
 
 /// How many positions a page has.
 pub const PAGE: usize = 2048;
 
-/// The pages from position `base` on. A page is as long as what was written into it, and what lies past its end is 0.
+/// The pages from position `base` on. A page is as long as what was written into it, and what lies past its end is 0. The
+/// page that was given back last is the spare one, which becomes the next.
 #[derive(Drop)]
 pub struct Pages {
     pub base: u64,
     pub keys: Vec<usize>,
     pub slab: Slab<Vec<u8>>,
+    pub spare: Vec<u8>,
     pub alloc: Global,
 }
 
@@ -50,8 +53,19 @@ fn lengthen(page: &mut Vec<u8>, len: usize, is_whole: bool) -> Result<(), AllocE
     page.resize(len, 0)
 }
 
+// Adds bytes behind those of a page. Room is asked for the whole page.
+fn add_behind(page: &mut Vec<u8>, bytes: &[u8]) -> Result<(), AllocError>
+    requires { length page.old.items + length bytes.now ≤ 2048 }
+    ensures { page.new.items ≡ (if is_ok result then page.old.items ++ bytes.now else page.old.items) }
+{
+    if page.capacity() < page.len() + bytes.len() {
+        page.reserve_exact(PAGE - page.len())?;
+    }
+    page.extend_from_slice(bytes)
+}
+
 impl Pages {
-    ghost use Rattle.reassembly.specs.Pages.{page_at, byte_of, IsHeld, IsReady, IsKeyed, IsGrown, IsChangedAt, IsSamePlace, AreLaid, tally_in, differing_in};
+    ghost use Rattle.reassembly.specs.Pages.{page_at, byte_of, IsHeld, IsReady, IsKeyed, IsGrown, IsChangedAt, IsSamePlace, AreLaid, AreAppended, tally_in, differing_in};
 
     /// No pages. It takes no memory.
     pub fn new(alloc: Global) -> Self
@@ -63,6 +77,7 @@ impl Pages {
             base: 0,
             keys: Vec::new(alloc),
             slab: Slab::new(alloc),
+            spare: Vec::new(alloc),
             alloc,
         }
     }
@@ -81,7 +96,9 @@ impl Pages {
             self.slab.reserve_exact(1)?;
         }
         self.keys.reserve(1)?;
-        let key = self.slab.insert(Vec::new(self.alloc))?;
+        let mut page = replace(&mut self.spare, Vec::new(self.alloc));
+        page.clear();
+        let key = self.slab.insert(page)?;
         self.keys.push_reserved(key);
         Ok(())
     }
@@ -222,6 +239,57 @@ impl Pages {
         tally
     }
 
+    // Whether `len` bytes from `offset` on go on where their page ends, and fit into it.
+    fn goes_on(&self, offset: usize, len: usize) -> bool
+        requires keyed { IsKeyed self.now }
+        requires short { len ≤ 65535 }
+        ensures within { IsTrue result → offset / 2048 < vec_len self.now.keys }
+        ensures fits { IsTrue result → offset % 2048 + len ≤ 2048 }
+        ensures next { IsTrue result → length (page_at self.now (offset / 2048)) ≡ offset % 2048 }
+    {
+        let place = offset / PAGE;
+        let from = offset % PAGE;
+        if place >= self.keys.len() || from + len > PAGE {
+            return false;
+        }
+        self.slab[self.keys[place]].len() == from
+    }
+
+    // Adds bytes behind those of a page, which is made whole where it lacks room.
+    fn lengthen_by(&mut self, place: usize, bytes: &[u8]) -> Result<(), AllocError>
+        requires keyed { IsKeyed self.old }
+        requires within { place < vec_len self.old.keys }
+        requires fits { length (page_at self.old place) + length bytes.now ≤ 2048 }
+        ensures changed { IsChangedAt self.old self.new place }
+        ensures page { page_at self.new place
+            ≡ (if is_ok result then page_at self.old place ++ bytes.now else page_at self.old place) }
+    {
+        let key = self.keys[place];
+        add_behind(&mut self.slab[key], bytes)
+    }
+
+    /// Takes the memory for bytes from `low` on, where none is accepted, and writes them. Where memory is refused, no byte
+    /// has changed.
+    pub fn append(&mut self, low: u64, bytes: &[u8]) -> Result<(), AllocError>
+        requires keyed { IsKeyed self.old }
+        requires from { self.old.base ≤ low }
+        requires some { 1 ≤ length bytes.now }
+        requires short { length bytes.now ≤ 65535 }
+        requires reach { low + length bytes.now < 2 ^ 63 }
+        ensures err { OnErr result (IsGrown self.old self.new) }
+        ensures place { IsSamePlace self.old self.new }
+        ensures ready { OnOk result (IsReady self.new low (low + length bytes.now)) }
+        ensures bytes { OnOk result (AreAppended self.old self.new low bytes.now) }
+    {
+        let offset = (low - self.base) as usize;
+        if self.goes_on(offset, bytes.len()) {
+            return self.lengthen_by(offset / PAGE, bytes);
+        }
+        self.reserve(low, low + bytes.len() as u64)?;
+        self.lay(&[], low, bytes, Policy::First);
+        Ok(())
+    }
+
     /// How many of the bytes from `low` on, whose positions are held, differ from those that are held.
     pub fn differing(&self, low: u64, bytes: &[u8]) -> u32
         requires keyed { IsKeyed self.now }
@@ -272,7 +340,7 @@ impl Pages {
         ensures count { vec_len self.new.keys + 1 ≡ vec_len self.old.keys }
     {
         let key = self.keys.remove(0);
-        self.slab.remove(key);
+        self.spare = self.slab.remove(key);
         self.base += PAGE as u64;
     }
 

@@ -9,20 +9,10 @@ pub struct Run {
     pub end: u64,
 }
 
-/// How many runs end at `position` or below it: a search by halves.
+/// How many runs end at `position` or below it.
 pub fn ended_by(runs: &[Run], position: u64) -> usize
     requires { AreOrdered runs.now }
     ensures { IsCursor runs.now result position }
 {
-    let mut low = 0;
-    let mut high = runs.len();
-    while low < high {
-        let middle = low + (high - low) / 2;
-        if runs[middle].end <= position {
-            low = middle + 1;
-        } else {
-            high = middle;
-        }
-    }
-    low
+    runs.partition_point(|run| run.end <= position)
 }

@@ -1,6 +1,6 @@
 //! The runs above `next`, which wait for the bytes before them, in an ordered map.
 
-ghost use Rattle.std.specs.Prelude.{◌≡◌, ℕ, ◌-◌, ◌<◌, ◌≤◌, [], ◌∷◌, false, length, IfSome, IfNone, IfOk, OnOk, OnErr};
+ghost use Rattle.std.specs.Prelude.{◌≡◌, ℕ, ◌-◌, ◌<◌, ◌≤◌, [], ◌∷◌, false, length, IfSome, IfNone, IfOk, OnOk, OnErr, IsTrue};
 ghost use Rattle.std.specs.Ordering.{nat_cmp};
 ghost use Rattle.std.specs.BTreeMap.{IsOrdered};
 ghost use Rattle.reassembly.specs.Runs.{AreOrdered, AreAbove, AreWithin, Gains, KeepsBounds, run_at, is_covered, is_accepted};
@@ -54,6 +54,13 @@ impl Runs {
     {
         self.map.insert(low, high)?;
         Ok(())
+    }
+
+    /// Whether no run waits.
+    pub fn is_empty(&self) -> bool
+        ensures { IsTrue result → runs_of self.now ≡ [] }
+    {
+        self.map.is_empty()
     }
 
     // The last run that begins at `position` or below it.

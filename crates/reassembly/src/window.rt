@@ -92,10 +92,25 @@ impl Window {
         ensures bounded { OnOk result (KeepsBounds (λ m. high ≤ m) IsBounded self.old self.new) }
     {
         if low == self.next {
-            self.next = self.runs.absorb(high);
+            self.rise(high);
             return Ok(());
         }
         self.runs.add(low, high, met)
+    }
+
+    // Accepts the positions from `next` to below `high`, and goes on over the runs that they reach.
+    fn rise(&mut self, high: u64)
+        requires ordered { AreOrdered (runs_of self.old.runs) }
+        requires above { AreAbove (runs_of self.old.runs) self.old.next }
+        requires some { self.old.next < high }
+        ensures bytes { self.new.bytes ≡ self.old.bytes }
+        ensures ordered { AreOrdered (runs_of self.new.runs) }
+        ensures above { AreAbove (runs_of self.new.runs) self.new.next }
+        ensures rises { self.old.next ≤ self.new.next }
+        ensures accepted { Gains (accepts self.old) (accepts self.new) self.old.next high }
+        ensures bounded { KeepsBounds (λ m. high ≤ m) IsBounded self.old self.new }
+    {
+        self.next = self.runs.absorb(high);
     }
 
     // How many bytes of a segment from `start` on, which lie below `next`, differ from the kept ones.
@@ -157,6 +172,15 @@ impl Window {
             });
         }
         let high = low + bytes.len() as u64;
+        if low == self.next && self.runs.is_empty() {
+            self.bytes.append(low, bytes)?;
+            self.rise(high);
+            return Ok(Judged {
+                new: bytes.len() as u32,
+                old: 0,
+                differ: 0,
+            });
+        }
         let met = self.meet(low, high)?;
         self.accept(low, high, &met)?;
         Ok(self.bytes.lay(&met, low, bytes, policy))

@@ -47,6 +47,7 @@ after c =
       base = s.base;
       keys = s.keys;
       slab = with_value s.slab c.index-key.result.now (with_items c.index_mut-page.result.now (put_mid from (from + length c.args.bytes.now - from) c.deref_mut.result.now c.lay.new.cells));
+      spare = s.spare;
       alloc = s.alloc;
     }
 

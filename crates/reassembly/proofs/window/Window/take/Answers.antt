@@ -1,9 +1,9 @@
-use Rattle.std.proofs.Common.{◌≡◌, ◌+◌, ◌<◌, ◌≤◌, arith, ◌∙◌, sym, length, ⊎_elim}
+use Rattle.std.proofs.Common.{◌≡◌, ◌+◌, ◌<◌, ◌≤◌, arith, ◌∙◌, sym, length, rules, ⊎_elim}
 use Rattle.std.proofs.lemmas.Bool.{eqb-false}
 use Rattle.reassembly.specs.declared.window.Window.{Window}
 use Rattle.reassembly.specs.Waiting.{runs_of, IsMet}
 use Rattle.reassembly.specs.Window.{taken_tally}
-use Rattle.reassembly.proofs.Taken.{IsTaken, cells_taken, held_taken, tally_taken, taken_few}
+use Rattle.reassembly.proofs.Taken.{IsTaken, cells_taken, held_taken, tally_taken, tally_alone, taken_few}
 use Rattle.reassembly.proofs.window.Window.take.Goals as goal
 
 some : (c : goal.After-drop-met-2) → 0 < length c.args.bytes.now
@@ -50,3 +50,7 @@ returns-clause-tally c = judged c
 
 pub returns-clause-few : goal.returns-clause-few
 returns-clause-few c = taken_few c.args.self.now c.args.low c.args.bytes.now c.lay.result (judged c)
+
+pub returns-then-is_empty-2-clause-tally : goal.returns-then-is_empty-2-clause-tally
+returns-then-is_empty-2-clause-tally c =
+    tally_alone c.args.self.now c.args.low c.args.bytes.now (search rules)
