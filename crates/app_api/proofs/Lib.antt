@@ -1,3 +1,4 @@
 pub mod ByNumber
+pub mod Hooks
 pub mod Padded
 pub mod Taken

@@ -1,6 +1,9 @@
 pub mod App
 pub mod Changes
+pub mod EventLaws
 pub mod Events
+pub mod HearerLaws
+pub mod Hearers
 pub mod Log
 pub mod Names
 pub mod Numbers

@@ -1,17 +1,17 @@
 -- The names of the built-in events.
-use Rattle.std.specs.Prelude.{ℕ, ◌-◌, if◌then◌else◌, nat_le, List, [], ◌∷◌, slice_get, codes, Option, None}
+use Rattle.std.specs.Prelude.{ℕ, ◌-◌, if◌then◌else◌, nat_le, List, map, slice_get, Option, None}
 use Rattle.std.specs.List.{position_from}
 use Rattle.std.specs.Str.{bytes_eq}
+use Rattle.app_api.specs.Events.{START, built_ins}
 
--- in order of their numbers, from 256 on
+-- in order of their numbers
 abbrev pub event_names : List (List ℕ)
-event_names =
-    codes "start" ∷ codes "pkt_in" ∷ codes "rexmit" ∷ codes "new_data" ∷ codes "error" ∷ codes "state" ∷ codes "end" ∷ codes "orphan" ∷ codes "timer" ∷ []
+event_names = map (λ r. r.name) built_ins
 
 -- the name of a built-in event
 abbrev pub event_name : ℕ → Option (List ℕ)
-event_name event = if nat_le 256 event then slice_get event_names (event - 256) else None
+event_name event = if nat_le START event then slice_get event_names (event - START) else None
 
 -- the built-in event of a name
 abbrev pub event_named : List ℕ → Option ℕ
-event_named name = position_from (λ known. bytes_eq name known) 256 event_names
+event_named name = position_from (λ known. bytes_eq name known) START event_names

@@ -1,43 +1,110 @@
-//! The built-in events by their numbers, and the side at which each is raised.
+//! The built-in events: one table of their names and of the hooks at which they are raised, in order of their numbers.
 
-ghost use Rattle.std.specs.Prelude.{◌≡◌};
-ghost use Rattle.app_api.specs.Events.{allows_hook};
+ghost use Rattle.std.specs.Prelude.{◌≡◌, ◌≤◌, ◌<◌, List, length, map, slice_get, IfSome};
+ghost use Rattle.std.specs.Option.{option_copied};
+ghost use Rattle.app_api.specs.Events.{START as FIRST, LAST, EventRow, is_built_in, place_of, raised_at, allows_hook};
+ghost use Rattle.app_api.specs.Names.{event_name, event_named};
 
 use native_filters::Hook;
 
 /// A connection's first packet, at its sender.
 pub const START: u16 = 256;
 /// A packet, at both sides.
-pub const PKT_IN: u16 = 257;
+pub const PKT_IN: u16 = START + 1;
 /// Payload bytes that the receiver had accepted before.
-pub const REXMIT: u16 = 258;
+pub const REXMIT: u16 = START + 2;
 /// The stream's next position rose.
-pub const NEW_DATA: u16 = 259;
+pub const NEW_DATA: u16 = START + 3;
 /// A segment past the window, an RST outside it, or a refused FIN.
-pub const ERROR: u16 = 260;
+pub const ERROR: u16 = START + 4;
 /// The stepped end changed its state, at both sides.
-pub const STATE: u16 = 261;
+pub const STATE: u16 = START + 5;
 /// The connection is over.
-pub const END: u16 = 262;
+pub const END: u16 = START + 6;
 /// A packet that belongs to no connection.
-pub const ORPHAN: u16 = 263;
+pub const ORPHAN: u16 = START + 7;
 /// A connection ended by idleness.
-pub const TIMER: u16 = 264;
+pub const TIMER: u16 = START + 8;
 
-/// The first of the built-in events.
-pub const FIRST_EVENT: u16 = START;
-/// The last of the built-in events. Each number between is one.
+/// The last of the built-in events. Each number from [`START`] on is one.
 pub const LAST_EVENT: u16 = TIMER;
+
+/// How many built-in events there are.
+pub const EVENTS: usize = 9;
+
+// In order of their numbers: the name of each, and whether it is raised at the sender and at the receiver.
+const TABLE: [(&str, bool, bool); EVENTS] = [
+    ("start", true, false),
+    ("pkt_in", true, true),
+    ("rexmit", false, true),
+    ("new_data", false, true),
+    ("error", false, true),
+    ("state", true, true),
+    ("end", false, true),
+    ("orphan", true, false),
+    ("timer", false, true),
+];
+
+/// Whether a number is a built-in event.
+pub fn is_built_in(event: u16) -> bool
+    ensures { result ≡ is_built_in event }
+{
+    (START..=LAST_EVENT).contains(&event)
+}
+
+/// Where a built-in event stands among them, from 0. Any other number gives a place behind them all.
+#[inline(always)]
+pub(crate) fn place_of(event: u16) -> usize
+    ensures { result ≡ place_of event }
+{
+    if event < START {
+        return EVENTS;
+    }
+    usize::from(event - START)
+}
+
+// Whether the row at a place of a table says that its event is raised at a side.
+fn says(rows: &[(&str, bool, bool)], place: usize, hook: Hook) -> bool
+    ensures { (table : List EventRow) → map (λ r. r.1) rows.now ≡ map (λ r. r.at_sender) table
+        → map (λ r. r.2) rows.now ≡ map (λ r. r.at_receiver) table
+        → result ≡ raised_at (slice_get table place) hook }
+{
+    if place >= rows.len() {
+        return false;
+    }
+    match hook {
+        Hook::Snd => rows[place].1,
+        Hook::Rcv => rows[place].2,
+    }
+}
 
 /// Whether a built-in event is raised at a side. No other number is.
 #[tactic(auto, unfolding(crate::specs::Events::allows_hook))]
 pub fn allows_hook(event: u16, hook: Hook) -> bool
     ensures { result ≡ allows_hook event hook }
 {
-    match event {
-        PKT_IN | STATE => true,
-        START | ORPHAN => hook == Hook::Snd,
-        REXMIT | NEW_DATA | ERROR | END | TIMER => hook == Hook::Rcv,
-        _ => false,
+    says(&TABLE, place_of(event), hook)
+}
+
+/// The name of a built-in event. No other number has one.
+pub fn event_name(event: u16) -> Option<&'static str>
+    ensures name { option_copied result ≡ event_name event }
+{
+    let place = usize::from(event.checked_sub(START)?);
+    (place < TABLE.len()).then(|| TABLE[place].0)
+}
+
+/// The built-in event of a name.
+pub fn event_named(name: &[u8]) -> Option<u16>
+    ensures event { result ≡ event_named name.now }
+    ensures low { IfSome result (λ e. FIRST ≤ e) }
+    ensures high { IfSome result (λ e. e ≤ LAST) }
+    ensures some { IfSome result (λ e. 0 < length name.now) }
+{
+    for place in 0..TABLE.len() {
+        if name == TABLE[place].0.as_bytes() {
+            return Some(START + place as u16);
+        }
     }
+    None
 }

@@ -7,9 +7,9 @@ mod app;
 mod changes;
 mod entry;
 mod events;
+mod hearers;
 mod lists;
 mod log;
-mod names;
 mod reaction;
 mod registration;
 mod rule;
@@ -19,12 +19,12 @@ pub use app::{App, Call, Tally};
 pub use changes::{Change1, Changes, MOST_CHANGES};
 pub use entry::{Entry, Seen};
 pub use events::{
-    END, ERROR, FIRST_EVENT, LAST_EVENT, NEW_DATA, ORPHAN, PKT_IN, REXMIT, START, STATE, TIMER,
-    allows_hook,
+    END, ERROR, LAST_EVENT, NEW_DATA, ORPHAN, PKT_IN, REXMIT, START, STATE, TIMER, allows_hook,
+    event_name, event_named, is_built_in,
 };
-pub use lists::{ActiveList, Bytes, DropList, EntryList, FieldList, PieceList, RegList};
+pub use hearers::{Heard, Hearers};
+pub use lists::{ActiveList, Bytes, DropList, EntryList, FieldList, PieceList};
 pub use log::LogApp;
-pub use names::{event_name, event_named};
 pub use reaction::{Reaction, Reason, Verdict};
 pub use registration::{Action, PeekSpec, Reg};
 pub use rule::Rule;

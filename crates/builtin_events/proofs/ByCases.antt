@@ -1,12 +1,14 @@
 -- The lists of raises for each choice of their conditions.
-use Rattle.std.proofs.Common.{◌≡◌, ℕ, ◌-◌, ◌&&◌, ◌||◌, Bool, true, false, List, ◌++◌, get_or, map, refl, ap, ◌∙◌}
+use Rattle.std.proofs.Common.{◌≡◌, ℕ, ◌&&◌, ◌||◌, Bool, true, false, List, ◌++◌, map, refl, ap, ◌∙◌}
 use Rattle.std.proofs.Math.Bool.{beq}
 use Rattle.std.specs.List.{list_all}
 use Rattle.std.proofs.lemmas.List.Folds.{list_any-append}
 use Rattle.std.proofs.lemmas.Bool.{and_parts}
 use Rattle.native_filters.specs.declared.facts.Facts.{Facts}
 use Rattle.native_filters.specs.declared.facts.Hook.TheVariants.{Snd, Rcv}
+use Rattle.app_api.specs.declared.hearers.Heard.{Heard}
 use Rattle.app_api.specs.Events.{allows_hook}
+use Rattle.app_api.specs.Hearers.{is_heard_in}
 use Rattle.app_api.specs.Numbers.{rise_from}
 use Rattle.builtin_events.specs.declared.raise.Raise.{Raise}
 use Rattle.builtin_events.specs.Heard.{is_any_heard}
@@ -93,17 +95,17 @@ pub receiver-end : (a b c d e : Bool) (f : Facts) → is_raised 262 (at_receiver
 receiver-end a b c d e f = same _ _ (each_5 (λ a b c d e. beq (is_raised 262 (at_receiver a b c d e f)) e) refl a b c d e)
 
 -- whether one of some raises is heard, or one after them that is made where a condition holds
-heard-more : (heard : List Bool) (raises : List Raise) (b : Bool) (event : ℕ) (f : Facts)
-    → is_any_heard heard (raises ++ raise_if b (rcv event f)) ≡ (is_any_heard heard raises || (b && get_or heard (event - 256) false))
+heard-more : (heard : Heard) (raises : List Raise) (b : Bool) (event : ℕ) (f : Facts)
+    → is_any_heard heard (raises ++ raise_if b (rcv event f)) ≡ (is_any_heard heard raises || (b && is_heard_in heard event))
 heard-more heard raises b event f =
-    list_any-append (λ r. get_or heard (r.event - 256) false) raises (raise_if b (rcv event f)) ∙ ap (λ (x : Bool). is_any_heard heard raises || x) (one b)
+    list_any-append (λ r. is_heard_in heard r.event) raises (raise_if b (rcv event f)) ∙ ap (λ (x : Bool). is_any_heard heard raises || x) (one b)
   where
     or_none : (x : Bool) → (x || false) ≡ x
     or_none true = refl
     or_none false = refl
 
-    one : (b : Bool) → is_any_heard heard (raise_if b (rcv event f)) ≡ (b && get_or heard (event - 256) false)
-    one true = or_none (get_or heard (event - 256) false)
+    one : (b : Bool) → is_any_heard heard (raise_if b (rcv event f)) ≡ (b && is_heard_in heard event)
+    one true = or_none (is_heard_in heard event)
     one false = refl
 
 but_first : (p a r f c o : Bool) → p ≡ false → (a || (r || f)) ≡ false → ((((((p || false) || a) || r) || f) || c) || o) ≡ (c || o)
@@ -113,9 +115,9 @@ but_first false false true f c o is none = cc
 but_first false true r f c o is none = cc
 but_first true a r f c o is none = cc
 
-pub receiver-heard : (heard : List Bool) (again rose fault changed over : Bool) (f : Facts) → get_or heard 1 false ≡ false
-    → ((again && get_or heard 2 false) || ((rose && get_or heard 3 false) || (fault && get_or heard 4 false))) ≡ false
-    → is_any_heard heard (at_receiver again rose fault changed over f) ≡ ((changed && get_or heard 5 false) || (over && get_or heard 6 false))
+pub receiver-heard : (heard : Heard) (again rose fault changed over : Bool) (f : Facts) → is_heard_in heard 257 ≡ false
+    → ((again && is_heard_in heard 258) || ((rose && is_heard_in heard 259) || (fault && is_heard_in heard 260))) ≡ false
+    → is_any_heard heard (at_receiver again rose fault changed over f) ≡ ((changed && is_heard_in heard 261) || (over && is_heard_in heard 262))
 receiver-heard heard again rose fault changed over f is none =
     let first : List Raise = raise_if true (rcv 257 f) in
     let second : List Raise = first ++ raise_if again (rcv 258 f) in
@@ -123,9 +125,9 @@ receiver-heard heard again rose fault changed over f is none =
     let fourth : List Raise = third ++ raise_if fault (rcv 260 f) in
     let fifth : List Raise = fourth ++ raise_if changed (rcv 261 f) in
     heard-more heard fifth over 262 f ∙
-    (ap (λ (b : Bool). b || (over && get_or heard 6 false)) (heard-more heard fourth changed 261 f ∙
-    ap (λ (b : Bool). b || (changed && get_or heard 5 false)) (heard-more heard third fault 260 f ∙
-    ap (λ (b : Bool). b || (fault && get_or heard 4 false)) (heard-more heard second rose 259 f ∙
-    ap (λ (b : Bool). b || (rose && get_or heard 3 false)) (heard-more heard first again 258 f)))) ∙
-    but_first (get_or heard 1 false) (again && get_or heard 2 false) (rose && get_or heard 3 false) (fault && get_or heard 4 false)
-    (changed && get_or heard 5 false) (over && get_or heard 6 false) is none)
+    (ap (λ (b : Bool). b || (over && is_heard_in heard 262)) (heard-more heard fourth changed 261 f ∙
+    ap (λ (b : Bool). b || (changed && is_heard_in heard 261)) (heard-more heard third fault 260 f ∙
+    ap (λ (b : Bool). b || (fault && is_heard_in heard 260)) (heard-more heard second rose 259 f ∙
+    ap (λ (b : Bool). b || (rose && is_heard_in heard 259)) (heard-more heard first again 258 f)))) ∙
+    but_first (is_heard_in heard 257) (again && is_heard_in heard 258) (rose && is_heard_in heard 259) (fault && is_heard_in heard 260)
+    (changed && is_heard_in heard 261) (over && is_heard_in heard 262) is none)

@@ -4,6 +4,7 @@ ghost use Rattle.std.specs.Prelude.{◌≡◌, ◌+◌, ◌<◌, ◌≤◌, [], 
 ghost use Rattle.builtin_events.specs.Raised.{event_if, raises_of};
 
 use crate::raise::{Raise, RaiseList};
+use arrayvec::ArrayVec;
 use native_filters::{Facts, Hook};
 use std::marker::Model;
 
@@ -24,18 +25,17 @@ const MOST: usize = 6;
 /// The numbers of events, at most six. Contracts see the list of them.
 #[derive(Debug, Drop)]
 pub struct EventList {
-    items: [u16; MOST],
-    count: usize,
+    items: ArrayVec<u16, MOST>,
 }
 
 impl Model for EventList {
-    ghost use Rattle.std.specs.Prelude.{◌≡◌, ◌≤◌, ℕ, List, take, length};
+    ghost use Rattle.std.specs.Prelude.{◌≤◌, ℕ, List, length};
 
     ghost Value = { List ℕ };
 
-    ghost view = { λ l. take l.count l.items };
+    ghost view = { λ l. l.items.items };
 
-    ghost invariant = { λ l. (l.count ≤ 6) × (length l.items ≡ 6) };
+    ghost invariant = { λ l. length l.items.items ≤ 6 };
 }
 
 impl EventList {
@@ -44,8 +44,7 @@ impl EventList {
         ensures { result ≡ [] }
     {
         EventList {
-            items: [0; MOST],
-            count: 0,
+            items: ArrayVec::new(),
         }
     }
 
@@ -56,8 +55,7 @@ impl EventList {
         ensures more { length self.new ≤ length self.old + 1 }
     {
         if holds {
-            self.items[self.count] = event;
-            self.count += 1;
+            self.items.push(event);
         }
     }
 
@@ -66,7 +64,7 @@ impl EventList {
         ensures items { result.now ≡ self.now }
         ensures within { length self.now ≤ 6 }
     {
-        &self.items[..self.count]
+        self.items.as_slice()
     }
 }
 

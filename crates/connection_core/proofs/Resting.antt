@@ -26,7 +26,8 @@ use Rattle.event_trees.specs.declared.defs.EventDef.{EventDef}
 use Rattle.event_trees.specs.Defs.{found, path, defining, AreAddable, AreDefs}
 use Rattle.event_trees.specs.Canon.{slot_of}
 use Rattle.event_trees.specs.Private.{numbers_of}
-use Rattle.event_trees.specs.Fires.{is_hook, filter_means, filters_mean, begins_with, fires}
+use Rattle.shared_forest.specs.Key.{is_hook}
+use Rattle.event_trees.specs.Fires.{filter_means, filters_mean, begins_with, fires}
 use Rattle.event_trees.specs.Walk.{called as called_slots}
 use Rattle.forest_versions.specs.State.{ControlState}
 use Rattle.connection_core.specs.declared.ledger.Notes.{Notes}

@@ -1,5 +1,5 @@
 -- What isn't heard changes nothing: neither a raise nor a phase of such raises.
-use Rattle.std.proofs.Common.{◌≡◌, ℕ, ◌+◌, ◌-◌, ◌<◌, ◌≤◌, Bool, true, false, not, ◌==◌, ◌||◌, Option, List, [], ◌∷◌, ◌++◌, get_or, refl, sym, ap, subst, ◌∙◌, arith}
+use Rattle.std.proofs.Common.{◌≡◌, ℕ, Bool, true, false, not, ◌==◌, ◌||◌, Option, List, [], ◌∷◌, ◌++◌, refl, sym, ap, subst, ◌∙◌, arith}
 use Rattle.std.specs.Prelude.{nat_lt}
 use Rattle.std.specs.List.{AllByRecursion}
 use Rattle.native_filters.specs.declared.facts.Facts.{Facts}
@@ -12,6 +12,9 @@ use Rattle.flow_socket.specs.declared.answers.Sent.{Sent}
 use Rattle.flow_socket.specs.declared.answers.Got.{Got}
 use Rattle.app_api.specs.declared.registration.Reg.{Reg}
 use Rattle.app_api.specs.App.{Meaning}
+use Rattle.app_api.specs.declared.hearers.Heard.{Heard}
+use Rattle.app_api.specs.Events.{START, PKT_IN, REXMIT, NEW_DATA, ERROR, STATE, END, is_built_in}
+use Rattle.app_api.specs.Hearers.{is_any, is_heard_in}
 use Rattle.builtin_events.specs.declared.raise.Raise.{Raise}
 use Rattle.builtin_events.specs.Facts.{sender_facts, receiver_facts}
 use Rattle.builtin_events.specs.Heard.{is_any_heard}
@@ -73,11 +76,10 @@ phase_silent app s keep others list i number from raises socket notes ledger sil
 
 -- ---- what is heard of a phase
 
--- a raise at this side, of one of the events 256 to 264
+-- a raise at this side, of a built-in event
 record IsAt (hook : Hook) (raise : Raise) : Type 0 where
   side : raise.hook ≡ hook
-  low : 256 ≤ raise.event
-  high : raise.event ≤ 264
+  known : is_built_in raise.event ≡ true
 
 all-if : (hook : Hook) (b : Bool) (raise : Raise) → IsAt hook raise → AllByRecursion (IsAt hook) (raise_if b raise)
 all-if hook true raise is = (is, tt)
@@ -90,58 +92,56 @@ all-on hook (x ∷ xs) ys left right = (left.0, all-on hook xs ys left.1 right)
 abbrev made_at : Hook → Facts → ℕ → Raise
 made_at hook facts event = record { hook = hook; event = event; facts = facts }
 
-one_more : (hook : Hook) (facts : Facts) (event : ℕ) (b : Bool) (xs : List Raise) → 256 ≤ event → event ≤ 264 → AllByRecursion (IsAt hook) xs
+one_more : (hook : Hook) (facts : Facts) (event : ℕ) (b : Bool) (xs : List Raise) → is_built_in event ≡ true → AllByRecursion (IsAt hook) xs
     → AllByRecursion (IsAt hook) (xs ++ raise_if b (made_at hook facts event))
-one_more hook facts event b xs low high left =
-    all-on hook xs (raise_if b (made_at hook facts event)) left (all-if hook b (made_at hook facts event) (record { side = refl; low = low; high = high }))
+one_more hook facts event b xs known left =
+    all-on hook xs (raise_if b (made_at hook facts event)) left (all-if hook b (made_at hook facts event) (record { side = refl; known = known }))
 
 sender-at : (h : Head) (from : Side) (nth : ℕ) (first : Bool) (sent : Sent) → AllByRecursion (IsAt Snd) (sender_raises h from nth first sent)
 unfolding sender_raises
 sender-at h from nth first sent =
     let f : Facts = sender_facts h from nth sent in
-    let start : List Raise = raise_if first (made_at Snd f 256) in
-    let both : List Raise = start ++ raise_if true (made_at Snd f 257) in
-    one_more Snd f 261 (is_changed f) both (omega arith) (omega arith)
-    (one_more Snd f 257 true start (omega arith) (omega arith) (all-if Snd first (made_at Snd f 256) (record { side = refl; low = omega arith; high = omega arith })))
+    let start : List Raise = raise_if first (made_at Snd f START) in
+    let both : List Raise = start ++ raise_if true (made_at Snd f PKT_IN) in
+    one_more Snd f STATE (is_changed f) both refl
+    (one_more Snd f PKT_IN true start refl (all-if Snd first (made_at Snd f START) (record { side = refl; known = refl })))
 
 receiver-at : (h : Head) (from : Side) (nth : ℕ) (got : Got) → AllByRecursion (IsAt Rcv) (receiver_raises h from nth got)
 unfolding receiver_raises
 receiver-at h from nth got =
     let f : Facts = receiver_facts h from nth got in
-    let one : List Raise = raise_if true (made_at Rcv f 257) in
-    let two : List Raise = one ++ raise_if (nat_lt 0 f.rexlen) (made_at Rcv f 258) in
-    let three : List Raise = two ++ raise_if got.rose (made_at Rcv f 259) in
-    let four : List Raise = three ++ raise_if (not (f.fault == 0)) (made_at Rcv f 260) in
-    let five : List Raise = four ++ raise_if (is_changed f) (made_at Rcv f 261) in
-    one_more Rcv f 262 got.over five (omega arith) (omega arith)
-    (one_more Rcv f 261 (is_changed f) four (omega arith) (omega arith)
-    (one_more Rcv f 260 (not (f.fault == 0)) three (omega arith) (omega arith)
-    (one_more Rcv f 259 got.rose two (omega arith) (omega arith)
-    (one_more Rcv f 258 (nat_lt 0 f.rexlen) one (omega arith) (omega arith)
-    (all-if Rcv true (made_at Rcv f 257) (record { side = refl; low = omega arith; high = omega arith }))))))
+    let one : List Raise = raise_if true (made_at Rcv f PKT_IN) in
+    let two : List Raise = one ++ raise_if (nat_lt 0 f.rexlen) (made_at Rcv f REXMIT) in
+    let three : List Raise = two ++ raise_if got.rose (made_at Rcv f NEW_DATA) in
+    let four : List Raise = three ++ raise_if (not (f.fault == 0)) (made_at Rcv f ERROR) in
+    let five : List Raise = four ++ raise_if (is_changed f) (made_at Rcv f STATE) in
+    one_more Rcv f END got.over five refl
+    (one_more Rcv f STATE (is_changed f) four refl
+    (one_more Rcv f ERROR (not (f.fault == 0)) three refl
+    (one_more Rcv f NEW_DATA got.rose two refl
+    (one_more Rcv f REXMIT (nat_lt 0 f.rexlen) one refl
+    (all-if Rcv true (made_at Rcv f PKT_IN) (record { side = refl; known = refl }))))))
 
 neither : (a b : Bool) → (a || b) ≡ false → (a ≡ false) × (b ≡ false)
 neither true b is = absurd (cc)
 neither false b is = (refl, is)
 
-silent : (s : ControlState) (list : List Reg) (hook : Hook) (heard : List Bool) (shown : List Shown) (raises : List Raise) → AllByRecursion (IsAt hook) raises
+silent : (s : ControlState) (list : List Reg) (hook : Hook) (heard : Heard) (shown : List Shown) (raises : List Raise) → AllByRecursion (IsAt hook) raises
     → AreHeard hook heard shown → ((event : ℕ) → is_heard hook event shown ≡ false → (facts : Facts) → fires s.defs facts hook event list ≡ [])
     → is_any_heard heard raises ≡ false → CallNothing s list raises
 silent s list hook heard shown [] at all none is = tt
 silent s list hook heard shown (raise ∷ raises) at all none is =
-    let both = neither (get_or heard (raise.event - 256) false) (is_any_heard heard raises) is in
-    let event : 256 + (raise.event - 256) ≡ raise.event = omega (arith, at.0.low) in
-    let within : raise.event - 256 < 9 = omega (arith, at.0.low, at.0.high) in
-    let unheard : is_heard hook raise.event shown ≡ false = ap (λ e. is_heard hook e shown) (sym event) ∙ (sym (all.each (raise.event - 256) within) ∙ both.0) in
+    let both = neither (is_heard_in heard raise.event) (is_any_heard heard raises) is in
+    let unheard : is_heard hook raise.event shown ≡ false = sym (ap is_any (all raise.event at.0.known)) ∙ both.0 in
     (subst (λ h. fires s.defs raise.facts h raise.event list ≡ []) (sym at.0.side) (none raise.event unheard raise.facts), silent s list hook heard shown raises at.1 all none both.1)
 
-pub sender_silent : (s : ControlState) (list : List Reg) (heard : List Bool) (shown : List Shown) (h : Head) (from : Side) (nth : ℕ) (first : Bool) (sent : Sent)
+pub sender_silent : (s : ControlState) (list : List Reg) (heard : Heard) (shown : List Shown) (h : Head) (from : Side) (nth : ℕ) (first : Bool) (sent : Sent)
     → AreHeard Snd heard shown → ((event : ℕ) → is_heard Snd event shown ≡ false → (facts : Facts) → fires s.defs facts Snd event list ≡ [])
     → is_any_heard heard (sender_raises h from nth first sent) ≡ false → CallNothing s list (sender_raises h from nth first sent)
 sender_silent s list heard shown h from nth first sent all none is =
     silent s list Snd heard shown (sender_raises h from nth first sent) (sender-at h from nth first sent) all none is
 
-pub receiver_silent : (s : ControlState) (list : List Reg) (heard : List Bool) (shown : List Shown) (h : Head) (from : Side) (nth : ℕ) (got : Got)
+pub receiver_silent : (s : ControlState) (list : List Reg) (heard : Heard) (shown : List Shown) (h : Head) (from : Side) (nth : ℕ) (got : Got)
     → AreHeard Rcv heard shown → ((event : ℕ) → is_heard Rcv event shown ≡ false → (facts : Facts) → fires s.defs facts Rcv event list ≡ [])
     → is_any_heard heard (receiver_raises h from nth got) ≡ false → CallNothing s list (receiver_raises h from nth got)
 receiver_silent s list heard shown h from nth got all none is =

@@ -1,15 +1,18 @@
 //! Raises that nobody hears: they call nothing, so no walk begins for them, and for a phase of such raises there are no
 //! facts.
 
-ghost use Rattle.std.specs.Prelude.{◌≡◌, [], false, ℕ};
+ghost use Rattle.std.specs.Prelude.{◌≡◌, [], ◌∷◌, false, ℕ, IsTrue};
 ghost use Rattle.native_filters.specs.declared.facts.Facts.{Facts};
 ghost use Rattle.native_filters.specs.declared.facts.Hook.{Hook as HookOf};
 ghost use Rattle.packet_views.specs.declared.packet.Head.{Head as HeadOf};
 ghost use Rattle.tcp_emulation.specs.declared.segment.Side.{Side};
 ghost use Rattle.builtin_events.specs.Raises.{sender_raises, receiver_raises};
 ghost use Rattle.shared_forest.specs.Listing.{listing};
-ghost use Rattle.shared_forest.specs.Heard.{is_heard};
+ghost use Rattle.app_api.specs.declared.hearers.Hearers.{Hearers};
+ghost use Rattle.shared_forest.specs.Heard.{hearers_of, is_heard};
+ghost use Rattle.event_trees.specs.Defs.{is_root};
 ghost use Rattle.event_trees.specs.Fires.{fires};
+ghost use Rattle.event_trees.specs.Private.{numbers_of};
 ghost use Rattle.forest_versions.specs.State.{ControlState};
 ghost use Rattle.connection_core.specs.InForce.{IsInForce};
 ghost use Rattle.connection_core.specs.Trees.{list_in_force, IsForestInForce};
@@ -17,7 +20,7 @@ ghost use Rattle.connection_core.specs.Unheard.{CallsNothing, CallNothing};
 
 use crate::in_force::InForce;
 use builtin_events::{is_heard_at_receiver, is_heard_at_sender};
-use event_trees::{heard_where_registered, later_events_change_nothing};
+use event_trees::{heard_where_registered, later_events_change_nothing, one_hearer_is_called};
 use flow_socket::{Got, Sent};
 use native_filters::Hook;
 use packet_views::Head;
@@ -31,6 +34,17 @@ fn unheard_calls_nothing(in_force: &InForce, tree: &Tree)
         → (facts : Facts) → fires s.defs facts hook event (list_in_force in_force.now tree.now) ≡ [] }
 {
     heard_where_registered(tree);
+    later_events_change_nothing(in_force.defs());
+}
+
+// Where one registration alone hears a root's event, its raise calls that one. It does nothing.
+fn one_hearer_is_named(in_force: &InForce, tree: &Tree)
+    requires forest { IsForestInForce in_force.now tree.now }
+    ensures { (s : ControlState) (hook : HookOf) (event : ℕ) (number : ℕ) → IsInForce in_force.now s
+        → IsTrue (is_root event) → hearers_of hook event (listing tree.now) ≡ Hearers.One number
+        → (facts : Facts) → numbers_of (fires s.defs facts hook event (list_in_force in_force.now tree.now)) ≡ number ∷ [] }
+{
+    one_hearer_is_called(tree);
     later_events_change_nothing(in_force.defs());
 }
 

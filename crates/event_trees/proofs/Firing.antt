@@ -12,7 +12,8 @@ use Rattle.event_trees.specs.declared.defs.EventDef.{EventDef}
 use Rattle.event_trees.specs.Defs.{found, is_root, is_event, path}
 use Rattle.event_trees.specs.Private.{numbers_of}
 use Rattle.event_trees.specs.Canon.{Placed, placed, canon_of, canon}
-use Rattle.event_trees.specs.Fires.{is_hook, filter_means, filters_mean, begins_with, is_called, fires}
+use Rattle.shared_forest.specs.Key.{is_hook}
+use Rattle.event_trees.specs.Fires.{filter_means, filters_mean, begins_with, is_called, fires}
 use Rattle.event_trees.specs.Walk.{asks, keeps, passes, called, firing}
 use Rattle.event_trees.specs.ReadOff.{read_off}
 use Rattle.event_trees.proofs.Paths.{KnowsPaths, IsRooted}
@@ -76,7 +77,7 @@ defined-passes defs facts root (e ∷ es) h =
 root_high : (root : ℕ) → IsTrue (is_root root) → 256 ≤ root
 root_high root h = grind (arith, nat_tests)
 
-root-unfound : (defs : List EventDef) (root : ℕ) → KnowsPaths defs → IsTrue (is_root root) → found defs root ≡ None
+pub root-unfound : (defs : List EventDef) (root : ℕ) → KnowsPaths defs → IsTrue (is_root root) → found defs root ≡ None
 root-unfound defs root k h =
     elim (found defs root) as (λ o. found defs root ≡ o → o ≡ None) [
       | Some d ↦ λ e. absurd (omega (arith, k.numbers root d e, root_high root h))

@@ -20,13 +20,13 @@ walked-skip keep hook (suc skip) [] slots = refl
 walked-skip keep hook (suc skip) (n ∷ ns) slots = walked-skip keep hook skip ns slots
 
 -- a node that doesn't pass is left out with those under it
-pub walked-left_out : (keep : ℕ → Bool) (hook : Hook) (ns : List Node) (i : ℕ) (d : Node) (slots : List Slot) → i < length ns
-    → keep (get_or ns i d).event ≡ false → walked keep hook 0 (drop (i + (1 + (get_or ns i d).below)) ns) slots ≡ walked keep hook 0 (drop i ns) slots
-walked-left_out keep hook ns i d slots within fails =
+pub walked-left_out : (keep : ℕ → Bool) (hook : Hook) (ns : List Node) (i next : ℕ) (d : Node) (slots : List Slot) → i < length ns
+    → keep (get_or ns i d).event ≡ false → next ≡ i + 1 + (get_or ns i d).below → walked keep hook 0 (drop next ns) slots ≡ walked keep hook 0 (drop i ns) slots
+walked-left_out keep hook ns i next d slots within fails is =
     let n : Node = get_or ns i d in
     let rest : List Node = drop (i + 1) ns in
     let at : drop i ns ≡ n ∷ rest = drop_more ns i d within in
-    let on : drop n.below rest ≡ drop (i + (1 + n.below)) ns = drop-drop n.below (i + 1) ns ∙ ap (λ (k : ℕ). drop k ns) (omega arith) in
+    let on : drop n.below rest ≡ drop next ns = drop-drop n.below (i + 1) ns ∙ ap (λ (k : ℕ). drop k ns) (sym is) in
     let left : walked keep hook 0 (n ∷ rest) slots ≡ walked keep hook n.below rest slots = ap
     (λ (b : Bool). cond b (called hook (slots_of n slots) ++ walked keep hook 0 rest slots) (walked keep hook n.below rest slots)) fails in
     sym (ap (λ (l : List Node). walked keep hook 0 l slots) at ∙ (left ∙ (walked-skip keep hook n.below rest slots ∙ ap (λ (l : List Node). walked keep hook 0 l slots) on)))

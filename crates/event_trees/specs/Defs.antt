@@ -1,15 +1,16 @@
 -- The user-defined events, in the order in which they were added.
-use Rattle.std.specs.Prelude.{◌≡◌, ℕ, ◌≤◌, Bool, ◌||◌, ◌&&◌, ◌==◌, if◌then◌else◌, nat_le, IsTrue, is_some, Option, None, List, [], ◌∷◌, ◌++◌, length, ⊤}
+use Rattle.std.specs.Prelude.{◌≡◌, ℕ, ◌≤◌, Bool, ◌||◌, ◌==◌, if◌then◌else◌, IsTrue, is_some, Option, None, List, [], ◌∷◌, ◌++◌, length, ⊤}
 use Rattle.std.specs.List.{find, fold}
+use Rattle.app_api.specs.Events.{is_built_in}
 use Rattle.event_trees.specs.declared.defs.EventDef.{EventDef}
 
 -- the definition of an event, if there is one
 abbrev pub found : List EventDef → ℕ → Option EventDef
 found defs event = find (λ d. d.number == event) defs
 
--- the numbers of built-in events
+-- the built-in events are the roots
 abbrev pub is_root : ℕ → Bool
-is_root event = nat_le 256 event && nat_le event 264
+is_root event = is_built_in event
 
 -- a built-in event or a defined one
 abbrev pub is_event : List EventDef → ℕ → Bool

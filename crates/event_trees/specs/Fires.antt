@@ -3,16 +3,11 @@ use Rattle.std.specs.Prelude.{ℕ, Bool, true, false, ◌&&◌, ◌==◌, Option
 use Rattle.std.specs.List.{filter, list_any}
 use Rattle.native_filters.specs.declared.facts.Facts.{Facts}
 use Rattle.native_filters.specs.declared.facts.Hook.{Hook}
-use Rattle.native_filters.specs.declared.facts.Hook.TheVariants.{Snd, Rcv}
 use Rattle.filter_lang.specs.Meaning.{meaning}
+use Rattle.shared_forest.specs.Key.{is_hook}
 use Rattle.app_api.specs.declared.registration.Reg.{Reg}
 use Rattle.event_trees.specs.declared.defs.EventDef.{EventDef}
 use Rattle.event_trees.specs.Defs.{found, path}
-
-abbrev pub is_hook : Hook → Hook → Bool
-is_hook Snd Snd = true
-is_hook Rcv Rcv = true
-is_hook _ _ = false
 
 -- the filter of a definition; a built-in event has none
 abbrev pub filter_means : Option EventDef → Facts → Bool

@@ -6,10 +6,10 @@ use Rattle.native_filters.specs.declared.facts.Hook.{Hook}
 use Rattle.filter_lang.specs.Meaning.{meaning}
 use Rattle.shared_forest.specs.declared.node.Node.{Node}
 use Rattle.shared_forest.specs.declared.node.Slot.{Slot}
+use Rattle.shared_forest.specs.Key.{is_hook}
 use Rattle.shared_forest.specs.Listing.{Shown, slots_of}
 use Rattle.event_trees.specs.declared.defs.EventDef.{EventDef}
 use Rattle.event_trees.specs.Defs.{found}
-use Rattle.event_trees.specs.Fires.{is_hook}
 
 -- what a raise of a built-in event asks at a node: the filter of a defined event; of a built-in one, whether it is the event
 abbrev pub asks : Option EventDef → Facts → ℕ → ℕ → Bool

@@ -6,7 +6,7 @@ ghost use Rattle.event_trees.specs.Defs.{found, is_root, is_event, path, AreDefs
 ghost use Rattle.event_trees.specs.Rows.{row_of, AreRows, ArePlaces};
 
 use crate::path::EventPath;
-use app_api::{FIRST_EVENT, LAST_EVENT};
+use app_api::is_built_in;
 use filter_lang::Expr;
 use std::alloc::{AllocError, Global};
 use std::marker::Model;
@@ -19,7 +19,7 @@ const NUMBERS: usize = 256;
 pub struct EventDef {
     /// Its number, 1 to 255.
     pub number: u16,
-    /// The number of the event above it: a built-in event, 256 to 264, or a user-defined one.
+    /// The number of the event above it: a built-in event or a user-defined one.
     pub parent: u16,
     /// What has to be true of the facts of a raise.
     pub filter: Expr,
@@ -137,7 +137,7 @@ impl Defs {
     pub(crate) fn is_event(&self, event: u16) -> bool
         ensures { result ≡ is_event self.now event }
     {
-        (FIRST_EVENT..=LAST_EVENT).contains(&event) || self.find(event).is_some()
+        is_built_in(event) || self.find(event).is_some()
     }
 
     // How many events there are, before one more is added.

@@ -1,14 +1,15 @@
 //! What a caller may rest on: laws of private lists, their trees and definitions. These functions do nothing.
 
-ghost use Rattle.std.specs.Prelude.{◌≡◌, ◌≤◌, [], length, map, IsTrue, Bool, false, List, ℕ};
+ghost use Rattle.std.specs.Prelude.{◌≡◌, ◌≤◌, [], ◌∷◌, length, map, IsTrue, Bool, false, List, ℕ};
 ghost use Rattle.native_filters.specs.declared.facts.Facts.{Facts};
 ghost use Rattle.native_filters.specs.declared.facts.Hook.{Hook};
 ghost use Rattle.app_api.specs.declared.registration.Reg.{Reg};
 ghost use Rattle.shared_forest.specs.Listing.{listing};
-ghost use Rattle.shared_forest.specs.Heard.{is_heard};
+ghost use Rattle.app_api.specs.declared.hearers.Hearers.{Hearers};
+ghost use Rattle.shared_forest.specs.Heard.{hearers_of, is_heard};
 ghost use Rattle.event_trees.specs.declared.defs.EventDef.{EventDef};
-ghost use Rattle.event_trees.specs.Defs.{is_event, path, AreDefs};
-ghost use Rattle.event_trees.specs.Private.{IsPrivate, edited};
+ghost use Rattle.event_trees.specs.Defs.{is_event, is_root, path, AreDefs};
+ghost use Rattle.event_trees.specs.Private.{IsPrivate, edited, numbers_of};
 ghost use Rattle.event_trees.specs.Canon.{slot_of, canon};
 ghost use Rattle.event_trees.specs.Fires.{fires, hears};
 ghost use Rattle.event_trees.specs.Edit.{IsTreeOf};
@@ -34,6 +35,20 @@ pub fn heard_where_registered(tree: &Tree)
         → IsTreeOf defs list tree.now → is_heard hook event (listing tree.now) ≡ hears defs hook event list }
     ensures unheard { (defs : List EventDef) (list : List Reg) (hook : Hook) (event : ℕ)
         → IsTreeOf defs list tree.now → is_heard hook event (listing tree.now) ≡ false
+        → (facts : Facts) → fires defs facts hook event list ≡ [] }
+{
+    let _nodes = tree.nodes();
+}
+
+/// Where one registration alone hears a root's event at a hook, a raise of it calls that one, whatever the facts are;
+/// where nobody does, it calls none.
+pub fn one_hearer_is_called(tree: &Tree)
+    ensures one { (defs : List EventDef) (list : List Reg) (hook : Hook) (event : ℕ) (number : ℕ)
+        → IsTreeOf defs list tree.now → AreDefs defs → IsTrue (is_root event)
+        → hearers_of hook event (listing tree.now) ≡ Hearers.One number
+        → (facts : Facts) → numbers_of (fires defs facts hook event list) ≡ number ∷ [] }
+    ensures nobody { (defs : List EventDef) (list : List Reg) (hook : Hook) (event : ℕ)
+        → IsTreeOf defs list tree.now → hearers_of hook event (listing tree.now) ≡ Hearers.Nobody
         → (facts : Facts) → fires defs facts hook event list ≡ [] }
 {
     let _nodes = tree.nodes();

@@ -16,6 +16,8 @@ mod walk;
 
 pub use defs::{Defs, EventDef};
 pub use forest::{build, edit};
-pub use laws::{heard_where_registered, later_events_change_nothing, slots_in_order};
+pub use laws::{
+    heard_where_registered, later_events_change_nothing, one_hearer_is_called, slots_in_order,
+};
 pub use private::{is_private, switch};
 pub use walk::Walk;

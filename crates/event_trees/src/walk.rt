@@ -51,18 +51,10 @@ impl Question<'_> {
             if self.keeps(node.event) {
                 return Some((node, i + 1));
             }
-            i += left_out(node);
+            i += 1 + node.below as usize;
         }
         None
     }
-}
-
-// How many nodes a walk leaves out where one doesn't pass: it and those under it, whose path it is on.
-fn left_out(node: Node) -> usize
-    ensures count { result ≡ 1 + node.below }
-    ensures bound { result ≤ 2 ^ 32 }
-{
-    1 + node.below as usize
 }
 
 // The next registration that fires from a place on, and the place after it.

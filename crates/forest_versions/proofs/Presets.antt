@@ -9,7 +9,8 @@ use Rattle.native_filters.specs.declared.facts.Hook.{Hook}
 use Rattle.app_api.specs.declared.registration.Reg.{Reg}
 use Rattle.app_api.specs.Numbers.{all_differ}
 use Rattle.app_api.specs.Reg.{is_preset, are_presets, peek_fits}
-use Rattle.app_api.specs.Events.{allows_hook, is_rcv, is_snd}
+use Rattle.app_api.specs.Events.{allows_hook, is_rcv}
+use Rattle.app_api.specs.EventLaws.{allowed-built_in}
 use Rattle.event_trees.specs.declared.defs.EventDef.{EventDef}
 use Rattle.event_trees.specs.Defs.{is_event, is_root, found}
 use Rattle.event_trees.specs.Private.{IsPrivate, numbers_of, put_reg}
@@ -77,35 +78,9 @@ preset-fits regs r presets h =
     let one = and_parts (leb 1 r.number) (leb r.number 15) two.0 in
     record { low = leb-true 1 r.number one.0; hook = two.1; peek = three.1 }
 
-at-root : (event k : ℕ) → 256 ≤ k → k ≤ 264 → eqb event k ≡ true → is_root event ≡ true
-at-root event k low high e =
-    let same : event ≡ k = eqb-true event k e in
-    and_from (leb 256 event) (leb event 264) (le-leb 256 event (omega arith)) (le-leb event 264 (omega arith))
-
-one-side : (event : ℕ) (hook : Hook) → cond (eqb event 258 || eqb event 259 || eqb event 260 || eqb event 262 || eqb event 264) (is_rcv hook) false ≡ true → is_root event ≡ true
-one-side event hook h =
-    elim (eqb event 258 || eqb event 259 || eqb event 260 || eqb event 262 || eqb event 264)
-    as (λ b. (eqb event 258 || eqb event 259 || eqb event 260 || eqb event 262 || eqb event 264) ≡ b → cond b (is_rcv hook) false ≡ true → is_root event ≡ true) [
-      | true ↦ λ e h. ⊎_elim (λ c. ⊎_elim (λ d. ⊎_elim (λ k. ⊎_elim (at-root event 258 (omega arith) (omega arith))
-          (at-root event 259 (omega arith) (omega arith)) (or_cases (eqb event 258) (eqb event 259) k))
-          (at-root event 260 (omega arith) (omega arith)) (or_cases (eqb event 258 || eqb event 259) (eqb event 260) d))
-          (at-root event 262 (omega arith) (omega arith)) (or_cases (eqb event 258 || eqb event 259 || eqb event 260) (eqb event 262) c))
-          (at-root event 264 (omega arith) (omega arith)) (or_cases (eqb event 258 || eqb event 259 || eqb event 260 || eqb event 262) (eqb event 264) e)
-      | false ↦ λ e h. cc
-    ] refl h
-
 -- a hook is only allowed at a built-in event
 pub allowed-root : (event : ℕ) (hook : Hook) → allows_hook event hook ≡ true → is_root event ≡ true
-unfolding allows_hook
-allowed-root event hook h =
-    let rest : Bool = cond (eqb event 258 || eqb event 259 || eqb event 260 || eqb event 262 || eqb event 264) (is_rcv hook) false in
-    elim (eqb event 257 || eqb event 261) as (λ b. (eqb event 257 || eqb event 261) ≡ b → cond b true (cond (eqb event 256 || eqb event 263) (is_snd hook) rest) ≡ true → is_root event ≡ true) [
-      | true ↦ λ e h. ⊎_elim (at-root event 257 (omega arith) (omega arith)) (at-root event 261 (omega arith) (omega arith)) (or_cases (eqb event 257) (eqb event 261) e)
-      | false ↦ λ e h. elim (eqb event 256 || eqb event 263) as (λ b. (eqb event 256 || eqb event 263) ≡ b → cond b (is_snd hook) rest ≡ true → is_root event ≡ true) [
-        | true ↦ λ e h. ⊎_elim (at-root event 256 (omega arith) (omega arith)) (at-root event 263 (omega arith) (omega arith)) (or_cases (eqb event 256) (eqb event 263) e)
-        | false ↦ λ e h. one-side event hook h
-      ] refl h
-    ] refl h
+allowed-root event hook h = allowed-built_in event hook h
 
 -- a built-in event is there, whatever is defined
 pub root-there : (defs : List EventDef) (event : ℕ) → is_root event ≡ true → IsTrue (is_event defs event)

@@ -3,7 +3,7 @@ use Rattle.std.specs.Prelude.{◌≡◌, ℕ, ◌≤◌, IsTrue, false, ◌&&◌
 use Rattle.std.specs.List.{list_all}
 use Rattle.app_api.specs.declared.registration.Reg.{Reg}
 use Rattle.app_api.specs.declared.rule.Rule.{Rule}
-use Rattle.app_api.specs.Events.{is_rcv, allows_hook}
+use Rattle.app_api.specs.Events.{LAST, is_rcv, allows_hook}
 use Rattle.app_api.specs.Reg.{peek_fits, reg_of}
 use Rattle.event_trees.specs.declared.defs.EventDef.{EventDef}
 use Rattle.event_trees.specs.Defs.{found, is_event, path}
@@ -14,9 +14,9 @@ use Rattle.forest_versions.specs.declared.refusal.Refusal.TheVariants.{Duplicate
 use Rattle.forest_versions.specs.Rules.{rule_of}
 use Rattle.forest_versions.specs.State.{ControlState, after}
 
--- whether a number may name an event: 1 to 255 for user-defined ones, 256 to 264 for built-in ones
+-- whether a number may name an event: those below the built-in ones are for user-defined ones
 abbrev pub may_be_event : ℕ → Bool
-may_be_event event = nat_le 1 event && nat_le event 264
+may_be_event event = nat_le 1 event && nat_le event LAST
 
 -- whether a number may name a registration or a rule
 abbrev pub may_be_number : ℕ → Bool

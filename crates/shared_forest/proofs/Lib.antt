@@ -1,3 +1,4 @@
 pub mod OneListing
 pub mod Rows
+pub mod FromRootToRoot
 pub mod Hearing

@@ -1,24 +1,35 @@
--- Which events of a tree are heard: those at the beginning of a path with a registration.
-use Rattle.std.specs.Prelude.{◌≡◌, ℕ, ◌+◌, ◌<◌, Bool, false, ◌&&◌, ◌==◌, slice_index_or, List, [], ◌∷◌, length}
-use Rattle.std.specs.List.{list_any}
+-- Who hears a root's event at a hook: of the registrations on paths that begin with the event, those that have the hook.
+use Rattle.std.specs.Prelude.{◌≡◌, ℕ, ◌==◌, cond, Bool, IsTrue, List, [], ◌∷◌}
 use Rattle.native_filters.specs.declared.facts.Hook.{Hook}
+use Rattle.app_api.specs.declared.hearers.Hearers.{Hearers}
+use Rattle.app_api.specs.declared.hearers.Hearers.TheVariants.{Nobody, One, More}
+use Rattle.app_api.specs.declared.hearers.Heard.{Heard}
+use Rattle.app_api.specs.Events.{is_built_in}
+use Rattle.app_api.specs.Hearers.{joined, deep, is_any, hearers_in}
 use Rattle.shared_forest.specs.declared.node.Slot.{Slot}
-use Rattle.shared_forest.specs.Key.{same_hook}
+use Rattle.shared_forest.specs.Key.{is_hook}
 use Rattle.shared_forest.specs.Listing.{Shown}
 
--- whether a registration has the hook
-abbrev pub has_hook : Hook → List Slot → Bool
-has_hook hook slots = list_any (λ s. same_hook s.hook hook) slots
+-- those of a list of registrations that have the hook
+abbrev pub with_hook : Hook → List Slot → Hearers
+with_hook hook [] = Nobody
+with_hook hook (s ∷ ss) = joined (cond (is_hook s.hook hook) (One s.number) Nobody) (with_hook hook ss)
 
-abbrev pub begins_with : ℕ → List ℕ → Bool
-begins_with event [] = false
-begins_with event (e ∷ es) = e == event
+-- of those at the end of a path: only where it begins with the event, and under the root where it goes on
+abbrev pub on_path : ℕ → List ℕ → Hearers → Hearers
+on_path event [] h = Nobody
+on_path event (e ∷ []) h = cond (e == event) h Nobody
+on_path event (e ∷ f ∷ fs) h = cond (e == event) (deep h) Nobody
 
--- whether a registration on a path that begins with an event has the hook
+-- of a whole listing
+abbrev pub hearers_of : Hook → ℕ → List Shown → Hearers
+hearers_of hook event [] = Nobody
+hearers_of hook event (s ∷ ss) = joined (on_path event s.path (with_hook hook s.slots)) (hearers_of hook event ss)
+
+-- whether an event is heard
 abbrev pub is_heard : Hook → ℕ → List Shown → Bool
-is_heard hook event shown = list_any (λ s. begins_with event s.path && has_hook hook s.slots) shown
+is_heard hook event shown = is_any (hearers_of hook event shown)
 
--- for each of the events from 256 to 264 whether it is heard at the hook
-pub record AreHeard (hook : Hook) (heard : List Bool) (shown : List Shown) : Type 0 where
-  pub all : length heard ≡ 9
-  pub each : (i : ℕ) → i < 9 → slice_index_or heard i false ≡ is_heard hook (256 + i) shown
+-- for each of the built-in events who hears it at the hook
+abbrev pub AreHeard : Hook → Heard → List Shown → Type 0
+AreHeard hook heard shown = (event : ℕ) → IsTrue (is_built_in event) → hearers_in heard event ≡ hearers_of hook event shown

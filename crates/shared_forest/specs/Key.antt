@@ -9,18 +9,19 @@ use Rattle.shared_forest.specs.declared.node.Node.{Node}
 use Rattle.shared_forest.specs.declared.node.Slot.{Slot}
 use Rattle.shared_forest.specs.Lists.{TreeLists}
 
-abbrev pub same_hook : Hook → Hook → Bool
-same_hook Snd Snd = true
-same_hook Rcv Rcv = true
-same_hook Snd Rcv = false
-same_hook Rcv Snd = false
+-- whether two sides are one
+abbrev pub is_hook : Hook → Hook → Bool
+is_hook Snd Snd = true
+is_hook Rcv Rcv = true
+is_hook Snd Rcv = false
+is_hook Rcv Snd = false
 
 abbrev pub same_node : Node → Node → Bool
 same_node a b =
     a.event == b.event && (a.depth == b.depth && (a.below == b.below && (a.first == b.first && a.count == b.count)))
 
 abbrev pub same_slot : Slot → Slot → Bool
-same_slot a b = a.number == b.number && same_hook a.hook b.hook
+same_slot a b = a.number == b.number && is_hook a.hook b.hook
 
 -- node by node, and registration by registration
 abbrev pub same_tree : TreeLists → TreeLists → Bool

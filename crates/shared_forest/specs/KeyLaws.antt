@@ -12,14 +12,14 @@ use Rattle.shared_forest.specs.declared.node.Slot.{Slot}
 use Rattle.shared_forest.specs.contracts.node.NodePartialEq.TheImpl.{ghosts as node_test}
 use Rattle.shared_forest.specs.contracts.node.SlotPartialEq.TheImpl.{ghosts as slot_test}
 use Rattle.shared_forest.specs.Lists.{TreeLists}
-use Rattle.shared_forest.specs.Key.{same_hook, same_node, same_slot, same_tree, node_fed, slot_fed, tree_fed}
+use Rattle.shared_forest.specs.Key.{is_hook, same_node, same_slot, same_tree, node_fed, slot_fed, tree_fed}
 
 -- each test decides whether two are the same
-same_hook-Decides : (a b : Hook) → Decides (same_hook a b) (a ≡ b)
-same_hook-Decides Snd Snd = (λ _. refl, λ _. refl)
-same_hook-Decides Rcv Rcv = (λ _. refl, λ _. refl)
-same_hook-Decides Snd Rcv = (λ e. absurd (true≢false (sym e)), λ e. ap (same_hook Snd) (sym e))
-same_hook-Decides Rcv Snd = (λ e. absurd (true≢false (sym e)), λ e. ap (same_hook Rcv) (sym e))
+is_hook-Decides : (a b : Hook) → Decides (is_hook a b) (a ≡ b)
+is_hook-Decides Snd Snd = (λ _. refl, λ _. refl)
+is_hook-Decides Rcv Rcv = (λ _. refl, λ _. refl)
+is_hook-Decides Snd Rcv = (λ e. absurd (true≢false (sym e)), λ e. ap (is_hook Snd) (sym e))
+is_hook-Decides Rcv Snd = (λ e. absurd (true≢false (sym e)), λ e. ap (is_hook Rcv) (sym e))
 
 same_node-Decides : (a b : Node) → Decides (same_node a b) (a ≡ b)
 same_node-Decides a b =
@@ -32,7 +32,7 @@ same_node-Decides a b =
 same_slot-Decides : (a b : Slot) → Decides (same_slot a b) (a ≡ b)
 same_slot-Decides a b =
     Decides-like (same_slot a b) (λ e i. record { number = e.0 i; hook = e.1 i }) (λ e. (ap (λ s. s.number) e, ap (λ s. s.hook) e))
-    (Decides-and _ _ (unsigned_Decides a.number b.number) (same_hook-Decides a.hook b.hook))
+    (Decides-and _ _ (unsigned_Decides a.number b.number) (is_hook-Decides a.hook b.hook))
 
 pub same_tree-Decides : (a b : TreeLists) → Decides (same_tree a b) (a ≡ b)
 same_tree-Decides a b =
@@ -51,17 +51,17 @@ pub same_tree-equiv : IsEquivalence same_tree
 same_tree-equiv = deciding_equiv same_tree-Decides
 
 -- what `==` of two sides computes
-hook_test-same_hook : (a b : Hook) → hook_test.eq a b ≡ same_hook a b
-hook_test-same_hook Snd Snd = refl
-hook_test-same_hook Rcv Rcv = refl
-hook_test-same_hook Snd Rcv = refl
-hook_test-same_hook Rcv Snd = refl
+hook_test-is_hook : (a b : Hook) → hook_test.eq a b ≡ is_hook a b
+hook_test-is_hook Snd Snd = refl
+hook_test-is_hook Rcv Rcv = refl
+hook_test-is_hook Snd Rcv = refl
+hook_test-is_hook Rcv Snd = refl
 
 pub node_alike : (a b : Node) → IsTrue (node_test.eq a b) → node_fed a ≡ node_fed b
 node_alike a b e = ap node_fed ((same_node-Decides a b).0 e)
 
 pub slot_alike : (a b : Slot) → IsTrue (slot_test.eq a b) → slot_fed a ≡ slot_fed b
-slot_alike a b e = ap slot_fed ((same_slot-Decides a b).0 (ap (λ h. a.number == b.number && h) (sym (hook_test-same_hook a.hook b.hook)) ∙ e))
+slot_alike a b e = ap slot_fed ((same_slot-Decides a b).0 (ap (λ h. a.number == b.number && h) (sym (hook_test-is_hook a.hook b.hook)) ∙ e))
 
 pub tree_alike : (a b : TreeLists) → IsTrue (same_tree a b) → tree_fed a ≡ tree_fed b
 tree_alike a b e = ap tree_fed ((same_tree-Decides a b).0 e)

@@ -1,10 +1,11 @@
 //! A tree, as two flat lists.
 
-ghost use Rattle.std.specs.Prelude.{◌≡◌, ◌≤◌, ◌↔◌, false, IsTrue};
+ghost use Rattle.std.specs.Prelude.{◌≡◌, ◌↔◌, false, IsTrue};
 
-use crate::heard::{EVENTS, FIRST, heard_at};
+use crate::heard::heard_at;
 use crate::node::{are_same_nodes, are_same_slots};
 use crate::{Node, Slot};
+use app_api::Heard;
 use native_filters::Hook;
 use std::marker::Model;
 
@@ -18,9 +19,9 @@ pub struct Tree {
     nodes: Vec<Node>,
     slots: Vec<Slot>,
 
-    // Which events are heard at each hook. Both follow from the lists, so that equal lists are equal trees.
-    at_sender: [bool; EVENTS],
-    at_receiver: [bool; EVENTS],
+    // Who hears at each hook. Both follow from the lists, so that equal lists are equal trees.
+    at_sender: Heard,
+    at_receiver: Heard,
 }
 
 impl Model for Tree {
@@ -43,6 +44,7 @@ impl Model for Tree {
 impl Tree {
     ghost use Rattle.shared_forest.specs.Layout.{IsTree};
     ghost use Rattle.shared_forest.specs.Listing.{listing};
+    ghost use Rattle.app_api.specs.Events.{is_built_in};
     ghost use Rattle.shared_forest.specs.Heard.{is_heard, AreHeard};
 
     /// The tree of these two lists.
@@ -77,9 +79,10 @@ impl Tree {
         &self.slots
     }
 
-    /// Which of the events 256 to 264 are heard at a hook, in this order: those at the beginning of a path on which some
-    /// registration has the hook.
-    pub fn heard(&self, hook: Hook) -> &[bool; 9]
+    /// Who hears each of the built-in events at a hook: of the registrations on paths that begin with the event, those
+    /// that have the hook.
+    #[inline(always)]
+    pub fn heard(&self, hook: Hook) -> &Heard
         ensures { AreHeard hook result.now (listing self.now) }
     {
         match hook {
@@ -88,16 +91,12 @@ impl Tree {
         }
     }
 
-    /// Whether an event is heard at a hook. Of an event that isn't one of these it always says so.
+    /// Whether an event is heard at a hook. Of a number that isn't a built-in event it always says so.
     pub fn is_heard(&self, hook: Hook, event: u16) -> bool
-        ensures heard { 256 ≤ event → event ≤ 264 → result ≡ is_heard hook event (listing self.now) }
+        ensures heard { IsTrue (is_built_in event) → result ≡ is_heard hook event (listing self.now) }
         ensures unheard { result ≡ false → is_heard hook event (listing self.now) ≡ false }
     {
-        if event < FIRST {
-            return true;
-        }
-        let place = (event - FIRST) as usize;
-        place >= EVENTS || self.heard(hook)[place]
+        self.heard(hook).is_heard(event)
     }
 
     /// Whether both are the same tree, list by list.

@@ -3,7 +3,7 @@ use Rattle.std.proofs.lemmas.Grind.{common_steps}
 use Rattle.std.specs.List.{position_from}
 use Rattle.std.specs.Str.{bytes_eq}
 use Rattle.app_api.specs.Names.{event_names}
-use Rattle.app_api.proofs.names.event_named.Goals as goal
+use Rattle.app_api.proofs.events.event_named.Goals as goal
 
 -- what fails the test is passed over
 passes : (test : List ℕ → Bool) (at i : ℕ) (ns : List (List ℕ)) → i < length ns → test (get_or ns i []) ≡ false
