@@ -105,7 +105,8 @@ impl FlowSocket {
         }
     }
 
-    // Steps the end that sends a packet. The shifts are read by the ends from before the step.
+    // Steps the end that sends a packet. The shifts are read by the ends from before the step. Without SYN, FIN and RST
+    // neither of them changes.
     #[inline(always)]
     fn step_sender(&mut self, from: Side, h: &Head, scale: Option<u8>) -> Change
         requires scale { ForSome scale (λ shift. shift ≤ 14) }

@@ -2,12 +2,12 @@
 //! a key goes to, and the table of what is kept for each key.
 #![tactic(auto)]
 
-pub mod endpoint;
+mod endpoint;
 mod hashing;
-pub mod key;
-pub mod lane;
+mod key;
+mod lane;
 mod laws;
-pub mod table;
+mod table;
 
 pub use endpoint::Endpoint;
 pub use hashing::seed_of;

@@ -2,9 +2,9 @@
 //! moments after which they are idle.
 #![tactic(auto)]
 
-pub mod book;
+mod book;
 mod deadline;
-pub mod moment;
+mod moment;
 
 pub use book::{IdleBook, Noted};
 pub use moment::{Moment, is_idle};

@@ -1,26 +1,27 @@
-use Rattle.std.proofs.Common.{◌-◌, ◌++◌, ap, ◌∙◌, arith, take, drop}
+use Rattle.std.proofs.Common.{◌≡◌, ◌-◌, ◌++◌, arith, take, drop}
 use Rattle.reassembly.proofs.InOrder.{IsAppended, steps_in_order, counts_in_order}
 use Rattle.reassembly.proofs.buffer.append.Goals as goal
 
-appended : (c : goal.In_ok-extend_from_slice) → IsAppended c.args.bytes.now c.extend_from_slice.new.self c.args.limit c.args.start c.args.segment.now
-    c.count_under-below.result c.count_under-within.result
-appended c = record {
+appended : (c : goal.In_ok-extend_from_slice)
+    → c.extend_from_slice.new.self.items ≡ c.args.bytes.now.items ++ take (c.count_under-within.result - c.count_under-below.result) (drop c.count_under-below.result c.args.segment.now)
+    → IsAppended c.args.bytes.now c.extend_from_slice.new.self c.args.limit c.args.start c.args.segment.now c.count_under-below.result c.count_under-within.result
+appended c items = record {
   old_laid = c.requires.laid;
   from = c.requires.from;
   order = c.requires.order;
   below = omega arith;
   within = c.count_under-within.ensures;
   fits = omega arith;
-  items = c.in_ok-extend_from_slice.ensures.items
-      ∙ ap (λ xs. xs ++ take (c.count_under-within.result - c.count_under-below.result) (drop c.count_under-below.result c.args.segment.now)) c.make_room.ensures.same;
+  items = items;
 }
 
 pub returns-clause-steps : goal.returns-clause-steps
 returns-clause-steps c policy fin =
-    steps_in_order c.args.bytes.now c.extend_from_slice.new.self policy fin c.args.rbuf c.args.limit c.args.start c.args.segment.now c.count_under-below.result c.count_under-within.result (appended c)
+    steps_in_order c.args.bytes.now c.extend_from_slice.new.self policy fin c.args.rbuf c.args.limit c.args.start c.args.segment.now
+    c.count_under-below.result c.count_under-within.result (appended c (cc c.in_ok-extend_from_slice.ensures.items))
 
 pub returns-clause-counts : goal.returns-clause-counts
 returns-clause-counts c fin =
     counts_in_order c.args.bytes.now c.extend_from_slice.new.self fin c.args.rbuf c.args.limit c.args.start c.args.segment.now
-    c.count_under-below.result c.count_under-within.result c.compare-differ.result (appended c)
+    c.count_under-below.result c.count_under-within.result c.compare-differ.result (appended c (cc c.in_ok-extend_from_slice.ensures.items))
     (rw c.deref.ensures.value at c.compare-differ.ensures.value)
