@@ -41,7 +41,8 @@ fn is_state_heard(heard: &Heard, g: &Got) -> bool
     ensures { result ≡ ((not (number_of g.now.change.old == number_of g.now.change.new) && is_heard_in heard.now events.STATE)
         || (g.now.over && is_heard_in heard.now events.END)) }
 {
-    heard.is_heard(STATE) && g.change.old.number() != g.change.new.number() || g.over && heard.is_heard(END)
+    heard.is_heard(STATE) && g.change.old.number() != g.change.new.number()
+        || g.over && heard.is_heard(END)
 }
 
 /// Whether anything is heard of what a packet raises at its receiver. `heard` tells who hears each event there.

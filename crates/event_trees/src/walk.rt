@@ -1,6 +1,6 @@
 //! The walk over a tree, which gives the registrations that fire.
 
-ghost use Rattle.std.specs.Prelude.{◌≡◌, ◌+◌, ◌^◌, ◌≤◌, ◌<◌, ◌++◌, [], ◌∷◌, length, drop, List, IfSome, IfNone, Contains};
+ghost use Rattle.std.specs.Prelude.{◌≡◌, ◌+◌, ◌≤◌, ◌<◌, ◌++◌, [], ◌∷◌, length, drop, List, IfSome, IfNone, Contains};
 ghost use Rattle.shared_forest.specs.declared.node.Slot.{Slot as SlotOf};
 ghost use Rattle.native_filters.specs.declared.facts.Hook.{Hook as HookOf};
 ghost use Rattle.shared_forest.specs.Listing.{slots_of};

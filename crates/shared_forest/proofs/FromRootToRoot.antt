@@ -1,12 +1,12 @@
 -- A tree from one root to the next.
-use Rattle.std.proofs.Common.{◌≡◌, ℕ, zero, suc, ◌+◌, ◌-◌, ◌<◌, ◌≤◌, ◌==◌, Bool, true, false, cond, ◌||◌, ◌&&◌, List, [], ◌∷◌, ◌++◌, length, get_or, take, drop, replicate, refl, sym, ap, subst, ◌∙◌, arith}
+use Rattle.std.proofs.Common.{◌≡◌, ℕ, zero, suc, ◌+◌, ◌-◌, ◌<◌, ◌≤◌, true, false, cond, List, [], ◌∷◌, ◌++◌, length, get_or, take, drop, refl, sym, ap, subst, ◌∙◌, arith}
 use Rattle.std.specs.Prelude.{nat_lt}
 use Rattle.std.proofs.lemmas.Bool.Decides.{nat_tests}
-use Rattle.std.proofs.lemmas.List.{take-append-drop, drop_more, length-take, length-drop, drop-drop}
+use Rattle.std.proofs.lemmas.List.{drop_more, drop-drop}
 use Rattle.shared_forest.specs.declared.node.Node.{Node}
 use Rattle.shared_forest.specs.declared.node.Slot.{Slot}
 use Rattle.shared_forest.specs.Layout.{under, AreLaidOut, ArePacked, AreTopped}
-use Rattle.shared_forest.specs.Listing.{slots_of, path_after, listing_after}
+use Rattle.shared_forest.specs.Listing.{path_after}
 use Rattle.shared_forest.proofs.OneListing.{packed-le}
 
 -- the nodes under a root are left out, and a root comes next

@@ -2,7 +2,7 @@
 use Rattle.std.specs.Prelude.{◌≡◌, ℕ, ◌==◌, cond, Bool, IsTrue, List, [], ◌∷◌}
 use Rattle.native_filters.specs.declared.facts.Hook.{Hook}
 use Rattle.app_api.specs.declared.hearers.Hearers.{Hearers}
-use Rattle.app_api.specs.declared.hearers.Hearers.TheVariants.{Nobody, One, More}
+use Rattle.app_api.specs.declared.hearers.Hearers.TheVariants.{Nobody, One}
 use Rattle.app_api.specs.declared.hearers.Heard.{Heard}
 use Rattle.app_api.specs.Events.{is_built_in}
 use Rattle.app_api.specs.Hearers.{joined, deep, is_any, hearers_in}

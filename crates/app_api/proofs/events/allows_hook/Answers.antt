@@ -1,4 +1,4 @@
-use Rattle.std.proofs.Common.{◌≡◌, ap, ◌∙◌, refl}
+use Rattle.std.proofs.Common.{ap, ◌∙◌, refl}
 use Rattle.std.specs.Prelude.{slice_get}
 use Rattle.app_api.specs.Events.{allows_hook, built_ins, raised_at}
 use Rattle.app_api.proofs.events.allows_hook.Goals as goal

@@ -1,4 +1,4 @@
-use Rattle.std.proofs.Common.{◌≡◌, [], ◌∷◌, ap, sym, subst, refl, ◌∙◌, append-nil}
+use Rattle.std.proofs.Common.{◌≡◌, [], ◌∷◌, ap, sym, subst, ◌∙◌, append-nil}
 use Rattle.event_trees.specs.Defs.{AreDefs}
 use Rattle.event_trees.specs.Later.{IsEarlier}
 use Rattle.event_trees.specs.Fires.{fires}
