@@ -257,7 +257,13 @@ def let_the_writer_end():
         signal.signal(signal.SIGINT, signal.SIG_IGN)
 
 
+def named(text):
+    """Text that names helpers, as they are called where they are installed."""
+    if Path(sys.argv[0]).name.startswith("mos-"):
+        text = re.sub(r"\bhelpers/(\w+)", r"mos-\1", text).replace("./mos", "mos")
+    return text
+
+
 def usage(page):
-    """Prints a helper's page, its first lines without indentation."""
-    print(re.sub(r"\n{3,}", "\n\n", page).strip())
+    print(named(page).strip())
     sys.exit(0)
