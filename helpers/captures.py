@@ -27,6 +27,10 @@ SECOND = 1_000_000_000
 PACKED = ((b"\x1f\x8b", "gzip"), (b"\xfd7zXZ\x00", "xz"), (b"\x28\xb5\x2f\xfd", "zstd"))
 
 
+if signal.getsignal(signal.SIGINT) is signal.default_int_handler:
+    signal.signal(signal.SIGINT, signal.SIG_DFL)  # an interrupt ends a helper without a trace of it
+
+
 class Refused(Exception):
     """A capture that can't be read further, with the reason."""
 
