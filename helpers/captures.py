@@ -132,6 +132,23 @@ def classic(reader):
         at = end
 
 
+def places(data, reader):
+    """Of each packet of a file its time, where its bytes begin, and how many they are. The file is in memory, and has a reader."""
+    if data[:4] not in MAGICS:
+        for place, (_, time, _, frame) in pcapng_places(reader):
+            yield time, place, len(frame)
+        return
+    order, unit = MAGICS[data[:4]]
+    head_of, at, size = struct.Struct(order + "III").unpack_from, 24, len(data)
+    while at + 16 <= size:
+        seconds, fraction, captured = head_of(data, at)
+        at += 16
+        if captured > MOST_BYTES or at + captured > size:
+            return
+        yield seconds * SECOND + fraction * unit, at, captured
+        at += captured
+
+
 def options_of(body, order):
     """Codes and values of the options of a block."""
     at = 0
@@ -157,7 +174,12 @@ def interface_of(body, order):
 
 
 def pcapng(reader):
-    order, interfaces = "<", []
+    return (packet for _, packet in pcapng_places(reader))
+
+
+def pcapng_places(reader):
+    """The packets of a pcapng file, each with the place of its bytes in the file."""
+    order, interfaces, begin = "<", [], 0
     while len(head := reader.peek(12)) == 12:
         if head[:4] == SECTION:
             order, interfaces = ">" if head[8:12] == b"\x1a\x2b\x3c\x4d" else "<", []
@@ -171,7 +193,8 @@ def pcapng(reader):
         if kind == 1:
             interfaces.append(interface_of(body, order))
         elif kind in (2, 3, 6) and (packet := packet_of(kind, body, order, interfaces)):
-            yield packet
+            yield begin + (28 if kind == 6 else 12), packet
+        begin += total
 
 
 def packet_of(kind, body, order, interfaces):
