@@ -105,12 +105,19 @@ def records(reader):
     raise Refused("it is empty" if not front else "it is neither a pcap nor a pcapng file")
 
 
+def link_of(header):
+    """The link type of a classic capture's header, or none where that is cut or another's."""
+    if len(header) < 24 or header[:4] not in MAGICS:
+        return None
+    return struct.unpack_from(MAGICS[header[:4]][0] + "I", header, 20)[0] & 0xFFFF
+
+
 def classic(reader):
     header = reader.take(24)
     if len(header) < 24:
         raise Refused("its header is cut")
     order, unit = MAGICS[header[:4]]
-    link = struct.unpack_from(order + "I", header, 20)[0] & 0xFFFF
+    link = link_of(header)
     head_of, held, at = struct.Struct(order + "IIII").unpack_from, reader.held, reader.at
     while True:
         if at + 16 > len(held):
