@@ -22,7 +22,8 @@ use Rattle.worker_laws.specs.Greatest.{greatest}
 use Rattle.worker_laws.specs.Members.{Endings, records as members}
 use Rattle.worker_laws.specs.Allowed.{IsAllowed, versions_of as versions_in}
 use Rattle.worker_laws.specs.Rising.{Rises}
-use Rattle.worker_laws.specs.Whole.{in_force, over_under, run_under, verdicts_under, verdicts_from, IsAllowedRun}
+use Rattle.lane_core.specs.Verdicts.{verdicts_from}
+use Rattle.worker_laws.specs.Whole.{in_force, over_under, run_under, verdicts_under, IsAllowedRun}
 use Rattle.worker_pool.specs.Run.{MayHave, totals_of}
 use Rattle.capture_replay.specs.declared.output.Output.{Output}
 use Rattle.capture_replay.specs.declared.refusal.RunError.TheVariants.{Heavy, Capture, TooMany}

@@ -12,7 +12,8 @@ use Rattle.control_script.specs.Versions.{ceil}
 use Rattle.lane_core.specs.Sight.{Arrival, arrivals}
 use Rattle.lane_core.specs.Records.{VersionedPacket, RecordSoFar, records, versioned, ended_at}
 use Rattle.worker_laws.specs.Greatest.{greatest}
-use Rattle.worker_laws.specs.Whole.{packets_under, verdicts_from}
+use Rattle.lane_core.specs.Verdicts.{verdicts_from}
+use Rattle.worker_laws.specs.Whole.{packets_under}
 
 -- what is in force at each version: after the first so many commands of the script
 abbrev pub control_at : Meaning → List Stamped → ℕ → ControlState

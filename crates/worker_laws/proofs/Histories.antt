@@ -11,7 +11,7 @@ use Rattle.lane_core.specs.Records.{VersionedPacket, RecordSoFar, history_after,
 use Rattle.worker_laws.specs.Members.{Endings, Members, packets_of, begun_by, joined_by, ended_by_silence, takes, ended_before, found, placed, added, records_from}
 use Rattle.worker_laws.specs.Judged.{verdict_among, verdict_of, judged_from}
 use Rattle.worker_laws.specs.Histories.{history_through, last_of, over_by, judge_by, with_packets, with_history}
-use Rattle.worker_laws.specs.Whole.{verdicts_from}
+use Rattle.lane_core.specs.Verdicts.{verdicts_from}
 use Rattle.worker_laws.proofs.Silence.{untaken_stays}
 
 pub maps : {A B C : Type 0} (g : B → C) (f : A → B) (xs : List A) → map g (map f xs) ≡ map (λ x. g (f x)) xs

@@ -24,7 +24,8 @@ use Rattle.worker_laws.specs.Allowed.{versions_of, arrivals_of}
 use Rattle.worker_laws.specs.Runs.{judged_part, AreRuns}
 use Rattle.worker_laws.specs.Histories.{judge_by}
 use Rattle.worker_laws.specs.Streamed.{AreNumbered}
-use Rattle.worker_laws.specs.Whole.{in_force, over_under, packets_under, run_under, verdicts_from, verdicts_under, IsAllowedRun}
+use Rattle.lane_core.specs.Verdicts.{verdicts_from}
+use Rattle.worker_laws.specs.Whole.{in_force, over_under, packets_under, run_under, verdicts_under, IsAllowedRun}
 use Rattle.worker_laws.specs.Taken.{events_at, packets_at, verdicts_in, HaveRun, HaveRunAll, AreOneRun, AreFrontsOfRun}
 use Rattle.worker_laws.proofs.Histories.{same_judged, same_part, final, final_first, final_versions, ended_records}
 use Rattle.worker_laws.proofs.Naming.{judged_again}

@@ -1,24 +1,19 @@
 -- One run over all packets, under the commands of a script and a list of versions: the j-th record lives under the j-th version. It
 -- is the definition of a run, and knows of no lanes.
-use Rattle.std.specs.Prelude.{ℕ, List, [], ◌∷◌, map}
+use Rattle.std.specs.Prelude.{ℕ, List, [], map}
 use Rattle.flow_table.specs.Key.{EndpointPair}
 use Rattle.app_api.specs.App.{Meaning}
 use Rattle.app_api.specs.declared.reaction.Verdict.{Verdict}
 use Rattle.forest_versions.specs.declared.command.Command.{Command}
 use Rattle.forest_versions.specs.State.{ControlState, master}
 use Rattle.lane_core.specs.Sight.{Arrival}
-use Rattle.lane_core.specs.Records.{VersionedPacket, RecordSoFar, added, verdict_on, records, ended_at}
+use Rattle.lane_core.specs.Records.{VersionedPacket, RecordSoFar, records, ended_at}
+use Rattle.lane_core.specs.Verdicts.{verdicts_from}
 use Rattle.worker_laws.specs.Members.{Endings}
 use Rattle.worker_laws.specs.Greatest.{greatest}
 use Rattle.worker_laws.specs.Named.{named}
 use Rattle.worker_laws.specs.Allowed.{IsAllowed}
 use Rattle.worker_laws.specs.Histories.{over_by}
-
--- packets in order, each with what becomes of it, behind the records so far
-unfoldable pub verdicts_from : Meaning → (ℕ → ControlState) → List RecordSoFar → List VersionedPacket → List (Arrival × Verdict)
-verdicts_from app control_at so_far [] = []
-verdicts_from app control_at so_far (p ∷ ps) =
-    (p.arrival, verdict_on app control_at p so_far) ∷ verdicts_from app control_at (added app control_at p so_far) ps
 
 module _ (app : Meaning) (commands : List Command) where
   -- what is in force at each version: after the first so many commands
