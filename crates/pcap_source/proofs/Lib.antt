@@ -1,5 +1,6 @@
 pub mod Cuts
 pub mod Longest
+pub mod Again
 pub mod Opened
 pub mod Lent
 pub mod Steps

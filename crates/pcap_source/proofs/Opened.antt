@@ -12,7 +12,7 @@ use Rattle.pcap_source.specs.declared.errors.OpenError.{OpenError}
 use Rattle.pcap_source.specs.declared.errors.OpenError.TheVariants.{BadMagic, BadVersion, BadLink, ShortHeader, ReadFault}
 
 -- with 24 bytes there, the header is judged by them
-header_of-whole : (header rest : List ℕ) → length header ≡ 24 → header_of (header ++ rest) ≡ header_by (order_of header) header
+pub header_of-whole : (header rest : List ℕ) → length header ≡ 24 → header_of (header ++ rest) ≡ header_by (order_of header) header
 header_of-whole header rest is =
     let front : take 24 (header ++ rest) ≡ header = ap (λ n. take n (header ++ rest)) (sym is) ∙ take-append_seam header rest in
     let long : nat_lt (length (header ++ rest)) 24 ≡ false = grind (arith, nat_tests, length-append header rest) in

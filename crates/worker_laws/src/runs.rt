@@ -18,7 +18,8 @@ ghost use Rattle.worker_laws.specs.Lanes.{share};
 ghost use Rattle.worker_laws.specs.Allowed.{arrivals_of};
 ghost use Rattle.worker_laws.specs.Judged.{judged};
 ghost use Rattle.worker_laws.specs.Histories.{judge_by};
-ghost use Rattle.worker_laws.specs.Whole.{in_force, over_under, packets_under, run_under, verdicts_from, verdicts_under, IsAllowedRun};
+ghost use Rattle.lane_core.specs.Verdicts.{verdicts_from};
+ghost use Rattle.worker_laws.specs.Whole.{in_force, over_under, packets_under, run_under, verdicts_under, IsAllowedRun};
 ghost use Rattle.worker_laws.specs.Taken.{events_at, packets_at, verdicts_behind, HaveRun, HaveRunAll, AreOneRun, AreFrontsOfRun};
 ghost use Rattle.worker_laws.specs.Streamed.{AreNumbered};
 
