@@ -4,6 +4,7 @@ pub mod Run
 pub mod Shown
 pub mod Laws
 pub mod Verdicts
+pub mod Versions
 pub mod Once
 pub mod Places
 pub mod End

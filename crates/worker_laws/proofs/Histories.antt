@@ -39,7 +39,7 @@ taken_open endings (Tcp segment) m taken = neither m.ended (endings.is_over m.ve
 taken_open endings (Other class) m taken = absurd (cc)
 
 module _ (app : Meaning) (control_at : ℕ → ControlState) where
-  abbrev shown : Members → RecordSoFar
+  abbrev pub shown : Members → RecordSoFar
   shown m = with_history app control_at m
 
   abbrev open_with : Members → RecordSoFar
@@ -131,7 +131,7 @@ module _ (app : Meaning) (control_at : ℕ → ControlState) where
       ap (λ b. if b then continued_by app control_at p.arrival (shown m) ∷ map shown ms else shown m ∷ lane_placed app control_at p (map shown ms)) (same_takes p.arrival.sight m)
       ∙ placed_here p m ms (lane_placed app control_at p (map shown ms)) (placed ends p ms) (takes ends p.arrival.sight m) refl (same_placed p ms)
 
-  same_added : (p : VersionedPacket) (ms : List Members) → lane_added app control_at p (map shown ms) ≡ map shown (added ends p ms)
+  pub same_added : (p : VersionedPacket) (ms : List Members) → lane_added app control_at p (map shown ms) ≡ map shown (added ends p ms)
   same_added p ms = ap (lane_placed app control_at p) (same_found p ms) ∙ same_placed p (found ends p.arrival ms)
 
   pub same_records : (ms : List Members) (ps : List VersionedPacket) → lane_records_from app control_at (map shown ms) ps ≡ map shown (records_from ends ms ps)
