@@ -19,10 +19,10 @@ use Rattle.lane_core.specs.Sight.{Arrival, arrivals}
 use Rattle.lane_core.specs.Records.{VersionedPacket, RecordSoFar, ended_at, records, versioned}
 use Rattle.lane_core.specs.Shown.{record_of, weight}
 use Rattle.worker_laws.specs.Greatest.{greatest}
-use Rattle.worker_laws.specs.Members.{Endings, records as members}
-use Rattle.worker_laws.specs.Allowed.{IsAllowed, versions_of as versions_in}
 use Rattle.worker_laws.specs.Rising.{Rises}
-use Rattle.worker_laws.specs.Whole.{in_force, over_under, run_under, verdicts_under, verdicts_from, IsAllowedRun}
+use Rattle.lane_core.specs.Verdicts.{verdicts_from}
+use Rattle.lane_core.specs.Versions.{versions_in}
+use Rattle.worker_laws.specs.Whole.{in_force, run_under, verdicts_under, IsAllowedRun}
 use Rattle.worker_pool.specs.Run.{MayHave, totals_of}
 use Rattle.capture_replay.specs.declared.output.Output.{Output}
 use Rattle.capture_replay.specs.declared.refusal.RunError.TheVariants.{Heavy, Capture, TooMany}
@@ -35,8 +35,9 @@ use Rattle.capture_replay.specs.Laws.{ceilings_of}
 -- ---- what is said of all lists
 
 abbrev pub CeilingsAllowed : Type 0
-CeilingsAllowed = (least most : ℕ → ℕ) (endings : Endings) (lane : EndpointPair → ℕ) (packets : List Arrival) → ((n : ℕ) → least n ≤ most n)
-    → ((n m : ℕ) → n ≤ m → most n ≤ most m) → Rises (map (λ a. a.number) packets) → IsAllowed least most endings lane packets (versions_in (members endings (versioned most packets)))
+CeilingsAllowed = (app : Meaning) (commands : List Command) (least most : ℕ → ℕ) (lane : EndpointPair → ℕ) (packets : List Arrival) → ((n : ℕ) → least n ≤ most n)
+    → ((n m : ℕ) → n ≤ m → most n ≤ most m) → Rises (map (λ a. a.number) packets)
+    → IsAllowedRun app commands least most lane packets (versions_in (records app (in_force app commands) (versioned most packets)))
 
 abbrev pub CeilingsRise : Type 0
 CeilingsRise = (script : List Stamped) (n m : ℕ) → n ≤ m → ceil script n ≤ ceil script m
@@ -65,11 +66,11 @@ module _ (app : Meaning) (script : List Stamped) (frames : List Captured) (allow
   packets = arrivals 0 frames
 
   abbrev low : List ℕ
-  low = versions_in (members (over_under app (commands_of script)) (versioned (ceil script) packets))
+  low = versions_in (records app (in_force app (commands_of script)) (versioned (ceil script) packets))
 
   -- where each packet's floor is its ceiling
   alone : IsAllowedRun app (commands_of script) (ceil script) (ceil script) (λ key. 0) packets low
-  alone = allowed (ceil script) (ceil script) (over_under app (commands_of script)) (λ key. 0) packets (λ n. le_refl (ceil script n)) (rises script) (numbers frames)
+  alone = allowed app (commands_of script) (ceil script) (ceil script) (λ key. 0) packets (λ n. le_refl (ceil script n)) (rises script) (numbers frames)
 
   low-records : run_under app (commands_of script) low packets ≡ records_of app script (packets_of script) frames
   low-records = one app (commands_of script) (ceil script) (ceil script) (λ key. 0) packets low (λ n. refl) alone
@@ -80,7 +81,7 @@ module _ (app : Meaning) (script : List Stamped) (frames : List Captured) (allow
   pub ceilings_allowed : (lanes : ℕ) → ((n : ℕ) → floor script n ≤ ceil script n) → MayHave app script lanes frames (versions_of (records_of app script (packets_of script) frames))
   ceilings_allowed lanes within =
       subst (MayHave app script lanes frames) low-is
-      (allowed (floor script) (ceil script) (over_under app (commands_of script)) (λ key. lane_of_key key lanes) packets within (rises script) (numbers frames))
+      (allowed app (commands_of script) (floor script) (ceil script) (λ key. lane_of_key key lanes) packets within (rises script) (numbers frames))
 
   abbrev pub ceilings : List ℕ
   ceilings = versions_of (records_of app script (packets_of script) frames)

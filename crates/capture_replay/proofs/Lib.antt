@@ -8,3 +8,4 @@ pub mod Scripts
 pub mod Ceilings
 pub mod Joined
 pub mod Forwarding
+mod Passed

@@ -18,7 +18,7 @@ use Rattle.control_script.specs.declared.stamped.Stamped.{Stamped}
 use Rattle.control_script.specs.Versions.{ceil}
 use Rattle.lane_core.specs.Sight.{arrivals}
 use Rattle.lane_core.specs.Records.{VersionedPacket, RecordSoFar, added, verdict_on, records_from, versioned}
-use Rattle.worker_laws.specs.Whole.{verdicts_from}
+use Rattle.lane_core.specs.Verdicts.{verdicts_from}
 use Rattle.capture_replay.specs.declared.output.Output.{Output}
 use Rattle.capture_replay.specs.declared.refusal.RunError.{RunError}
 use Rattle.capture_replay.specs.declared.refusal.RunError.TheVariants as Run

@@ -9,3 +9,4 @@ pub mod Reading
 pub mod Runs
 pub mod Lanes
 pub mod Laws
+pub mod Passed

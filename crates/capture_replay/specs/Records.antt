@@ -12,7 +12,9 @@ use Rattle.control_script.specs.Versions.{ceil}
 use Rattle.lane_core.specs.Sight.{Arrival, arrivals}
 use Rattle.lane_core.specs.Records.{VersionedPacket, RecordSoFar, records, versioned, ended_at}
 use Rattle.worker_laws.specs.Greatest.{greatest}
-use Rattle.worker_laws.specs.Whole.{packets_under, verdicts_from}
+use Rattle.lane_core.specs.Verdicts.{verdicts_from}
+pub use Rattle.lane_core.specs.Versions.{versions_in as versions_of}
+use Rattle.worker_laws.specs.Whole.{packets_under}
 
 -- what is in force at each version: after the first so many commands of the script
 abbrev pub control_at : Meaning → List Stamped → ℕ → ControlState
@@ -43,10 +45,6 @@ module _ (app : Meaning) (script : List Stamped) (given : List Captured → List
   -- its packets in order, each with what becomes of it
   abbrev pub verdicts_of : List Captured → List (Arrival × Verdict)
   verdicts_of frames = verdicts_from app (control_at app script) [] (given frames)
-
--- the version of each record
-abbrev pub versions_of : List RecordSoFar → List ℕ
-versions_of records = map (λ r. r.version) records
 
 -- the frames of a capture; none where its header is refused
 abbrev pub frames_in : Result Frames OpenError → List Captured

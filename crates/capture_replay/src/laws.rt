@@ -3,8 +3,10 @@
 ghost use Rattle.capture_replay.specs.Laws.{CeilingsMayBeHad, CeilingsAreOneWorkers, OneListIsAllowed};
 
 use worker_laws::packets::packets_of_a_capture_rise;
-use worker_laws::runs::{a_run_has_its_versions, without_live_commands_there_is_one_run};
-use worker_laws::versions::{a_script_gives_floors_and_ceilings, fronts_go_on_to_an_allowed_list};
+use worker_laws::runs::{
+    a_run_has_its_versions, ceilings_are_allowed, without_live_commands_there_is_one_run,
+};
+use worker_laws::versions::a_script_gives_floors_and_ceilings;
 
 /// The versions of a run with one worker, the ceiling of each record's first packet, may be had by any number of
 /// workers; and under them all write what one worker writes.
@@ -15,7 +17,7 @@ pub fn what_one_worker_has_is_allowed()
     packets_of_a_capture_rise();
     a_run_has_its_versions();
     a_script_gives_floors_and_ceilings();
-    fronts_go_on_to_an_allowed_list();
+    ceilings_are_allowed();
     without_live_commands_there_is_one_run();
 }
 

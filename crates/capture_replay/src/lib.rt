@@ -6,6 +6,7 @@ mod advance;
 mod chosen;
 mod close;
 pub mod laws;
+pub mod verdicts;
 pub mod output;
 mod plan;
 pub mod refusal;

@@ -32,7 +32,8 @@ use std::sync::atomic::AtomicBool;
 use std::thread::Threads;
 use worker_laws::forward::beginning_is_right;
 use worker_laws::packets::packets_of_a_capture_rise;
-use worker_laws::versions::{a_script_gives_floors_and_ceilings, fronts_go_on_to_an_allowed_list};
+use worker_laws::runs::ceilings_are_allowed;
+use worker_laws::versions::a_script_gives_floors_and_ceilings;
 use worker_pool::team::dispatch::Whole;
 use worker_pool::team::{Team, run_team};
 use worker_pool::{Job, PoolError, VersionList};
@@ -46,7 +47,7 @@ fn nothing_is_a_front(script: &Script)
     let _commands = script.len();
     a_script_gives_floors_and_ceilings();
     packets_of_a_capture_rise();
-    fronts_go_on_to_an_allowed_list();
+    ceilings_are_allowed();
 }
 
 // Runs a team over an opened capture, reads that, and writes what the lanes let pass while it is read. Answers what the

@@ -17,7 +17,7 @@ use Rattle.lane_core.proofs.Ended.{ends_before, opens_nothing, IsSingle-fewer}
 
 module _ (app : Meaning) (control_at : ℕ → ControlState) where
   -- what a packet makes of a record
-  abbrev stepped : VersionedPacket → RecordSoFar → RecordSoFar
+  abbrev pub stepped : VersionedPacket → RecordSoFar → RecordSoFar
   stepped s past = if belongs_to s.arrival.sight past then continued_by app control_at s.arrival past else past
 
   stepped_here : (s : VersionedPacket) (ss : List VersionedPacket) (past : RecordSoFar) (b : Bool)
@@ -27,7 +27,7 @@ module _ (app : Meaning) (control_at : ℕ → ControlState) where
   stepped_here s ss past false = refl
 
   -- what the silence before it makes of one
-  abbrev before : VersionedPacket → RecordSoFar → RecordSoFar
+  abbrev pub before : VersionedPacket → RecordSoFar → RecordSoFar
   before s past = ended_before app control_at s past
 
   grown_stepped : (s : VersionedPacket) (ss : List VersionedPacket) (past : RecordSoFar)
@@ -43,7 +43,7 @@ module _ (app : Meaning) (control_at : ℕ → ControlState) where
       ap (λ x. x ∷ map (λ p. continued_through app control_at p ss) (map (stepped s) (map (before s) pasts))) (sym (grown_stepped s ss past))
       ∙ ap (λ l. continued_through app control_at past (s ∷ ss) ∷ l) (grown_map s ss pasts)
 
-  unstepped : (s : VersionedPacket) (pasts : List RecordSoFar) → place_by (belongs_to s.arrival.sight) pasts ≡ None → map (stepped s) pasts ≡ pasts
+  pub unstepped : (s : VersionedPacket) (pasts : List RecordSoFar) → place_by (belongs_to s.arrival.sight) pasts ≡ None → map (stepped s) pasts ≡ pasts
   unfolding place_by
   unstepped s [] none = refl
   unstepped s (past ∷ pasts) none =
@@ -61,14 +61,14 @@ module _ (app : Meaning) (control_at : ℕ → ControlState) where
   placed_stepped_here s past pasts false (Some k) i is there single e later = ap (λ l. past ∷ l) (later k single refl)
 
   -- a packet that a record takes: of the records one takes it
-  placed_stepped : (s : VersionedPacket) (pasts : List RecordSoFar) (i : ℕ) → IsSingle (belongs_to s.arrival.sight) pasts
+  pub placed_stepped : (s : VersionedPacket) (pasts : List RecordSoFar) (i : ℕ) → IsSingle (belongs_to s.arrival.sight) pasts
       → place_by (belongs_to s.arrival.sight) pasts ≡ Some i → placed app control_at s pasts ≡ map (stepped s) pasts
   unfolding placed place_by IsSingle
   placed_stepped s [] i single there = absurd (cc)
   placed_stepped s (past ∷ pasts) i single there =
       placed_stepped_here s past pasts (belongs_to s.arrival.sight past) (place_by (belongs_to s.arrival.sight) pasts) i refl refl single there (λ k rest e. placed_stepped s pasts k rest e)
 
-  any_none : (test : RecordSoFar → Bool) (pasts : List RecordSoFar) → place_by test pasts ≡ None → list_any test pasts ≡ false
+  pub any_none : (test : RecordSoFar → Bool) (pasts : List RecordSoFar) → place_by test pasts ≡ None → list_any test pasts ≡ false
   unfolding place_by
   any_none test [] none = refl
   any_none test (past ∷ pasts) none =
@@ -79,13 +79,13 @@ module _ (app : Meaning) (control_at : ℕ → ControlState) where
   any_some_here false rest None i e later = absurd (cc)
   any_some_here false rest (Some k) i e later = later k refl
 
-  any_some : (test : RecordSoFar → Bool) (pasts : List RecordSoFar) (i : ℕ) → place_by test pasts ≡ Some i → list_any test pasts ≡ true
+  pub any_some : (test : RecordSoFar → Bool) (pasts : List RecordSoFar) (i : ℕ) → place_by test pasts ≡ Some i → list_any test pasts ≡ true
   unfolding place_by
   any_some test [] i there = absurd (cc)
   any_some test (past ∷ pasts) i there = any_some_here (test past) (list_any test pasts) (place_by test pasts) i there (λ k e. any_some test pasts k e)
 
   -- a key has at most one open connection
-  abbrev Alone : List RecordSoFar → Type 0
+  abbrev pub Alone : List RecordSoFar → Type 0
   Alone pasts = (key : EndpointPair) → IsSingle (is_open_at key) pasts
 
   middle : (a b c : Bool) → (a && b && c) ≡ true → b ≡ true
@@ -96,7 +96,7 @@ module _ (app : Meaning) (control_at : ℕ → ControlState) where
   false_is_true : false ≡ true → ⊥
   false_is_true e = cc
 
-  begun_alone : (s : VersionedPacket) (sight : Sight) (pasts : List RecordSoFar) (key : EndpointPair) → s.arrival.sight ≡ sight
+  pub begun_alone : (s : VersionedPacket) (sight : Sight) (pasts : List RecordSoFar) (key : EndpointPair) → s.arrival.sight ≡ sight
       → place_by (belongs_to sight) pasts ≡ None → is_open_at key (started_by app control_at s) ≡ true → place_of key pasts ≡ None
   unfolding is_between
   begun_alone s (Tcp segment) pasts key is none passes =
@@ -110,7 +110,7 @@ module _ (app : Meaning) (control_at : ℕ → ControlState) where
   none_is_some : (i : ℕ) → None ≡ Some i → ⊥
   none_is_some i e = cc
 
-  joined_alone : (s : VersionedPacket) (sight : Sight) (pasts : List RecordSoFar) (i : ℕ) (key : EndpointPair) → s.arrival.sight ≡ sight → Alone pasts → place_by (belongs_to sight) pasts ≡ Some i
+  pub joined_alone : (s : VersionedPacket) (sight : Sight) (pasts : List RecordSoFar) (i : ℕ) (key : EndpointPair) → s.arrival.sight ≡ sight → Alone pasts → place_by (belongs_to sight) pasts ≡ Some i
       → IsSingle (is_open_at key) (set pasts i (continued_by app control_at s.arrival (get_or pasts i (started_by app control_at s))))
   joined_alone s (Tcp segment) pasts i key is alone there =
       let own = key_of_segment segment in
@@ -122,16 +122,16 @@ module _ (app : Meaning) (control_at : ℕ → ControlState) where
       ∙ left_of_and (same_key own key) (not (is_shut next)) (sym (holds_after past next own key (is_shut next) passes refl refl) ∙ e))
   joined_alone s (Other class) pasts i key is alone there = absurd (none_is_some i (sym (place_by-never (belongs_to (Other class)) pasts (λ past. refl)) ∙ there))
 
-  single_takes : (sight : Sight) (pasts : List RecordSoFar) → Alone pasts → IsSingle (belongs_to sight) pasts
+  pub single_takes : (sight : Sight) (pasts : List RecordSoFar) → Alone pasts → IsSingle (belongs_to sight) pasts
   single_takes (Tcp segment) pasts alone = alone (key_of_segment segment)
   single_takes (Other class) pasts alone = IsSingle-none (belongs_to (Other class)) pasts (place_by-never (belongs_to (Other class)) pasts (λ past. refl))
 
   -- a packet whose key is silent for too long ends its connection: still at most one of a key is open
-  before_alone : (s : VersionedPacket) (pasts : List RecordSoFar) → Alone pasts → Alone (map (before s) pasts)
+  pub before_alone : (s : VersionedPacket) (pasts : List RecordSoFar) → Alone pasts → Alone (map (before s) pasts)
   before_alone s pasts alone = λ key.
       IsSingle-fewer (is_open_at key) (before s) (opens_nothing app control_at (before s) (ends_before app control_at s) key) pasts (alone key)
 
-  any_before : (s : VersionedPacket) (pasts : List RecordSoFar) → list_any (takes app control_at s) pasts ≡ list_any (belongs_to s.arrival.sight) (map (before s) pasts)
+  pub any_before : (s : VersionedPacket) (pasts : List RecordSoFar) → list_any (takes app control_at s) pasts ≡ list_any (belongs_to s.arrival.sight) (map (before s) pasts)
   any_before s [] = refl
   any_before s (past ∷ pasts) = ap (λ b. belongs_to s.arrival.sight (before s past) || b) (any_before s pasts)
 

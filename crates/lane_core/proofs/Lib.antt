@@ -26,3 +26,5 @@ pub mod Standing
 pub mod Ending
 pub mod EndOfRun
 pub mod Reporting
+mod Dropping
+mod Once

@@ -3,6 +3,9 @@ pub mod Records
 pub mod Run
 pub mod Shown
 pub mod Laws
+pub mod Verdicts
+pub mod Versions
+pub mod Once
 pub mod Places
 pub mod End
 pub mod Trees

@@ -1,5 +1,6 @@
 //! Laws on the records of packets: what the definition of records says in other words.
 
+ghost use Rattle.lane_core.specs.Once.{DropsAreVerdicts, PacketsStandOnce};
 ghost use Rattle.lane_core.specs.Laws.{RecordsGrow, RecordsByKey, PresetsAreCalled, RecordsAreTidy, WeightNeverFalls, PacketIsAdded, CommandChangesNone, HeavyStays, OneEventMore, NewestIsTheLast, LaterCommandsChangeNone, LastPacketIsAdded};
 
 /// Each packet that no open connection takes begins a record, and a record takes each later packet of its key while it is
@@ -64,4 +65,15 @@ pub fn later_commands_change_none()
 /// One packet more behind others is added to their records.
 pub fn last_packet_is_added()
     ensures { LastPacketIsAdded }
+{}
+
+/// The dropped packets of records are those whose verdict is a drop, each once and with its reason. So what a report says
+/// was dropped is what a forwarded capture leaves out.
+pub fn drops_are_verdicts()
+    ensures { DropsAreVerdicts }
+{}
+
+/// Each packet stands in one record: it starts it, or the record takes it.
+pub fn packets_stand_once()
+    ensures { PacketsStandOnce }
 {}

@@ -14,7 +14,10 @@ use Rattle.lane_core.specs.Sight.{Sight, Tcp, Other, arrivals}
 use Rattle.lane_core.specs.Laws.{rise}
 use Rattle.worker_laws.specs.Lanes.{lane_of}
 use Rattle.worker_laws.specs.Rising.{Rises}
-use Rattle.worker_laws.specs.Whole.{over_under, packets_under}
+use Rattle.worker_laws.specs.Allowed.{arrivals_of}
+use Rattle.worker_laws.specs.Histories.{over_under}
+use Rattle.worker_laws.specs.Whole.{packets_under}
+use Rattle.worker_laws.proofs.Bridging.{packets_are}
 use Rattle.worker_laws.proofs.Reported.{named_packets, named_numbers}
 
 -- ---- numbers
@@ -34,7 +37,7 @@ they_rise n (frame ∷ frames) = grind (arith, common_steps, they_rise (n + 1) f
 
 pub run_rises : (app : Meaning) (commands : List Command) (frames : List Captured) (vs : List ℕ) → rise 0 (packets_under app commands vs (arrivals 0 frames)) ≡ true
 run_rises app commands frames vs =
-    ap (rise_from 0) (named_numbers (packets_under app commands vs (arrivals 0 frames)) ∙ ap (map (λ a. a.number)) (named_packets (over_under app commands) vs [] (arrivals 0 frames)))
+    ap (rise_from 0) (named_numbers (packets_under app commands vs (arrivals 0 frames)) ∙ ap (λ ps. map (λ a. a.number) (arrivals_of ps)) (packets_are app commands vs (arrivals 0 frames)) ∙ ap (map (λ a. a.number)) (named_packets (over_under app commands) vs [] (arrivals 0 frames)))
     ∙ they_rise 0 frames
 
 -- ---- lanes

@@ -23,7 +23,8 @@ use Rattle.worker_laws.specs.Lanes.{lane_of, part}
 use Rattle.worker_laws.specs.Counted.{total as total_by, total_of_lanes}
 use Rattle.worker_laws.specs.Rising.{Rises}
 use Rattle.worker_laws.specs.Merge.{list_at, AreOfLanes, IsMerge, lane_at, shown_name}
-use Rattle.worker_laws.specs.Whole.{in_force, over_under, run_under}
+use Rattle.worker_laws.specs.Histories.{over_under}
+use Rattle.worker_laws.specs.Whole.{in_force, run_under}
 use Rattle.worker_laws.specs.Taken.{events_at, AreOneRun}
 use Rattle.worker_laws.specs.Ends.{AreEnds, IsJoined, sum_of}
 use Rattle.worker_laws.proofs.Counting.{lanes_add_up}

@@ -1,5 +1,5 @@
 -- What is counted over a run fits into 64 bits.
-use Rattle.std.proofs.Common.{◌≡◌, ◌≤◌, ◌+◌, ℕ, Bool, true, false, Option, Some, None, List, [], ◌∷◌, length, map, refl, ap, arith}
+use Rattle.std.proofs.Common.{◌≡◌, ◌≤◌, ◌+◌, ℕ, Bool, true, false, Option, Some, None, List, [], ◌∷◌, length, map, refl, ap, arith, ◌∙◌}
 use Rattle.std.specs.Prelude.{if◌then◌else◌, not, ◌&&◌, ◌*◌}
 use Rattle.std.proofs.lemmas.List.{length_push, length-map}
 use Rattle.app_api.specs.App.{Meaning}
@@ -17,7 +17,9 @@ use Rattle.lane_core.specs.Records.{VersionedPacket, RecordSoFar, belongs_to, si
 use Rattle.lane_core.specs.Shown.{total, weight, callbacks_of, drops_of}
 use Rattle.forest_versions.specs.declared.command.Command.{Command}
 use Rattle.worker_laws.specs.Greatest.{greatest}
-use Rattle.worker_laws.specs.Whole.{in_force, over_under, packets_under, run_under}
+use Rattle.worker_laws.specs.Histories.{over_under}
+use Rattle.worker_laws.specs.Whole.{in_force, packets_under, run_under}
+use Rattle.worker_laws.proofs.Bridging.{packets_are}
 use Rattle.worker_laws.proofs.Reported.{named_packets}
 
 -- ---- callbacks
@@ -116,4 +118,4 @@ pub run_drops_few : (app : Meaning) (commands : List Command) (packets : List Ar
 run_drops_few app commands packets vs =
     let few = drops_few app (in_force app commands) (greatest packets) (packets_under app commands vs packets) in
     let long = length-map (packets_under app commands vs packets) (λ p. p.arrival) in
-    let same = ap length (named_packets (over_under app commands) vs [] packets) in omega arith
+    let same = ap (λ ps. length (map (λ (p : VersionedPacket). p.arrival) ps)) (packets_are app commands vs packets) ∙ ap length (named_packets (over_under app commands) vs [] packets) in omega arith

@@ -11,7 +11,7 @@ use Rattle.lane_core.specs.Records.{VersionedPacket, RecordSoFar, history_after,
 use Rattle.worker_laws.specs.Members.{Endings, Members, packets_of, begun_by, joined_by, ended_by_silence, takes, ended_before, found, placed, added, records_from}
 use Rattle.worker_laws.specs.Judged.{verdict_among, verdict_of, judged_from}
 use Rattle.worker_laws.specs.Histories.{history_through, last_of, over_by, judge_by, with_packets, with_history}
-use Rattle.worker_laws.specs.Whole.{verdicts_from}
+use Rattle.lane_core.specs.Verdicts.{verdicts_from}
 use Rattle.worker_laws.proofs.Silence.{untaken_stays}
 
 pub maps : {A B C : Type 0} (g : B → C) (f : A → B) (xs : List A) → map g (map f xs) ≡ map (λ x. g (f x)) xs
@@ -39,7 +39,7 @@ taken_open endings (Tcp segment) m taken = neither m.ended (endings.is_over m.ve
 taken_open endings (Other class) m taken = absurd (cc)
 
 module _ (app : Meaning) (control_at : ℕ → ControlState) where
-  abbrev shown : Members → RecordSoFar
+  abbrev pub shown : Members → RecordSoFar
   shown m = with_history app control_at m
 
   abbrev open_with : Members → RecordSoFar
@@ -131,7 +131,7 @@ module _ (app : Meaning) (control_at : ℕ → ControlState) where
       ap (λ b. if b then continued_by app control_at p.arrival (shown m) ∷ map shown ms else shown m ∷ lane_placed app control_at p (map shown ms)) (same_takes p.arrival.sight m)
       ∙ placed_here p m ms (lane_placed app control_at p (map shown ms)) (placed ends p ms) (takes ends p.arrival.sight m) refl (same_placed p ms)
 
-  same_added : (p : VersionedPacket) (ms : List Members) → lane_added app control_at p (map shown ms) ≡ map shown (added ends p ms)
+  pub same_added : (p : VersionedPacket) (ms : List Members) → lane_added app control_at p (map shown ms) ≡ map shown (added ends p ms)
   same_added p ms = ap (lane_placed app control_at p) (same_found p ms) ∙ same_placed p (found ends p.arrival ms)
 
   pub same_records : (ms : List Members) (ps : List VersionedPacket) → lane_records_from app control_at (map shown ms) ps ≡ map shown (records_from ends ms ps)

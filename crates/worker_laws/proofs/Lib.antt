@@ -11,6 +11,7 @@ mod Single
 mod Histories
 mod Stamps
 mod Composed
+mod Bridging
 mod Reported
 mod Streamed
 mod Taken

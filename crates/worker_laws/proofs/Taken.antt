@@ -17,7 +17,8 @@ use Rattle.lane_core.specs.Laws.{OneEventMore, LaterCommandsChangeNone, LastPack
 use Rattle.worker_laws.specs.Lanes.{lane_of, share}
 use Rattle.worker_laws.specs.Rising.{NeverFalls}
 use Rattle.worker_laws.specs.Allowed.{arrivals_of, IsWithin, AreStamped}
-use Rattle.worker_laws.specs.Whole.{in_force, verdicts_from}
+use Rattle.lane_core.specs.Verdicts.{verdicts_from}
+use Rattle.worker_laws.specs.Whole.{in_force}
 use Rattle.worker_laws.specs.Taken.{events_at, packets_at, HaveRun, HaveRunAll, verdicts_behind, verdicts_in}
 
 -- ---- events and then others

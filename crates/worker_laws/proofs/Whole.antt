@@ -22,16 +22,19 @@ use Rattle.worker_laws.specs.Judged.{judged_from, judged}
 use Rattle.worker_laws.specs.Rising.{Rises}
 use Rattle.worker_laws.specs.Allowed.{versions_of, arrivals_of}
 use Rattle.worker_laws.specs.Runs.{judged_part, AreRuns}
-use Rattle.worker_laws.specs.Histories.{judge_by}
+use Rattle.worker_laws.specs.Histories.{judge_by, over_under}
 use Rattle.worker_laws.specs.Streamed.{AreNumbered}
-use Rattle.worker_laws.specs.Whole.{in_force, over_under, packets_under, run_under, verdicts_from, verdicts_under, IsAllowedRun}
+use Rattle.lane_core.specs.Verdicts.{verdicts_from}
+use Rattle.lane_core.specs.Versions.{versions_in}
+use Rattle.worker_laws.specs.Whole.{in_force, packets_under, run_under, verdicts_under, IsAllowedRun}
 use Rattle.worker_laws.specs.Taken.{events_at, packets_at, verdicts_in, HaveRun, HaveRunAll, AreOneRun, AreFrontsOfRun}
-use Rattle.worker_laws.proofs.Histories.{same_judged, same_part, final, final_first, final_versions, ended_records}
+use Rattle.worker_laws.proofs.Histories.{same_judged, same_records, same_part, final, final_first, final_versions, ended_records}
+use Rattle.worker_laws.proofs.Bridging.{packets_are, same_versions, run_allowed, members_allowed}
 use Rattle.worker_laws.proofs.Naming.{judged_again}
 use Rattle.worker_laws.proofs.Judging.{judged_more, named_more}
 use Rattle.worker_laws.proofs.Reported.{named_packets}
 use Rattle.worker_laws.proofs.Single.{list_of_allowed, records_of_allowed}
-use Rattle.worker_laws.proofs.Composed.{one_allowed, continued, front_verdicts, arrivals_versioned}
+use Rattle.worker_laws.proofs.Composed.{one_allowed, continued, ceilings_allowed, front_verdicts, arrivals_versioned}
 use Rattle.worker_laws.proofs.Taken.{commands_front, packets_front, packets_whole, stamped_at, run_of_events, end_of_events, verdicts_of_events}
 
 -- ---- the run, by the packets of its records
@@ -45,7 +48,9 @@ module _ (app : Meaning) (commands : List Command) (packets : List Arrival) (vs 
   at_end m = final app (in_force app commands) (greatest packets) m
 
   pub run_is : run_under app commands vs packets ≡ map at_end members
-  run_is = ended_records app (in_force app commands) (greatest packets) (packets_under app commands vs packets)
+  run_is =
+      ended_records app (in_force app commands) (greatest packets) (packets_under app commands vs packets)
+      ∙ ap (λ ps. map at_end (members_of (over_under app commands) ps)) (packets_are app commands vs packets)
 
   pub part_is : (lane : EndpointPair → ℕ) (l : ℕ) → filter (λ r. lane_of lane r.first.sight == l) (run_under app commands vs packets) ≡ map at_end (part lane l members)
   part_is lane l =
@@ -55,27 +60,31 @@ module _ (app : Meaning) (commands : List Command) (packets : List Arrival) (vs 
   pub verdicts_by : verdicts_under app commands vs packets ≡ judged (over_under app commands) (judge_by app (in_force app commands)) (packets_under app commands vs packets)
   verdicts_by = same_judged app (in_force app commands) [] (packets_under app commands vs packets)
 
+  -- the same where a record's version is that of its place among them
+  pub verdicts_named : verdicts_under app commands vs packets ≡ judged (over_under app commands) (judge_by app (in_force app commands)) (named (over_under app commands) vs packets)
+  verdicts_named = verdicts_by ∙ ap (judged (over_under app commands) (judge_by app (in_force app commands))) (packets_are app commands vs packets)
+
   pub versions_by : (least most : ℕ → ℕ) (lane : EndpointPair → ℕ) → IsAllowedRun app commands least most lane packets vs → map (λ r. r.version) (run_under app commands vs packets) ≡ vs
   versions_by least most lane allowed =
       ap (map (λ r. r.version)) run_is ∙ final_versions app (in_force app commands) (greatest packets) members
-      ∙ list_of_allowed least most (over_under app commands) lane packets vs allowed
+      ∙ list_of_allowed least most (over_under app commands) lane packets vs (members_allowed app commands vs packets least most lane allowed)
 
   -- where only ceilings are allowed
   module _ (least most : ℕ → ℕ) (lane : EndpointPair → ℕ) (same : (n : ℕ) → least n ≡ most n) (allowed : IsAllowedRun app commands least most lane packets vs) where
     pub records_by_ceilings : run_under app commands vs packets ≡ map (ended_at app (in_force app commands) (greatest packets)) (records app (in_force app commands) (versioned most packets))
     records_by_ceilings =
-        run_is ∙ ap (map at_end) (records_of_allowed least most (over_under app commands) lane packets vs same allowed)
+        run_is ∙ ap (map at_end) (records_of_allowed least most (over_under app commands) lane packets vs same (members_allowed app commands vs packets least most lane allowed))
         ∙ sym (ended_records app (in_force app commands) (greatest packets) (versioned most packets))
 
     list_by_ceilings : vs ≡ versions_of (members_of (over_under app commands) (versioned most packets))
     list_by_ceilings =
-        sym (list_of_allowed least most (over_under app commands) lane packets vs allowed)
-        ∙ ap versions_of (records_of_allowed least most (over_under app commands) lane packets vs same allowed)
+        sym (list_of_allowed least most (over_under app commands) lane packets vs (members_allowed app commands vs packets least most lane allowed))
+        ∙ ap versions_of (records_of_allowed least most (over_under app commands) lane packets vs same (members_allowed app commands vs packets least most lane allowed))
 
     pub verdicts_by_ceilings : verdicts_under app commands vs packets ≡ verdicts_from app (in_force app commands) [] (versioned most packets)
     verdicts_by_ceilings =
-        verdicts_by
-        ∙ ap (λ ps. judged (over_under app commands) (judge_by app (in_force app commands)) (packets_under app commands vs ps)) (sym (arrivals_versioned most packets))
+        verdicts_named
+        ∙ ap (λ ps. judged (over_under app commands) (judge_by app (in_force app commands)) (named (over_under app commands) vs ps)) (sym (arrivals_versioned most packets))
         ∙ judged_again (over_under app commands) (judge_by app (in_force app commands)) vs [] (versioned most packets) list_by_ceilings
         ∙ sym (same_judged app (in_force app commands) [] (versioned most packets))
 
@@ -94,7 +103,9 @@ place_in n (frame ∷ frames) (suc i) d lt = let later = place_in (n + 1) frames
 
 module _ (app : Meaning) (commands : List Command) (vs : List ℕ) where
   pub verdicts_in_order : (packets : List Arrival) → map (λ (j : Arrival × Verdict). j.0) (verdicts_under app commands vs packets) ≡ packets
-  verdicts_in_order packets = firsts_from app (in_force app commands) [] (packets_under app commands vs packets) ∙ named_packets (over_under app commands) vs [] packets
+  verdicts_in_order packets =
+      firsts_from app (in_force app commands) [] (packets_under app commands vs packets) ∙ ap arrivals_of (packets_are app commands vs packets)
+      ∙ named_packets (over_under app commands) vs [] packets
 
   pub verdicts_numbered : (frames : List Captured) → AreNumbered (verdicts_under app commands vs (arrivals 0 frames))
   verdicts_numbered frames i d lt =
@@ -110,10 +121,10 @@ module _ (app : Meaning) (commands : List Command) (vs : List ℕ) where
       let endings = over_under app commands in
       let judge = judge_by app (in_force app commands) in (
         judged_from endings judge (records_under endings vs packets) (named_from endings vs (records_under endings vs packets) more),
-        ap (λ js. js ++ judged_from endings judge (records_under endings vs packets) (named_from endings vs (records_under endings vs packets) more)) (verdicts_by app commands packets vs)
+        ap (λ js. js ++ judged_from endings judge (records_under endings vs packets) (named_from endings vs (records_under endings vs packets) more)) (verdicts_named app commands packets vs)
             ∙ judged_more endings judge [] (named endings vs packets) (named_from endings vs (records_under endings vs packets) more)
             ∙ ap (judged endings judge) (named_more endings vs [] packets more)
-            ∙ sym (verdicts_by app commands (packets ++ more) vs),
+            ∙ sym (verdicts_named app commands (packets ++ more) vs),
       )
 
 -- ---- weights
@@ -165,7 +176,7 @@ module _ (later : LaterCommandsChangeNone) (one : OneEventMore) (last : LastPack
   whole_is vs runs = record {
     records = λ l. end_of_events later app commands (events_at lanes l) (greatest packets) (front l) ∙ its_part (packets_at lanes) vs runs l;
     verdicts = λ l.
-        judged_events l ∙ sym (runs.verdicts_are (judge_by app (in_force app commands)) l) ∙ ap (judged_part lane l) (sym (verdicts_by app commands packets vs));
+        judged_events l ∙ sym (runs.verdicts_are (judge_by app (in_force app commands)) l) ∙ ap (judged_part lane l) (sym (verdicts_named app commands packets vs));
   }
 
   module _ (never : WeightNeverFalls) (more : ℕ → List VersionedPacket) (vs : List ℕ) (runs : AreRuns (over_under app commands) lane packets (λ l. packets_at lanes l ++ more l) vs) where
@@ -193,7 +204,7 @@ module _ (later : LaterCommandsChangeNone) (one : OneEventMore) (last : LastPack
       weights_at_end = λ l whole. ends_are l (none l whole);
       verdicts = λ l.
           subst (λ js. IsPrefix js (judged_part lane l (verdicts_under app commands vs packets))) (sym (judged_events l))
-          (subst (λ js. IsPrefix (judged (over_under app commands) (judge_by app (in_force app commands)) (packets_at lanes l)) (judged_part lane l js)) (sym (verdicts_by app commands packets vs))
+          (subst (λ js. IsPrefix (judged (over_under app commands) (judge_by app (in_force app commands)) (packets_at lanes l)) (judged_part lane l js)) (sym (verdicts_named app commands packets vs))
           (front_verdicts (over_under app commands) lane packets (packets_at lanes) more vs runs (judge_by app (in_force app commands)) l));
     }
 
@@ -203,7 +214,7 @@ module _ (later : LaterCommandsChangeNone) (one : OneEventMore) (last : LastPack
   one_run whole =
       let made = one_allowed least most (over_under app commands) lane packets (packets_at lanes) (packets_whole least most commands lane packets lanes have whole)
       (stamped_at least most commands lane packets lanes have) in
-      (made.0, made.1, whole_is later one last app commands lane packets lanes (commands_front least most commands lane packets lanes have) made.0 made.2)
+      (made.0, run_allowed app commands made.0 packets least most lane made.1, whole_is later one last app commands lane packets lanes (commands_front least most commands lane packets lanes have) made.0 made.2)
 
   pub fronts_run : WeightNeverFalls → ((n : ℕ) → least n ≤ most n) → ((n m : ℕ) → n ≤ m → most n ≤ most m) → Rises (map (λ a. a.number) packets)
       → (vs : List ℕ) × IsAllowedRun app commands least most lane packets vs × AreFrontsOfRun app commands lane packets lanes vs
@@ -212,7 +223,20 @@ module _ (later : LaterCommandsChangeNone) (one : OneEventMore) (last : LastPack
       let made = continued least most between rises (over_under app commands) lane packets numbered (packets_at lanes) (λ l. (rest l).0) (λ l. (rest l).1)
       (stamped_at least most commands lane packets lanes have) in (
         made.0,
-        made.1,
+        run_allowed app commands made.0 packets least most lane made.1,
         fronts_are later one last app commands lane packets lanes (commands_front least most commands lane packets lanes have) never (λ l. versioned most ((rest l).0)) made.0 made.2
             (λ l whole. ap (versioned most) (nothing_behind (arrivals_of (packets_at lanes l)) (rest l).0 ((rest l).1 ∙ sym whole))),
       )
+
+-- ---- the ceilings
+
+pub allowed_ceilings : (app : Meaning) (commands : List Command) (least most : ℕ → ℕ) (lane : EndpointPair → ℕ) (packets : List Arrival) → ((n : ℕ) → least n ≤ most n)
+    → ((n m : ℕ) → n ≤ m → most n ≤ most m) → Rises (map (λ a. a.number) packets)
+    → IsAllowedRun app commands least most lane packets (versions_in (records app (in_force app commands) (versioned most packets)))
+allowed_ceilings app commands least most lane packets between rises numbered =
+    let over = over_under app commands in
+    let same : versions_in (records app (in_force app commands) (versioned most packets)) ≡ versions_of (members_of over (versioned most packets)) =
+    ap versions_in (same_records app (in_force app commands) [] (versioned most packets)) ∙ same_versions app (in_force app commands) (members_of over (versioned most packets)) in
+    subst (IsAllowedRun app commands least most lane packets) (sym same)
+    (run_allowed app commands (versions_of (members_of over (versioned most packets))) packets least most lane
+    (ceilings_allowed least most between rises over lane packets numbered))

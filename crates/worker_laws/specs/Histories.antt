@@ -1,8 +1,9 @@
--- The records of a lane, with their histories, by their packets.
+-- Only for proofs: the records of a lane, with their histories, by their packets.
 use Rattle.std.specs.Prelude.{ℕ, Bool, false, if◌then◌else◌, List, [], ◌∷◌}
 use Rattle.app_api.specs.declared.reaction.Verdict.{Verdict}
 use Rattle.app_api.specs.App.{Meaning}
-use Rattle.forest_versions.specs.State.{ControlState}
+use Rattle.forest_versions.specs.declared.command.Command.{Command}
+use Rattle.forest_versions.specs.State.{ControlState, master}
 use Rattle.connection_core.specs.History.{History, is_over}
 use Rattle.lane_core.specs.Sight.{Sight, Moment, Arrival}
 use Rattle.lane_core.specs.Records.{RecordSoFar, is_past, history_after, first_history, verdict_after, first_verdict, ended_by_silence}
@@ -36,6 +37,10 @@ is_silent_after control_at version (first ∷ later) now = is_past (control_at v
 
 abbrev pub over_by : Meaning → (ℕ → ControlState) → Endings
 over_by app control_at = record { is_over = is_over_after app control_at; is_silent = is_silent_after control_at }
+
+-- the same where what is in force is that after the first so many commands
+abbrev pub over_under : Meaning → List Command → Endings
+over_under app commands = over_by app (master app.presets commands)
 
 -- what becomes of a packet after these
 abbrev pub judge_by : Meaning → (ℕ → ControlState) → ℕ → List Arrival → Arrival → Verdict

@@ -1,46 +1,44 @@
 -- One run over all packets, under the commands of a script and a list of versions: the j-th record lives under the j-th version. It
 -- is the definition of a run, and knows of no lanes.
-use Rattle.std.specs.Prelude.{ℕ, List, [], ◌∷◌, map}
+use Rattle.std.specs.Prelude.{◌≡◌, ◌≤◌, ◌==◌, ℕ, List, [], length, map, filter}
+use Rattle.std.specs.List.{All}
 use Rattle.flow_table.specs.Key.{EndpointPair}
 use Rattle.app_api.specs.App.{Meaning}
 use Rattle.app_api.specs.declared.reaction.Verdict.{Verdict}
 use Rattle.forest_versions.specs.declared.command.Command.{Command}
 use Rattle.forest_versions.specs.State.{ControlState, master}
 use Rattle.lane_core.specs.Sight.{Arrival}
-use Rattle.lane_core.specs.Records.{VersionedPacket, RecordSoFar, added, verdict_on, records, ended_at}
-use Rattle.worker_laws.specs.Members.{Endings}
+use Rattle.lane_core.specs.Records.{VersionedPacket, RecordSoFar, records, ended_at}
+use Rattle.lane_core.specs.Verdicts.{verdicts_from}
+use Rattle.lane_core.specs.Versions.{listed_from, versions_in}
 use Rattle.worker_laws.specs.Greatest.{greatest}
-use Rattle.worker_laws.specs.Named.{named}
-use Rattle.worker_laws.specs.Allowed.{IsAllowed}
-use Rattle.worker_laws.specs.Histories.{over_by}
-
--- packets in order, each with what becomes of it, behind the records so far
-unfoldable pub verdicts_from : Meaning → (ℕ → ControlState) → List RecordSoFar → List VersionedPacket → List (Arrival × Verdict)
-verdicts_from app control_at so_far [] = []
-verdicts_from app control_at so_far (p ∷ ps) =
-    (p.arrival, verdict_on app control_at p so_far) ∷ verdicts_from app control_at (added app control_at p so_far) ps
+use Rattle.worker_laws.specs.Lanes.{lane_of}
+use Rattle.worker_laws.specs.Rising.{NeverFalls}
 
 module _ (app : Meaning) (commands : List Command) where
   -- what is in force at each version: after the first so many commands
   abbrev pub in_force : ℕ → ControlState
   in_force = master app.presets commands
 
-  -- how connections end, by their version and their packets
-  abbrev pub over_under : Endings
-  over_under = over_by app in_force
-
   -- each packet with the version of the record that it would begin
   abbrev pub packets_under : List ℕ → List Arrival → List VersionedPacket
-  packets_under vs packets = named over_under vs packets
+  packets_under vs packets = listed_from app in_force vs [] packets
+
+  -- the records while packets come
+  abbrev pub run_so_far : List ℕ → List Arrival → List RecordSoFar
+  run_so_far vs packets = records app in_force (packets_under vs packets)
 
   -- the records of the run; those that are open at its end may end by idleness then
   abbrev pub run_under : List ℕ → List Arrival → List RecordSoFar
-  run_under vs packets = map (ended_at app in_force (greatest packets)) (records app in_force (packets_under vs packets))
+  run_under vs packets = map (ended_at app in_force (greatest packets)) (run_so_far vs packets)
 
   -- its packets, each with what becomes of it
   abbrev pub verdicts_under : List ℕ → List Arrival → List (Arrival × Verdict)
   verdicts_under vs packets = verdicts_from app in_force [] (packets_under vs packets)
 
-  -- it may have these versions: each lies between floor and ceiling, and they never fall along the records of a lane
-  abbrev pub IsAllowedRun : (ℕ → ℕ) → (ℕ → ℕ) → (EndpointPair → ℕ) → List Arrival → List ℕ → Type 0
-  IsAllowedRun least most lane packets vs = IsAllowed least most over_under lane packets vs
+  -- It may have these versions: one for each record, from the floor of the record's first packet to its ceiling, and they never fall
+  -- along the records whose first packets go to one lane.
+  pub record IsAllowedRun (floor ceil : ℕ → ℕ) (lane : EndpointPair → ℕ) (packets : List Arrival) (vs : List ℕ) : Type 0 where
+    pub count : length vs ≡ length (run_so_far vs packets)
+    pub within : All (λ r. (floor r.first.number ≤ r.version) × (r.version ≤ ceil r.first.number)) (run_so_far vs packets)
+    pub along : (l : ℕ) → NeverFalls (versions_in (filter (λ r. lane_of lane r.first.sight == l) (run_so_far vs packets)))

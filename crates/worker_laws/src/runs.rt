@@ -17,9 +17,10 @@ ghost use Rattle.worker_laws.specs.Greatest.{greatest};
 ghost use Rattle.worker_laws.specs.Lanes.{share};
 ghost use Rattle.worker_laws.specs.Allowed.{arrivals_of};
 ghost use Rattle.worker_laws.specs.Judged.{judged};
-ghost use Rattle.worker_laws.specs.Histories.{judge_by};
+ghost use Rattle.worker_laws.specs.Histories.{judge_by, over_under};
+ghost use Rattle.lane_core.specs.Versions.{versions_in};
 ghost use Rattle.lane_core.specs.Verdicts.{verdicts_from};
-ghost use Rattle.worker_laws.specs.Whole.{in_force, over_under, packets_under, run_under, verdicts_under, IsAllowedRun};
+ghost use Rattle.worker_laws.specs.Whole.{in_force, packets_under, run_under, verdicts_under, IsAllowedRun};
 ghost use Rattle.worker_laws.specs.Taken.{events_at, packets_at, verdicts_behind, HaveRun, HaveRunAll, AreOneRun, AreFrontsOfRun};
 ghost use Rattle.worker_laws.specs.Streamed.{AreNumbered};
 
@@ -100,6 +101,15 @@ pub fn a_run_has_its_versions()
         → map (λ r. r.version) (run_under app commands vs packets) ≡ vs }
     ensures packets { (app : Meaning) (commands : List Command) (packets : List Arrival) (vs : List ℕ)
         → arrivals_of (packets_under app commands vs packets) ≡ packets }
+{}
+
+/// The ceilings of first packets are an allowed list, whatever the lanes.
+pub fn ceilings_are_allowed()
+    ensures { (app : Meaning) (commands : List Command) (least most : ℕ → ℕ) (lane : EndpointPair → ℕ)
+        (packets : List Arrival)
+        → ((n : ℕ) → least n ≤ most n) → ((n m : ℕ) → n ≤ m → most n ≤ most m) → Rises (map (λ a. a.number) packets)
+        → IsAllowedRun app commands least most lane packets
+        (versions_in (records app (in_force app commands) (versioned most packets))) }
 {}
 
 /// Where each packet's floor is its ceiling, all allowed lists give one run, whatever the lanes: that in which each

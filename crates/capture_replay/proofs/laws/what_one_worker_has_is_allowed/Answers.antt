@@ -6,10 +6,10 @@ use Rattle.capture_replay.proofs.laws.what_one_worker_has_is_allowed.Goals as go
 pub returns-clause-allowed : goal.returns-clause-allowed
 returns-clause-allowed c = λ app script workers bytes ordered.
     let stamps = c.a_script_gives_floors_and_ceilings.ensures in
-    ceilings_allowed app script (frames_in (capture_of bytes)) c.fronts_go_on_to_an_allowed_list.ensures.ceilings stamps.rises c.packets_of_a_capture_rise.ensures.numbers
+    ceilings_allowed app script (frames_in (capture_of bytes)) c.ceilings_are_allowed.ensures stamps.rises c.packets_of_a_capture_rise.ensures.numbers
     c.a_run_has_its_versions.ensures.versions c.without_live_commands_there_is_one_run.ensures.records workers (λ n. stamps.within script n ordered)
 
 pub returns-clause-outcome : goal.returns-clause-outcome
 returns-clause-outcome c =
-    same_outcome c.fronts_go_on_to_an_allowed_list.ensures.ceilings c.a_script_gives_floors_and_ceilings.ensures.rises c.packets_of_a_capture_rise.ensures.numbers
+    same_outcome c.ceilings_are_allowed.ensures c.a_script_gives_floors_and_ceilings.ensures.rises c.packets_of_a_capture_rise.ensures.numbers
     c.a_run_has_its_versions.ensures.versions c.without_live_commands_there_is_one_run.ensures.records c.without_live_commands_there_is_one_run.ensures.verdicts

@@ -2,10 +2,9 @@ use Rattle.flow_table.specs.Lane.{lane_of_key}
 use Rattle.control_script.specs.Order.{commands_of}
 use Rattle.control_script.specs.Versions.{floor, ceil}
 use Rattle.lane_core.specs.Sight.{arrivals}
-use Rattle.lane_core.specs.Records.{versioned}
-use Rattle.worker_laws.specs.Allowed.{versions_of}
-use Rattle.worker_laws.specs.Members.{records}
-use Rattle.worker_laws.specs.Whole.{over_under}
+use Rattle.lane_core.specs.Records.{records, versioned}
+use Rattle.lane_core.specs.Versions.{versions_in}
+use Rattle.worker_laws.specs.Whole.{in_force}
 use Rattle.forward_pool.specs.Forward.{forwarded_with}
 use Rattle.forward_pool.proofs.Forwarding.{front_of_nothing}
 use Rattle.forward_pool.proofs.lanes.nothing_is_a_front.Goals as goal
@@ -16,11 +15,10 @@ returns c =
     let laws = c.a_script_gives_floors_and_ceilings.ensures in
     record {
       front = λ app lanes frames before.
-          let over = over_under app (commands_of script) in
-          let vs = versions_of (records over (versioned (ceil script) (arrivals 0 frames))) in
+          let vs = versions_in (records app (in_force app (commands_of script)) (versioned (ceil script) (arrivals 0 frames))) in
           record {
             versions = vs;
-            may_have = c.fronts_go_on_to_an_allowed_list.ensures.ceilings (floor script) (ceil script) over (λ key. lane_of_key key lanes) (arrivals 0 frames)
+            may_have = c.ceilings_are_allowed.ensures app (commands_of script) (floor script) (ceil script) (λ key. lane_of_key key lanes) (arrivals 0 frames)
                 (λ n. laws.within script n c.len-commands.ensures.order) (λ n m le. laws.rises script n m le) (c.packets_of_a_capture_rise.ensures.numbers frames);
             front = front_of_nothing before (forwarded_with app script vs frames);
           };

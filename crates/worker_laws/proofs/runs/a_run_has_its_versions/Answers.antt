@@ -1,5 +1,7 @@
-use Rattle.std.proofs.Common.{[]}
-use Rattle.worker_laws.specs.Whole.{over_under}
+use Rattle.std.proofs.Common.{[], ap, ◌∙◌}
+use Rattle.worker_laws.specs.Allowed.{arrivals_of}
+use Rattle.worker_laws.specs.Histories.{over_under}
+use Rattle.worker_laws.proofs.Bridging.{packets_are}
 use Rattle.worker_laws.proofs.Whole.{versions_by}
 use Rattle.worker_laws.proofs.Reported.{named_packets}
 use Rattle.worker_laws.proofs.runs.a_run_has_its_versions.Goals as goal
@@ -8,4 +10,4 @@ pub returns-clause-versions : goal.returns-clause-versions
 returns-clause-versions c = λ app commands least most lane packets vs allowed. versions_by app commands packets vs least most lane allowed
 
 pub returns-clause-packets : goal.returns-clause-packets
-returns-clause-packets c = λ app commands packets vs. named_packets (over_under app commands) vs [] packets
+returns-clause-packets c = λ app commands packets vs. ap arrivals_of (packets_are app commands vs packets) ∙ named_packets (over_under app commands) vs [] packets
