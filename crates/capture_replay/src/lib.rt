@@ -6,7 +6,6 @@ mod advance;
 mod chosen;
 mod close;
 pub mod laws;
-pub mod verdicts;
 pub mod output;
 mod plan;
 pub mod refusal;
@@ -16,6 +15,7 @@ mod several;
 mod single;
 mod summary;
 mod telling;
+pub mod verdicts;
 
 pub use output::Output;
 pub use plan::Crew;
