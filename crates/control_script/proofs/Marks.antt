@@ -1,6 +1,7 @@
 -- What the marks of a script's rows tell: its order, its ceilings and its floors.
-use Rattle.std.proofs.Common.{◌≡◌, ℕ, zero, suc, ◌+◌, ◌-◌, ◌<◌, ◌≤◌, max, leb, ltb, Bool, true, false, not, ◌&&◌, ◌||◌, List, [], ◌∷◌, ◌++◌, map, length, length-append, get_or, Some, slice_get, refl, ap, sym, ◌∙◌, arith}
+use Rattle.std.proofs.Common.{◌≡◌, ℕ, zero, suc, ◌+◌, ◌-◌, ◌<◌, ◌≤◌, max, leb, ltb, Bool, true, false, not, ◌&&◌, ◌||◌, List, [], ◌∷◌, ◌++◌, map, length, length-append, get_or, Option, Some, None, slice_get, refl, ap, sym, ◌∙◌, arith}
 use Rattle.std.specs.List.{prefix_len, list_all, list_any}
+use Rattle.std.specs.Option.{unwrap_or}
 use Rattle.std.specs.List.Sorted.{IsNonDecreasingBy, IsPartitionPoint}
 use Rattle.std.proofs.lemmas.List.Sums.{prefix_len_is}
 use Rattle.std.proofs.lemmas.Bool.{le-leb}
@@ -16,17 +17,35 @@ use Rattle.control_script.specs.Order.{commands_of, is_later, is_before, are_in_
 use Rattle.control_script.specs.Rows.{stamped_of, latest_with, forced_with, AreMarked, AreRows, last_latest, last_forced}
 use Rattle.control_script.specs.Versions.{is_forced, behind_one, floor, ceil, is_live}
 
-latest_with-least : (l : ℕ) (s : Stamp) → l ≤ latest_with l s
-latest_with-least l (At k) = omega arith
-latest_with-least l Live = omega arith
+-- as a number, which is 0 where there is none
+abbrev pub num : Option ℕ → ℕ
+num latest = unwrap_or latest 0
 
-least : (l f p : ℕ) (rows : List Row) → AreMarked l f p rows → (i : ℕ) (d : Row) → i < length rows → l ≤ (get_or rows i d).latest
+abbrev number_with : ℕ → Stamp → ℕ
+number_with latest (At k) = max latest k
+number_with latest Live = latest
+
+num-with : (l : Option ℕ) (s : Stamp) → num (latest_with l s) ≡ number_with (num l) s
+num-with None (At k) = omega arith
+num-with (Some l) (At k) = refl
+num-with None Live = refl
+num-with (Some l) Live = refl
+
+-- a row's number, where its mark is known
+row-number : (l : Option ℕ) (r : Row) → r.latest ≡ latest_with l r.stamped.stamp → num r.latest ≡ number_with (num l) r.stamped.stamp
+row-number l r is = ap num is ∙ num-with l r.stamped.stamp
+
+number-least : (l : ℕ) (s : Stamp) → l ≤ number_with l s
+number-least l (At k) = omega arith
+number-least l Live = omega arith
+
+least : (l : Option ℕ) (f p : ℕ) (rows : List Row) → AreMarked l f p rows → (i : ℕ) (d : Row) → i < length rows → num l ≤ num (get_or rows i d).latest
 least l f p [] m i d lt = absurd (omega arith)
-least l f p (r ∷ rs) m zero d lt = omega (arith, m.0, latest_with-least l r.stamped.stamp)
+least l f p (r ∷ rs) m zero d lt = omega (arith, row-number l r m.0, number-least (num l) r.stamped.stamp)
 least l f p (r ∷ rs) m (suc i) d lt =
-    omega (arith, m.0, latest_with-least l r.stamped.stamp, least r.latest r.forced (p + 1) rs m.1.1 i d (omega arith))
+    omega (arith, row-number l r m.0, number-least (num l) r.stamped.stamp, least r.latest r.forced (p + 1) rs m.1.1 i d (omega arith))
 
-pub latest-rises : (l f p : ℕ) (rows : List Row) → AreMarked l f p rows → IsNonDecreasingBy (λ r. r.latest) rows
+pub latest-rises : (l : Option ℕ) (f p : ℕ) (rows : List Row) → AreMarked l f p rows → IsNonDecreasingBy (λ r. num r.latest) rows
 latest-rises l f p [] m i j d le lt = absurd (omega arith)
 latest-rises l f p (r ∷ rs) m zero zero d le lt = omega arith
 latest-rises l f p (r ∷ rs) m zero (suc j) d le lt = least r.latest r.forced (p + 1) rs m.1.1 j d (omega arith)
@@ -46,24 +65,24 @@ is_passed : (n k : ℕ) → ltb n k ≡ false → leb k n ≡ true
 is_passed n k h = grind (arith, nat_tests)
 
 -- the rows that packet n may see are those before the ceiling
-ceil-at : (t : Bool) (s : Stamp) (l n k : ℕ) (r : Row) (rs : List Row) → r.stamped.stamp ≡ At k → ltb n k ≡ t → r.latest ≡ max l k → l ≤ n
-    → (r.latest ≤ n → prefix_len (λ r. leb r.latest n) rs ≡ ceil (stamped_of rs) n) → prefix_len (λ r. leb r.latest n) (r ∷ rs) ≡ ceil (stamped_of (r ∷ rs)) n
-ceil-at true s l n k r rs at h e le more = rw (at, h, bars l n k r.latest h e) refl
+ceil-at : (t : Bool) (s : Stamp) (l n k : ℕ) (r : Row) (rs : List Row) → r.stamped.stamp ≡ At k → ltb n k ≡ t → num r.latest ≡ max l k → l ≤ n
+    → (num r.latest ≤ n → prefix_len (λ r. leb (num r.latest) n) rs ≡ ceil (stamped_of rs) n) → prefix_len (λ r. leb (num r.latest) n) (r ∷ rs) ≡ ceil (stamped_of (r ∷ rs)) n
+ceil-at true s l n k r rs at h e le more = rw (at, h, bars l n k (num r.latest) h e) refl
 ceil-at false s l n k r rs at h e le more =
-    let seen : r.latest ≤ n = grind (arith, nat_tests) in
-    rw (at, h, passes l n k r.latest h e le, more seen) (omega arith)
+    let seen : num r.latest ≤ n = grind (arith, nat_tests) in
+    rw (at, h, passes l n k (num r.latest) h e le, more seen) (omega arith)
 
-ceil-step : (s : Stamp) (l n : ℕ) (r : Row) (rs : List Row) → r.stamped.stamp ≡ s → r.latest ≡ latest_with l s → l ≤ n
-    → (r.latest ≤ n → prefix_len (λ r. leb r.latest n) rs ≡ ceil (stamped_of rs) n) → prefix_len (λ r. leb r.latest n) (r ∷ rs) ≡ ceil (stamped_of (r ∷ rs)) n
+ceil-step : (s : Stamp) (l n : ℕ) (r : Row) (rs : List Row) → r.stamped.stamp ≡ s → num r.latest ≡ number_with l s → l ≤ n
+    → (num r.latest ≤ n → prefix_len (λ r. leb (num r.latest) n) rs ≡ ceil (stamped_of rs) n) → prefix_len (λ r. leb (num r.latest) n) (r ∷ rs) ≡ ceil (stamped_of (r ∷ rs)) n
 ceil-step (At k) l n r rs is e le more = ceil-at (ltb n k) (At k) l n k r rs is refl e le more
 ceil-step Live l n r rs is e le more =
-    let seen : leb r.latest n ≡ true = le-leb r.latest n (omega arith) in
+    let seen : leb (num r.latest) n ≡ true = le-leb (num r.latest) n (omega arith) in
     rw (is, seen, more (omega arith)) (omega arith)
 
-pub ceil-seen : (l f p n : ℕ) (rows : List Row) → AreMarked l f p rows → l ≤ n → prefix_len (λ r. leb r.latest n) rows ≡ ceil (stamped_of rows) n
+pub ceil-seen : (l : Option ℕ) (f p n : ℕ) (rows : List Row) → AreMarked l f p rows → num l ≤ n → prefix_len (λ r. leb (num r.latest) n) rows ≡ ceil (stamped_of rows) n
 ceil-seen l f p n [] m le = refl
 ceil-seen l f p n (r ∷ rs) m le =
-    ceil-step r.stamped.stamp l n r rs refl m.0 le (λ seen. ceil-seen r.latest r.forced (p + 1) n rs m.1.1 seen)
+    ceil-step r.stamped.stamp (num l) n r rs refl (row-number l r m.0) le (λ seen. ceil-seen r.latest r.forced (p + 1) n rs m.1.1 seen)
 
 -- the mark of the last of so many rows
 abbrev pub forced_at : ℕ → List Row → ℕ → ℕ
@@ -124,7 +143,7 @@ mark-step (At k) p f n r rs is e later more = mark-at (ltb n k) p f n k r rs is 
 mark-step Live p f n r rs is e later more =
     rw is (more ∙ ap (λ g. from (p + 1) g (floor (stamped_of rs) n)) e ∙ from-live p f (floor (stamped_of rs) n))
 
-marks : (l f p n : ℕ) (rows : List Row) → AreMarked l f p rows → are_in_order (stamped_of rows) ≡ true → forced_at f rows (ceil (stamped_of rows) n) ≡ from p f (floor (stamped_of rows) n)
+marks : (l : Option ℕ) (f p n : ℕ) (rows : List Row) → AreMarked l f p rows → are_in_order (stamped_of rows) ≡ true → forced_at f rows (ceil (stamped_of rows) n) ≡ from p f (floor (stamped_of rows) n)
 marks l f p n [] m o = refl
 marks l f p n (r ∷ rs) m o =
     mark-step r.stamped.stamp p f n r rs refl m.1.0 (first _ _ o) (marks r.latest r.forced (p + 1) n rs m.1.1 (second _ _ o))
@@ -134,8 +153,8 @@ from-none zero = refl
 from-none (suc v) = omega arith
 
 -- the floor is the mark of the last row before the ceiling
-pub floor-mark : (n : ℕ) (rows : List Row) → AreMarked 0 0 0 rows → are_in_order (stamped_of rows) ≡ true → forced_at 0 rows (ceil (stamped_of rows) n) ≡ floor (stamped_of rows) n
-floor-mark n rows m o = marks 0 0 0 n rows m o ∙ from-none (floor (stamped_of rows) n)
+pub floor-mark : (n : ℕ) (rows : List Row) → AreMarked None 0 0 rows → are_in_order (stamped_of rows) ≡ true → forced_at 0 rows (ceil (stamped_of rows) n) ≡ floor (stamped_of rows) n
+floor-mark n rows m o = marks None 0 0 n rows m o ∙ from-none (floor (stamped_of rows) n)
 
 behind_one-most : (b : Bool) (v : ℕ) → behind_one b v ≤ suc v
 behind_one-most true zero = omega arith
@@ -175,7 +194,7 @@ floor-is-ceil n (s ∷ ss) o a =
     same-step s.stamp n s ss refl (first _ _ a) (first _ _ o) (floor-is-ceil n ss (second _ _ o) (second _ _ a))
 
 -- one row more
-pub marked-more : (l f p : ℕ) (rows : List Row) (r : Row) → AreMarked l f p rows → r.latest ≡ latest_with (last_latest l rows) r.stamped.stamp
+pub marked-more : (l : Option ℕ) (f p : ℕ) (rows : List Row) (r : Row) → AreMarked l f p rows → r.latest ≡ latest_with (last_latest l rows) r.stamped.stamp
     → r.forced ≡ forced_with (last_forced f rows) (p + length rows) r.stamped.stamp → AreMarked l f p (rows ++ r ∷ [])
 marked-more l f p [] r m e g =
     let place : p + 0 ≡ p = omega arith in
@@ -203,7 +222,7 @@ joins true true c = refl
 joins true false c = refl
 joins false b c = refl
 
-latest-test : (s : Stamp) (l k x : ℕ) (rest : Bool) → x ≡ latest_with l s → (leb x k && not rest) ≡ (leb l k && not (is_later s (At k) || rest))
+latest-test : (s : Stamp) (l k x : ℕ) (rest : Bool) → x ≡ number_with l s → (leb x k && not rest) ≡ (leb l k && not (is_later s (At k) || rest))
 latest-test (At j) l k x rest e = rw (e, max-test l j k) (joins (leb l k) (ltb k j) rest)
 latest-test Live l k x rest e = rw e refl
 
@@ -212,11 +231,11 @@ and_true true = refl
 and_true false = refl
 
 -- whether an `at` stands behind a greater one is told by the greatest
-pub latest-later : (l f p k : ℕ) (rows : List Row) → AreMarked l f p rows → leb (last_latest l rows) k ≡ (leb l k && not (list_any (λ b. is_later b.stamp (At k)) (stamped_of rows)))
-latest-later l f p k [] m = and_true (leb l k)
+pub latest-later : (l : Option ℕ) (f p k : ℕ) (rows : List Row) → AreMarked l f p rows → leb (num (last_latest l rows)) k ≡ (leb (num l) k && not (list_any (λ b. is_later b.stamp (At k)) (stamped_of rows)))
+latest-later l f p k [] m = and_true (leb (num l) k)
 latest-later l f p k (r ∷ rs) m =
     latest-later r.latest r.forced (p + 1) k rs m.1.1
-    ∙ latest-test r.stamped.stamp l k r.latest (list_any (λ b. is_later b.stamp (At k)) (stamped_of rs)) m.0
+    ∙ latest-test r.stamped.stamp (num l) k (num r.latest) (list_any (λ b. is_later b.stamp (At k)) (stamped_of rs)) (row-number l r m.0)
 
 live-step : (s : Stamp) → is_later s Live ≡ false
 live-step (At k) = refl
@@ -226,7 +245,7 @@ pub live-later : (ss : List Stamped) → list_any (λ b. is_later b.stamp Live) 
 live-later [] = refl
 live-later (s ∷ ss) = rw (live-step s.stamp) (live-later ss)
 
-pub last-marks : (l f : ℕ) (rows : List Row) (d : Row) → 0 < length rows → ((get_or rows (length rows - 1) d).latest ≡ last_latest l rows)
+pub last-marks : (l : Option ℕ) (f : ℕ) (rows : List Row) (d : Row) → 0 < length rows → ((get_or rows (length rows - 1) d).latest ≡ last_latest l rows)
     × ((get_or rows (length rows - 1) d).forced ≡ last_forced f rows)
 last-marks l f [] d some = absurd (omega arith)
 last-marks l f (r ∷ []) d some = (refl, refl)
@@ -241,31 +260,31 @@ pub stamp-at : (rows : List Row) (k : ℕ) (r : Row) → slice_get rows k ≡ So
 stamp-at rows k r e = simp slice_get-map (rw e refl)
 
 -- what `may_follow` tests
-pub may-follow : (rows : List Row) (ss : List Stamped) (stamp : Stamp) (k x : ℕ) → AreMarked 0 0 0 rows → stamped_of rows ≡ ss → stamp ≡ At k
-    → x ≡ last_latest 0 rows → leb x k ≡ not (list_any (λ b. is_later b.stamp stamp) ss)
+pub may-follow : (rows : List Row) (ss : List Stamped) (stamp : Stamp) (k : ℕ) (x : Option ℕ) → AreMarked None 0 0 rows → stamped_of rows ≡ ss → stamp ≡ At k
+    → x ≡ last_latest None rows → leb (num x) k ≡ not (list_any (λ b. is_later b.stamp stamp) ss)
 may-follow rows ss stamp k x m v e g =
-    rw (g, e, ← v) (latest-later 0 0 0 k rows m ∙ (rw (le-leb 0 k (omega arith)) refl))
+    rw (g, e, ← v) (latest-later None 0 0 k rows m ∙ (rw (le-leb 0 k (omega arith)) refl))
 
 pub live-follows : (ss : List Stamped) (stamp : Stamp) → stamp ≡ Live → true ≡ not (list_any (λ b. is_later b.stamp stamp) ss)
 live-follows ss stamp e = rw (e, live-later ss) refl
 
 -- what a search for the ceiling finds
-pub seen-is : (rows : List Row) (i n : ℕ) → AreMarked 0 0 0 rows → i ≤ length rows → IsPartitionPoint (λ r. leb r.latest n ≡ true) (λ r. leb r.latest n ≡ false) rows i → i ≡ ceil (stamped_of rows) n
+pub seen-is : (rows : List Row) (i n : ℕ) → AreMarked None 0 0 rows → i ≤ length rows → IsPartitionPoint (λ r. leb (num r.latest) n ≡ true) (λ r. leb (num r.latest) n ≡ false) rows i → i ≡ ceil (stamped_of rows) n
 seen-is [] i n m le found = omega arith
 seen-is (r ∷ rs) i n m le found =
-    sym (prefix_len_is (λ r. leb r.latest n) (r ∷ rs) i r le (λ k lt. found.0 k r (omega arith) lt) (λ lt. found.1 i r (omega arith) lt))
-    ∙ ceil-seen 0 0 0 n (r ∷ rs) m (omega arith)
+    sym (prefix_len_is (λ r. leb (num r.latest) n) (r ∷ rs) i r le (λ k lt. found.0 k r (omega arith) lt) (λ lt. found.1 i r (omega arith) lt))
+    ∙ ceil-seen None 0 0 n (r ∷ rs) m (omega arith)
 
 -- a row that is added
 pub rows-more : (rows : List Row) (r : Row) (s : Stamped) → AreRows rows → length (stamped_of rows) < 4096
-    → list_any (λ b. is_later b.stamp s.stamp) (stamped_of rows) ≡ false → r.stamped ≡ s → r.latest ≡ latest_with (last_latest 0 rows) s.stamp
+    → list_any (λ b. is_later b.stamp s.stamp) (stamped_of rows) ≡ false → r.stamped ≡ s → r.latest ≡ latest_with (last_latest None rows) s.stamp
     → r.forced ≡ forced_with (last_forced 0 rows) (length rows) s.stamp → AreRows (rows ++ r ∷ [])
 rows-more rows r s old few later same e g =
     let place : length rows ≡ 0 + length rows = omega arith in
     let stamp = ap (λ (t : Stamped). t.stamp) (sym same) in
     record {
       few = omega (arith, length-append rows (r ∷ []), length-map rows (λ (q : Row). q.stamped));
-      marked = marked-more 0 0 0 rows r old.marked (e ∙ ap (latest_with (last_latest 0 rows)) stamp) (g
+      marked = marked-more None 0 0 rows r old.marked (e ∙ ap (latest_with (last_latest None rows)) stamp) (g
           ∙ ap (forced_with (last_forced 0 rows) (length rows)) stamp ∙ ap (λ k. forced_with (last_forced 0 rows) k r.stamped.stamp) place);
       ordered = rw map-append (in_order-more (stamped_of rows) r.stamped old.ordered (rw (← stamp) later));
     }

@@ -1,5 +1,5 @@
 -- What a script keeps beside each command.
-use Rattle.std.specs.Prelude.{◌≡◌, ℕ, ◌+◌, ◌≤◌, max, IsTrue, List, [], ◌∷◌, length, map, ⊤}
+use Rattle.std.specs.Prelude.{◌≡◌, ℕ, ◌+◌, ◌≤◌, max, IsTrue, Option, Some, None, List, [], ◌∷◌, length, map, ⊤}
 use Rattle.forest_versions.specs.declared.command.Stamp.{Stamp}
 use Rattle.forest_versions.specs.declared.command.Stamp.TheVariants.{At, Live}
 use Rattle.control_script.specs.declared.script.Row.{Row}
@@ -9,9 +9,10 @@ use Rattle.control_script.specs.Order.{are_in_order}
 abbrev pub stamped_of : List Row → List Stamped
 stamped_of rows = map (λ r. r.stamped) rows
 
--- the greatest number of an `at` so far, and one more than the place of the last
-abbrev pub latest_with : ℕ → Stamp → ℕ
-latest_with latest (At k) = max latest k
+-- the greatest number of an `at` so far, if there is one, and one more than the place of the last
+abbrev pub latest_with : Option ℕ → Stamp → Option ℕ
+latest_with None (At k) = Some k
+latest_with (Some l) (At k) = Some (max l k)
 latest_with latest Live = latest
 
 abbrev pub forced_with : ℕ → ℕ → Stamp → ℕ
@@ -19,18 +20,18 @@ forced_with forced place (At k) = place + 1
 forced_with forced place Live = forced
 
 -- each row has the two, from these and from this place on
-abbrev pub AreMarked : ℕ → ℕ → ℕ → List Row → Type 0
+abbrev pub AreMarked : Option ℕ → ℕ → ℕ → List Row → Type 0
 AreMarked latest forced place [] = ⊤
 AreMarked latest forced place (r ∷ rs) =
     (r.latest ≡ latest_with latest r.stamped.stamp) × ((r.forced ≡ forced_with forced place r.stamped.stamp) × AreMarked r.latest r.forced (place + 1) rs)
 
 pub record AreRows (rows : List Row) : Type 0 where
   pub few : length rows ≤ 4096
-  pub marked : AreMarked 0 0 0 rows
+  pub marked : AreMarked None 0 0 rows
   pub ordered : IsTrue (are_in_order (stamped_of rows))
 
 -- what the last row has
-abbrev pub last_latest : ℕ → List Row → ℕ
+abbrev pub last_latest : Option ℕ → List Row → Option ℕ
 last_latest latest [] = latest
 last_latest latest (r ∷ rs) = last_latest r.latest rs
 

@@ -1,6 +1,8 @@
 //! Scripts: commands with their stamps, in order.
 
-ghost use Rattle.std.specs.Prelude.{◌≡◌, ◌<◌, length};
+ghost use Rattle.std.specs.Prelude.{◌≡◌, ◌<◌, length, nat_le, Some, None};
+ghost use Rattle.std.specs.Option.{unwrap_or};
+ghost use Rattle.forest_versions.specs.declared.command.Stamp.{Stamp};
 ghost use Rattle.control_script.specs.Rows.{last_latest, last_forced, latest_with, forced_with};
 
 use crate::stamped::Stamped;
@@ -12,8 +14,8 @@ use std::marker::Model;
 #[derive(Drop)]
 struct Row {
     stamped: Stamped,
-    /// The greatest number of an `at` up to it, or 0.
-    latest: u64,
+    /// The greatest number of an `at` up to it, if there is one.
+    latest: Option<u64>,
     /// One more than the place of the last `at` up to it, or 0.
     forced: u32,
 }
@@ -117,7 +119,7 @@ impl Script {
         ensures within { result ≤ length self.now }
         ensures most { result ≤ 4096 }
     {
-        self.rows.partition_point(|row| row.latest <= n)
+        self.rows.partition_point(|row| lets_pass(row.latest, n))
     }
 
     /// Whether a command with this stamp may stand behind the others.
@@ -125,7 +127,7 @@ impl Script {
         ensures { result ≡ not (list_any (λ b. is_later b.stamp stamp) self.now) }
     {
         match stamp {
-            Stamp::At(k) => last(&self.rows).0 <= k,
+            Stamp::At(k) => lets_pass(last(&self.rows).0, k),
             Stamp::Live => true,
         }
     }
@@ -143,13 +145,33 @@ impl Script {
     }
 }
 
+// Whether the greatest number of an `at` is no greater than a packet's, or there is none.
+fn lets_pass(latest: Option<u64>, n: u64) -> bool
+    ensures { result ≡ nat_le (unwrap_or latest 0) n }
+{
+    match latest {
+        Some(k) => k <= n,
+        None => true,
+    }
+}
+
+// The greatest number of an `at` once there is one more.
+fn latest_at(latest: Option<u64>, k: u64) -> u64
+    ensures { Some result ≡ latest_with latest (Stamp.At k) }
+{
+    match latest {
+        Some(l) => l.max(k),
+        None => k,
+    }
+}
+
 // What the last row has.
-fn last(rows: &[Row]) -> (u64, u32)
-    ensures latest { result.0 ≡ last_latest 0 rows.now }
+fn last(rows: &[Row]) -> (Option<u64>, u32)
+    ensures latest { result.0 ≡ last_latest None rows.now }
     ensures forced { result.1 ≡ last_forced 0 rows.now }
 {
     if rows.is_empty() {
-        return (0, 0);
+        return (None, 0);
     }
     let row = &rows[rows.len() - 1];
     (row.latest, row.forced)
@@ -159,14 +181,14 @@ fn last(rows: &[Row]) -> (u64, u32)
 fn marked(rows: &[Row], stamped: Stamped) -> Row
     requires few { length rows.now < 4096 }
     ensures stamped { result.stamped ≡ stamped }
-    ensures latest { result.latest ≡ latest_with (last_latest 0 rows.now) stamped.stamp }
+    ensures latest { result.latest ≡ latest_with (last_latest None rows.now) stamped.stamp }
     ensures forced { result.forced ≡ forced_with (last_forced 0 rows.now) (length rows.now) stamped.stamp }
 {
     let (latest, forced) = last(rows);
     match stamped.stamp {
         Stamp::At(k) => Row {
             stamped,
-            latest: latest.max(k),
+            latest: Some(latest_at(latest, k)),
             forced: rows.len() as u32 + 1,
         },
         Stamp::Live => Row {

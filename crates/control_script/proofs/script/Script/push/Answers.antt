@@ -1,4 +1,4 @@
-use Rattle.std.proofs.Common.{◌∙◌, ap, List, length, subst, sym, false, ◌≡◌, ◌<◌}
+use Rattle.std.proofs.Common.{None, ◌∙◌, ap, List, length, subst, sym, false, ◌≡◌, ◌<◌}
 use Rattle.std.specs.List.{list_any}
 use Rattle.control_script.specs.declared.script.Row.{Row}
 use Rattle.control_script.specs.declared.stamped.Stamped.{Stamped}
@@ -17,5 +17,5 @@ invariant_of-self-2 c =
     (subst (λ (ss : List Stamped). length ss < 4096) (sym c.self.view_is) c.requires.few)
     (subst (λ (ss : List Stamped). list_any (λ b. is_later b.stamp s.stamp) ss ≡ false) (sym c.self.view_is) c.requires.order)
     mark.stamped
-    (mark.latest ∙ ap (λ (rs : List Row). latest_with (last_latest 0 rs) s.stamp) c.deref.ensures.value)
+    (mark.latest ∙ ap (λ (rs : List Row). latest_with (last_latest None rs) s.stamp) c.deref.ensures.value)
     (mark.forced ∙ ap (λ (rs : List Row). forced_with (last_forced 0 rs) (length rs) s.stamp) c.deref.ensures.value))
