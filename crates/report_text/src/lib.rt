@@ -7,6 +7,7 @@ pub mod laws;
 mod lines;
 mod read;
 pub mod record;
+mod short;
 pub mod tidy;
 mod words;
 pub mod write;
