@@ -14,3 +14,4 @@ pub mod ReadPut
 pub mod ReadFault
 pub mod ReadLaws
 pub mod ShortLines
+pub mod FirstPlace

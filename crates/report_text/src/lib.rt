@@ -5,6 +5,7 @@ mod by_line;
 pub mod kept;
 pub mod laws;
 mod lines;
+mod newline;
 mod read;
 pub mod record;
 mod short;
