@@ -13,3 +13,5 @@ pub mod ReadRun
 pub mod ReadPut
 pub mod ReadFault
 pub mod ReadLaws
+pub mod ShortLines
+pub mod FirstPlace

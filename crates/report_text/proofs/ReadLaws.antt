@@ -1,13 +1,13 @@
 -- Reading and writing are each other's inverse, and a text stops being a report at one place.
-use Rattle.std.proofs.Common.{◌≡◌, ℕ, zero, suc, ◌+◌, ◌-◌, ◌<◌, ◌≤◌, true, false, List, [], ◌∷◌, ◌++◌, length, take, drop, get_or, refl, ap, sym, ◌∙◌, arith, append_assoc, inl, inr, Ok, Err, Some, get_or-drop, take-append-drop}
+use Rattle.std.proofs.Common.{◌≡◌, ℕ, zero, suc, ◌+◌, ◌-◌, ◌<◌, ◌≤◌, true, false, List, [], ◌∷◌, ◌++◌, length, take, drop, get_or, refl, ap, sym, subst, ◌∙◌, arith, append_assoc, inl, inr, Ok, Err, Some, get_or-drop, take-append-drop}
 use Rattle.std.specs.Prelude.{◌==◌}
 use Rattle.std.specs.List.{position, position_or_len}
-use Rattle.std.proofs.lemmas.Bool.{cases_eq, cases_lt}
-use Rattle.std.proofs.lemmas.List.{take-take}
+use Rattle.std.proofs.lemmas.Bool.{cases_eq, cases_lt, false≢true}
+use Rattle.std.proofs.lemmas.List.{take-take, drop_at}
 use Rattle.report_text.specs.declared.read.ReadBack.TheVariants.{NoReport, NoMemory}
 use Rattle.report_text.specs.Report.{report_text}
 use Rattle.report_text.specs.Reports.{IsReport, BeginsReport, NoReportAt}
-use Rattle.report_text.specs.ReadLaws.{WrittenIsRead, ReadIsWritten, OneOffset}
+use Rattle.report_text.specs.ReadLaws.{ReadsBack, WrittenIsRead, GainedIsRead, ReadIsWritten, OneOffset}
 use Rattle.report_text.proofs.ReadCut.{is-newline, no-newline}
 use Rattle.report_text.proofs.ReadFits.{within}
 use Rattle.report_text.proofs.ReadFault.{one-report}
@@ -20,6 +20,12 @@ written-is-read rs t tidy_rs fits counts (Err (NoReport offset)) h =
     let written : IsReport (report_text rs t) rs t = record { tidy_records = tidy_rs; records_fit = fits; counts_fit = counts; is = refl } in
     absurd ((h.none offset refl).no_report rs t written)
 written-is-read rs t tidy_rs fits counts (Err NoMemory) h = (tt, refl)
+
+pub gained-is-read : GainedIsRead
+gained-is-read before after (Ok u) rs t tidy_rs fits counts added ok read h =
+    written-is-read rs t tidy_rs fits counts read
+    (subst (λ text. ReadsBack text read) (ap (drop (length before)) added ∙ drop_at before (report_text rs t) _ refl) h)
+gained-is-read before after (Err e) rs t tidy_rs fits counts added ok read h = absurd (false≢true ok)
 
 pub read-is-written : ReadIsWritten
 read-is-written text (Ok p) h = sym h.report.is

@@ -17,7 +17,8 @@ use Rattle.report_text.specs.declared.read.line.Line.TheVariants.{First, Callbac
 use Rattle.report_text.specs.declared.read.taker.Taker.{Taker}
 use Rattle.report_text.specs.Ranges.{entry_fits, drop_fits, field_fits, record_fits, totals_fit}
 use Rattle.report_text.specs.Tidy.{is_tidy_entry, may_have, is_tidy_record}
-use Rattle.report_text.specs.ReadLines.{bare, line_fits, least_name, least_from, is_conn, reopened, with_record, put, start}
+use Rattle.report_text.specs.Kept.{is_conn}
+use Rattle.report_text.specs.ReadLines.{bare, line_fits, least_name, least_from, reopened, with_record, put, start}
 use Rattle.report_text.proofs.ReadNumbers.{and_parts}
 use Rattle.report_text.proofs.ReadCut.{nil-of}
 use Rattle.report_text.proofs.ReadFits.{both}

@@ -19,7 +19,8 @@ use Rattle.report_text.specs.Lines.{first_line, callback_line, drop_line, field_
 use Rattle.report_text.specs.Ranges.{is_u32, is_u64, kind_fits, entry_fits, drop_fits, field_fits, record_fits, totals_fit}
 use Rattle.report_text.specs.Report.{rest_text, record_text, records_text, report_text}
 use Rattle.report_text.specs.Tidy.{is_tidy_entry, are_named, may_have, is_tidy_record, tidy}
-use Rattle.report_text.specs.ReadLines.{bare, line_text, is_tidy_line, line_fits, least_name, least_from, is_conn, with_entry, with_drop, with_field, reopened, with_record, put, start}
+use Rattle.report_text.specs.Kept.{is_conn}
+use Rattle.report_text.specs.ReadLines.{bare, line_text, is_tidy_line, line_fits, least_name, least_from, with_entry, with_drop, with_field, reopened, with_record, put, start}
 use Rattle.report_text.proofs.ReadNumbers.{and_parts}
 use Rattle.report_text.proofs.ReadFits.{both}
 

@@ -8,4 +8,6 @@ pub mod Reports
 pub mod ReadWords
 pub mod ReadLines
 pub mod ReadLaws
+pub mod ShortWords
+pub mod Short
 pub mod Written

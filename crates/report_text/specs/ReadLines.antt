@@ -11,6 +11,7 @@ use Rattle.report_text.specs.declared.record.Totals.{Totals}
 use Rattle.report_text.specs.declared.read.line.Line.{Line}
 use Rattle.report_text.specs.declared.read.line.Line.TheVariants.{First, Callback, Dropped, Field, Last}
 use Rattle.report_text.specs.declared.read.taker.Taker.{Taker}
+use Rattle.report_text.specs.Kept.{is_conn}
 use Rattle.report_text.specs.Lines.{first_line, callback_line, drop_line, field_line, totals_line}
 use Rattle.report_text.specs.Ranges.{is_u64, is_u32, kind_fits, entry_fits, drop_fits, field_fits, totals_fit}
 use Rattle.report_text.specs.Tidy.{is_tidy_entry}
@@ -99,10 +100,6 @@ with_entry e r = if length r.drops == 0 && length r.fields == 0 then Some (recor
 
 abbrev pub with_drop : ℕ × Reason → Record → Option Record
 with_drop d r = if nat_le (least_from 0 r.drops) d.0 && length r.fields == 0 then Some (record r { drops = r.drops ++ d ∷ [] }) else None
-
-abbrev pub is_conn : RecordKind → Bool
-is_conn (Conn client server) = true
-is_conn (Orphan class) = false
 
 abbrev pub with_field : List ℕ × ℕ → Record → Option Record
 with_field f r = if is_conn r.kind then Some (record r { fields = r.fields ++ f ∷ [] }) else None

@@ -4,7 +4,7 @@ ghost use Rattle.std.specs.Prelude.{◌≡◌, ◌<◌, ◌≤◌, length, IfSom
 ghost use Rattle.mos_bytes.specs.Causes.{HasCause};
 ghost use Rattle.report_text.specs.Written.{Adds};
 
-use memchr::memchr;
+use crate::newline::newline_in;
 use mos_bytes::{Failed, Sink};
 
 // How long the first line of a text is with its end, if one ends.
@@ -12,7 +12,7 @@ fn first_line_of(text: &[u8]) -> Option<usize>
     ensures some { IfSome result (λ len. 0 < len) }
     ensures within { IfSome result (λ len. len ≤ length text.now) }
 {
-    match memchr(b'\n', text) {
+    match newline_in(text) {
         Some(end) => Some(end + 1),
         None => None,
     }

@@ -9,6 +9,7 @@ ghost use Rattle.report_text.specs.Written.{Adds};
 
 use crate::lines::push_named;
 use crate::record::RecordKind;
+use crate::short::ShortLine;
 use crate::write::{TextError, write_callback, write_drops, write_head};
 use app_api::{App, DropList, Tally};
 use callback_log::CallbackLog;
@@ -42,9 +43,10 @@ fn write_callbacks<O: Sink>(
     ensures cause { HasCauseOf (O.faults out.old) (O.faults out.new) (IsErrOf result TextError.WriteFault) }
     ensures lasts { O.lasting out.new ≡ O.lasting out.old }
 {
+    let mut short = ShortLine::new();
     let mut walk = log.callbacks();
     while let Some(callback) = walk.next() {
-        write_callback(alloc, out, line, &callback)?;
+        write_callback(alloc, out, line, &mut short, &callback)?;
     }
     Ok(())
 }

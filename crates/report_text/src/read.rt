@@ -1,7 +1,6 @@
 //! Reads a report back: exactly the texts that are written of tidy records and totals.
 
-ghost use Rattle.std.specs.Prelude.{◌≡◌, ℕ, ◌==◌, List, IfOk, IfErr};
-ghost use Rattle.std.specs.List.{position};
+ghost use Rattle.std.specs.Prelude.{◌≡◌, ℕ, List, IfOk, IfErr};
 ghost use Rattle.report_text.specs.declared.record.Record.{Record};
 ghost use Rattle.report_text.specs.declared.record.Totals.{Totals};
 ghost use Rattle.report_text.specs.Reports.{IsReport, NoReportAt};
@@ -12,6 +11,7 @@ mod parts;
 mod taker;
 mod words;
 
+use crate::newline::newline_in;
 use crate::record::{RecordList, Totals};
 use line::{is_tidy_line, push_line, read_line};
 use std::alloc::{AllocError, Global};
@@ -38,13 +38,6 @@ impl From<AllocError> for ReadBack {
     fn from(_: AllocError) -> Self {
         ReadBack::NoMemory
     }
-}
-
-// The place of the first newline.
-fn newline_in(text: &[u8]) -> Option<usize>
-    ensures { result ≡ position (λ b. b == 10) text.now }
-{
-    text.iter().position(|byte| *byte == b'\n')
 }
 
 // One more line, where it may stand: what is read is written again and compared. `room` is used again.

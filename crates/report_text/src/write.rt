@@ -12,6 +12,7 @@ ghost use Rattle.app_api.specs.App.{is_field_name};
 
 use crate::lines::{push_callback, push_drop, push_field, push_head, push_totals};
 use crate::record::{Record, RecordKind, Totals};
+use crate::short::ShortLine;
 use app_api::{Bytes, Entry, Reason};
 use callback_log::Callback;
 use mos_bytes::{Failed, Sink};
@@ -49,8 +50,8 @@ impl From<AllocError> for TextError {
     }
 }
 
-// Writes one callback's line. `line` is room that is used again.
-pub(crate) fn write_callback<O: Sink>(
+// Writes one callback's line, of any form.
+fn write_long<O: Sink>(
     alloc: Global,
     out: &mut O,
     line: &mut String,
@@ -66,17 +67,37 @@ pub(crate) fn write_callback<O: Sink>(
     Ok(())
 }
 
+// Writes one callback's line. `line` and `short` are room that is used again: most lines are short, and take no memory.
+pub(crate) fn write_callback<O: Sink>(
+    alloc: Global,
+    out: &mut O,
+    line: &mut String,
+    short: &mut ShortLine,
+    callback: &Callback<'_>,
+) -> Result<(), TextError>
+    ensures text { Adds O.Sink out.old out.new result (callback_line (entry_lent callback.now)) }
+    ensures cause { HasCauseOf (O.faults out.old) (O.faults out.new) (IsErrOf result TextError.WriteFault) }
+    ensures lasts { O.lasting out.new ≡ O.lasting out.old }
+{
+    if !short.put_callback(callback) {
+        return write_long(alloc, out, line, callback);
+    }
+    out.write_all(short.text())?;
+    Ok(())
+}
+
 fn write_entry<O: Sink>(
     alloc: Global,
     out: &mut O,
     line: &mut String,
+    short: &mut ShortLine,
     entry: &Entry,
 ) -> Result<(), TextError>
     ensures text { Adds O.Sink out.old out.new result (callback_line entry.now) }
     ensures cause { HasCauseOf (O.faults out.old) (O.faults out.new) (IsErrOf result TextError.WriteFault) }
     ensures lasts { O.lasting out.new ≡ O.lasting out.old }
 {
-    write_callback(alloc, out, line, &Callback::of(entry))
+    write_callback(alloc, out, line, short, &Callback::of(entry))
 }
 
 // The first line of a record of this name, kind and version.
@@ -140,8 +161,9 @@ fn write_entries<O: Sink>(
     ensures cause { HasCauseOf (O.faults out.old) (O.faults out.new) (IsErrOf result TextError.WriteFault) }
     ensures lasts { O.lasting out.new ≡ O.lasting out.old }
 {
+    let mut short = ShortLine::new();
     for entry in entries {
-        write_entry(alloc, out, line, entry)?;
+        write_entry(alloc, out, line, &mut short, entry)?;
     }
     Ok(())
 }

@@ -3,7 +3,8 @@
 ghost use Rattle.std.specs.Prelude.{◌≡◌, ◌++◌, IfOk, nat_le};
 ghost use Rattle.std.specs.Option.{option_to_list};
 ghost use Rattle.report_text.specs.Tidy.{least_after};
-ghost use Rattle.report_text.specs.ReadLines.{least_name, least_from, with_entry, with_drop, is_conn, with_field, reopened, go_on, start, put, finished};
+ghost use Rattle.report_text.specs.Kept.{is_conn};
+ghost use Rattle.report_text.specs.ReadLines.{least_name, least_from, with_entry, with_drop, with_field, reopened, go_on, start, put, finished};
 
 use super::line::{Line, bare};
 use crate::record::{Record, RecordKind, RecordList, Totals};

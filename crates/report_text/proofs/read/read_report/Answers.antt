@@ -37,7 +37,7 @@ pub returns-then-at-text-clause-none : goal.returns-then-at-text-clause-none
 returns-then-at-text-clause-none c offset same =
     let text = c.args.text.now in
     let at = c.loop-end.at in
-    let none = sym (ap (position (λ b. b == 10)) (rest-all text at)) ∙ sym c.newline_in.ensures ∙ c.in_default.is in
+    let none = sym (ap (position (λ b. b == 10)) (rest-all text at)) ∙ sym c.newline_in.ensures.place ∙ c.in_default.is in
     let there : at ≡ offset = cc in
     subst (NoReportAt text) there (exit-part text at c.loop-end.taker c.loop-end.invariant.reached none c.if-at-text.true)
 
@@ -56,7 +56,7 @@ pub returns-clause-none : goal.returns-clause-none
 returns-clause-none c offset same =
     let text = c.args.text.now in
     let at = c.loop-end.at in
-    let none = sym (ap (position (λ b. b == 10)) (rest-all text at)) ∙ sym c.newline_in.ensures ∙ c.in_default.is in
+    let none = sym (ap (position (λ b. b == 10)) (rest-all text at)) ∙ sym c.newline_in.ensures.place ∙ c.in_default.is in
     let open_end = sym c.in_ok-whole.ensures ∙ c.in-None-2.is in
     let there : at ≡ offset = cc in
     subst (NoReportAt text) there (exit-end text at c.loop-end.taker c.loop-end.invariant.reached none open_end)
