@@ -22,7 +22,7 @@ pub use events::{
     END, ERROR, FIRST_EVENT, LAST_EVENT, NEW_DATA, ORPHAN, PKT_IN, REXMIT, START, STATE, TIMER,
     allows_hook,
 };
-pub use lists::{ActiveList, Bytes, DropList, EntryList, FieldList, PieceList, RegList};
+pub use lists::{ActiveList, Bytes, DropList, EntryList, FieldList, PieceList};
 pub use log::LogApp;
 pub use names::{event_name, event_named};
 pub use reaction::{Reaction, Reason, Verdict};

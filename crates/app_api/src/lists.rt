@@ -5,7 +5,6 @@ ghost use Rattle.std.specs.Prelude.{◌≡◌};
 use crate::entry::Entry;
 use crate::reaction::Reason;
 use crate::registration::Reg;
-use native_filters::Hook;
 use std::marker::Model;
 
 /// Bytes of a stream or a text.
@@ -149,31 +148,6 @@ impl Model for ActiveList {
 impl ActiveList {
     /// The items in order.
     pub fn as_slice(&self) -> &[Reg]
-        ensures { result.now ≡ self.now }
-    {
-        self.items.as_slice()
-    }
-}
-
-/// Numbers of registrations, each with its side.
-#[derive(Debug, Drop)]
-pub struct RegList {
-    /// The items in order.
-    pub items: Vec<(u8, Hook)>,
-}
-
-impl Model for RegList {
-    ghost use Rattle.std.specs.Prelude.{List, ℕ};
-    ghost use Rattle.native_filters.specs.declared.facts.Hook.{Hook};
-
-    ghost Value = { List (ℕ × Hook) };
-
-    ghost view = { λ l. l.items.items };
-}
-
-impl RegList {
-    /// The items in order.
-    pub fn as_slice(&self) -> &[(u8, Hook)]
         ensures { result.now ≡ self.now }
     {
         self.items.as_slice()

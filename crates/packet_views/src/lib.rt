@@ -4,11 +4,11 @@
 
 mod classify;
 mod fields;
-pub mod layout;
+mod layout;
 mod link;
 mod options;
-pub mod packet;
-pub mod view;
+mod packet;
+mod view;
 
 pub use classify::{PROTOCOL_TCP, view_of};
 pub use fields::{u16_at, u32_at};
