@@ -38,7 +38,7 @@ module _ (app : Meaning) (keep : Bool) (m : Versions) (content content' : Shared
   abbrev packet : VersionedPacket
   packet = arrived version number moment (Tcp segment)
 
-  altered_since : (control_at : ℕ → ControlState) (pasts : List RecordSoFar) (i j : Option ℕ)
+  pub altered_since : (control_at : ℕ → ControlState) (pasts : List RecordSoFar) (i j : Option ℕ)
       → InternsWithin i j (alterations (map (ended_before app control_at packet) pasts)) (alterations (added app control_at packet pasts))
       → InternsWithin i j (alterations pasts) (alterations (added app control_at packet pasts))
   altered_since control_at pasts i j within =

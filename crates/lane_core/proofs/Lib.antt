@@ -26,3 +26,6 @@ pub mod Standing
 pub mod Ending
 pub mod EndOfRun
 pub mod Reporting
+pub mod Following
+pub mod Live
+pub mod Joined

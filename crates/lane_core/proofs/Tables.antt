@@ -35,7 +35,7 @@ pub same_flows : (old new : Flows Connection) (key : EndpointPair) (conn : Conne
 same_flows old new key conn left was =
     same_map keys_total exact_keys new old (λ q. left q ∙ as_before (same_key key q) old key q conn refl was)
 
-there_before : (b : Bool) (o : Option Connection) (x : Connection) → (if b then None else o) ≡ Some x → o ≡ Some x
+pub there_before : (b : Bool) (o : Option Connection) (x : Connection) → (if b then None else o) ≡ Some x → o ≡ Some x
 there_before true o x is = absurd (cc)
 there_before false o x is = is
 

@@ -15,3 +15,5 @@ pub mod Closing
 pub mod Lane
 pub mod KeptEnd
 pub mod Report
+pub mod Followed
+pub mod Live

@@ -1,6 +1,7 @@
 //! The table of open connections: which one takes a segment, and what becomes of it.
 
 ghost use Rattle.std.specs.Prelude.{◌≡◌, ◌+◌, ◌<◌, ◌≤◌, ◌^◌, ℕ, OnOk, OnErr, IfOk, IfSome, vec_len, Some, None, Ok, not};
+ghost use Rattle.std.specs.FinMap as map;
 ghost use Rattle.flow_table.specs.Table.{found};
 ghost use Rattle.shared_forest.specs.Store.{Keeps};
 ghost use Rattle.connection_core.specs.Standing.{RiseBy};
@@ -141,6 +142,7 @@ pub(crate) fn keep(
     requires absent { found flows.old key ≡ None }
     ensures left { OnOk result (IsPutWhere (not over) flows.old flows.new key (Some conn)) }
     ensures err { OnErr result (flows.new ≡ flows.old) }
+    ensures more { map.len flows.new ≤ map.len flows.old + 1 }
 {
     if over {
         return Ok(());

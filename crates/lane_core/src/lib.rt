@@ -13,10 +13,12 @@ pub mod laws;
 pub mod limits;
 mod packet;
 pub mod recorder;
+mod records;
 pub mod report;
 mod settings;
 mod sides;
 mod silent;
+mod terms;
 mod under_way;
 
 pub use end::{KeptEnd, KeptRecords, LaneEnd, VersionOfList, records_of};

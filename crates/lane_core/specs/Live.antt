@@ -1,0 +1,33 @@
+-- Only for proofs: what holds of the records of a lane between its calls.
+use Rattle.std.specs.Prelude.{ℕ, ◌+◌, ◌<◌, ◌≤◌, ◌*◌}
+use Rattle.shared_forest.specs.declared.store.Shared.{Shared}
+use Rattle.shared_forest.specs.Lists.{TreeLists}
+use Rattle.shared_forest.specs.Listing.{listing}
+use Rattle.event_trees.specs.Edit.{IsForestOf}
+use Rattle.forest_versions.specs.Master.{Versions}
+use Rattle.forest_versions.specs.State.{active}
+use Rattle.connection_core.specs.declared.ledger.Counts.{Counts}
+use Rattle.lane_core.specs.declared.connection.Connection.{Connection}
+use Rattle.lane_core.specs.Trees.{IsTree}
+
+-- of an open connection: its record is one of so many, its tree calls the registrations of its version, and it had no more packets
+-- than came
+pub record IsLive (known : Shared → Type 0) (content : Shared → TreeLists) (m : Versions) (places packets : ℕ) (conn : Connection) : Type 0 where
+  pub placed : conn.place < places
+  pub answered : known conn.flow.forest
+  pub tree : IsTree m conn.version (content conn.flow.forest)
+  pub since : conn.version ≤ m.version
+  pub short : conn.flow.count ≤ packets
+
+-- each packet made at most 12 raises of 255 callbacks, one record, and one drop; each open connection may still make one raise, at its end
+pub record AreCounted (counts : Counts) (places opened dropped packets : ℕ) : Type 0 where
+  pub callbacks : counts.callbacks + 255 * opened ≤ 3315 * packets
+  pub weight : counts.weight + 73440 * opened ≤ 954720 * packets
+  pub few : places ≤ packets
+  pub few_dropped : dropped ≤ packets
+  pub numbered : packets ≤ 1048576
+
+-- by the tree that the master holds, the registrations are called that are on now
+pub record HasFirst (known : Shared → Type 0) (content : Shared → TreeLists) (m : Versions) : Type 0 where
+  pub answered : known m.forest
+  pub tree : IsForestOf m.now.defs (active m.now) (listing (content m.forest))
