@@ -1,49 +1,40 @@
 -- A segment that the open connection of its key takes is added to the records; one at which it failed cost what adding it costs.
-use Rattle.std.proofs.Common.{refl}
+use Rattle.std.proofs.Common.{◌≡◌, ℕ, List, refl, sym, subst, map}
 use Rattle.shared_forest.specs.declared.store.ForestView.{Ghosts}
+use Rattle.forest_versions.specs.State.{ControlState}
+use Rattle.forest_versions.specs.Master.{Tells}
 use Rattle.connection_core.specs.declared.flow.Step.{Step}
-use Rattle.lane_core.specs.declared.kept.Kept.{Kept}
+use Rattle.connection_core.specs.Trees.{InternsWithin}
 use Rattle.lane_core.specs.declared.records.Records.{Records}
 use Rattle.lane_core.specs.Sight.{Segment, Tcp, key_of_segment}
-use Rattle.lane_core.specs.Followed.{Taking, Follows, Costs, Adds, CostsToAdd}
-use Rattle.lane_core.proofs.Tables.{contents_kept}
-use Rattle.lane_core.proofs.Joining.{followed_adds, failed_costs}
+use Rattle.lane_core.specs.Records.{RecordSoFar, started_by, ended_before, placed, verdict_among}
+use Rattle.lane_core.specs.Shown.{alterations}
+use Rattle.lane_core.specs.Idle.{IsHeard}
+use Rattle.lane_core.specs.Steps.{Taking}
+use Rattle.lane_core.specs.Packets.{KeepsSoFar, Takes, Follows, Costs, Makes, Adds, CostsToAdd, packet_of}
+use Rattle.lane_core.proofs.Continued.{continued, continued_costs}
+use Rattle.lane_core.proofs.Idleness.{heard_before_is}
 
 module _ {F : Type 0} {store : Ghosts F} (t : Taking) (old new : Records F store) (segment : Segment) where
-  abbrev kept_of : Records F store → Kept
-  kept_of r = record { flows = r.connections; slots = r.list; ledger = r.ledger; dropped = r.dropped }
+  -- no record ends before it
+  none_ends : (control_at : ℕ → ControlState) (pasts : List RecordSoFar) → ((v : ℕ) → Tells old.master v (control_at v)) → KeepsSoFar t.keep old pasts
+      → Takes t old segment → map (ended_before t.app control_at (packet_of t old (Tcp segment))) pasts ≡ pasts
+  none_ends control_at pasts tells stands by =
+      heard_before_is t control_at old tells pasts stands (key_of_segment segment) segment refl
+      (subst (λ o. IsHeard old.master t.moment o) (sym by.was) by.heard) (started_by t.app control_at (packet_of t old (Tcp segment)))
 
   pub follows_adds : (step : Step) → Follows t old new segment step → Adds t old new (Tcp segment) step.verdict
   follows_adds step f = record {
     made = λ control_at pasts tells now stands.
-        let m = followed_adds t.app t.keep old.master (store.content old.forests) (store.content new.forests) (store.interns old.forests) (store.interns new.forests)
-        (kept_of old) (key_of_segment segment) old.master.version t.number t.moment segment refl (kept_of new) step
-        (contents_kept store.answered store.content old.forests new.forests old.connections f.stored (λ key x is. (old.live key x is).answered))
-        (record {
-          conn = f.by.conn;
-          conn_after = f.conn;
-          slot = f.by.slot;
-          slot_after = f.slot;
-          was = f.by.was;
-          heard = f.by.heard;
-          slot_is = f.by.slot_is;
-          step_is = f.step_is;
-          left = f.left;
-          noted = f.noted;
-        }) control_at pasts tells now stands in
-        record {
-          stands = rw f.taken.master m.stands;
-          interned = m.interned;
-          verdict_is = m.verdict_is;
-          dropped = m.dropped;
-        };
+        subst (λ l. Makes t old new step.verdict (verdict_among t.app control_at (packet_of t old (Tcp segment)) l) pasts (placed t.app control_at (packet_of t old (Tcp segment)) l))
+        (sym (none_ends control_at pasts tells stands f.by)) (continued t control_at old new segment step pasts tells stands f);
     taken = f.taken;
   }
 
   pub costs_to_add : Costs t old new segment → CostsToAdd t old new (Tcp segment)
   costs_to_add f = record {
-    interned = failed_costs t.app t.keep old.master (store.content old.forests) (store.content new.forests) (store.interns old.forests) (store.interns new.forests)
-        (kept_of old) (key_of_segment segment) old.master.version t.number t.moment segment refl
-        (record { conn = f.by.conn; slot = f.by.slot; was = f.by.was; heard = f.by.heard; slot_is = f.by.slot_is; costs = f.costs });
+    interned = λ control_at pasts tells now stands.
+        subst (λ l. InternsWithin (store.interns old.forests) (store.interns new.forests) (alterations pasts) (alterations (placed t.app control_at (packet_of t old (Tcp segment)) l)))
+        (sym (none_ends control_at pasts tells stands f.by)) (continued_costs t control_at old new segment pasts tells stands f);
     taken = f.taken;
   }

@@ -1,9 +1,10 @@
--- A connection that was silent for too long ends, and then the packet is placed: so the packet is added.
-use Rattle.std.proofs.Common.{◌≡◌, ℕ, ◌+◌, true, false, Option, Some, None, List, length, refl, sym, ap, subst, ◌∙◌, map}
+-- A connection that was idle for too long ends, and then the packet is placed: so the packet is added.
+use Rattle.std.proofs.Common.{◌≡◌, ℕ, ◌+◌, Option, Some, None, List, [], ◌∷◌, length, refl, sym, ap, subst, ◌∙◌, map}
 use Rattle.packet_views.specs.declared.packet.Class.{Class as ClassOf}
 use Rattle.packet_views.specs.declared.packet.Class.TheVariants as Class
 use Rattle.flow_table.specs.Key.{EndpointPair}
 use Rattle.flow_table.specs.Table.{found}
+use Rattle.app_api.specs.App.{Meaning}
 use Rattle.app_api.specs.declared.reaction.Verdict.{Verdict}
 use Rattle.report_text.specs.declared.record.RecordKind.TheVariants.{Orphan}
 use Rattle.shared_forest.specs.declared.store.ForestView.{Ghosts}
@@ -12,43 +13,28 @@ use Rattle.forest_versions.specs.Master.{Versions, Tells}
 use Rattle.connection_core.specs.History.{drops_of}
 use Rattle.connection_core.specs.InForce.{registered_at}
 use Rattle.connection_core.specs.Trees.{InternsWithin}
-use Rattle.lane_core.specs.declared.connection.Connection.{Connection}
 use Rattle.lane_core.specs.declared.records.Records.{Records}
-use Rattle.lane_core.specs.Sight.{Segment, Tcp, Other, key_of_segment}
+use Rattle.lane_core.specs.Sight.{Segment, Moment, Tcp, Other, key_of_segment}
 use Rattle.lane_core.specs.Records.{RecordSoFar, opens, belongs_to, started_by, ended_before, placed, verdict_among, added}
 use Rattle.lane_core.specs.Shown.{kind_of, alterations}
-use Rattle.lane_core.specs.Silences.{IsSilent, Silences, Goes}
 use Rattle.lane_core.specs.Places.{place_of}
+use Rattle.lane_core.specs.Idle.{IsGone}
+use Rattle.lane_core.specs.Steps.{Taking}
 use Rattle.lane_core.specs.Kept.{AreKept, IsOpenAt, arrived}
-use Rattle.lane_core.specs.Followed.{Taking, Adds, CostsToAdd, Leaves, Ends, CostsNone, Places, CostsToPlace, PlacesOrphan, IsTaken, Makes, packet_of}
+use Rattle.lane_core.specs.Packets.{KeepsSoFar, Adds, CostsToAdd, Leaves, Ends, Places, CostsToPlace, PlacesOrphan, IsTaken, Makes, packet_of}
 use Rattle.lane_core.proofs.Ended.{ends_before, drops-kept, alterations-kept}
 use Rattle.lane_core.proofs.Started.{orphan_costs}
 use Rattle.lane_core.proofs.Places.{place_by-never}
-use Rattle.lane_core.proofs.Joining.{others_stay}
-use Rattle.lane_core.proofs.Silencing.{before_kept, none_after}
+use Rattle.lane_core.proofs.Idleness.{gone_kept, none_after}
 
-module _ {F : Type 0} {store : Ghosts F} (t : Taking) (old new : Records F store) (key : EndpointPair) where
-  -- one ended
-  pub ends_one : new.master ≡ old.master → new.forests ≡ old.forests
-      → Silences t.app t.keep old.master (store.content old.forests) old.connections new.connections old.list.items new.list.items old.ledger.counts new.ledger.counts key t.moment
-      → Ends t old new key
-  ends_one master forests s = record {
-    stands = λ segment key_is control_at pasts tells now stands. rw (master, forests)
-        (before_kept t.app control_at t.keep old.master tells t.moment (store.content old.forests) old.connections old.list.items old.ledger.counts key pasts stands
-        new.connections new.list.items new.ledger.counts true (λ _. s) (λ e. absurd (cc)) old.master.version t.number segment key_is);
-  }
+-- a packet without a key ends nothing
+others_stay : (app : Meaning) (control_at : ℕ → ControlState) (version number : ℕ) (moment : Moment) (class : ClassOf) (pasts : List RecordSoFar)
+    → map (ended_before app control_at (arrived version number moment (Other class))) pasts ≡ pasts
+others_stay app control_at version number moment class [] = refl
+others_stay app control_at version number moment class (past ∷ pasts) = ap (λ l. past ∷ l) (others_stay app control_at version number moment class pasts)
 
-  -- none did
-  pub ends_none : new.master ≡ old.master → new.forests ≡ old.forests
-      → Goes old.master old.connections new.connections old.list.items new.list.items old.ledger.counts new.ledger.counts key t.moment
-      → Ends t old new key
-  ends_none master forests s = record {
-    stands = λ segment key_is control_at pasts tells now stands. rw (master, forests)
-        (before_kept t.app control_at t.keep old.master tells t.moment (store.content old.forests) old.connections old.list.items old.ledger.counts key pasts stands
-        new.connections new.list.items new.ledger.counts false (λ e. absurd (cc)) (λ _. s) old.master.version t.number segment key_is);
-  }
-
-module _ {F : Type 0} {store : Ghosts F} (t : Taking) (old new : Records F store) (key : EndpointPair) (segment : Segment) where
+module _ {F : Type 0} {store : Ghosts F} (t : Taking) (old mid new : Records F store) (key : EndpointPair) (segment : Segment) (key_is : key ≡ key_of_segment segment)
+    (gone : IsGone old.master t.moment (found old.connections key)) (left : Leaves old mid) where
   abbrev before : (ℕ → ControlState) → List RecordSoFar → List RecordSoFar
   before control_at pasts = map (ended_before t.app control_at (packet_of t old (Tcp segment))) pasts
 
@@ -59,22 +45,28 @@ module _ {F : Type 0} {store : Ghosts F} (t : Taking) (old new : Records F store
       subst (λ n. InternsWithin i j n (alterations (added t.app control_at (packet_of t old (Tcp segment)) pasts)))
       (alterations-kept t.app control_at (ended_before t.app control_at (packet_of t old (Tcp segment))) (ends_before t.app control_at (packet_of t old (Tcp segment))) pasts) within
 
-  pub none_costs : key ≡ key_of_segment segment → new.forests ≡ old.forests → IsTaken t.number old new → CostsNone t old key → CostsToAdd t old new (Tcp segment)
-  none_costs key_is forests taken none = record {
-    interned = λ control_at pasts tells now stands. rw forests (none.interned segment key_is (store.interns old.forests) control_at pasts tells now stands);
-    taken = taken;
+  taken_since : IsTaken t.number mid new → IsTaken t.number old new
+  taken_since taken = record { master = taken.master ∙ left.master; dropped = taken.dropped ∙ left.dropped; next = taken.next }
+
+  -- memory was refused for its end
+  pub end_costs : mid.next ≡ t.number + 1 → CostsToAdd t old mid (Tcp segment)
+  end_costs next = record {
+    interned = λ control_at pasts tells now stands.
+        let i = store.interns old.forests in
+        rw left.forests (altered_since control_at pasts i i
+        (orphan_costs t.app control_at t.keep old.master i (packet_of t old (Tcp segment)) (before control_at pasts)
+        (subst (λ k. place_of k (before control_at pasts) ≡ None) key_is
+        (none_after t control_at old tells pasts stands key segment key_is (started_by t.app control_at (packet_of t old (Tcp segment))) gone))));
+    taken = record { master = left.master; dropped = left.dropped; next = next };
   }
 
-  module _ (mid : Records F store) (key_is : key ≡ key_of_segment segment) (e : Ends t old mid key) (l : Leaves old mid) where
+  module _ (e : Ends t old mid key) where
     kept_so_far : (control_at : ℕ → ControlState) (pasts : List RecordSoFar) → ((v : ℕ) → Tells old.master v (control_at v)) → control_at old.master.version ≡ old.master.now
-        → AreKept t.keep (registered_at old.master) (store.content old.forests) old.connections old.list.items old.ledger.counts pasts
+        → KeepsSoFar t.keep old pasts
         → AreKept t.keep (registered_at old.master) (store.content mid.forests) mid.connections mid.list.items mid.ledger.counts (before control_at pasts)
     kept_so_far control_at pasts tells now stands =
-        subst (λ (m : Versions). AreKept t.keep (registered_at m) (store.content mid.forests) mid.connections mid.list.items mid.ledger.counts (before control_at pasts)) l.master
-        (e.stands segment key_is control_at pasts tells now stands)
-
-    taken_since : IsTaken t.number mid new → IsTaken t.number old new
-    taken_since taken = record { master = taken.master ∙ l.master; dropped = taken.dropped ∙ l.dropped; next = taken.next }
+        subst (λ (m : Versions). AreKept t.keep (registered_at m) (store.content mid.forests) mid.connections mid.list.items mid.ledger.counts (before control_at pasts)) left.master
+        (gone_kept t control_at old tells pasts stands key segment key_is (started_by t.app control_at (packet_of t old (Tcp segment))) mid gone now e)
 
     pub ended_then_placed : (verdict : Verdict) → Places t mid new (Tcp segment) verdict → Adds t old new (Tcp segment) verdict
     ended_then_placed verdict p = record {
@@ -82,13 +74,13 @@ module _ {F : Type 0} {store : Ghosts F} (t : Taking) (old new : Records F store
           let made = subst (λ (m : Versions). (control_at : ℕ → ControlState) (so_far : List RecordSoFar) → ((v : ℕ) → Tells m v (control_at v)) → control_at m.version ≡ m.now
           → AreKept t.keep (registered_at m) (store.content mid.forests) mid.connections mid.list.items mid.ledger.counts so_far
           → Makes t mid new verdict (verdict_among t.app control_at (arrived m.version t.number t.moment (Tcp segment)) so_far) so_far
-          (placed t.app control_at (arrived m.version t.number t.moment (Tcp segment)) so_far)) l.master p.made
+          (placed t.app control_at (arrived m.version t.number t.moment (Tcp segment)) so_far)) left.master p.made
           control_at (before control_at pasts) tells now (kept_so_far control_at pasts tells now stands) in
           record {
             stands = made.stands;
             interned = altered_since control_at pasts (store.interns old.forests) (store.interns new.forests)
                 (subst (λ f. InternsWithin (store.interns f) (store.interns new.forests) (alterations (before control_at pasts)) (alterations (added t.app control_at (packet_of t old (Tcp segment)) pasts)))
-                l.forests made.interned);
+                left.forests made.interned);
             verdict_is = made.verdict_is;
             dropped = made.dropped
                 ∙ ap (λ n. n + length (drops_of verdict t.number))
@@ -102,26 +94,14 @@ module _ {F : Type 0} {store : Ghosts F} (t : Taking) (old new : Records F store
       interned = λ control_at pasts tells now stands.
           altered_since control_at pasts (store.interns old.forests) (store.interns new.forests)
           (subst (λ f. InternsWithin (store.interns f) (store.interns new.forests) (alterations (before control_at pasts)) (alterations (added t.app control_at (packet_of t old (Tcp segment)) pasts)))
-          l.forests
+          left.forests
           (subst (λ (m : Versions). (control_at : ℕ → ControlState) (so_far : List RecordSoFar) → ((v : ℕ) → Tells m v (control_at v)) → control_at m.version ≡ m.now
           → AreKept t.keep (registered_at m) (store.content mid.forests) mid.connections mid.list.items mid.ledger.counts so_far
           → InternsWithin (store.interns mid.forests) (store.interns new.forests) (alterations so_far)
-          (alterations (placed t.app control_at (arrived m.version t.number t.moment (Tcp segment)) so_far))) l.master p.interned
+          (alterations (placed t.app control_at (arrived m.version t.number t.moment (Tcp segment)) so_far))) left.master p.interned
           control_at (before control_at pasts) tells now (kept_so_far control_at pasts tells now stands)));
       taken = taken_since p.taken;
     }
-
--- memory was refused for the end of one
-pub costs_none : {F : Type 0} {store : Ghosts F} (t : Taking) (old : Records F store) (key : EndpointPair) (conn : Connection)
-    → found old.connections key ≡ Some conn → IsSilent old.master conn t.moment true → CostsNone t old key
-costs_none {F} {store} t old key conn was silent = record {
-  interned = λ segment key_is interns control_at pasts tells now stands.
-      altered_since t old old key segment control_at pasts interns interns
-      (orphan_costs t.app control_at t.keep old.master interns (packet_of t old (Tcp segment)) (before t old old key segment control_at pasts)
-      (subst (λ q. place_of q (before t old old key segment control_at pasts) ≡ None) key_is
-      (none_after t.app control_at t.keep old.master tells t.moment (store.content old.forests) old.connections old.list.items old.ledger.counts key pasts stands
-      old.master.version t.number segment key_is conn (started_by t.app control_at (packet_of t old (Tcp segment))) was silent)));
-}
 
 -- a segment that opens none, of whose key none is open
 module _ {F : Type 0} {store : Ghosts F} (t : Taking) (old new : Records F store) (segment : Segment) (shut : opens (Tcp segment) ≡ false)

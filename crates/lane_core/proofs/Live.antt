@@ -1,5 +1,5 @@
 -- What holds of the records of a lane, as one open connection makes a step.
-use Rattle.std.proofs.Common.{◌≡◌, ℕ, ◌+◌, ◌≤◌, ◌<◌, Some, sym, ap, subst, ◌∙◌, arith}
+use Rattle.std.proofs.Common.{◌≡◌, ℕ, ◌+◌, ◌*◌, ◌≤◌, ◌<◌, Some, refl, sym, ap, subst, ◌∙◌, arith}
 use Rattle.std.specs.Prelude.{if◌then◌else◌}
 use Rattle.std.specs.FinMap as map
 use Rattle.std.proofs.Props.{props}
@@ -17,6 +17,7 @@ use Rattle.lane_core.specs.declared.connection.Connection.{Connection}
 use Rattle.lane_core.specs.declared.records.Records.{Records}
 use Rattle.lane_core.specs.Trees.{IsTree, AllOpen}
 use Rattle.lane_core.specs.Live.{IsLive, AreCounted, HasFirst}
+use Rattle.lane_core.specs.Packets.{HasCome, Leaves}
 use Rattle.lane_core.proofs.Tables.{all_stepped}
 
 module _ {S : Type 0} (answered : S → Shared → Type 0) (content : S → Shared → TreeLists) (old new : S) (kept : Keeps answered content old new) (m : Versions) where
@@ -100,3 +101,29 @@ pub live_among : (known : Shared → Type 0) (content : Shared → TreeLists) (m
 live_among known content m places places' packets flows more live q x is =
     let l = live q x is in
     record { placed = let low = l.placed in omega (arith, low, more); answered = l.answered; tree = l.tree; since = l.since; short = l.short }
+
+-- the packet of this number has come, once idle connections have ended
+pub has_come : {F : Type 0} {store : Ghosts F} (old mid : Records F store) (number : ℕ) → old.next ≤ number → mid.next ≡ number + 1 → mid.list.len ≡ old.list.len
+    → mid.ledger.counts.callbacks + 255 * map.len mid.connections ≤ old.ledger.counts.callbacks + 255 * map.len old.connections
+    → mid.ledger.counts.weight + 73440 * map.len mid.connections ≤ old.ledger.counts.weight + 73440 * map.len old.connections → HasCome number mid
+has_come old mid number rising next places callbacks weight =
+    let counted = old.counted in
+    record {
+      next = next;
+      callbacks = omega (arith, counted.callbacks, rising, next, callbacks);
+      weight = omega (arith, counted.weight, rising, next, weight);
+      few = omega (arith, counted.few, rising, next, places);
+    }
+
+pub leaves_same : {F : Type 0} {store : Ghosts F} (r : Records F store) → Leaves r r
+leaves_same r = record { places = refl; master = refl; forests = refl; dropped = refl; callbacks = omega arith; weight = omega arith }
+
+pub leaves_on : {F : Type 0} {store : Ghosts F} (old mid new : Records F store) → Leaves old mid → Leaves mid new → Leaves old new
+leaves_on old mid new one two = record {
+  places = two.places ∙ one.places;
+  master = two.master ∙ one.master;
+  forests = two.forests ∙ one.forests;
+  dropped = two.dropped ∙ one.dropped;
+  callbacks = let a = one.callbacks in let b = two.callbacks in omega (arith, a, b);
+  weight = let a = one.weight in let b = two.weight in omega (arith, a, b);
+}

@@ -6,14 +6,12 @@ pub mod Laws
 pub mod Places
 pub mod End
 pub mod Trees
-pub mod Settings
+pub mod Live
 pub mod Steps
-pub mod Silences
+pub mod Idle
 pub mod Kept
 pub mod Packets
 pub mod Closing
 pub mod Lane
 pub mod KeptEnd
 pub mod Report
-pub mod Followed
-pub mod Live

@@ -1,6 +1,8 @@
 -- Only for proofs: what holds of the records of a lane between its calls.
-use Rattle.std.specs.Prelude.{ℕ, ◌+◌, ◌<◌, ◌≤◌, ◌*◌}
+use Rattle.std.specs.Prelude.{◌≡◌, ℕ, ◌+◌, ◌<◌, ◌≤◌, ◌*◌}
+use Rattle.shared_forest.specs.declared.store.ForestView.{Ghosts}
 use Rattle.shared_forest.specs.declared.store.Shared.{Shared}
+use Rattle.shared_forest.specs.Store.{Keeps}
 use Rattle.shared_forest.specs.Lists.{TreeLists}
 use Rattle.shared_forest.specs.Listing.{listing}
 use Rattle.event_trees.specs.Edit.{IsForestOf}
@@ -31,3 +33,17 @@ pub record AreCounted (counts : Counts) (places opened dropped packets : ℕ) : 
 pub record HasFirst (known : Shared → Type 0) (content : Shared → TreeLists) (m : Versions) : Type 0 where
   pub answered : known m.forest
   pub tree : IsForestOf m.now.defs (active m.now) (listing (content m.forest))
+
+-- the tree of an open connection, which the store answered, calls the registrations of its version
+pub record IsCalled (known : Shared → Type 0) (content : Shared → TreeLists) (m : Versions) (conn : Connection) : Type 0 where
+  pub answered : known conn.flow.forest
+  pub tree : IsTree m conn.version (content conn.flow.forest)
+
+-- a connection went on by at most one packet, over a store that keeps what it answered
+pub record CarriesOn {F : Type 0} (store : Ghosts F) (m : Versions) (old new : F) (conn conn_after : Connection) : Type 0 where
+  pub place : conn_after.place ≡ conn.place
+  pub version : conn_after.version ≡ conn.version
+  pub count : conn_after.flow.count ≤ conn.flow.count + 1
+  pub answered : store.answered new conn_after.flow.forest
+  pub tree : IsTree m conn_after.version (store.content new conn_after.flow.forest)
+  pub kept : Keeps store.answered store.content old new

@@ -1,23 +1,23 @@
 //! A packet that begins a record.
 
-ghost use Rattle.std.specs.Prelude.{◌≡◌, ◌+◌, ◌<◌, ◌≤◌, ◌^◌, IfOk, OnErr, None, true};
+ghost use Rattle.std.specs.Prelude.{◌≡◌, ◌+◌, ◌≤◌, ◌^◌, IfOk, OnOk, OnErr, None, Some, not, true};
+ghost use Rattle.std.specs.FinMap as map;
 ghost use Rattle.std.specs.Option.{option_copied};
 ghost use Rattle.flow_table.specs.Table.{found};
 ghost use Rattle.shared_forest.specs.Store.{Keeps};
 ghost use Rattle.builtin_events.specs.Raised.{raises_of};
 ghost use Rattle.connection_core.specs.Standing.{RiseBy};
+ghost use Rattle.connection_core.specs.Calls.{HasRoom};
 ghost use Rattle.connection_core.specs.Trees.{InternsWithin};
 ghost use Rattle.ip6_views.specs.Seen.{seen};
-ghost use Rattle.lane_core.specs.Trees.{IsTree};
+ghost use Rattle.lane_core.specs.Live.{IsLive, HasFirst};
 ghost use Rattle.lane_core.specs.Sight.{Tcp, key_of_segment};
 ghost use Rattle.lane_core.specs.Records.{opens};
-ghost use Rattle.lane_core.specs.Steps.{IsOrphanNoted, Opens, opened_by};
-ghost use Rattle.lane_core.specs.Settings.{HoldsTree};
-ghost use Rattle.lane_core.specs.Followed.{taking, HasRoom, Places, CostsToPlace, PlacesOrphan, IsTaken};
+ghost use Rattle.lane_core.specs.Idle.{IsPutWhere};
+ghost use Rattle.lane_core.specs.Steps.{taking, stage_in, IsOrphanNoted, Opens, opened_by};
+ghost use Rattle.lane_core.specs.Packets.{HasCome, Places, CostsToPlace, PlacesOrphan, IsTaken};
 
 use crate::connection::Connection;
-use crate::flows::keep;
-use crate::packet::Opened;
 use crate::records::Records;
 use crate::records::follow::step_one;
 use crate::terms::PacketTerms;
@@ -25,14 +25,22 @@ use crate::under_way::RecordUnderWay;
 use app_api::{App, Verdict};
 use builtin_events::{Raised, raised_by_orphan};
 use connection_core::laws::first_tree_names_the_first_list;
-use connection_core::{Flow, InForce, Ledger, Terms, orphan};
-use flow_table::Key;
+use connection_core::{Flow, InForce, Ledger, Step, Terms, orphan};
+use flow_table::{FlowTable, Key};
 use forest_versions::Master;
 use ip6_views::SightTcp;
 use packet_views::{Class, Head};
 use report_text::RecordKind;
 use shared_forest::Forests;
 use std::alloc::AllocError;
+
+// A connection that a segment opened, after this segment.
+#[derive(Drop)]
+struct Opened {
+    conn: Connection,
+    slot: RecordUnderWay,
+    step: Step,
+}
 
 // A connection that a segment opens: its record will stand at a place.
 fn start_one<A: App, F: Forests>(
@@ -43,21 +51,15 @@ fn start_one<A: App, F: Forests>(
     place: usize,
     segment: &SightTcp<'_>,
 ) -> Result<Opened, AllocError>
-    requires answered { F.answered forests.old master.now.forest }
-    requires tree { HoldsTree master.now (F.content forests.old) }
-    requires callbacks { ledger.old.counts.callbacks < 2 ^ 60 }
-    requires weight { ledger.old.counts.weight < 2 ^ 60 }
+    requires first { HasFirst (F.answered forests.old) (F.content forests.old) master.now }
+    requires room { HasRoom (2 ^ 60) ledger.old.counts }
     ensures kept { Keeps F.answered F.content forests.old forests.new }
     ensures rise { RiseBy 3060 ledger.old.counts ledger.new.counts }
     ensures place { IfOk result (λ opened. opened.conn.place ≡ place) }
-    ensures version { IfOk result (λ opened. opened.conn.version ≡ master.now.version) }
-    ensures count { IfOk result (λ opened. opened.conn.flow.count ≤ 1) }
-    ensures answered { IfOk result (λ opened. F.answered forests.new opened.conn.flow.forest) }
-    ensures tree { IfOk result (λ opened.
-        IsTree master.now opened.conn.version (F.content forests.new opened.conn.flow.forest)) }
-    ensures stands { IfOk result (λ opened. Opens (A.meaning terms.now.app.now) terms.now.keep master.now
-        (F.content forests.new) (F.interns forests.old) (F.interns forests.new)
-        ledger.old.counts ledger.new.counts place terms.now.number terms.now.moment (seen segment.now) opened.conn opened.slot opened.step) }
+    ensures live { IfOk result (λ opened.
+        IsLive (F.answered forests.new) (F.content forests.new) master.now (place + 1) 1 opened.conn) }
+    ensures stands { IfOk result (λ opened. Opens (taking A.meaning terms.now) master.now ledger.old.counts (F.interns forests.old)
+        (stage_in F.ForestView forests.new opened.conn opened.slot ledger.new.counts) (seen segment.now) opened.step) }
     ensures interned { InternsWithin (F.interns forests.old) (F.interns forests.new) 0
         (opened_by (A.meaning terms.now.app.now) master.now.now terms.now.number (seen segment.now)).altered }
 {
@@ -94,13 +96,11 @@ fn orphan_at<A: App, F: Forests>(
     slot: &mut RecordUnderWay,
     ledger: &mut Ledger,
 ) -> Result<Verdict, AllocError>
-    requires answered { F.answered forests.now master.now.forest }
-    requires tree { HoldsTree master.now (F.content forests.now) }
-    requires callbacks { ledger.old.counts.callbacks < 2 ^ 60 }
-    requires weight { ledger.old.counts.weight < 2 ^ 60 }
+    requires first { HasFirst (F.answered forests.now) (F.content forests.now) master.now }
+    requires room { HasRoom (2 ^ 60) ledger.old.counts }
     ensures rise { RiseBy 1530 ledger.old.counts ledger.new.counts }
-    ensures stands { IfOk result (λ verdict. IsOrphanNoted (A.meaning terms.now.app.now) terms.now.keep master.now.now
-        slot.old slot.new ledger.old.counts ledger.new.counts terms.now.number (raises_of raised) verdict) }
+    ensures stands { IfOk result (IsOrphanNoted (taking A.meaning terms.now) master.now.now
+        (record { slot = slot.old; counts = ledger.old.counts }) (record { slot = slot.new; counts = ledger.new.counts }) (raises_of raised)) }
 {
     let called = Terms {
         app: terms.app,
@@ -129,8 +129,29 @@ fn orphan_at<A: App, F: Forests>(
     Ok(verdict)
 }
 
+// Puts a connection into the table, unless it is over.
+fn keep(
+    connections: &mut FlowTable<Connection>,
+    key: Key,
+    conn: Connection,
+    over: bool,
+) -> Result<(), AllocError>
+    requires absent { found connections.old key ≡ None }
+    ensures left { OnOk result (IsPutWhere (not over) connections.old connections.new key (Some conn)) }
+    ensures err { OnErr result (connections.new ≡ connections.old) }
+    ensures more { map.len connections.new ≤ map.len connections.old + 1 }
+{
+    if over {
+        return Ok(());
+    }
+    match connections.open(key, conn) {
+        Ok(()) => Ok(()),
+        Err(_) => Err(AllocError),
+    }
+}
+
 impl<F: Forests + Drop> Records<F> {
-    // A segment that opens a connection.
+    /// A segment that opens a connection.
     pub(crate) fn begin<A: App>(
         &mut self,
         terms: &PacketTerms<'_, A>,
@@ -140,8 +161,8 @@ impl<F: Forests + Drop> Records<F> {
         requires key { key ≡ key_of_segment (seen segment.now) }
         requires absent { found self.old.connections key ≡ None }
         requires opens { opens (Tcp (seen segment.now)) ≡ true }
-        requires room { HasRoom terms.now.number self.old }
-        ensures stands { IfOk result (λ verdict. Places (taking A.meaning terms.now) self.old self.new (Tcp (seen segment.now)) verdict) }
+        requires come { HasCome terms.now.number self.old }
+        ensures stands { IfOk result (Places (taking A.meaning terms.now) self.old self.new (Tcp (seen segment.now))) }
         ensures failed { OnErr result (CostsToPlace (taking A.meaning terms.now) self.old self.new (Tcp (seen segment.now))) }
     {
         let opened = start_one(
@@ -158,15 +179,15 @@ impl<F: Forests + Drop> Records<F> {
         Ok(step.verdict)
     }
 
-    // A packet of no connection; of class tcp it has a head.
+    /// A packet of no connection; of class tcp it has a head.
     pub(crate) fn orphan<A: App>(
         &mut self,
         terms: &PacketTerms<'_, A>,
         class: Class,
         head: Option<&Head>,
     ) -> Result<Verdict, AllocError>
-        requires room { HasRoom terms.now.number self.old }
-        ensures stands { IfOk result (λ verdict. PlacesOrphan (taking A.meaning terms.now) self.old self.new class (option_copied head.entry) verdict) }
+        requires come { HasCome terms.now.number self.old }
+        ensures stands { IfOk result (PlacesOrphan (taking A.meaning terms.now) self.old self.new class (option_copied head.entry)) }
         ensures forests { self.new.forests ≡ self.old.forests }
         ensures taken { IsTaken terms.now.number self.old self.new }
     {

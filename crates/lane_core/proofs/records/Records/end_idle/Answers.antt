@@ -1,20 +1,34 @@
-use Rattle.std.proofs.Common.{None, refl, sym, ap, subst, ◌∙◌, arith}
+use Rattle.std.proofs.Common.{◌+◌, None, refl, sym, ap, subst, ◌∙◌, arith}
 use Rattle.std.proofs.lemmas.Result.{on_ok_weaker}
 use Rattle.std.specs.FinMap as map
 use Rattle.flow_table.specs.Table.{Flows, found}
 use Rattle.std.specs.Prelude.{if◌then◌else◌}
 use Rattle.flow_table.specs.Key.{same_key}
 use Rattle.flow_table.proofs.Keys.{same_key-reflexive}
-use Rattle.connection_core.proofs.Errors.{on_err_always}
-use Rattle.lane_core.specs.Silences.{IsHeard, IsGone}
 use Rattle.lane_core.specs.declared.connection.Connection.{Connection}
 use Rattle.lane_core.specs.Trees.{AllOpen}
 use Rattle.lane_core.specs.Live.{IsLive, AreCounted}
-use Rattle.lane_core.specs.Followed.{taking}
+use Rattle.lane_core.specs.Steps.{taking}
 use Rattle.lane_core.proofs.Tables.{there_before}
-use Rattle.lane_core.proofs.Joined.{ends_one, ends_none, costs_none}
+use Rattle.lane_core.proofs.Live.{same_records}
+use Rattle.lane_core.proofs.Idleness.{unheard_gone, never_heard, idle_ended, none_ended}
 use Rattle.lane_core.proofs.records.Records.end_idle.Goals as goal
 
+-- nothing is limited
+pub returns-then-not-is_timed-clause-absent : goal.returns-then-not-is_timed-clause-absent
+returns-then-not-is_timed-clause-absent g c =
+    let self = c.args.self.now in
+    unheard_gone self.master c.args.terms.now.moment (found self.connections c.args.key.now) c.tells_each_version.ensures c.requires.gone
+    (never_heard self.master c.args.terms.now.moment (found self.connections c.args.key.now) (c.is_timed.ensures.never c.if-not-is_timed.true))
+
+pub returns-then-not-is_timed-clause-stands : goal.returns-then-not-is_timed-clause-stands
+returns-then-not-is_timed-clause-stands g c =
+    let self = c.args.self.now in
+    none_ended (taking g.A.App.meaning c.args.terms.now) self self c.args.key.now refl
+    (unheard_gone self.master c.args.terms.now.moment (found self.connections c.args.key.now) c.tells_each_version.ensures c.requires.gone
+    (never_heard self.master c.args.terms.now.moment (found self.connections c.args.key.now) (c.is_timed.ensures.never c.if-not-is_timed.true)))
+
+-- none of the key is there
 pub invariant_of-self : goal.invariant_of-self
 invariant_of-self g c =
     let self = c.args.self.now in
@@ -28,13 +42,9 @@ invariant_of-self g c =
 pub returns-in_default-clause-stands : goal.returns-in_default-clause-stands
 returns-in_default-clause-stands g c =
     let self = c.args.self.now in
-    ends_none (taking g.A.App.meaning c.args.terms.now) self _ c.args.key.now refl refl (record {
-      heard = subst (IsHeard self.master c.args.terms.now.moment) c.in_default.ensures.value tt;
-      flows_are = c.in_default.ensures.none;
-      slots_are = refl;
-      counts_are = refl;
-    })
+    none_ended (taking g.A.App.meaning c.args.terms.now) self _ c.args.key.now (same_records self _ c.in_default.ensures.none _ _ _) (sym c.in_default.ensures.value)
 
+-- it was idle
 pub index_mut-slot-requires : goal.index_mut-slot-requires
 index_mut-slot-requires g c = (c.args.self.now.live c.args.key.now c.in-Some.conn (sym c.in-Some.ensures.value)).placed
 
@@ -59,39 +69,33 @@ invariant_of-self-2 g c =
       first = self.first;
     }
 
-pub returns-clause-room : goal.returns-clause-room
-returns-clause-room g c = λ number room.
+pub returns-clause-left : goal.returns-clause-left
+returns-clause-left g c =
     let rise = c.call_idle.ensures.rise in
     let len = c.in-Some.ensures.len in
     record {
-      next = room.next;
-      callbacks = omega (arith, room.callbacks, rise.callbacks, len);
-      weight = omega (arith, room.weight, rise.weight, len);
-      few = room.few;
+      places = refl;
+      master = refl;
+      forests = refl;
+      dropped = refl;
+      callbacks = omega (arith, rise.callbacks, len);
+      weight = omega (arith, rise.weight, len);
     }
 
 pub returns-clause-stands : goal.returns-clause-stands
 returns-clause-stands g c =
-    let self = c.args.self.now in
-    let conn = c.in-Some.conn in
-    on_ok_weaker c.call_idle.result (λ called. ends_one (taking g.A.App.meaning c.args.terms.now) self _ c.args.key.now refl refl (record {
-      conn = conn;
+    on_ok_weaker c.call_idle.result (λ called. idle_ended (taking g.A.App.meaning c.args.terms.now) c.args.self.now _ c.args.key.now (record {
+      conn = c.in-Some.conn;
       slot = c.index_mut-slot.result.now;
       slot_after = c.call_idle.new.slot;
       was = sym c.in-Some.ensures.value;
-      silent = subst (IsGone self.master c.args.terms.now.moment) (sym c.in-Some.ensures.value) c.requires.gone;
       slot_is = c.index_mut-slot.ensures.value;
       called = called;
       left = c.close.ensures.found;
-      slots_are = refl;
+      list_is = refl;
+      master = refl;
+      forests = refl;
     })) c.call_idle.ensures.called
-
-pub returns-clause-failed : goal.returns-clause-failed
-returns-clause-failed g c =
-    let self = c.args.self.now in
-    let conn = c.in-Some.conn in
-    on_err_always c.call_idle.result (costs_none (taking g.A.App.meaning c.args.terms.now) self c.args.key.now conn (sym c.in-Some.ensures.value)
-    (subst (IsGone self.master c.args.terms.now.moment) (sym c.in-Some.ensures.value) c.requires.gone))
 
 pub returns-clause-absent : goal.returns-clause-absent
 returns-clause-absent g c =

@@ -1,7 +1,7 @@
 use Rattle.std.proofs.Common.{◌+◌, arith}
 use Rattle.std.proofs.lemmas.Result.{IfOk-weaker}
 use Rattle.connection_core.proofs.Errors.{on_err_always}
-use Rattle.lane_core.specs.Followed.{taking}
+use Rattle.lane_core.specs.Steps.{taking}
 use Rattle.lane_core.proofs.Live.{live_later}
 use Rattle.lane_core.proofs.Joined.{other_added, other_costs}
 use Rattle.lane_core.proofs.records.Records.other.Goals as goal

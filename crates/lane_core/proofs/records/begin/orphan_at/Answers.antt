@@ -19,7 +19,7 @@ orphan-requires-clause-forest g c =
     let content = g.F.ForestView.content c.args.forests.now in
     let tells : Tells m c.version.result m.now = subst (λ v. Tells m v m.now) (sym c.version.ensures.version) c.tells_the_present.ensures in
     let shown : IsForestOf m.now.defs (active m.now) (listing c.tree_of.result.now) =
-    subst (λ t. IsForestOf m.now.defs (active m.now) (listing t)) (sym (c.tree_of.ensures ∙ ap content c.forest-forest.ensures)) c.requires.tree in
+    subst (λ t. IsForestOf m.now.defs (active m.now) (listing t)) (sym (c.tree_of.ensures ∙ ap content c.forest-forest.ensures)) c.requires.first.tree in
     subst (λ (t : TreeLists). IsForestIn m.now.defs (registered_at m c.version.result) t) c.tree_of.ensures (c.first_tree_names_the_first_list.ensures.forest m.now tells shown)
 
 pub returns-clause-stands : goal.returns-clause-stands
@@ -29,7 +29,7 @@ returns-clause-stands g c =
     let content = g.F.ForestView.content c.args.forests.now in
     let tells : Tells m c.version.result m.now = subst (λ v. Tells m v m.now) (sym c.version.ensures.version) c.tells_the_present.ensures in
     let shown : IsForestOf m.now.defs (active m.now) (listing c.tree_of.result.now) =
-    subst (λ t. IsForestOf m.now.defs (active m.now) (listing t)) (sym (c.tree_of.ensures ∙ ap content c.forest-forest.ensures)) c.requires.tree in
+    subst (λ t. IsForestOf m.now.defs (active m.now) (listing t)) (sym (c.tree_of.ensures ∙ ap content c.forest-forest.ensures)) c.requires.first.tree in
     let first : active_in (registered_at m c.version.result) (content c.forest-forest.result.now) ≡ active m.now =
     subst (λ (t : TreeLists). active_in (registered_at m c.version.result) t ≡ active m.now) c.tree_of.ensures (c.first_tree_names_the_first_list.ensures.list m.now tells shown) in
     let e = c.in_ok-verdict.ensures in
