@@ -44,7 +44,7 @@ records_send F g f = let t = records.the_type F g in recorded_send (Struct (shap
   (
     search (sendable, f) depth 20,
     (
-      search (sendable, crosses, table.the_field_send, connection.the_field_send) depth 20,
+      search (sendable, crosses, table.the_send, connection.the_field_send) depth 20,
       (
         search (sendable, crosses, under_way.the_field_send) depth 20,
         (

@@ -1,5 +1,5 @@
 -- A connection that was idle for too long ends, and then the packet is placed: so the packet is added.
-use Rattle.std.proofs.Common.{◌≡◌, ℕ, ◌+◌, Option, Some, None, List, [], ◌∷◌, length, refl, sym, ap, subst, ◌∙◌, map}
+use Rattle.std.proofs.Common.{◌≡◌, ℕ, ◌+◌, false, Option, Some, None, List, [], ◌∷◌, length, refl, sym, ap, subst, ◌∙◌, map}
 use Rattle.packet_views.specs.declared.packet.Class.{Class as ClassOf}
 use Rattle.packet_views.specs.declared.packet.Class.TheVariants as Class
 use Rattle.flow_table.specs.Key.{EndpointPair}
@@ -14,14 +14,14 @@ use Rattle.connection_core.specs.History.{drops_of}
 use Rattle.connection_core.specs.InForce.{registered_at}
 use Rattle.connection_core.specs.Trees.{InternsWithin}
 use Rattle.lane_core.specs.declared.records.Records.{Records}
-use Rattle.lane_core.specs.Sight.{Segment, Moment, Tcp, Other, key_of_segment}
-use Rattle.lane_core.specs.Records.{RecordSoFar, opens, belongs_to, started_by, ended_before, placed, verdict_among, added}
+use Rattle.lane_core.specs.Sight.{Segment, Sight, Moment, Tcp, Other, key_of_segment}
+use Rattle.lane_core.specs.Records.{RecordSoFar, opens, belongs_to, started_by, ended_before, placed, verdict_among, added, verdict_on}
 use Rattle.lane_core.specs.Shown.{kind_of, alterations}
 use Rattle.lane_core.specs.Places.{place_of}
 use Rattle.lane_core.specs.Idle.{IsGone}
 use Rattle.lane_core.specs.Steps.{Taking}
 use Rattle.lane_core.specs.Kept.{AreKept, IsOpenAt, arrived}
-use Rattle.lane_core.specs.Packets.{KeepsSoFar, Adds, CostsToAdd, Leaves, Ends, Places, CostsToPlace, PlacesOrphan, IsTaken, Makes, packet_of}
+use Rattle.lane_core.specs.Packets.{KeepsSoFar, Adds, CostsToAdd, Leaves, Ends, AreAlike, Places, CostsToPlace, PlacesOrphan, IsTaken, Makes, packet_of}
 use Rattle.lane_core.proofs.Ended.{ends_before, drops-kept, alterations-kept}
 use Rattle.lane_core.proofs.Started.{orphan_costs}
 use Rattle.lane_core.proofs.Places.{place_by-never}
@@ -148,4 +148,36 @@ module _ {F : Type 0} {store : Ghosts F} (t : Taking) (old new : Records F store
         (sym (others_stay t.app control_at old.master.version t.number t.moment class pasts))
         (orphan_costs t.app control_at t.keep old.master (store.interns old.forests) (packet_of t old (Other class)) pasts (place_by-never (belongs_to (Other class)) pasts (λ past. refl))));
     taken = taken;
+  }
+
+-- a packet was added to records that are others', in a table that was prepared for it
+module _ {F : Type 0} {store : Ghosts F} (t : Taking) (old mid new : Records F store) (alike : AreAlike old mid) where
+  told : (control_at : ℕ → ControlState) → ((v : ℕ) → Tells old.master v (control_at v)) → (v : ℕ) → Tells mid.master v (control_at v)
+  told control_at tells = subst (λ (m : Versions). (v : ℕ) → Tells m v (control_at v)) (sym alike.under.master) tells
+
+  at_now : (control_at : ℕ → ControlState) → control_at old.master.version ≡ old.master.now → control_at mid.master.version ≡ mid.master.now
+  at_now control_at now = subst (λ (m : Versions). control_at m.version ≡ m.now) (sym alike.under.master) now
+
+  pub alike_made : (sight : Sight) (verdict : Verdict) → Adds t mid new sight verdict → (control_at : ℕ → ControlState) (pasts : List RecordSoFar) → ((v : ℕ) → Tells old.master v (control_at v))
+      → control_at old.master.version ≡ old.master.now → KeepsSoFar t.keep old pasts
+      → Makes t old new verdict (verdict_on t.app control_at (packet_of t old sight) pasts) pasts (added t.app control_at (packet_of t old sight) pasts)
+  alike_made sight verdict a control_at pasts tells now stands =
+      let made = subst (λ (m : Versions). Makes t mid new verdict (verdict_on t.app control_at (arrived m.version t.number t.moment sight) pasts) pasts
+      (added t.app control_at (arrived m.version t.number t.moment sight) pasts)) alike.under.master
+      (a.made control_at pasts (told control_at tells) (at_now control_at now) (alike.stands t.keep pasts stands)) in
+      record {
+        stands = made.stands;
+        interned = subst (λ f. InternsWithin (store.interns f) (store.interns new.forests) (alterations pasts) (alterations (added t.app control_at (packet_of t old sight) pasts))) alike.under.forests made.interned;
+        verdict_is = made.verdict_is;
+        dropped = made.dropped;
+      }
+
+  pub alike_costs : (sight : Sight) → CostsToAdd t mid new sight → CostsToAdd t old new sight
+  alike_costs sight c = record {
+    interned = λ control_at pasts tells now stands.
+        subst (λ f. InternsWithin (store.interns f) (store.interns new.forests) (alterations pasts) (alterations (added t.app control_at (packet_of t old sight) pasts))) alike.under.forests
+        (subst (λ (m : Versions). InternsWithin (store.interns mid.forests) (store.interns new.forests) (alterations pasts)
+        (alterations (added t.app control_at (arrived m.version t.number t.moment sight) pasts))) alike.under.master
+        (c.interned control_at pasts (told control_at tells) (at_now control_at now) (alike.stands t.keep pasts stands)));
+    taken = record { master = c.taken.master ∙ alike.under.master; dropped = c.taken.dropped ∙ alike.dropped; next = c.taken.next };
   }

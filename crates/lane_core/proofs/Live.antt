@@ -1,10 +1,11 @@
 -- What holds of the records of a lane, as one open connection makes a step.
-use Rattle.std.proofs.Common.{◌≡◌, ℕ, ◌+◌, ◌*◌, ◌≤◌, ◌<◌, Some, refl, sym, ap, subst, ◌∙◌, arith}
+use Rattle.std.proofs.Common.{◌≡◌, ℕ, ◌+◌, ◌*◌, ◌≤◌, ◌<◌, Bool, Option, None, Some, List, refl, sym, ap, subst, ◌∙◌, arith}
 use Rattle.std.specs.Prelude.{if◌then◌else◌}
 use Rattle.std.specs.FinMap as map
+use Rattle.std.specs.FinMap.{len-empty}
 use Rattle.std.proofs.Props.{props}
 use Rattle.flow_table.specs.Key.{EndpointPair, same_key}
-use Rattle.flow_table.specs.Table.{Flows, found}
+use Rattle.flow_table.specs.Table.{key_cmp, Flows, found}
 use Rattle.shared_forest.specs.declared.store.Shared.{Shared}
 use Rattle.shared_forest.specs.declared.store.ForestView.{Ghosts}
 use Rattle.shared_forest.specs.Lists.{TreeLists}
@@ -13,11 +14,16 @@ use Rattle.shared_forest.specs.Store.{Keeps}
 use Rattle.event_trees.specs.Edit.{IsForestOf}
 use Rattle.forest_versions.specs.Master.{Versions}
 use Rattle.forest_versions.specs.State.{active}
+use Rattle.connection_core.specs.declared.ledger.Counts.{Counts}
+use Rattle.connection_core.specs.InForce.{registered_at}
 use Rattle.lane_core.specs.declared.connection.Connection.{Connection}
 use Rattle.lane_core.specs.declared.records.Records.{Records}
 use Rattle.lane_core.specs.Trees.{IsTree, AllOpen}
 use Rattle.lane_core.specs.Live.{IsLive, AreCounted, HasFirst}
-use Rattle.lane_core.specs.Packets.{HasCome, Leaves}
+use Rattle.lane_core.specs.Kept.{IsOpenAt, AreKept}
+use Rattle.lane_core.specs.Places.{place_of}
+use Rattle.lane_core.specs.Records.{RecordSoFar}
+use Rattle.lane_core.specs.Packets.{KeepsSoFar, HasCome, Leaves}
 use Rattle.lane_core.proofs.Tables.{all_stepped}
 
 module _ {S : Type 0} (answered : S → Shared → Type 0) (content : S → Shared → TreeLists) (old new : S) (kept : Keeps answered content old new) (m : Versions) where
@@ -127,3 +133,57 @@ leaves_on old mid new one two = record {
   callbacks = let a = one.callbacks in let b = two.callbacks in omega (arith, a, b);
   weight = let a = one.weight in let b = two.weight in omega (arith, a, b);
 }
+
+-- ---- a table without a connection
+
+pub none_live : (known : Shared → Type 0) (content : Shared → TreeLists) (m : Versions) (places packets : ℕ) (flows : Flows Connection) → ((key : EndpointPair) → found flows key ≡ None)
+    → AllOpen (IsLive known content m places packets) flows
+none_live known content m places packets flows none key x is = absurd (let e = sym (none key) ∙ is in cc)
+
+none_open : (flows : Flows Connection) → flows ≡ map.empty → map.len flows ≡ 0
+none_open flows empty = ap map.len empty ∙ len-empty key_cmp Connection
+
+-- and no record
+pub none_counted : (counts : Counts) (places packets : ℕ) (flows : Flows Connection) → counts ≡ record { callbacks = 0; weight = 0 } → places ≡ 0 → flows ≡ map.empty → packets ≤ 1048576
+    → AreCounted counts places (map.len flows) 0 packets
+none_counted counts places packets flows zero none empty numbered =
+    let len = none_open flows empty in
+    let callbacks = ap (λ (n : Counts). n.callbacks) zero in
+    let weight = ap (λ (n : Counts). n.weight) zero in
+    record {
+      callbacks = omega (arith, len, callbacks);
+      weight = omega (arith, len, weight);
+      few = omega (arith, none);
+      few_dropped = omega arith;
+      numbered = numbered;
+    }
+
+-- in place of another one
+pub counted_without : (counts : Counts) (places dropped packets : ℕ) (flows : Flows Connection) (opened : ℕ) → flows ≡ map.empty → AreCounted counts places opened dropped packets
+    → AreCounted counts places (map.len flows) dropped packets
+counted_without counts places dropped packets flows opened empty counted =
+    let len = none_open flows empty in record {
+      callbacks = omega (arith, counted.callbacks, len);
+      weight = omega (arith, counted.weight, len);
+      few = counted.few;
+      few_dropped = counted.few_dropped;
+      numbered = counted.numbered;
+    }
+
+module _ {F : Type 0} {store : Ghosts F} (r : Records F store) (empty : r.list.len ≡ 0) where
+  none_at : (key : EndpointPair) (o : Option Connection) (pasts : List RecordSoFar) → found r.connections key ≡ o
+      → IsOpenAt (registered_at r.master) (store.content r.forests) o (place_of key pasts) pasts → place_of key pasts ≡ None
+  none_at key None pasts is at = at
+  none_at key (Some x) pasts is at = absurd (let low = (r.live key x is).placed in omega (arith, low, empty))
+
+  -- before the first record it keeps the same
+  pub kept_without : (flows : Flows Connection) → ((key : EndpointPair) → found flows key ≡ None) → (keep : Bool) (pasts : List RecordSoFar) → KeepsSoFar keep r pasts
+      → AreKept keep (registered_at r.master) (store.content r.forests) flows r.list.items r.ledger.counts pasts
+  kept_without flows none keep pasts stands = record {
+    shown = stands.shown;
+    placed = λ key. subst (λ o. IsOpenAt (registered_at r.master) (store.content r.forests) o (place_of key pasts) pasts) (sym (none key))
+        (none_at key (found r.connections key) pasts refl (stands.placed key));
+    single = stands.single;
+    counted = stands.counted;
+    weighed = stands.weighed;
+  }

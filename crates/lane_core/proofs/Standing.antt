@@ -1,6 +1,6 @@
 -- What a lane stands for, one event later.
 use Rattle.std.proofs.Common.{◌≡◌, ℕ, zero, suc, ◌+◌, ◌<◌, ◌≤◌, ◌&&◌, nat_lt, Bool, true, false, Option, Some, None, List, [], ◌∷◌, ◌++◌, length, Result, Ok, Err, refl, sym, ap, subst, ◌∙◌, arith}
-use Rattle.std.specs.Prelude.{◌-◌, OnOk, OnErr, SomeIff, is_err}
+use Rattle.std.specs.Prelude.{◌-◌, OnOk, OnErr, SomeIff}
 use Rattle.std.proofs.lemmas.List.{take_all}
 use Rattle.std.proofs.lemmas.Grind.{common_steps}
 use Rattle.app_api.specs.App.{Meaning}
@@ -8,7 +8,8 @@ use Rattle.app_api.specs.declared.reaction.Verdict.{Verdict}
 use Rattle.app_api.specs.declared.reaction.Verdict.TheVariants.{Pass, Drop}
 use Rattle.shared_forest.specs.declared.store.ForestView.{Ghosts}
 use Rattle.forest_versions.specs.declared.command.Command.{Command}
-use Rattle.forest_versions.specs.State.{control, master}
+use Rattle.app_api.specs.declared.registration.Reg.{Reg}
+use Rattle.forest_versions.specs.State.{control, master, after as state_after}
 use Rattle.forest_versions.specs.Master.{Versions, StandsFor}
 use Rattle.connection_core.specs.History.{drops_of}
 use Rattle.connection_core.specs.Trees.{InternsWithin}
@@ -19,22 +20,26 @@ use Rattle.lane_core.specs.Sight.{Sight, Arrival}
 use Rattle.lane_core.specs.Records.{RecordSoFar, added, verdict_on}
 use Rattle.lane_core.specs.Run.{LaneEvent, Gave, Arrived, commands_of, control_of, lane_run}
 use Rattle.lane_core.specs.Shown.{alterations, weight, drops_of as drops_in}
+use Rattle.lane_core.specs.Live.{TakesCommand}
 use Rattle.lane_core.specs.Steps.{Taking}
 use Rattle.lane_core.specs.Packets.{KeepsSoFar, Makes, AddsCounted, CostsToAdd, Gives}
 use Rattle.lane_core.specs.Lane.{IsRun, IsHeavy, newest_by, next_verdict, with_event}
 use Rattle.lane_core.proofs.Runs.{commands-arrived, commands-gave, newest-arrived, newest-gave, packet_is_added, command_changes_none}
 
-pub ok_value : {T E : Type 0} (P : Type 0) (r : Result T E) → is_err r ≡ false → OnOk r P → P
-ok_value P (Ok v) ok p = p
-ok_value P (Err e) ok p = absurd (cc)
-
 pub err_value : {T E P : Type 0} (r : Result T E) → ((v : T) → r ≡ Ok v → ⊥) → OnErr r P → P
 err_value (Ok v) none p = absurd (none v refl)
 err_value (Err e) none p = p
 
-pub on_ok_always : {T E P : Type 0} (r : Result T E) → P → OnOk r P
-on_ok_always (Ok v) p = p
-on_ok_always (Err e) p = tt
+-- a command was taken where the call ended well
+pub taken_by : {T E : Type 0} (r : Result T E) (m after : Versions) (c : Command)
+    → ((presets : List Reg) (commands : List Command) → StandsFor m presets commands → OnOk r (StandsFor after presets (commands ++ c ∷ [])))
+    → OnOk r (after.now ≡ state_after m.now c) → OnOk r (after.version ≡ m.version + 1) → OnOk r (TakesCommand m after c)
+taken_by (Ok v) m after c stands now version = record { commands = stands; now = now; version = version }
+taken_by (Err e) m after c stands now version = tt
+
+pub never_fewer : {T E : Type 0} (r : Result T E) (m after : Versions) → OnOk r (after.version ≡ m.version + 1) → OnErr r (after ≡ m) → m.version ≤ after.version
+never_fewer (Ok v) m after version same = omega (arith, version)
+never_fewer (Err e) m after version same = let is = ap (λ (w : Versions). w.version) same in omega (arith, is)
 
 pub newest_next : (n k : ℕ) → k ≡ n + 1 → newest_by k ≡ Some n
 newest_next n zero is = absurd (omega arith)
@@ -158,7 +163,7 @@ module _ {F : Type 0} {store : Ghosts F} (app : Meaning) (keep : Bool) (old new 
   pub command_stands : IsRun app keep old None events → Gives old new c → IsRun app keep new None (with_event (Gave c) events)
   command_stands r gives = record {
     newest = newest-gave None events c ∙ r.newest ∙ ap newest_by (sym gives.next);
-    commands = λ none. subst (StandsFor new.master app.presets) (sym (commands-gave events c)) (gives.commands app.presets (commands_of events) (r.commands refl));
+    commands = λ none. subst (StandsFor new.master app.presets) (sym (commands-gave events c)) (gives.taken.commands app.presets (commands_of events) (r.commands refl));
     records = λ none. subst (KeepsSoFar keep new) (sym (command_changes_none app events c)) (gives.stands keep (lane_run app events) (r.records refl));
     dropped = λ none. gives.dropped ∙ r.dropped refl ∙ ap drops_in (sym (command_changes_none app events c));
     heavy = none_is_heavy;

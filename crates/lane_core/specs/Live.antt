@@ -1,13 +1,17 @@
 -- Only for proofs: what holds of the records of a lane between its calls.
-use Rattle.std.specs.Prelude.{◌≡◌, ℕ, ◌+◌, ◌<◌, ◌≤◌, ◌*◌}
+use Rattle.std.specs.Prelude.{◌≡◌, ℕ, ◌+◌, ◌<◌, ◌≤◌, ◌*◌, List, [], ◌∷◌, ◌++◌}
 use Rattle.shared_forest.specs.declared.store.ForestView.{Ghosts}
 use Rattle.shared_forest.specs.declared.store.Shared.{Shared}
 use Rattle.shared_forest.specs.Store.{Keeps}
 use Rattle.shared_forest.specs.Lists.{TreeLists}
 use Rattle.shared_forest.specs.Listing.{listing}
 use Rattle.event_trees.specs.Edit.{IsForestOf}
-use Rattle.forest_versions.specs.Master.{Versions}
-use Rattle.forest_versions.specs.State.{active}
+use Rattle.app_api.specs.declared.registration.Reg.{Reg}
+use Rattle.forest_versions.specs.declared.command.Command.{Command}
+use Rattle.forest_versions.specs.Master.{Versions, StandsFor}
+use Rattle.forest_versions.specs.State.{active, after as state_after}
+use Rattle.connection_core.specs.InForce.{registered_at}
+use Rattle.connection_core.specs.Trees.{active_in}
 use Rattle.connection_core.specs.declared.ledger.Counts.{Counts}
 use Rattle.lane_core.specs.declared.connection.Connection.{Connection}
 use Rattle.lane_core.specs.Trees.{IsTree}
@@ -47,3 +51,17 @@ pub record CarriesOn {F : Type 0} (store : Ghosts F) (m : Versions) (old new : F
   pub answered : store.answered new conn_after.flow.forest
   pub tree : IsTree m conn_after.version (store.content new conn_after.flow.forest)
   pub kept : Keeps store.answered store.content old new
+
+-- a command was given to a master: whatever commands it stood for, it stands for these with it behind them
+pub record TakesCommand (m after : Versions) (c : Command) : Type 0 where
+  pub commands : (presets : List Reg) (commands : List Command) → StandsFor m presets commands → StandsFor after presets (commands ++ c ∷ [])
+  pub now : after.now ≡ state_after m.now c
+  pub version : after.version ≡ m.version + 1
+
+-- the trees of earlier versions, and what they name, are as they were
+pub record LeavesTrees {F : Type 0} (store : Ghosts F) (m after : Versions) (old new : F) : Type 0 where
+  pub first : HasFirst (store.answered new) (store.content new) after
+  pub kept : Keeps store.answered store.content old new
+  pub later : m.version ≤ after.version
+  pub trees : (v : ℕ) (tree : TreeLists) → v ≤ m.version → IsTree m v tree → IsTree after v tree
+  pub lists : (v : ℕ) (tree : TreeLists) → v ≤ m.version → IsTree m v tree → active_in (registered_at after v) tree ≡ active_in (registered_at m v) tree

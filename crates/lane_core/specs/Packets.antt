@@ -1,5 +1,5 @@
 -- Only for proofs: what a packet and a command do to the records of a lane.
-use Rattle.std.specs.Prelude.{◌≡◌, ℕ, ◌+◌, ◌*◌, ◌<◌, ◌≤◌, Bool, false, Option, Some, None, List, [], ◌∷◌, ◌++◌, if◌then◌else◌, slice_set, set, get_or, length, vec_len}
+use Rattle.std.specs.Prelude.{◌≡◌, ℕ, ◌+◌, ◌*◌, ◌<◌, ◌≤◌, Bool, false, Option, Some, None, List, [], if◌then◌else◌, slice_set, set, get_or, length, vec_len}
 use Rattle.std.specs.FinMap as finite
 use Rattle.packet_views.specs.declared.packet.Head.{Head}
 use Rattle.packet_views.specs.declared.packet.Class.{Class}
@@ -10,7 +10,7 @@ use Rattle.app_api.specs.declared.registration.Reg.{Reg}
 use Rattle.shared_forest.specs.declared.store.ForestView.{Ghosts}
 use Rattle.shared_forest.specs.Store.{Keeps, CountsAtMost}
 use Rattle.forest_versions.specs.declared.command.Command.{Command}
-use Rattle.forest_versions.specs.State.{ControlState, after as state_after}
+use Rattle.forest_versions.specs.State.{ControlState}
 use Rattle.forest_versions.specs.Master.{Tells, StandsFor}
 use Rattle.connection_core.specs.InForce.{registered_at}
 use Rattle.connection_core.specs.declared.flow.Step.{Step}
@@ -23,6 +23,7 @@ use Rattle.lane_core.specs.Sight.{Segment, Sight, Moment, key_of_segment}
 use Rattle.lane_core.specs.Records.{RecordSoFar, VersionedPacket, ended_by_silence, placed, verdict_among, added, verdict_on}
 use Rattle.lane_core.specs.Shown.{alterations, drops_of as drops_in}
 use Rattle.lane_core.specs.Places.{place_of}
+use Rattle.lane_core.specs.Live.{TakesCommand}
 use Rattle.lane_core.specs.Idle.{IsIdle}
 use Rattle.lane_core.specs.Steps.{Taking, stage_in, IsStep, FailsStep}
 use Rattle.lane_core.specs.Kept.{AreKept, IsOrphan, arrived}
@@ -165,11 +166,9 @@ module _ {F : Type 0} {store : Ghosts F} where
     pub next : r.next ≡ 0
     pub interned : CountsAtMost (store.interns forests) (store.interns r.forests)
 
-  -- A command was given: whatever commands the master stood for, it stands for these with it behind them, and the records are the same.
+  -- a command was given, and the records are the same
   pub record Gives (old new : Records F store) (c : Command) : Type 0 where
-    pub commands : (presets : List Reg) (commands : List Command) → StandsFor old.master presets commands → StandsFor new.master presets (commands ++ c ∷ [])
-    pub now : new.master.now ≡ state_after old.master.now c
-    pub version : new.master.version ≡ old.master.version + 1
+    pub taken : TakesCommand old.master new.master c
     pub stands : (keep : Bool) (so_far : List RecordSoFar) → KeepsSoFar keep old so_far → KeepsSoFar keep new so_far
     pub dropped : new.dropped ≡ old.dropped
     pub next : new.next ≡ old.next

@@ -1,11 +1,13 @@
 //! The records of one worker's packets, with the table of its open connections.
 
-ghost use Rattle.std.specs.Prelude.{◌≡◌, ◌+◌, ◌<◌, ◌≤◌, ◌^◌, length, vec_len};
+ghost use Rattle.std.specs.Prelude.{◌≡◌, ◌+◌, ◌<◌, ◌≤◌, ◌^◌, length, vec_len, OnOk, OnErr, IsTrue};
 ghost use Rattle.std.specs.FinMap as map;
 ghost use Rattle.std.proofs.Props.{props};
+ghost use Rattle.shared_forest.specs.Store.{CountsAtMost};
+ghost use Rattle.forest_versions.specs.Lawful.{is_lawful};
 ghost use Rattle.connection_core.specs.History.{drops_of};
 ghost use Rattle.lane_core.specs.Trees.{AllOpen};
-ghost use Rattle.lane_core.specs.Live.{IsLive, AreCounted, HasFirst};
+ghost use Rattle.lane_core.specs.Live.{IsLive, AreCounted, HasFirst, TakesCommand, LeavesTrees};
 
 use crate::connection::Connection;
 use crate::limits::WEIGHT;
@@ -48,11 +50,9 @@ pub(crate) struct Records<F: Forests> {
 }
 
 impl<F: Forests + Drop> Records<F> {
-    ghost use Rattle.std.specs.Prelude.{◌&&◌, nat_lt, IfOk, OnOk, OnErr, IsTrue, true};
+    ghost use Rattle.std.specs.Prelude.{◌&&◌, nat_lt, IfOk};
     ghost use Rattle.app_api.specs.Reg.{are_presets};
     ghost use Rattle.ip6_views.specs.Seen.{seen, shown};
-    ghost use Rattle.shared_forest.specs.Store.{CountsAtMost};
-    ghost use Rattle.forest_versions.specs.Lawful.{is_lawful};
     ghost use Rattle.lane_core.specs.Sight.{Tcp, Other, sight_of};
     ghost use Rattle.lane_core.specs.Steps.{taking};
     ghost use Rattle.lane_core.specs.Packets.{Adds, AddsCounted, CostsToAdd, StaysUnder, AreAlike, Begins, Gives};
@@ -87,11 +87,7 @@ impl<F: Forests + Drop> Records<F> {
         ensures refused { OnErr result (StaysUnder self.old self.new) }
         ensures interned { CountsAtMost (F.interns self.old.forests) (F.interns self.new.forests) }
     {
-        self.master.tells_the_present();
-        self.master.tells_each_version();
-        let given = self.master.apply(alloc, &mut self.forests, c);
-        trees_stay(self.master.defs());
-        given
+        give_to(alloc, &mut self.master, &mut self.forests, c)
     }
 
     /// Lets all records go, whose memory goes back at once.
@@ -196,6 +192,29 @@ impl<F: Forests + Drop> Records<F> {
         self.dropped = counted(self.dropped, verdict);
         Ok(verdict)
     }
+}
+
+// Gives a command to a master. What earlier versions registered is called by the same trees as before.
+fn give_to<F: Forests>(
+    alloc: Global,
+    master: &mut Master,
+    forests: &mut F,
+    c: &Command,
+) -> Result<(), AllocError>
+    requires first { HasFirst (F.answered forests.old) (F.content forests.old) master.old }
+    requires lawful { IsTrue (is_lawful master.old.now c.now) }
+    requires below { master.old.version < 4096 }
+    ensures taken { OnOk result (TakesCommand master.old master.new c.now) }
+    ensures trees { LeavesTrees F.ForestView master.old master.new forests.old forests.new }
+    ensures counted { CountsAtMost (F.interns forests.old) (F.interns forests.new) }
+    ensures unchanged { OnErr result (master.new ≡ master.old) }
+    ensures store_unchanged { OnErr result (forests.new ≡ forests.old) }
+{
+    master.tells_the_present();
+    master.tells_each_version();
+    let given = master.apply(alloc, forests, c);
+    trees_stay(master.defs());
+    given
 }
 
 // So many dropped packets, and one more where this was dropped.
