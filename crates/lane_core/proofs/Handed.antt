@@ -38,8 +38,8 @@ master_send = search (
   shared.the_field_send,
 ) depth 60
 
-pub records_send : (F : RattleType) (g : Ghosts F.Denot) → IsSend F → IsSend (records.the_row F g)
-records_send F g f = let t = records.the_type F g in recorded_send (Struct (shape t)) t.D t.to t.to_one (struct_send (shape t) (
+records_send : (F : RattleType) (g : Ghosts F.Denot) → IsSend F → IsSend (records.the_field F g).row
+records_send F g f = struct_send (shape (records.the_type F g)) (
   search (sendable, crosses, master_send) depth 20,
   (
     search (sendable, f) depth 20,
@@ -54,7 +54,7 @@ records_send F g f = let t = records.the_type F g in recorded_send (Struct (shap
       ),
     ),
   ),
-))
+)
 
 pub lane_send : (A F : RattleType) (g : Ghosts F.Denot) → IsSend A → IsSend F → IsSend (lane.the_row A F g)
 lane_send A F g a f = let t = lane.the_type A F g in recorded_send (Struct (shape t)) t.D t.to t.to_one (struct_send (shape t) (
@@ -62,7 +62,7 @@ lane_send A F g a f = let t = lane.the_type A F g in recorded_send (Struct (shap
   (
     search sendable depth 20,
     (
-      search (sendable, records_send F g f) depth 20,
+      records_send F g f,
       (search (sendable, crosses, error.the_field_send) depth 20, tt),
     ),
   ),

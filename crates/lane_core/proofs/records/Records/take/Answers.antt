@@ -26,7 +26,7 @@ returns-clause-stands g c =
           record { stands = made.stands; interned = made.interned; verdict_is = made.verdict_is; dropped = made.dropped };
       master = adds.taken.master ∙ alike.under.master;
       next = adds.taken.next;
-      dropped = c.counted.ensures.sum ∙ ap (λ n. n + length (drops_of c.in_ok-verdict.verdict 0)) (adds.taken.dropped ∙ alike.dropped);
+      dropped = c.counted-self.ensures.sum ∙ ap (λ n. n + length (drops_of c.in_ok-verdict.verdict 0)) (adds.taken.dropped ∙ alike.dropped);
     }
 
 pub returns-in_err-verdict-clause-failed : goal.returns-in_err-verdict-clause-failed
