@@ -1,13 +1,15 @@
 -- What the calls of a connection do, each said of what it finds and of what it leaves, with whatever is in force.
-use Rattle.std.specs.Prelude.{◌≡◌, ℕ, Bool, Option, List, []}
+use Rattle.std.specs.Prelude.{◌≡◌, ◌+◌, ◌<◌, ◌≤◌, ◌++◌, ℕ, Bool, Option, List, []}
 use Rattle.flow_socket.specs.View.{SocketView}
 use Rattle.app_api.specs.declared.registration.Reg.{Reg}
 use Rattle.app_api.specs.App.{Meaning}
 use Rattle.shared_forest.specs.declared.store.ForestView.{Ghosts as Store}
 use Rattle.shared_forest.specs.declared.store.Shared.{Shared}
 use Rattle.shared_forest.specs.Lists.{TreeLists}
+use Rattle.shared_forest.specs.Store.{Keeps}
 use Rattle.forest_versions.specs.State.{ControlState, active as first_active}
 use Rattle.connection_core.specs.declared.flow.Flow.{Flow}
+use Rattle.connection_core.specs.declared.flow.Step.{Step}
 use Rattle.connection_core.specs.declared.in_force.InForce.{InForce}
 use Rattle.connection_core.specs.declared.ledger.Counts.{Counts}
 use Rattle.connection_core.specs.declared.ledger.Ledger.{Ledger}
@@ -15,9 +17,9 @@ use Rattle.connection_core.specs.declared.ledger.Notes.{Notes}
 use Rattle.connection_core.specs.declared.arrival.Arrived.{Arrived}
 use Rattle.connection_core.specs.InForce.{registered, IsInForce, ForControl}
 use Rattle.connection_core.specs.PacketUnderWay.{PacketUnderWay}
-use Rattle.connection_core.specs.History.{History, sender_phase, receiver_phase, received_unless, followed}
-use Rattle.connection_core.specs.Standing.{IsNoted, IsConnection, IsUnder, Steps, Alters, Costs, CostsUnder, Makes}
-use Rattle.connection_core.specs.Trees.{list_in_force}
+use Rattle.connection_core.specs.History.{History, sender_phase, receiver_phase, received_unless, followed, verdict, drops_of, is_over}
+use Rattle.connection_core.specs.Standing.{IsNoted, IsConnection, IsUnder, Steps, Alters, Costs, CostsUnder, Makes, RiseBy}
+use Rattle.connection_core.specs.Trees.{list_in_force, IsForestInForce, InternsWithin}
 
 -- ---- what an arrived packet makes of a connection
 
@@ -102,3 +104,42 @@ MakesInForce keep lent old new step = ForControl lent (λ s.
 abbrev pub CostsInForce : Bool → InForce → FlowState → Option ℕ → (ControlState → PacketUnderWay → PacketUnderWay) → Type 0
 CostsInForce keep lent old interns_after step = ForControl lent (λ s.
     CostsUnder keep (list_in_force lent old.tree) old.flow.socket old.notes old.ledger old.interns interns_after (step s))
+
+-- ---- what each call finds and leaves
+
+-- there is room for more callbacks
+pub record HasRoom (limit : ℕ) (counts : Counts) : Type 0 where
+  pub callbacks : counts.callbacks < limit
+  pub weight : counts.weight < limit
+
+-- a connection over a store, with the counts of all callbacks
+pub record Holding (S : Type 0) : Type 0 where
+  pub forests : S
+  pub flow : Flow
+  pub counts : Counts
+
+abbrev pub holding : {S : Type 0} → S → Flow → Ledger → Holding S
+holding forests flow ledger = record { forests = forests; flow = flow; counts = ledger.counts }
+
+module _ {S : Type 0} (store : Store S) (lent : InForce) where
+  -- the store answered the tree of its registrations, and by it these are called
+  pub record IsHeld (forests : S) (flow : Flow) : Type 0 where
+    pub answered : store.answered forests flow.forest
+    pub forest : IsForestInForce lent (store.content forests flow.forest)
+
+  -- it went on, with at most so many callbacks and one packet more, and what the store answered before stays
+  pub record Went (most : ℕ) (old new : Holding S) : Type 0 where
+    pub held : IsHeld new.forests new.flow
+    pub kept : Keeps store.answered store.content old.forests new.forests
+    pub rise : RiseBy most old.counts new.counts
+    pub count : new.flow.count ≤ old.flow.count + 1
+
+-- A packet made its step: whatever history stood for the connection, the one after it does, with at most one intern for each
+-- alteration; and this is what the packet did.
+pub record StepsTo (app : Meaning) (keep : Bool) (lent : InForce) (arrived : Arrived) (old new : FlowState) (step : Step) : Type 0 where
+  pub connection : ForConnection keep lent old (λ s others h.
+      IsConnection keep others (registered lent) new.tree new.flow new.notes new.ledger.counts (followed_by app s arrived h))
+  pub interned : ForConnection keep lent old (λ s others h. InternsWithin old.interns new.interns h.altered (followed_by app s arrived h).altered)
+  pub over : ForConnection keep lent old (λ s others h. step.over ≡ is_over (followed_by app s arrived h))
+  pub verdict_is : ForConnection keep lent old (λ s others h. step.verdict ≡ verdict app s arrived.number arrived.from arrived.head.now arrived.scale h)
+  pub drops : ForConnection keep lent old (λ s others h. (followed_by app s arrived h).drops ≡ h.drops ++ drops_of step.verdict arrived.number)

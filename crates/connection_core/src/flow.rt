@@ -1,9 +1,7 @@
 //! An open connection: its monitoring socket, and the tree of its registrations.
 
-ghost use Rattle.std.specs.Prelude.{◌≡◌, ◌+◌, ◌<◌, ◌≤◌, ◌^◌, ◌++◌, [], OnOk, OnErr, IfOk};
-ghost use Rattle.shared_forest.specs.Store.{Keeps};
-ghost use Rattle.app_api.specs.declared.reaction.Verdict.{Verdict as VerdictOf};
-ghost use Rattle.connection_core.specs.Trees.{list_in_force, IsForestInForce, InternsWithin};
+ghost use Rattle.std.specs.Prelude.{◌≡◌, ◌+◌, ◌<◌, ◌^◌, [], OnOk, OnErr, IfOk};
+ghost use Rattle.connection_core.specs.Trees.{list_in_force, InternsWithin};
 ghost use Rattle.forest_versions.specs.State.{ControlState, active as first_active};
 ghost use Rattle.connection_core.specs.InForce.{registered, IsInForce};
 ghost use Rattle.connection_core.specs.Reach.{Reaches};
@@ -47,11 +45,12 @@ const MOST: usize = 4 * 255;
 impl Flow {
     ghost use Rattle.app_api.specs.App.{Meaning};
     ghost use Rattle.shared_forest.specs.Lists.{TreeLists};
-    ghost use Rattle.connection_core.specs.PacketUnderWay.{changed_all, raise_done, phase as made};
-    ghost use Rattle.connection_core.specs.History.{fresh, verdict, drops_of, is_over};
-    ghost use Rattle.connection_core.specs.Standing.{IsFlow, IsConnection, RiseBy, Reached, Stepped, at_raise, in_phase};
+    ghost use Rattle.connection_core.specs.PacketUnderWay.{raise_done, phase as made};
+    ghost use Rattle.connection_core.specs.History.{fresh};
+    ghost use Rattle.connection_core.specs.Standing.{IsFlow, Reached, Stepped, at_raise, in_phase};
     ghost use Rattle.connection_core.specs.Calls.{phase_sending, phase_receiving, gone_on, followed_by};
-    ghost use Rattle.connection_core.specs.Calls.{AltersTree, CostsTree, state_in, ForConnection, ForPacketUnderWay, MakesInForce, CostsInForce};
+    ghost use Rattle.connection_core.specs.Calls.{state_in, ForConnection, ForPacketUnderWay, MakesInForce, CostsInForce};
+    ghost use Rattle.connection_core.specs.Calls.{IsHeld, HasRoom, holding, Went, StepsTo};
 
     /// A connection before its first packet, with the tree of the registrations that are on at its start. It takes no memory.
     pub fn new(alloc: Global, in_force: &InForce, forest: Shared) -> Flow
@@ -68,40 +67,6 @@ impl Flow {
         }
     }
 
-    // Makes the changes that were asked in a raise.
-    fn settle<F: Forests>(
-        &mut self,
-        alloc: Global,
-        in_force: &InForce,
-        forests: &mut F,
-        ledger: &mut Ledger,
-    ) -> Result<(), AllocError>
-        requires answered { F.answered forests.old self.old.forest }
-        requires forest { IsForestInForce in_force.now (F.content forests.old self.old.forest) }
-        ensures answered { F.answered forests.new self.new.forest }
-        ensures forest { IsForestInForce in_force.now (F.content forests.new self.new.forest) }
-        ensures kept { Keeps F.answered F.content forests.old forests.new }
-        ensures made { OnOk result (AltersTree F.ForestView in_force.now forests.old self.old.forest
-            forests.new self.new.forest (λ s. changed_all s ledger.old.changes.items)) }
-        ensures failed { OnErr result (CostsTree F.ForestView in_force.now forests.old self.old.forest
-            forests.new (λ s. changed_all s ledger.old.changes.items)) }
-        ensures asked { OnOk result (ledger.new.changes.items ≡ []) }
-        ensures drop { ledger.new.drop ≡ ledger.old.drop }
-        ensures counts { ledger.new.counts ≡ ledger.old.counts }
-        ensures socket { self.new.socket ≡ self.old.socket }
-        ensures count { self.new.count ≡ self.old.count }
-    {
-        change_all(
-            alloc,
-            in_force,
-            forests,
-            &mut self.forest,
-            ledger.changes.as_slice(),
-        )?;
-        ledger.changes.clear();
-        Ok(())
-    }
-
     // Makes one raise: calls what fires of the private list as it is, and then makes the changes that the callbacks
     // ask. The tree is borrowed from the store for the calls alone, so no walk sees it change. Room for the changes is
     // taken first; it is still there at the next raise.
@@ -115,13 +80,10 @@ impl Flow {
         notes: &mut Notes,
         ledger: &mut Ledger,
     ) -> Result<(), AllocError>
-        requires answered { F.answered forests.old self.old.forest }
-        requires forest { IsForestInForce terms.now.in_force (F.content forests.old self.old.forest) }
-        requires callbacks { ledger.old.counts.callbacks < 2 ^ 62 }
-        requires weight { ledger.old.counts.weight < 2 ^ 62 }
-        ensures answered { F.answered forests.new self.new.forest }
-        ensures forest { IsForestInForce terms.now.in_force (F.content forests.new self.new.forest) }
-        ensures kept { Keeps F.answered F.content forests.old forests.new }
+        requires held { IsHeld F.ForestView terms.now.in_force forests.old self.old }
+        requires room { HasRoom (2 ^ 62) ledger.old.counts }
+        ensures went { Went F.ForestView terms.now.in_force 255
+            (holding forests.old self.old ledger.old) (holding forests.new self.new ledger.new) }
         ensures made { OnOk result (MakesInForce terms.now.keep terms.now.in_force
             (state_in F.ForestView forests.old self.old notes.old ledger.old)
             (state_in F.ForestView forests.new self.new notes.new ledger.new)
@@ -130,13 +92,19 @@ impl Flow {
             (state_in F.ForestView forests.old self.old notes.old ledger.old) (F.interns forests.new)
             (λ s. at_raise (raise_done (A.meaning terms.now.app.now) s) raise_at.now)) }
         ensures asked { OnOk result (ledger.new.changes.items ≡ []) }
-        ensures rise { RiseBy 255 ledger.old.counts ledger.new.counts }
         ensures count { self.new.count ≡ self.old.count }
     {
         let tree = forests.tree_of(&self.forest);
         ledger.make_room(MOST)?;
         terms.call_at(alloc, tree, raise_at, &mut self.socket, notes, ledger)?;
-        self.settle(alloc, &terms.in_force, forests, ledger)?;
+        change_all(
+            alloc,
+            &terms.in_force,
+            forests,
+            &mut self.forest,
+            ledger.changes.as_slice(),
+        )?;
+        ledger.changes.clear();
         Ok(())
     }
 
@@ -152,14 +120,11 @@ impl Flow {
         notes: &mut Notes,
         ledger: &mut Ledger,
     ) -> Result<(), AllocError>
-        requires answered { F.answered forests.old self.old.forest }
-        requires forest { IsForestInForce terms.now.in_force (F.content forests.old self.old.forest) }
-        requires callbacks { ledger.old.counts.callbacks < 2 ^ 61 }
-        requires weight { ledger.old.counts.weight < 2 ^ 61 }
+        requires held { IsHeld F.ForestView terms.now.in_force forests.old self.old }
+        requires room { HasRoom (2 ^ 61) ledger.old.counts }
         requires quiet { ledger.old.changes.items ≡ [] }
-        ensures answered { F.answered forests.new self.new.forest }
-        ensures forest { IsForestInForce terms.now.in_force (F.content forests.new self.new.forest) }
-        ensures kept { Keeps F.answered F.content forests.old forests.new }
+        ensures went { Went F.ForestView terms.now.in_force 1530
+            (holding forests.old self.old ledger.old) (holding forests.new self.new ledger.new) }
         ensures made { OnOk result (MakesInForce terms.now.keep terms.now.in_force
             (state_in F.ForestView forests.old self.old notes.old ledger.old)
             (state_in F.ForestView forests.new self.new notes.new ledger.new)
@@ -168,7 +133,6 @@ impl Flow {
             (state_in F.ForestView forests.old self.old notes.old ledger.old) (F.interns forests.new)
             (λ s. in_phase (made (A.meaning terms.now.app.now) s) phase.now)) }
         ensures asked { OnOk result (ledger.new.changes.items ≡ []) }
-        ensures rise { RiseBy 1530 ledger.old.counts ledger.new.counts }
         ensures count { self.new.count ≡ self.old.count }
     {
         for event in phase.raised.events.as_slice() {
@@ -192,13 +156,10 @@ impl Flow {
         notes: &mut Notes,
         ledger: &mut Ledger,
     ) -> Result<(), AllocError>
-        requires answered { F.answered forests.old self.old.forest }
-        requires forest { IsForestInForce terms.now.in_force (F.content forests.old self.old.forest) }
-        requires callbacks { ledger.old.counts.callbacks < 2 ^ 61 }
-        requires weight { ledger.old.counts.weight < 2 ^ 61 }
-        ensures answered { F.answered forests.new self.new.forest }
-        ensures forest { IsForestInForce terms.now.in_force (F.content forests.new self.new.forest) }
-        ensures kept { Keeps F.answered F.content forests.old forests.new }
+        requires held { IsHeld F.ForestView terms.now.in_force forests.old self.old }
+        requires room { HasRoom (2 ^ 61) ledger.old.counts }
+        ensures went { Went F.ForestView terms.now.in_force 1530
+            (holding forests.old self.old ledger.old) (holding forests.new self.new ledger.new) }
         ensures stands { OnOk result (ForConnection terms.now.keep terms.now.in_force
             (state_in F.ForestView forests.old self.old notes.old ledger.old)
             (λ s others h. Reached terms.now.keep others
@@ -209,7 +170,6 @@ impl Flow {
             (λ s others h. InternsWithin (F.interns forests.old) (F.interns forests.new)
             h.altered (phase_sending (A.meaning terms.now.app.now) s arrived.now h).altered)) }
         ensures asked { OnOk result (ledger.new.changes.items ≡ []) }
-        ensures rise { RiseBy 1530 ledger.old.counts ledger.new.counts }
         ensures count { self.new.count ≡ self.old.count }
     {
         ledger.begin();
@@ -238,14 +198,11 @@ impl Flow {
         ledger: &mut Ledger,
     ) -> Result<(), AllocError>
         requires count { self.old.count < 2 ^ 30 }
-        requires answered { F.answered forests.old self.old.forest }
-        requires forest { IsForestInForce terms.now.in_force (F.content forests.old self.old.forest) }
-        requires callbacks { ledger.old.counts.callbacks < 2 ^ 61 }
-        requires weight { ledger.old.counts.weight < 2 ^ 61 }
+        requires held { IsHeld F.ForestView terms.now.in_force forests.old self.old }
+        requires room { HasRoom (2 ^ 61) ledger.old.counts }
         requires quiet { ledger.old.changes.items ≡ [] }
-        ensures answered { F.answered forests.new self.new.forest }
-        ensures forest { IsForestInForce terms.now.in_force (F.content forests.new self.new.forest) }
-        ensures kept { Keeps F.answered F.content forests.old forests.new }
+        ensures went { Went F.ForestView terms.now.in_force 1530
+            (holding forests.old self.old ledger.old) (holding forests.new self.new ledger.new) }
         ensures stands { OnOk result (MakesInForce terms.now.keep terms.now.in_force
             (state_in F.ForestView forests.old self.old notes.old ledger.old)
             (state_in F.ForestView forests.new self.new notes.new ledger.new)
@@ -253,8 +210,6 @@ impl Flow {
         ensures failed { OnErr result (CostsInForce terms.now.keep terms.now.in_force
             (state_in F.ForestView forests.old self.old notes.old ledger.old) (F.interns forests.new)
             (λ s. phase_receiving (A.meaning terms.now.app.now) s arrived.now self.old.count)) }
-        ensures rise { RiseBy 1530 ledger.old.counts ledger.new.counts }
-        ensures count { self.new.count ≤ self.old.count + 1 }
         ensures counted { OnOk result (self.new.count ≡ self.old.count + 1) }
     {
         let nth = self.count;
@@ -289,14 +244,11 @@ impl Flow {
         ledger: &mut Ledger,
     ) -> Result<(), AllocError>
         requires count { self.old.count < 2 ^ 30 }
-        requires answered { F.answered forests.old self.old.forest }
-        requires forest { IsForestInForce terms.now.in_force (F.content forests.old self.old.forest) }
-        requires callbacks { ledger.old.counts.callbacks < 2 ^ 61 }
-        requires weight { ledger.old.counts.weight < 2 ^ 61 }
+        requires held { IsHeld F.ForestView terms.now.in_force forests.old self.old }
+        requires room { HasRoom (2 ^ 61) ledger.old.counts }
         requires quiet { ledger.old.changes.items ≡ [] }
-        ensures answered { F.answered forests.new self.new.forest }
-        ensures forest { IsForestInForce terms.now.in_force (F.content forests.new self.new.forest) }
-        ensures kept { Keeps F.answered F.content forests.old forests.new }
+        ensures went { Went F.ForestView terms.now.in_force 1530
+            (holding forests.old self.old ledger.old) (holding forests.new self.new ledger.new) }
         ensures stands { OnOk result (ForPacketUnderWay terms.now.keep terms.now.in_force
             (state_in F.ForestView forests.old self.old notes.old ledger.old)
             (λ s others h c. Stepped terms.now.keep others
@@ -306,8 +258,6 @@ impl Flow {
             (state_in F.ForestView forests.old self.old notes.old ledger.old)
             (λ s others h c. InternsWithin (F.interns forests.old) (F.interns forests.new)
             c.altered (gone_on (A.meaning terms.now.app.now) s arrived.now h c).altered)) }
-        ensures rise { RiseBy 1530 ledger.old.counts ledger.new.counts }
-        ensures count { self.new.count ≤ self.old.count + 1 }
     {
         match ledger.drop {
             None => {
@@ -332,38 +282,19 @@ impl Flow {
         ledger: &mut Ledger,
     ) -> Result<Step, AllocError>
         requires count { self.old.count < 2 ^ 30 }
-        requires answered { F.answered forests.old self.old.forest }
-        requires forest { IsForestInForce terms.now.in_force (F.content forests.old self.old.forest) }
-        requires callbacks { ledger.old.counts.callbacks < 2 ^ 60 }
-        requires weight { ledger.old.counts.weight < 2 ^ 60 }
-        ensures answered { F.answered forests.new self.new.forest }
-        ensures forest { IsForestInForce terms.now.in_force (F.content forests.new self.new.forest) }
-        ensures kept { Keeps F.answered F.content forests.old forests.new }
-        ensures stands { OnOk result (ForConnection terms.now.keep terms.now.in_force
+        requires held { IsHeld F.ForestView terms.now.in_force forests.old self.old }
+        requires room { HasRoom (2 ^ 60) ledger.old.counts }
+        ensures went { Went F.ForestView terms.now.in_force 3060
+            (holding forests.old self.old ledger.old) (holding forests.new self.new ledger.new) }
+        ensures stands { IfOk result (λ step. StepsTo (A.meaning terms.now.app.now) terms.now.keep terms.now.in_force arrived.now
             (state_in F.ForestView forests.old self.old notes.old ledger.old)
-            (λ s others h. IsConnection terms.now.keep others
-            (registered terms.now.in_force) (F.content forests.new self.new.forest) self.new notes.new ledger.new.counts
-            (followed_by (A.meaning terms.now.app.now) s arrived.now h))) }
+            (state_in F.ForestView forests.new self.new notes.new ledger.new) step) }
 
-        // At most one intern for each change that alters the private list, also where memory is refused on the way.
-        ensures interned { ForConnection terms.now.keep terms.now.in_force
+        // Where memory is refused on the way, too, it costs at most one intern for each change that alters the private list.
+        ensures failed { OnErr result (ForConnection terms.now.keep terms.now.in_force
             (state_in F.ForestView forests.old self.old notes.old ledger.old)
             (λ s others h. InternsWithin (F.interns forests.old) (F.interns forests.new)
-            h.altered (followed_by (A.meaning terms.now.app.now) s arrived.now h).altered) }
-
-        ensures over { IfOk result (λ step. ForConnection terms.now.keep terms.now.in_force
-            (state_in F.ForestView forests.old self.old notes.old ledger.old)
-            (λ s others h. step.over ≡ is_over (followed_by (A.meaning terms.now.app.now) s arrived.now h))) }
-        ensures verdict { IfOk result (λ step. ForConnection terms.now.keep terms.now.in_force
-            (state_in F.ForestView forests.old self.old notes.old ledger.old)
-            (λ s others h. step.verdict
-            ≡ verdict (A.meaning terms.now.app.now) s arrived.now.number arrived.now.from arrived.now.head.now arrived.now.scale h)) }
-        ensures drops { IfOk result (λ step. ForConnection terms.now.keep terms.now.in_force
-            (state_in F.ForestView forests.old self.old notes.old ledger.old)
-            (λ s others h. (followed_by (A.meaning terms.now.app.now) s arrived.now h).drops
-            ≡ h.drops ++ drops_of step.verdict arrived.now.number)) }
-        ensures rise { RiseBy 3060 ledger.old.counts ledger.new.counts }
-        ensures count { self.new.count ≤ self.old.count + 1 }
+            h.altered (followed_by (A.meaning terms.now.app.now) s arrived.now h).altered)) }
     {
         self.send(alloc, terms, forests, arrived, notes, ledger)?;
         let verdict = verdict_of(ledger.drop);

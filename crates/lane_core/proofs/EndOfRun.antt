@@ -1,34 +1,35 @@
 -- The end of a run, record by record.
 use Rattle.std.proofs.Common.{◌≡◌, ℕ, zero, suc, ◌+◌, ◌<◌, ◌≤◌, Bool, true, false, Option, Some, None, List, [], ◌∷◌, length, get_or, set, refl, sym, ap, subst, ◌∙◌, map, arith, le_refl}
 use Rattle.std.proofs.lemmas.List.{set-get_or, get_or-map, length-map}
-use Rattle.std.proofs.lemmas.Bool.{eqb-true, eq-eqb}
 use Rattle.std.proofs.lemmas.Grind.{common_steps}
 use Rattle.std.specs.Prelude.{if◌then◌else◌, ◌&&◌, not, nat_lt, MatchBool}
 use Rattle.flow_table.specs.Key.{EndpointPair, key_between, same_key}
-use Rattle.flow_table.specs.Table.{Flows, found}
+use Rattle.flow_table.specs.Table.{found}
 use Rattle.flow_table.proofs.Keys.{same_key-reflexive}
 use Rattle.packet_views.specs.declared.packet.Class.{Class}
 use Rattle.app_api.specs.App.{Meaning}
 use Rattle.report_text.specs.declared.record.RecordKind.TheVariants.{Conn, Orphan}
-use Rattle.shared_forest.specs.declared.store.Shared.{Shared}
-use Rattle.shared_forest.specs.Lists.{TreeLists}
+use Rattle.shared_forest.specs.declared.store.ForestView.{Ghosts}
 use Rattle.forest_versions.specs.State.{ControlState}
 use Rattle.forest_versions.specs.Master.{Versions, Tells}
-use Rattle.connection_core.specs.declared.ledger.Counts.{Counts}
 use Rattle.connection_core.specs.InForce.{registered_at}
 use Rattle.flow_table.specs.declared.endpoint.Endpoint.{Endpoint}
 use Rattle.lane_core.specs.declared.connection.Connection.{Connection}
+use Rattle.lane_core.specs.declared.records.Records.{Records}
 use Rattle.lane_core.specs.declared.under_way.RecordUnderWay.{RecordUnderWay}
 use Rattle.lane_core.specs.Sight.{Segment, Sight, Tcp, Other, Moment, key_of_segment}
 use Rattle.lane_core.specs.Records.{RecordSoFar, opens, is_between, is_shut, is_open_at, is_silent, ended_at}
 use Rattle.lane_core.specs.Shown.{kind_of, total, weight}
 use Rattle.lane_core.specs.Places.{further, place_by, place_of, IsSingle}
-use Rattle.lane_core.specs.Kept.{IsOpenAt, AreKept, slot_of}
-use Rattle.lane_core.specs.Silences.{IsHeard, Silences, Goes}
-use Rattle.lane_core.specs.Closing.{is_at}
-use Rattle.lane_core.proofs.Ended.{ended}
+use Rattle.lane_core.specs.Idle.{IsIdle}
+use Rattle.lane_core.specs.Steps.{Taking}
+use Rattle.lane_core.specs.Kept.{IsOpenAt, slot_of}
+use Rattle.lane_core.specs.Packets.{KeepsSoFar, ForSoFar, Ends}
+use Rattle.lane_core.specs.Closing.{EndsOne, EndsAll, IsTooHeavy}
+use Rattle.lane_core.proofs.Ended.{ended, all_same}
 use Rattle.lane_core.proofs.Places.{place_by-fails, place_by-passes}
-use Rattle.lane_core.proofs.Silencing.{silent_as, silenced_kept, kept_same}
+use Rattle.lane_core.proofs.Holding.{left_of_and}
+use Rattle.lane_core.proofs.Idleness.{idle_as, never_idle}
 use Rattle.lane_core.proofs.Weighing.{end_weighs}
 
 -- ---- one record
@@ -54,7 +55,7 @@ module _ (app : Meaning) (control_at : ℕ → ControlState) (now : Moment) wher
   heard_case true false past = refl
   heard_case false b past = refl
 
-  -- one that wasn't silent for too long
+  -- one that wasn't idle for too long
   pub heard_stays : (past : RecordSoFar) → is_silent app control_at now past ≡ false → at_end past ≡ past
   heard_stays past heard =
       ap (λ c. if opens past.first.sight && not (is_shut past) && c then over past else past) heard
@@ -182,24 +183,26 @@ either_so false P so otherwise = otherwise refl
 pub within_by : (keep : Bool) (slots : List RecordUnderWay) (pasts : List RecordSoFar) (i : ℕ) → slots ≡ map (slot_of keep) pasts → i < length slots → i < length pasts
 within_by keep slots pasts i shown within = subst (λ n. i < n) (ap length shown ∙ length-map pasts (slot_of keep)) within
 
-module _ (app : Meaning) (control_at : ℕ → ControlState) (keep : Bool) (m : Versions) (tells : (v : ℕ) → Tells m v (control_at v)) (now : Moment) (content : Shared → TreeLists)
-    (flows : Flows Connection) (slots : List RecordUnderWay) (counts : Counts) (pasts : List RecordSoFar) (stands : AreKept keep (registered_at m) content flows slots counts pasts)
-    (i : ℕ) (d : RecordSoFar) (within : i < length pasts) where
+module _ {F : Type 0} {store : Ghosts F} (t : Taking) (control_at : ℕ → ControlState) (old : Records F store) (tells : (v : ℕ) → Tells old.master v (control_at v))
+    (pasts : List RecordSoFar) (stands : KeepsSoFar t.keep old pasts) (i : ℕ) (d : RecordSoFar) (within : i < length pasts) where
   abbrev here : RecordSoFar
   here = get_or pasts i d
 
-  -- its record under way has its kind
-  pub kind_there : (slot : RecordUnderWay) → slot ≡ get_or slots i slot → slot.kind ≡ kind_of here.first.sight
-  kind_there slot at =
-      ap (λ (s : RecordUnderWay). s.kind) (at ∙ ap (λ ss. get_or ss i slot) stands.shown ∙ get_or-map (slot_of keep) pasts i d slot within)
+  abbrev here_at_end : RecordSoFar
+  here_at_end = at_end t.app control_at t.moment here
 
-  stays : at_end app control_at now here ≡ here → set pasts i (at_end app control_at now here) ≡ pasts
+  -- its record under way has its kind
+  pub kind_there : (slot : RecordUnderWay) → slot ≡ get_or old.list.items i slot → slot.kind ≡ kind_of here.first.sight
+  kind_there slot at =
+      ap (λ (s : RecordUnderWay). s.kind) (at ∙ ap (λ ss. get_or ss i slot) stands.shown ∙ get_or-map (slot_of t.keep) pasts i d slot within)
+
+  stays : here_at_end ≡ here → set pasts i here_at_end ≡ pasts
   stays same = ap (set pasts i) same ∙ set-get_or pasts i d
 
   -- the record of an orphan
-  pub orphan_stays : (class : Class) → kind_of here.first.sight ≡ Orphan class → set pasts i (at_end app control_at now here) ≡ pasts
+  pub orphan_stays : (class : Class) → kind_of here.first.sight ≡ Orphan class → set pasts i here_at_end ≡ pasts
   orphan_stays class kind =
-      stays (shut_stays app control_at now here (ap (λ b. b && not (is_shut here)) (orphan_shut here.first.sight class kind)))
+      stays (shut_stays t.app control_at t.moment here (ap (λ b. b && not (is_shut here)) (orphan_shut here.first.sight class kind)))
 
   module _ (client server : Endpoint) (kind : kind_of here.first.sight ≡ Conn client server) where
     abbrev key : EndpointPair
@@ -210,39 +213,108 @@ module _ (app : Meaning) (control_at : ℕ → ControlState) (keep : Bool) (m : 
         place_by-there (is_open_at key) pasts i d (stands.single key) within
         (all_three (opens here.first.sight) (is_between key here.first.sight) (not (is_shut here)) is (conn_between here.first.sight client server kind))
 
-    at_place : (o : Option Connection) → IsOpenAt (registered_at m) content o (place_of key pasts) pasts → place_of key pasts ≡ Some i → is_at i o ≡ true
-    at_place None none there = absurd (let e = sym none ∙ there in cc)
-    at_place (Some conn) at there =
-        let e = sym at.0 ∙ there in let same : conn.place ≡ i = cc in rw same (eq-eqb i i refl)
+    -- the table has no connection of its key with its record at this place
+    abbrev HasOther : Type 0
+    HasOther = (conn : Connection) → found old.connections key ≡ Some conn → conn.place ≡ i → ⊥
+
+    not_other : (o : Option Connection) → found old.connections key ≡ o → IsOpenAt (registered_at old.master) (store.content old.forests) o (place_of key pasts) pasts
+        → place_of key pasts ≡ Some i → HasOther → ⊥
+    not_other None is none there other = absurd (let e = sym none ∙ there in cc)
+    not_other (Some conn) is at there other = let e = sym at.0 ∙ there in let same : conn.place ≡ i = cc in other conn is same
 
     -- one whose key has another connection, or none
-    pub other_stays : is_at i (found flows key) ≡ false → set pasts i (at_end app control_at now here) ≡ pasts
+    pub other_stays : HasOther → set pasts i here_at_end ≡ pasts
     other_stays other =
-        stays (either_so (opens here.first.sight && not (is_shut here)) (at_end app control_at now here ≡ here)
-        (λ is. absurd (false_is_true (is_at i (found flows key)) other (at_place (found flows key) (stands.placed key) (open_there is))))
-        (λ shut. shut_stays app control_at now here shut))
+        stays (either_so (opens here.first.sight && not (is_shut here)) (here_at_end ≡ here)
+        (λ is. absurd (not_other (found old.connections key) refl (stands.placed key) (open_there is) other))
+        (λ shut. shut_stays t.app control_at t.moment here shut))
 
-    heard_at : (o : Option Connection) → is_at i o ≡ true → IsHeard m now o → IsOpenAt (registered_at m) content o (place_of key pasts) pasts → at_end app control_at now here ≡ here
-    heard_at None is heard at = absurd (cc)
-    heard_at (Some conn) is heard at =
-        let same : conn.place ≡ i = eqb-true conn.place i is in
-        heard_stays app control_at now here
-        (subst (λ j. is_silent app control_at now (get_or pasts j d) ≡ false) same
-        (silent_as app control_at keep m tells now content conn (get_or pasts conn.place d) false (at.1 d) heard))
+    module _ (conn : Connection) (was : found old.connections key ≡ Some conn) (same : conn.place ≡ i) where
+      at : IsOpenAt (registered_at old.master) (store.content old.forests) (Some conn) (place_of key pasts) pasts
+      at = subst (λ o. IsOpenAt (registered_at old.master) (store.content old.forests) o (place_of key pasts) pasts) was (stands.placed key)
 
-    -- the one that has its key's open connection, whether that was silent for too long or not
-    pub one_kept : (new : Flows Connection) (slots' : List RecordUnderWay) (counts' : Counts) (ended : Bool) → is_at i (found flows key) ≡ true
-        → (ended ≡ true → Silences app keep m content flows new slots slots' counts counts' key now) → (ended ≡ false → Goes m flows new slots slots' counts counts' key now)
-        → AreKept keep (registered_at m) content new slots' counts' (set pasts i (at_end app control_at now here))
-    one_kept new slots' counts' true is silences goes =
-        let s = silences refl in
-        let k = silenced_kept app control_at keep m tells now content flows slots counts key pasts stands new slots' counts' d s in
-        let same : s.conn.place ≡ i = eqb-true s.conn.place i (subst (λ o. is_at i o ≡ true) s.was is) in
-        let passes = place_by-passes (is_open_at key) pasts s.conn.place d k.there in
-        subst (λ j. AreKept keep (registered_at m) content new slots' counts' (set pasts j (at_end app control_at now (get_or pasts j d)))) same
-        (subst (λ q. AreKept keep (registered_at m) content new slots' counts' (set pasts s.conn.place q))
-        (sym (silent_ends app control_at now (get_or pasts s.conn.place d) key passes k.silent)) k.kept)
-    one_kept new slots' counts' false is silences goes =
-        let n = goes refl in
-        subst (λ l. AreKept keep (registered_at m) content new slots' counts' l) (sym (stays (heard_at (found flows key) is n.heard (stands.placed key))))
-        (kept_same app control_at keep m tells now content flows slots counts key pasts stands new slots' counts' n)
+      idle_is : (idle : Bool) → IsIdle old.master conn t.moment idle → is_silent t.app control_at t.moment here ≡ idle
+      idle_is idle so =
+          subst (λ j. is_silent t.app control_at t.moment (get_or pasts j d) ≡ idle) same
+          (idle_as t control_at old tells pasts stands conn (get_or pasts conn.place d) idle (at.1 d) so)
+
+      -- one that wasn't idle for too long
+      pub heard_one : IsIdle old.master conn t.moment false → set pasts i here_at_end ≡ pasts
+      heard_one heard = stays (heard_stays t.app control_at t.moment here (idle_is false heard))
+
+      -- one that was
+      pub idle_one : (new : Records F store) → IsIdle old.master conn t.moment true → control_at old.master.version ≡ old.master.now → Ends t old new key
+          → KeepsSoFar t.keep new (set pasts i here_at_end)
+      idle_one new idle now e =
+          let there = at.0 ∙ ap Some same in
+          subst (λ q. KeepsSoFar t.keep new (set pasts i q))
+          (sym (silent_ends t.app control_at t.moment here key (place_by-passes (is_open_at key) pasts i d there) (idle_is true idle)))
+          (e.ended control_at pasts tells now stands i d there)
+
+-- one that leaves the records as they were ended what it had to
+pub stays_one : {F : Type 0} {store : Ghosts F} (t : Taking) (r : Records F store) (i : ℕ)
+    → ((control_at : ℕ → ControlState) (pasts : List RecordSoFar) → ((v : ℕ) → Tells r.master v (control_at v)) → KeepsSoFar t.keep r pasts → (d : RecordSoFar)
+    → set pasts i (at_end t.app control_at t.moment (get_or pasts i d)) ≡ pasts) → EndsOne t r r i
+stays_one t r i same = record {
+  ended = λ control_at pasts tells now stands d. subst (KeepsSoFar t.keep r) (sym (same control_at pasts tells stands d)) stands;
+}
+
+-- ---- all records, one after the other
+
+module _ {F : Type 0} {store : Ghosts F} (t : Taking) (old new : Records F store) where
+  -- the first ones have ended
+  abbrev pub EndsFront : ℕ → Type 0
+  EndsFront i = ForSoFar t.keep old (λ control_at so_far. KeepsSoFar t.keep new (front t.app control_at t.moment i so_far))
+
+  pub front_is_all : (i : ℕ) → length old.list.items ≤ i → EndsFront i → EndsAll t.app t.keep old new (Some t.moment)
+  front_is_all i high ends = record {
+    ended = λ control_at pasts tells now stands.
+        let all : length pasts ≤ i = subst (λ n. n ≤ i) (ap length stands.shown ∙ length-map pasts (slot_of t.keep)) high in
+        subst (KeepsSoFar t.keep new) (front_all t.app control_at t.moment i pasts all) (ends control_at pasts tells now stands);
+  }
+
+  pub front_is_heavy : (i : ℕ) → EndsFront i → (t.keep && nat_lt 134217728 new.ledger.counts.weight) ≡ true → IsTooHeavy t.app t.keep old (Some t.moment)
+  front_is_heavy i ends over = record {
+    keeps = left_of_and t.keep _ over;
+    heavy = λ control_at pasts tells now stands.
+        let weighed = (ends control_at pasts tells now stands).weighed in
+        let more = front_weighs t.app control_at t.moment i pasts in
+        let heavy = too_heavy t.keep new.ledger.counts.weight over in
+        omega (arith, heavy, weighed, more);
+  }
+
+-- and the next one
+pub front_more : {F : Type 0} {store : Ghosts F} (t : Taking) (old mid new : Records F store) (i : ℕ) → EndsFront t old mid i → mid.master ≡ old.master → i < length mid.list.items
+    → EndsOne t mid new i → EndsFront t old new (i + 1)
+front_more t old mid new i ends master low one control_at pasts tells now stands =
+    let lent = ends control_at pasts tells now stands in
+    let within = subst (λ n. i < n) (front_length t.app control_at t.moment i pasts) (within_by t.keep mid.list.items (front t.app control_at t.moment i pasts) i lent.shown low) in
+    front_step t.app control_at t.moment (KeepsSoFar t.keep new) i pasts within
+    (λ d. one.ended control_at (front t.app control_at t.moment i pasts) (subst (λ (m : Versions). (v : ℕ) → Tells m v (control_at v)) (sym master) tells)
+    (subst (λ (m : Versions). control_at m.version ≡ m.now) (sym master) now) lent d)
+
+-- ---- where no record ends
+
+-- there is no greatest moment
+pub none_by : {F : Type 0} {store : Ghosts F} (app : Meaning) (keep : Bool) (r : Records F store) → EndsAll app keep r r None
+none_by app keep r = record {
+  ended = λ control_at pasts tells now stands. subst (KeepsSoFar keep r) (sym (all_same (λ past. past) (λ past. refl) pasts)) stands;
+}
+
+-- nothing is limited
+pub none_limited : {F : Type 0} {store : Ghosts F} (app : Meaning) (keep : Bool) (r : Records F store) (last : Moment)
+    → ((v : ℕ) (s : ControlState) → Tells r.master v s → s.idle ≡ None) → EndsAll app keep r r (Some last)
+none_limited app keep r last never = record {
+  ended = λ control_at pasts tells now stands.
+      subst (KeepsSoFar keep r)
+      (sym (all_same (ended_at app control_at (Some last)) (λ past. heard_stays app control_at last past (never_idle app last control_at r.master tells never past)) pasts)) stands;
+}
+
+-- all weigh too much then
+pub all_heavy : {F : Type 0} {store : Ghosts F} (app : Meaning) (keep : Bool) (old new : Records F store) (last : Option Moment) → EndsAll app keep old new last
+    → (keep && nat_lt 134217728 new.ledger.counts.weight) ≡ true → IsTooHeavy app keep old last
+all_heavy app keep old new last ends over = record {
+  keeps = left_of_and keep _ over;
+  heavy = λ control_at pasts tells now stands.
+      subst (λ n. 134217728 < n) (ends.ended control_at pasts tells now stands).weighed (too_heavy keep new.ledger.counts.weight over);
+}

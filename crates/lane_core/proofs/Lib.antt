@@ -12,8 +12,7 @@ pub mod Verdicts
 pub mod Stored
 pub mod Continued
 pub mod Started
-pub mod Silencing
-pub mod Joining
+pub mod Idleness
 pub mod Presets
 pub mod Pieces
 pub mod Weighing
@@ -28,3 +27,6 @@ pub mod EndOfRun
 pub mod Reporting
 mod Dropping
 mod Once
+pub mod Following
+pub mod Live
+pub mod Joined

@@ -1,17 +1,13 @@
 -- What holds of each open connection, as one of them makes a step, is closed, or is added.
-use Rattle.std.proofs.Common.{◌≡◌, ℕ, ◌+◌, ◌≤◌, Bool, true, false, Option, Some, None, refl, sym, ap, subst, ◌∙◌, arith, Result, Ok, Err}
+use Rattle.std.proofs.Common.{◌≡◌, Bool, true, false, Option, Some, None, refl, sym, ap, subst, ◌∙◌, Result, Ok, Err}
 use Rattle.std.proofs.lemmas.Option.{same_Some}
 use Rattle.std.specs.Prelude.{if◌then◌else◌, ◌&&◌, not, OnOk, OnErr}
 use Rattle.flow_table.specs.Key.{EndpointPair, same_key}
 use Rattle.flow_table.specs.Table.{Flows, found}
 use Rattle.flow_table.proofs.Keys.{keys_total, exact_keys, same_key-equal}
 use Rattle.std.specs.FinMap.{same_map}
-use Rattle.shared_forest.specs.declared.store.Shared.{Shared}
-use Rattle.shared_forest.specs.Lists.{TreeLists}
-use Rattle.shared_forest.specs.Store.{Keeps}
-use Rattle.forest_versions.specs.Master.{Versions}
 use Rattle.lane_core.specs.declared.connection.Connection.{Connection}
-use Rattle.lane_core.specs.Trees.{IsTree, AllOpen, AreAnswered, AreTrees, AreShort}
+use Rattle.lane_core.specs.Trees.{AllOpen}
 
 stepped_case : (P : Connection → Type 0) (b : Bool) (o : Option Connection) (after x : Connection) → P after → ((y : Connection) → o ≡ Some y → P y) → (if b then Some after else o) ≡ Some x → P x
 stepped_case P true o after x here others is = subst P (same_Some after x is) here
@@ -35,7 +31,7 @@ pub same_flows : (old new : Flows Connection) (key : EndpointPair) (conn : Conne
 same_flows old new key conn left was =
     same_map keys_total exact_keys new old (λ q. left q ∙ as_before (same_key key q) old key q conn refl was)
 
-there_before : (b : Bool) (o : Option Connection) (x : Connection) → (if b then None else o) ≡ Some x → o ≡ Some x
+pub there_before : (b : Bool) (o : Option Connection) (x : Connection) → (if b then None else o) ≡ Some x → o ≡ Some x
 there_before true o x is = absurd (cc)
 there_before false o x is = is
 
@@ -51,50 +47,3 @@ pub all_kept : {T E : Type 0} (P : Connection → Type 0) (r : Result T E) (flow
 all_kept P (Ok v) flows after key conn over left same here all q x is =
     stepped_case P (not over && same_key key q) (found flows q) conn x here (all q) (sym (left q) ∙ is)
 all_kept P (Err e) flows after key conn over left same here all q x is = all q x (ap (λ (m : Flows Connection). found m q) (sym same) ∙ is)
-
--- ---- a store that keeps what it answered
-
-pub answered_kept : {S : Type 0} (answered : S → Shared → Type 0) (content : S → Shared → TreeLists) (old new : S) (flows : Flows Connection) → Keeps answered content old new
-    → AreAnswered (answered old) flows → AreAnswered (answered new) flows
-answered_kept answered content old new flows kept all q x is = kept.still_answered x.flow.forest (all q x is)
-
-pub contents_kept : {S : Type 0} (answered : S → Shared → Type 0) (content : S → Shared → TreeLists) (old new : S) (flows : Flows Connection) → Keeps answered content old new
-    → AreAnswered (answered old) flows → (key : EndpointPair) (x : Connection) → found flows key ≡ Some x → content new x.flow.forest ≡ content old x.flow.forest
-contents_kept answered content old new flows kept there q x is = kept.same_content x.flow.forest (there q x is)
-
-pub trees_kept : {S : Type 0} (m : Versions) (answered : S → Shared → Type 0) (content : S → Shared → TreeLists) (old new : S) (flows : Flows Connection) → Keeps answered content old new
-    → AreAnswered (answered old) flows → AreTrees m (content old) flows → AreTrees m (content new) flows
-trees_kept m answered content old new flows kept there all q x is =
-    subst (IsTree m x.version) (sym (contents_kept answered content old new flows kept there q x is)) (all q x is)
-
--- ---- a step of one connection
-
-pub answered_stepped : {S : Type 0} (answered : S → Shared → Type 0) (content : S → Shared
-    → TreeLists) (store store_after : S) (old new : Flows Connection) (key : EndpointPair) (after : Connection) → Keeps answered content store store_after
-    → ((other : EndpointPair) → found new other ≡ (if same_key key other then Some after else found old other)) → answered store_after after.flow.forest
-    → AreAnswered (answered store) old → AreAnswered (answered store_after) new
-answered_stepped answered content store store_after old new key after kept left here all =
-    all_stepped (λ x. answered store x.flow.forest) (λ x. answered store_after x.flow.forest) old new key after left here (λ q x there a. kept.still_answered x.flow.forest a) all
-
-pub trees_stepped : {S : Type 0} (m : Versions) (answered : S → Shared → Type 0) (content : S → Shared
-    → TreeLists) (store store_after : S) (old new : Flows Connection) (key : EndpointPair) (after : Connection) → Keeps answered content store store_after
-    → ((other : EndpointPair) → found new other ≡ (if same_key key other then Some after else found old other)) → IsTree m after.version (content store_after after.flow.forest)
-    → AreAnswered (answered store) old → AreTrees m (content store) old → AreTrees m (content store_after) new
-trees_stepped m answered content store store_after old new key after kept left here there all =
-    all_stepped (λ x. IsTree m x.version (content store x.flow.forest)) (λ x. IsTree m x.version (content store_after x.flow.forest)) old new key after left here
-    (λ q x is tree. subst (IsTree m x.version) (sym (contents_kept answered content store store_after old kept there q x is)) tree) all
-
--- more packets
-pub short_longer : (n m : ℕ) (flows : Flows Connection) → n ≤ m → AreShort n flows → AreShort m flows
-short_longer n m flows less all q x is = let short = all q x is in omega (arith, short, less)
-
-short_on : (n count count_after : ℕ) → count ≤ n → count_after ≤ count + 1 → count_after ≤ n + 1
-short_on n count count_after short one = omega arith
-
-pub short_stepped : (n : ℕ) (old new : Flows Connection) (key : EndpointPair) (conn after : Connection)
-    → ((other : EndpointPair) → found new other ≡ (if same_key key other then Some after else found old other))
-    → found old key ≡ Some conn → after.flow.count ≤ conn.flow.count + 1 → AreShort n old → AreShort (n + 1) new
-short_stepped n old new key conn after left was one all =
-    all_stepped (λ x. x.flow.count ≤ n) (λ x. x.flow.count ≤ n + 1) old new key after left
-    (short_on n conn.flow.count after.flow.count (all key conn was) one)
-    (λ q x is short. omega (arith, short)) all

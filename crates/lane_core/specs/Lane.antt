@@ -2,22 +2,21 @@
 use Rattle.std.specs.Prelude.{◌≡◌, ℕ, ◌<◌, Bool, true, Option, Some, None, List, [], ◌∷◌, ◌++◌, length, map, if◌then◌else◌, zero, suc, ⊤}
 use Rattle.app_api.specs.App.{Meaning}
 use Rattle.app_api.specs.declared.reaction.Verdict.{Verdict}
-use Rattle.shared_forest.specs.declared.store.Shared.{Shared}
+use Rattle.shared_forest.specs.declared.store.ForestView.{Ghosts}
 use Rattle.shared_forest.specs.Lists.{TreeLists}
 use Rattle.shared_forest.specs.Listing.{listing}
 use Rattle.event_trees.specs.declared.defs.EventDef.{EventDef}
 use Rattle.event_trees.specs.Edit.{IsForestOf}
 use Rattle.report_text.specs.declared.record.Record.{Record}
-use Rattle.forest_versions.specs.Master.{Versions, StandsFor}
-use Rattle.connection_core.specs.InForce.{registered_at}
+use Rattle.forest_versions.specs.Master.{StandsFor}
 use Rattle.lane_core.specs.declared.errors.LaneError.{LaneError}
 use Rattle.lane_core.specs.declared.errors.LaneError.TheVariants.{Heavy}
-use Rattle.lane_core.specs.declared.kept.Kept.{Kept}
+use Rattle.lane_core.specs.declared.records.Records.{Records}
 use Rattle.lane_core.specs.Sight.{Moment, Arrival}
 use Rattle.lane_core.specs.Records.{RecordSoFar, verdict_on}
 use Rattle.lane_core.specs.Run.{LaneEvent, Arrived, commands_of, control_of, lane_run, ended_run, newest_of}
 use Rattle.lane_core.specs.Shown.{record_of, callbacks_of, drops_of, weight}
-use Rattle.lane_core.specs.Kept.{Keeps}
+use Rattle.lane_core.specs.Packets.{KeepsSoFar}
 
 -- one more packet, or one more command
 abbrev pub with_event : LaneEvent → List LaneEvent → List LaneEvent
@@ -53,16 +52,18 @@ abbrev pub HadFailed : Option LaneError → (LaneError → Type 0) → Type 0
 HadFailed failed holds = (e : LaneError) → failed ≡ Some e → holds e
 
 -- one that hadn't failed went on by an event: whatever it stood for, it stands for with this behind it
-abbrev pub GoesOn : {L : Type 0} → (L → Option LaneError) → (L → List LaneEvent → Type 0) → L → L → LaneEvent → Type 0
-GoesOn failed stands old new event = failed old ≡ None → ForEvents (stands old) (λ events. stands new (with_event event events))
+module _ {L : Type 0} (failed : L → Option LaneError) (stands : L → List LaneEvent → Type 0) where
+  abbrev pub GoesOn : L → L → LaneEvent → Type 0
+  GoesOn old new event = failed old ≡ None → ForEvents (stands old) (λ events. stands new (with_event event events))
 
--- a lane keeps entries, and they are too heavy: `heavy` holds of whatever events it stands for
-abbrev pub KeepsTooMuch : {L : Type 0} → (L → Bool) → (L → Meaning) → (L → List LaneEvent → Type 0) → L → (Meaning → List LaneEvent → Type 0) → Type 0
-KeepsTooMuch keeps app stands lane heavy = (keeps lane ≡ true) × ForEvents (stands lane) (heavy (app lane))
+module _ {L : Type 0} (keeps : L → Bool) (app : L → Meaning) (stands : L → List LaneEvent → Type 0) (lane : L) where
+  -- a lane keeps entries, and they are too heavy: `heavy` holds of whatever events it stands for
+  abbrev pub KeepsTooMuch : (Meaning → List LaneEvent → Type 0) → Type 0
+  KeepsTooMuch heavy = (keeps lane ≡ true) × ForEvents (stands lane) (heavy (app lane))
 
--- if it keeps entries, they aren't
-abbrev pub KeepsWithin : {L : Type 0} → (L → Bool) → (L → Meaning) → (L → List LaneEvent → Type 0) → L → (Meaning → List LaneEvent → Type 0) → Type 0
-KeepsWithin keeps app stands lane heavy = keeps lane ≡ true → ForEvents (stands lane) (λ events. heavy (app lane) events → ⊥)
+  -- if it keeps entries, they aren't
+  abbrev pub KeepsWithin : (Meaning → List LaneEvent → Type 0) → Type 0
+  KeepsWithin heavy = keeps lane ≡ true → ForEvents (stands lane) (λ events. heavy (app lane) events → ⊥)
 
 -- the number of the last packet, from one more than it
 abbrev pub newest_by : ℕ → Option ℕ
@@ -77,11 +78,11 @@ IsTreeFound defs (Some connection) None = ⊥
 IsTreeFound defs (Some connection) (Some tree) = IsForestOf defs connection.history.active (listing tree)
 
 -- a lane that hasn't failed keeps the records of these events; one that failed as heavy had records that weigh too much
-pub record IsRun (app : Meaning) (keep : Bool) (m : Versions) (content : Shared → TreeLists) (kept : Kept) (next : ℕ) (failed : Option LaneError) (events : List LaneEvent) : Type 0 where
-  pub newest : newest_of events ≡ newest_by next
-  pub commands : failed ≡ None → StandsFor m app.presets (commands_of events)
-  pub records : failed ≡ None → Keeps keep (registered_at m) content kept (lane_run app events)
-  pub dropped : failed ≡ None → kept.dropped ≡ drops_of (lane_run app events)
+pub record IsRun {F : Type 0} {store : Ghosts F} (app : Meaning) (keep : Bool) (lane : Records F store) (failed : Option LaneError) (events : List LaneEvent) : Type 0 where
+  pub newest : newest_of events ≡ newest_by lane.next
+  pub commands : failed ≡ None → StandsFor lane.master app.presets (commands_of events)
+  pub records : failed ≡ None → KeepsSoFar keep lane (lane_run app events)
+  pub dropped : failed ≡ None → lane.dropped ≡ drops_of (lane_run app events)
   pub heavy : failed ≡ Some Heavy → IsHeavy app events
 
 -- a packet comes after these: its number is above that of the last

@@ -9,9 +9,9 @@ pub mod Once
 pub mod Places
 pub mod End
 pub mod Trees
-pub mod Settings
+pub mod Live
 pub mod Steps
-pub mod Silences
+pub mod Idle
 pub mod Kept
 pub mod Packets
 pub mod Closing

@@ -88,7 +88,7 @@ pub struct KeptEnd {
 pub(crate) struct Closed<A> {
     pub(crate) app: A,
     /// The records in order of name.
-    pub(crate) slots: Vec<RecordUnderWay>,
+    pub(crate) list: Vec<RecordUnderWay>,
     /// The callbacks of all records.
     pub(crate) callbacks: u64,
     /// What these weigh.

@@ -1,22 +1,17 @@
 //! One lane: the records of its packets, with their callbacks, as connections open, go on and end.
 #![tactic(auto)]
 
-mod closing;
-mod command;
 mod connection;
 pub mod end;
 pub mod errors;
-mod flows;
-mod kept;
 pub mod lane;
 pub mod laws;
 pub mod limits;
-mod packet;
 pub mod recorder;
+mod records;
 pub mod report;
-mod settings;
 mod sides;
-mod silent;
+mod terms;
 mod under_way;
 
 pub use end::{KeptEnd, KeptRecords, LaneEnd, VersionOfList, records_of};

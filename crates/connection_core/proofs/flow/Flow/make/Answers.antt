@@ -14,8 +14,7 @@ use Rattle.connection_core.proofs.flow.Flow.make.Goals as goal
 
 pub loop-event-init : goal.loop-event-init
 loop-event-init g c = record {
-  answered = c.requires.answered;
-  forest = c.requires.forest;
+  held = c.requires.held;
   kept = record { still_answered = λ s a. a; same_content = λ s a. refl };
   made = λ s force. phase_begun (g.A.App.meaning c.args.terms.now.app.now) s c.args.terms.now.keep
       (active_in (registered c.args.terms.now.in_force) (g.F.ForestView.content c.args.forests.now c.args.self.now.forest)) (g.F.ForestView.interns c.args.forests.now)
@@ -28,9 +27,9 @@ loop-event-init g c = record {
 pub loop-event-preserved : goal.loop-event-preserved
 loop-event-preserved g c =
     let inv = c.loop-event.invariant in
-    let kept = c.raise.ensures.kept in record {
-      answered = c.raise.ensures.answered;
-      forest = c.raise.ensures.forest;
+    let went = c.raise.ensures.went in
+    let kept = went.kept in record {
+      held = went.held;
       kept = record {
         still_answered = λ s a. kept.still_answered s (inv.kept.still_answered s a);
         same_content = λ s a. kept.same_content s (inv.kept.still_answered s a) ∙ inv.kept.same_content s a;
@@ -58,7 +57,7 @@ loop-event-preserved g c =
           c.args.self.now.socket c.loop-event.self.socket c.raise.new.self.socket c.args.notes.now c.loop-event.notes c.raise.new.notes c.args.ledger.now c.loop-event.ledger c.raise.new.ledger
           (interns c.args.forests.now) (interns c.loop-event.forests) (interns c.raise.new.forests)
           (subst (λ (l : List ℕ). n < length l) items c.loop-event-test.true) (inv.made s force) one;
-      rise = record { callbacks = omega (arith, inv.rise.callbacks, c.raise.ensures.rise.callbacks); weight = omega (arith, inv.rise.weight, c.raise.ensures.rise.weight) };
+      rise = record { callbacks = omega (arith, inv.rise.callbacks, went.rise.callbacks); weight = omega (arith, inv.rise.weight, went.rise.weight) };
       asked = c.in_ok-raise.ensures.asked;
       count = c.raise.ensures.count ∙ inv.count;
     }
@@ -67,8 +66,7 @@ loop-event-preserved g c =
 pub loop-event-preserved-then-not-hears : goal.loop-event-preserved-then-not-hears
 loop-event-preserved-then-not-hears g c =
     let inv = c.loop-event.invariant in record {
-      answered = inv.answered;
-      forest = inv.forest;
+      held = inv.held;
       kept = inv.kept;
       made = λ s force.
           let app = g.A.App.meaning c.args.terms.now.app.now in

@@ -1,10 +1,11 @@
 use Rattle.std.proofs.Common.{◌≡◌, ◌*◌, [], take, map}
 use Rattle.shared_forest.specs.Store.{Keeps}
 use Rattle.forest_versions.specs.State.{ControlState}
-use Rattle.connection_core.specs.InForce.{registered, defs_at, IsInForce}
+use Rattle.connection_core.specs.InForce.{registered, IsInForce}
 use Rattle.connection_core.specs.PacketUnderWay.{phase}
-use Rattle.connection_core.specs.Trees.{active_in, IsForestIn}
+use Rattle.connection_core.specs.Trees.{active_in}
 use Rattle.connection_core.specs.Standing.{RiseBy, Makes}
+use Rattle.connection_core.specs.Calls.{IsHeld}
 use Rattle.connection_core.proofs.flow.Flow.make.Given as goal
 
 abbrev pub invariant-loop-event : goal.invariant-loop-event
@@ -12,8 +13,7 @@ invariant-loop-event g l =
     let at = registered l.terms.in_force in
     let content = g.F.ForestView.content in
     let interns = g.F.ForestView.interns in record {
-      answered : g.F.ForestView.answered l.forests l.self.forest;
-      forest : IsForestIn (defs_at l.terms.in_force) at (content l.forests l.self.forest);
+      held : IsHeld g.F.ForestView l.terms.in_force l.forests l.self;
       kept : Keeps g.F.ForestView.answered content l.fn.forests l.forests;
       made : (s : ControlState) → IsInForce l.terms.in_force s → Makes l.terms.keep
           (active_in at (content l.fn.forests l.fn.self.forest)) l.fn.self.socket l.fn.notes l.fn.ledger (interns l.fn.forests)

@@ -1,5 +1,4 @@
-use Rattle.std.proofs.Common.{sym, subst}
-use Rattle.flow_socket.specs.View.{SocketView}
+use Rattle.std.proofs.Common.{refl, sym, subst}
 use Rattle.shared_forest.specs.Lists.{TreeLists}
 use Rattle.connection_core.specs.InForce.{registered}
 use Rattle.connection_core.specs.PacketUnderWay.{called_at}
@@ -18,13 +17,12 @@ returns-clause-made g c = λ s force.
     let steps = subst (λ (t : TreeLists). Steps keep (active_in at t) c.args.self.now.socket c.args.notes.now c.make_room.new.self c.call_at.new.socket c.call_at.new.notes c.call_at.new.ledger step)
     c.tree_of-tree.ensures (c.in_ok-call_at.ensures.stands s force) in
     let list = active_in at (g.F.ForestView.content c.args.forests.now c.args.self.now.forest) in
-    raise_made app s keep list (active_in at (g.F.ForestView.content c.settle.new.forests c.settle.new.self.forest))
-    (g.F.ForestView.interns c.args.forests.now) (g.F.ForestView.interns c.settle.new.forests)
+    raise_made app s keep list (active_in at (g.F.ForestView.content c.change_all.new.forests c.change_all.new.forest))
+    (g.F.ForestView.interns c.args.forests.now) (g.F.ForestView.interns c.change_all.new.forests)
     c.args.raise_at.now.number c.args.raise_at.now.from (raise_of c.args.raise_at.now)
-    c.args.self.now.socket c.settle.new.self.socket c.args.notes.now c.call_at.new.notes c.args.ledger.now c.make_room.new.self c.call_at.new.ledger c.settle.new.ledger
+    c.args.self.now.socket c.call_at.new.socket c.args.notes.now c.call_at.new.notes c.args.ledger.now c.make_room.new.self c.call_at.new.ledger _
     c.make_room.ensures.changes c.make_room.ensures.drop c.make_room.ensures.counts
-    (subst (λ (k : SocketView). Steps keep list c.args.self.now.socket c.args.notes.now c.make_room.new.self k c.call_at.new.notes c.call_at.new.ledger step) (sym c.settle.ensures.socket) steps)
-    (c.in_ok-settle.ensures.made s force) c.in_ok-settle.ensures.asked c.settle.ensures.drop c.settle.ensures.counts
+    steps (rw (← c.as_slice.ensures.value) (c.in_ok-change_all.ensures.made s force)) c.clear.ensures.items refl refl
 
 pub returns-in_err-make_room-clause-failed : goal.returns-in_err-make_room-clause-failed
 returns-in_err-make_room-clause-failed g c = on_err_always c.from_residual.result (λ s force.
@@ -38,16 +36,16 @@ returns-in_err-call_at-clause-failed g c = on_err_always c.from_residual-in_err-
     (active_in (registered c.args.terms.now.in_force) (g.F.ForestView.content c.args.forests.now c.args.self.now.forest))
     (g.F.ForestView.interns c.args.forests.now) c.args.raise_at.now.number c.args.raise_at.now.from (raise_of c.args.raise_at.now) c.args.self.now.socket c.args.notes.now c.args.ledger.now)
 
-pub returns-in_err-settle-clause-failed : goal.returns-in_err-settle-clause-failed
-returns-in_err-settle-clause-failed g c = on_err_always c.from_residual-in_err-settle.result (λ s force.
+pub returns-in_err-change_all-clause-failed : goal.returns-in_err-change_all-clause-failed
+returns-in_err-change_all-clause-failed g c = on_err_always c.from_residual-in_err-change_all.result (λ s force.
     let app = g.A.App.meaning c.args.terms.now.app.now in
     let at = registered c.args.terms.now.in_force in
     let keep = c.args.terms.now.keep in
     let step = called_at app s c.args.raise_at.now.number c.args.raise_at.now.from (raise_of c.args.raise_at.now) in
-    raise_costs app s keep (active_in at (g.F.ForestView.content c.args.forests.now c.args.self.now.forest)) (g.F.ForestView.interns c.args.forests.now) (g.F.ForestView.interns c.settle.new.forests)
+    raise_costs app s keep (active_in at (g.F.ForestView.content c.args.forests.now c.args.self.now.forest)) (g.F.ForestView.interns c.args.forests.now) (g.F.ForestView.interns c.change_all.new.forests)
     c.args.raise_at.now.number c.args.raise_at.now.from (raise_of c.args.raise_at.now)
     c.args.self.now.socket c.call_at.new.socket c.args.notes.now c.call_at.new.notes c.args.ledger.now c.make_room.new.self c.call_at.new.ledger
     c.make_room.ensures.changes c.make_room.ensures.drop c.make_room.ensures.counts
     (subst (λ (t : TreeLists). Steps keep (active_in at t) c.args.self.now.socket c.args.notes.now c.make_room.new.self c.call_at.new.socket c.call_at.new.notes c.call_at.new.ledger step)
     c.tree_of-tree.ensures (c.in_ok-call_at.ensures.stands s force))
-    (c.in_err-settle.ensures.failed s force))
+    (rw (← c.as_slice.ensures.value) (c.in_err-change_all.ensures.failed s force)))

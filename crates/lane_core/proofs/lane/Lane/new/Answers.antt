@@ -1,27 +1,24 @@
 use Rattle.std.proofs.Common.{[], ◌∙◌, refl, ap, subst}
 use Rattle.forest_versions.specs.Master.{StandsFor}
 use Rattle.forest_versions.specs.State.{start, control}
-use Rattle.connection_core.specs.InForce.{registered_at}
 use Rattle.lane_core.specs.Records.{records_from}
 use Rattle.lane_core.specs.Run.{lane_run}
 use Rattle.lane_core.specs.Shown.{total}
-use Rattle.lane_core.proofs.Stored.{kept-empty}
 use Rattle.lane_core.proofs.lane.Lane.new.Goals as goal
 
 pub returns-clause-stands : goal.returns-clause-stands
 unfolding lane_run records_from total
 returns-clause-stands g c =
-    let m = c.in_ok-master.master in
-    let presets = (g.A.App.meaning c.args.app).presets in
-    let stands : StandsFor m presets [] = subst (λ ps. StandsFor m ps []) (c.deref.ensures.value ∙ c.in_ok-presets.ensures) c.in_ok-master.ensures.stands in
+    let begins = c.in_ok-records.ensures in
+    let stands = subst (λ ps. StandsFor c.in_ok-records.records.master ps []) (c.deref.ensures.value ∙ c.in_ok-presets.ensures) begins.commands in
     record {
-      newest = refl;
+      newest = rw begins.next refl;
       commands = λ none. stands;
-      records = λ none. rw (c.new-2.ensures.slots, c.new-2.ensures.counts) (kept-empty c.args.keep (registered_at m) (g.F.ForestView.content c.new.new.f) c.new-2.result.flows c.new-2.ensures.flows);
-      dropped = λ none. c.new-2.ensures.dropped;
+      records = λ none. begins.stands c.args.keep;
+      dropped = λ none. begins.dropped;
       heavy = λ is. absurd (cc);
     }
 
 pub returns-clause-control : goal.returns-clause-control
 unfolding control
-returns-clause-control g c = c.in_ok-master.ensures.stands.now ∙ ap start (c.deref.ensures.value ∙ c.in_ok-presets.ensures)
+returns-clause-control g c = c.in_ok-records.ensures.commands.now ∙ ap start (c.deref.ensures.value ∙ c.in_ok-presets.ensures)

@@ -10,22 +10,22 @@ pub returns-in_err-conn : goal.returns-in_err-conn
 returns-in_err-conn g c = record {
   tree = λ good events r.
       let self = c.args.self.now in
-      let so_far = lane_run (g.A.App.meaning self.settings.app) events in
+      let so_far = lane_run (g.A.App.meaning self.app) events in
       rw c.from_residual.ensures
-      (none_is_found self.settings.master (g.F.ForestView.content self.forests) c.args.key.now _ so_far (sym c.in_err-conn.ensures.value) ((r.records good).placed c.args.key.now));
+      (none_is_found self.records.master (g.F.ForestView.content self.records.forests) c.args.key.now _ so_far (sym c.in_err-conn.ensures.value) ((r.records good).placed c.args.key.now));
 }
 
 pub returns : goal.returns
 returns g c = record {
   tree = λ good events r.
       let self = c.args.self.now in
-      let m = self.settings.master in
-      let content = g.F.ForestView.content self.forests in
+      let m = self.records.master in
+      let content = g.F.ForestView.content self.records.forests in
       let key = c.args.key.now in
-      let so_far = lane_run (g.A.App.meaning self.settings.app) events in
+      let so_far = lane_run (g.A.App.meaning self.app) events in
       let conn = c.in_ok-conn.conn.now in
       let there = sym c.in_ok-conn.ensures.value in
-      let is = self.trees key conn there in
+      let is = (self.records.live key conn there).tree in
       let at = subst (λ o. IsOpenAt (registered_at m) content o (place_of key so_far) so_far) there ((r.records good).placed key) in
       tree_is_found m content key conn so_far c.tree_of.result.now c.tree_of.ensures is at;
 }

@@ -1,0 +1,104 @@
+use Rattle.std.proofs.Common.{refl, ◌∙◌, arith}
+use Rattle.connection_core.proofs.Errors.{on_err_always}
+use Rattle.ip6_views.specs.Seen.{seen}
+use Rattle.lane_core.specs.Live.{IsLive}
+use Rattle.lane_core.specs.Steps.{taking}
+use Rattle.lane_core.proofs.Started.{opening_started, opening_costs}
+use Rattle.lane_core.proofs.Tables.{all_kept}
+use Rattle.lane_core.proofs.Live.{first_kept, live_all_kept, live_among}
+use Rattle.lane_core.proofs.records.Records.begin.Goals as goal
+
+pub invariant_of-self : goal.invariant_of-self
+invariant_of-self g c =
+    let self = c.args.self.now in
+    let new = c.start_one.new.forests in
+    let e = c.start_one.ensures in
+    let room = c.requires.come in
+    let rise = e.rise in
+    record {
+      live = live_all_kept g.F.ForestView.answered g.F.ForestView.content self.forests new e.kept self.master self.list.len self.next self.connections self.live;
+      counted = record {
+        callbacks = omega (arith, room.callbacks, rise.callbacks);
+        weight = omega (arith, room.weight, rise.weight);
+        few = omega (arith, room.few);
+        few_dropped = self.counted.few_dropped;
+        numbered = self.counted.numbered;
+      };
+      first = first_kept g.F.ForestView.answered g.F.ForestView.content self.forests new e.kept self.master self.first;
+    }
+
+pub returns-in_err-opened-clause-failed : goal.returns-in_err-opened-clause-failed
+returns-in_err-opened-clause-failed g c = on_err_always c.from_residual.result (opening_costs (taking g.A.App.meaning c.args.terms.now) c.args.self.now _ c.args.key (seen c.args.segment.now) c.requires.key
+    c.requires.absent c.requires.opens (record { master = refl; dropped = refl; next = c.requires.come.next }) c.start_one.ensures.interned)
+
+pub invariant_of-self-in-Break-branch-2 : goal.invariant_of-self-in-Break-branch-2
+invariant_of-self-in-Break-branch-2 g c =
+    let self = c.args.self.now in
+    let new = c.start_one.new.forests in
+    let e = c.start_one.ensures in
+    let room = c.requires.come in
+    let rise = e.rise in
+    let len = c.in_err-push.ensures.len in
+    record {
+      live = live_among (g.F.ForestView.answered new) (g.F.ForestView.content new) self.master self.list.len c.push.new.self.len self.next self.connections (omega (arith, len))
+          (live_all_kept g.F.ForestView.answered g.F.ForestView.content self.forests new e.kept self.master self.list.len self.next self.connections self.live);
+      counted = record {
+        callbacks = omega (arith, room.callbacks, rise.callbacks);
+        weight = omega (arith, room.weight, rise.weight);
+        few = omega (arith, room.few, len);
+        few_dropped = self.counted.few_dropped;
+        numbered = self.counted.numbered;
+      };
+      first = first_kept g.F.ForestView.answered g.F.ForestView.content self.forests new e.kept self.master self.first;
+    }
+
+pub returns-in_err-push-clause-failed : goal.returns-in_err-push-clause-failed
+returns-in_err-push-clause-failed g c = on_err_always c.from_residual-in_err-push.result (opening_costs (taking g.A.App.meaning c.args.terms.now) c.args.self.now _ c.args.key (seen c.args.segment.now) c.requires.key
+    c.requires.absent c.requires.opens (record { master = refl; dropped = refl; next = c.requires.come.next }) c.start_one.ensures.interned)
+
+pub invariant_of-self-2 : goal.invariant_of-self-2
+invariant_of-self-2 g c =
+    let self = c.args.self.now in
+    let new = c.start_one.new.forests in
+    let e = c.start_one.ensures in
+    let o = c.in_ok-opened.ensures in
+    let room = c.requires.come in
+    let rise = e.rise in
+    let len = c.in_ok-push.ensures.len in
+    let more = c.keep.ensures.more in
+    let conn = c.in_ok-opened.opened.conn in
+    let over = c.in_ok-opened.opened.step.over in
+    record {
+      live = all_kept (IsLive (g.F.ForestView.answered new) (g.F.ForestView.content new) self.master c.push.new.self.len self.next) c.keep.result self.connections c.keep.new.connections c.args.key conn over
+          c.keep.ensures.left c.keep.ensures.err
+          (record {
+            placed = let low = o.live.placed in let last = c.len.ensures in omega (arith, low, len, last);
+            answered = o.live.answered;
+            tree = o.live.tree;
+            since = o.live.since;
+            short = let one = o.live.short in let next = room.next in omega (arith, one, next);
+          })
+          (live_among (g.F.ForestView.answered new) (g.F.ForestView.content new) self.master self.list.len c.push.new.self.len self.next self.connections (omega (arith, len))
+          (live_all_kept g.F.ForestView.answered g.F.ForestView.content self.forests new e.kept self.master self.list.len self.next self.connections self.live));
+      counted = record {
+        callbacks = omega (arith, room.callbacks, rise.callbacks, more);
+        weight = omega (arith, room.weight, rise.weight, more);
+        few = omega (arith, room.few, len);
+        few_dropped = self.counted.few_dropped;
+        numbered = self.counted.numbered;
+      };
+      first = first_kept g.F.ForestView.answered g.F.ForestView.content self.forests new e.kept self.master self.first;
+    }
+
+pub returns-in_err-keep-clause-failed : goal.returns-in_err-keep-clause-failed
+returns-in_err-keep-clause-failed g c = on_err_always c.from_residual-in_err-keep.result (opening_costs (taking g.A.App.meaning c.args.terms.now) c.args.self.now _ c.args.key (seen c.args.segment.now) c.requires.key
+    c.requires.absent c.requires.opens (record { master = refl; dropped = refl; next = c.requires.come.next }) c.start_one.ensures.interned)
+
+pub returns-clause-stands : goal.returns-clause-stands
+returns-clause-stands g c =
+    let self = c.args.self.now in
+    let opened = c.in_ok-opened.opened in
+    opening_started (taking g.A.App.meaning c.args.terms.now) self _ c.args.key (seen c.args.segment.now) c.requires.key
+    c.requires.absent c.requires.opens (record { master = refl; dropped = refl; next = c.requires.come.next })
+    opened.conn opened.slot opened.step c.start_one.ensures.kept c.in_ok-opened.ensures.stands
+    (c.in_ok-opened.ensures.place ∙ c.len.ensures ∙ self.list.ok.0) c.in_ok-push.ensures.items c.in_ok-keep.ensures.left
