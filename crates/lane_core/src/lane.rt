@@ -264,9 +264,7 @@ impl<A: App + Drop, F: Forests + Drop> Reporter for Lane<A, F> {
     ) -> Result<KeptEnd, LaneError> {
         let closed = self.closed(alloc, greatest, natives)?;
         Ok(KeptEnd {
-            records: KeptRecords {
-                items: closed.list,
-            },
+            records: KeptRecords { items: closed.list },
             callbacks: closed.callbacks,
             weight: closed.weight,
             drops: closed.drops,

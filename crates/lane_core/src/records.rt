@@ -58,11 +58,7 @@ impl<F: Forests + Drop> Records<F> {
     ghost use Rattle.lane_core.specs.Packets.{Adds, AddsCounted, CostsToAdd, StaysUnder, AreAlike, Begins, Gives};
 
     /// No record yet, under an application's presets.
-    pub(crate) fn new(
-        alloc: Global,
-        forests: F,
-        presets: &[Reg],
-    ) -> Result<Records<F>, AllocError>
+    pub(crate) fn new(alloc: Global, forests: F, presets: &[Reg]) -> Result<Records<F>, AllocError>
         requires lawful { IsTrue (are_presets presets.now) }
         ensures { IfOk result (Begins forests presets.now) }
     {

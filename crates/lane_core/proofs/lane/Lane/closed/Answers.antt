@@ -37,6 +37,8 @@ pub returns-in_err-end_all-clause-heavy : goal.returns-in_err-end_all-clause-hea
 returns-in_err-end_all-clause-heavy g c = λ good is.
     let app = g.A.App.meaning c.args.self.app in
     let p = err_from_is_err_and c.from_residual.result c.from_residual.ensures.1 in
-    let heavy = c.end_all.ensures.heavy (err_is_heavy c.from_residual.result c.end_all.result p.0 c.in_err-end_all.field-0.0 p.2 p.1 is c.in_err-end_all.was) in
-    (heavy.keeps, λ events r. let commands = r.commands good in
-    heavy.heavy (control_of app events) (lane_run app events) commands.told (now_is app c.args.self.records.master (commands_of events) commands) (r.records good))
+    let heavy = c.end_all.ensures.heavy (err_is_heavy c.from_residual.result c.end_all.result p.0 c.in_err-end_all.field-0.0 p.2 p.1 is c.in_err-end_all.was) in (
+      heavy.keeps,
+      λ events r. let commands = r.commands good in
+          heavy.heavy (control_of app events) (lane_run app events) commands.told (now_is app c.args.self.records.master (commands_of events) commands) (r.records good),
+    )

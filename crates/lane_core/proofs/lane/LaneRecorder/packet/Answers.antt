@@ -54,9 +54,11 @@ returns-then-is_too_heavy-clause-heavy g c = λ good is.
     let sight = sight_of c.args.frame.now.bytes in
     let adds = c.in-Ok.ensures.stands in
     let over = sym c.is_too_heavy.ensures ∙ c.if-is_too_heavy.true in
-    let keeps = subst (λ l. (l && nat_lt 134217728 new.ledger.counts.weight) ≡ true) (ap (λ l. l.keep) c.take.ensures.rest) over in
-    (left_of_and self.keep _ keeps, λ events r.
-        is_too_heavy t old new sight events (subst (λ f. IsRun t.app t.keep old f events) good r) c.in-Ok.verdict adds keeps)
+    let keeps = subst (λ l. (l && nat_lt 134217728 new.ledger.counts.weight) ≡ true) (ap (λ l. l.keep) c.take.ensures.rest) over in (
+      left_of_and self.keep _ keeps,
+      λ events r.
+          is_too_heavy t old new sight events (subst (λ f. IsRun t.app t.keep old f events) good r) c.in-Ok.verdict adds keeps,
+    )
 
 pub returns-then-is_too_heavy-clause-interned : goal.returns-then-is_too_heavy-clause-interned
 returns-then-is_too_heavy-clause-interned g c = λ good events r.
