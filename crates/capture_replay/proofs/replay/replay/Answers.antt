@@ -94,7 +94,7 @@ pub read_on-requires-clause-read : goal.read_on-requires-clause-read
 read_on-requires-clause-read g c =
     let lane = c.in_ok-lane.lane in
     let made = c.in_ok-lane.ensures in
-    none_read (meaning_of lane.settings.app.0) c.args.plan.now.script.now c.args.plan.now.output lane.settings.master.version lane.failed _ made.failed made.given made.stands
+    none_read (meaning_of lane.app.0) c.args.plan.now.script.now c.args.plan.now.output lane.records.master.version lane.failed _ made.failed made.given made.stands
 
 pub returns : goal.returns
 returns g c = record {
@@ -104,7 +104,7 @@ returns g c = record {
         let lane = c.in_ok-lane.lane in
         let start = c.in_ok-capture.ensures.start in
         let rep = opened_replay (g.S.Source.left c.args.source.now) (g.S.Source.left c.open.new.source) c.in_ok-capture.capture bytes c.in_ok-capture.ensures.gives start.count start.offset told in
-        let written = header_written (meaning_of lane.settings.app.0) plan.script.now plan.output c.in_ok-capture.capture.header
+        let written = header_written (meaning_of lane.app.0) plan.script.now plan.output c.in_ok-capture.capture.header
         (g.O.Sink.taken c.args.out.now) (g.O.Sink.taken c.write_front.new.out) c.in_ok-write_front.ensures.text in
         subst (λ a. RunsAs (outcome_over a plan.script.now (packets_of plan.script.now) plan.output bytes) (g.O.Sink.taken c.args.out.now)
         (g.O.Sink.taken c.read_on.new.out) c.read_on.result) c.in_ok-lane.ensures.app
