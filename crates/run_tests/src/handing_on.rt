@@ -2,14 +2,15 @@
 //! it is on its way.
 
 use crate::runs::{NEVER, in_words, run, run_gathering, sink, source};
-use crate::traffic::{EXCHANGE, REFUSED_AT_ITS_END, Traffic, capture_of};
+use crate::traffic::{EXCHANGE, REFUSED_AT_ITS_END, Traffic, capture_of, crowd_of};
 use crate::watched::{Flow, WatchedSink, WatchedSource};
 use capture_maker::Maker;
 use mos_bytes::fill;
-use mos_run::OpenGate;
+use mos_run::Gate;
 use std::process::Abort;
 use std::sync::Wait;
-use std::thread::Threads;
+use std::sync::atomic::{AtomicU64, Ordering};
+use std::thread::{self, Threads};
 
 // What has to be seen of a run besides its status and its output.
 #[derive(Clone, Copy)]
@@ -118,39 +119,122 @@ fn what_is_handed_on(rt: HostRuntime) {
     }
 }
 
-// So many connections, 2,000 at most, forwarded by four workers: all of them, and the most packets that were on their way.
-fn packets_on_their_way<
-    R: AllocGlobal + Abort + Threads + Wait + Sync + Send + Copy + Drop + 'static,
->(rt: &R) -> Option<u64> {
-    let flow = Flow::new();
-    let mut source = WatchedSource {
-        below: Maker::new(2_000),
-        is_at_hand: false,
-        flow: &flow,
-    };
+// How often a thread looks whether another one goes on, before it takes it that this one doesn't.
+const TURNS: u64 = 10_000_000;
+
+// How often it looks once more, for packets that are read though they may not be.
+const MORE_TURNS: u64 = 200_000;
+
+// Holds packet 0 until 4,096 packets are on their way, and for a while longer; notes how many are then. Or holds none.
+#[derive(Drop)]
+struct Holding<'a> {
+    flow: &'a Flow,
+    is_holding: bool,
+    seen: AtomicU64,
+}
+
+impl<'a> Gate for Holding<'a> {
+    fn pause(&self, _lane: usize, index: u64) {
+        if index > 0 || !self.is_holding {
+            return;
+        }
+        for _ in 0..TURNS {
+            if self.flow.most_packets() >= 4_096 {
+                break;
+            }
+            thread::yield_now();
+        }
+        for _ in 0..MORE_TURNS {
+            thread::yield_now();
+        }
+        self.seen.store(self.flow.most_packets(), Ordering::SeqCst);
+    }
+
+    fn published(&self, _count: usize) {}
+}
+
+// A capture of many packets.
+#[derive(Clone, Copy)]
+enum Many {
+    // Packet 0, which is held, and 5,000 packets for other lanes.
+    Crowd,
+    // 2,000 connections of ten packets, of which none is held.
+    Made,
+}
+
+const CROWDS: &[(&str, &str, Many)] = &[
+    (
+        "the first packet is held, by two workers",
+        "--emit forward --workers 2",
+        Many::Crowd,
+    ),
+    (
+        "the first packet is held, by four workers",
+        "--emit forward --workers 4",
+        Many::Crowd,
+    ),
+    (
+        "20,000 packets, by four workers",
+        "--emit forward --workers 4",
+        Many::Made,
+    ),
+];
+
+fn bytes_of<R: AllocGlobal + Abort>(rt: &R, many: Many) -> Vec<u8> {
+    match many {
+        Many::Crowd => crowd_of(rt),
+        Many::Made => made_of(rt),
+    }
+}
+
+fn made_of<R: AllocGlobal + Abort>(rt: &R) -> Vec<u8> {
     let size = Maker::new(2_000).size() as usize;
-    let mut out = WatchedSink {
-        below: sink(rt, size, NEVER),
+    let mut bytes = vec![in rt.alloc(); 0; size].expect(rt, "memory");
+    let count = fill(&mut Maker::new(2_000), &mut bytes).unwrap_or(0);
+    bytes.truncate(count);
+    bytes
+}
+
+// Whether so many packets may have been on their way at most, and while packet 0 was held.
+fn is_bounded(many: Many, most: u64, seen: u64) -> bool {
+    match many {
+        Many::Crowd => most == 4_096 && seen == 4_096,
+        Many::Made => most <= 4_096,
+    }
+}
+
+// Whether the run forwards the whole capture, all of which is at hand, in its order, and no more of it was on its way than may be.
+fn holds_few<R: AllocGlobal + Abort + Threads + Wait + Sync + Send + Copy + Drop + 'static>(
+    rt: &R,
+    words: &str,
+    many: Many,
+) -> bool {
+    let flow = Flow::new();
+    let capture = bytes_of(rt, many);
+    let mut source = WatchedSource {
+        below: source(rt, &capture, NEVER),
+        is_at_hand: true,
         flow: &flow,
     };
-    let run = run(
-        rt,
-        in_words("--emit forward --workers 4"),
-        &mut source,
-        &mut out,
-        &OpenGate,
-    );
-    let mut whole = vec![in rt.alloc(); 0; size].expect(rt, "memory");
-    let is_whole = fill(&mut Maker::new(2_000), &mut whole) == Ok(size);
-    let is_forwarded = is_whole && run.ended.status == 0 && out.below.bytes() == whole.as_slice();
-    is_forwarded.then_some(flow.most_packets())
+    let mut out = WatchedSink {
+        below: sink(rt, capture.len(), NEVER),
+        flow: &flow,
+    };
+    let gate = Holding {
+        flow: &flow,
+        is_holding: matches!(many, Many::Crowd),
+        seen: AtomicU64::new(0),
+    };
+    let run = run(rt, in_words(words), &mut source, &mut out, &gate);
+    let seen = gate.seen.load(Ordering::SeqCst);
+    run.ended.status == 0
+        && out.below.bytes() == capture.as_slice()
+        && is_bounded(many, flow.most_packets(), seen)
 }
 
 #[test]
 fn at_most_4096_packets_are_on_their_way(rt: HostRuntime) {
-    let most = packets_on_their_way(&rt);
-    assert!(rt;
-        most.is_some_and(|most| most <= 4_096),
-        "20,000 packets: {most:?}"
-    );
+    for &(name, words, many) in CROWDS {
+        assert!(rt; holds_few(&rt, words, many), "{name}");
+    }
 }

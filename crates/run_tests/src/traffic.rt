@@ -219,3 +219,21 @@ pub fn capture_of<R: AllocGlobal + Abort>(rt: &R, traffic: &Traffic) -> Vec<u8> 
     add_all(&mut bytes, traffic).expect(rt, "memory");
     bytes
 }
+
+// The opening of one lane, and behind it 5,000 packets of two keys that have other lanes, where there are two or four. Each has a
+// number of its own.
+fn add_crowd(bytes: &mut Vec<u8>) -> Result<(), AllocError> {
+    bytes.extend_from_slice(&BIG)?;
+    add(bytes, Form::Big, &(Client, 1000, 0x02, 100, 0, 0))?;
+    for number in 0..5_000 {
+        let port = if number % 2 == 0 { 1001 } else { 1005 };
+        add(bytes, Form::Big, &(Client, port, 0x10, number, 301, 0))?;
+    }
+    Ok(())
+}
+
+pub fn crowd_of<R: AllocGlobal + Abort>(rt: &R) -> Vec<u8> {
+    let mut bytes = Vec::new(rt.alloc());
+    add_crowd(&mut bytes).expect(rt, "memory");
+    bytes
+}
