@@ -11,7 +11,7 @@ use Rattle.pcap_source.specs.Capture.{Frames, capture_of}
 use Rattle.forest_versions.specs.Lawful.{are_lawful}
 use Rattle.forest_versions.specs.State.{start}
 use Rattle.control_script.specs.declared.stamped.Stamped.{Stamped}
-use Rattle.control_script.specs.Order.{commands_of, are_in_order}
+use Rattle.control_script.specs.Order.{commands_of}
 use Rattle.worker_pool.specs.Source.{EndsInTail}
 use Rattle.words.specs.declared.settings.Settings.{Settings}
 use Rattle.capture_replay.specs.declared.output.Output.{Output}
@@ -31,7 +31,6 @@ pub record IsJob (app : Meaning) (script : List Stamped) (workers : ℕ) : Type 
   pub some : 1 ≤ workers
   pub most : workers ≤ 16
   pub lawful : MayRun app script
-  pub order : IsTrue (are_in_order script)
 
 -- the run ends well, under these versions, and all of its text was written, and nothing else
 pub record Finishes (o : Outcome) (versions : List ℕ) (old new : Option (List ℕ)) : Type 0 where

@@ -1,6 +1,7 @@
 //! The run of several workers.
 
-ghost use Rattle.std.specs.Prelude.{◌≡◌, ◌≤◌, ◌⊎◌, true, false, IfSome, IfErr, IsErrOf};
+ghost use Rattle.std.specs.Prelude.{◌≡◌, ◌≤◌, ◌⊎◌, true, false, IfSome, IfErr, IsErrOf, IsTrue};
+ghost use Rattle.control_script.specs.Order.{are_in_order};
 ghost use Rattle.mos_bytes.specs.Outside.{Writes};
 ghost use Rattle.mos_bytes.specs.Writes.{WriteAdds};
 ghost use Rattle.lane_core.specs.KeptEnd.{shown_as};
@@ -80,6 +81,7 @@ fn report_on<
     out: &mut O,
 ) -> Result<VersionList, RunError>
     requires job { IsJob (meaning_of plan.now.app) plan.now.script.now plan.now.workers }
+    requires order { IsTrue (are_in_order plan.now.script.now) }
     requires kept { is_forward plan.now.output ≡ false }
     ensures ran { Runs S.Source O.Sink plan.now.output
         (RunsWith (meaning_of plan.now.app) plan.now.script.now plan.now.workers plan.now.output)
@@ -120,6 +122,7 @@ fn forward_on<
     out: &mut O,
 ) -> Result<VersionList, RunError>
     requires job { IsJob (meaning_of plan.now.app) plan.now.script.now plan.now.workers }
+    requires order { IsTrue (are_in_order plan.now.script.now) }
     requires forwards { is_forward plan.now.output ≡ true }
     ensures ran { Runs S.Source O.Sink plan.now.output
         (RunsWith (meaning_of plan.now.app) plan.now.script.now plan.now.workers plan.now.output)
@@ -161,6 +164,7 @@ fn run_on<
     out: &mut O,
 ) -> Result<VersionList, RunError>
     requires job { IsJob (meaning_of plan.now.app) plan.now.script.now plan.now.workers }
+    requires order { IsTrue (are_in_order plan.now.script.now) }
     ensures ran { Runs S.Source O.Sink plan.now.output
         (RunsWith (meaning_of plan.now.app) plan.now.script.now plan.now.workers plan.now.output)
         source.old source.new out.old out.new result }
@@ -174,10 +178,9 @@ fn run_on<
 /// Replays a capture, or the one that is made, with the settings' workers, 1 to 16, each in a thread of its own, and writes
 /// what they ask for. Answers the version of each record, in order of name.
 ///
-/// It asks a script that is lawful with the presets of the settings' application and in order, at most 100,000 connections
-/// to make. With a capture that is made, `capture` isn't read. At an `Err` `out` has gained a front of what was to be
-/// written; a report and a summary are written when the capture was read whole, a forwarded capture while it is read. It
-/// waits for its threads.
+/// It asks a script that is lawful with the presets of the settings' application, and at most 100,000 connections to make. With
+/// a capture that is made, `capture` isn't read. At an `Err` `out` has gained a front of what was to be written; a report and
+/// a summary are written when the capture was read whole, a forwarded capture while it is read. It waits for its threads.
 pub fn run_several<
     R: Threads + Wait + Sync + Send + Copy + Drop + 'static,
     S: Source,
@@ -205,6 +208,8 @@ pub fn run_several<
         output: output_of(settings),
         workers: settings.workers,
     };
+    // With its length a script tells that its commands are in order.
+    let _ = script.len();
     match settings.make {
         Some(n) => run_on(crew, alloc, &plan, &mut Maker::new(n), out),
         None => run_on(crew, alloc, &plan, capture, out),

@@ -46,6 +46,8 @@ fn run_asked<
     what_one_worker_has_is_allowed();
     if settings.workers == 1 {
         return run_one(alloc, settings, capture, script, out, natives);
+    // With its length a script tells that its commands are in order.
+    let _ = script.len();
     }
     run_several(crew, alloc, settings, capture, script, out, natives)
 }

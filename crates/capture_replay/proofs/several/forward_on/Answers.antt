@@ -19,7 +19,7 @@ returns-in_err-capture g c = record {
         let app = meaning_of plan.app in
         let p = err_from_is_err_and c.from_residual.result c.from_residual.ensures.1 in
         rw (p.1, p.2)
-        (stopped_any app plan.script.now plan.workers plan.output bytes c.what_one_worker_has_is_allowed.ensures.allowed c.requires.job.order (g.O.Sink.taken c.args.out.now) _
+        (stopped_any app plan.script.now plan.workers plan.output bytes c.what_one_worker_has_is_allowed.ensures.allowed c.requires.order (g.O.Sink.taken c.args.out.now) _
         (λ vs. refused_header app plan.script.now (packets_with app plan.script.now vs) plan.output (g.S.Source.left c.args.source.now)
         (g.S.Source.left c.open.new.source) bytes c.in_err-capture.field-0.0 c.in_err-capture.ensures.gives told));
     read = search rules;
@@ -51,7 +51,7 @@ returns-in_err-write_header g c = record {
         let new = g.O.Sink.taken c.write_header.new.out in
         rw (p.1, p.2, forward_is plan.output c.requires.forwards)
         (no_header app plan.script.now plan.workers bytes capture.header (frames_at capture rep.rest) rep.holds rep.header start.header
-        c.what_one_worker_has_is_allowed.ensures.allowed c.requires.job.order old new c.in_err-write_header.ensures.bytes);
+        c.what_one_worker_has_is_allowed.ensures.allowed c.requires.order old new c.in_err-write_header.ensures.bytes);
     read = search rules;
     silent = search rules;
     late = search rules;

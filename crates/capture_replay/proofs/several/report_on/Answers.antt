@@ -25,7 +25,7 @@ returns-in_err-capture g c = record {
         let app = meaning_of plan.app in
         let p = err_from_is_err_and c.from_residual.result c.from_residual.ensures.1 in
         rw (p.1, p.2)
-        (stopped_any app plan.script.now plan.workers plan.output bytes c.what_one_worker_has_is_allowed.ensures.allowed c.requires.job.order (g.O.Sink.taken c.args.out.now) _
+        (stopped_any app plan.script.now plan.workers plan.output bytes c.what_one_worker_has_is_allowed.ensures.allowed c.requires.order (g.O.Sink.taken c.args.out.now) _
         (λ vs. refused_header app plan.script.now (packets_with app plan.script.now vs) plan.output (g.S.Source.left c.args.source.now)
         (g.S.Source.left c.open.new.source) bytes c.in_err-capture.field-0.0 c.in_err-capture.ensures.gives told));
     read = search rules;
@@ -55,7 +55,7 @@ returns-in_err-end g c = record {
         let p = err_from_is_err_and c.from_residual-in_err-end.result c.from_residual-in_err-end.ensures.1 in
         rw (p.1, p.2)
         (stopped app plan.script.now plan.workers plan.output bytes (frames_at c.in_ok-capture.capture rep.rest) rep.holds c.requires.kept
-        c.what_one_worker_has_is_allowed.ensures.allowed c.requires.job.order
+        c.what_one_worker_has_is_allowed.ensures.allowed c.requires.order
         (g.O.Sink.taken c.args.out.now) c.in_err-end.field-0.0 ends);
     read = search rules;
     silent = search rules;

@@ -8,7 +8,7 @@ returns-then-settings-eq1 g c =
     record {
       ran = record {
         comes_to = λ bytes told.
-            under_one c.args.settings.now c.args.script.now bytes (g.O.Sink.taken c.args.out.now) (g.O.Sink.taken c.run_one.new.out) law.allowed law.outcome c.requires.job.order c.run_one.result
+            under_one c.args.settings.now c.args.script.now bytes (g.O.Sink.taken c.args.out.now) (g.O.Sink.taken c.run_one.new.out) law.allowed law.outcome c.len.ensures.order c.run_one.result
             (one.comes_to bytes told);
         read = one.read;
         made = one.made;
