@@ -10,7 +10,7 @@ use Rattle.mos_bytes.specs.declared.sink.Sink.{Ghosts as Sink}
 use Rattle.mos_run.specs.declared.ended.Ended.{Ended}
 use Rattle.capture_replay.specs.declared.refusal.RunError.TheVariants as Run
 use Rattle.capture_replay.specs.Refusal.{refusal_text, WritesText}
-use Rattle.mos_run.specs.Request.{Request, request_of, outcome_under}
+use Rattle.mos_run.specs.Request.{Request, Refused, request_of, outcome_under}
 use Rattle.mos_run.specs.Run.{EndsAs, FinishesUnder, MosRun, TellsOf}
 use Rattle.capture_replay.specs.Runs.{StopsAs}
 use Rattle.mos_run.proofs.Below.{may_fail}
@@ -44,6 +44,7 @@ module _ {S H O E : Type 0} (source : Source S) (shelf : Shelf H) (sink : Sink O
     capture_counts = ran.capture_counts;
     shelf_counts = ran.shelf_counts;
     unread = ran.unread;
+    refused = λ x is. let stays = ran.refused x is in (stays.0, below.still stays.1);
     made = ran.made;
     unasked = ran.unasked;
     silent = λ report early. below.still (ran.silent report early);
@@ -98,6 +99,7 @@ module _ {S H O E : Type 0} (source : Source S) (shelf : Shelf H) (sink : Sink O
         capture_counts = ran.capture_counts;
         shelf_counts = ran.shelf_counts;
         unread = λ is. absurd (neither after.status least is);
+        refused = λ x is. absurd (let well = (done (Refused x) is).finishes.answered in cc);
         made = ran.made;
         unasked = λ names. ((ran.unasked names).0, λ is. omega (arith, least, is));
         silent = λ report early. absurd (not-before after.status least greatest early);
@@ -139,6 +141,7 @@ module _ {S H O E : Type 0} (source : Source S) (shelf : Shelf H) (sink : Sink O
     capture_counts = omega arith;
     shelf_counts = omega arith;
     unread = λ is. refl;
+    refused = λ x is. (refl, same);
     made = λ is. refl;
     unasked = λ names. (refl, λ is. omega (arith, six, is));
     silent = λ report early. same;

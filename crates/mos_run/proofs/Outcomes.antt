@@ -74,6 +74,15 @@ pub refused_text : (s : Settings) (content : List ℕ → Option (List ℕ)) (le
     → (u : IsUnderText s content left t) → commands_in s.app u.text ≡ Err e → Refused e ≡ t
 refused_text s content left t e u refusal = let same = sym (ap (asked s left) refusal) ∙ u.comes_to in cc
 
+-- where words and script are accepted, nothing is refused
+pub not_refused : (words : List (List ℕ)) (content : List ℕ → Option (List ℕ)) (left : Option (List ℕ)) (s : Settings) (commands : List Stamped) (e : RunError)
+    → words_settings words ≡ Some s → ((text : List ℕ) → text_under s.script content ≡ Some text → commands_in s.app text ≡ Ok commands)
+    → request_of words content left ≡ Some (Refused e) → ⊥
+not_refused words content left s commands e accepted read is =
+    let u = under_text words content left (Refused e) s accepted is in
+    let over = (over_file s content left (Refused e) commands u (read u.text u.told_so)).comes_to in
+    cc
+
 -- ---- there are versions that a run may have
 
 pub record HasSome (t : Request) : Type 0 where

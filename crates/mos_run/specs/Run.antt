@@ -13,7 +13,7 @@ use Rattle.capture_replay.specs.declared.refusal.RunError.TheVariants.{NoMemory}
 use Rattle.capture_replay.specs.Outcome.{Outcome, is_forward, output_of}
 use Rattle.capture_replay.specs.Refusal.{WritesText, status_of, refusal_text}
 use Rattle.capture_replay.specs.Runs.{Finishes, StopsAs}
-use Rattle.mos_run.specs.Request.{Request, Allows, outcome_under, request_of}
+use Rattle.mos_run.specs.Request.{Request, Refused, Allows, outcome_under, request_of}
 
 -- the status of a run with this outcome
 abbrev pub EndsAs : Outcome → ℕ → Type 0
@@ -95,6 +95,8 @@ module _ {S H O E : Type 0} (source : Source S) (shelf : Shelf H) (sink : Sink O
     -- what is written where the output isn't whole
     pub silent : forwards (words_settings words) ≡ false → ComesBefore ended.status → p ≡ o
     pub front : (x : Request) → request_of words (shelf.content h) (source.left s) ≡ Some x
+    -- refused words and a refused script, whatever the status that tells it
+    pub refused : (e : RunError) → request_of words (shelf.content h) (source.left s) ≡ Some (Refused e) → (t ≡ s) × (p ≡ o)
         → UnderSome x (λ outcome. AppendsFront (sink.taken o) (sink.taken p) outcome.text)
     pub no_versions : ended.status ≢ 0 → ended.versions ≡ []
     -- what is told on err

@@ -13,7 +13,7 @@ use Rattle.capture_replay.specs.declared.refusal.RunError.{RunError}
 use Rattle.capture_replay.specs.declared.refusal.RunError.TheVariants.{Usage, ReadFault, WriteFault, NoMemory}
 use Rattle.capture_replay.specs.Outcome.{is_forward, output_of}
 use Rattle.capture_replay.specs.Refusal.{status_of}
-use Rattle.mos_run.specs.Request.{Asked, given_under}
+use Rattle.mos_run.specs.Request.{Refused, Asked, given_under, request_of}
 use Rattle.mos_run.specs.Run.{RunsUnder, ReadsCapture, Makes, NamesNone, forwards}
 
 module _ {S O : Type 0} (source : Source S) (sink : Sink O) where
@@ -35,6 +35,7 @@ module _ {S H O : Type 0} (source : Source S) (shelf : Shelf H) (sink : Sink O) 
     pub usage : words_settings words ≡ None → IfErr result (λ e. (e ≡ Usage) ⊎ (e ≡ NoMemory)) × IsErr result × (t ≡ s) × (i ≡ h) × (p ≡ o)
     pub only_usage : IsErrOf result Usage → words_settings words ≡ None
     pub unread : IfErr result (λ e. status_of e < 3 → t ≡ s)
+    pub refused : (e : RunError) → request_of words (shelf.content h) (source.left s) ≡ Some (Refused e) → (t ≡ s) × (p ≡ o)
     pub made : Makes words → t ≡ s
     pub unasked : NamesNone words → (i ≡ h) × IfErr result (λ e. status_of e ≢ 2)
     pub silent : forwards (words_settings words) ≡ false → IfErr result (λ e. e ≢ WriteFault → e ≢ NoMemory → p ≡ o)

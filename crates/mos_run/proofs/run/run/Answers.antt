@@ -1,8 +1,8 @@
-use Rattle.std.proofs.Common.{map, subst}
+use Rattle.std.proofs.Common.{map, subst, rules}
 use Rattle.std.proofs.lemmas.Result.{err_from_is_err_and}
 use Rattle.std.specs.Prelude.{string_bytes}
 use Rattle.mos_run.specs.Run.{RunsUnder}
-use Rattle.mos_run.proofs.Outcomes.{has_some, refused_words, under_text, refused_script, over_file}
+use Rattle.mos_run.proofs.Outcomes.{has_some, not_refused, refused_words, under_text, refused_script, over_file}
 use Rattle.mos_run.proofs.run.run.Goals as goal
 
 pub returns-in_err-settings-clause-runs : goal.returns-in_err-settings-clause-runs
@@ -34,3 +34,23 @@ returns-clause-runs g c = λ t is.
     let over = over_file s content left t c.in_ok-script.script u (c.in_ok-script.ensures.ok u.text u.told_so) in
     subst (λ x. RunsUnder x (g.O.Sink.taken c.args.out.now) (g.O.Sink.taken c.run_file.new.out) c.run_file.result) over.comes_to
     (c.run_file.ensures.ran.comes_to over.file over.told_so)
+
+pub returns-clause-ran : goal.returns-clause-ran
+returns-clause-ran g c = record {
+  read = search rules;
+  usage = search rules;
+  only_usage = search rules;
+  unread = search rules;
+  refused = λ e is.
+      absurd (not_refused (map string_bytes c.args.words.now) (g.H.Shelf.content c.args.shelf.now) (g.S.Source.left c.args.capture.now)
+      c.in_ok-settings.settings c.in_ok-script.script e c.in_ok-settings.ensures.ok c.in_ok-script.ensures.ok is);
+  made = search rules;
+  unasked = search rules;
+  silent = search rules;
+  read_fault = search rules;
+  capture_counts = search rules;
+  shelf_counts = search rules;
+  capture_lasts = search rules;
+  shelf_lasts = search rules;
+  to = search rules;
+}

@@ -24,6 +24,7 @@ returns-in-Err-clause-ran g c = record {
   front = search rules;
   no_versions = search rules;
   told_nothing = search rules;
+  refused = search rules;
   told = search rules;
   complete = search rules;
   capture_lasts = search rules;
