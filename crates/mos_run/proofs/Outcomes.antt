@@ -19,15 +19,15 @@ use Rattle.capture_replay.specs.declared.output.Output.{Output}
 use Rattle.capture_replay.specs.declared.refusal.RunError.{RunError}
 use Rattle.capture_replay.specs.declared.refusal.RunError.TheVariants as Run
 use Rattle.capture_replay.specs.Apps.{meaning_of}
-use Rattle.capture_replay.specs.Records.{packets_of, records_of, versions_of, frames_in}
+use Rattle.capture_replay.specs.Records.{packets_of, packets_with, records_of, versions_of, frames_in}
 use Rattle.capture_replay.specs.Outcome.{Outcome, refused, outcome_by, followed, ended, is_heavy, output_of, outcome, outcome_over}
 use Rattle.mos_run.specs.Request.{Request, Refused, Asked, Allows, AreAllowed, given_under, asked, chosen, request_of, outcome_under}
 use Rattle.capture_replay.specs.Script.{commands_in, text_under}
 use Rattle.capture_replay.specs.Refusal.{status_of, words_refusal}
 use Rattle.capture_replay.specs.Runs.{Finishes, StopsAs, RunsAs}
-use Rattle.mos_run.specs.Run.{FinishesUnder, RunsUnder, EndsAs, EndsWell, UnderSome}
+use Rattle.mos_run.specs.Run.{FinishesAlone, FinishesUnder, RunsUnder, EndsAs, EndsWell, UnderSome}
 use Rattle.capture_replay.specs.Lanes.{RunsWith}
-use Rattle.capture_replay.specs.Laws.{ceilings_of, CeilingsMayBeHad, CeilingsAreOneWorkers}
+use Rattle.capture_replay.specs.Laws.{ceilings_of, CeilingsMayBeHad, CeilingsAreOneWorkers, OneListIsAllowed}
 use Rattle.capture_replay.proofs.Scripts.{commands_order}
 
 request-by : (words : List (List ℕ)) (content : List ℕ → Option (List ℕ)) (left : Option (List ℕ)) (settings : Option Settings)
@@ -192,6 +192,34 @@ module _ (s : Settings) (commands : List Stamped) (bytes : List ℕ) (old new : 
     allowed = record { may_have = stops.may_have; with_one = λ one. absurd (many one) };
     holds = (stops.stops, stops.front);
   }
+
+-- ---- a run without live commands
+
+asked-order : (s asked : Settings) (content : List ℕ → Option (List ℕ)) (left : Option (List ℕ)) (commands : List Stamped) (file : Given) (r : Result (List Stamped) RunError)
+    → (u : IsUnderText s content left (Asked asked commands file)) → commands_in s.app u.text ≡ r → are_in_order commands ≡ true
+asked-order s asked content left commands file (Err e) u is = absurd (let refused = refused_text s content left (Asked asked commands file) e u is in cc)
+asked-order s asked content left commands file (Ok found) u is =
+    let over = (over_file s content left (Asked asked commands file) found u is).comes_to in
+    let same : found ≡ commands = cc in
+    subst (λ l. are_in_order l ≡ true) same (commands_order s.app u.text found is)
+
+order-by : (words : List (List ℕ)) (content : List ℕ → Option (List ℕ)) (left : Option (List ℕ)) (asked : Settings) (commands : List Stamped) (file : Given) (settings : Option Settings)
+    → words_settings words ≡ settings → request_of words content left ≡ Some (Asked asked commands file) → are_in_order commands ≡ true
+order-by words content left asked commands file None accepted is = absurd (let both = sym (request-by words content left None accepted) ∙ is in cc)
+order-by words content left asked commands file (Some s) accepted is =
+    let u = under_text words content left (Asked asked commands file) s accepted is in
+    asked-order s asked content left commands file (commands_in s.app u.text) u refl
+
+-- it ends well as that of one worker
+pub finishes_alone : CeilingsAreOneWorkers → OneListIsAllowed → (words : List (List ℕ)) (content : List ℕ → Option (List ℕ)) (left : Option (List ℕ)) (t : Request)
+    (versions : List ℕ) (old new : Option (List ℕ)) → request_of words content left ≡ Some t → FinishesUnder t versions old new → FinishesAlone t versions old new
+finishes_alone same known words content left (Refused e) versions old new is done = tt
+finishes_alone same known words content left (Asked s commands file) versions old new is done = λ stamped.
+    let app = meaning_of s.app in
+    let ordered = order-by words content left s commands file (words_settings words) refl is in
+    let ceilings : versions ≡ ceilings_of app commands file.bytes = known app commands s.workers file.bytes versions ordered stamped done.allowed.may_have in
+    subst (λ o. Finishes o versions old new)
+    (ap (λ vs. outcome app commands (packets_with app commands vs) (output_of s) file) ceilings ∙ same app commands (output_of s) file) done.finishes
 
 -- ---- the status
 

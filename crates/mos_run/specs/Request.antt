@@ -1,10 +1,12 @@
 -- What the words, the shelf and the capture come to.
-use Rattle.std.specs.Prelude.{◌≡◌, ℕ, List, Option, Some, None, option_map, option_and_then, Result, Ok, Err, ⊤}
+use Rattle.std.specs.Prelude.{◌≡◌, ℕ, not, List, Option, Some, None, option_map, option_and_then, Result, Ok, Err, IsTrue, ⊤}
+use Rattle.std.specs.List.{list_all}
 use Rattle.capture_maker.specs.Made.{made}
 use Rattle.pcap_source.specs.Capture.{capture_of}
 use Rattle.pcapng_source.specs.Given.{Given, whole}
 use Rattle.pcapng_source.specs.Blocks.{any}
 use Rattle.control_script.specs.declared.stamped.Stamped.{Stamped}
+use Rattle.control_script.specs.Versions.{is_live}
 use Rattle.words.specs.declared.settings.Settings.{Settings}
 use Rattle.words.specs.Words.{words_settings}
 use Rattle.worker_pool.specs.Run.{MayHave}
@@ -56,3 +58,14 @@ abbrev pub outcome_under : List ℕ → Request → Outcome
 outcome_under vs (Refused e) = refused e
 outcome_under vs (Asked s commands file) =
     outcome (meaning_of s.app) commands (packets_with (meaning_of s.app) commands vs) (output_of s) file
+
+-- ---- the run of one worker
+
+-- no command of a script is stamped live
+abbrev pub HasNoLive : List Stamped → Type 0
+HasNoLive commands = IsTrue (list_all (λ s. not (is_live s.stamp)) commands)
+
+-- How a run of one worker ends, and what it writes: each record has the ceiling of its first packet. Of the settings the application
+-- and the output matter, and not how many workers they ask for.
+abbrev pub outcome_alone : Settings → List Stamped → Given → Outcome
+outcome_alone s commands file = outcome (meaning_of s.app) commands (packets_of commands) (output_of s) file

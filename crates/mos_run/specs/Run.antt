@@ -1,5 +1,5 @@
 -- What the top call promises.
-use Rattle.std.specs.Prelude.{◌≡◌, ◌≢◌, ◌⊎◌, ◌≤◌, ℕ, Bool, false, List, [], Option, Some, None, Result, Ok, Err, IsOk}
+use Rattle.std.specs.Prelude.{◌≡◌, ◌≢◌, ◌⊎◌, ◌≤◌, ℕ, Bool, false, List, [], Option, Some, None, Result, Ok, Err, IsOk, ⊤}
 use Rattle.mos_bytes.specs.Causes.{Rose, HasCauseOf}
 use Rattle.mos_bytes.specs.declared.source.Source.{Ghosts as Source}
 use Rattle.mos_bytes.specs.declared.shelf.Shelf.{Ghosts as Shelf}
@@ -13,7 +13,7 @@ use Rattle.capture_replay.specs.declared.refusal.RunError.TheVariants.{NoMemory}
 use Rattle.capture_replay.specs.Outcome.{Outcome, is_forward, output_of}
 use Rattle.capture_replay.specs.Refusal.{WritesText, status_of, refusal_text}
 use Rattle.capture_replay.specs.Runs.{Finishes, StopsAs}
-use Rattle.mos_run.specs.Request.{Request, Refused, Allows, outcome_under, request_of}
+use Rattle.mos_run.specs.Request.{Request, Refused, Asked, Allows, HasNoLive, outcome_alone, outcome_under, request_of}
 
 -- the status of a run with this outcome
 abbrev pub EndsAs : Outcome → ℕ → Type 0
@@ -29,6 +29,11 @@ pub record UnderSome (request : Request) (P : Outcome → Type 0) : Type 0 where
 pub record FinishesUnder (request : Request) (versions : List ℕ) (old new : Option (List ℕ)) : Type 0 where
   pub allowed : Allows request versions
   pub finishes : Finishes (outcome_under versions request) versions old new
+
+-- where no command is stamped live, the run ends well as that of one worker does
+abbrev pub FinishesAlone : Request → List ℕ → Option (List ℕ) → Option (List ℕ) → Type 0
+FinishesAlone (Refused e) versions old new = ⊤
+FinishesAlone (Asked s commands file) versions old new = HasNoLive commands → Finishes (outcome_alone s commands file) versions old new
 
 -- a run ends well under all versions that it may have
 abbrev pub EndsWell : Request → Type 0
@@ -90,13 +95,13 @@ module _ {S H O E : Type 0} (source : Source S) (shelf : Shelf H) (sink : Sink O
     pub shelf_counts : shelf.faults h ≤ shelf.faults i
     -- what isn't touched
     pub unread : (ended.status ≡ 1) ⊎ (ended.status ≡ 2) → t ≡ s
+    -- refused words and a refused script, whatever the status that tells it
+    pub refused : (e : RunError) → request_of words (shelf.content h) (source.left s) ≡ Some (Refused e) → (t ≡ s) × (p ≡ o)
     pub made : Makes words → t ≡ s
     pub unasked : NamesNone words → (i ≡ h) × (ended.status ≢ 2)
     -- what is written where the output isn't whole
     pub silent : forwards (words_settings words) ≡ false → ComesBefore ended.status → p ≡ o
     pub front : (x : Request) → request_of words (shelf.content h) (source.left s) ≡ Some x
-    -- refused words and a refused script, whatever the status that tells it
-    pub refused : (e : RunError) → request_of words (shelf.content h) (source.left s) ≡ Some (Refused e) → (t ≡ s) × (p ≡ o)
         → UnderSome x (λ outcome. AppendsFront (sink.taken o) (sink.taken p) outcome.text)
     pub no_versions : ended.status ≢ 0 → ended.versions ≡ []
     -- what is told on err

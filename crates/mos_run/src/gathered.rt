@@ -2,12 +2,14 @@
 
 ghost use Rattle.std.specs.Prelude.{◌≡◌, map, Some, string_bytes};
 ghost use Rattle.mos_run.specs.Request.{Request, request_of};
-ghost use Rattle.mos_run.specs.Run.{FinishesUnder, MosRun};
+ghost use Rattle.mos_run.specs.Run.{FinishesAlone, FinishesUnder, MosRun};
 
 use crate::ended::{Ended, handed_on, refuse};
 use crate::run::run_mos;
 use capture_replay::RunError;
-use capture_replay::laws::what_one_worker_has_is_allowed;
+use capture_replay::laws::{
+    what_one_worker_has_is_allowed, without_live_commands_all_versions_are_known,
+};
 use mos_bytes::{GatheringSink, Shelf, Sink, Source};
 use native_filters::NativeBook;
 use std::alloc::{AllocFailed, Global};
@@ -25,7 +27,7 @@ pub struct GatheredRun<O> {
 /// Runs as `run_mos` does, and gives the output back. What is written is gathered, so that `out` is called once for some 65,536
 /// bytes. The packets of a forwarded capture are handed on at the latest before more of the capture is asked of the outside.
 ///
-/// Both clauses are those of `run_mos`, and speak of `out` itself: at status 0 it has taken all, and nothing is held back. With
+/// Its clauses are those of `run_mos`, and speak of `out` itself: at status 0 it has taken all, and nothing is held back. With
 /// another status what was gathered is handed on too. Where that fails in the last call, it is status 5 in place of 0; any other
 /// status stays. Memory for what is gathered may be refused: status 6. It may wait for its threads, as `run_mos` does.
 pub fn run_gathered<
@@ -50,10 +52,15 @@ pub fn run_gathered<
     ensures done { result.ended.status ≡ 0
         → (t : Request) → request_of (map string_bytes words.now) (H.content shelf.old) (S.left capture.old) ≡ Some t
         → FinishesUnder t result.ended.versions (O.taken out) (O.taken result.out) }
+    // Without live commands that is the outcome of one worker, however many there are.
+    ensures alone { result.ended.status ≡ 0
+        → (t : Request) → request_of (map string_bytes words.now) (H.content shelf.old) (S.left capture.old) ≡ Some t
+        → FinishesAlone t result.ended.versions (O.taken out) (O.taken result.out) }
     ensures ran { MosRun S.Source H.Shelf O.Sink E.Sink (map string_bytes words.now)
         capture.old capture.new shelf.old shelf.new out result.out err.old err.new result.ended }
 {
     what_one_worker_has_is_allowed();
+    without_live_commands_all_versions_are_known();
     let mut gathering = match GatheringSink::new(alloc, out) {
         Ok(gathering) => gathering,
         Err(AllocFailed { value: out }) => {

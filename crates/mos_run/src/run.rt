@@ -4,13 +4,15 @@ ghost use Rattle.std.specs.Prelude.{◌≡◌, ◌≤◌, map, Some, IfSome, str
 ghost use Rattle.pcapng_source.specs.Given.{whole};
 ghost use Rattle.capture_replay.specs.Apps.{meaning_of};
 ghost use Rattle.mos_run.specs.Request.{Request, Asked, request_of};
-ghost use Rattle.mos_run.specs.Run.{FinishesUnder, MosRun, RunsUnder};
+ghost use Rattle.mos_run.specs.Run.{FinishesAlone, FinishesUnder, MosRun, RunsUnder};
 ghost use Rattle.capture_replay.specs.Runs.{IsJob, RunsUnderSettings};
 ghost use Rattle.mos_run.specs.Runs.{RunsOverFile, RunsUnderWords};
 
 use crate::ended::{Ended, refuse};
 use crate::explained::explain;
-use capture_replay::laws::what_one_worker_has_is_allowed;
+use capture_replay::laws::{
+    what_one_worker_has_is_allowed, without_live_commands_all_versions_are_known,
+};
 use capture_replay::{Crew, RunError, run_one, run_several, script_of};
 use control_script::Script;
 use mos_bytes::{Shelf, Sink, Source};
@@ -44,10 +46,10 @@ fn run_asked<
         capture.old capture.new out.old out.new result }
 {
     what_one_worker_has_is_allowed();
-    if settings.workers == 1 {
-        return run_one(alloc, settings, capture, script, out, natives);
     // With its length a script tells that its commands are in order.
     let _ = script.len();
+    if settings.workers == 1 {
+        return run_one(alloc, settings, capture, script, out, natives);
     }
     run_several(crew, alloc, settings, capture, script, out, natives)
 }
@@ -154,9 +156,15 @@ pub fn run_mos<
     ensures done { result.status ≡ 0
         → (t : Request) → request_of (map string_bytes words.now) (H.content shelf.old) (S.left capture.old) ≡ Some t
         → FinishesUnder t result.versions (O.taken out.old) (O.taken out.new) }
+    // Without live commands that is the outcome of one worker, however many there are.
+    ensures alone { result.status ≡ 0
+        → (t : Request) → request_of (map string_bytes words.now) (H.content shelf.old) (S.left capture.old) ≡ Some t
+        → FinishesAlone t result.versions (O.taken out.old) (O.taken out.new) }
     ensures ran { MosRun S.Source H.Shelf O.Sink E.Sink (map string_bytes words.now)
         capture.old capture.new shelf.old shelf.new out.old out.new err.old err.new result }
 {
+    what_one_worker_has_is_allowed();
+    without_live_commands_all_versions_are_known();
     let crew = Crew { rt, gate };
     match run(&crew, alloc, words, capture, shelf, out, natives) {
         Ok(versions) => Ended::done(versions),

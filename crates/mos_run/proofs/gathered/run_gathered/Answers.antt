@@ -6,7 +6,7 @@ use Rattle.mos_run.specs.Run.{FinishesUnder}
 use Rattle.mos_run.proofs.Below.{done_below, front_below, rose_below}
 use Rattle.capture_replay.proofs.Following.{ok_value}
 use Rattle.mos_run.proofs.Gathering.{handed_by, ran_below, ran_failed, ran_without_memory}
-use Rattle.mos_run.proofs.Outcomes.{has_some}
+use Rattle.mos_run.proofs.Outcomes.{finishes_alone, has_some}
 use Rattle.capture_replay.proofs.Refusals.{rose_since}
 use Rattle.mos_run.proofs.gathered.run_gathered.Goals as goal
 
@@ -31,6 +31,11 @@ returns-clause-done g c = λ zero t is.
     (done_below t c.run_mos-ended.result.versions (g.O.Sink.taken c.args.out) (given_to c.in-Ok.gathering) (given_to c.run_mos-ended.new.out) (given_to c.finish-handed.new.self)
     (g.O.Sink.taken c.into_inner-out.result) new.given (c.run_mos-ended.ensures.done (sym (ap (λ ended. ended.status) same) ∙ zero) t is) c.finish-handed.ensures.given
     (ap g.O.Sink.taken c.into_inner-out.ensures.inner ∙ finished.taken))
+
+pub returns-clause-alone : goal.returns-clause-alone
+returns-clause-alone g c = λ zero t is.
+    finishes_alone c.what_one_worker_has_is_allowed.ensures.outcome c.without_live_commands_all_versions_are_known.ensures (map string_bytes c.args.words.now)
+    (g.H.Shelf.content c.args.shelf.now) (g.S.Source.left c.args.capture.now) t _ _ _ is (returns-clause-done g c zero t is)
 
 pub returns-clause-ran : goal.returns-clause-ran
 returns-clause-ran g c =
