@@ -1,11 +1,13 @@
-//! The program `mos` over any words and streams.
+//! The program `mos` over any words, streams and shelf.
 #![tactic(auto)]
 
-ghost use Rattle.std.specs.Prelude.{◌≡◌};
+ghost use Rattle.std.specs.Prelude.{◌≡◌, ◌⊎◌, map, Some, IfOk, IsErr, string_bytes};
 ghost use Rattle.std.specs.Process.{exit_status};
+ghost use Rattle.mos_run.specs.Request.{Request, request_of};
+ghost use Rattle.mos_run.specs.Run.{FinishesAlone, FinishesUnder, MosRun, TellsOf};
 
-use mos_bytes::{FolderShelf, ReadSource, WriteSink};
-use mos_run::{Ended, OpenGate, RunError, refuse, run_gathered};
+use mos_bytes::{FolderShelf, ReadSource, Shelf, Sink, Source, WriteSink};
+use mos_run::{Ended, GatheredRun, OpenGate, RunError, refuse, run_gathered};
 use native_filters::{
     Native, NativeBook, has_differing_bytes, has_system_port, is_ending, is_keep_alive, is_opening,
     is_private_traffic,
@@ -18,23 +20,75 @@ use std::sync::Wait;
 use std::thread::Threads;
 
 // Words that can't be read: one that is no text is a refused word, and else memory was refused.
-fn words_refusal(error: &io::Error) -> RunError {
+fn words_refusal(error: &io::Error) -> RunError
+    ensures { (result ≡ RunError.Usage) ⊎ (result ≡ RunError.NoMemory) }
+{
     match error.kind() {
         io::ErrorKind::OutOfMemory => RunError::NoMemory,
         _ => RunError::Usage,
     }
 }
 
-/// Replays the capture that `input` gives as the words say, writes what they ask for to `out`, and tells a refusal on `err`. The
-/// words name a script by its path from the current folder. Words that can't be read are refused.
+/// What a run of the program came to.
+#[derive(Drop)]
+pub struct ProgramRun<O> {
+    /// How the run ended.
+    pub ended: Ended,
+    /// What the process ends with: the status.
+    pub code: ExitCode,
+    /// The output that was handed in.
+    pub out: O,
+}
+
+// What the program does with what a run came to.
+fn finished<O>(run: GatheredRun<O>) -> ProgramRun<O>
+    ensures code { exit_status result.code ≡ run.ended.status }
+    ensures ended { result.ended ≡ run.ended }
+    ensures out { result.out ≡ run.out }
+{
+    let code = ExitCode::from(run.ended.status);
+    ProgramRun {
+        ended: run.ended,
+        code,
+        out: run.out,
+    }
+}
+
+/// Replays `capture` as the words say, writes what they ask for to `out`, and tells a refusal on `err`. The words name a script
+/// by its name on `shelf`. It is `run_gathered` with the six native filters, and may wait for its threads as that does.
+///
+/// Words that can't be read are refused: status 1 where one of them is no text, and else status 6.
 pub fn run_program<
-    R: AllocGlobal + Files + Threads + Wait + Sync + Send + Copy + Drop + 'static,
-    I: Read + Drop,
-    O: Write + Drop,
-    E: Write + Drop,
->(rt: R, words: io::Result<Vec<String>>, input: I, out: O, err: E) -> Ended {
+    R: AllocGlobal + Threads + Wait + Sync + Send + Copy + Drop + 'static,
+    S: Source,
+    H: Shelf,
+    O: Sink,
+    E: Sink,
+>(
+    rt: &R,
+    words: io::Result<Vec<String>>,
+    capture: &mut S,
+    shelf: &mut H,
+    out: O,
+    err: &mut E,
+) -> ProgramRun<O>
+    ensures code { exit_status result.code ≡ result.ended.status }
+    // Where the words can be read, all is as `run_mos` promises.
+    ensures done { IfOk words (λ words. result.ended.status ≡ 0
+        → (t : Request) → request_of (map string_bytes words.items) (H.content shelf.old) (S.left capture.old) ≡ Some t
+        → FinishesUnder t result.ended.versions (O.taken out) (O.taken result.out)) }
+    ensures alone { IfOk words (λ words. result.ended.status ≡ 0
+        → (t : Request) → request_of (map string_bytes words.items) (H.content shelf.old) (S.left capture.old) ≡ Some t
+        → FinishesAlone t result.ended.versions (O.taken out) (O.taken result.out)) }
+    ensures ran { IfOk words (λ words. MosRun S.Source H.Shelf O.Sink E.Sink (map string_bytes words.items)
+        capture.old capture.new shelf.old shelf.new out result.out err.old err.new result.ended) }
+    // Else nothing but `err` is touched.
+    ensures unread { IsErr words → ((result.ended.status ≡ 1) ⊎ (result.ended.status ≡ 6))
+        × (capture.new ≡ capture.old) × (shelf.new ≡ shelf.old) × (result.out ≡ out) }
+    ensures told { IsErr words → (e : RunError) × ((e ≡ RunError.Usage) ⊎ (e ≡ RunError.NoMemory))
+        × TellsOf e result.ended.status (E.taken err.old) (E.taken err.new) (E.faults err.old) (E.faults err.new) }
+{
     let alloc = rt.alloc();
-    let mut err = WriteSink::new(err);
     let natives = NativeBook::new(
         Native::new(0, is_opening),
         Native::new(1, has_system_port),
@@ -44,21 +98,21 @@ pub fn run_program<
         Native::new(5, has_differing_bytes),
     );
     match words {
-        Ok(words) => {
-            run_gathered(
-                &rt,
-                alloc,
-                words.as_slice(),
-                &mut ReadSource::new(input),
-                &mut FolderShelf::new(rt),
-                WriteSink::new(out),
-                &mut err,
-                &natives,
-                &OpenGate,
-            )
-            .ended
+        Ok(words) => finished(run_gathered(
+            rt,
+            alloc,
+            words.as_slice(),
+            capture,
+            shelf,
+            out,
+            err,
+            &natives,
+            &OpenGate,
+        )),
+        Err(error) => {
+            let ended = refuse(alloc, err, words_refusal(&error));
+            finished(GatheredRun { ended, out })
         }
-        Err(error) => refuse(alloc, &mut err, words_refusal(&error)),
     }
 }
 
@@ -69,19 +123,25 @@ fn words(rt: &(impl Env + AllocGlobal)) -> io::Result<Vec<String>> {
     words.collect(rt.alloc()).map_err(io::Error::from)
 }
 
-// What the process ends with.
-fn exit_code(ended: &Ended) -> ExitCode
-    ensures { exit_status result ≡ ended.now.status }
-{
-    ExitCode::from(ended.status)
-}
-
-/// The program over the words that the process was given. The exit status is the run's.
+/// The program over the words that the process was given, these streams and the files of the current folder. The exit status is
+/// the run's.
 pub fn run_process<
     R: AllocGlobal + Env + Files + Threads + Wait + Sync + Send + Copy + Drop + 'static,
     I: Read + Drop,
     O: Write + Drop,
     E: Write + Drop,
 >(rt: R, input: I, out: O, err: E) -> ExitCode {
-    exit_code(&run_program(rt, words(&rt), input, out, err))
+    let words = words(&rt);
+    let mut capture = ReadSource::new(input);
+    let mut shelf = FolderShelf::new(rt);
+    let mut err = WriteSink::new(err);
+    run_program(
+        &rt,
+        words,
+        &mut capture,
+        &mut shelf,
+        WriteSink::new(out),
+        &mut err,
+    )
+    .code
 }

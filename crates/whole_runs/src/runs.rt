@@ -1,5 +1,6 @@
 //! One run of the program over bytes in memory, and what it needs.
 
+use mos_bytes::{FolderShelf, ReadSource, WriteSink};
 use mos_program::run_program;
 use mos_run::Ended;
 use std::alloc::{AllocError, Global};
@@ -27,7 +28,15 @@ pub fn run<R: AllocGlobal + Files + Threads + Wait + Sync + Send + Copy + Drop +
     let mut left = capture;
     let mut out = Vec::new(rt.alloc());
     let mut err = Vec::new(rt.alloc());
-    let ended = run_program(*rt, words, &mut left, &mut out, &mut err);
+    let ended = run_program(
+        rt,
+        words,
+        &mut ReadSource::new(&mut left),
+        &mut FolderShelf::new(*rt),
+        WriteSink::new(&mut out),
+        &mut WriteSink::new(&mut err),
+    )
+    .ended;
     Finished {
         ended,
         out,
