@@ -10,8 +10,6 @@ use Rattle.pcap_source.specs.Captured.{Captured}
 use Rattle.pcap_source.specs.Capture.{Frames, Ending, tail, too_long, too_many, capture_of}
 use Rattle.pcap_source.specs.declared.errors.OpenError.{OpenError}
 use Rattle.pcap_source.specs.declared.errors.CaptureFault.TheVariants as Fault
-use Rattle.pcapng_source.specs.Given.{Given}
-use Rattle.pcapng_source.specs.declared.fault.NgFault.{NgFault}
 use Rattle.control_script.specs.declared.stamped.Stamped.{Stamped}
 use Rattle.control_script.specs.Order.{commands_of}
 use Rattle.control_script.specs.Versions.{floor, ceil}
@@ -25,11 +23,12 @@ use Rattle.lane_core.specs.Versions.{versions_in}
 use Rattle.worker_laws.specs.Whole.{in_force, run_under, verdicts_under, IsAllowedRun}
 use Rattle.worker_pool.specs.Run.{MayHave, totals_of}
 use Rattle.capture_replay.specs.declared.output.Output.{Output}
-use Rattle.capture_replay.specs.declared.refusal.RunError.TheVariants.{Heavy, Capture, TooMany}
+use Rattle.capture_replay.specs.declared.refusal.ReplayError.TheVariants.{Heavy, Capture, TooMany}
 use Rattle.capture_replay.specs.Records.{packets_of, packets_with, records_of, verdicts_of, versions_of, frames_in}
 use Rattle.forward_pool.specs.Forward.{left_by_all}
-use Rattle.capture_replay.specs.Refusal.{file_refusal}
-use Rattle.capture_replay.specs.Outcome.{Outcome, refused, is_forward, closing, followed, outcome_by, outcome}
+use Rattle.capture_replay.specs.Outcome.{Outcome, refused, is_forward, closing, followed, outcome_by, outcome_over}
+use Rattle.capture_replay.specs.declared.refusal.ReplayError.{ReplayError}
+use Rattle.capture_replay.specs.Forward.{forwarded}
 use Rattle.capture_replay.specs.Laws.{ceilings_of}
 
 -- ---- what is said of all lists
@@ -100,44 +99,49 @@ module _ (app : Meaning) (output : Output) (header : List ℕ) (frames : List Ca
   abbrev streamed_by : List (Arrival × Verdict) → List ℕ
   streamed_by js = if is_forward output then header ++ left_by_all js frames else []
 
-  abbrev followed_by : Ending → Option NgFault → List RecordSoFar → List (Arrival × Verdict) → Outcome
-  followed_by (tail n) None rs js = if not (is_forward output) && nat_lt 134217728 (weight rs) then refused Heavy else record {
+  abbrev followed_by : Ending → List RecordSoFar → List (Arrival × Verdict) → Outcome ReplayError
+  followed_by (tail n) rs js = if not (is_forward output) && nat_lt 134217728 (weight rs) then refused Heavy else record {
     text = streamed_by js ++ closing output (map (record_of app) rs) (totals_of rs (length frames) n);
     ends = Ok (versions_of rs);
   }
-  followed_by (tail n) (Some fault) rs js = record { text = streamed_by js; ends = Err (file_refusal fault) }
-  followed_by (too_long offset) behind rs js = record { text = streamed_by js; ends = Err (Capture Fault.TooLong offset) }
-  followed_by (too_many offset) behind rs js = record { text = streamed_by js; ends = Err (TooMany offset) }
+  followed_by (too_long offset) rs js = record { text = streamed_by js; ends = Err (Capture Fault.TooLong offset) }
+  followed_by (too_many offset) rs js = record { text = streamed_by js; ends = Err (TooMany offset) }
 
-  followed-is : (script : List Stamped) (given : List Captured → List VersionedPacket) (ending : Ending) (behind : Option NgFault)
-      → followed app script given output header frames ending behind ≡ followed_by ending behind (records_of app script given frames) (verdicts_of app script given frames)
-  followed-is script given (tail n) None = refl
-  followed-is script given (tail n) (Some fault) = refl
-  followed-is script given (too_long offset) behind = refl
-  followed-is script given (too_many offset) behind = refl
+  followed-is : (script : List Stamped) (given : List Captured → List VersionedPacket) (ending : Ending)
+      → followed app script given output header frames ending ≡ followed_by ending (records_of app script given frames) (verdicts_of app script given frames)
+  followed-is script given (tail n) = refl
+  followed-is script given (too_long offset) = refl
+  followed-is script given (too_many offset) = refl
 
-  followed-same : (script : List Stamped) (one two : List Captured → List VersionedPacket) (ending : Ending) (behind : Option NgFault)
+  followed-same : (script : List Stamped) (one two : List Captured → List VersionedPacket) (ending : Ending)
       → records_of app script one frames ≡ records_of app script two frames
-      → verdicts_of app script one frames ≡ verdicts_of app script two frames → followed app script one output header frames ending behind ≡ followed app script two output header frames ending behind
-  followed-same script one two ending behind rs js =
-      followed-is script one ending behind ∙ ap (λ r. followed_by ending behind r (verdicts_of app script one frames)) rs
-      ∙ ap (followed_by ending behind (records_of app script two frames)) js ∙ sym (followed-is script two ending behind)
+      → verdicts_of app script one frames ≡ verdicts_of app script two frames → followed app script one output header frames ending ≡ followed app script two output header frames ending
+  followed-same script one two ending rs js =
+      followed-is script one ending ∙ ap (λ r. followed_by ending r (verdicts_of app script one frames)) rs
+      ∙ ap (followed_by ending (records_of app script two frames)) js ∙ sym (followed-is script two ending)
 
-outcome-by : (app : Meaning) (script : List Stamped) (one two : List Captured → List VersionedPacket) (output : Output) (header : List ℕ) (capture : Result Frames OpenError) (behind : Option NgFault)
+outcome-by : (app : Meaning) (script : List Stamped) (one two : List Captured → List VersionedPacket) (output : Output) (header : List ℕ) (capture : Result Frames OpenError)
     → records_of app script one (frames_in capture) ≡ records_of app script two (frames_in capture)
     → verdicts_of app script one (frames_in capture) ≡ verdicts_of app script two (frames_in capture)
-    → outcome_by app script one output header capture behind ≡ outcome_by app script two output header capture behind
-outcome-by app script one two output header (Ok f) behind rs js = followed-same app output header f.frames script one two f.ending behind rs js
-outcome-by app script one two output header (Err e) behind rs js = refl
+    → outcome_by app script one output header capture ≡ outcome_by app script two output header capture
+outcome-by app script one two output header (Ok f) rs js = followed-same app output header f.frames script one two f.ending rs js
+outcome-by app script one two output header (Err e) rs js = refl
 
 -- a run under the ceilings is that of one worker
-pub same_outcome : CeilingsAllowed → CeilingsRise → NumbersRise → HasVersions → OneRun → OneJudged → (app : Meaning) (script : List Stamped) (output : Output) (file : Given)
-    → outcome app script (packets_with app script (ceilings_of app script file.bytes)) output file ≡ outcome app script (packets_of script) output file
-unfolding outcome
-same_outcome allowed rises numbers has one judged app script output file =
-    let frames = frames_in (capture_of file.bytes) in
-    outcome-by app script (packets_with app script (ceilings_of app script file.bytes)) (packets_of script) output (take 24 file.bytes) (capture_of file.bytes) file.refusal
+pub same_outcome : CeilingsAllowed → CeilingsRise → NumbersRise → HasVersions → OneRun → OneJudged → (app : Meaning) (script : List Stamped) (output : Output) (bytes : List ℕ)
+    → outcome_over app script (packets_with app script (ceilings_of app script bytes)) output bytes ≡ outcome_over app script (packets_of script) output bytes
+unfolding outcome_over
+same_outcome allowed rises numbers has one judged app script output bytes =
+    let frames = frames_in (capture_of bytes) in
+    outcome-by app script (packets_with app script (ceilings_of app script bytes)) (packets_of script) output (take 24 bytes) (capture_of bytes)
     (same_records app script frames allowed rises numbers has one) (same_verdicts app script frames allowed rises numbers has one judged)
+
+-- and the same packets are forwarded
+pub same_forwarded : CeilingsAllowed → CeilingsRise → NumbersRise → HasVersions → OneRun → OneJudged → (app : Meaning) (script : List Stamped) (bytes : List ℕ)
+    → forwarded app script (packets_with app script (ceilings_of app script bytes)) (frames_in (capture_of bytes)) ≡ forwarded app script (packets_of script) (frames_in (capture_of bytes))
+same_forwarded allowed rises numbers has one judged app script bytes =
+    let frames = frames_in (capture_of bytes) in
+    ap (λ js. left_by_all js frames) (same_verdicts app script frames allowed rises numbers has one judged)
 
 -- where each floor is its ceiling, no other list is allowed
 pub known_versions : HasVersions → OneRun → (app : Meaning) (script : List Stamped) (workers : ℕ) (frames : List Captured) (vs : List ℕ) → ((n : ℕ) → floor script n ≡ ceil script n)

@@ -29,8 +29,8 @@ use Rattle.lane_core.specs.Laws.{LaterCommandsChangeNone, WeightNeverFalls}
 use Rattle.worker_laws.specs.Greatest.{greatest}
 use Rattle.capture_replay.specs.declared.output.Output.{Output}
 use Rattle.capture_replay.specs.declared.output.Output.TheVariants.{Report, Forward, Summary}
-use Rattle.capture_replay.specs.declared.refusal.RunError.{RunError}
-use Rattle.capture_replay.specs.declared.refusal.RunError.TheVariants as Run
+use Rattle.capture_replay.specs.declared.refusal.ReplayError.{ReplayError}
+use Rattle.capture_replay.specs.declared.refusal.ReplayError.TheVariants as Replay
 use Rattle.worker_pool.specs.Run.{totals_of}
 use Rattle.capture_replay.specs.Records.{control_at, packets_of, records_of, records_so_far, versions_of}
 use Rattle.capture_replay.specs.Outcome.{Outcome, is_forward, is_heavy, streamed, closing, ended, weighed, refused}
@@ -120,7 +120,7 @@ module _ (app : Meaning) (script : List Stamped) (given : List Captured → List
   all = records_of app script given frames
 
   weighed-is : (header : List ℕ) (tail : ℕ) → is_heavy app script given output frames ≡ false → weighed app script given output header frames tail ≡ ended app script given output header frames tail
-  weighed-is header tail light = ap (λ b. if b then refused Run.Heavy else ended app script given output header frames tail) light
+  weighed-is header tail light = ap (λ b. if b then refused Replay.Heavy else ended app script given output header frames tail) light
 
   -- all is written
   pub ends_well : (header : List ℕ) (tail : ℕ) (versions : List ℕ) (before mid after : Option (List ℕ)) → is_heavy app script given output frames ≡ false → versions ≡ versions_of all
@@ -134,22 +134,22 @@ module _ (app : Meaning) (script : List Stamped) (given : List Captured → List
       })
 
   -- a front of it is written, or memory is refused
-  pub ends_badly : (header : List ℕ) (tail : ℕ) (e : RunError) (before mid after : Option (List ℕ)) → is_heavy app script given output frames ≡ false
-      → ((e ≡ Run.WriteFault) × (is_forward output ≡ false)) ⊎ (e ≡ Run.NoMemory)
+  pub ends_badly : (header : List ℕ) (tail : ℕ) (e : ReplayError) (before mid after : Option (List ℕ)) → is_heavy app script given output frames ≡ false
+      → ((e ≡ Replay.WriteFault) × (is_forward output ≡ false)) ⊎ (e ≡ Replay.NoMemory)
       → Appends before mid (streamed app script given output header frames)
       → AppendsFront mid after (closing output (map (record_of app) all) (totals_of all (length frames) tail))
       → RunsAs (weighed app script given output header frames tail) before after (Err e)
   ends_badly header tail e before mid after light which first last =
       subst (λ o. RunsAs o before after (Err e)) (sym (weighed-is header tail light)) (by which, AppendsFront-after before mid after _ _ first last)
     where
-      by : ((e ≡ Run.WriteFault) × (is_forward output ≡ false)) ⊎ (e ≡ Run.NoMemory) → StopsAs (ended app script given output header frames tail) e
+      by : ((e ≡ Replay.WriteFault) × (is_forward output ≡ false)) ⊎ (e ≡ Replay.NoMemory) → StopsAs (ended app script given output header frames tail) e
       by (inl w) = inr (inr (inr (w.0, not-empty (streamed app script given output header frames) _ (some-closing output _ _ w.1))))
       by (inr m) = inr (inr (inl m))
 
   -- the lane has no end: nothing is written
   pub ends_not : (header : List ℕ) (tail : ℕ) (e : LaneError) (before now : Option (List ℕ)) → (e ≡ Lane.Heavy → is_heavy app script given output frames ≡ true)
       → AppendsFront before now (weighed app script given output header frames tail).text → RunsAs (weighed app script given output header frames tail) before now (Err (lane_refusal e))
-  ends_not header tail Lane.Heavy before now heavy front = (inl (ap (λ b. (if b then refused Run.Heavy else ended app script given output header frames tail).ends) (heavy refl)), front)
+  ends_not header tail Lane.Heavy before now heavy front = (inl (ap (λ b. (if b then refused Replay.Heavy else ended app script given output header frames tail).ends) (heavy refl)), front)
   ends_not header tail Lane.NoMemory before now heavy front = (inr (inr (inl refl)), front)
 
 -- ---- a lane that writes its report itself
@@ -198,7 +198,7 @@ module _ (app : Meaning) (script : List Stamped) (output : Output) (frames : Lis
       (λ kept events s over. ⊎_elim (λ e. let both = sym ok ∙ e in cc) (λ e. let both = sym ok ∙ e in cc) (heavy events s over)) in
       ends_well app script (packets_of script) output frames header tail versions before mid after light same first (subst (Appends mid after) (text_at_end f) (text f.events f.stands_for))
 
-  abbrev outcome_of : Outcome
+  abbrev outcome_of : Outcome ReplayError
   outcome_of = weighed app script (packets_of script) output header frames tail
 
   -- a front of it is written, or nothing
@@ -220,8 +220,8 @@ module _ (app : Meaning) (script : List Stamped) (output : Output) (frames : Lis
           subst (λ x. RunsAs outcome_of before (taken p) (Err x)) (sym (ap report_refusal error ∙ told_lane le))
           (ends_not app script (packets_of script) output frames header tail le before (taken p) over (subst (λ q. AppendsFront before (taken q) outcome_of.text) (sym same) front))
 
-      written : (x : RunError) → failed ≡ None → is_heavy app script (packets_of script) output frames ≡ false
-          → ((x ≡ Run.WriteFault) × (is_forward output ≡ false)) ⊎ (x ≡ Run.NoMemory) → RunsAs outcome_of before (taken p) (Err x)
+      written : (x : ReplayError) → failed ≡ None → is_heavy app script (packets_of script) output frames ≡ false
+          → ((x ≡ Replay.WriteFault) × (is_forward output ≡ false)) ⊎ (x ≡ Replay.NoMemory) → RunsAs outcome_of before (taken p) (Err x)
       written x good light which =
           let f = read.follows good in
           ends_badly app script (packets_of script) output frames header tail x before (taken o) (taken p) light which first

@@ -17,10 +17,10 @@ use Rattle.worker_pool.specs.declared.job.PoolError.{PoolError}
 use Rattle.worker_pool.specs.declared.job.PoolError.TheVariants as Pool
 use Rattle.capture_replay.specs.declared.output.Output.{Output}
 use Rattle.capture_replay.specs.declared.output.Output.TheVariants.{Report, Forward, Summary}
-use Rattle.capture_replay.specs.declared.refusal.RunError.TheVariants as Run
+use Rattle.capture_replay.specs.declared.refusal.ReplayError.TheVariants as Replay
 use Rattle.capture_replay.specs.Records.{packets_with, frames_in}
 use Rattle.capture_replay.specs.Forward.{forwarded}
-use Rattle.capture_replay.specs.Outcome.{is_forward, followed, outcome_by, outcome, outcome_over}
+use Rattle.capture_replay.specs.Outcome.{is_forward, followed, outcome_by, outcome_over}
 use Rattle.capture_replay.specs.Refusal.{pool_refusal}
 use Rattle.capture_replay.specs.Runs.{Finishes, StopsAs}
 use Rattle.capture_replay.specs.Lanes.{FinishesWith, StopsWith}
@@ -43,11 +43,11 @@ module _ (app : Meaning) (script : List Stamped) (lanes : ℕ) (bytes header : L
   abbrev given : List ℕ → List Captured → List VersionedPacket
   given vs = packets_with app script vs
 
-  outcome-at : (vs : List ℕ) → outcome_over app script (given vs) Forward bytes ≡ followed app script (given vs) Forward header f.frames f.ending None
-  unfolding outcome
-  outcome-at vs = ap (λ h. outcome_by app script (given vs) Forward h (capture_of bytes) None) (sym header-is) ∙ ap (λ read. outcome_by app script (given vs) Forward header read None) opened
+  outcome-at : (vs : List ℕ) → outcome_over app script (given vs) Forward bytes ≡ followed app script (given vs) Forward header f.frames f.ending
+  unfolding outcome_over
+  outcome-at vs = ap (λ h. outcome_by app script (given vs) Forward h (capture_of bytes)) (sym header-is) ∙ ap (λ read. outcome_by app script (given vs) Forward header read) opened
 
-  text-by : (vs : List ℕ) (ending : Ending) → (followed app script (given vs) Forward header f.frames ending None).text ≡ header ++ forwarded app script (given vs) f.frames
+  text-by : (vs : List ℕ) (ending : Ending) → (followed app script (given vs) Forward header f.frames ending).text ≡ header ++ forwarded app script (given vs) f.frames
   text-by vs (tail n) = append-nil _
   text-by vs (too_long offset) = refl
   text-by vs (too_many offset) = refl
@@ -58,11 +58,11 @@ module _ (app : Meaning) (script : List Stamped) (lanes : ℕ) (bytes header : L
   may-have : (vs : List ℕ) → MayHave app script lanes f.frames vs → MayHave app script lanes (frames_in (capture_of bytes)) vs
   may-have vs may = subst (λ fs. MayHave app script lanes fs vs) (sym (ap frames_in opened)) may
 
-  write-fault : (vs : List ℕ) → StopsAs (outcome_over app script (given vs) Forward bytes) Run.WriteFault
+  write-fault : (vs : List ℕ) → StopsAs (outcome_over app script (given vs) Forward bytes) Replay.WriteFault
   write-fault vs = inr (inr (inr (refl, λ none. not-empty header (forwarded app script (given vs) f.frames) len (sym (text-is vs) ∙ none))))
 
   -- the header can't be written
-  pub no_header : CeilingsMayBeHad → are_in_order script ≡ true → (old new : Option (List ℕ)) → AppendsFront old new header → StopsWith app script lanes Forward bytes Run.WriteFault old new
+  pub no_header : CeilingsMayBeHad → are_in_order script ≡ true → (old new : Option (List ℕ)) → AppendsFront old new header → StopsWith app script lanes Forward bytes Replay.WriteFault old new
   no_header law ordered old new part = record {
     versions = ceilings_of app script bytes;
     may_have = law app script lanes bytes ordered;
@@ -71,8 +71,8 @@ module _ (app : Meaning) (script : List Stamped) (lanes : ℕ) (bytes header : L
   }
 
   stops-by : (vs : List ℕ) (e : PoolError) → RefusedAs f e → StopsAs (outcome_over app script (given vs) Forward bytes) (pool_refusal e)
-  stops-by vs (Pool.TooLong offset) is = inl (ap (λ o. o.ends) (outcome-at vs ∙ ap (λ ending. followed app script (given vs) Forward header f.frames ending None) is))
-  stops-by vs (Pool.TooMany offset) is = inl (ap (λ o. o.ends) (outcome-at vs ∙ ap (λ ending. followed app script (given vs) Forward header f.frames ending None) is))
+  stops-by vs (Pool.TooLong offset) is = inl (ap (λ o. o.ends) (outcome-at vs ∙ ap (λ ending. followed app script (given vs) Forward header f.frames ending) is))
+  stops-by vs (Pool.TooMany offset) is = inl (ap (λ o. o.ends) (outcome-at vs ∙ ap (λ ending. followed app script (given vs) Forward header f.frames ending) is))
   stops-by vs Pool.ReadFault is = inr (inl refl)
   stops-by vs Pool.WriteFault is = write-fault vs
   stops-by vs Pool.Heavy is = absurd is
@@ -97,7 +97,7 @@ module _ (app : Meaning) (script : List Stamped) (lanes : ℕ) (bytes header : L
       let all = ends.2 in
       record {
         may_have = may-have versions all.may_have;
-        finishes = subst (λ o. Finishes o versions old new) (sym (outcome-at versions ∙ ap (λ ending. followed app script (given versions) Forward header f.frames ending None) ends.1))
+        finishes = subst (λ o. Finishes o versions old new) (sym (outcome-at versions ∙ ap (λ ending. followed app script (given versions) Forward header f.frames ending) ends.1))
             (ends_well app script (given versions) Forward f.frames header ends.0 versions old new new refl (sym (has app (commands_of script) _ _ _ (arrivals 0 f.frames) versions all.may_have))
             (Appends-trans old mid new header _ written all.written) (Appends-nil new));
       }

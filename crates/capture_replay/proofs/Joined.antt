@@ -19,11 +19,11 @@ use Rattle.worker_pool.specs.declared.job.LanesEnd.{LanesEnd}
 use Rattle.worker_pool.specs.declared.job.PoolError.{PoolError}
 use Rattle.worker_pool.specs.declared.job.PoolError.TheVariants as Pool
 use Rattle.capture_replay.specs.declared.output.Output.{Output}
-use Rattle.capture_replay.specs.declared.refusal.RunError.{RunError}
-use Rattle.capture_replay.specs.declared.refusal.RunError.TheVariants as Run
+use Rattle.capture_replay.specs.declared.refusal.ReplayError.{ReplayError}
+use Rattle.capture_replay.specs.declared.refusal.ReplayError.TheVariants as Replay
 use Rattle.capture_replay.specs.Records.{packets_with, records_of, frames_in}
 use Rattle.capture_replay.specs.Forward.{forwarded}
-use Rattle.capture_replay.specs.Outcome.{is_forward, is_heavy, streamed, closing, ended, followed, weighed, refused, outcome_by, outcome, outcome_over}
+use Rattle.capture_replay.specs.Outcome.{is_forward, is_heavy, streamed, closing, ended, followed, weighed, refused, outcome_by, outcome_over}
 use Rattle.capture_replay.specs.Refusal.{pool_refusal}
 use Rattle.capture_replay.specs.Runs.{Finishes, StopsAs, RunsAs}
 use Rattle.capture_replay.specs.Lanes.{FinishesWith, StopsWith}
@@ -33,7 +33,7 @@ use Rattle.capture_replay.proofs.Closing.{ends_well, ends_badly}
 use Rattle.capture_replay.proofs.Reading.{over-limit, under-limit}
 
 -- a run on lanes that tells no fault of writing is refused with none
-pub no_write_told : {T U : Type 0} (e : PoolError) → (IsErrOf {T = T} (Err e) Pool.WriteFault → ⊥) → IsErrOf {T = U} (Err (pool_refusal e)) Run.WriteFault → ⊥
+pub no_write_told : {T U : Type 0} (e : PoolError) → (IsErrOf {T = T} (Err e) Pool.WriteFault → ⊥) → IsErrOf {T = U} (Err (pool_refusal e)) Replay.WriteFault → ⊥
 no_write_told (Pool.TooLong offset) never is = cc
 no_write_told (Pool.TooMany offset) never is = cc
 no_write_told Pool.ReadFault never is = cc
@@ -43,7 +43,7 @@ no_write_told Pool.NoMemory never is = cc
 
 module _ (app : Meaning) (script : List Stamped) (lanes : ℕ) (output : Output) (bytes : List ℕ) where
   -- nothing could be said of the capture, or the run stopped before its end, whatever its versions
-  pub stopped_any : CeilingsMayBeHad → are_in_order script ≡ true → (old : Option (List ℕ)) (e : RunError)
+  pub stopped_any : CeilingsMayBeHad → are_in_order script ≡ true → (old : Option (List ℕ)) (e : ReplayError)
       → ((vs : List ℕ) → StopsAs (outcome_over app script (packets_with app script vs) output bytes) e)
       → StopsWith app script lanes output bytes e old old
   stopped_any law ordered old e stops = record {
@@ -56,10 +56,10 @@ module _ (app : Meaning) (script : List Stamped) (lanes : ℕ) (output : Output)
   -- the capture was opened
   module _ (f : Frames) (opened : capture_of bytes ≡ Ok f) (kept : is_forward output ≡ false) where
     outcome-at : (vs : List ℕ) (ending : Ending) → f.ending ≡ ending
-        → outcome_over app script (packets_with app script vs) output bytes ≡ followed app script (packets_with app script vs) output (take 24 bytes) f.frames ending None
-    unfolding outcome
-    outcome-at vs ending is = ap (λ read. outcome_by app script (packets_with app script vs) output (take 24 bytes) read None) opened
-        ∙ ap (λ ending. followed app script (packets_with app script vs) output (take 24 bytes) f.frames ending None) is
+        → outcome_over app script (packets_with app script vs) output bytes ≡ followed app script (packets_with app script vs) output (take 24 bytes) f.frames ending
+    unfolding outcome_over
+    outcome-at vs ending is = ap (λ read. outcome_by app script (packets_with app script vs) output (take 24 bytes) read) opened
+        ∙ ap (λ ending. followed app script (packets_with app script vs) output (take 24 bytes) f.frames ending) is
 
     may-have : (vs : List ℕ) → MayHave app script lanes f.frames vs → MayHave app script lanes (frames_in (capture_of bytes)) vs
     may-have vs may = subst (λ fs. MayHave app script lanes fs vs) (sym (ap frames_in opened)) may
@@ -71,11 +71,11 @@ module _ (app : Meaning) (script : List Stamped) (lanes : ℕ) (output : Output)
     -- it can't be read on, or weighs too much
     pub stopped : CeilingsMayBeHad → are_in_order script ≡ true → (old : Option (List ℕ)) (e : PoolError) → EndsOver app script lanes f (Err e)
         → StopsWith app script lanes output bytes (pool_refusal e) old old
-    stopped law ordered old (Pool.TooLong offset) is = stopped_any law ordered old (Run.Capture Fault.TooLong offset) (λ vs. inl (ap (λ o. o.ends) (outcome-at vs (too_long offset) is)))
-    stopped law ordered old (Pool.TooMany offset) is = stopped_any law ordered old (Run.TooMany offset) (λ vs. inl (ap (λ o. o.ends) (outcome-at vs (too_many offset) is)))
-    stopped law ordered old Pool.ReadFault is = stopped_any law ordered old Run.ReadFault (λ vs. inr (inl refl))
+    stopped law ordered old (Pool.TooLong offset) is = stopped_any law ordered old (Replay.Capture Fault.TooLong offset) (λ vs. inl (ap (λ o. o.ends) (outcome-at vs (too_long offset) is)))
+    stopped law ordered old (Pool.TooMany offset) is = stopped_any law ordered old (Replay.TooMany offset) (λ vs. inl (ap (λ o. o.ends) (outcome-at vs (too_many offset) is)))
+    stopped law ordered old Pool.ReadFault is = stopped_any law ordered old Replay.ReadFault (λ vs. inr (inl refl))
     stopped law ordered old Pool.WriteFault is = absurd is
-    stopped law ordered old Pool.NoMemory is = stopped_any law ordered old Run.NoMemory (λ vs. inr (inr (inl refl)))
+    stopped law ordered old Pool.NoMemory is = stopped_any law ordered old Replay.NoMemory (λ vs. inr (inr (inl refl)))
     stopped law ordered old Pool.Heavy is =
         let heavy = is.2 in
         let given = packets_with app script heavy.versions in
@@ -83,7 +83,7 @@ module _ (app : Meaning) (script : List Stamped) (lanes : ℕ) (output : Output)
           versions = heavy.versions;
           may_have = may-have heavy.versions heavy.allowed;
           stops = inl (ap (λ o. o.ends) (outcome-at heavy.versions (tail is.0) is.1)
-              ∙ ap (λ b. (if b then refused Run.Heavy else ended app script given output (take 24 bytes) f.frames is.0).ends) (heavy-by heavy.versions true (over-limit app script _ heavy.heavy)));
+              ∙ ap (λ b. (if b then refused Replay.Heavy else ended app script given output (take 24 bytes) f.frames is.0).ends) (heavy-by heavy.versions true (over-limit app script _ heavy.heavy)));
           front = AppendsFront-nil old _;
         }
 
@@ -113,7 +113,7 @@ module _ (app : Meaning) (script : List Stamped) (lanes : ℕ) (output : Output)
       }
 
       -- or a front of it, where writing failed
-      pub broke_off : (old new : Option (List ℕ)) (e : RunError) → ((e ≡ Run.WriteFault) × (is_forward output ≡ false)) ⊎ (e ≡ Run.NoMemory)
+      pub broke_off : (old new : Option (List ℕ)) (e : ReplayError) → ((e ≡ Replay.WriteFault) × (is_forward output ≡ false)) ⊎ (e ≡ Replay.NoMemory)
           → AppendsFront old new (closing output end.records end.totals)
           → StopsWith app script lanes output bytes e old new
       broke_off old new e which part =

@@ -4,7 +4,6 @@ pub mod Closing
 pub mod Reading
 pub mod Replaying
 pub mod Refusals
-pub mod Scripts
 pub mod Ceilings
 pub mod Joined
 pub mod Forwarding

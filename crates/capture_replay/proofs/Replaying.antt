@@ -20,14 +20,14 @@ use Rattle.lane_core.specs.Sight.{arrivals}
 use Rattle.lane_core.specs.Records.{VersionedPacket, RecordSoFar, added, verdict_on, records_from, versioned}
 use Rattle.lane_core.specs.Verdicts.{verdicts_from}
 use Rattle.capture_replay.specs.declared.output.Output.{Output}
-use Rattle.capture_replay.specs.declared.refusal.RunError.{RunError}
-use Rattle.capture_replay.specs.declared.refusal.RunError.TheVariants as Run
+use Rattle.capture_replay.specs.declared.refusal.ReplayError.{ReplayError}
+use Rattle.capture_replay.specs.declared.refusal.ReplayError.TheVariants as Replay
 use Rattle.capture_replay.specs.Records.{control_at, packets_of, records_so_far}
 use Rattle.worker_laws.specs.Forwarded.{bytes_under as left_by}
 use Rattle.forward_pool.specs.Forward.{left_by_all}
 use Rattle.capture_replay.specs.Forward.{forwarded}
 use Rattle.capture_replay.specs.Refusal.{record_refusal, header_refusal}
-use Rattle.capture_replay.specs.Outcome.{is_forward, is_heavy, streamed, followed, weighed, refused, outcome_by, outcome, outcome_over}
+use Rattle.capture_replay.specs.Outcome.{is_forward, is_heavy, streamed, followed, weighed, refused, outcome_by, outcome_over}
 use Rattle.capture_replay.specs.Outcome as Outcomes
 use Rattle.capture_replay.specs.Reading.{Replaying, behind, gained, packet_of}
 use Rattle.capture_replay.proofs.Reading.{heavy_is_kept}
@@ -63,10 +63,10 @@ header-refused bytes e is = ap (λ r. frames_by r bytes) is
 
 module _ (app : Meaning) (script : List Stamped) (given : List Captured → List VersionedPacket) (output : Output) where
   header-stops : (b bytes : List ℕ) (e : OpenError) → header_of b ≡ Err e → Some b ≡ Some bytes → StopsAs (outcome_over app script given output bytes) (header_refusal e)
-  unfolding outcome
+  unfolding outcome_over
   header-stops b bytes e is told =
       let same : b ≡ bytes = cc in
-      inl (ap (λ r. (outcome_by app script given output (take 24 bytes) r None).ends) (header-refused bytes e (ap header_of (sym same) ∙ is)))
+      inl (ap (λ r. (outcome_by app script given output (take 24 bytes) r).ends) (header-refused bytes e (ap header_of (sym same) ∙ is)))
 
   -- a refused header
   pub refused_header : (old new : Option (List ℕ)) (bytes : List ℕ) (e : OpenError) → OpenGives old new (Err e) → old ≡ Some bytes
@@ -81,10 +81,10 @@ module _ (app : Meaning) (script : List Stamped) (given : List Captured → List
 
   -- the outcome by the frames so far and what is left
   pub outcome_is : (bytes : List ℕ) (left : Option (List ℕ)) (capture : CaptureState) (frames : List Captured) → (r : Replaying bytes left capture frames)
-      → outcome_over app script given output bytes ≡ followed app script given output capture.header (frames ++ (frames_at capture r.rest).frames) (frames_at capture r.rest).ending None
-  unfolding outcome
+      → outcome_over app script given output bytes ≡ followed app script given output capture.header (frames ++ (frames_at capture r.rest).frames) (frames_at capture r.rest).ending
+  unfolding outcome_over
   outcome_is bytes left capture frames r =
-      ap (λ h. outcome_by app script given output h (capture_of bytes) None) (sym r.header) ∙ ap (λ read. outcome_by app script given output capture.header read None) r.holds
+      ap (λ h. outcome_by app script given output h (capture_of bytes)) (sym r.header) ∙ ap (λ read. outcome_by app script given output capture.header read) r.holds
 
 -- ---- the next record
 
@@ -188,27 +188,27 @@ module _ (app : Meaning) (script : List Stamped) where
     heavy-text b is frames heavy = ap (λ c. written_by c header frames) (heavy_is_kept app script output frames heavy)
 
     weighed-text : (frames : List Captured) (n : ℕ) (b : Bool) → is_heavy app script (packets_of script) output frames ≡ b
-        → (rest : List ℕ) × ((if b then refused Run.Heavy else Outcomes.ended app script (packets_of script) output header frames n).text ≡ streamed
+        → (rest : List ℕ) × ((if b then refused Replay.Heavy else Outcomes.ended app script (packets_of script) output header frames n).text ≡ streamed
         app script (packets_of script) output header frames ++ rest)
     weighed-text frames n true heavy = ([], sym (append-nil _ ∙ heavy-text (is_forward output) refl frames heavy))
     weighed-text frames n false light = (_, refl)
 
     text-of : (frames : List Captured) (ending : Ending) → (rest : List ℕ)
-        × ((followed app script (packets_of script) output header frames ending None).text ≡ streamed app script (packets_of script) output header frames ++ rest)
+        × ((followed app script (packets_of script) output header frames ending).text ≡ streamed app script (packets_of script) output header frames ++ rest)
     text-of frames (tail n) = weighed-text frames n (is_heavy app script (packets_of script) output frames) refl
     text-of frames (too_long offset) = ([], sym (append-nil _))
     text-of frames (too_many offset) = ([], sym (append-nil _))
 
     -- what is written of some frames is a front of what is written of them and others
     front-of : (frames more : List Captured) (ending : Ending) → (rest : List ℕ)
-        × ((followed app script (packets_of script) output header (frames ++ more) ending None).text ≡ streamed app script (packets_of script) output header frames ++ rest)
+        × ((followed app script (packets_of script) output header (frames ++ more) ending).text ≡ streamed app script (packets_of script) output header frames ++ rest)
     front-of frames more ending =
         let all = text-of (frames ++ more) ending in
         let some = written-more (is_forward output) header frames more in
         (some.0 ++ all.0, all.1 ∙ ap (λ l. l ++ all.0) some.1 ∙ append_assoc (streamed app script (packets_of script) output header frames) some.0 all.0)
 
     pub front_whole : (frames more : List Captured) (ending : Ending) (old now : Option (List ℕ)) → Appends old now (streamed app script (packets_of script) output header frames)
-        → AppendsFront old now (followed app script (packets_of script) output header (frames ++ more) ending None).text
+        → AppendsFront old now (followed app script (packets_of script) output header (frames ++ more) ending).text
     front_whole frames more ending old now written =
         let front = front-of frames more ending in
         subst (AppendsFront old now) (sym front.1) (AppendsFront-whole old now (streamed app script (packets_of script) output header frames) front.0 written)
@@ -221,11 +221,11 @@ module _ (app : Meaning) (script : List Stamped) where
         subst (AppendsFront old now) (sym front.1) (AppendsFront-whole old now (streamed app script (packets_of script) output header frames) front.0 written)
 
     pub front_part : (frames more : List Captured) (frame : Captured) (ending : Ending) (old mid now : Option (List ℕ)) → Appends old mid (streamed app script (packets_of script) output header frames)
-        → AppendsFront mid now (gained app script output frames frame) → AppendsFront old now (followed app script (packets_of script) output header (frames ++ frame ∷ more) ending None).text
+        → AppendsFront mid now (gained app script output frames frame) → AppendsFront old now (followed app script (packets_of script) output header (frames ++ frame ∷ more) ending).text
     front_part frames more frame ending old mid now written part =
         let front = front-of (frames ++ frame ∷ []) more ending in
         let all : AppendsFront old now (streamed app script (packets_of script) output header frames ++ gained app script output frames frame) = AppendsFront-after old mid now _ _ written part in
-        subst (λ fs. AppendsFront old now (followed app script (packets_of script) output header fs ending None).text) (append_assoc frames (frame ∷ []) more)
+        subst (λ fs. AppendsFront old now (followed app script (packets_of script) output header fs ending).text) (append_assoc frames (frame ∷ []) more)
         (subst (AppendsFront old now) (sym front.1) (AppendsFront-more old now _ front.0 (subst (AppendsFront old now) (sym (streamed_last frames frame)) all)))
 
     front-nonempty : (b : Bool) → b ≡ true → length header ≡ 24 → (frames : List Captured) (rest : List ℕ) → written_by b header frames ++ rest ≢ []
@@ -238,7 +238,7 @@ module _ (app : Meaning) (script : List Stamped) where
 
     -- something is written where packets are
     pub writes_something : is_forward output ≡ true → length header ≡ 24 → (frames : List Captured) (ending : Ending)
-        → (followed app script (packets_of script) output header frames ending None).text ≢ []
+        → (followed app script (packets_of script) output header frames ending).text ≢ []
     writes_something forward len frames ending none =
         let all = text-of frames ending in
         front-nonempty (is_forward output) forward len frames all.0 (sym all.1 ∙ none)
@@ -251,10 +251,10 @@ module _ (app : Meaning) (script : List Stamped) where
         → (r : Replaying bytes left old frames) → StepTold old new r.rest after frame (Err e) → StopsAs (outcome_over app script (packets_of script) output bytes) (record_refusal e)
     refused_record bytes left after old new frames frame (Next.TooLong offset) r step =
         inl (ap (λ o. o.ends) (outcome_is app script (packets_of script) output bytes left old frames r)
-        ∙ ap (λ f. (followed app script (packets_of script) output old.header (frames ++ f.frames) f.ending None).ends) step.steps)
+        ∙ ap (λ f. (followed app script (packets_of script) output old.header (frames ++ f.frames) f.ending).ends) step.steps)
     refused_record bytes left after old new frames frame (Next.TooMany offset) r step =
         inl (ap (λ o. o.ends) (outcome_is app script (packets_of script) output bytes left old frames r)
-        ∙ ap (λ f. (followed app script (packets_of script) output old.header (frames ++ f.frames) f.ending None).ends) step.steps)
+        ∙ ap (λ f. (followed app script (packets_of script) output old.header (frames ++ f.frames) f.ending).ends) step.steps)
     refused_record bytes left after old new frames frame Next.ReadFault r step = inr (inl refl)
     refused_record bytes left after old new frames frame Next.NoMemory r step = inr (inr (inl refl))
 
@@ -272,13 +272,13 @@ module _ (app : Meaning) (script : List Stamped) where
         → AppendsFront mid now (gained app script output frames frame) → AppendsFront old now (outcome_over app script (packets_of script) output bytes).text
     front_of_frame bytes left after before capture frames frame old mid now r step written part =
         subst (λ o. AppendsFront old now o.text) (sym (outcome_is app script (packets_of script) output bytes left before frames r
-        ∙ ap (λ f. followed app script (packets_of script) output before.header (frames ++ f.frames) f.ending None) step.steps))
+        ∙ ap (λ f. followed app script (packets_of script) output before.header (frames ++ f.frames) f.ending) step.steps))
         (front_part output before.header frames (frames_at capture step.rest).frames frame (frames_at capture step.rest).ending old mid now written part)
 
     -- a write that failed
     pub stopped_writing : (bytes : List ℕ) (left : Option (List ℕ)) (capture : CaptureState) (frames : List Captured)
         → Replaying bytes left capture frames → is_forward output ≡ true → length capture.header ≡ 24
-        → StopsAs (outcome_over app script (packets_of script) output bytes) Run.WriteFault
+        → StopsAs (outcome_over app script (packets_of script) output bytes) Replay.WriteFault
     stopped_writing bytes left capture frames r forward len = inr (inr (inr (
       refl,
       λ none. writes_something output capture.header forward len (frames ++ (frames_at capture r.rest).frames) (frames_at capture r.rest).ending
@@ -290,12 +290,12 @@ module _ (app : Meaning) (script : List Stamped) where
         → (r : Replaying bytes left capture frames) → frames_at capture r.rest ≡ ended (tail n)
         → outcome_over app script (packets_of script) output bytes ≡ weighed app script (packets_of script) output capture.header frames n
     ended_at bytes left capture frames n r is =
-        outcome_is app script (packets_of script) output bytes left capture frames r ∙ ap (λ f. followed app script (packets_of script) output capture.header (frames ++ f.frames) f.ending None) is
-        ∙ ap (λ fs. followed app script (packets_of script) output capture.header fs (tail n) None) (append-nil frames)
+        outcome_is app script (packets_of script) output bytes left capture frames r ∙ ap (λ f. followed app script (packets_of script) output capture.header (frames ++ f.frames) f.ending) is
+        ∙ ap (λ fs. followed app script (packets_of script) output capture.header fs (tail n)) (append-nil frames)
 
     -- a write that failed, or want of memory
-    pub stopped_by : (bytes : List ℕ) (left : Option (List ℕ)) (capture : CaptureState) (frames : List Captured) (e : RunError) → Replaying bytes left capture frames → length capture.header ≡ 24
-        → ((e ≡ Run.WriteFault) × (is_forward output ≡ true)) ⊎ (e ≡ Run.NoMemory) → StopsAs (outcome_over app script (packets_of script) output bytes) e
+    pub stopped_by : (bytes : List ℕ) (left : Option (List ℕ)) (capture : CaptureState) (frames : List Captured) (e : ReplayError) → Replaying bytes left capture frames → length capture.header ≡ 24
+        → ((e ≡ Replay.WriteFault) × (is_forward output ≡ true)) ⊎ (e ≡ Replay.NoMemory) → StopsAs (outcome_over app script (packets_of script) output bytes) e
     stopped_by bytes left capture frames e r len (inl w) = subst (λ x. StopsAs (outcome_over app script (packets_of script) output bytes) x) (sym w.0)
         (stopped_writing bytes left capture frames r w.1 len)
     stopped_by bytes left capture frames e r len (inr m) = inr (inr (inl m))

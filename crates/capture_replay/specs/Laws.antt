@@ -6,11 +6,11 @@ use Rattle.pcap_source.specs.Capture.{capture_of}
 use Rattle.control_script.specs.declared.stamped.Stamped.{Stamped}
 use Rattle.control_script.specs.Order.{are_in_order}
 use Rattle.control_script.specs.Versions.{is_live}
-use Rattle.pcapng_source.specs.Given.{Given}
 use Rattle.worker_pool.specs.Run.{MayHave}
 use Rattle.capture_replay.specs.declared.output.Output.{Output}
 use Rattle.capture_replay.specs.Records.{packets_of, packets_with, records_of, versions_of, frames_in}
-use Rattle.capture_replay.specs.Outcome.{outcome}
+use Rattle.capture_replay.specs.Forward.{forwarded}
+use Rattle.capture_replay.specs.Outcome.{outcome_over}
 
 -- the versions that the records of these bytes have with one worker: each the ceiling of its first packet
 abbrev pub ceilings_of : Meaning → List Stamped → List ℕ → List ℕ
@@ -23,8 +23,13 @@ CeilingsMayBeHad = (app : Meaning) (script : List Stamped) (workers : ℕ) (byte
 
 -- a run under them is that of one worker
 abbrev pub CeilingsAreOneWorkers : Type 0
-CeilingsAreOneWorkers = (app : Meaning) (script : List Stamped) (output : Output) (file : Given)
-    → outcome app script (packets_with app script (ceilings_of app script file.bytes)) output file ≡ outcome app script (packets_of script) output file
+CeilingsAreOneWorkers = (app : Meaning) (script : List Stamped) (output : Output) (bytes : List ℕ)
+    → outcome_over app script (packets_with app script (ceilings_of app script bytes)) output bytes ≡ outcome_over app script (packets_of script) output bytes
+
+-- and the same packets are forwarded
+abbrev pub CeilingsForwardTheSame : Type 0
+CeilingsForwardTheSame = (app : Meaning) (script : List Stamped) (bytes : List ℕ)
+    → forwarded app script (packets_with app script (ceilings_of app script bytes)) (frames_in (capture_of bytes)) ≡ forwarded app script (packets_of script) (frames_in (capture_of bytes))
 
 -- without live commands no other versions may be had, however many workers there are
 abbrev pub OneListIsAllowed : Type 0

@@ -3,7 +3,6 @@ pub mod Records
 pub mod Forward
 pub mod Summary
 pub mod Refusal
-pub mod Script
 pub mod Outcome
 pub mod Reading
 pub mod Runs

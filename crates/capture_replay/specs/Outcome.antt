@@ -5,8 +5,6 @@ use Rattle.pcap_source.specs.Captured.{Captured}
 use Rattle.pcap_source.specs.Capture.{Frames, Ending, tail, too_long, too_many, capture_of}
 use Rattle.pcap_source.specs.declared.errors.OpenError.{OpenError}
 use Rattle.pcap_source.specs.declared.errors.CaptureFault.TheVariants as Fault
-use Rattle.pcapng_source.specs.Given.{Given, whole}
-use Rattle.pcapng_source.specs.declared.fault.NgFault.{NgFault}
 use Rattle.report_text.specs.Report.{report_text}
 use Rattle.report_text.specs.declared.record.Record.{Record}
 use Rattle.report_text.specs.declared.record.Totals.{Totals}
@@ -18,12 +16,12 @@ use Rattle.words.specs.declared.settings.Emit.{Emit}
 use Rattle.words.specs.declared.settings.Settings.{Settings}
 use Rattle.capture_replay.specs.declared.output.Output.{Output}
 use Rattle.capture_replay.specs.declared.output.Output.TheVariants.{Report, Forward, Summary}
-use Rattle.capture_replay.specs.declared.refusal.RunError.{RunError}
-use Rattle.capture_replay.specs.declared.refusal.RunError.TheVariants.{Capture, TooMany, Heavy}
+use Rattle.capture_replay.specs.declared.refusal.ReplayError.{ReplayError}
+use Rattle.capture_replay.specs.declared.refusal.ReplayError.TheVariants.{Capture, TooMany, Heavy}
 use Rattle.capture_replay.specs.Records.{records_of, versions_of}
 use Rattle.capture_replay.specs.Forward.{forwarded}
 use Rattle.capture_replay.specs.Summary.{summary_text}
-use Rattle.capture_replay.specs.Refusal.{file_refusal, header_refusal}
+use Rattle.capture_replay.specs.Refusal.{header_refusal}
 
 -- ---- what is written
 
@@ -55,12 +53,12 @@ closing (Summary n) records totals = summary_text n totals
 
 -- all that a run writes, of which one that doesn't end well may have written a front; and the versions of its records, or why it
 -- is refused
-pub record Outcome : Type 0 where
+pub record Outcome (E : Type 0) : Type 0 where
   pub text : List ℕ
-  pub ends : Result (List ℕ) RunError
+  pub ends : Result (List ℕ) E
 
 -- refused before anything is written
-abbrev pub refused : RunError → Outcome
+abbrev pub refused : {E : Type 0} → E → Outcome E
 refused e = record { text = []; ends = Err e }
 
 -- `given` gives the capture's packets their versions
@@ -73,34 +71,28 @@ module _ (app : Meaning) (script : List Stamped) (given : List Captured → List
   abbrev pub is_heavy : Output → List Captured → Bool
   is_heavy output frames = not (is_forward output) && nat_lt 134217728 (weight (records_of app script given frames))
 
-  abbrev pub ended : Output → List ℕ → List Captured → ℕ → Outcome
+  abbrev pub ended : Output → List ℕ → List Captured → ℕ → Outcome ReplayError
   ended output header frames rest = record {
     text = streamed output header frames ++ closing output (map (record_of app) (records_of app script given frames)) (totals_of (records_of app script given frames) (length frames) rest);
     ends = Ok (versions_of (records_of app script given frames));
   }
 
-  abbrev pub weighed : Output → List ℕ → List Captured → ℕ → Outcome
+  abbrev pub weighed : Output → List ℕ → List Captured → ℕ → Outcome ReplayError
   weighed output header frames rest = if is_heavy output frames then refused Heavy else ended output header frames rest
 
-  abbrev pub cut_off : Output → List ℕ → List Captured → RunError → Outcome
+  abbrev pub cut_off : Output → List ℕ → List Captured → ReplayError → Outcome ReplayError
   cut_off output header frames e = record { text = streamed output header frames; ends = Err e }
 
-  -- Whole records, to the end of the capture or to where it is refused: by a record of its own, or else by what stands behind all of
-  -- its bytes.
-  abbrev pub followed : Output → List ℕ → List Captured → Ending → Option NgFault → Outcome
-  followed output header frames (tail n) None = weighed output header frames n
-  followed output header frames (tail n) (Some fault) = cut_off output header frames (file_refusal fault)
-  followed output header frames (too_long offset) behind = cut_off output header frames (Capture Fault.TooLong offset)
-  followed output header frames (too_many offset) behind = cut_off output header frames (TooMany offset)
+  -- whole records, to the end of the capture or to where it is refused
+  abbrev pub followed : Output → List ℕ → List Captured → Ending → Outcome ReplayError
+  followed output header frames (tail n) = weighed output header frames n
+  followed output header frames (too_long offset) = cut_off output header frames (Capture Fault.TooLong offset)
+  followed output header frames (too_many offset) = cut_off output header frames (TooMany offset)
 
-  abbrev pub outcome_by : Output → List ℕ → Result Frames OpenError → Option NgFault → Outcome
-  outcome_by output header (Ok f) behind = followed output header f.frames f.ending behind
-  outcome_by output header (Err e) behind = refused (header_refusal e)
+  abbrev pub outcome_by : Output → List ℕ → Result Frames OpenError → Outcome ReplayError
+  outcome_by output header (Ok f) = followed output header f.frames f.ending
+  outcome_by output header (Err e) = refused (header_refusal e)
 
-  -- a run over a file that gives these bytes, and then a refusal or none
-  unfoldable pub outcome : Output → Given → Outcome
-  outcome output file = outcome_by output (take 24 file.bytes) (capture_of file.bytes) file.refusal
-
-  -- a run over these bytes, behind which nothing is refused
-  abbrev pub outcome_over : Output → List ℕ → Outcome
-  outcome_over output bytes = outcome output (whole bytes)
+  -- a run over these bytes
+  unfoldable pub outcome_over : Output → List ℕ → Outcome ReplayError
+  outcome_over output bytes = outcome_by output (take 24 bytes) (capture_of bytes)

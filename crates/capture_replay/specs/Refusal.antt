@@ -1,104 +1,22 @@
--- Why a run ends before its output is whole: the status and the line that tell it.
-use Rattle.std.specs.Prelude.{◌⊎◌, ℕ, List, ◌++◌, codes, Option}
-use Rattle.std.specs.Io.KnownBytes.{Appends}
-use Rattle.std.specs.Fmt.{decimal}
-use Rattle.words.specs.Usage.{usage_text}
-use Rattle.words.specs.declared.settings.WordsError.{WordsError}
-use Rattle.words.specs.declared.settings.WordsError.TheVariants as Words
-use Rattle.mos_bytes.specs.Causes.{Rose}
-use Rattle.mos_bytes.specs.Writes.{AppendsFront}
-use Rattle.mos_bytes.specs.declared.shelf.FetchError.{FetchError}
-use Rattle.mos_bytes.specs.declared.shelf.FetchError.TheVariants as Fetch
-use Rattle.control_script.specs.declared.error.ScriptError.{ScriptError}
-use Rattle.control_script.specs.declared.error.ScriptError.TheVariants as Text
-use Rattle.pcap_source.specs.declared.errors.CaptureFault.{CaptureFault}
+-- Why a replay ends before its output is whole.
 use Rattle.pcap_source.specs.declared.errors.CaptureFault.TheVariants as Fault
 use Rattle.pcap_source.specs.declared.errors.OpenError.{OpenError}
 use Rattle.pcap_source.specs.declared.errors.OpenError.TheVariants as Open
 use Rattle.pcap_source.specs.declared.errors.NextError.{NextError}
-use Rattle.pcapng_source.specs.declared.fault.NgFault.{NgFault}
-use Rattle.pcapng_source.specs.declared.fault.NgFault.TheVariants as Ng
+use Rattle.pcap_source.specs.declared.errors.NextError.TheVariants as Next
 use Rattle.lane_core.specs.declared.errors.LaneError.{LaneError}
+use Rattle.lane_core.specs.declared.errors.LaneError.TheVariants as Lane
 use Rattle.lane_core.specs.declared.report.ReportError.{ReportError}
 use Rattle.lane_core.specs.declared.report.ReportError.TheVariants as LaneReport
 use Rattle.report_text.specs.declared.write.TextError.{TextError}
 use Rattle.report_text.specs.declared.write.TextError.TheVariants as Report
-use Rattle.worker_pool.specs.Refused.{read_refusal, lane_refusal as lane_failure}
 use Rattle.worker_pool.specs.declared.job.PoolError.{PoolError}
 use Rattle.worker_pool.specs.declared.job.PoolError.TheVariants as Pool
-use Rattle.capture_replay.specs.declared.refusal.RunError.{RunError}
-use Rattle.capture_replay.specs.declared.refusal.RunError.TheVariants.{Usage, ScriptTooLong, Script, Capture, BadBlock, TooMany, TooManyBlocks, TooManyInterfaces, Heavy, ReadFault, WriteFault, NoMemory}
-use Rattle.capture_replay.specs.declared.refusal.ScriptFault.{ScriptFault}
-use Rattle.capture_replay.specs.declared.refusal.ScriptFault.TheVariants as Line
-
-abbrev pub status_of : RunError → ℕ
-status_of Usage = 1
-status_of ScriptTooLong = 2
-status_of (Script fault line) = 2
-status_of (Capture fault offset) = 3
-status_of (BadBlock offset) = 3
-status_of ReadFault = 4
-status_of WriteFault = 5
-status_of NoMemory = 6
-status_of (TooMany offset) = 7
-status_of (TooManyBlocks offset) = 7
-status_of (TooManyInterfaces offset) = 7
-status_of Heavy = 7
-
-abbrev pub fault_text : CaptureFault → List ℕ
-fault_text Fault.BadMagic = codes "bad magic"
-fault_text Fault.BadVersion = codes "bad version"
-fault_text Fault.BadLink = codes "bad link type"
-fault_text Fault.ShortHeader = codes "short header"
-fault_text Fault.TooLong = codes "record too long"
-
-abbrev pub kind_text : ScriptFault → List ℕ
-kind_text Line.Syntax = codes "Syntax"
-kind_text Line.UnknownName = codes "UnknownName"
-kind_text Line.Duplicate = codes "Duplicate"
-kind_text Line.NoSuchNumber = codes "NoSuchNumber"
-kind_text Line.TooDeep = codes "TooDeep"
-kind_text Line.TooMany = codes "TooMany"
-kind_text Line.StampOrder = codes "StampOrder"
-
-unfoldable pub refusal_text : RunError → List ℕ
-refusal_text Usage = usage_text
-refusal_text ScriptTooLong = codes "mos: script: too long\n"
-refusal_text (Script fault line) = codes "mos: script: line " ++ (decimal line ++ (codes ": " ++ (kind_text fault ++ codes "\n")))
-refusal_text (Capture fault offset) = codes "mos: capture: " ++ (fault_text fault ++ (codes " at " ++ (decimal offset ++ codes "\n")))
-refusal_text (BadBlock offset) = codes "mos: capture: bad block at " ++ (decimal offset ++ codes "\n")
-refusal_text (TooMany offset) = codes "mos: too many packets at " ++ (decimal offset ++ codes "\n")
-refusal_text (TooManyBlocks offset) = codes "mos: too many blocks at " ++ (decimal offset ++ codes "\n")
-refusal_text (TooManyInterfaces offset) = codes "mos: too many interfaces at " ++ (decimal offset ++ codes "\n")
-refusal_text Heavy = codes "mos: log too large\n"
-refusal_text ReadFault = codes "mos: read fault\n"
-refusal_text WriteFault = codes "mos: write fault\n"
-refusal_text NoMemory = codes "mos: no memory\n"
-
--- words that choose nothing
-abbrev pub words_refusal : WordsError → RunError
-words_refusal Words.Usage = Usage
-words_refusal Words.NoMemory = NoMemory
-
--- a script that can't be fetched
-abbrev pub fetch_refusal : FetchError → RunError
-fetch_refusal Fetch.TooLong = ScriptTooLong
-fetch_refusal Fetch.Failed = ReadFault
-fetch_refusal Fetch.NoMemory = NoMemory
-
--- a text that is no script
-abbrev pub script_refusal : ScriptError → RunError
-script_refusal (Text.Syntax line) = Script Line.Syntax line
-script_refusal (Text.UnknownName line) = Script Line.UnknownName line
-script_refusal (Text.Duplicate line) = Script Line.Duplicate line
-script_refusal (Text.NoSuchNumber line) = Script Line.NoSuchNumber line
-script_refusal (Text.TooDeep line) = Script Line.TooDeep line
-script_refusal (Text.TooMany line) = Script Line.TooMany line
-script_refusal (Text.StampOrder line) = Script Line.StampOrder line
-script_refusal Text.NoMemory = NoMemory
+use Rattle.capture_replay.specs.declared.refusal.ReplayError.{ReplayError}
+use Rattle.capture_replay.specs.declared.refusal.ReplayError.TheVariants.{Capture, TooMany, Heavy, ReadFault, WriteFault, NoMemory}
 
 -- a refused global header, with the offset of what was refused
-abbrev pub header_refusal : OpenError → RunError
+abbrev pub header_refusal : OpenError → ReplayError
 header_refusal Open.BadMagic = Capture Fault.BadMagic 0
 header_refusal Open.BadVersion = Capture Fault.BadVersion 4
 header_refusal Open.BadLink = Capture Fault.BadLink 20
@@ -106,42 +24,33 @@ header_refusal (Open.ShortHeader n) = Capture Fault.ShortHeader n
 header_refusal Open.ReadFault = ReadFault
 
 -- output that can't be written
-abbrev pub text_refusal : TextError → RunError
+abbrev pub text_refusal : TextError → ReplayError
 text_refusal Report.WriteFault = WriteFault
 text_refusal Report.NoMemory = NoMemory
 
 -- a report that one lane can't write
-abbrev pub report_refusal : ReportError → RunError
+abbrev pub report_refusal : ReportError → ReplayError
 report_refusal LaneReport.WriteFault = WriteFault
 report_refusal LaneReport.NoMemory = NoMemory
 report_refusal LaneReport.Heavy = Heavy
 
--- what ends a run early while its capture is read, however many lanes it has
-abbrev pub pool_refusal : PoolError → RunError
+-- a record of the capture that can't be read
+abbrev pub record_refusal : NextError → ReplayError
+record_refusal (Next.TooLong offset) = Capture Fault.TooLong offset
+record_refusal (Next.TooMany offset) = TooMany offset
+record_refusal Next.ReadFault = ReadFault
+record_refusal Next.NoMemory = NoMemory
+
+-- a lane that failed
+abbrev pub lane_refusal : LaneError → ReplayError
+lane_refusal Lane.Heavy = Heavy
+lane_refusal Lane.NoMemory = NoMemory
+
+-- what ends a run of several lanes
+abbrev pub pool_refusal : PoolError → ReplayError
 pool_refusal (Pool.TooLong offset) = Capture Fault.TooLong offset
 pool_refusal (Pool.TooMany offset) = TooMany offset
 pool_refusal Pool.ReadFault = ReadFault
 pool_refusal Pool.WriteFault = WriteFault
 pool_refusal Pool.Heavy = Heavy
 pool_refusal Pool.NoMemory = NoMemory
-
--- so a record of the capture that can't be read
-abbrev pub record_refusal : NextError → RunError
-record_refusal e = pool_refusal (read_refusal e)
-
--- and a lane that failed
-abbrev pub lane_refusal : LaneError → RunError
-lane_refusal e = pool_refusal (lane_failure e)
-
--- a refused block of a pcapng file
-abbrev pub file_refusal : NgFault → RunError
-file_refusal (Ng.TooManyBlocks offset) = TooManyBlocks offset
-file_refusal (Ng.BadBlock offset) = BadBlock offset
-file_refusal (Ng.BadVersion offset) = Capture Fault.BadVersion offset
-file_refusal (Ng.TooManyInterfaces offset) = TooManyInterfaces offset
-file_refusal (Ng.BadLink offset) = Capture Fault.BadLink offset
-file_refusal (Ng.TooLong offset) = Capture Fault.TooLong offset
-
--- a text was added, or a front of it where the sink failed
-abbrev pub WritesText : Option (List ℕ) → Option (List ℕ) → ℕ → ℕ → List ℕ → Type 0
-WritesText old new before now text = Appends old new text ⊎ (Rose before now × AppendsFront old new text)

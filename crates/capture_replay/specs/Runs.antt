@@ -15,12 +15,11 @@ use Rattle.control_script.specs.Order.{commands_of}
 use Rattle.worker_pool.specs.Source.{EndsInTail}
 use Rattle.words.specs.declared.settings.Settings.{Settings}
 use Rattle.capture_replay.specs.declared.output.Output.{Output}
-use Rattle.capture_replay.specs.declared.refusal.RunError.{RunError}
-use Rattle.capture_replay.specs.declared.refusal.RunError.TheVariants.{Heavy, ReadFault, WriteFault, NoMemory}
+use Rattle.capture_replay.specs.declared.refusal.ReplayError.{ReplayError}
+use Rattle.capture_replay.specs.declared.refusal.ReplayError.TheVariants.{Heavy, ReadFault, WriteFault, NoMemory}
 use Rattle.capture_replay.specs.Records.{packets_of}
 use Rattle.capture_replay.specs.Outcome.{Outcome, is_forward, outcome_over, output_of, weighed}
 use Rattle.mos_bytes.specs.Outside.{Reads, Writes}
-use Rattle.capture_replay.specs.Refusal.{status_of}
 
 -- an application may run under a script
 abbrev pub MayRun : Meaning → List Stamped → Type 0
@@ -33,26 +32,26 @@ pub record IsJob (app : Meaning) (script : List Stamped) (workers : ℕ) : Type 
   pub lawful : MayRun app script
 
 -- the run ends well, under these versions, and all of its text was written, and nothing else
-pub record Finishes (o : Outcome) (versions : List ℕ) (old new : Option (List ℕ)) : Type 0 where
+pub record Finishes {E : Type 0} (o : Outcome E) (versions : List ℕ) (old new : Option (List ℕ)) : Type 0 where
   pub answered : o.ends ≡ Ok versions
   pub written : Appends old new o.text
 
 -- why a run with this outcome stopped: its refusal, or a fault or want of memory before; a fault of writing only where
 -- something is written
-abbrev pub StopsAs : Outcome → RunError → Type 0
+abbrev pub StopsAs : Outcome ReplayError → ReplayError → Type 0
 StopsAs o e = (o.ends ≡ Err e) ⊎ (e ≡ ReadFault) ⊎ (e ≡ NoMemory) ⊎ ((e ≡ WriteFault) × (o.text ≢ []))
 
 -- a run that answers versions, or why it stopped, with a front of its text
-abbrev pub RunsAs : Outcome → Option (List ℕ) → Option (List ℕ) → Result (List ℕ) RunError → Type 0
+abbrev pub RunsAs : Outcome ReplayError → Option (List ℕ) → Option (List ℕ) → Result (List ℕ) ReplayError → Type 0
 RunsAs o old new (Ok versions) = Finishes o versions old new
 RunsAs o old new (Err e) = StopsAs o e × AppendsFront old new o.text
 
 -- what one worker comes to over these bytes
-abbrev pub RunsAlone : Meaning → List Stamped → Output → List ℕ → Option (List ℕ) → Option (List ℕ) → Result (List ℕ) RunError → Type 0
+abbrev pub RunsAlone : Meaning → List Stamped → Output → List ℕ → Option (List ℕ) → Option (List ℕ) → Result (List ℕ) ReplayError → Type 0
 RunsAlone app script output bytes = RunsAs (outcome_over app script (packets_of script) output bytes)
 
 -- and at the end of a capture of these frames
-abbrev pub EndsAlone : Meaning → List Stamped → Output → List ℕ → List Captured → ℕ → Option (List ℕ) → Option (List ℕ) → Result (List ℕ) RunError → Type 0
+abbrev pub EndsAlone : Meaning → List Stamped → Output → List ℕ → List Captured → ℕ → Option (List ℕ) → Option (List ℕ) → Result (List ℕ) ReplayError → Type 0
 EndsAlone app script output header frames tail = RunsAs (weighed app script (packets_of script) output header frames tail)
 
 -- these bytes have no refusal of their own: they are a part of a global header, or whole records and a tail
@@ -60,12 +59,12 @@ abbrev pub AreUnrefused : List ℕ → Type 0
 AreUnrefused bytes = (length bytes < 24) ⊎ ((f : Frames) × (capture_of bytes ≡ Ok f) × EndsInTail f)
 
 -- nothing was written, and no fault of writing is told
-abbrev pub IsIdle : {O : Type 0} → O → O → Result (List ℕ) RunError → Type 0
+abbrev pub IsIdle : {O : Type 0} → O → O → Result (List ℕ) ReplayError → Type 0
 IsIdle o p result = (p ≡ o) × (IsErrOf result WriteFault → ⊥)
 
 -- How far a run read its source, in which these bytes were left before. `idle` says that nothing was written, and no fault of writing
 -- is told.
-pub record ReadsFile {S : Type 0} (source : Source S) (output : Output) (were : List ℕ → Type 0) (t : S) (idle : Type 0) (result : Result (List ℕ) RunError) : Type 0 where
+pub record ReadsFile {S : Type 0} (source : Source S) (output : Output) (were : List ℕ → Type 0) (t : S) (idle : Type 0) (result : Result (List ℕ) ReplayError) : Type 0 where
   -- that it ends well, and that the callbacks weigh too much, is told only where the source has ended
   pub ended : IsOk result ⊎ IsErrOf result Heavy → source.ended t
   -- a report and a summary are begun only there
@@ -81,24 +80,22 @@ bytes_under (Some n) left = Some (made n)
 module _ {S O : Type 0} (source : Source S) (sink : Sink O) where
   -- A run over what is left in a source, where that is told. `comes` says what it comes to over these bytes, where this was taken before
   -- and that after it.
-  pub record Runs (output : Output) (comes : List ℕ → Option (List ℕ) → Option (List ℕ) → Result (List ℕ) RunError → Type 0)
-      (s t : S) (o p : O) (result : Result (List ℕ) RunError) : Type 0 where
+  pub record Runs (output : Output) (comes : List ℕ → Option (List ℕ) → Option (List ℕ) → Result (List ℕ) ReplayError → Type 0)
+      (s t : S) (o p : O) (result : Result (List ℕ) ReplayError) : Type 0 where
     pub comes_to : (bytes : List ℕ) → source.left s ≡ Some bytes → comes bytes (sink.taken o) (sink.taken p) result
     pub read : IsOk result → (bytes : List ℕ) → source.left s ≡ Some bytes → source.left t ≡ Some []
     pub silent : is_forward output ≡ false → IfErr result (λ e. e ≢ WriteFault → e ≢ NoMemory → p ≡ o)
-    pub late : IfErr result (λ e. 2 < status_of e)
     pub reads : ReadsFile source output (λ bytes. source.left s ≡ Some bytes) t (IsIdle o p result) result
     pub from : Reads source s t (IsErrOf result ReadFault)
     pub to : Writes sink o p (IsErrOf result WriteFault)
 
   -- the same under settings, by which the capture may be made: then the source isn't touched
-  pub record RunsUnderSettings (settings : Settings) (comes : List ℕ → Option (List ℕ) → Option (List ℕ) → Result (List ℕ) RunError → Type 0)
-      (s t : S) (o p : O) (result : Result (List ℕ) RunError) : Type 0 where
+  pub record RunsUnderSettings (settings : Settings) (comes : List ℕ → Option (List ℕ) → Option (List ℕ) → Result (List ℕ) ReplayError → Type 0)
+      (s t : S) (o p : O) (result : Result (List ℕ) ReplayError) : Type 0 where
     pub comes_to : (bytes : List ℕ) → bytes_under settings.make (source.left s) ≡ Some bytes → comes bytes (sink.taken o) (sink.taken p) result
     pub read : IsOk result → settings.make ≡ None → (bytes : List ℕ) → source.left s ≡ Some bytes → source.left t ≡ Some []
     pub made : settings.make ≢ None → t ≡ s
     pub silent : is_forward (output_of settings) ≡ false → IfErr result (λ e. e ≢ WriteFault → e ≢ NoMemory → p ≡ o)
-    pub late : IfErr result (λ e. 2 < status_of e)
     pub reads : settings.make ≡ None
         → ReadsFile source (output_of settings) (λ bytes. source.left s ≡ Some bytes) t (IsIdle o p result) result
     pub from : Reads source s t (IsErrOf result ReadFault)

@@ -8,7 +8,7 @@ use words::AppKind;
 /// The application of a kind: each of its calls is the call of the application that bears the name. So all above is there
 /// once for all of them.
 #[derive(Clone, Copy, Debug, PartialEq, Eq)]
-pub(crate) struct Chosen(pub(crate) AppKind);
+pub struct Chosen(pub AppKind);
 
 impl App for Chosen {
     ghost use Rattle.capture_replay.specs.Apps.{meaning_of, lawful_app};

@@ -15,7 +15,7 @@ ghost use Rattle.capture_replay.specs.Runs.{EndsAlone};
 
 use crate::plan::Plan;
 use crate::summary::write_summary;
-use crate::{Output, RunError, VersionList};
+use crate::{Output, ReplayError, VersionList};
 use flow_timers::Moment;
 use lane_core::laws::{later_commands_change_none, weight_never_falls};
 use lane_core::{Reporter, version_of_each};
@@ -30,14 +30,14 @@ fn write_counts<O: Sink>(
     output: Output,
     totals: &Totals,
     out: &mut O,
-) -> Result<(), RunError>
+) -> Result<(), ReplayError>
     requires no_report { output ≢ Output.Report }
     ensures text { (records : List Record)
         → WriteAdds (O.taken out.old) (O.taken out.new) result (closing output records totals.now) }
     ensures silent { is_forward output ≡ true → out.new ≡ out.old }
     ensures only { IfErr result
-        (λ e. ((e ≡ RunError.WriteFault) × (is_forward output ≡ false)) ⊎ (e ≡ RunError.NoMemory)) }
-    ensures to { Writes O.Sink out.old out.new (IsErrOf result RunError.WriteFault) }
+        (λ e. ((e ≡ ReplayError.WriteFault) × (is_forward output ≡ false)) ⊎ (e ≡ ReplayError.NoMemory)) }
+    ensures to { Writes O.Sink out.old out.new (IsErrOf result ReplayError.WriteFault) }
 {
     match output {
         Output::Summary(n) => write_summary(alloc, out, n, totals)?,
@@ -56,7 +56,7 @@ pub(crate) fn close<L: Reporter + Drop, O: Sink>(
     last: Option<Moment>,
     tail: u32,
     out: &mut O,
-) -> Result<VersionList, RunError>
+) -> Result<VersionList, ReplayError>
     requires keeps { L.keeps lane ≡ not (is_forward plan.now.output) }
     requires read { (frames : List Captured) × (length frames ≡ packets) × (last ≡ greatest (arrivals 0 frames))
         × LaneHasRead L.Recorder plan.now.script.now plan.now.output lane frames }
@@ -68,10 +68,10 @@ pub(crate) fn close<L: Reporter + Drop, O: Sink>(
         → EndsAlone (L.app lane) plan.now.script.now plan.now.output header frames tail
         before (O.taken out.new) result }
     ensures silent { IfErr result
-        (λ e. e ≢ RunError.WriteFault → e ≢ RunError.NoMemory → out.new ≡ out.old) }
+        (λ e. e ≢ ReplayError.WriteFault → e ≢ ReplayError.NoMemory → out.new ≡ out.old) }
     ensures only { IfErr result
-        (λ e. (e ≡ RunError.WriteFault) ⊎ (e ≡ RunError.NoMemory) ⊎ (e ≡ RunError.Heavy)) }
-    ensures to { Writes O.Sink out.old out.new (IsErrOf result RunError.WriteFault) }
+        (λ e. (e ≡ ReplayError.WriteFault) ⊎ (e ≡ ReplayError.NoMemory) ⊎ (e ≡ ReplayError.Heavy)) }
+    ensures to { Writes O.Sink out.old out.new (IsErrOf result ReplayError.WriteFault) }
 {
     later_commands_change_none();
     weight_never_falls();

@@ -1,5 +1,5 @@
-//! A capture under a script: the script is fetched and read, the capture is replayed by one worker or by several, and what
-//! was asked for is written, or why it can't be is told.
+//! A capture under a script: it is replayed by one worker or by several, and what was asked for is written, or why it can't be
+//! is answered.
 #![tactic(auto)]
 
 mod advance;
@@ -8,20 +8,17 @@ mod close;
 pub mod laws;
 pub mod output;
 mod plan;
-pub mod refusal;
+mod refusal;
 mod replay;
-mod script;
 mod several;
 mod single;
 mod summary;
-mod telling;
 pub mod verdicts;
 
+pub use chosen::Chosen;
 pub use output::Output;
 pub use plan::Crew;
-pub use refusal::{RunError, ScriptFault};
-pub use script::script_of;
+pub use refusal::ReplayError;
 pub use several::run_several;
 pub use single::run_one;
-pub use telling::tell;
 pub use worker_pool::VersionList;

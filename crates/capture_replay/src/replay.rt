@@ -13,14 +13,13 @@ ghost use Rattle.capture_replay.specs.Records.{packets_of};
 ghost use Rattle.capture_replay.specs.Outcome.{is_forward, streamed};
 ghost use Rattle.mos_bytes.specs.Outside.{Reads, Writes};
 ghost use Rattle.capture_replay.specs.Reading.{LaneIsReady, LaneHasRead, Replaying, gained};
-ghost use Rattle.capture_replay.specs.Refusal.{status_of};
 ghost use Rattle.capture_replay.specs.Runs.{IsIdle, MayRun, ReadsFile, Runs, RunsAlone};
 
 use crate::advance::advance;
 use crate::chosen::Chosen;
 use crate::close::close;
 use crate::plan::Plan;
-use crate::{Output, RunError, VersionList};
+use crate::{Output, ReplayError, VersionList};
 use app_api::Verdict;
 use lane_core::laws::{last_packet_is_added, weight_never_falls};
 use lane_core::{Lane, LaneError, Recorder, Reporter};
@@ -95,7 +94,7 @@ fn take<L: Recorder, O: Sink>(
     number: u64,
     frame: &Frame,
     out: &mut O,
-) -> Result<(), RunError>
+) -> Result<(), ReplayError>
     requires lawful { MayRun (L.app lane.old) plan.now.script.now }
     requires ready { LaneIsReady L.Recorder plan.now.script.now lane.old number }
     requires bound { number < 1048576 }
@@ -110,8 +109,8 @@ fn take<L: Recorder, O: Sink>(
         (gained (L.app lane.old) plan.now.script.now plan.now.output frames frame.now) }
     ensures silent { is_forward plan.now.output ≡ false → out.new ≡ out.old }
     ensures only { IfErr result
-        (λ e. ((e ≡ RunError.WriteFault) × (is_forward plan.now.output ≡ true)) ⊎ (e ≡ RunError.NoMemory)) }
-    ensures to { Writes O.Sink out.old out.new (IsErrOf result RunError.WriteFault) }
+        (λ e. ((e ≡ ReplayError.WriteFault) × (is_forward plan.now.output ≡ true)) ⊎ (e ≡ ReplayError.NoMemory)) }
+    ensures to { Writes O.Sink out.old out.new (IsErrOf result ReplayError.WriteFault) }
     ensures app { L.app lane.new ≡ L.app lane.old }
     ensures keeps { L.keeps lane.new ≡ L.keeps lane.old }
 {
@@ -123,7 +122,7 @@ fn take<L: Recorder, O: Sink>(
     match advance(alloc, plan.natives, plan.script, lane, number, frame) {
         Ok(verdict) => write_passed(plan.output, capture, verdict, frame, out)?,
         Err(LaneError::Heavy) => {}
-        Err(LaneError::NoMemory) => return Err(RunError::NoMemory),
+        Err(LaneError::NoMemory) => return Err(ReplayError::NoMemory),
     }
     Ok(())
 }
@@ -136,7 +135,7 @@ fn read_on<L: Reporter + Drop, S: Source, O: Sink>(
     capture: Capture,
     source: &mut S,
     out: &mut O,
-) -> Result<VersionList, RunError>
+) -> Result<VersionList, ReplayError>
     requires lawful { MayRun (L.app lane) plan.now.script.now }
     requires keeps { L.keeps lane ≡ not (is_forward plan.now.output) }
     requires opened { Opened capture }
@@ -149,12 +148,11 @@ fn read_on<L: Reporter + Drop, S: Source, O: Sink>(
     ensures read { IsOk result → (bytes : List ℕ) → Replaying bytes (S.left source.old) capture []
         → S.left source.new ≡ Some [] }
     ensures silent { is_forward plan.now.output ≡ false
-        → IfErr result (λ e. e ≢ RunError.WriteFault → e ≢ RunError.NoMemory → out.new ≡ out.old) }
-    ensures late { IfErr result (λ e. 2 < status_of e) }
+        → IfErr result (λ e. e ≢ ReplayError.WriteFault → e ≢ ReplayError.NoMemory → out.new ≡ out.old) }
     ensures reads { ReadsFile S.Source plan.now.output (λ bytes. Replaying bytes (S.left source.old) capture [])
         source.new (IsIdle out.old out.new result) result }
-    ensures from { Reads S.Source source.old source.new (IsErrOf result RunError.ReadFault) }
-    ensures to { Writes O.Sink out.old out.new (IsErrOf result RunError.WriteFault) }
+    ensures from { Reads S.Source source.old source.new (IsErrOf result ReplayError.ReadFault) }
+    ensures to { Writes O.Sink out.old out.new (IsErrOf result ReplayError.WriteFault) }
 {
     let mut capture = capture;
     let mut lane = lane;
@@ -181,7 +179,7 @@ pub(crate) fn replay<S: Source, O: Sink>(
     plan: &Plan<'_>,
     source: &mut S,
     out: &mut O,
-) -> Result<VersionList, RunError>
+) -> Result<VersionList, ReplayError>
     requires lawful { MayRun (meaning_of plan.now.app) plan.now.script.now }
     ensures ran { Runs S.Source O.Sink plan.now.output
         (RunsAlone (meaning_of plan.now.app) plan.now.script.now plan.now.output)

@@ -15,7 +15,7 @@ use crate::laws::what_one_worker_has_is_allowed;
 use crate::output::output_of;
 use crate::plan::{Crew, Plan};
 use crate::summary::write_summary;
-use crate::{Output, RunError, VersionList};
+use crate::{Output, ReplayError, VersionList};
 use capture_maker::Maker;
 use control_script::Script;
 use forward_pool::forward_lanes;
@@ -40,14 +40,14 @@ fn write_end_by<R: Threads + Sync, G, O: Sink>(
     records: &[RecordUnderWay],
     totals: &Totals,
     out: &mut O,
-) -> Result<(), RunError>
+) -> Result<(), ReplayError>
     requires some { 1 ≤ plan.now.workers }
     ensures text { WriteAdds (O.taken out.old) (O.taken out.new) result
         (closing plan.now.output (shown_as (meaning_of plan.now.app) records.now) totals.now) }
     ensures silent { is_forward plan.now.output ≡ true → out.new ≡ out.old }
     ensures only { IfErr result
-        (λ e. ((e ≡ RunError.WriteFault) × (is_forward plan.now.output ≡ false)) ⊎ (e ≡ RunError.NoMemory)) }
-    ensures to { Writes O.Sink out.old out.new (IsErrOf result RunError.WriteFault) }
+        (λ e. ((e ≡ ReplayError.WriteFault) × (is_forward plan.now.output ≡ false)) ⊎ (e ≡ ReplayError.NoMemory)) }
+    ensures to { Writes O.Sink out.old out.new (IsErrOf result ReplayError.WriteFault) }
 {
     match plan.output {
         Output::Report => {
@@ -79,7 +79,7 @@ fn report_on<
     plan: &Plan<'_>,
     source: &mut S,
     out: &mut O,
-) -> Result<VersionList, RunError>
+) -> Result<VersionList, ReplayError>
     requires job { IsJob (meaning_of plan.now.app) plan.now.script.now plan.now.workers }
     requires order { IsTrue (are_in_order plan.now.script.now) }
     requires kept { is_forward plan.now.output ≡ false }
@@ -120,7 +120,7 @@ fn forward_on<
     plan: &Plan<'_>,
     source: &mut S,
     out: &mut O,
-) -> Result<VersionList, RunError>
+) -> Result<VersionList, ReplayError>
     requires job { IsJob (meaning_of plan.now.app) plan.now.script.now plan.now.workers }
     requires order { IsTrue (are_in_order plan.now.script.now) }
     requires forwards { is_forward plan.now.output ≡ true }
@@ -162,7 +162,7 @@ fn run_on<
     plan: &Plan<'_>,
     source: &mut S,
     out: &mut O,
-) -> Result<VersionList, RunError>
+) -> Result<VersionList, ReplayError>
     requires job { IsJob (meaning_of plan.now.app) plan.now.script.now plan.now.workers }
     requires order { IsTrue (are_in_order plan.now.script.now) }
     ensures ran { Runs S.Source O.Sink plan.now.output
@@ -194,7 +194,7 @@ pub fn run_several<
     script: &Script,
     out: &mut O,
     natives: &NativeBook,
-) -> Result<VersionList, RunError>
+) -> Result<VersionList, ReplayError>
     requires job { IsJob (meaning_of settings.now.app) script.now settings.now.workers }
     requires few { IfSome settings.now.make (λ n. n ≤ 100000) }
     ensures ran { RunsUnderSettings S.Source O.Sink settings.now

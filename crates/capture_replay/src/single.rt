@@ -8,7 +8,7 @@ ghost use Rattle.capture_replay.specs.Runs.{MayRun, RunsAlone, RunsUnderSettings
 use crate::output::output_of;
 use crate::plan::Plan;
 use crate::replay::replay;
-use crate::{RunError, VersionList};
+use crate::{ReplayError, VersionList};
 use capture_maker::Maker;
 use control_script::Script;
 use mos_bytes::{Sink, Source};
@@ -29,7 +29,7 @@ pub fn run_one<S: Source, O: Sink>(
     script: &Script,
     out: &mut O,
     natives: &NativeBook,
-) -> Result<VersionList, RunError>
+) -> Result<VersionList, ReplayError>
     requires lawful { MayRun (meaning_of settings.now.app) script.now }
     requires few { IfSome settings.now.make (λ n. n ≤ 100000) }
     ensures ran { RunsUnderSettings S.Source O.Sink settings.now

@@ -5,7 +5,7 @@ ghost use Rattle.mos_bytes.specs.Writes.{WriteAdds};
 ghost use Rattle.mos_bytes.specs.Outside.{Writes};
 ghost use Rattle.capture_replay.specs.Summary.{made_line, summary_text};
 
-use crate::RunError;
+use crate::ReplayError;
 use mos_bytes::Sink;
 use report_text::{Totals, write_totals};
 use std::alloc::{AllocError, Global};
@@ -26,10 +26,10 @@ pub(crate) fn write_summary<O: Sink>(
     out: &mut O,
     n: u32,
     totals: &Totals,
-) -> Result<(), RunError>
+) -> Result<(), ReplayError>
     ensures text { WriteAdds (O.taken out.old) (O.taken out.new) result (summary_text n totals.now) }
-    ensures only { IfErr result (λ e. (e ≡ RunError.WriteFault) ⊎ (e ≡ RunError.NoMemory)) }
-    ensures to { Writes O.Sink out.old out.new (IsErrOf result RunError.WriteFault) }
+    ensures only { IfErr result (λ e. (e ≡ ReplayError.WriteFault) ⊎ (e ≡ ReplayError.NoMemory)) }
+    ensures to { Writes O.Sink out.old out.new (IsErrOf result ReplayError.WriteFault) }
 {
     let line = made_line(alloc, n)?;
     out.write_all(line.as_bytes())?;

@@ -18,15 +18,17 @@ use Rattle.lane_core.specs.Shown.{record_of}
 use Rattle.worker_pool.specs.Run.{totals_of}
 use Rattle.capture_replay.specs.declared.output.Output.{Output}
 use Rattle.capture_replay.specs.declared.output.Output.TheVariants.{Report, Forward, Summary}
-use Rattle.capture_replay.specs.declared.refusal.RunError.{RunError}
-use Rattle.capture_replay.specs.declared.refusal.RunError.TheVariants as Run
+use Rattle.capture_replay.specs.declared.refusal.ReplayError.{ReplayError}
+use Rattle.capture_replay.specs.declared.refusal.ReplayError.TheVariants as Replay
+use Rattle.mos_run.specs.declared.refusal.RunError.{RunError}
+use Rattle.mos_run.specs.declared.refusal.RunError.TheVariants as Run
 use Rattle.capture_replay.specs.Apps.{meaning_of}
 use Rattle.capture_replay.specs.Records.{packets_with, records_of}
 use Rattle.capture_replay.specs.Forward.{forwarded}
-use Rattle.capture_replay.specs.Outcome.{is_heavy, refused, outcome_by, followed, weighed, ended, output_of, outcome}
+use Rattle.capture_replay.specs.Outcome.{is_heavy, refused, outcome_by, followed, weighed, ended, output_of}
+use Rattle.mos_run.specs.Outcome.{StopsAs, followed_in_file, outcome, outcome_in_file, told}
 use Rattle.mos_run.specs.Request.{Request, Refused, Asked, outcome_under}
 use Rattle.mos_run.specs.Run.{FinishesUnder, UnderSome}
-use Rattle.capture_replay.specs.Runs.{StopsAs}
 use Rattle.capture_replay.proofs.Closing.{some-closing}
 
 -- ---- what ends well writes something
@@ -49,27 +51,45 @@ module _ (app : Meaning) (script : List Stamped) (given : List Captured → List
       → (weighed app script given output header frames n).ends ≡ Ok versions → (weighed app script given output header frames n).text ≢ []
   some_weighed header frames n true some is ends = absurd (cc)
   some_weighed header frames n false some is ends =
-      subst (λ b. (if b then refused Run.Heavy else ended app script given output header frames n).text ≢ []) (sym is)
+      subst (λ b. (if b then refused Replay.Heavy else ended app script given output header frames n).text ≢ []) (sym is)
       (some-ended app script given output header frames n some)
 
-  some_followed : (header : List ℕ) (frames : List Captured) (ending : Ending) (behind : Option NgFault) → header ≢ []
-      → (followed app script given output header frames ending behind).ends ≡ Ok versions
-      → (followed app script given output header frames ending behind).text ≢ []
-  some_followed header frames (tail n) None some ends = some_weighed header frames n (is_heavy app script given output frames) some refl ends
-  some_followed header frames (tail n) (Some fault) some ends = absurd (cc)
-  some_followed header frames (too_long offset) behind some ends = absurd (cc)
-  some_followed header frames (too_many offset) behind some ends = absurd (cc)
+  some_followed : (header : List ℕ) (frames : List Captured) (ending : Ending) → header ≢ []
+      → (followed app script given output header frames ending).ends ≡ Ok versions → (followed app script given output header frames ending).text ≢ []
+  some_followed header frames (tail n) some ends = some_weighed header frames n (is_heavy app script given output frames) some refl ends
+  some_followed header frames (too_long offset) some ends = absurd (cc)
+  some_followed header frames (too_many offset) some ends = absurd (cc)
 
-  some_by : (header : List ℕ) (read : Result Frames OpenError) (behind : Option NgFault) → header ≢ []
-      → (outcome_by app script given output header read behind).ends ≡ Ok versions → (outcome_by app script given output header read behind).text ≢ []
-  some_by header (Ok f) behind some ends = some_followed header f.frames f.ending behind some ends
-  some_by header (Err e) behind some ends = absurd (cc)
+  some_by : (header : List ℕ) (read : Result Frames OpenError) → header ≢ []
+      → (outcome_by app script given output header read).ends ≡ Ok versions → (outcome_by app script given output header read).text ≢ []
+  some_by header (Ok f) some ends = some_followed header f.frames f.ending some ends
+  some_by header (Err e) some ends = absurd (cc)
+
+  told-well : (ends : Result (List ℕ) ReplayError) → told ends ≡ Ok versions → ends ≡ Ok versions
+  told-well (Ok vs) is = cc
+  told-well (Err e) is = absurd (cc)
+
+  none-behind : (header : List ℕ) (frames : List Captured) (ending : Ending) (fault : NgFault) → (followed_in_file app script given output header frames ending fault).ends ≢ Ok versions
+  none-behind header frames (tail n) fault ends = cc
+  none-behind header frames (too_long offset) fault ends = cc
+  none-behind header frames (too_many offset) fault ends = cc
+
+  some_in_file : (header : List ℕ) (read : Result Frames OpenError) (behind : Option NgFault) → header ≢ []
+      → (outcome_in_file app script given output header read behind).ends ≡ Ok versions → (outcome_in_file app script given output header read behind).text ≢ []
+  some_in_file header read None some ends = some_by header read some (told-well (outcome_by app script given output header read).ends ends)
+  some_in_file header (Ok f) (Some fault) some ends = absurd (none-behind header f.frames f.ending fault ends)
+  some_in_file header (Err e) (Some fault) some ends = absurd (cc)
+
+  no-bytes : (behind : Option NgFault) → (outcome app script given output (record { bytes = []; refusal = behind })).ends ≢ Ok versions
+  unfolding outcome
+  no-bytes None ends = cc
+  no-bytes (Some fault) ends = cc
 
   some_text : (bytes : List ℕ) (behind : Option NgFault) → (outcome app script given output (record { bytes = bytes; refusal = behind })).ends ≡ Ok versions
       → (outcome app script given output (record { bytes = bytes; refusal = behind })).text ≢ []
   unfolding outcome
-  some_text [] behind ends = absurd (cc)
-  some_text (b ∷ bytes) behind ends = some_by (take 24 (b ∷ bytes)) (capture_of (b ∷ bytes)) behind (λ none. cc) ends
+  some_text [] behind ends = absurd (no-bytes behind ends)
+  some_text (b ∷ bytes) behind ends = some_in_file (take 24 (b ∷ bytes)) (capture_of (b ∷ bytes)) behind (λ none. cc) ends
 
 -- what ends well isn't empty
 pub writes_some : (t : Request) (vs versions : List ℕ) → (outcome_under vs t).ends ≡ Ok versions → (outcome_under vs t).text ≢ []

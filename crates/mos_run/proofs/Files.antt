@@ -23,17 +23,20 @@ use Rattle.lane_core.specs.Records.{VersionedPacket}
 use Rattle.worker_pool.specs.Source.{EndsInTail}
 use Rattle.capture_replay.specs.declared.output.Output.{Output}
 use Rattle.capture_replay.specs.declared.output.Output.TheVariants.{Report, Forward, Summary}
-use Rattle.capture_replay.specs.declared.refusal.RunError.{RunError}
-use Rattle.capture_replay.specs.declared.refusal.RunError.TheVariants as Run
+use Rattle.capture_replay.specs.declared.refusal.ReplayError.{ReplayError}
+use Rattle.capture_replay.specs.declared.refusal.ReplayError.TheVariants as Replay
+use Rattle.mos_run.specs.declared.refusal.RunError.{RunError}
+use Rattle.mos_run.specs.declared.refusal.RunError.TheVariants as Run
 use Rattle.capture_replay.specs.Apps.{meaning_of}
 use Rattle.capture_replay.specs.Records.{packets_with}
-use Rattle.capture_replay.specs.Outcome.{Outcome, cut_off, ended, followed, is_forward, is_heavy, outcome, outcome_by, output_of, refused, streamed, weighed}
+use Rattle.capture_replay.specs.Outcome.{Outcome, ended, followed, is_forward, is_heavy, outcome_by, outcome_over, output_of, refused, streamed, weighed}
+use Rattle.mos_run.specs.Outcome.{StopsAs, cut_off, followed_in_file, outcome, outcome_in_file, told, told_as}
 use Rattle.mos_run.specs.Explained.{explained, met_in}
-use Rattle.capture_replay.specs.Refusal.{file_refusal, status_of}
+use Rattle.mos_run.specs.Refusal.{file_refusal, replay_refusal, status_of}
 use Rattle.mos_run.specs.Request.{Asked, given_under}
-use Rattle.capture_replay.specs.Runs.{bytes_under, StopsAs, AreUnrefused}
+use Rattle.capture_replay.specs.Runs.{Finishes, bytes_under, AreUnrefused, StopsAs as ReplayStopsAs}
 use Rattle.mos_run.specs.Run.{RunsUnder}
-use Rattle.capture_replay.proofs.Ends.{err_same}
+use Rattle.mos_run.specs.Runs.{Replays}
 
 -- ---- what is told in place of a fault
 
@@ -46,20 +49,25 @@ not_a_fault (Ng.BadLink offset) is = cc
 not_a_fault (Ng.TooLong offset) is = cc
 
 -- what isn't a fault of the source stays, and so does one where no refusal was met
-pub unmet : (fault : Option NgFault) (e : RunError) → (e ≡ Run.ReadFault → fault ≢ None → ⊥) → met_in fault e ≡ e
+pub unmet : (fault : Option NgFault) (e : ReplayError) → (e ≡ Replay.ReadFault → fault ≢ None → ⊥) → met_in fault e ≡ replay_refusal e
 unmet None e never = refl
-unmet (Some fault) Run.Usage never = refl
-unmet (Some fault) Run.ScriptTooLong never = refl
-unmet (Some fault) (Run.Script kind line) never = refl
-unmet (Some fault) (Run.Capture kind offset) never = refl
-unmet (Some fault) (Run.BadBlock offset) never = refl
-unmet (Some fault) (Run.TooMany offset) never = refl
-unmet (Some fault) (Run.TooManyBlocks offset) never = refl
-unmet (Some fault) (Run.TooManyInterfaces offset) never = refl
-unmet (Some fault) Run.Heavy never = refl
-unmet (Some fault) Run.ReadFault never = absurd (never refl (λ is. cc))
-unmet (Some fault) Run.WriteFault never = refl
-unmet (Some fault) Run.NoMemory never = refl
+unmet (Some fault) (Replay.Capture kind offset) never = refl
+unmet (Some fault) (Replay.TooMany offset) never = refl
+unmet (Some fault) Replay.Heavy never = refl
+unmet (Some fault) Replay.ReadFault never = absurd (never refl (λ is. cc))
+unmet (Some fault) Replay.WriteFault never = refl
+unmet (Some fault) Replay.NoMemory never = refl
+
+-- ---- what a replay came to, as a run tells it
+
+told-stops : (o : Outcome ReplayError) (e : ReplayError) → ReplayStopsAs o e → StopsAs (told_as o) (replay_refusal e)
+told-stops o e (inl ends) = inl (ap told ends)
+told-stops o e (inr (inl fault)) = inr (inl (ap replay_refusal fault))
+told-stops o e (inr (inr (inl memory))) = inr (inr (inl (ap replay_refusal memory)))
+told-stops o e (inr (inr (inr write))) = inr (inr (inr (ap replay_refusal write.0, write.1)))
+
+told-done : (o : Outcome ReplayError) (versions : List ℕ) (old new : Option (List ℕ)) → Finishes o versions old new → Finishes (told_as o) versions old new
+told-done o versions old new done = record { answered = ap told done.answered; written = done.written }
 
 -- ---- one outcome
 
@@ -70,52 +78,55 @@ module _ (app : Meaning) (script : List Stamped) (given : List Captured → List
   forward-text Forward header frames n is = append-nil _
   forward-text (Summary k) header frames n is = absurd (cc)
 
-  weighed-ends : (output : Output) (header : List ℕ) (frames : List Captured) (n : ℕ) (heavy : Bool) (e : RunError)
-      → (if heavy then refused Run.Heavy else ended app script given output header frames n).ends ≡ Err e → e ≡ Run.Heavy
+  weighed-ends : (output : Output) (header : List ℕ) (frames : List Captured) (n : ℕ) (heavy : Bool) (e : ReplayError)
+      → (if heavy then refused Replay.Heavy else ended app script given output header frames n).ends ≡ Err e → e ≡ Replay.Heavy
   weighed-ends output header frames n true e is = cc
   weighed-ends output header frames n false e is = absurd (cc)
 
-  module _ (output : Output) (header : List ℕ) (old new : Option (List ℕ)) (refusal : NgFault) (fault : Option NgFault) (e : RunError)
-      (met : (f : NgFault) → fault ≡ Some f → refusal ≡ f) (light : e ≢ Run.Heavy) (begun : is_forward output ≡ false → (new ≡ old) × (e ≢ Run.WriteFault)) where
-    same : (o : Outcome) → (e ≡ Run.ReadFault → fault ≢ None → ⊥) → StopsAs o e × AppendsFront old new o.text → StopsAs o (met_in fault e) × AppendsFront old new o.text
-    same o never stops = subst (λ x. StopsAs o x × AppendsFront old new o.text) (sym (unmet fault e never)) stops
+  module _ (output : Output) (header : List ℕ) (old new : Option (List ℕ)) (refusal : NgFault) (fault : Option NgFault) (e : ReplayError)
+      (met : (f : NgFault) → fault ≡ Some f → refusal ≡ f) (light : e ≢ Replay.Heavy) (begun : is_forward output ≡ false → (new ≡ old) × (e ≢ Replay.WriteFault)) where
+    same : (o : Outcome ReplayError) → (e ≡ Replay.ReadFault → fault ≢ None → ⊥) → ReplayStopsAs o e × AppendsFront old new o.text
+        → StopsAs (told_as o) (met_in fault e) × AppendsFront old new o.text
+    same o never stops = (subst (StopsAs (told_as o)) (sym (unmet fault e never)) (told-stops o e stops.0), stops.1)
 
-    -- at the refusal of the file, behind whole records and a tail
-    told : (o : Outcome) (f : Option NgFault) → fault ≡ f → e ≡ Run.ReadFault → o.ends ≡ Err (file_refusal refusal) → StopsAs o (met_in fault e)
-    told o None none is ends = inr (inl (ap (λ x. met_in x e) none ∙ is))
-    told o (Some f) some is ends = inl (ends ∙ ap (λ x. Err (file_refusal x)) (met f some) ∙ sym (ap (λ x. Err (met_in x e)) some ∙ ap (λ x. Err (met_in (Some f) x)) is))
-
-    stays : (x : RunError) → e ≡ x → x ≢ Run.ReadFault → met_in fault e ≡ x
-    stays x is other = unmet fault e (λ bad some. other (sym is ∙ bad)) ∙ is
+    stays : (x : ReplayError) → e ≡ x → x ≢ Replay.ReadFault → met_in fault e ≡ replay_refusal x
+    stays x is other = unmet fault e (λ bad some. other (sym is ∙ bad)) ∙ ap replay_refusal is
 
     front-by : (b : Bool) → is_forward output ≡ b → (frames : List Captured) (n : ℕ)
         → AppendsFront old new (weighed app script given output header frames n).text → AppendsFront old new (streamed app script given output header frames)
     front-by true is frames n part = subst (AppendsFront old new) (forward-text output header frames n is) part
     front-by false is frames n part = subst (λ x. AppendsFront old x (streamed app script given output header frames)) (sym (begun is).0) (AppendsFront-nil old _)
 
-    some-by : (b : Bool) → is_forward output ≡ b → (frames : List Captured) (n : ℕ) → e ≡ Run.WriteFault
+    some-by : (b : Bool) → is_forward output ≡ b → (frames : List Captured) (n : ℕ) → e ≡ Replay.WriteFault
         → (weighed app script given output header frames n).text ≢ [] → streamed app script given output header frames ≢ []
     some-by true is frames n write some none = some (forward-text output header frames n is ∙ none)
     some-by false is frames n write some none = (begun is).1 write
 
-    at-tail : (frames : List Captured) (n : ℕ) → StopsAs (weighed app script given output header frames n) e
-        → StopsAs (cut_off app script given output header frames (file_refusal refusal)) (met_in fault e)
-    at-tail frames n (inl ends) = absurd (light (weighed-ends output header frames n (is_heavy app script given output frames) e ends))
-    at-tail frames n (inr (inl is)) = told (cut_off app script given output header frames (file_refusal refusal)) fault refl is refl
-    at-tail frames n (inr (inr (inl memory))) = inr (inr (inl (stays Run.NoMemory memory (λ is. cc))))
-    at-tail frames n (inr (inr (inr write))) = inr (inr (inr (stays Run.WriteFault write.0 (λ is. cc), some-by (is_forward output) refl frames n write.0 write.1)))
+    -- at the refusal of the file, behind whole records and a tail
+    told-at : (frames : List Captured) (f : Option NgFault) → fault ≡ f → e ≡ Replay.ReadFault → StopsAs (cut_off app script given output header frames refusal) (met_in fault e)
+    told-at frames None none is = inr (inl (ap (λ x. met_in x e) none ∙ ap replay_refusal is))
+    told-at frames (Some f) some is =
+        inl (ap (λ x. Err (file_refusal x)) (met f some) ∙ sym (ap (λ x. Err (met_in x e)) some ∙ ap (λ x. Err (met_in (Some f) x)) is))
 
-    at-ending : (frames : List Captured) (ending : Ending) → (e ≡ Run.ReadFault → fault ≢ None → (n : ℕ) × (ending ≡ tail n))
-        → StopsAs (followed app script given output header frames ending None) e × AppendsFront old new (followed app script given output header frames ending None).text
-        → StopsAs (followed app script given output header frames ending (Some refusal)) (met_in fault e)
-        × AppendsFront old new (followed app script given output header frames ending (Some refusal)).text
+    at-tail : (frames : List Captured) (n : ℕ) → ReplayStopsAs (weighed app script given output header frames n) e
+        → StopsAs (cut_off app script given output header frames refusal) (met_in fault e)
+    at-tail frames n (inl ends) = absurd (light (weighed-ends output header frames n (is_heavy app script given output frames) e ends))
+    at-tail frames n (inr (inl is)) = told-at frames fault refl is
+    at-tail frames n (inr (inr (inl memory))) = inr (inr (inl (stays Replay.NoMemory memory (λ is. cc))))
+    at-tail frames n (inr (inr (inr write))) = inr (inr (inr (stays Replay.WriteFault write.0 (λ is. cc), some-by (is_forward output) refl frames n write.0 write.1)))
+
+    at-ending : (frames : List Captured) (ending : Ending) → (e ≡ Replay.ReadFault → fault ≢ None → (n : ℕ) × (ending ≡ tail n))
+        → ReplayStopsAs (followed app script given output header frames ending) e × AppendsFront old new (followed app script given output header frames ending).text
+        → StopsAs (followed_in_file app script given output header frames ending refusal) (met_in fault e)
+        × AppendsFront old new (followed_in_file app script given output header frames ending refusal).text
     at-ending frames (tail n) cut stops = (at-tail frames n stops.0, front-by (is_forward output) refl frames n stops.1)
     at-ending frames (too_long offset) cut stops = same _ (λ is some. let bad = (cut is some).1 in cc) stops
     at-ending frames (too_many offset) cut stops = same _ (λ is some. let bad = (cut is some).1 in cc) stops
 
-    at-capture : (capture : Result Frames OpenError) → (e ≡ Run.ReadFault → fault ≢ None → (f : Frames) × (capture ≡ Ok f) × EndsInTail f)
-        → StopsAs (outcome_by app script given output header capture None) e × AppendsFront old new (outcome_by app script given output header capture None).text
-        → StopsAs (outcome_by app script given output header capture (Some refusal)) (met_in fault e) × AppendsFront old new (outcome_by app script given output header capture (Some refusal)).text
+    at-capture : (capture : Result Frames OpenError) → (e ≡ Replay.ReadFault → fault ≢ None → (f : Frames) × (capture ≡ Ok f) × EndsInTail f)
+        → ReplayStopsAs (outcome_by app script given output header capture) e × AppendsFront old new (outcome_by app script given output header capture).text
+        → StopsAs (outcome_in_file app script given output header capture (Some refusal)) (met_in fault e)
+        × AppendsFront old new (outcome_in_file app script given output header capture (Some refusal)).text
     at-capture (Ok f) cut stops = at-ending f.frames f.ending (λ is some. let c = cut is some in let eq = c.1 in let one : f ≡ c.0 = cc in let t = c.2 in (t.0, ap (λ x. x.ending) one ∙ t.1)) stops
     at-capture (Err x) cut stops = same _ (λ is some. let bad = (cut is some).1 in cc) stops
 
@@ -128,18 +139,22 @@ long-enough bytes is =
     omega (arith, same)
 
 module _ (s : Settings) (commands : List Stamped) (bytes : List ℕ) (old new : Option (List ℕ)) where
-  -- where a run comes to this over the bytes alone
-  pub over_given : (refusal fault : Option NgFault) (result : Result (List ℕ) RunError)
+  -- where a replay comes to this over the bytes
+  pub over_given : (refusal fault : Option NgFault) (result : Result (List ℕ) ReplayError)
       → ((f : NgFault) → fault ≡ Some f → refusal ≡ Some f)
       → (refusal ≢ None → 24 ≤ length bytes)
-      → (IsOk result ⊎ IsErrOf result Run.Heavy → refusal ≡ None)
-      → (is_forward (output_of s) ≡ false → ((new ≡ old) × (IsErrOf result Run.WriteFault → ⊥)) ⊎ (refusal ≡ None))
-      → (IsErrOf result Run.ReadFault → fault ≢ None → AreUnrefused bytes)
-      → RunsUnder (Asked s commands (whole bytes)) old new result
+      → (IsOk result ⊎ IsErrOf result Replay.Heavy → refusal ≡ None)
+      → (is_forward (output_of s) ≡ false → ((new ≡ old) × (IsErrOf result Replay.WriteFault → ⊥)) ⊎ (refusal ≡ None))
+      → (IsErrOf result Replay.ReadFault → fault ≢ None → AreUnrefused bytes)
+      → Replays s commands bytes old new result
       → RunsUnder (Asked s commands (record { bytes = bytes; refusal = refusal })) old new (explained fault result)
-  unfolding outcome
-  over_given None None (Ok versions) met long all begun cut runs = runs
-  over_given None None (Err e) met long all begun cut runs = runs
+  unfolding outcome outcome_over
+  over_given None None (Ok versions) met long all begun cut runs = record { allowed = runs.allowed; finishes = told-done _ versions old new runs.finishes }
+  over_given None None (Err e) met long all begun cut runs = record {
+    versions = runs.versions;
+    allowed = runs.allowed;
+    holds = (told-stops _ e runs.stops, runs.front);
+  }
   over_given None (Some f) result met long all begun cut runs = absurd (let bad = met f refl in cc)
   over_given (Some f) fault (Ok versions) met long all begun cut runs = absurd (let bad = all (inl refl) in cc)
   over_given (Some f) fault (Err e) met long all begun cut runs =
@@ -151,10 +166,10 @@ module _ (s : Settings) (commands : List Stamped) (bytes : List ℕ) (old new : 
             (λ g is. let same = met g is in cc)
             (λ heavy. let bad = all (inr (ap (λ x. Err x) heavy)) in cc)
             (λ kept. idle (begun kept))
-            (capture_of bytes) (λ is some. unrefused (cut (ap (λ x. Err x) is) some)) runs.holds;
+            (capture_of bytes) (λ is some. unrefused (cut (ap (λ x. Err x) is) some)) (runs.stops, runs.front);
       }
     where
-      idle : ((new ≡ old) × (IsErrOf {T = List ℕ} (Err e) Run.WriteFault → ⊥)) ⊎ (Some f ≡ None) → (new ≡ old) × (e ≢ Run.WriteFault)
+      idle : ((new ≡ old) × (IsErrOf {T = List ℕ} (Err e) Replay.WriteFault → ⊥)) ⊎ (Some f ≡ None) → (new ≡ old) × (e ≢ Replay.WriteFault)
       idle (inl still) = (still.0, λ is. still.1 (ap (λ x. Err x) is))
       idle (inr none) = absurd (cc)
 
@@ -164,18 +179,21 @@ module _ (s : Settings) (commands : List Stamped) (bytes : List ℕ) (old new : 
 
 -- ---- what stands of a result that is explained
 
-unchanged : (fault : Option NgFault) (e x : RunError) → e ≡ x → x ≢ Run.ReadFault → met_in fault e ≡ x
-unchanged fault e x is other = unmet fault e (λ bad some. other (sym is ∙ bad)) ∙ is
+run-same : {T : Type 0} (a b : RunError) → IsErrOf {T = T} (Err a) b → a ≡ b
+run-same a b is = cc
 
-pub ok_before : (fault : Option NgFault) (result : Result (List ℕ) RunError) → IsOk (explained fault result) → IsOk result
+unchanged : (fault : Option NgFault) (e x : ReplayError) → e ≡ x → x ≢ Replay.ReadFault → met_in fault e ≡ replay_refusal x
+unchanged fault e x is other = unmet fault e (λ bad some. other (sym is ∙ bad)) ∙ ap replay_refusal is
+
+pub ok_before : (fault : Option NgFault) (result : Result (List ℕ) ReplayError) → IsOk (explained fault result) → IsOk result
 ok_before fault (Ok versions) ok = refl
 ok_before fault (Err e) ok = ok
 
-pub silent_after : (P : Type 0) (fault : Option NgFault) (result : Result (List ℕ) RunError) → IfErr result (λ e. e ≢ Run.WriteFault → e ≢ Run.NoMemory → P)
+pub silent_after : (P : Type 0) (fault : Option NgFault) (result : Result (List ℕ) ReplayError) → IfErr result (λ e. e ≢ Replay.WriteFault → e ≢ Replay.NoMemory → P)
     → IfErr (explained fault result) (λ e. e ≢ Run.WriteFault → e ≢ Run.NoMemory → P)
 silent_after P fault (Ok versions) silent = tt
 silent_after P fault (Err e) silent = λ write memory.
-    silent (λ is. write (unchanged fault e Run.WriteFault is (λ bad. cc))) (λ is. memory (unchanged fault e Run.NoMemory is (λ bad. cc)))
+    silent (λ is. write (unchanged fault e Replay.WriteFault is (λ bad. cc))) (λ is. memory (unchanged fault e Replay.NoMemory is (λ bad. cc)))
 
 file-late : (fault : NgFault) → 2 < status_of (file_refusal fault)
 file-late (Ng.TooManyBlocks offset) = omega arith
@@ -185,44 +203,46 @@ file-late (Ng.TooManyInterfaces offset) = omega arith
 file-late (Ng.BadLink offset) = omega arith
 file-late (Ng.TooLong offset) = omega arith
 
-met-late : (fault : Option NgFault) (e : RunError) → 2 < status_of e → 2 < status_of (met_in fault e)
-met-late None e late = late
-met-late (Some fault) Run.Usage late = late
-met-late (Some fault) Run.ScriptTooLong late = late
-met-late (Some fault) (Run.Script kind line) late = late
-met-late (Some fault) (Run.Capture kind offset) late = late
-met-late (Some fault) (Run.BadBlock offset) late = late
-met-late (Some fault) (Run.TooMany offset) late = late
-met-late (Some fault) (Run.TooManyBlocks offset) late = late
-met-late (Some fault) (Run.TooManyInterfaces offset) late = late
-met-late (Some fault) Run.Heavy late = late
-met-late (Some fault) Run.ReadFault late = file-late fault
-met-late (Some fault) Run.WriteFault late = late
-met-late (Some fault) Run.NoMemory late = late
+replay-late : (e : ReplayError) → 2 < status_of (replay_refusal e)
+replay-late (Replay.Capture kind offset) = omega arith
+replay-late (Replay.TooMany offset) = omega arith
+replay-late Replay.Heavy = omega arith
+replay-late Replay.ReadFault = omega arith
+replay-late Replay.WriteFault = omega arith
+replay-late Replay.NoMemory = omega arith
 
-pub late_after : (fault : Option NgFault) (result : Result (List ℕ) RunError) → IfErr result (λ e. 2 < status_of e) → IfErr (explained fault result) (λ e. 2 < status_of e)
-late_after fault (Ok versions) late = tt
-late_after fault (Err e) late = met-late fault e late
+met-late : (fault : Option NgFault) (e : ReplayError) → 2 < status_of (met_in fault e)
+met-late None e = replay-late e
+met-late (Some fault) (Replay.Capture kind offset) = replay-late (Replay.Capture kind offset)
+met-late (Some fault) (Replay.TooMany offset) = replay-late (Replay.TooMany offset)
+met-late (Some fault) Replay.Heavy = replay-late Replay.Heavy
+met-late (Some fault) Replay.ReadFault = file-late fault
+met-late (Some fault) Replay.WriteFault = replay-late Replay.WriteFault
+met-late (Some fault) Replay.NoMemory = replay-late Replay.NoMemory
+
+-- a replay is refused with none of the statuses of words and scripts
+pub late_after : (fault : Option NgFault) (result : Result (List ℕ) ReplayError) → IfErr (explained fault result) (λ e. 2 < status_of e)
+late_after fault (Ok versions) = tt
+late_after fault (Err e) = met-late fault e
 
 -- a fault of the source is told only where it was told, and no refusal was met
-fault-by : (fault : Option NgFault) (e : RunError) → met_in fault e ≡ Run.ReadFault → (e ≡ Run.ReadFault) × (fault ≡ None)
-fault-by None e is = (is, refl)
-fault-by (Some fault) Run.Usage is = absurd (cc)
-fault-by (Some fault) Run.ScriptTooLong is = absurd (cc)
-fault-by (Some fault) (Run.Script kind line) is = absurd (cc)
-fault-by (Some fault) (Run.Capture kind offset) is = absurd (cc)
-fault-by (Some fault) (Run.BadBlock offset) is = absurd (cc)
-fault-by (Some fault) (Run.TooMany offset) is = absurd (cc)
-fault-by (Some fault) (Run.TooManyBlocks offset) is = absurd (cc)
-fault-by (Some fault) (Run.TooManyInterfaces offset) is = absurd (cc)
-fault-by (Some fault) Run.Heavy is = absurd (cc)
-fault-by (Some fault) Run.ReadFault is = absurd (not_a_fault fault is)
-fault-by (Some fault) Run.WriteFault is = absurd (cc)
-fault-by (Some fault) Run.NoMemory is = absurd (cc)
+fault-by : (fault : Option NgFault) (e : ReplayError) → met_in fault e ≡ Run.ReadFault → (e ≡ Replay.ReadFault) × (fault ≡ None)
+fault-by None (Replay.Capture kind offset) is = absurd (cc)
+fault-by None (Replay.TooMany offset) is = absurd (cc)
+fault-by None Replay.Heavy is = absurd (cc)
+fault-by None Replay.ReadFault is = (refl, refl)
+fault-by None Replay.WriteFault is = absurd (cc)
+fault-by None Replay.NoMemory is = absurd (cc)
+fault-by (Some fault) (Replay.Capture kind offset) is = absurd (cc)
+fault-by (Some fault) (Replay.TooMany offset) is = absurd (cc)
+fault-by (Some fault) Replay.Heavy is = absurd (cc)
+fault-by (Some fault) Replay.ReadFault is = absurd (not_a_fault fault is)
+fault-by (Some fault) Replay.WriteFault is = absurd (cc)
+fault-by (Some fault) Replay.NoMemory is = absurd (cc)
 
-pub fault_before : (fault : Option NgFault) (result : Result (List ℕ) RunError) → IsErrOf (explained fault result) Run.ReadFault → IsErrOf result Run.ReadFault × (fault ≡ None)
+pub fault_before : (fault : Option NgFault) (result : Result (List ℕ) ReplayError) → IsErrOf (explained fault result) Run.ReadFault → IsErrOf result Replay.ReadFault × (fault ≡ None)
 fault_before fault (Ok versions) is = absurd (cc)
-fault_before fault (Err e) is = let both = fault-by fault e (err_same (met_in fault e) Run.ReadFault is) in (ap (λ x. Err x) both.0, both.1)
+fault_before fault (Err e) is = let both = fault-by fault e (run-same (met_in fault e) Run.ReadFault is) in (ap (λ x. Err x) both.0, both.1)
 
 -- and so is a fault of writing
 no-write : (fault : NgFault) → file_refusal fault ≢ Run.WriteFault
@@ -233,24 +253,23 @@ no-write (Ng.TooManyInterfaces offset) is = cc
 no-write (Ng.BadLink offset) is = cc
 no-write (Ng.TooLong offset) is = cc
 
-write-by : (fault : Option NgFault) (e : RunError) → met_in fault e ≡ Run.WriteFault → e ≡ Run.WriteFault
-write-by None e is = is
-write-by (Some fault) Run.Usage is = absurd (cc)
-write-by (Some fault) Run.ScriptTooLong is = absurd (cc)
-write-by (Some fault) (Run.Script kind line) is = absurd (cc)
-write-by (Some fault) (Run.Capture kind offset) is = absurd (cc)
-write-by (Some fault) (Run.BadBlock offset) is = absurd (cc)
-write-by (Some fault) (Run.TooMany offset) is = absurd (cc)
-write-by (Some fault) (Run.TooManyBlocks offset) is = absurd (cc)
-write-by (Some fault) (Run.TooManyInterfaces offset) is = absurd (cc)
-write-by (Some fault) Run.Heavy is = absurd (cc)
-write-by (Some fault) Run.ReadFault is = absurd (no-write fault is)
-write-by (Some fault) Run.WriteFault is = refl
-write-by (Some fault) Run.NoMemory is = absurd (cc)
+write-by : (fault : Option NgFault) (e : ReplayError) → met_in fault e ≡ Run.WriteFault → e ≡ Replay.WriteFault
+write-by None (Replay.Capture kind offset) is = absurd (cc)
+write-by None (Replay.TooMany offset) is = absurd (cc)
+write-by None Replay.Heavy is = absurd (cc)
+write-by None Replay.ReadFault is = absurd (cc)
+write-by None Replay.WriteFault is = refl
+write-by None Replay.NoMemory is = absurd (cc)
+write-by (Some fault) (Replay.Capture kind offset) is = absurd (cc)
+write-by (Some fault) (Replay.TooMany offset) is = absurd (cc)
+write-by (Some fault) Replay.Heavy is = absurd (cc)
+write-by (Some fault) Replay.ReadFault is = absurd (no-write fault is)
+write-by (Some fault) Replay.WriteFault is = refl
+write-by (Some fault) Replay.NoMemory is = absurd (cc)
 
-pub write_before : (fault : Option NgFault) (result : Result (List ℕ) RunError) → IsErrOf (explained fault result) Run.WriteFault → IsErrOf result Run.WriteFault
+pub write_before : (fault : Option NgFault) (result : Result (List ℕ) ReplayError) → IsErrOf (explained fault result) Run.WriteFault → IsErrOf result Replay.WriteFault
 write_before fault (Ok versions) is = absurd (cc)
-write_before fault (Err e) is = ap (λ x. Err x) (write-by fault e (err_same (met_in fault e) Run.WriteFault is))
+write_before fault (Err e) is = ap (λ x. Err x) (write-by fault e (run-same (met_in fault e) Run.WriteFault is))
 
 -- ---- the source over the file
 
@@ -287,12 +306,12 @@ module _ {S : Type 0} (source : Source S) (a b : AnySource S source) (s0 : S) (s
   met-is : (f : NgFault) → met_fault b ≡ Some f → MeetsRefusal (source.left s0) (any_left b) f
   met-is f is = subst (λ x. MeetsRefusal (source.left x) (any_left b) f) start_is (stands.met f is)
 
-  module _ (s : Settings) (commands : List Stamped) (old new : Option (List ℕ)) (result : Result (List ℕ) RunError) (law : (bytes : List ℕ) → HasHeader bytes) (none0 : met_fault a ≡ None)
-      (comes : (bytes : List ℕ) → bytes_under s.make (any_left a) ≡ Some bytes → RunsUnder (Asked s commands (whole bytes)) old new result)
+  module _ (s : Settings) (commands : List Stamped) (old new : Option (List ℕ)) (result : Result (List ℕ) ReplayError) (law : (bytes : List ℕ) → HasHeader bytes) (none0 : met_fault a ≡ None)
+      (comes : (bytes : List ℕ) → bytes_under s.make (any_left a) ≡ Some bytes → Replays s commands bytes old new result)
       (made : s.make ≢ None → b ≡ a)
-      (ended : s.make ≡ None → IsOk result ⊎ IsErrOf result Run.Heavy → any_ended b)
-      (begun : s.make ≡ None → is_forward (output_of s) ≡ false → ((new ≡ old) × (IsErrOf result Run.WriteFault → ⊥)) ⊎ any_ended b)
-      (cut : s.make ≡ None → IsErrOf result Run.ReadFault → (bytes : List ℕ) → any_left a ≡ Some bytes → any_left b ≡ Some [] → AreUnrefused bytes) where
+      (ended : s.make ≡ None → IsOk result ⊎ IsErrOf result Replay.Heavy → any_ended b)
+      (begun : s.make ≡ None → is_forward (output_of s) ≡ false → ((new ≡ old) × (IsErrOf result Replay.WriteFault → ⊥)) ⊎ any_ended b)
+      (cut : s.make ≡ None → IsErrOf result Replay.ReadFault → (bytes : List ℕ) → any_left a ≡ Some bytes → any_left b ≡ Some [] → AreUnrefused bytes) where
     some-fault : (o : Option NgFault) → o ≢ None → (f : NgFault) × (o ≡ Some f)
     some-fault None some = absurd (some refl)
     some-fault (Some f) some = (f, refl)

@@ -8,11 +8,11 @@ use Rattle.mos_bytes.specs.declared.source.Source.{Ghosts as Source}
 use Rattle.mos_bytes.specs.declared.shelf.Shelf.{Ghosts as Shelf}
 use Rattle.mos_bytes.specs.declared.sink.Sink.{Ghosts as Sink}
 use Rattle.mos_run.specs.declared.ended.Ended.{Ended}
-use Rattle.capture_replay.specs.declared.refusal.RunError.TheVariants as Run
-use Rattle.capture_replay.specs.Refusal.{refusal_text, WritesText}
+use Rattle.mos_run.specs.declared.refusal.RunError.TheVariants as Run
+use Rattle.mos_run.specs.Refusal.{refusal_text, WritesText}
 use Rattle.mos_run.specs.Request.{Request, Refused, request_of, outcome_under}
 use Rattle.mos_run.specs.Run.{EndsAs, FinishesUnder, MosRun, TellsOf}
-use Rattle.capture_replay.specs.Runs.{StopsAs}
+use Rattle.mos_run.specs.Outcome.{StopsAs}
 use Rattle.mos_run.proofs.Below.{may_fail}
 use Rattle.mos_run.proofs.Outcomes.{HasSome, ends_as, stops_or_memory, under_more}
 

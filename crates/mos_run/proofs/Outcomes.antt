@@ -6,8 +6,10 @@ use Rattle.mos_bytes.proofs.Writes.{AppendsFront-nil, AppendsFront-whole}
 use Rattle.app_api.specs.App.{Meaning}
 use Rattle.pcap_source.specs.Captured.{Captured}
 use Rattle.pcap_source.specs.Capture.{Frames, Ending, tail, too_long, too_many, capture_of}
+use Rattle.pcap_source.specs.declared.errors.CaptureFault.TheVariants as Fault
 use Rattle.pcap_source.specs.declared.errors.OpenError.{OpenError}
-use Rattle.pcapng_source.specs.Given.{Given, whole}
+use Rattle.pcapng_source.specs.Given.{Given}
+use Rattle.pcapng_source.specs.declared.fault.NgFault.{NgFault}
 use Rattle.control_script.specs.declared.stamped.Stamped.{Stamped}
 use Rattle.control_script.specs.Order.{are_in_order}
 use Rattle.words.specs.declared.settings.Settings.{Settings}
@@ -16,19 +18,24 @@ use Rattle.words.specs.declared.settings.WordsError.TheVariants as Words
 use Rattle.words.specs.Words.{words_settings}
 use Rattle.lane_core.specs.Records.{VersionedPacket}
 use Rattle.capture_replay.specs.declared.output.Output.{Output}
-use Rattle.capture_replay.specs.declared.refusal.RunError.{RunError}
-use Rattle.capture_replay.specs.declared.refusal.RunError.TheVariants as Run
+use Rattle.capture_replay.specs.declared.refusal.ReplayError.{ReplayError}
+use Rattle.capture_replay.specs.declared.refusal.ReplayError.TheVariants as Replay
+use Rattle.mos_run.specs.declared.refusal.RunError.{RunError}
+use Rattle.mos_run.specs.declared.refusal.RunError.TheVariants as Run
 use Rattle.capture_replay.specs.Apps.{meaning_of}
 use Rattle.capture_replay.specs.Records.{packets_of, packets_with, records_of, versions_of, frames_in}
-use Rattle.capture_replay.specs.Outcome.{Outcome, refused, outcome_by, followed, ended, is_heavy, output_of, outcome, outcome_over}
+use Rattle.capture_replay.specs.Forward.{forwarded}
+use Rattle.capture_replay.specs.Outcome.{Outcome, refused, outcome_by, followed, streamed, ended, is_forward, is_heavy, output_of, outcome_over}
+use Rattle.mos_run.specs.Outcome.{StopsAs, followed_in_file, outcome, outcome_in_file, told_as}
 use Rattle.mos_run.specs.Request.{Request, Refused, Asked, Allows, AreAllowed, given_under, asked, chosen, request_of, outcome_under}
-use Rattle.capture_replay.specs.Script.{commands_in, text_under}
-use Rattle.capture_replay.specs.Refusal.{status_of, words_refusal}
-use Rattle.capture_replay.specs.Runs.{Finishes, StopsAs, RunsAs}
+use Rattle.mos_run.specs.Script.{commands_in, text_under}
+use Rattle.mos_run.specs.Refusal.{file_refusal, status_of, words_refusal}
+use Rattle.capture_replay.specs.Runs.{Finishes, RunsAs, StopsAs as ReplayStopsAs}
+use Rattle.mos_run.specs.Runs.{ReplayFinishes, Replays}
 use Rattle.mos_run.specs.Run.{FinishesAlone, FinishesUnder, RunsUnder, EndsAs, EndsWell, UnderSome}
 use Rattle.capture_replay.specs.Lanes.{RunsWith}
-use Rattle.capture_replay.specs.Laws.{ceilings_of, CeilingsMayBeHad, CeilingsAreOneWorkers, OneListIsAllowed}
-use Rattle.capture_replay.proofs.Scripts.{commands_order}
+use Rattle.capture_replay.specs.Laws.{ceilings_of, CeilingsMayBeHad, CeilingsAreOneWorkers, CeilingsForwardTheSame, OneListIsAllowed}
+use Rattle.mos_run.proofs.Scripts.{commands_order}
 
 request-by : (words : List (List ℕ)) (content : List ℕ → Option (List ℕ)) (left : Option (List ℕ)) (settings : Option Settings)
     → words_settings words ≡ settings → request_of words content left ≡ chosen settings content left
@@ -142,47 +149,50 @@ refused_script s content left old t e some u (inr other) = stops_early t old e s
 -- ---- a run of one worker, and one of several
 
 module _ (app : Meaning) (script : List Stamped) (given : List Captured → List VersionedPacket) (output : Output) (versions : List ℕ) where
-  weighed-versions : (header : List ℕ) (frames : List Captured) (n : ℕ) (heavy : Bool) → (if heavy then refused Run.Heavy else ended app script given output header frames n).ends ≡ Ok versions
+  weighed-versions : (header : List ℕ) (frames : List Captured) (n : ℕ) (heavy : Bool) → (if heavy then refused Replay.Heavy else ended app script given output header frames n).ends ≡ Ok versions
       → versions ≡ versions_of (records_of app script given frames)
   weighed-versions header frames n true ends = absurd (cc)
   weighed-versions header frames n false ends = cc
 
   followed-versions : (header : List ℕ) (frames : List Captured) (ending : Ending)
-      → (followed app script given output header frames ending None).ends ≡ Ok versions → versions ≡ versions_of (records_of app script given frames)
+      → (followed app script given output header frames ending).ends ≡ Ok versions → versions ≡ versions_of (records_of app script given frames)
   followed-versions header frames (tail n) ends = weighed-versions header frames n (is_heavy app script given output frames) ends
   followed-versions header frames (too_long offset) ends = absurd (cc)
   followed-versions header frames (too_many offset) ends = absurd (cc)
 
-  versions-by : (header : List ℕ) (capture : Result Frames OpenError) → (outcome_by app script given output header capture None).ends ≡ Ok versions
+  versions-by : (header : List ℕ) (capture : Result Frames OpenError) → (outcome_by app script given output header capture).ends ≡ Ok versions
       → versions ≡ versions_of (records_of app script given (frames_in capture))
   versions-by header (Ok f) ends = followed-versions header f.frames f.ending ends
   versions-by header (Err e) ends = absurd (cc)
 
   -- what ends well answers the versions of its records
   pub answers_its_own : (bytes : List ℕ) → (outcome_over app script given output bytes).ends ≡ Ok versions → versions ≡ versions_of (records_of app script given (frames_in (capture_of bytes)))
-  unfolding outcome
+  unfolding outcome_over
   answers_its_own bytes ends = versions-by (take 24 bytes) (capture_of bytes) ends
 
 module _ (s : Settings) (commands : List Stamped) (bytes : List ℕ) (old new : Option (List ℕ)) where
-  pub under_one : CeilingsMayBeHad → CeilingsAreOneWorkers → are_in_order commands ≡ true → (result : Result (List ℕ) RunError)
-      → RunsAs (outcome_over (meaning_of s.app) commands (packets_of commands) (output_of s) bytes) old new result → RunsUnder (Asked s commands (whole bytes)) old new result
+  pub under_one : CeilingsMayBeHad → CeilingsAreOneWorkers → are_in_order commands ≡ true → (result : Result (List ℕ) ReplayError)
+      → RunsAs (outcome_over (meaning_of s.app) commands (packets_of commands) (output_of s) bytes) old new result → Replays s commands bytes old new result
   under_one law same ordered (Ok versions) done =
       let vs = ceilings_of (meaning_of s.app) commands bytes in
       let is : versions ≡ vs = answers_its_own (meaning_of s.app) commands (packets_of commands) (output_of s) versions bytes done.answered in
-      let all : FinishesUnder (Asked s commands (whole bytes)) vs old new = record {
+      let all : ReplayFinishes s commands bytes vs old new = record {
         allowed = ceilings_are_allowed law s commands bytes ordered;
-        finishes = subst (λ o. Finishes o vs old new) (sym (same (meaning_of s.app) commands (output_of s) (whole bytes)))
+        finishes = subst (λ o. Finishes o vs old new) (sym (same (meaning_of s.app) commands (output_of s) bytes))
             (subst (λ l. Finishes (outcome_over (meaning_of s.app) commands (packets_of commands) (output_of s) bytes) l old new) is done);
       } in
-      subst (λ l. FinishesUnder (Asked s commands (whole bytes)) l old new) (sym is) all
-  under_one law same ordered (Err e) stops = record {
-    versions = ceilings_of (meaning_of s.app) commands bytes;
-    allowed = ceilings_are_allowed law s commands bytes ordered;
-    holds = subst (λ o. StopsAs o e × AppendsFront old new o.text) (sym (same (meaning_of s.app) commands (output_of s) (whole bytes))) stops;
-  }
+      subst (λ l. ReplayFinishes s commands bytes l old new) (sym is) all
+  under_one law same ordered (Err e) stops =
+      let is = sym (same (meaning_of s.app) commands (output_of s) bytes) in
+      record {
+        versions = ceilings_of (meaning_of s.app) commands bytes;
+        allowed = ceilings_are_allowed law s commands bytes ordered;
+        stops = subst (λ o. ReplayStopsAs o e) is stops.0;
+        front = subst (λ o. AppendsFront old new o.text) is stops.1;
+      }
 
-  pub under_several : s.workers ≢ 1 → (result : Result (List ℕ) RunError)
-      → RunsWith (meaning_of s.app) commands s.workers (output_of s) bytes old new result → RunsUnder (Asked s commands (whole bytes)) old new result
+  pub under_several : s.workers ≢ 1 → (result : Result (List ℕ) ReplayError)
+      → RunsWith (meaning_of s.app) commands s.workers (output_of s) bytes old new result → Replays s commands bytes old new result
   under_several many (Ok versions) done = record {
     allowed = record { may_have = done.may_have; with_one = λ one. absurd (many one) };
     finishes = done.finishes;
@@ -190,8 +200,42 @@ module _ (s : Settings) (commands : List Stamped) (bytes : List ℕ) (old new : 
   under_several many (Err e) stops = record {
     versions = stops.versions;
     allowed = record { may_have = stops.may_have; with_one = λ one. absurd (many one) };
-    holds = (stops.stops, stops.front);
+    stops = stops.stops;
+    front = stops.front;
   }
+
+-- ---- the ceilings over a file
+
+module _ (app : Meaning) (script : List Stamped) (one two : List Captured → List VersionedPacket) (output : Output) (header : List ℕ) (fault : NgFault) where
+  streamed-same : (frames : List Captured) → forwarded app script one frames ≡ forwarded app script two frames
+      → streamed app script one output header frames ≡ streamed app script two output header frames
+  streamed-same frames same = ap (λ l. if is_forward output then header ++ l else []) same
+
+  followed-same : (frames : List Captured) (ending : Ending) → forwarded app script one frames ≡ forwarded app script two frames
+      → followed_in_file app script one output header frames ending fault ≡ followed_in_file app script two output header frames ending fault
+  followed-same frames (tail n) same = ap (λ l. record { text = l; ends = Err (file_refusal fault) }) (streamed-same frames same)
+  followed-same frames (too_long offset) same = ap (λ l. record { text = l; ends = Err (Run.Capture Fault.TooLong offset) }) (streamed-same frames same)
+  followed-same frames (too_many offset) same = ap (λ l. record { text = l; ends = Err (Run.TooMany offset) }) (streamed-same frames same)
+
+  refused-same : (capture : Result Frames OpenError) → forwarded app script one (frames_in capture) ≡ forwarded app script two (frames_in capture)
+      → outcome_in_file app script one output header capture (Some fault) ≡ outcome_in_file app script two output header capture (Some fault)
+  refused-same (Ok f) same = followed-same f.frames f.ending same
+  refused-same (Err e) same = refl
+
+-- a run under them over a file is that of one worker
+module _ (same : CeilingsAreOneWorkers) (forwards : CeilingsForwardTheSame) (app : Meaning) (script : List Stamped) (output : Output) (bytes : List ℕ) where
+  abbrev low : List Captured → List VersionedPacket
+  low = packets_with app script (ceilings_of app script bytes)
+
+  same-bytes : outcome_by app script low output (take 24 bytes) (capture_of bytes) ≡ outcome_by app script (packets_of script) output (take 24 bytes) (capture_of bytes)
+  unfolding outcome_over
+  same-bytes = same app script output bytes
+
+  pub same_in_file : (refusal : Option NgFault)
+      → outcome app script low output (record { bytes = bytes; refusal = refusal }) ≡ outcome app script (packets_of script) output (record { bytes = bytes; refusal = refusal })
+  unfolding outcome
+  same_in_file None = ap told_as same-bytes
+  same_in_file (Some fault) = refused-same app script low (packets_of script) output (take 24 bytes) fault (capture_of bytes) (forwards app script bytes)
 
 -- ---- a run without live commands
 
@@ -211,33 +255,33 @@ order-by words content left asked commands file (Some s) accepted is =
     asked-order s asked content left commands file (commands_in s.app u.text) u refl
 
 -- it ends well as that of one worker
-pub finishes_alone : CeilingsAreOneWorkers → OneListIsAllowed → (words : List (List ℕ)) (content : List ℕ → Option (List ℕ)) (left : Option (List ℕ)) (t : Request)
+pub finishes_alone : CeilingsAreOneWorkers → CeilingsForwardTheSame → OneListIsAllowed → (words : List (List ℕ)) (content : List ℕ → Option (List ℕ)) (left : Option (List ℕ)) (t : Request)
     (versions : List ℕ) (old new : Option (List ℕ)) → request_of words content left ≡ Some t → FinishesUnder t versions old new → FinishesAlone t versions old new
-finishes_alone same known words content left (Refused e) versions old new is done = tt
-finishes_alone same known words content left (Asked s commands file) versions old new is done = λ stamped.
+finishes_alone same forwards known words content left (Refused e) versions old new is done = tt
+finishes_alone same forwards known words content left (Asked s commands file) versions old new is done = λ stamped.
     let app = meaning_of s.app in
     let ordered = order-by words content left s commands file (words_settings words) refl is in
     let ceilings : versions ≡ ceilings_of app commands file.bytes = known app commands s.workers file.bytes versions ordered stamped done.allowed.may_have in
     subst (λ o. Finishes o versions old new)
-    (ap (λ vs. outcome app commands (packets_with app commands vs) (output_of s) file) ceilings ∙ same app commands (output_of s) file) done.finishes
+    (ap (λ vs. outcome app commands (packets_with app commands vs) (output_of s) file) ceilings ∙ same_in_file same forwards app commands (output_of s) file.bytes file.refusal) done.finishes
 
 -- ---- the status
 
 -- what holds of an outcome holds of it under some versions
-pub under_more : (t : Request) (P Q : Outcome → Type 0) → ((o : Outcome) → P o → Q o) → UnderSome t P → UnderSome t Q
+pub under_more : (t : Request) (P Q : Outcome RunError → Type 0) → ((o : Outcome RunError) → P o → Q o) → UnderSome t P → UnderSome t Q
 under_more t P Q more u = record { versions = u.versions; allowed = u.allowed; holds = more (outcome_under u.versions t) u.holds }
 
 -- what was told of an error, or want of memory in its place
-pub ends_as : (o : Outcome) (e : RunError) (status : ℕ) → StopsAs o e → (status ≡ status_of e) ⊎ (status ≡ 6) → EndsAs o status
+pub ends_as : (o : Outcome RunError) (e : RunError) (status : ℕ) → StopsAs o e → (status ≡ status_of e) ⊎ (status ≡ 6) → EndsAs o status
 ends_as o e status stops (inl is) = inr (e, stops, is)
 ends_as o e status stops (inr memory) = inr (Run.NoMemory, inr (inr (inl refl)), memory)
 
-pub stops_or_memory : (o : Outcome) (e told : RunError) → StopsAs o e → (told ≡ e) ⊎ (told ≡ Run.NoMemory) → StopsAs o told
+pub stops_or_memory : (o : Outcome RunError) (e told : RunError) → StopsAs o e → (told ≡ e) ⊎ (told ≡ Run.NoMemory) → StopsAs o told
 stops_or_memory o e told stops (inl same) = subst (StopsAs o) (sym same) stops
 stops_or_memory o e told stops (inr memory) = inr (inr (inl memory))
 
 -- the text that was written whole
-pub whole_front : (o : Outcome) (versions : List ℕ) (old new : Option (List ℕ)) → Finishes o versions old new → AppendsFront old new o.text
+pub whole_front : (o : Outcome RunError) (versions : List ℕ) (old new : Option (List ℕ)) → Finishes o versions old new → AppendsFront old new o.text
 whole_front o versions old new done = subst (AppendsFront old new) (append-nil o.text) (AppendsFront-whole old new o.text [] done.written)
 
 -- a run that finished has ended well
@@ -249,7 +293,7 @@ ends_well t versions old new status zero done = record {
 }
 
 -- what ends well stops only by a fault, or for want of memory
-pub ends_whole : (t : Request) (e : RunError) (status : ℕ) (P : Outcome → Type 0) → EndsWell t → UnderSome t (λ o. StopsAs o e × P o) → (e ≡ Run.ReadFault → ⊥) → (e ≡ Run.WriteFault → ⊥)
+pub ends_whole : (t : Request) (e : RunError) (status : ℕ) (P : Outcome RunError → Type 0) → EndsWell t → UnderSome t (λ o. StopsAs o e × P o) → (e ≡ Run.ReadFault → ⊥) → (e ≡ Run.WriteFault → ⊥)
     → (status ≡ status_of e) ⊎ (status ≡ 6) → (status ≡ 0) ⊎ (status ≡ 6)
 ends_whole t e status P well u read write (inr memory) = inr memory
 ends_whole t e status P well u read write (inl is) = by u.holds.0

@@ -1,3 +1,6 @@
+pub mod Refusal
+pub mod Script
+pub mod Outcome
 pub mod Request
 pub mod Explained
 pub mod Run

@@ -10,12 +10,13 @@ use Rattle.control_script.specs.Versions.{is_live}
 use Rattle.words.specs.declared.settings.Settings.{Settings}
 use Rattle.words.specs.Words.{words_settings}
 use Rattle.worker_pool.specs.Run.{MayHave}
-use Rattle.capture_replay.specs.declared.refusal.RunError.{RunError}
-use Rattle.capture_replay.specs.declared.refusal.RunError.TheVariants.{Usage}
+use Rattle.mos_run.specs.declared.refusal.RunError.{RunError}
+use Rattle.mos_run.specs.declared.refusal.RunError.TheVariants.{Usage}
 use Rattle.capture_replay.specs.Apps.{meaning_of}
 use Rattle.capture_replay.specs.Records.{frames_in, packets_of, packets_with, records_of, versions_of}
-use Rattle.capture_replay.specs.Outcome.{Outcome, refused, outcome, output_of}
-use Rattle.capture_replay.specs.Script.{commands_in, text_under}
+use Rattle.capture_replay.specs.Outcome.{Outcome, refused, output_of}
+use Rattle.mos_run.specs.Outcome.{outcome}
+use Rattle.mos_run.specs.Script.{commands_in, text_under}
 
 -- what a run is told to do: it is refused before a packet is read, or these settings and this script are asked of what this file gives
 pub data Request : Type 0 where
@@ -54,7 +55,7 @@ Allows (Refused e) vs = ⊤
 Allows (Asked s commands file) vs = AreAllowed s commands file.bytes vs
 
 -- how a run ends, and what it writes, where its records have these versions
-abbrev pub outcome_under : List ℕ → Request → Outcome
+abbrev pub outcome_under : List ℕ → Request → Outcome RunError
 outcome_under vs (Refused e) = refused e
 outcome_under vs (Asked s commands file) =
     outcome (meaning_of s.app) commands (packets_with (meaning_of s.app) commands vs) (output_of s) file
@@ -67,5 +68,5 @@ HasNoLive commands = IsTrue (list_all (λ s. not (is_live s.stamp)) commands)
 
 -- How a run of one worker ends, and what it writes: each record has the ceiling of its first packet. Of the settings the application
 -- and the output matter, and not how many workers they ask for.
-abbrev pub outcome_alone : Settings → List Stamped → Given → Outcome
+abbrev pub outcome_alone : Settings → List Stamped → Given → Outcome RunError
 outcome_alone s commands file = outcome (meaning_of s.app) commands (packets_of commands) (output_of s) file

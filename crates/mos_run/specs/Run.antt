@@ -8,19 +8,20 @@ use Rattle.mos_bytes.specs.Writes.{AppendsFront}
 use Rattle.words.specs.Words.{words_settings}
 use Rattle.words.specs.declared.settings.Settings.{Settings}
 use Rattle.mos_run.specs.declared.ended.Ended.{Ended}
-use Rattle.capture_replay.specs.declared.refusal.RunError.{RunError}
-use Rattle.capture_replay.specs.declared.refusal.RunError.TheVariants.{NoMemory}
+use Rattle.mos_run.specs.declared.refusal.RunError.{RunError}
+use Rattle.mos_run.specs.declared.refusal.RunError.TheVariants.{NoMemory}
 use Rattle.capture_replay.specs.Outcome.{Outcome, is_forward, output_of}
-use Rattle.capture_replay.specs.Refusal.{WritesText, status_of, refusal_text}
-use Rattle.capture_replay.specs.Runs.{Finishes, StopsAs}
+use Rattle.mos_run.specs.Refusal.{WritesText, status_of, refusal_text}
+use Rattle.capture_replay.specs.Runs.{Finishes}
+use Rattle.mos_run.specs.Outcome.{StopsAs}
 use Rattle.mos_run.specs.Request.{Request, Refused, Asked, Allows, HasNoLive, outcome_alone, outcome_under, request_of}
 
 -- the status of a run with this outcome
-abbrev pub EndsAs : Outcome → ℕ → Type 0
+abbrev pub EndsAs : Outcome RunError → ℕ → Type 0
 EndsAs o status = (IsOk o.ends × (status ≡ 0)) ⊎ ((e : RunError) × StopsAs o e × (status ≡ status_of e))
 
 -- something holds of the outcome of a run under versions that it may have
-pub record UnderSome (request : Request) (P : Outcome → Type 0) : Type 0 where
+pub record UnderSome (request : Request) (P : Outcome RunError → Type 0) : Type 0 where
   pub versions : List ℕ
   pub allowed : Allows request versions
   pub holds : P (outcome_under versions request)

@@ -1,7 +1,9 @@
--- What a run over a file comes to, and one under words: what the calls below the top one promise.
-use Rattle.std.specs.Prelude.{◌≡◌, ◌≢◌, ◌⊎◌, ℕ, ◌<◌, ◌≤◌, false, List, [], None, Some, Result, IsOk, IsErr, IfErr, IsErrOf}
+-- What a replay comes to under versions that it may have, a run over a file, and one under words: what the calls below the top one
+-- promise.
+use Rattle.std.specs.Prelude.{◌≡◌, ◌≢◌, ◌⊎◌, ℕ, ◌<◌, ◌≤◌, false, List, [], Option, None, Some, Result, Ok, Err, IsOk, IsErr, IfErr, IsErrOf}
 use Rattle.mos_bytes.specs.Causes.{Rose}
 use Rattle.mos_bytes.specs.Outside.{Reads, Writes}
+use Rattle.mos_bytes.specs.Writes.{AppendsFront}
 use Rattle.mos_bytes.specs.declared.source.Source.{Ghosts as Source}
 use Rattle.mos_bytes.specs.declared.shelf.Shelf.{Ghosts as Shelf}
 use Rattle.mos_bytes.specs.declared.sink.Sink.{Ghosts as Sink}
@@ -9,12 +11,38 @@ use Rattle.pcapng_source.specs.Given.{Given}
 use Rattle.control_script.specs.declared.stamped.Stamped.{Stamped}
 use Rattle.words.specs.Words.{words_settings}
 use Rattle.words.specs.declared.settings.Settings.{Settings}
-use Rattle.capture_replay.specs.declared.refusal.RunError.{RunError}
-use Rattle.capture_replay.specs.declared.refusal.RunError.TheVariants.{Usage, ReadFault, WriteFault, NoMemory}
-use Rattle.capture_replay.specs.Outcome.{is_forward, output_of}
-use Rattle.capture_replay.specs.Refusal.{status_of}
-use Rattle.mos_run.specs.Request.{Refused, Asked, given_under, request_of}
+use Rattle.mos_run.specs.declared.refusal.RunError.{RunError}
+use Rattle.mos_run.specs.declared.refusal.RunError.TheVariants.{Usage, ReadFault, WriteFault, NoMemory}
+use Rattle.capture_replay.specs.declared.refusal.ReplayError.{ReplayError}
+use Rattle.capture_replay.specs.Apps.{meaning_of}
+use Rattle.capture_replay.specs.Records.{packets_with}
+use Rattle.capture_replay.specs.Outcome.{Outcome, is_forward, outcome_over, output_of}
+use Rattle.capture_replay.specs.Runs.{Finishes, StopsAs}
+use Rattle.mos_run.specs.Refusal.{status_of}
+use Rattle.mos_run.specs.Request.{AreAllowed, Refused, Asked, given_under, request_of}
 use Rattle.mos_run.specs.Run.{RunsUnder, ReadsCapture, Makes, NamesNone, forwards}
+
+module _ (s : Settings) (commands : List Stamped) (bytes : List ℕ) where
+  -- the outcome of a replay whose records have these versions
+  abbrev pub outcome_with : List ℕ → Outcome ReplayError
+  outcome_with vs = outcome_over (meaning_of s.app) commands (packets_with (meaning_of s.app) commands vs) (output_of s) bytes
+
+  -- it ends well under these versions, which it may have
+  pub record ReplayFinishes (versions : List ℕ) (old new : Option (List ℕ)) : Type 0 where
+    pub allowed : AreAllowed s commands bytes versions
+    pub finishes : Finishes (outcome_with versions) versions old new
+
+  -- it stops so under versions that it may have, with a front of its text
+  pub record ReplayStops (e : ReplayError) (old new : Option (List ℕ)) : Type 0 where
+    pub versions : List ℕ
+    pub allowed : AreAllowed s commands bytes versions
+    pub stops : StopsAs (outcome_with versions) e
+    pub front : AppendsFront old new (outcome_with versions).text
+
+  -- it answers versions, or why it stopped
+  abbrev pub Replays : Option (List ℕ) → Option (List ℕ) → Result (List ℕ) ReplayError → Type 0
+  Replays old new (Ok versions) = ReplayFinishes versions old new
+  Replays old new (Err e) = ReplayStops e old new
 
 module _ {S O : Type 0} (source : Source S) (sink : Sink O) where
   -- A run under settings over a file of either form. The capture may be made: then the source isn't touched.

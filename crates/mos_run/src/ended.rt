@@ -1,10 +1,11 @@
 //! How a run ended.
 
 ghost use Rattle.std.specs.Prelude.{◌≡◌, ◌≢◌, ◌⊎◌, [], IsOk, IsErr};
-ghost use Rattle.capture_replay.specs.Refusal.{status_of};
+ghost use Rattle.mos_run.specs.Refusal.{status_of};
 ghost use Rattle.mos_run.specs.Run.{TellsOf};
 
-use capture_replay::{RunError, tell};
+use crate::refusal::RunError;
+use crate::telling::tell;
 use mos_bytes::{Failed, Sink};
 use std::alloc::Global;
 use worker_pool::VersionList;

@@ -3,24 +3,25 @@
 ghost use Rattle.std.specs.Prelude.{◌≡◌};
 ghost use Rattle.mos_run.specs.Explained.{explained, met_in};
 
-use capture_replay::RunError;
+use crate::refusal::RunError;
+use capture_replay::ReplayError;
 use pcapng_source::NgFault;
 use worker_pool::VersionList;
 
 // Why a run ends: a refusal of the file that its source met stands in place of the fault by which the source stops there.
-fn met_in(fault: Option<NgFault>, error: RunError) -> RunError
+fn met_in(fault: Option<NgFault>, error: ReplayError) -> RunError
     ensures { result ≡ met_in fault error }
 {
     match (fault, error) {
-        (Some(fault), RunError::ReadFault) => RunError::from(fault),
-        (_, error) => error,
+        (Some(fault), ReplayError::ReadFault) => RunError::from(fault),
+        (_, error) => RunError::from(error),
     }
 }
 
-/// What a run came to whose source met this refusal of the file, or none.
+/// What a run comes to whose replay came to this, and whose source met this refusal of the file, or none.
 pub(crate) fn explain(
     fault: Option<NgFault>,
-    ran: Result<VersionList, RunError>,
+    ran: Result<VersionList, ReplayError>,
 ) -> Result<VersionList, RunError>
     ensures { result ≡ explained fault ran }
 {

@@ -5,8 +5,8 @@ ghost use Rattle.mos_run.specs.Request.{Request, request_of};
 ghost use Rattle.mos_run.specs.Run.{FinishesAlone, FinishesUnder, MosRun};
 
 use crate::ended::{Ended, handed_on, refuse};
+use crate::refusal::RunError;
 use crate::run::run_mos;
-use capture_replay::RunError;
 use capture_replay::laws::{
     what_one_worker_has_is_allowed, without_live_commands_all_versions_are_known,
 };

@@ -1,19 +1,20 @@
 //! The top call: words, a script and a capture come in; what was asked for, or the reason why it isn't there, goes out.
 
 ghost use Rattle.std.specs.Prelude.{◌≡◌, ◌≤◌, map, Some, IfSome, string_bytes};
-ghost use Rattle.pcapng_source.specs.Given.{whole};
 ghost use Rattle.capture_replay.specs.Apps.{meaning_of};
-ghost use Rattle.mos_run.specs.Request.{Request, Asked, request_of};
+ghost use Rattle.mos_run.specs.Request.{Request, request_of};
 ghost use Rattle.mos_run.specs.Run.{FinishesAlone, FinishesUnder, MosRun, RunsUnder};
 ghost use Rattle.capture_replay.specs.Runs.{IsJob, RunsUnderSettings};
-ghost use Rattle.mos_run.specs.Runs.{RunsOverFile, RunsUnderWords};
+ghost use Rattle.mos_run.specs.Runs.{Replays, RunsOverFile, RunsUnderWords};
 
 use crate::ended::{Ended, refuse};
 use crate::explained::explain;
+use crate::refusal::RunError;
+use crate::script::script_of;
 use capture_replay::laws::{
     what_one_worker_has_is_allowed, without_live_commands_all_versions_are_known,
 };
-use capture_replay::{Crew, RunError, run_one, run_several, script_of};
+use capture_replay::{Crew, ReplayError, run_one, run_several};
 use control_script::Script;
 use mos_bytes::{Shelf, Sink, Source};
 use native_filters::NativeBook;
@@ -24,7 +25,7 @@ use std::thread::Threads;
 use words::{Settings, read_words};
 use worker_pool::{Gate, VersionList};
 
-// The run of these settings: with one worker, or with several.
+// The replay of these settings: with one worker, or with several.
 fn run_asked<
     R: Threads + Wait + Sync + Send + Copy + Drop + 'static,
     S: Source,
@@ -38,11 +39,10 @@ fn run_asked<
     script: &Script,
     out: &mut O,
     natives: &NativeBook,
-) -> Result<VersionList, RunError>
+) -> Result<VersionList, ReplayError>
     requires job { IsJob (meaning_of settings.now.app) script.now settings.now.workers }
     requires few { IfSome settings.now.make (λ n. n ≤ 100000) }
-    ensures ran { RunsUnderSettings S.Source O.Sink settings.now
-        (λ bytes. RunsUnder (Asked settings.now script.now (whole bytes)))
+    ensures ran { RunsUnderSettings S.Source O.Sink settings.now (Replays settings.now script.now)
         capture.old capture.new out.old out.new result }
 {
     what_one_worker_has_is_allowed();

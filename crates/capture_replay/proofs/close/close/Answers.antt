@@ -7,7 +7,7 @@ use Rattle.lane_core.specs.declared.errors.LaneError.TheVariants as Lane
 use Rattle.lane_core.specs.Shown.{record_of}
 use Rattle.capture_replay.specs.Records.{packets_of, records_of}
 use Rattle.capture_replay.specs.Outcome.{is_forward}
-use Rattle.capture_replay.specs.declared.refusal.RunError.TheVariants as Run
+use Rattle.capture_replay.specs.declared.refusal.ReplayError.TheVariants as Replay
 use Rattle.capture_replay.proofs.Closing.{was_good, ended_with, end_is_heavy, end_is_light, closing_is, ends_well, ends_badly, ends_not, was_good_report, reported_well, reported_badly}
 use Rattle.capture_replay.proofs.Replaying.{front_at_end}
 use Rattle.capture_replay.proofs.close.close.Goals as goal
@@ -77,7 +77,7 @@ returns-in_err-write_counts-clause-ends g c = λ header frames before count is_l
     let text = closing_is app plan.script.now plan.output frames (g.L.Recorder.keeps lane) end is c.args.packets
     (length c.as_slice-records.result.now) c.args.tail count (ap length c.as_slice-records.ensures) in
     let error = err_from_is_err_and c.from_residual-in_err-write_counts.result c.from_residual-in_err-write_counts.ensures.1 in
-    let which = subst (λ e. ((e ≡ Run.WriteFault) × (is_forward plan.output ≡ false)) ⊎ (e ≡ Run.NoMemory)) (sym error.2) c.in_err-write_counts.ensures.only in
+    let which = subst (λ e. ((e ≡ Replay.WriteFault) × (is_forward plan.output ≡ false)) ⊎ (e ≡ Replay.NoMemory)) (sym error.2) c.in_err-write_counts.ensures.only in
     let last = subst (AppendsFront (g.O.Sink.taken c.args.out.now) (g.O.Sink.taken c.write_counts.new.out)) text
     (c.in_err-write_counts.ensures.text (map (record_of app) (records_of app plan.script.now (packets_of plan.script.now) frames))) in
     rw (error.1)

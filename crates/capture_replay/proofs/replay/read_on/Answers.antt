@@ -5,12 +5,12 @@ use Rattle.std.specs.Prelude.{IsErr}
 use Rattle.std.specs.Io.KnownBytes.{Appends}
 use Rattle.std.proofs.KnownBytes.{Appends-kept, Appends-trans}
 use Rattle.pcap_source.specs.Reading.{NextGives}
-use Rattle.capture_replay.specs.declared.refusal.RunError.TheVariants as Run
+use Rattle.capture_replay.specs.declared.refusal.ReplayError.TheVariants as Replay
 use Rattle.capture_replay.specs.Refusal.{record_refusal}
 use Rattle.capture_replay.specs.Records.{packets_of}
 use Rattle.capture_replay.specs.Outcome.{is_forward, streamed, outcome_over}
 use Rattle.capture_replay.specs.Runs.{RunsAs}
-use Rattle.capture_replay.proofs.Refusals.{is_read_fault, no_write_fault, is_late, same_error, rose_since, late_by, no_read_fault}
+use Rattle.capture_replay.proofs.Refusals.{is_read_fault, no_write_fault, same_error, rose_since, no_read_fault}
 use Rattle.capture_replay.proofs.Reading.{fails_forward, none_greatest}
 use Rattle.capture_replay.proofs.Ends.{cut_record, err_same, no_heavy_packet, no_heavy_record, no_read_end, no_write_packet, reads_refused, reads_whole}
 use Rattle.capture_replay.proofs.Replaying.{stopped_writing, step_told, replayed, streamed_last, refused_record, front_so_far, front_of_frame, stopped_by, ended_at}
@@ -44,7 +44,7 @@ returns-in_err-hand_on-clause-runs g c = λ bytes before r written.
     let forward = fails_forward (is_forward plan.output) c.hand_on.result c.in_err-hand_on.field-0.0 c.in_err-hand_on.was (λ is. (c.hand_on.ensures.silent is).0) in
     let p = err_from_is_err_and c.from_residual.result c.from_residual.ensures.1 in
     rw (p.1, p.2)
-    (subst (λ a. RunsAs (outcome_over a plan.script.now (packets_of plan.script.now) plan.output bytes) before (g.O.Sink.taken c.hand_on.new.out) (Err Run.WriteFault)) inv.app (
+    (subst (λ a. RunsAs (outcome_over a plan.script.now (packets_of plan.script.now) plan.output bytes) before (g.O.Sink.taken c.hand_on.new.out) (Err Replay.WriteFault)) inv.app (
       stopped_writing app plan.script.now plan.output bytes _ at.capture read.0 rep forward inv.header,
       front_so_far app plan.script.now plan.output bytes _ at.capture read.0 before (g.O.Sink.taken c.hand_on.new.out) rep
           (Appends-kept before (g.O.Sink.taken at.out) (g.O.Sink.taken c.hand_on.new.out) _ (read.4 before written) c.hand_on.ensures.bytes),
@@ -56,7 +56,7 @@ returns-in_err-hand_on-clause-reads g c =
     let forward = fails_forward (is_forward plan.output) c.hand_on.result c.in_err-hand_on.field-0.0 c.in_err-hand_on.was (λ is. (c.hand_on.ensures.silent is).0) in
     let p = err_from_is_err_and c.from_residual.result c.from_residual.ensures.1 in
     rw (p.1, p.2)
-    (reads_refused g.S.Source plan.output _ _ _ Run.WriteFault (λ is. cc) (λ kept. absurd (let both = sym forward ∙ kept in cc)) (λ is. absurd (cc)))
+    (reads_refused g.S.Source plan.output _ _ _ Replay.WriteFault (λ is. cc) (λ kept. absurd (let both = sym forward ∙ kept in cc)) (λ is. absurd (cc)))
 
 pub returns-in_err-hand_on-clause-from : goal.returns-in_err-hand_on-clause-from
 returns-in_err-hand_on-clause-from g c = record {
@@ -107,16 +107,11 @@ returns-in_err-next-clause-reads g c =
     let p = err_from_is_err_and c.from_residual-in_err-next.result c.from_residual-in_err-next.ensures.1 in
     rw (p.1, p.2)
     (reads_refused g.S.Source c.args.plan.now.output _ _ _ (record_refusal e) (no_heavy_record e)
-    (λ kept. ((c.hand_on.ensures.silent kept).1 ∙ inv.silent kept, λ fault. no_write_fault e (err_same (record_refusal e) Run.WriteFault fault)))
+    (λ kept. ((c.hand_on.ensures.silent kept).1 ∙ inv.silent kept, λ fault. no_write_fault e (err_same (record_refusal e) Replay.WriteFault fault)))
     (λ is bytes r none.
     let rep = inv.read.5 bytes r in
     let step = step_told at.capture c.next.new.self _ _ rep.rest c.next.new.frame (Err e) c.in_err-next.ensures.gives rep.told in
     cut_record bytes _ _ at.capture c.next.new.self inv.read.0 c.next.new.frame e rep step is none))
-
-pub returns-in_err-next-clause-late : goal.returns-in_err-next-clause-late
-returns-in_err-next-clause-late g c =
-    let p = err_from_is_err_and c.from_residual-in_err-next.result c.from_residual-in_err-next.ensures.1 in
-    rw (p.1, p.2) (is_late c.in_err-next.field-0.0)
 
 pub returns-in_err-next-clause-from : goal.returns-in_err-next-clause-from
 returns-in_err-next-clause-from g c = record {
@@ -127,7 +122,7 @@ returns-in_err-next-clause-from g c = record {
       record {
         later = let later = next.later in omega (arith, before, later);
         cause = λ fault. rose_since _ _ _ before (next.cause (c.in_err-next.was
-            ∙ ap (λ e. Err e) (is_read_fault c.in_err-next.field-0.0 (sym p.2 ∙ same_error p.0 Run.ReadFault c.from_residual-in_err-next.result p.1 fault))));
+            ∙ ap (λ e. Err e) (is_read_fault c.in_err-next.field-0.0 (sym p.2 ∙ same_error p.0 Replay.ReadFault c.from_residual-in_err-next.result p.1 fault))));
       };
   lasts = search rules;
 }
@@ -140,7 +135,7 @@ returns-in_err-next-clause-to g c = record {
       let handed = c.hand_on.ensures.cause.later in
       record {
         later = omega (arith, before, handed);
-        cause = λ fault. absurd (no_write_fault c.in_err-next.field-0.0 (sym p.2 ∙ same_error p.0 Run.WriteFault c.from_residual-in_err-next.result p.1 fault));
+        cause = λ fault. absurd (no_write_fault c.in_err-next.field-0.0 (sym p.2 ∙ same_error p.0 Replay.WriteFault c.from_residual-in_err-next.result p.1 fault));
       };
   lasts = search rules;
 }
@@ -175,13 +170,8 @@ returns-in_err-take-in-Frame-clause-reads g c =
     let p = err_from_is_err_and c.from_residual-in_err-take-in-Frame.result c.from_residual-in_err-take-in-Frame.ensures.1 in
     rw (p.1, p.2)
     (reads_refused g.S.Source output _ _ _ e (no_heavy_packet e only)
-    (λ kept. (c.take.ensures.silent kept ∙ (c.hand_on.ensures.silent kept).1 ∙ inv.silent kept, λ fault. no_write_packet (is_forward output) e only kept (err_same e Run.WriteFault fault)))
+    (λ kept. (c.take.ensures.silent kept ∙ (c.hand_on.ensures.silent kept).1 ∙ inv.silent kept, λ fault. no_write_packet (is_forward output) e only kept (err_same e Replay.WriteFault fault)))
     (λ is. absurd (no_read_fault e only is)))
-
-pub returns-in_err-take-in-Frame-clause-late : goal.returns-in_err-take-in-Frame-clause-late
-returns-in_err-take-in-Frame-clause-late g c =
-    let p = err_from_is_err_and c.from_residual-in_err-take-in-Frame.result c.from_residual-in_err-take-in-Frame.ensures.1 in
-    rw (p.1, p.2) (late_by c.in_err-take-in-Frame.field-0.0 c.in_err-take-in-Frame.ensures.only)
 
 pub returns-in_err-take-in-Frame-clause-from : goal.returns-in_err-take-in-Frame-clause-from
 returns-in_err-take-in-Frame-clause-from g c = record {
@@ -191,7 +181,7 @@ returns-in_err-take-in-Frame-clause-from g c = record {
       record {
         later = let later = c.next.ensures.cause.later in omega (arith, before, later);
         cause = λ fault. absurd (no_read_fault c.in_err-take-in-Frame.field-0.0 c.in_err-take-in-Frame.ensures.only (sym p.2
-            ∙ same_error p.0 Run.ReadFault c.from_residual-in_err-take-in-Frame.result p.1 fault));
+            ∙ same_error p.0 Replay.ReadFault c.from_residual-in_err-take-in-Frame.result p.1 fault));
       };
   lasts = search rules;
 }
@@ -207,7 +197,7 @@ returns-in_err-take-in-Frame-clause-to g c = record {
       record {
         later = let later = take.later in omega (arith, before, later);
         cause = λ fault. rose_since _ _ _ before (take.cause (c.in_err-take-in-Frame.was
-            ∙ ap (λ e. Err e) (sym p.2 ∙ same_error p.0 Run.WriteFault c.from_residual-in_err-take-in-Frame.result p.1 fault)));
+            ∙ ap (λ e. Err e) (sym p.2 ∙ same_error p.0 Replay.WriteFault c.from_residual-in_err-take-in-Frame.result p.1 fault)));
       };
   lasts = search rules;
 }

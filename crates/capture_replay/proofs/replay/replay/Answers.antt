@@ -6,7 +6,7 @@ use Rattle.capture_replay.specs.Records.{packets_of}
 use Rattle.capture_replay.specs.Outcome.{is_forward, outcome_over}
 use Rattle.capture_replay.specs.Runs.{RunsAs}
 use Rattle.capture_replay.specs.Refusal.{header_refusal}
-use Rattle.capture_replay.specs.declared.refusal.RunError.TheVariants as Run
+use Rattle.capture_replay.specs.declared.refusal.ReplayError.TheVariants as Replay
 use Rattle.capture_replay.proofs.Reading.{none_read, fails_forward}
 use Rattle.capture_replay.proofs.Replaying.{opened_replay, refused_header, stopped_writing, front_of_header, header_written, front_so_far}
 use Rattle.capture_replay.proofs.Ends.{cut_header, err_same, no_heavy_header, no_write_header, reads_refused}
@@ -25,13 +25,12 @@ returns-in_err-capture g c = record {
         );
     read = search rules;
     silent = search rules;
-    late = search rules;
     reads =
         let e = c.in_err-capture.field-0.0 in
         let p = err_from_is_err_and c.from_residual.result c.from_residual.ensures.1 in
         rw (p.1, p.2)
         (reads_refused g.S.Source c.args.plan.now.output _ _ _ (header_refusal e) (no_heavy_header e)
-        (λ kept. (refl, λ fault. no_write_header e (err_same (header_refusal e) Run.WriteFault fault)))
+        (λ kept. (refl, λ fault. no_write_header e (err_same (header_refusal e) Replay.WriteFault fault)))
         (λ is bytes told none. cut_header (g.S.Source.left c.args.source.now) (g.S.Source.left c.open.new.source) bytes e c.in_err-capture.ensures.gives is told none));
     from = search rules;
     to = search rules;
@@ -54,12 +53,11 @@ returns-in_err-write_front g c = record {
         );
     read = search rules;
     silent = search rules;
-    late = search rules;
     reads =
         let plan = c.args.plan.now in
         let forward = fails_forward (is_forward plan.output) c.write_front.result c.in_err-write_front.field-0.0 c.in_err-write_front.was (λ is. (c.write_front.ensures.silent is).0) in
         let p = err_from_is_err_and c.from_residual-in_err-write_front.result c.from_residual-in_err-write_front.ensures.1 in
-        rw (p.1, p.2) (reads_refused g.S.Source plan.output _ _ _ Run.WriteFault (λ is. cc) (λ kept. absurd (let both = sym forward ∙ kept in cc)) (λ is. absurd (cc)));
+        rw (p.1, p.2) (reads_refused g.S.Source plan.output _ _ _ Replay.WriteFault (λ is. cc) (λ kept. absurd (let both = sym forward ∙ kept in cc)) (λ is. absurd (cc)));
     from = search rules;
     to = search rules;
   };
@@ -80,11 +78,10 @@ returns-in_err-lane g c = record {
         (inr (inr (inl refl)), front_so_far app plan.script.now plan.output bytes _ c.in_ok-capture.capture [] (g.O.Sink.taken c.args.out.now) (g.O.Sink.taken c.write_front.new.out) rep written);
     read = search rules;
     silent = search rules;
-    late = search rules;
     reads =
         let p = err_from_is_err_and c.from_residual-in_err-lane.result c.from_residual-in_err-lane.ensures.1 in
         rw (p.1, p.2)
-        (reads_refused g.S.Source c.args.plan.now.output _ _ _ Run.NoMemory (λ is. cc) (λ kept. ((c.write_front.ensures.silent kept).1, λ fault. cc)) (λ is. absurd (cc)));
+        (reads_refused g.S.Source c.args.plan.now.output _ _ _ Replay.NoMemory (λ is. cc) (λ kept. ((c.write_front.ensures.silent kept).1, λ fault. cc)) (λ is. absurd (cc)));
     from = search rules;
     to = search rules;
   };
@@ -114,7 +111,6 @@ returns g c = record {
         let rep = opened_replay (g.S.Source.left c.args.source.now) (g.S.Source.left c.open.new.source) c.in_ok-capture.capture bytes c.in_ok-capture.ensures.gives start.count start.offset told in
         c.read_on.ensures.read ok bytes rep;
     silent = search rules;
-    late = search rules;
     reads =
         let reads = c.read_on.ensures.reads in
         let start = c.in_ok-capture.ensures.start in

@@ -6,7 +6,7 @@ use Rattle.capture_replay.specs.Records.{packets_with}
 use Rattle.capture_replay.proofs.Replaying.{opened_replay, refused_header}
 use Rattle.capture_replay.proofs.Joined.{stopped_any}
 use Rattle.capture_replay.proofs.Forwarding.{forward_is, no_header, cut_short, all_left}
-use Rattle.capture_replay.specs.declared.refusal.RunError.TheVariants as Run
+use Rattle.capture_replay.specs.declared.refusal.ReplayError.TheVariants as Replay
 use Rattle.capture_replay.specs.Refusal.{header_refusal, pool_refusal}
 use Rattle.capture_replay.proofs.Ends.{cut_header, cut_lanes, err_same, heavy_of, no_heavy_header, no_write_header, pool_heavy, pool_read_fault, reads_refused, reads_whole}
 use Rattle.capture_replay.proofs.several.forward_on.Goals as goal
@@ -24,13 +24,12 @@ returns-in_err-capture g c = record {
         (g.S.Source.left c.open.new.source) bytes c.in_err-capture.field-0.0 c.in_err-capture.ensures.gives told));
     read = search rules;
     silent = search rules;
-    late = search rules;
     reads =
         let e = c.in_err-capture.field-0.0 in
         let p = err_from_is_err_and c.from_residual.result c.from_residual.ensures.1 in
         rw (p.1, p.2)
         (reads_refused g.S.Source c.args.plan.now.output _ _ _ (header_refusal e) (no_heavy_header e)
-        (λ kept. (refl, λ fault. no_write_header e (err_same (header_refusal e) Run.WriteFault fault)))
+        (λ kept. (refl, λ fault. no_write_header e (err_same (header_refusal e) Replay.WriteFault fault)))
         (λ is bytes told none. cut_header (g.S.Source.left c.args.source.now) (g.S.Source.left c.open.new.source) bytes e c.in_err-capture.ensures.gives is told none));
     from = search rules;
     to = search rules;
@@ -54,11 +53,10 @@ returns-in_err-write_header g c = record {
         c.what_one_worker_has_is_allowed.ensures.allowed c.requires.order old new c.in_err-write_header.ensures.bytes);
     read = search rules;
     silent = search rules;
-    late = search rules;
     reads =
         let p = err_from_is_err_and c.from_residual-in_err-write_header.result c.from_residual-in_err-write_header.ensures.1 in
         rw (p.1, p.2)
-        (reads_refused g.S.Source c.args.plan.now.output _ _ _ Run.WriteFault (λ is. cc) (λ kept. absurd (let both = sym c.requires.forwards ∙ kept in cc)) (λ is. absurd (cc)));
+        (reads_refused g.S.Source c.args.plan.now.output _ _ _ Replay.WriteFault (λ is. cc) (λ kept. absurd (let both = sym c.requires.forwards ∙ kept in cc)) (λ is. absurd (cc)));
     from = search rules;
     to = search rules;
   };
@@ -80,7 +78,6 @@ returns-in_err-versions g c = record {
         c.in_ok-write_header.ensures.bytes (c.in_err-versions.ensures.forwards rep.rest rep.told));
     read = search rules;
     silent = search rules;
-    late = search rules;
     reads =
         let e = c.in_err-versions.field-0.0 in
         let p = err_from_is_err_and c.from_residual-in_err-versions.result c.from_residual-in_err-versions.ensures.1 in
@@ -91,7 +88,7 @@ returns-in_err-versions g c = record {
               let rep = opened_replay (g.S.Source.left c.args.source.now) (g.S.Source.left c.open.new.source) c.in_ok-capture.capture bytes
               c.in_ok-capture.ensures.gives c.in_ok-capture.ensures.start.count c.in_ok-capture.ensures.start.offset told in
               cut_lanes bytes _ c.in_ok-capture.capture rep (c.in_err-versions.ensures.reads.cut
-              (ap (λ x. Err x) (pool_read_fault e (err_same (pool_refusal e) Run.ReadFault fault))) rep.rest rep.told none);
+              (ap (λ x. Err x) (pool_read_fault e (err_same (pool_refusal e) Replay.ReadFault fault))) rep.rest rep.told none);
         });
     from = search rules;
     to = search rules;
@@ -113,7 +110,6 @@ returns g c = record {
         c.in_ok-write_header.ensures.bytes (c.in_ok-versions.ensures.forwards rep.rest rep.told));
     read = search rules;
     silent = search rules;
-    late = search rules;
     reads = reads_whole g.S.Source c.args.plan.now.output _ _ _ (Ok _) (c.in_ok-versions.ensures.reads.ended refl) (λ fault. cc);
     from = search rules;
     to = search rules;

@@ -6,7 +6,7 @@ use Rattle.mos_bytes.specs.Writes.{AppendsFront}
 use Rattle.lane_core.specs.KeptEnd.{shown_as}
 use Rattle.worker_pool.specs.Run.{as_shown}
 use Rattle.pcap_source.specs.Reading.{frames_at}
-use Rattle.capture_replay.specs.declared.refusal.RunError.TheVariants as Run
+use Rattle.capture_replay.specs.declared.refusal.ReplayError.TheVariants as Replay
 use Rattle.capture_replay.specs.Apps.{meaning_of}
 use Rattle.capture_replay.specs.Records.{packets_with}
 use Rattle.capture_replay.specs.Outcome.{closing, is_forward}
@@ -30,13 +30,12 @@ returns-in_err-capture g c = record {
         (g.S.Source.left c.open.new.source) bytes c.in_err-capture.field-0.0 c.in_err-capture.ensures.gives told));
     read = search rules;
     silent = search rules;
-    late = search rules;
     reads =
         let e = c.in_err-capture.field-0.0 in
         let p = err_from_is_err_and c.from_residual.result c.from_residual.ensures.1 in
         rw (p.1, p.2)
         (reads_refused g.S.Source c.args.plan.now.output _ _ _ (header_refusal e) (no_heavy_header e)
-        (λ kept. (refl, λ fault. no_write_header e (err_same (header_refusal e) Run.WriteFault fault)))
+        (λ kept. (refl, λ fault. no_write_header e (err_same (header_refusal e) Replay.WriteFault fault)))
         (λ is bytes told none. cut_header (g.S.Source.left c.args.source.now) (g.S.Source.left c.open.new.source) bytes e c.in_err-capture.ensures.gives is told none));
     from = search rules;
     to = search rules;
@@ -59,7 +58,6 @@ returns-in_err-end g c = record {
         (g.O.Sink.taken c.args.out.now) c.in_err-end.field-0.0 ends);
     read = search rules;
     silent = search rules;
-    late = search rules;
     reads =
         let e = c.in_err-end.field-0.0 in
         let p = err_from_is_err_and c.from_residual-in_err-end.result c.from_residual-in_err-end.ensures.1 in
@@ -70,7 +68,7 @@ returns-in_err-end g c = record {
               let rep = opened_replay (g.S.Source.left c.args.source.now) (g.S.Source.left c.open.new.source) c.in_ok-capture.capture bytes
               c.in_ok-capture.ensures.gives c.in_ok-capture.ensures.start.count c.in_ok-capture.ensures.start.offset told in
               cut_lanes bytes _ c.in_ok-capture.capture rep (c.in_err-end.ensures.reads.cut
-              (ap (λ x. Err x) (pool_read_fault e (err_same (pool_refusal e) Run.ReadFault fault))) rep.rest rep.told none);
+              (ap (λ x. Err x) (pool_read_fault e (err_same (pool_refusal e) Replay.ReadFault fault))) rep.rest rep.told none);
         });
     from = search rules;
     to = record {
@@ -96,7 +94,7 @@ returns-in_err-write_end_by g c = record {
         let rep = opened_replay (g.S.Source.left c.args.source.now) (g.S.Source.left c.open.new.source) c.in_ok-capture.capture bytes c.in_ok-capture.ensures.gives start.count start.offset told in
         let ends = c.in_ok-end.ensures.ends rep.rest rep.told in
         let p = err_from_is_err_and c.from_residual-in_err-write_end_by.result c.from_residual-in_err-write_end_by.ensures.1 in
-        let which = subst (λ e. ((e ≡ Run.WriteFault) × (is_forward plan.output ≡ false)) ⊎ (e ≡ Run.NoMemory)) (sym p.2) c.in_err-write_end_by.ensures.only in
+        let which = subst (λ e. ((e ≡ Replay.WriteFault) × (is_forward plan.output ≡ false)) ⊎ (e ≡ Replay.NoMemory)) (sym p.2) c.in_err-write_end_by.ensures.only in
         rw (p.1)
         (broke_off app plan.script.now plan.workers plan.output bytes (frames_at c.in_ok-capture.capture rep.rest) rep.holds c.requires.kept ends.0 ends.1 (as_shown app c.in_ok-end.end) ends.2
         (g.O.Sink.taken c.args.out.now) (g.O.Sink.taken c.write_end_by.new.out) p.0 which
@@ -104,12 +102,11 @@ returns-in_err-write_end_by g c = record {
         (closing plan.output (shown_as app l) c.in_ok-end.end.totals)) c.as_slice.ensures c.in_err-write_end_by.ensures.text));
     read = search rules;
     silent = search rules;
-    late = search rules;
     reads =
         let p = err_from_is_err_and c.from_residual-in_err-write_end_by.result c.from_residual-in_err-write_end_by.ensures.1 in
-        let which = subst (λ e. ((e ≡ Run.WriteFault) × (is_forward c.args.plan.now.output ≡ false)) ⊎ (e ≡ Run.NoMemory)) (sym p.2) c.in_err-write_end_by.ensures.only in
+        let which = subst (λ e. ((e ≡ Replay.WriteFault) × (is_forward c.args.plan.now.output ≡ false)) ⊎ (e ≡ Replay.NoMemory)) (sym p.2) c.in_err-write_end_by.ensures.only in
         rw (p.1)
-        (reads_whole g.S.Source c.args.plan.now.output _ _ _ (Err p.0) (c.in_ok-end.ensures.reads.ended (inl refl)) (λ fault. no_read_fault p.0 which (err_same p.0 Run.ReadFault fault)));
+        (reads_whole g.S.Source c.args.plan.now.output _ _ _ (Err p.0) (c.in_ok-end.ensures.reads.ended (inl refl)) (λ fault. no_read_fault p.0 which (err_same p.0 Replay.ReadFault fault)));
     from = search rules;
     to = search rules;
   };
@@ -131,7 +128,6 @@ returns g c = record {
         c.as_slice.ensures c.in_ok-write_end_by.ensures.text);
     read = search rules;
     silent = search rules;
-    late = search rules;
     reads = reads_whole g.S.Source c.args.plan.now.output _ _ _ (Ok _) (c.in_ok-end.ensures.reads.ended (inl refl)) (λ fault. cc);
     from = search rules;
     to = search rules;

@@ -34,7 +34,7 @@ returns-clause-done g c = λ zero t is.
 
 pub returns-clause-alone : goal.returns-clause-alone
 returns-clause-alone g c = λ zero t is.
-    finishes_alone c.what_one_worker_has_is_allowed.ensures.outcome c.without_live_commands_all_versions_are_known.ensures (map string_bytes c.args.words.now)
+    finishes_alone c.what_one_worker_has_is_allowed.ensures.outcome c.what_one_worker_has_is_allowed.ensures.forwarded c.without_live_commands_all_versions_are_known.ensures (map string_bytes c.args.words.now)
     (g.H.Shelf.content c.args.shelf.now) (g.S.Source.left c.args.capture.now) t _ _ _ is (returns-clause-done g c zero t is)
 
 pub returns-clause-ran : goal.returns-clause-ran

@@ -1,14 +1,14 @@
 use Rattle.std.proofs.Common.{map, rules}
 use Rattle.std.specs.Prelude.{string_bytes}
 use Rattle.mos_run.specs.Run.{EndsAs}
-use Rattle.capture_replay.specs.Runs.{StopsAs}
+use Rattle.mos_run.specs.Outcome.{StopsAs}
 use Rattle.mos_bytes.specs.Writes.{AppendsFront}
 use Rattle.mos_run.proofs.Outcomes.{ends_as, finishes_alone, under_more}
 use Rattle.mos_run.proofs.run.run_mos.Goals as goal
 
 pub returns-in-Ok-clause-alone : goal.returns-in-Ok-clause-alone
 returns-in-Ok-clause-alone g c = λ zero t is.
-    finishes_alone c.what_one_worker_has_is_allowed.ensures.outcome c.without_live_commands_all_versions_are_known.ensures (map string_bytes c.args.words.now)
+    finishes_alone c.what_one_worker_has_is_allowed.ensures.outcome c.what_one_worker_has_is_allowed.ensures.forwarded c.without_live_commands_all_versions_are_known.ensures (map string_bytes c.args.words.now)
     (g.H.Shelf.content c.args.shelf.now) (g.S.Source.left c.args.capture.now) t _ _ _ is (c.in-Ok.ensures.runs t is)
 
 pub returns-in-Err-clause-ran : goal.returns-in-Err-clause-ran

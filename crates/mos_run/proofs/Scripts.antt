@@ -14,10 +14,10 @@ use Rattle.control_script.specs.Lines.{lines, without_return, is_skipped, next_l
 use Rattle.control_script.specs.Order.{commands_of, is_later, are_in_order}
 use Rattle.control_script.specs.Script.{said, joined, admitted_said, line_read, then_lines, lines_read, script}
 use Rattle.words.specs.declared.settings.AppKind.{AppKind}
-use Rattle.capture_replay.specs.declared.refusal.RunError.TheVariants as Run
+use Rattle.mos_run.specs.declared.refusal.RunError.TheVariants as Run
 use Rattle.capture_replay.specs.Apps.{meaning_of}
-use Rattle.capture_replay.specs.Refusal.{script_refusal}
-use Rattle.capture_replay.specs.Script.{commands_in, read_as}
+use Rattle.mos_run.specs.Refusal.{script_refusal}
+use Rattle.mos_run.specs.Script.{commands_in, read_as}
 use Rattle.capture_replay.proofs.Following.{both}
 
 -- no text has no commands

@@ -1,5 +1,5 @@
-use Rattle.capture_replay.specs.Refusal.{refusal_text}
-use Rattle.capture_replay.proofs.telling.tell.Goals as goal
+use Rattle.mos_run.specs.Refusal.{refusal_text}
+use Rattle.mos_run.proofs.telling.tell.Goals as goal
 
 pub returns-in-ScriptTooLong-clause-text : goal.returns-in-ScriptTooLong-clause-text
 unfolding refusal_text

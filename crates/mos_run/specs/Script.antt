@@ -4,10 +4,10 @@ use Rattle.control_script.specs.declared.error.ScriptError.{ScriptError}
 use Rattle.control_script.specs.declared.stamped.Stamped.{Stamped}
 use Rattle.control_script.specs.Script.{script}
 use Rattle.words.specs.declared.settings.AppKind.{AppKind}
-use Rattle.capture_replay.specs.declared.refusal.RunError.{RunError}
-use Rattle.capture_replay.specs.declared.refusal.RunError.TheVariants.{ScriptTooLong}
+use Rattle.mos_run.specs.declared.refusal.RunError.{RunError}
+use Rattle.mos_run.specs.declared.refusal.RunError.TheVariants.{ScriptTooLong}
 use Rattle.capture_replay.specs.Apps.{meaning_of}
-use Rattle.capture_replay.specs.Refusal.{script_refusal}
+use Rattle.mos_run.specs.Refusal.{script_refusal}
 
 -- the commands of a script's text, or why it has none
 abbrev pub read_as : Result (List Stamped) ScriptError → Result (List Stamped) RunError

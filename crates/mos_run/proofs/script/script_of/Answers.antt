@@ -1,10 +1,10 @@
 use Rattle.std.proofs.Common.{IsTrue, [], subst, sym, ap, ◌∙◌}
 use Rattle.std.proofs.lemmas.Result.{err_from_is_err_and}
 use Rattle.app_api.specs.Reg.{are_presets}
-use Rattle.capture_replay.specs.Script.{text_under}
+use Rattle.mos_run.specs.Script.{text_under}
 use Rattle.capture_replay.specs.Apps.{lawful_app}
-use Rattle.capture_replay.proofs.Scripts.{never_refused}
-use Rattle.capture_replay.proofs.script.script_of.Goals as goal
+use Rattle.mos_run.proofs.Scripts.{never_refused}
+use Rattle.mos_run.proofs.script.script_of.Goals as goal
 
 pub parse_script-requires : goal.parse_script-requires
 parse_script-requires g c = record {

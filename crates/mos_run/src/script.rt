@@ -4,13 +4,13 @@ ghost use Rattle.std.specs.Prelude.{◌≡◌, ◌⊎◌, ◌<◌, ◌≤◌, �
 ghost use Rattle.control_script.specs.Order.{are_in_order};
 ghost use Rattle.capture_replay.specs.Apps.{meaning_of};
 ghost use Rattle.mos_bytes.specs.Outside.{Fetches};
-ghost use Rattle.capture_replay.specs.Script.{commands_in, text_under};
-ghost use Rattle.capture_replay.specs.Refusal.{status_of};
+ghost use Rattle.mos_run.specs.Script.{commands_in, text_under};
+ghost use Rattle.mos_run.specs.Refusal.{status_of};
 ghost use Rattle.capture_replay.specs.Runs.{MayRun};
 
-use crate::RunError;
-use crate::chosen::Chosen;
+use crate::refusal::RunError;
 use app_api::presets_of;
+use capture_replay::Chosen;
 use control_script::{Script, parse_script};
 use mos_bytes::{FetchError, Shelf};
 use std::alloc::Global;
@@ -44,7 +44,7 @@ fn text_of<H: Shelf>(
 ///
 /// It is refused where it has more than 262,144 bytes, or in its first line that can't stand. Else an error is a fault of the
 /// shelf, or want of memory.
-pub fn script_of<H: Shelf>(
+pub(crate) fn script_of<H: Shelf>(
     alloc: Global,
     shelf: &mut H,
     settings: &Settings,

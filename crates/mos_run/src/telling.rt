@@ -2,7 +2,7 @@
 
 ghost use Rattle.std.specs.Prelude.{◌≡◌, ◌⊎◌, IfOk, string_bytes};
 ghost use Rattle.std.specs.Result.{ForOk};
-ghost use Rattle.capture_replay.specs.Refusal.{refusal_text, fault_text, kind_text, WritesText};
+ghost use Rattle.mos_run.specs.Refusal.{refusal_text, fault_text, kind_text, WritesText};
 
 use crate::refusal::{RunError, ScriptFault};
 use mos_bytes::Sink;
@@ -147,7 +147,7 @@ fn tell_line<E: Sink>(err: &mut E, line: Result<String, AllocError>, error: RunE
 /// Tells a refusal by its line on `err`. Answers what was told: the refusal itself, or want of memory where there is none for a
 /// line with a number. A fault of `err` changes nothing.
 #[tactic(auto, unfolding(crate::specs::Refusal::refusal_text))]
-pub fn tell<E: Sink>(alloc: Global, err: &mut E, error: RunError) -> RunError
+pub(crate) fn tell<E: Sink>(alloc: Global, err: &mut E, error: RunError) -> RunError
     ensures which { (result ≡ error) ⊎ (result ≡ RunError.NoMemory) }
     ensures usage { error ≡ RunError.Usage → result ≡ error }
     ensures text { WritesText (E.taken err.old) (E.taken err.new)
