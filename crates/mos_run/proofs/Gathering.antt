@@ -41,6 +41,7 @@ module _ {S H O E : Type 0} (source : Source S) (shelf : Shelf H) (sink : Sink O
     only_usage = ran.only_usage;
     read_fault = ran.read_fault;
     write_fault = record { later = below.later; cause = λ five. below.rose (ran.write_fault.cause five) };
+    shelf_faultless = ran.shelf_faultless;
     capture_counts = ran.capture_counts;
     shelf_counts = ran.shelf_counts;
     unread = ran.unread;
@@ -96,6 +97,7 @@ module _ {S H O E : Type 0} (source : Source S) (shelf : Shelf H) (sink : Sink O
         only_usage = λ is. absurd (omega (arith, least, is));
         read_fault = λ is. absurd (omega (arith, least, is));
         write_fault = record { later = ran.write_fault.later; cause = λ five. rose };
+        shelf_faultless = λ is. absurd (omega (arith, least, is));
         capture_counts = ran.capture_counts;
         shelf_counts = ran.shelf_counts;
         unread = λ is. absurd (neither after.status least is);
@@ -138,6 +140,7 @@ module _ {S H O E : Type 0} (source : Source S) (shelf : Shelf H) (sink : Sink O
     only_usage = λ is. absurd (omega (arith, six, is));
     read_fault = λ is. absurd (omega (arith, six, is));
     write_fault = record { later = subst (λ q. sink.faults o ≤ sink.faults q) (sym same) (omega arith); cause = λ is. absurd (omega (arith, six, is)) };
+    shelf_faultless = λ is. refl;
     capture_counts = omega arith;
     shelf_counts = omega arith;
     unread = λ is. refl;

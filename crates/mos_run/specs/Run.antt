@@ -92,6 +92,8 @@ module _ {S H O E : Type 0} (source : Source S) (shelf : Shelf H) (sink : Sink O
     pub only_usage : ended.status ≡ 1 → words_settings words ≡ None
     pub read_fault : ended.status ≡ 4 → Rose (source.faults s) (source.faults t) ⊎ Rose (shelf.faults h) (shelf.faults i)
     pub write_fault : HasCauseOf (sink.faults o) (sink.faults p) (ended.status ≡ 5)
+    -- where all was written, the shelf failed in no call
+    pub shelf_faultless : ended.status ≡ 0 → shelf.faults i ≡ shelf.faults h
     pub capture_counts : source.faults s ≤ source.faults t
     pub shelf_counts : shelf.faults h ≤ shelf.faults i
     -- what isn't touched

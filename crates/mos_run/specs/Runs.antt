@@ -67,6 +67,7 @@ module _ {S H O : Type 0} (source : Source S) (shelf : Shelf H) (sink : Sink O) 
     pub made : Makes words → t ≡ s
     pub unasked : NamesNone words → (i ≡ h) × IfErr result (λ e. status_of e ≢ 2)
     pub silent : forwards (words_settings words) ≡ false → IfErr result (λ e. e ≢ WriteFault → e ≢ NoMemory → p ≡ o)
+    pub shelf_faultless : IsOk result → shelf.faults i ≡ shelf.faults h
     pub read_fault : IsErrOf result ReadFault → Rose (source.faults s) (source.faults t) ⊎ Rose (shelf.faults h) (shelf.faults i)
     pub capture_counts : source.faults s ≤ source.faults t
     pub shelf_counts : shelf.faults h ≤ shelf.faults i

@@ -1,6 +1,6 @@
 //! The script of a run.
 
-ghost use Rattle.std.specs.Prelude.{◌≡◌, ◌⊎◌, ◌<◌, ◌≤◌, ℕ, List, length, Some, None, Ok, Err, IsOk, IfOk, IfErr, IsTrue, IsErrOf};
+ghost use Rattle.std.specs.Prelude.{◌≡◌, ◌⊎◌, ◌<◌, ◌≤◌, ℕ, List, length, Some, None, Ok, Err, IsOk, IfOk, IfErr, OnOk, IsTrue, IsErrOf};
 ghost use Rattle.control_script.specs.Order.{are_in_order};
 ghost use Rattle.capture_replay.specs.Apps.{meaning_of};
 ghost use Rattle.mos_bytes.specs.Outside.{Fetches};
@@ -31,6 +31,7 @@ fn text_of<H: Shelf>(
     ensures too_long { result ≡ Err FetchError.TooLong
         → (text : List ℕ) → text_under name.now (H.content shelf.old) ≡ Some text → 262144 < length text }
     ensures unasked { name.now ≡ None → IsOk result × (shelf.new ≡ shelf.old) }
+    ensures faultless { OnOk result (H.faults shelf.new ≡ H.faults shelf.old) }
     ensures from { Fetches H.Shelf shelf.old shelf.new (IsErrOf result FetchError.Failed) }
 {
     match name {
@@ -61,6 +62,7 @@ pub(crate) fn script_of<H: Shelf>(
         (λ e. (status_of e ≡ 2) ⊎ (e ≡ RunError.ReadFault) ⊎ (e ≡ RunError.NoMemory)) }
     ensures unasked { settings.now.script ≡ None
         → (shelf.new ≡ shelf.old) × IfErr result (λ e. e ≡ RunError.NoMemory) }
+    ensures faultless { OnOk result (H.faults shelf.new ≡ H.faults shelf.old) }
     ensures from { Fetches H.Shelf shelf.old shelf.new (IsErrOf result RunError.ReadFault) }
 {
     let presets = presets_of(alloc, &Chosen(settings.app))?;

@@ -47,6 +47,7 @@ returns-clause-ran g c = record {
   made = search rules;
   unasked = search rules;
   silent = search rules;
+  shelf_faultless = search rules;
   read_fault = search rules;
   capture_counts = search rules;
   shelf_counts = search rules;

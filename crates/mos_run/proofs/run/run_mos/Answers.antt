@@ -21,6 +21,7 @@ returns-in-Err-clause-ran g c = record {
   only_usage = search rules;
   read_fault = search rules;
   write_fault = search rules;
+  shelf_faultless = search rules;
   capture_counts = search rules;
   shelf_counts = search rules;
   unread = search rules;
