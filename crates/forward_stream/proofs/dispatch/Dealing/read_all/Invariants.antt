@@ -7,8 +7,8 @@ use Rattle.forward_stream.proofs.dispatch.Dealing.read_all.Given as goal
 
 -- The capture is live and has given so many frames. Their packets were sent, they and what is left are the capture, and few are on their
 -- way.
-abbrev pub invariant-loop : goal.invariant-loop
-invariant-loop g l = record {
+abbrev pub invariant-loop-whole : goal.invariant-loop-whole
+invariant-loop-whole g l = record {
   live : l.capture.is_live ≡ true;
   count : l.capture.count ≡ l.self.packets;
   few : l.self.packets ≤ 1048576;
@@ -24,5 +24,5 @@ invariant-loop g l = record {
       × ((bytes : List ℕ) → g.S.Source.left l.fn.source ≡ Some bytes → IsReadTo l.fn.capture bytes frames l.capture (g.S.Source.left l.source));
 }
 
-abbrev pub decreases-loop : goal.decreases-loop
-decreases-loop g l = 1048576 - l.self.packets
+abbrev pub decreases-loop-whole : goal.decreases-loop-whole
+decreases-loop-whole g l = 1048576 - l.self.packets

@@ -74,10 +74,10 @@ returns-in-End-clause-ends g c = λ begins frames start first before few s reads
     told_whole g.L.Recorder c.args.context.now.script.now begins frames few start c.args.capture.now first left last before reads d new sent _
     (awaited_leaves g.L.Recorder c.args.context.now.script.now c.args.self.now d c.await_place.ensures.inputs c.await_place.ensures.takes c.await_place.ensures.packets c.await_place.ensures.last old new (c.in_ok-await_place.ensures.leaves (λ is. absurd (cc))) begins frames before s l)
     (record {
-      count = sent.count ∙ sym c.whole.ensures.packets;
-      last = c.whole.ensures.last ∙ sent.newest;
+      count = sent.count ∙ sym c.whole-in-End.ensures.packets;
+      last = c.whole-in-End.ensures.last ∙ sent.newest;
       holds = λ bytes told.
-          subst (λ n. (frames_at start bytes ≡ record { frames = frames; ending = tail n }) × (last ≡ Some [])) (sym c.whole.ensures.tail)
+          subst (λ n. (frames_at start bytes ≡ record { frames = frames; ending = tail n }) × (last ≡ Some [])) (sym c.whole-in-End.ensures.tail)
           (read_end start bytes frames c.args.capture.now c.next.new.self c.next.new.frame left last gives (reads bytes told));
     })
 
