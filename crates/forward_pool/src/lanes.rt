@@ -1,6 +1,6 @@
 //! A forward run on several lanes.
 
-ghost use Rattle.std.specs.Prelude.{◌≡◌, ◌≢◌, ◌≤◌, ◌⊎◌, [], ℕ, List, Option, Some, Err, length, IsOk, IsTrue, IsErrOf, IfOk, IfErr};
+ghost use Rattle.std.specs.Prelude.{◌≡◌, ◌≢◌, ◌≤◌, ◌⊎◌, [], ℕ, List, Option, None, Some, Err, length, IsOk, IsTrue, IsErrOf, IfOk, IfErr};
 ghost use Rattle.mos_bytes.specs.Outside.{Writes};
 ghost use Rattle.pcap_source.specs.Captured.{Captured};
 ghost use Rattle.pcap_source.specs.Reading.{Opened, frames_at};
@@ -11,18 +11,18 @@ ghost use Rattle.control_script.specs.Order.{commands_of};
 ghost use Rattle.worker_pool.specs.GoesOn.{GoesOn};
 ghost use Rattle.worker_pool.specs.AtWork.{CanRun, Served};
 ghost use Rattle.worker_pool.specs.Source.{IsReadWhole, ReadsOn};
+ghost use Rattle.forward_stream.specs.OnTheirWay.{HasPlaces};
 ghost use Rattle.forward_stream.specs.Streamed.{AreLaneAnswers, Leaves, Streamed, lane_at, taken_from};
 ghost use Rattle.forward_pool.specs.Forward.{ForwardsFront, ForwardsOver};
 
 use crate::feed::ForwardFeed;
 use crate::leave::leave;
-use crate::make::{WAITING_ANSWERS, make_forward_team};
+use crate::make::make_forward_team;
 use app_api::App;
 use control_script::Script;
-use forward_stream::LaneAnswers;
+use forward_stream::Dealing;
 use lane_core::Recorder;
-use lane_rings::Resequencer;
-use lane_worker::{Gate, Worker};
+use lane_worker::{Gate, Worker, WorkerContext};
 use mos_bytes::{Sink, Source};
 use native_filters::NativeBook;
 use pcap_source::Capture;
@@ -53,32 +53,29 @@ fn nothing_is_a_front(script: &Script)
 // Runs a team over an opened capture, reads that, and writes what the lanes let pass while it is read. Answers what the
 // dispatcher ended with, and the workers. An error is want of memory, before anything was read.
 fn stream_team<
-    'a,
     R: Threads + Wait + Sync + Send + Copy + Drop + 'static,
     L: Recorder + Drop + Send,
     S: Source,
     O: Sink,
     G: Gate + Sync,
 >(
-    rt: &'a R,
-    alloc: Global,
+    context: &WorkerContext<'_, R, G>,
     team: Team<L>,
-    all_answers: &'a mut Vec<LaneAnswers>,
-    waiting: &'a mut Resequencer,
-    script: &'a Script,
-    natives: &'a NativeBook,
-    gate: &'a G,
-    capture: &'a mut Capture,
-    source: &'a mut S,
-    out: &'a mut O,
+    dealing: &mut Dealing<L>,
+    capture: &mut Capture,
+    source: &mut S,
+    out: &mut O,
 ) -> Result<(Result<Whole, PoolError>, Vec<Worker<L>>), AllocError>
     requires opened { Opened capture.old }
-    requires team { CanRun L.Recorder script.now team.workers.items team.packets.items }
-    requires all_answers { AreLaneAnswers team.workers.items [] all_answers.old.items }
-    requires begins { Leaves (lane_at (length all_answers.old.items) []) 0 (taken_from all_answers.old.items) waiting.old
-        (O.taken out.old) (O.taken out.old) }
-    ensures served { IfOk result (λ r. Served L.Recorder script.now team.workers.items r.1.items
-        (λ frames. Streamed team.workers.items frames all_answers.new.items waiting.new
+    requires team { CanRun L.Recorder context.now.script.now team.workers.items team.packets.items }
+    requires all_answers { AreLaneAnswers team.workers.items [] dealing.old.all_answers.items }
+    requires begins { Leaves (lane_at (length dealing.old.all_answers.items) []) 0
+        (taken_from dealing.old.all_answers.items) dealing.old.waiting (O.taken out.old) (O.taken out.old) }
+    requires places { HasPlaces dealing.old.waiting }
+    requires packets { dealing.old.packets ≡ 0 }
+    requires last { dealing.old.last ≡ None }
+    ensures served { IfOk result (λ r. Served L.Recorder context.now.script.now team.workers.items r.1.items
+        (λ frames. Streamed team.workers.items frames dealing.new.all_answers.items dealing.new.waiting
         capture.old (S.left source.old) (S.left source.new) (O.taken out.old) (O.taken out.new) r.0)) }
     ensures reads { IfOk result (λ r. ReadsOn S.Source capture.old source.old source.new (IsOk r.0)
         (IsErrOf r.0 PoolError.ReadFault)) }
@@ -89,21 +86,14 @@ fn stream_team<
     ensures unchanged { IfErr result (λ _. (capture.new ≡ capture.old) × (source.new ≡ source.old)
         × (out.new ≡ out.old)) }
 {
-    let failed = AtomicBool::new(false);
     let mut feed = ForwardFeed {
-        rt,
-        alloc,
-        all_answers,
-        waiting,
-        script,
-        natives,
-        gate,
-        failed: &failed,
+        context,
+        dealing,
         capture,
         source,
         out,
     };
-    let (read, workers) = run_team(rt, alloc, team, script, natives, gate, &failed, &mut feed)?;
+    let (read, workers) = run_team(context, team, &mut feed)?;
     Ok((read, workers))
 }
 
@@ -154,31 +144,17 @@ pub fn forward_lanes<
 {
     nothing_is_a_front(job.script);
     beginning_is_right();
-    let (team, mut all_answers) = make_forward_team(rt, alloc, job)?;
-    let mut waiting = Resequencer::new(alloc, WAITING_ANSWERS)?;
-    let (read, workers) = stream_team(
+    let (team, all_answers) = make_forward_team(rt, alloc, job)?;
+    let mut dealing = Dealing::new(alloc, all_answers)?;
+    let failed = AtomicBool::new(false);
+    let context = WorkerContext {
         rt,
         alloc,
-        team,
-        &mut all_answers,
-        &mut waiting,
-        job.script,
+        script: job.script,
         natives,
         gate,
-        capture,
-        source,
-        out,
-    )?;
-    leave(
-        rt,
-        alloc,
-        job.script,
-        workers,
-        all_answers,
-        waiting,
-        read,
-        natives,
-        capture,
-        out,
-    )
+        failed: &failed,
+    };
+    let (read, workers) = stream_team(&context, team, &mut dealing, capture, source, out)?;
+    leave(&context, workers, dealing, read, capture, out)
 }

@@ -22,17 +22,13 @@ ghost use Rattle.forward_pool.specs.Explained.{AreGood};
 ghost use Rattle.forward_pool.specs.Forward.{ForwardsOver};
 
 use crate::explain::lanes_have_answered;
-use control_script::Script;
 use flow_timers::Moment;
-use forward_stream::{LaneAnswers, drain, write_ready};
+use forward_stream::{Dealing, drain, write_ready};
 use lane_core::Reporter;
 use lane_ends::join;
-use lane_rings::Resequencer;
-use lane_worker::Worker;
+use lane_worker::{Worker, WorkerContext};
 use mos_bytes::Sink;
-use native_filters::NativeBook;
 use pcap_source::Capture;
-use std::alloc::Global;
 use std::thread::Threads;
 use worker_laws::packets::packets_of_a_capture_rise;
 use worker_laws::runs::a_run_has_its_versions;
@@ -42,12 +38,10 @@ use worker_pool::versions::versions_of;
 use worker_pool::{PoolError, VersionList};
 
 // The versions of the records of lanes that keep no entries.
-fn versions_in<R: Threads + Sync, L: Reporter + Drop + Send>(
-    rt: &R,
-    alloc: Global,
+fn versions_in<R: Threads + Sync, L: Reporter + Drop + Send, G>(
+    context: &WorkerContext<'_, R, G>,
     workers: Vec<Worker<L>>,
     last: Option<Moment>,
-    natives: &NativeBook,
 ) -> Result<VersionList, PoolError>
     ensures good { IsOk result → AreGood L.Recorder workers.items }
     ensures versions { (app : Meaning) (script : List Stamped) (frames : List Captured) (lanes : List (List LaneEvent))
@@ -62,9 +56,9 @@ fn versions_in<R: Threads + Sync, L: Reporter + Drop + Send>(
 {
     packets_of_a_capture_rise();
     a_run_has_its_versions();
-    let ends = ends_of(rt, alloc, workers, last, natives)?;
-    let joined = join(alloc, ends)?;
-    let versions = versions_of(alloc, joined.records.as_slice())?;
+    let ends = ends_of(context.rt, context.alloc, workers, last, context.natives)?;
+    let joined = join(context.alloc, ends)?;
+    let versions = versions_of(context.alloc, joined.records.as_slice())?;
     Ok(versions)
 }
 
@@ -84,34 +78,30 @@ fn is_write_fault(read: &Result<Whole, PoolError>) -> bool
 ///
 /// `read` is what the dispatcher ended with; its error is told. Nothing more is written where it is a fault of writing.
 /// Of other errors a fault of writing here comes first, then that of `read`, then that a lane failed.
-pub(crate) fn leave<R: Threads + Sync, L: Reporter + Drop + Send, O: Sink>(
-    rt: &R,
-    alloc: Global,
-    script: &Script,
+pub(crate) fn leave<R: Threads + Sync, L: Reporter + Drop + Send, O: Sink, G>(
+    context: &WorkerContext<'_, R, G>,
     workers: Vec<Worker<L>>,
-    all_answers: Vec<LaneAnswers>,
-    waiting: Resequencer,
+    dealing: Dealing<L>,
     read: Result<Whole, PoolError>,
-    natives: &NativeBook,
     capture: &Capture,
     out: &mut O,
 ) -> Result<VersionList, PoolError>
     requires served { (app : Meaning) × (frames : List Captured) × (begins : List (Begun L))
         × (packets : List (RingTx Packet))
-        × IsTeam L.Recorder app begins packets × HaveServed L.Recorder script.now begins frames workers.items
-        × AreLaneAnswers begins frames all_answers.items }
+        × IsTeam L.Recorder app begins packets × HaveServed L.Recorder context.now.script.now begins frames workers.items
+        × AreLaneAnswers begins frames dealing.all_answers.items }
     ensures ends { (app : Meaning) (frames : List Captured) (begins : List (Begun L)) (packets : List (RingTx Packet))
         (start : CaptureState) (old new before : Option (List ℕ)) (rest : List ℕ)
         → length frames ≤ 1048576 → IsTeam L.Recorder app begins packets → AllKeep L.Recorder false begins
-        → HaveServed L.Recorder script.now begins frames workers.items
-        → Streamed begins frames all_answers.items waiting start old new before (O.taken out.old) read → old ≡ Some rest
-        → ForwardsOver app script.now (length begins) (frames_at start rest) before (O.taken out.new) result }
+        → HaveServed L.Recorder context.now.script.now begins frames workers.items
+        → Streamed begins frames dealing.all_answers.items dealing.waiting start old new before (O.taken out.old) read → old ≡ Some rest
+        → ForwardsOver app context.now.script.now (length begins) (frames_at start rest) before (O.taken out.new) result }
     ensures never_heavy { (app : Meaning) (frames : List Captured) (begins : List (Begun L))
         (packets : List (RingTx Packet))
         (start : CaptureState) (old new before : Option (List ℕ))
         → length frames ≤ 1048576 → IsTeam L.Recorder app begins packets → AllKeep L.Recorder false begins
-        → HaveServed L.Recorder script.now begins frames workers.items
-        → Streamed begins frames all_answers.items waiting start old new before (O.taken out.old) read
+        → HaveServed L.Recorder context.now.script.now begins frames workers.items
+        → Streamed begins frames dealing.all_answers.items dealing.waiting start old new before (O.taken out.old) read
         → IfErr result (λ e. e ≢ PoolError.Heavy) }
     ensures ok { IsOk result → IsOk read }
     ensures error { IfErr read (λ e. (result ≡ Err e) ⊎ (result ≡ Err PoolError.WriteFault)) }
@@ -121,18 +111,21 @@ pub(crate) fn leave<R: Threads + Sync, L: Reporter + Drop + Send, O: Sink>(
     ensures counts { O.faults out.old ≤ O.faults out.new }
     ensures lasts { O.lasting out.new ≡ O.lasting out.old }
 {
-    lanes_have_answered(script, workers.as_slice());
+    lanes_have_answered(context.script, workers.as_slice());
     let mut workers = workers;
-    let mut all_answers = all_answers;
-    let mut waiting = waiting;
-    let mut spare = Vec::new(alloc);
+    let Dealing {
+        mut all_answers,
+        mut waiting,
+        mut spare,
+        ..
+    } = dealing;
     drain(&mut workers, &mut all_answers, &mut waiting);
     if is_write_fault(&read) {
         return Err(PoolError::WriteFault);
     }
     write_ready(&mut waiting, capture, out, &mut spare)?;
     match read {
-        Ok(whole) => versions_in(rt, alloc, workers, whole.last, natives),
+        Ok(whole) => versions_in(context, workers, whole.last),
         Err(error) => Err(error),
     }
 }

@@ -7,7 +7,7 @@ ghost use Rattle.worker_pool.specs.Team.{IsTeam, AllKeep};
 ghost use Rattle.forward_stream.specs.Streamed.{AreUnused};
 
 use app_api::App;
-use forward_stream::LaneAnswers;
+use forward_stream::{LaneAnswers, ON_THEIR_WAY};
 use lane_core::{Lane, Recorder};
 use lane_rings::answer_ring;
 use shared_forest::{ForestStore, StoreUser};
@@ -17,12 +17,8 @@ use worker_pool::Job;
 use worker_pool::team::Team;
 use worker_pool::team::make::{enlist, lane_over};
 
-/// How many answers may wait for the dispatcher of a forward run, from each lane: as many as packets may be on their
-/// way.
-pub(crate) const WAITING_ANSWERS: usize = 4096;
-
 // Adds a worker of a lane to a team, with rings of its own, and one through which it answers; its other end goes into
-// `all_answers`.
+// `all_answers`. It has as many places as packets may be on their way.
 fn enlist_answering<L: Recorder + Drop>(
     alloc: Global,
     team: &mut Team<L>,
@@ -38,7 +34,7 @@ fn enlist_answering<L: Recorder + Drop>(
         → AreUnused team.new.workers.items all_answers.new.items) }
     ensures count { OnOk result (length team.new.workers.items ≡ length team.old.workers.items + 1) }
 {
-    let (answers_tx, answers) = answer_ring(alloc, WAITING_ANSWERS)?;
+    let (answers_tx, answers) = answer_ring(alloc, ON_THEIR_WAY)?;
     enlist(alloc, team, lane, places, Some(answers_tx), None)?;
     all_answers.push(LaneAnswers {
         answers,

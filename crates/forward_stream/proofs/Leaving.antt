@@ -4,6 +4,7 @@ use Rattle.std.specs.Prelude.{Result, Err, nat_lt}
 use Rattle.std.specs.Io.KnownBytes.{Appends, Keeps as Stays}
 use Rattle.std.proofs.KnownBytes.{Appends-kept}
 use mathlib.Core.List.{IsPrefix}
+use Rattle.std.proofs.Common.{append_assoc}
 use Rattle.std.proofs.lemmas.List.{append-nil, length_push}
 use Rattle.pcap_source.specs.Captured.{Captured}
 use Rattle.pcap_source.specs.Reading.{CaptureState, frames_at}
@@ -15,15 +16,16 @@ use Rattle.worker_laws.specs.Forward.{Leaving, Keeps, bytes_of_first}
 use Rattle.control_script.specs.declared.stamped.Stamped.{Stamped}
 use Rattle.lane_core.specs.declared.recorder.Recorder.{Ghosts}
 use Rattle.lane_worker.specs.declared.worker.Worker.{Worker}
-use Rattle.worker_pool.specs.declared.team.lane_input.LaneInput.{LaneInput}
+use Rattle.forward_stream.specs.declared.dispatch.Dealing.{Dealing}
 use Rattle.forward_stream.specs.declared.lane_answers.LaneAnswers.{LaneAnswers}
 use Rattle.worker_pool.specs.declared.team.dispatch.Whole.{Whole}
 use Rattle.worker_pool.specs.declared.job.PoolError.{PoolError}
 use Rattle.worker_pool.specs.declared.job.PoolError.TheVariants.{WriteFault, NoMemory as OutOfMemory}
 use Rattle.worker_pool.specs.Refused.{read_refusal}
-use Rattle.worker_pool.specs.Inputs.{AreInputs, ReadsAs, Dealt}
-use Rattle.forward_stream.specs.Streamed.{AreLaneAnswers, Leaves, HasLeft, Streamed, StopsAs, lane_at, taken_from}
+use Rattle.worker_pool.specs.Inputs.{AreInputs, ReadsAs}
+use Rattle.forward_stream.specs.Streamed.{AreLaneAnswers, Leaves, HasLeft, StopsAs, lane_at, taken_from}
 use Rattle.forward_stream.specs.Drained.{OfferAll}
+use Rattle.forward_stream.specs.Turns.{HasSent, LeavesSo, IsLeftSo, WentOn, Told}
 use Rattle.forward_stream.specs.TakenAnswers.{HaveTaken, LeaveAll, CutAll, counted_on}
 use Rattle.worker_pool.specs.GoesOn.{IsReadTo}
 use Rattle.forward_stream.proofs.TakingAnswers.{still_sent, all_answers_after, sent_to, lane_before, counted_length, counted_taken}
@@ -110,67 +112,51 @@ sent_and_taken later sending begins frames frame n all_answers now k r w v old n
 
 -- ---- the run
 
-module _ {L : Type 0} where
-  -- the inputs and the answers of workers that began so, to which the packets of these frames were sent
-  pub record AreSent (g : Ghosts L) (script : List Stamped) (begins : List (Worker L)) (frames : List Captured) (inputs : List (LaneInput L)) (all_answers : List LaneAnswers) : Type 0 where
-    pub inputs_are : AreInputs g script begins frames inputs
-    pub all_answers_are : AreLaneAnswers begins frames all_answers
+module _ {L : Type 0} (g : Ghosts L) (script : List Stamped) where
+  -- nothing was sent
+  pub went_none : (d : Dealing L) (out : Option (List ℕ)) → WentOn g script d d out out []
+  went_none d out = record {
+    sent = λ begins frames s. subst (λ (fs : List Captured). HasSent g script begins fs d) (sym (append-nil frames)) s;
+    leaves = λ begins frames before s l. subst (λ (fs : List Captured). LeavesSo fs d before out) (sym (append-nil frames)) l;
+  }
 
-  -- From nothing sent a run has come to these frames: their packets were sent, and what has left is right if it was at first.
-  pub record HasCome (g : Ghosts L) (script : List Stamped) (inputs : List (LaneInput L)) (all_answers : List LaneAnswers) (w : Waiting) (old : Option (List ℕ))
-      (frames : List Captured) (inputs_now : List (LaneInput L)) (all_answers_now : List LaneAnswers) (v : Waiting) (new : Option (List ℕ)) : Type 0 where
-    pub sent : (begins : List (Worker L)) → AreInputs g script begins [] inputs → AreLaneAnswers begins [] all_answers → AreSent g script begins frames inputs_now all_answers_now
-    pub leaves : (begins : List (Worker L)) (before : Option (List ℕ)) → AreInputs g script begins [] inputs → AreLaneAnswers begins [] all_answers
-        → Leaves (lane_at (length all_answers) []) 0 (taken_from all_answers) w before old
-        → Leaves (lane_at (length all_answers_now) frames) (length frames) (taken_from all_answers_now) v before new
+  pub went_then : (a b d : Dealing L) (old mid new : Option (List ℕ)) (xs ys : List Captured) → WentOn g script a b old mid xs → WentOn g script b d mid new ys → WentOn g script a d old new (xs ++ ys)
+  went_then a b d old mid new xs ys p q = record {
+    sent = λ begins frames s. subst (λ (fs : List Captured). HasSent g script begins fs d) (append_assoc frames xs ys) (q.sent begins (frames ++ xs) (p.sent begins frames s));
+    leaves = λ begins frames before s l. subst (λ (fs : List Captured). LeavesSo fs d before new) (append_assoc frames xs ys)
+        (q.leaves begins (frames ++ xs) before (p.sent begins frames s) (p.leaves begins frames before s l));
+  }
 
-  module _ (g : Ghosts L) (script : List Stamped) (inputs : List (LaneInput L)) (all_answers : List LaneAnswers) (w : Waiting) (old : Option (List ℕ)) where
-    pub come_none : HasCome g script inputs all_answers w old [] inputs all_answers w old
-    come_none = record { sent = λ begins p r. record { inputs_are = p; all_answers_are = r }; leaves = λ begins before p r l. l }
+  -- while a place was awaited nothing was sent
+  module _ (a b : Dealing L) (inputs : (begins : List (Worker L)) (frames : List Captured) → AreInputs g script begins frames a.inputs.items → AreInputs g script begins frames b.inputs.items)
+      (takes : HaveTaken a.all_answers.items b.all_answers.items) (packets : b.packets ≡ a.packets) (last : b.last ≡ a.last) where
+    pub awaited_sent : (begins : List (Worker L)) (frames : List Captured) → HasSent g script begins frames a → HasSent g script begins frames b
+    awaited_sent begins frames s = record {
+      count = s.count ∙ sym packets;
+      newest = last ∙ s.newest;
+      inputs_are = inputs begins frames s.inputs_are;
+      all_answers_are = all_answers_after begins frames a.all_answers.items b.all_answers.items takes s.all_answers_are;
+    }
 
-    module _ (frames : List Captured) (inputs_mid inputs_now : List (LaneInput L)) (all_answers_mid all_answers_now : List LaneAnswers) (v u : Waiting) (mid new : Option (List ℕ))
-        (come : HasCome g script inputs all_answers w old frames inputs_mid all_answers_mid v mid) where
-      -- nothing was sent meanwhile
-      pub come_on : ((begins : List (Worker L)) (fs : List Captured) → AreInputs g script begins fs inputs_mid → AreInputs g script begins fs inputs_now)
-          → HaveTaken all_answers_mid all_answers_now → LeaveAll all_answers_mid all_answers_now v u mid new
-          → HasCome g script inputs all_answers w old frames inputs_now all_answers_now u new
-      come_on still takes on = record {
-        sent = λ begins p r.
-            let s = come.sent begins p r in
-            record { inputs_are = still begins frames s.inputs_are; all_answers_are = all_answers_after begins frames all_answers_mid all_answers_now takes s.all_answers_are };
-        leaves = λ begins before p r l.
-            let s = come.sent begins p r in
-            subst (λ n. Leaves (lane_at n frames) (length frames) (taken_from all_answers_now) u before new) (sym takes.count)
-            (on.leaves (lane_at (length all_answers_mid) frames) (length frames) before s.all_answers_are.sent_are (come.leaves begins before p r l));
-      }
+    module _ (old new : Option (List ℕ)) where
+      pub awaited_leaves : LeaveAll a.all_answers.items b.all_answers.items a.waiting b.waiting old new → (begins : List (Worker L)) (frames : List Captured) (before : Option (List ℕ))
+          → HasSent g script begins frames a → LeavesSo frames a before old → LeavesSo frames b before new
+      awaited_leaves on begins frames before s l =
+          subst (λ n. Leaves (lane_at n frames) (length frames) (taken_from b.all_answers.items) b.waiting before new) (sym takes.count)
+          (on.leaves (lane_at (length a.all_answers.items) frames) (length frames) before s.all_answers_are.sent_are l)
 
-      -- what has left where it may have been cut off
-      pub come_cut : (begins : List (Worker L)) (before : Option (List ℕ)) → HaveTaken all_answers_mid all_answers_now → CutAll all_answers_mid all_answers_now v mid new
-          → AreInputs g script begins [] inputs → AreLaneAnswers begins [] all_answers → Leaves (lane_at (length all_answers) []) 0 (taken_from all_answers) w before old
-          → HasLeft (lane_at (length all_answers_now) frames) (length frames) (taken_from all_answers_now) before new
-      come_cut begins before takes on p r l =
-          let s = come.sent begins p r in
-          subst (λ n. HasLeft (lane_at n frames) (length frames) (taken_from all_answers_now) before new) (sym takes.count)
-          (on.cut (lane_at (length all_answers_mid) frames) (length frames) before s.all_answers_are.sent_are (come.leaves begins before p r l))
+      pub awaited_cut : CutAll a.all_answers.items b.all_answers.items a.waiting old new → (begins : List (Worker L)) (frames : List Captured) (before : Option (List ℕ))
+          → HasSent g script begins frames a → LeavesSo frames a before old → IsLeftSo frames b before new
+      awaited_cut on begins frames before s l =
+          subst (λ n. HasLeft (lane_at n frames) (length frames) (taken_from b.all_answers.items) before new) (sym takes.count)
+          (on.cut (lane_at (length a.all_answers.items) frames) (length frames) before s.all_answers_are.sent_are l)
 
-      -- a packet was sent
-      pub come_sent : (n : ℕ) (frame : Captured) → length frames ≡ n
-          → ((begins : List (Worker L)) (fs : List Captured) → length fs ≡ n → AreInputs g script begins fs inputs_mid → AreLaneAnswers begins fs all_answers_mid
-          → AreInputs g script begins (fs ++ frame ∷ []) inputs_now × AreLaneAnswers begins (fs ++ frame ∷ []) all_answers_now)
-          → ((begins : List (Worker L)) (fs : List Captured) (before : Option (List ℕ)) → length fs ≡ n → AreInputs g script begins fs inputs_mid → AreLaneAnswers begins fs all_answers_mid
-          → Leaves (lane_at (length all_answers_mid) fs) n (taken_from all_answers_mid) v before mid
-          → Leaves (lane_at (length all_answers_now) (fs ++ frame ∷ [])) (n + 1) (taken_from all_answers_now) u before new)
-          → HasCome g script inputs all_answers w old (frames ++ frame ∷ []) inputs_now all_answers_now u new
-      come_sent n frame count sends on = record {
-        sent = λ begins p r.
-            let s = come.sent begins p r in
-            let t = sends begins frames count s.inputs_are s.all_answers_are in
-            record { inputs_are = t.0; all_answers_are = t.1 };
-        leaves = λ begins before p r l.
-            let s = come.sent begins p r in
-            subst (λ m. Leaves (lane_at (length all_answers_now) (frames ++ frame ∷ [])) m (taken_from all_answers_now) u before new) (sym (length_push frames frame ∙ ap (λ m. m + 1) count))
-            (on begins frames before count s.inputs_are s.all_answers_are
-            (subst (λ m. Leaves (lane_at (length all_answers_mid) frames) m (taken_from all_answers_mid) v before mid) count (come.leaves begins before p r l)));
+      -- and then one packet was
+      pub awaited_went : (d : Dealing L) (more : List Captured) → LeaveAll a.all_answers.items b.all_answers.items a.waiting b.waiting old new → WentOn g script b d new new more
+          → WentOn g script a d old new more
+      awaited_went d more on went = record {
+        sent = λ begins frames s. went.sent begins frames (awaited_sent begins frames s);
+        leaves = λ begins frames before s l. went.leaves begins frames before (awaited_sent begins frames s) (awaited_leaves on begins frames before s l);
       }
 
 -- ---- how it stops
@@ -196,53 +182,36 @@ stops_refused frames start old new NoMemory reads = tt
 pub same_refusal : {T : Type 0} (a b : PoolError) (r : Result T PoolError) → r ≡ Err a → r ≡ Err b → a ≡ b
 same_refusal a b r one two = cc
 
-module _ {L : Type 0} (g : Ghosts L) (script : List Stamped) (inputs : List (LaneInput L)) (all_answers : List LaneAnswers) (w : Waiting) (out : Option (List ℕ)) (frames : List Captured)
-    (few : length frames ≤ 1048576)
-    (start now : CaptureState) (old left new : Option (List ℕ)) (reads : (bytes : List ℕ) → old ≡ Some bytes → IsReadTo start bytes frames now left)
-    (begins : List (Worker L)) (before : Option (List ℕ)) (p : AreInputs g script begins [] inputs) (r : AreLaneAnswers begins [] all_answers)
-    (l : Leaves (lane_at (length all_answers) []) 0 (taken_from all_answers) w before out) where
-  -- what is told of a run that has come to these frames and stops
-  abbrev pub Told : List (LaneInput L) → List LaneAnswers → Waiting → Option (List ℕ) → Result Whole PoolError → Type 0
-  Told inputs_now all_answers_now v after result = Dealt g script begins inputs_now (λ fs. Streamed begins fs all_answers_now v start old new before after result)
-
-  -- all that was taken and whose turn it was has left
-  pub told_whole : (inputs_now : List (LaneInput L)) (all_answers_now : List LaneAnswers) (v : Waiting) (after : Option (List ℕ)) (result : Result Whole PoolError)
-      → HasCome g script inputs all_answers w out frames inputs_now all_answers_now v after → StopsAs frames start old new result → Told inputs_now all_answers_now v after result
-  told_whole inputs_now all_answers_now v after result come stops =
-      let s = come.sent begins p r in
-      let whole = come.leaves begins before p r l in
-      record {
-        frames = frames;
-        few = few;
-        inputs_are = s.inputs_are;
-        done = record {
-          all_answers_are = s.all_answers_are;
-          left = left_whole (lane_at (length all_answers_now) frames) (length frames) (taken_from all_answers_now) v before after whole;
-          leaves = λ not. whole;
-          front = λ bytes is. front_of start now bytes frames left (reads bytes is);
-          stops = stops;
-        };
-      }
+module _ {L : Type 0} (g : Ghosts L) (script : List Stamped) (begins : List (Worker L)) (frames : List Captured) (few : length frames ≤ 1048576) (start now : CaptureState)
+    (first left last before : Option (List ℕ)) (reads : (bytes : List ℕ) → first ≡ Some bytes → IsReadTo start bytes frames now left) (d : Dealing L) (out : Option (List ℕ))
+    (s : HasSent g script begins frames d) where
+  -- what is told of a run that stops: all that was taken and whose turn it was has left
+  pub told_whole : (result : Result Whole PoolError) → LeavesSo frames d before out → StopsAs frames start first last result → Told g script start first last begins d before out result
+  told_whole result whole stops = record {
+    frames = frames;
+    few = few;
+    inputs_are = s.inputs_are;
+    done = record {
+      all_answers_are = s.all_answers_are;
+      left = left_whole (lane_at (length d.all_answers.items) frames) (length frames) (taken_from d.all_answers.items) d.waiting before out whole;
+      leaves = λ not. whole;
+      front = λ bytes is. front_of start now bytes frames left (reads bytes is);
+      stops = stops;
+    };
+  }
 
   -- while a place was awaited
-  pub told_early : (inputs_mid inputs_now : List (LaneInput L)) (all_answers_mid all_answers_now : List LaneAnswers) (v u : Waiting) (mid after : Option (List ℕ)) (e : PoolError)
-      → HasCome g script inputs all_answers w out frames inputs_mid all_answers_mid v mid
-      → ((bs : List (Worker L)) (fs : List Captured) → AreInputs g script bs fs inputs_mid → AreInputs g script bs fs inputs_now)
-      → HaveTaken all_answers_mid all_answers_now → (e ≢ WriteFault → LeaveAll all_answers_mid all_answers_now v u mid after) → CutAll all_answers_mid all_answers_now v mid after
-      → (e ≡ WriteFault) ⊎ (e ≡ OutOfMemory) → Told inputs_now all_answers_now u after (Err e)
-  told_early inputs_mid inputs_now all_answers_mid all_answers_now v u mid after e come still takes whole cut only =
-      let s = come.sent begins p r in
-      record {
-        frames = frames;
-        few = few;
-        inputs_are = still begins frames s.inputs_are;
-        done = record {
-          all_answers_are = all_answers_after begins frames all_answers_mid all_answers_now takes s.all_answers_are;
-          left = come_cut g script inputs all_answers w out frames inputs_mid inputs_now all_answers_mid all_answers_now v u mid after come begins before takes cut p r l;
-          leaves = λ not.
-              (come_on g script inputs all_answers w out frames inputs_mid inputs_now all_answers_mid all_answers_now v u mid after come still takes
-              (whole (λ is. not (ap (λ x. Err x) is)))).leaves begins before p r l;
-          front = λ bytes is. front_of start now bytes frames left (reads bytes is);
-          stops = stops_early frames start old new e only;
-        };
-      }
+  pub told_early : (e : PoolError) → (e ≢ WriteFault → LeavesSo frames d before out) → IsLeftSo frames d before out → (e ≡ WriteFault) ⊎ (e ≡ OutOfMemory)
+      → Told g script start first last begins d before out (Err e)
+  told_early e whole cut only = record {
+    frames = frames;
+    few = few;
+    inputs_are = s.inputs_are;
+    done = record {
+      all_answers_are = s.all_answers_are;
+      left = cut;
+      leaves = λ not. whole (λ is. not (ap (λ x. Err x) is));
+      front = λ bytes is. front_of start now bytes frames left (reads bytes is);
+      stops = stops_early frames start first last e only;
+    };
+  }

@@ -1,3 +1,5 @@
 pub mod Streamed
 pub mod Drained
 pub mod TakenAnswers
+pub mod OnTheirWay
+pub mod Turns

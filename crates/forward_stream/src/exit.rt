@@ -1,6 +1,6 @@
 //! Where packets leave: what was answered is written in the order of the capture.
 
-ghost use Rattle.std.specs.Prelude.{◌≡◌, ◌<◌, None, true, false, IfOk, IfErr, OnOk};
+ghost use Rattle.std.specs.Prelude.{◌≡◌, ◌<◌, ◌≤◌, length, None, true, false, IfOk, IfErr, OnOk};
 ghost use Rattle.std.specs.Io.KnownBytes.{Keeps};
 ghost use Rattle.mos_bytes.specs.Causes.{HasCause};
 ghost use Rattle.mos_bytes.specs.Writes.{WriteAdds};
@@ -35,6 +35,8 @@ fn write_first<O: Sink>(
     spare: &mut Vec<Frame>,
 ) -> Result<bool, Failed>
     ensures leaves { OnOk result (LeavesOn waiting.old waiting.new (O.taken out.old) (O.taken out.new)) }
+    ensures places { length waiting.new.window ≡ length waiting.old.window }
+    ensures later { waiting.old.next ≤ waiting.new.next }
     ensures fewer { IfOk result (λ more. more ≡ true → held waiting.new.window < held waiting.old.window) }
     ensures none { IfOk result (λ more. more ≡ false → first_of waiting.new ≡ None) }
     ensures cut { IfErr result (λ _. IsCutShort waiting.old (O.taken out.old) (O.taken out.new)) }
@@ -59,6 +61,8 @@ pub fn write_ready<O: Sink>(
     spare: &mut Vec<Frame>,
 ) -> Result<(), Failed>
     ensures leaves { OnOk result (LeavesOn waiting.old waiting.new (O.taken out.old) (O.taken out.new)) }
+    ensures places { length waiting.new.window ≡ length waiting.old.window }
+    ensures later { waiting.old.next ≤ waiting.new.next }
     ensures none { OnOk result (first_of waiting.new ≡ None) }
     ensures cut { IfErr result (λ _. IsCutShort waiting.old (O.taken out.old) (O.taken out.new)) }
     ensures cause { HasCause (O.faults out.old) (O.faults out.new) result }

@@ -22,7 +22,9 @@ pub struct LaneAnswers {
 
 /// Offers an answer. One that comes back is let go: where all answers are right there is none.
 pub(crate) fn offer(waiting: &mut Resequencer, answer: Answer)
-    ensures { (s : Leaving) → s.waiting ≡ waiting.old → (offered answer s).waiting ≡ waiting.new }
+    ensures offered { (s : Leaving) → s.waiting ≡ waiting.old → (offered answer s).waiting ≡ waiting.new }
+    ensures next { waiting.new.next ≡ waiting.old.next }
+    ensures places { length waiting.new.window ≡ length waiting.old.window }
 {
     let _ = waiting.offer(answer);
 }
@@ -33,6 +35,8 @@ fn take_shown(lane_answers: &mut LaneAnswers, waiting: &mut Resequencer) -> bool
     requires counted { IsCounted lane_answers.old }
     ensures takes { HasTaken lane_answers.old lane_answers.new }
     ensures offers { Offers lane_answers.old lane_answers.new waiting.old waiting.new }
+    ensures next { waiting.new.next ≡ waiting.old.next }
+    ensures places { length waiting.new.window ≡ length waiting.old.window }
 {
     taking_stays_right();
     let before = lane_answers.taken;
@@ -56,6 +60,8 @@ pub(crate) fn take_answers(
     requires counted { AreCounted all_answers.old.items }
     ensures takes { HaveTaken all_answers.old.items all_answers.new.items }
     ensures offers { OfferAll all_answers.old.items all_answers.new.items waiting.old waiting.new }
+    ensures next { waiting.new.next ≡ waiting.old.next }
+    ensures places { length waiting.new.window ≡ length waiting.old.window }
 {
     take_shown(&mut all_answers[lane], waiting)
 }
@@ -65,6 +71,8 @@ pub(crate) fn take_all(all_answers: &mut Vec<LaneAnswers>, waiting: &mut Reseque
     requires counted { AreCounted all_answers.old.items }
     ensures takes { HaveTaken all_answers.old.items all_answers.new.items }
     ensures offers { OfferAll all_answers.old.items all_answers.new.items waiting.old waiting.new }
+    ensures next { waiting.new.next ≡ waiting.old.next }
+    ensures places { length waiting.new.window ≡ length waiting.old.window }
 {
     let mut took = false;
     for lane in 0..all_answers.len() {

@@ -7,13 +7,11 @@ ghost use Rattle.control_script.specs.Order.{commands_of};
 ghost use Rattle.lane_rings.specs.Ring.{sent, taken, AreEnds, SameTx};
 ghost use Rattle.lane_worker.specs.Worked.{MayWork, Worked};
 
+use crate::context::WorkerContext;
 use crate::gate::Gate;
-use crate::worker::{Worker, work};
-use control_script::Script;
+use crate::worker::{Worker, work_in};
 use lane_core::Recorder;
 use lane_rings::PacketTx;
-use native_filters::NativeBook;
-use std::alloc::Global;
 use std::sync::Wait;
 use std::sync::atomic::AtomicBool;
 
@@ -22,20 +20,15 @@ use std::sync::atomic::AtomicBool;
 ///
 /// It waits for the places that a packet needs, so all commands have to be told of before.
 pub fn work_off<R: Wait, L: Recorder + Drop, G: Gate>(
-    rt: &R,
-    alloc: Global,
+    context: &WorkerContext<'_, R, G>,
     w: Worker<L>,
     packets: &mut PacketTx,
-    script: &Script,
-    natives: &NativeBook,
-    gate: &G,
-    failed: &AtomicBool,
 ) -> Worker<L>
     requires ends { AreEnds packets.old w.packets }
-    requires ready { MayWork L.Recorder (commands_of script.now) w }
-    requires lawful { IsTrue (are_lawful (start (L.app w.lane).presets) (commands_of script.now)) }
-    ensures worked { Worked L.Recorder (commands_of script.now) w result }
-    ensures ready { MayWork L.Recorder (commands_of script.now) result }
+    requires ready { MayWork L.Recorder (commands_of context.now.script.now) w }
+    requires lawful { IsTrue (are_lawful (start (L.app w.lane).presets) (commands_of context.now.script.now)) }
+    ensures worked { Worked L.Recorder (commands_of context.now.script.now) w result }
+    ensures ready { MayWork L.Recorder (commands_of context.now.script.now) result }
     ensures ends { AreEnds packets.new result.packets }
     ensures ring { SameTx packets.old packets.new }
     ensures sent { sent packets.new ≡ sent packets.old }
@@ -43,11 +36,11 @@ pub fn work_off<R: Wait, L: Recorder + Drop, G: Gate>(
 {
     let stop = AtomicBool::new(true);
     let mut w = w;
-    for _ in rt.forever() {
+    for _ in context.rt.forever() {
         if w.packets.beside(packets) == 0 {
             return w;
         }
-        w = work(rt, alloc, w, script, natives, gate, &stop, failed);
+        w = work_in(context, w, &stop);
     }
     unreachable!()
 }

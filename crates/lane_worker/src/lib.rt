@@ -7,6 +7,7 @@
 #![tactic(auto)]
 
 mod backoff;
+mod context;
 mod ends;
 mod gate;
 mod left;
@@ -15,6 +16,7 @@ mod turn;
 mod worker;
 
 pub use backoff::Backoff;
+pub use context::WorkerContext;
 pub use gate::{Gate, OpenGate};
 pub use left::work_off;
-pub use worker::{Worker, take_turn, work};
+pub use worker::{Worker, take_turn, work, work_in};

@@ -7,14 +7,13 @@ ghost use Rattle.control_script.specs.Order.{commands_of};
 ghost use Rattle.lane_worker.specs.Steps.{fits, is_behind};
 ghost use Rattle.lane_worker.specs.Turning.{IsUnder, Turned};
 
+use crate::context::WorkerContext;
 use crate::places::take_places;
 use app_api::Verdict;
 use control_script::Script;
 use lane_core::{LaneError, Recorder};
 use lane_rings::{CommandRx, Packet};
-use native_filters::NativeBook;
 use pcap_source::RECORD_LIMIT;
-use std::alloc::Global;
 use std::sync::Wait;
 
 // Whether an index is above that of the lane's last packet.
@@ -40,28 +39,25 @@ pub(crate) fn is_fit<L: Recorder>(lane: &L, script: &Script, packet: &Packet) ->
 }
 
 /// Takes the places for a packet that fits, and hands it to the lane. An error is the lane's.
-pub(crate) fn hand_over<R: Wait, L: Recorder>(
-    rt: &R,
-    alloc: Global,
+pub(crate) fn hand_over<R: Wait, L: Recorder, G>(
+    context: &WorkerContext<'_, R, G>,
     lane: &mut L,
     commands: &mut CommandRx,
     packet: &Packet,
-    script: &Script,
-    natives: &NativeBook,
 ) -> Result<Verdict, LaneError>
     requires good { L.failed lane.old ≡ None }
-    requires lawful { IsTrue (are_lawful (start (L.app lane.old).presets) (commands_of script.now)) }
-    requires under { IsUnder L.Recorder (commands_of script.now) lane.old }
-    requires fits { fits (length (commands_of script.now)) (L.last lane.old) (L.given lane.old) packet.now ≡ true }
+    requires lawful { IsTrue (are_lawful (start (L.app lane.old).presets) (commands_of context.now.script.now)) }
+    requires under { IsUnder L.Recorder (commands_of context.now.script.now) lane.old }
+    requires fits { fits (length (commands_of context.now.script.now)) (L.last lane.old) (L.given lane.old) packet.now ≡ true }
     requires few { packet.now.ceil ≤ 4096 }
     ensures turned { Turned L.Recorder
-        (commands_of script.now) lane.old lane.new commands.old commands.new packet.now result }
+        (commands_of context.now.script.now) lane.old lane.new commands.old commands.new packet.now result }
     ensures ok { OnOk result (L.failed lane.new ≡ None) }
-    ensures under { OnOk result (IsUnder L.Recorder (commands_of script.now) lane.new) }
+    ensures under { OnOk result (IsUnder L.Recorder (commands_of context.now.script.now) lane.new) }
     ensures fails { IfErr result (λ e. L.failed lane.new ≡ Some e) }
     ensures app { L.app lane.new ≡ L.app lane.old }
     ensures keeps { L.keeps lane.new ≡ L.keeps lane.old }
 {
-    take_places(rt, alloc, lane, commands, script, packet.floor, packet.ceil)?;
-    lane.packet(alloc, packet.index, &packet.frame, natives)
+    take_places(context, lane, commands, packet.floor, packet.ceil)?;
+    lane.packet(context.alloc, packet.index, &packet.frame, context.natives)
 }

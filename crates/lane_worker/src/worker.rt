@@ -10,6 +10,7 @@ ghost use Rattle.lane_worker.specs.Worked.{MayWork, IsReady, Worked};
 ghost use Rattle.lane_worker.specs.Turning.{TookUp};
 
 use crate::backoff::Backoff;
+use crate::context::WorkerContext;
 use crate::ends::{send_answer, take_from};
 use crate::gate::Gate;
 use crate::turn::{hand_over, is_fit};
@@ -64,15 +65,38 @@ pub fn work<R: Wait, L: Recorder + Drop, G: Gate>(
     ensures ready { MayWork L.Recorder (commands_of script.now) result }
     ensures emptied { known result.packets ≡ [] }
 {
+    let context = WorkerContext {
+        rt,
+        alloc,
+        script,
+        natives,
+        gate,
+        failed,
+    };
+    work_in(&context, w, stop)
+}
+
+/// Works as `work` does, in a context that is shared.
+pub fn work_in<R: Wait, L: Recorder + Drop, G: Gate>(
+    context: &WorkerContext<'_, R, G>,
+    w: Worker<L>,
+    stop: &AtomicBool,
+) -> Worker<L>
+    requires ready { MayWork L.Recorder (commands_of context.now.script.now) w }
+    requires lawful { IsTrue (are_lawful (start (L.app w.lane).presets) (commands_of context.now.script.now)) }
+    ensures worked { Worked L.Recorder (commands_of context.now.script.now) w result }
+    ensures ready { MayWork L.Recorder (commands_of context.now.script.now) result }
+    ensures emptied { known result.packets ≡ [] }
+{
     let mut w = w;
     let mut backoff = backoff_of(&w);
-    for _ in rt.forever() {
+    for _ in context.rt.forever() {
         let stopped = stop.load(Ordering::SeqCst);
-        let found = take_turn(rt, alloc, &mut w, script, natives, gate, failed);
+        let found = take_turn(context, &mut w);
         if stopped && !found {
             return w;
         }
-        backoff.looked(rt, found);
+        backoff.looked(context.rt, found);
     }
     unreachable!()
 }
@@ -89,23 +113,18 @@ fn backoff_of<L: Recorder + Drop>(w: &Worker<L>) -> Backoff {
 /// Takes a packet out of the ring, and makes of it what the lane can, as `work` does. False where the ring shows none. It
 /// waits for the places that the packet needs, and for room in the answer ring.
 pub fn take_turn<R: Wait, L: Recorder + Drop, G: Gate>(
-    rt: &R,
-    alloc: Global,
+    context: &WorkerContext<'_, R, G>,
     w: &mut Worker<L>,
-    script: &Script,
-    natives: &NativeBook,
-    gate: &G,
-    failed: &AtomicBool,
 ) -> bool
-    requires ready { MayWork L.Recorder (commands_of script.now) w.old }
-    requires lawful { IsTrue (are_lawful (start (L.app w.old.lane).presets) (commands_of script.now)) }
-    ensures worked { Worked L.Recorder (commands_of script.now) w.old w.new }
-    ensures ready { MayWork L.Recorder (commands_of script.now) w.new }
+    requires ready { MayWork L.Recorder (commands_of context.now.script.now) w.old }
+    requires lawful { IsTrue (are_lawful (start (L.app w.old.lane).presets) (commands_of context.now.script.now)) }
+    ensures worked { Worked L.Recorder (commands_of context.now.script.now) w.old w.new }
+    ensures ready { MayWork L.Recorder (commands_of context.now.script.now) w.new }
     ensures none { result ≡ false → known w.new.packets ≡ [] }
 {
     match take_from(&mut w.packets) {
         Some(packet) => {
-            take_up(rt, alloc, w, packet, script, natives, gate, failed);
+            take_up(context, w, packet);
             true
         }
         None => false,
@@ -114,60 +133,43 @@ pub fn take_turn<R: Wait, L: Recorder + Drop, G: Gate>(
 
 // Makes of a packet what the lane can.
 fn take_up<R: Wait, L: Recorder + Drop, G: Gate>(
-    rt: &R,
-    alloc: Global,
+    context: &WorkerContext<'_, R, G>,
     w: &mut Worker<L>,
     packet: Packet,
-    script: &Script,
-    natives: &NativeBook,
-    gate: &G,
-    failed: &AtomicBool,
 )
-    requires ready { MayWork L.Recorder (commands_of script.now) w.old }
-    requires lawful { IsTrue (are_lawful (start (L.app w.old.lane).presets) (commands_of script.now)) }
-    ensures taken_up { TookUp L.Recorder (commands_of script.now) w.old w.new packet }
-    ensures ready { MayWork L.Recorder (commands_of script.now) w.new }
+    requires ready { MayWork L.Recorder (commands_of context.now.script.now) w.old }
+    requires lawful { IsTrue (are_lawful (start (L.app w.old.lane).presets) (commands_of context.now.script.now)) }
+    ensures taken_up { TookUp L.Recorder (commands_of context.now.script.now) w.old w.new packet }
+    ensures ready { MayWork L.Recorder (commands_of context.now.script.now) w.new }
 {
     if w.lane.has_failed() {
         take_from(&mut w.commands);
         return;
     }
-    if !is_fit(&w.lane, script, &packet) {
+    if !is_fit(&w.lane, context.script, &packet) {
         return;
     }
-    decide_packet(rt, alloc, w, packet, script, natives, gate, failed);
+    decide_packet(context, w, packet);
 }
 
 // Has the lane decide a packet that fits, and sends the answer or gives the packet back.
 fn decide_packet<R: Wait, L: Recorder + Drop, G: Gate>(
-    rt: &R,
-    alloc: Global,
+    context: &WorkerContext<'_, R, G>,
     w: &mut Worker<L>,
     packet: Packet,
-    script: &Script,
-    natives: &NativeBook,
-    gate: &G,
-    failed: &AtomicBool,
 )
     requires good { L.failed w.old.lane ≡ None }
-    requires ready { IsReady L.Recorder (commands_of script.now) w.old.lane w.old.commands }
-    requires lawful { IsTrue (are_lawful (start (L.app w.old.lane).presets) (commands_of script.now)) }
-    requires fits { fits (length (commands_of script.now)) (L.last w.old.lane) (L.given w.old.lane) packet ≡ true }
+    requires ready { IsReady L.Recorder (commands_of context.now.script.now) w.old.lane w.old.commands }
+    requires lawful { IsTrue (are_lawful (start (L.app w.old.lane).presets) (commands_of context.now.script.now)) }
+    requires fits { fits (length (commands_of context.now.script.now)) (L.last w.old.lane) (L.given w.old.lane)
+        packet ≡ true }
     requires few { packet.ceil ≤ 4096 }
-    ensures taken_up { TookUp L.Recorder (commands_of script.now) w.old w.new packet }
-    ensures ready { MayWork L.Recorder (commands_of script.now) w.new }
+    ensures taken_up { TookUp L.Recorder (commands_of context.now.script.now) w.old w.new packet }
+    ensures ready { MayWork L.Recorder (commands_of context.now.script.now) w.new }
 {
-    gate.pause(w.number, packet.index);
-    match hand_over(
-        rt,
-        alloc,
-        &mut w.lane,
-        &mut w.commands,
-        &packet,
-        script,
-        natives,
-    ) {
-        Ok(verdict) => send_answer(rt, &mut w.answers, &mut w.used, packet, verdict),
-        Err(_) => failed.store(true, Ordering::SeqCst),
+    context.gate.pause(w.number, packet.index);
+    match hand_over(context, &mut w.lane, &mut w.commands, &packet) {
+        Ok(verdict) => send_answer(context.rt, &mut w.answers, &mut w.used, packet, verdict),
+        Err(_) => context.failed.store(true, Ordering::SeqCst),
     }
 }

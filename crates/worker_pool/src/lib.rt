@@ -14,6 +14,6 @@ pub mod team;
 pub mod versions;
 
 pub use job::{Job, KeptLanes, LanesEnd, PoolError};
-pub use lane_worker::{Gate, OpenGate};
+pub use lane_worker::{Gate, OpenGate, WorkerContext};
 pub use report::lanes::{run_lanes, run_lanes_kept};
 pub use versions::VersionList;

@@ -11,7 +11,7 @@ ghost use Rattle.worker_pool.specs.AtWork.{CanRun, MayStart, Served};
 ghost use Rattle.worker_pool.specs.Inputs.{IsPlaced};
 
 use crate::job::PoolError;
-use crate::team::context::{WorkerContext, WorkerRunner};
+use crate::team::context::WorkerRunner;
 use crate::team::control::publish;
 use crate::team::dispatch::Whole;
 use crate::team::feed::Feed;
@@ -21,7 +21,7 @@ use crate::team::worker_place::{WorkerPlace, Works, start_work};
 use control_script::Script;
 use lane_core::Recorder;
 use lane_rings::{CommandTx, PacketTx};
-use lane_worker::{Gate, Worker};
+use lane_worker::{Gate, Worker, WorkerContext};
 use native_filters::NativeBook;
 use std::alloc::{AllocError, Global};
 use std::collections::VecDeque;
@@ -150,13 +150,13 @@ fn run_threads<
     back: Vec<Worker<L>>,
     stops: &'c [AtomicBool],
     failed: &'c AtomicBool,
-    context: &'c D,
+    runner: &'c D,
     script: &'c Script,
     natives: &'c NativeBook,
     gate: &'c G,
     feed: &'c mut E,
 ) -> (Result<Whole, PoolError>, Vec<Worker<L>>, &'c mut E)
-    requires starts { MayStart L.Recorder script.now (D.commands context.now)
+    requires starts { MayStart L.Recorder script.now (D.commands runner.now)
         (E.script feed.old) team.workers.items team.packets.items inputs.items (vec_capacity inputs) back.items
         (vec_capacity back) (length stops.now) }
     requires may { E.may feed.old team.workers.items }
@@ -176,7 +176,7 @@ fn run_threads<
         move |scope| -> (Result<Whole, PoolError>, Vec<Worker<L>>, &mut E)
             requires duty_shared { IsSync D.row }
             requires gate_shared { IsSync G.row }
-            requires starts { MayStart L.Recorder script.now (D.commands context.now)
+            requires starts { MayStart L.Recorder script.now (D.commands runner.now)
                 (E.script feed.now) workers.items packets.items inputs.items (vec_capacity inputs) back.items
                 (vec_capacity back) (length stops.now) }
             requires may { E.may feed.now workers.items }
@@ -191,45 +191,56 @@ fn run_threads<
             for stop in stops {
                 let w = take_first(&mut workers);
                 let packets = take_first(&mut packets);
-                let place = take_on(scope, context, script, stop, w);
+                let place = take_on(scope, runner, script, stop, w);
                 inputs.push_reserved(LaneInput { packets, place });
             }
             let read = feed.send_packets(&mut inputs);
             raise_all(stops);
             join_control(rt, control);
-            let workers = finish_all(rt, alloc, inputs, back, script, natives, gate, failed);
+            let context = WorkerContext {
+                rt,
+                alloc,
+                script,
+                natives,
+                gate,
+                failed,
+            };
+            let workers = finish_all(&context, inputs, back);
             (read, workers, feed)
         },
     )
 }
 
-// The same, with the feed lent, and what the workers share made here.
+// The same, with the feed lent.
 fn run_lent_feed<
     R: Threads + Wait + Sync + Send + Copy + Drop + 'static,
     L: Recorder + Drop + Send,
     E: Feed<L>,
     G: Gate + Sync,
 >(
-    rt: &R,
-    alloc: Global,
+    context: &WorkerContext<'_, R, G>,
     team: Team<L>,
     inputs: Vec<LaneInput<L>>,
     back: Vec<Worker<L>>,
     stops: &[AtomicBool],
-    script: &Script,
-    natives: &NativeBook,
-    gate: &G,
-    failed: &AtomicBool,
     feed: &mut E,
 ) -> (Result<Whole, PoolError>, Vec<Worker<L>>)
-    requires starts { MayStart L.Recorder script.now (commands_of script.now)
+    requires starts { MayStart L.Recorder context.now.script.now (commands_of context.now.script.now)
         (E.script feed.old) team.workers.items team.packets.items inputs.items (vec_capacity inputs) back.items
         (vec_capacity back) (length stops.now) }
     requires may { E.may feed.old team.workers.items }
-    ensures served { Served L.Recorder script.now team.workers.items result.1.items
+    ensures served { Served L.Recorder context.now.script.now team.workers.items result.1.items
         (λ frames. E.did feed.old feed.new team.workers.items frames result.0) }
 {
-    let context = WorkerContext {
+    let WorkerContext {
+        rt,
+        alloc,
+        script,
+        natives,
+        gate,
+        failed,
+    } = *context;
+    let runner = WorkerContext {
         rt,
         alloc,
         script,
@@ -238,7 +249,7 @@ fn run_lent_feed<
         failed,
     };
     let (read, workers, _feed) = run_threads(
-        rt, alloc, team, inputs, back, stops, failed, &context, script, natives, gate, feed,
+        rt, alloc, team, inputs, back, stops, failed, &runner, script, natives, gate, feed,
     );
     (read, workers)
 }
@@ -247,35 +258,29 @@ fn run_lent_feed<
 /// script's commands is told to all. Answers what the feed ended with, and the workers. A lane for which no thread
 /// can be started is run in this one, and where the thread of the commands can't be started, they are told first.
 ///
-/// An error is want of memory, before the feed has begun; it is as it was then. `failed` is raised where a lane
-/// fails.
+/// An error is want of memory, before the feed has begun; it is as it was then. The context's `failed` is raised where a
+/// lane fails.
 pub fn run_team<
     R: Threads + Wait + Sync + Send + Copy + Drop + 'static,
     L: Recorder + Drop + Send,
     E: Feed<L>,
     G: Gate + Sync,
 >(
-    rt: &R,
-    alloc: Global,
+    context: &WorkerContext<'_, R, G>,
     team: Team<L>,
-    script: &Script,
-    natives: &NativeBook,
-    gate: &G,
-    failed: &AtomicBool,
     feed: &mut E,
 ) -> Result<(Result<Whole, PoolError>, Vec<Worker<L>>), AllocError>
-    requires script { E.script feed.old ≡ script.now }
-    requires team { CanRun L.Recorder script.now team.workers.items team.packets.items }
+    requires script { E.script feed.old ≡ context.now.script.now }
+    requires team { CanRun L.Recorder context.now.script.now team.workers.items team.packets.items }
     requires may { E.may feed.old team.workers.items }
-    ensures served { IfOk result (λ r. Served L.Recorder script.now team.workers.items r.1.items
+    ensures served { IfOk result (λ r. Served L.Recorder context.now.script.now team.workers.items r.1.items
         (λ frames. E.did feed.old feed.new team.workers.items frames r.0)) }
     ensures unchanged { IfErr result (λ _. feed.new ≡ feed.old) }
 {
+    let alloc = context.alloc;
     let count = team.workers.len();
     let inputs = Vec::with_capacity(alloc, count)?;
     let back = Vec::with_capacity(alloc, count)?;
     let stops = lowered_flags(alloc, count)?;
-    Ok(run_lent_feed(
-        rt, alloc, team, inputs, back, &stops, script, natives, gate, failed, feed,
-    ))
+    Ok(run_lent_feed(context, team, inputs, back, &stops, feed))
 }

@@ -19,13 +19,11 @@ use crate::job::{KeptLanes, PoolError};
 use crate::team::Ran;
 use crate::team::ends::{ends_of, lanes_have_come};
 use crate::versions::versions_of;
-use control_script::Script;
 use flow_timers::Moment;
 use lane_core::Reporter;
 use lane_core::limits::WEIGHT as WEIGHT_LIMIT;
 use lane_ends::{Joined, join};
-use lane_worker::Worker;
-use native_filters::NativeBook;
+use lane_worker::{Worker, WorkerContext};
 use report_text::Totals;
 use std::alloc::Global;
 use std::thread::Threads;
@@ -35,27 +33,24 @@ use worker_laws::runs::{
 };
 
 // What all lanes end with, as one.
-fn joined_of<R: Threads + Sync, L: Reporter + Drop + Send>(
-    rt: &R,
-    alloc: Global,
-    script: &Script,
+fn joined_of<R: Threads + Sync, L: Reporter + Drop + Send, G>(
+    context: &WorkerContext<'_, R, G>,
     workers: Vec<Worker<L>>,
     last: Option<Moment>,
-    natives: &NativeBook,
 ) -> Result<Joined, PoolError>
     ensures joined { (keep : Bool) (app : Meaning) (frames : List Captured) (begins : List (Begun L))
         (packets : List (RingTx Packet))
         → length frames ≤ 1048576 → last ≡ greatest (arrivals 0 frames)
         → IsTeam L.Recorder app begins packets → AllKeep L.Recorder keep begins
-        → HaveServed L.Recorder script.now begins frames workers.items
-        → IsJoinedRun app script.now (length begins) frames keep result }
+        → HaveServed L.Recorder context.now.script.now begins frames workers.items
+        → IsJoinedRun app context.now.script.now (length begins) frames keep result }
 {
-    lanes_have_come(script, workers.as_slice());
+    lanes_have_come(context.script, workers.as_slice());
     packets_of_a_capture_rise();
     lanes_are_one_run();
     a_heavy_lane_makes_a_heavy_run();
-    let ends = ends_of(rt, alloc, workers, last, natives)?;
-    Ok(join(alloc, ends)?)
+    let ends = ends_of(context.rt, context.alloc, workers, last, context.natives)?;
+    Ok(join(context.alloc, ends)?)
 }
 
 // Whether the callbacks of all records weigh more than a report may.
@@ -96,20 +91,17 @@ fn whole_of(alloc: Global, joined: Joined, packets: u64, tail: u32) -> Result<Ke
 }
 
 /// The end of a run whose workers have served a whole capture.
-pub(crate) fn conclude<R: Threads + Sync, L: Reporter + Drop + Send>(
-    rt: &R,
-    alloc: Global,
-    script: &Script,
+pub(crate) fn conclude<R: Threads + Sync, L: Reporter + Drop + Send, G>(
+    context: &WorkerContext<'_, R, G>,
     ran: Ran<L>,
-    natives: &NativeBook,
 ) -> Result<KeptLanes, PoolError>
     ensures ends { (app : Meaning) (frames : List Captured) (begins : List (Begun L)) (packets : List (RingTx Packet))
         → length frames ≡ ran.whole.packets → length frames ≤ 1048576 → ran.whole.last ≡ greatest (arrivals 0 frames)
         → IsTeam L.Recorder app begins packets → AllKeep L.Recorder true begins
-        → HaveServed L.Recorder script.now begins frames ran.workers.items
-        → Concludes app script.now (length begins) frames ran.whole.tail result }
+        → HaveServed L.Recorder context.now.script.now begins frames ran.workers.items
+        → Concludes app context.now.script.now (length begins) frames ran.whole.tail result }
 {
     let Ran { workers, whole } = ran;
-    let joined = joined_of(rt, alloc, script, workers, whole.last, natives)?;
-    whole_of(alloc, joined, whole.packets, whole.tail)
+    let joined = joined_of(context, workers, whole.last)?;
+    whole_of(context.alloc, joined, whole.packets, whole.tail)
 }

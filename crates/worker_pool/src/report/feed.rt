@@ -14,28 +14,18 @@ use crate::team::dispatch::{Whole, dispatch};
 use crate::team::feed::Feed;
 use crate::team::lane_input::LaneInput;
 use crate::team::{Ran, Team, run_team};
-use control_script::Script;
 use lane_core::Recorder;
 use lane_rings::PacketRx;
-use lane_worker::Gate;
+use lane_worker::{Gate, WorkerContext};
 use mos_bytes::Source;
-use native_filters::NativeBook;
 use pcap_source::Capture;
-use std::alloc::Global;
 use std::sync::Wait;
-use std::sync::atomic::AtomicBool;
 use std::thread::Threads;
 
 /// Reads a capture for a report.
 #[derive(Drop)]
 pub(crate) struct ReportFeed<'a, R, S, G> {
-    rt: &'a R,
-    alloc: Global,
-    script: &'a Script,
-    natives: &'a NativeBook,
-    gate: &'a G,
-    /// Raised where a lane fails.
-    failed: &'a AtomicBool,
+    context: &'a WorkerContext<'a, R, G>,
     capture: &'a mut Capture,
     source: &'a mut S,
     /// Through which each lane gives packets back.
@@ -49,7 +39,7 @@ impl<'a, R: Wait, L: Recorder + Drop, S: Source, G: Gate> Feed<L> for ReportFeed
     ghost use Rattle.worker_pool.specs.Source.{ReadsOn};
     ghost use Rattle.worker_pool.specs.Team.{ReadsWhole};
 
-    ghost script = { λ d. d.script.now };
+    ghost script = { λ d. d.context.now.script.now };
 
     ghost may = { λ d begins. Opened d.capture.now };
 
@@ -60,18 +50,7 @@ impl<'a, R: Wait, L: Recorder + Drop, S: Source, G: Gate> Feed<L> for ReportFeed
         × (e.capture.now.is_live ≡ false) };
 
     fn send_packets(&mut self, inputs: &mut Vec<LaneInput<L>>) -> Result<Whole, PoolError> {
-        let whole = dispatch(
-            self.rt,
-            self.alloc,
-            inputs,
-            self.script,
-            self.natives,
-            self.gate,
-            self.failed,
-            self.capture,
-            self.source,
-            self.used,
-        )?;
+        let whole = dispatch(self.context, inputs, self.capture, self.source, self.used)?;
         Ok(whole)
     }
 }
@@ -88,20 +67,16 @@ pub(crate) fn read_team<
     S: Source,
     G: Gate + Sync,
 >(
-    rt: &R,
-    alloc: Global,
+    context: &WorkerContext<'_, R, G>,
     team: Team<L>,
     used: Vec<PacketRx>,
-    script: &Script,
-    natives: &NativeBook,
-    gate: &G,
     capture: &mut Capture,
     source: &mut S,
 ) -> Result<Ran<L>, PoolError>
     requires opened { Opened capture.old }
     requires team { (app : Meaning) × IsTeam L.Recorder app team.workers.items team.packets.items
-        × IsTrue (are_lawful (start app.presets) (commands_of script.now)) }
-    ensures ran { TeamRan L.Recorder script.now team.workers.items capture.old (S.left source.old)
+        × IsTrue (are_lawful (start app.presets) (commands_of context.now.script.now)) }
+    ensures ran { TeamRan L.Recorder context.now.script.now team.workers.items capture.old (S.left source.old)
         (S.left source.new) result }
     ensures light { IfErr result (λ e. e ≢ PoolError.Heavy) }
     ensures reads { ReadsOn S.Source capture.old source.old source.new (IsOk result)
@@ -109,20 +84,14 @@ pub(crate) fn read_team<
     ensures stopped { IsTrue capture.new.is_live
         → (result ≡ Err PoolError.NoMemory) × (capture.new ≡ capture.old) × (source.new ≡ source.old) }
 {
-    let failed = AtomicBool::new(false);
     let mut used = used;
     let mut feed = ReportFeed {
-        rt,
-        alloc,
-        script,
-        natives,
-        gate,
-        failed: &failed,
+        context,
         capture,
         source,
         used: &mut used,
     };
-    let (read, workers) = run_team(rt, alloc, team, script, natives, gate, &failed, &mut feed)?;
+    let (read, workers) = run_team(context, team, &mut feed)?;
     let whole = read?;
     Ok(Ran { workers, whole })
 }

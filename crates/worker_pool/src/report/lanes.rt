@@ -15,12 +15,13 @@ use crate::report::feed::read_team;
 use crate::team::make::make_team;
 use app_api::App;
 use lane_core::records_of;
-use lane_worker::Gate;
+use lane_worker::{Gate, WorkerContext};
 use mos_bytes::Source;
 use native_filters::NativeBook;
 use pcap_source::Capture;
 use std::alloc::Global;
 use std::sync::Wait;
+use std::sync::atomic::AtomicBool;
 use std::thread::Threads;
 
 /// Runs an application over the packets of an opened capture, on several lanes: each has a thread of its own and the
@@ -69,10 +70,17 @@ pub fn run_lanes_kept<
         → (result ≡ Err PoolError.NoMemory) × (capture.new ≡ capture.old) × (source.new ≡ source.old) }
 {
     let (team, used) = make_team(rt, alloc, job)?;
-    let ran = read_team(
-        rt, alloc, team, used, job.script, natives, gate, capture, source,
-    )?;
-    conclude(rt, alloc, job.script, ran, natives)
+    let failed = AtomicBool::new(false);
+    let context = WorkerContext {
+        rt,
+        alloc,
+        script: job.script,
+        natives,
+        gate,
+        failed: &failed,
+    };
+    let ran = read_team(&context, team, used, capture, source)?;
+    conclude(&context, ran)
 }
 
 /// Runs an application over the packets of an opened capture, on several lanes, as [`run_lanes_kept`] does, and answers the

@@ -1,15 +1,12 @@
-//! What workers share, and what the thread of each does.
+//! What the thread of each worker does.
 
 ghost use Rattle.std.specs.Prelude.{◌≡◌, None, IsTrue};
 ghost use Rattle.forest_versions.specs.Lawful.{are_lawful};
 ghost use Rattle.forest_versions.specs.State.{start};
 ghost use Rattle.lane_worker.specs.Worked.{MayWork, WorkedOn};
 
-use control_script::Script;
 use lane_core::Recorder;
-use lane_worker::{Gate, Worker, work};
-use native_filters::NativeBook;
-use std::alloc::Global;
+use lane_worker::{Gate, Worker, WorkerContext, work_in};
 use std::sync::Wait;
 use std::sync::atomic::AtomicBool;
 
@@ -28,18 +25,6 @@ pub(crate) trait WorkerRunner<L: Recorder + Drop> {
         ensures worked { WorkedOn L.Recorder (Self.commands self.now) worker result };
 }
 
-/// What all workers of a run share.
-#[derive(Drop)]
-pub(crate) struct WorkerContext<'a, R, G> {
-    pub(crate) rt: &'a R,
-    pub(crate) alloc: Global,
-    pub(crate) script: &'a Script,
-    pub(crate) natives: &'a NativeBook,
-    pub(crate) gate: &'a G,
-    /// Raised where a lane fails.
-    pub(crate) failed: &'a AtomicBool,
-}
-
 impl<'a, R: Wait, L: Recorder + Drop, G: Gate> WorkerRunner<L> for WorkerContext<'a, R, G> {
     ghost use Rattle.control_script.specs.Order.{commands_of};
 
@@ -50,15 +35,6 @@ impl<'a, R: Wait, L: Recorder + Drop, G: Gate> WorkerRunner<L> for WorkerContext
         requires lawful { IsTrue (are_lawful (start (L.app worker.lane).presets) (commands_of self.now.script.now)) }
         ensures worked { WorkedOn L.Recorder (commands_of self.now.script.now) worker result }
     {
-        work(
-            self.rt,
-            self.alloc,
-            worker,
-            self.script,
-            self.natives,
-            self.gate,
-            stop,
-            self.failed,
-        )
+        work_in(self, worker, stop)
     }
 }

@@ -10,20 +10,17 @@ ghost use Rattle.worker_pool.specs.Inputs.{AreInputs, Dispatched};
 ghost use Rattle.worker_pool.specs.Source.{ReadsOn};
 
 use crate::team::lane_input::{LaneInput, send_to};
-use control_script::Script;
 use flow_table::{Key, mix};
 use flow_timers::Moment;
 use ip6_views::{Sight, key_between, sight_of};
 use lane_core::Recorder;
 use lane_ends::greatest_with;
 use lane_rings::{Packet, PacketRx};
-use lane_worker::Gate;
+use lane_worker::{Gate, WorkerContext};
 use mos_bytes::Source;
-use native_filters::NativeBook;
 use pcap_source::{Capture, Frame, NextError, Step};
 use std::alloc::Global;
 use std::sync::Wait;
-use std::sync::atomic::AtomicBool;
 
 /// A capture that was read to its end.
 #[derive(Clone, Copy, Debug, PartialEq, Eq)]
@@ -62,43 +59,29 @@ fn lane_of_frame(frame: &Frame, lanes: usize) -> usize
 /// Sends the next frame of a capture, of which so many were sent, to the input of its lane, and answers the lane. It waits
 /// where the ring of the lane is full, and works on a lane whose worker is in this thread.
 pub fn send_frame<R: Wait, L: Recorder + Drop, G: Gate>(
-    rt: &R,
-    alloc: Global,
+    context: &WorkerContext<'_, R, G>,
     inputs: &mut Vec<LaneInput<L>>,
     index: u64,
     frame: Frame,
-    script: &Script,
-    natives: &NativeBook,
-    gate: &G,
-    failed: &AtomicBool,
 ) -> usize
     requires some { 1 ≤ length inputs.old.items }
     requires inputs { (begins : List (Begun L)) × (frames : List Captured)
-        × AreInputs L.Recorder script.now begins frames inputs.old.items }
+        × AreInputs L.Recorder context.now.script.now begins frames inputs.old.items }
     ensures lane { result ≡ lane_of_sight (sight_of frame.bytes) (length inputs.old.items) }
     ensures within { result < length inputs.old.items }
     ensures count { length inputs.new.items ≡ length inputs.old.items }
     ensures sent { (begins : List (Begun L)) (frames : List Captured) → length frames ≡ index
-        → AreInputs L.Recorder script.now begins frames inputs.old.items
-        → AreInputs L.Recorder script.now begins (frames ++ frame ∷ []) inputs.new.items }
+        → AreInputs L.Recorder context.now.script.now begins frames inputs.old.items
+        → AreInputs L.Recorder context.now.script.now begins (frames ++ frame ∷ []) inputs.new.items }
 {
     let lane = lane_of_frame(&frame, inputs.len());
     let packet = Packet {
         index,
-        floor: script.floor(index),
-        ceil: script.ceil(index),
+        floor: context.script.floor(index),
+        ceil: context.script.ceil(index),
         frame,
     };
-    send_to(
-        rt,
-        alloc,
-        &mut inputs[lane],
-        packet,
-        script,
-        natives,
-        gate,
-        failed,
-    );
+    send_to(context, &mut inputs[lane], packet);
     lane
 }
 
@@ -116,22 +99,19 @@ fn next_frame(alloc: Global, used: &mut [PacketRx], lane: usize) -> Frame {
 /// lane. It waits where the ring of a lane is full, and works on a lane whose worker is in this thread. The frames of packets
 /// that come back through `used` serve again: for each packet that goes to a lane one is taken from it.
 pub(crate) fn dispatch<R: Wait, L: Recorder + Drop, S: Source, G: Gate>(
-    rt: &R,
-    alloc: Global,
+    context: &WorkerContext<'_, R, G>,
     inputs: &mut Vec<LaneInput<L>>,
-    script: &Script,
-    natives: &NativeBook,
-    gate: &G,
-    failed: &AtomicBool,
     capture: &mut Capture,
     source: &mut S,
     used: &mut Vec<PacketRx>,
 ) -> Result<Whole, NextError>
     requires opened { Opened capture.old }
     requires some { 1 ≤ length inputs.old.items }
-    requires inputs { (begins : List (Begun L)) × AreInputs L.Recorder script.now begins [] inputs.old.items }
-    ensures dispatched { (begins : List (Begun L)) → AreInputs L.Recorder script.now begins [] inputs.old.items
-        → Dispatched L.Recorder script.now begins inputs.new.items capture.old (S.left source.old)
+    requires inputs { (begins : List (Begun L))
+        × AreInputs L.Recorder context.now.script.now begins [] inputs.old.items }
+    ensures dispatched { (begins : List (Begun L))
+        → AreInputs L.Recorder context.now.script.now begins [] inputs.old.items
+        → Dispatched L.Recorder context.now.script.now begins inputs.new.items capture.old (S.left source.old)
         (S.left source.new) result }
     ensures reads { ReadsOn S.Source capture.old source.old source.new (IsOk result)
         (IsErrOf result NextError.ReadFault) }
@@ -141,13 +121,11 @@ pub(crate) fn dispatch<R: Wait, L: Recorder + Drop, S: Source, G: Gate>(
     let mut last = None;
     let mut lane = 0;
     loop {
-        let mut frame = next_frame(alloc, used.as_mut_slice(), lane);
+        let mut frame = next_frame(context.alloc, used.as_mut_slice(), lane);
         match capture.next(source, &mut frame)? {
             Step::Frame => {
                 last = greatest_with(last, &frame);
-                lane = send_frame(
-                    rt, alloc, inputs, packets, frame, script, natives, gate, failed,
-                );
+                lane = send_frame(context, inputs, packets, frame);
                 packets += 1;
             }
             Step::Tail(tail) => {

@@ -12,14 +12,10 @@ ghost use Rattle.worker_pool.specs.AtWork.{IsAtWork, IsBack};
 
 use crate::team::lane_input::LaneInput;
 use crate::team::worker_place::WorkerPlace;
-use control_script::Script;
 use lane_core::Recorder;
-use lane_worker::{Gate, Worker, work_off};
-use native_filters::NativeBook;
-use std::alloc::Global;
+use lane_worker::{Gate, Worker, WorkerContext, work_off};
 use std::collections::VecDeque;
 use std::sync::Wait;
-use std::sync::atomic::AtomicBool;
 use std::thread::Threads;
 
 // A worker from where it is, once its thread has ended.
@@ -35,30 +31,16 @@ fn worker_back<R: Threads + Wait, L: Recorder + Drop>(rt: &R, place: WorkerPlace
 
 // Waits for the worker of an input, and works off what is left in its packet ring.
 fn finish_one<R: Threads + Wait, L: Recorder + Drop, G: Gate>(
-    rt: &R,
-    alloc: Global,
+    context: &WorkerContext<'_, R, G>,
     input: LaneInput<L>,
-    script: &Script,
-    natives: &NativeBook,
-    gate: &G,
-    failed: &AtomicBool,
 ) -> Worker<L>
-    requires at_work { IsAtWork L.Recorder (commands_of script.now) input }
-    ensures back { IsBack L.Recorder (commands_of script.now) input result }
+    requires at_work { IsAtWork L.Recorder (commands_of context.now.script.now) input }
+    ensures back { IsBack L.Recorder (commands_of context.now.script.now) input result }
 {
     let LaneInput { packets, place } = input;
     let mut packets = packets;
-    let worker = worker_back(rt, place);
-    work_off(
-        rt,
-        alloc,
-        worker,
-        &mut packets,
-        script,
-        natives,
-        gate,
-        failed,
-    )
+    let worker = worker_back(context.rt, place);
+    work_off(context, worker, &mut packets)
 }
 
 /// Waits for the workers of all inputs, whose stop flags were raised, and works off what is left in their packet rings.
@@ -66,24 +48,19 @@ fn finish_one<R: Threads + Wait, L: Recorder + Drop, G: Gate>(
 ///
 /// All commands have to be told of before, since a packet may wait for its places.
 pub(crate) fn finish_all<R: Threads + Wait, L: Recorder + Drop, G: Gate>(
-    rt: &R,
-    alloc: Global,
+    context: &WorkerContext<'_, R, G>,
     inputs: Vec<LaneInput<L>>,
     room: Vec<Worker<L>>,
-    script: &Script,
-    natives: &NativeBook,
-    gate: &G,
-    failed: &AtomicBool,
 ) -> Vec<Worker<L>>
-    requires at_work { All (IsAtWork L.Recorder (commands_of script.now)) inputs.items }
+    requires at_work { All (IsAtWork L.Recorder (commands_of context.now.script.now)) inputs.items }
     requires empty { room.items ≡ [] }
     requires places { length inputs.items ≤ vec_capacity room }
-    ensures back { AllZip (IsBack L.Recorder (commands_of script.now)) inputs.items result.items }
+    ensures back { AllZip (IsBack L.Recorder (commands_of context.now.script.now)) inputs.items result.items }
 {
     let mut inputs = VecDeque::from(inputs);
     let mut workers = room;
     while let Some(input) = inputs.pop_front() {
-        workers.push_reserved(finish_one(rt, alloc, input, script, natives, gate, failed));
+        workers.push_reserved(finish_one(context, input));
     }
     workers
 }

@@ -8,14 +8,10 @@ ghost use Rattle.pcap_source.specs.Captured.{Captured};
 ghost use Rattle.worker_pool.specs.Inputs.{IsInput, AreInputs};
 
 use crate::team::worker_place::WorkerPlace;
-use control_script::Script;
 use lane_core::Recorder;
 use lane_rings::{Packet, PacketTx};
-use lane_worker::{Backoff, Gate, take_turn};
-use native_filters::NativeBook;
-use std::alloc::Global;
+use lane_worker::{Backoff, Gate, WorkerContext, take_turn};
 use std::sync::Wait;
-use std::sync::atomic::AtomicBool;
 
 /// What feeds a lane: the ring into which its packets are sent, and where the worker is that takes them out of it.
 #[derive(Drop)]
@@ -26,45 +22,35 @@ pub struct LaneInput<L: Recorder + Drop> {
 
 // Has a worker that is in this thread take one packet out of its ring. Whether it did.
 fn make_room<R: Wait, L: Recorder + Drop, G: Gate>(
-    rt: &R,
-    alloc: Global,
+    context: &WorkerContext<'_, R, G>,
     input: &mut LaneInput<L>,
-    script: &Script,
-    natives: &NativeBook,
-    gate: &G,
-    failed: &AtomicBool,
 ) -> bool
     requires input { (begin : Begun L) × (packets : List Sent)
-        × IsInput L.Recorder (commands_of script.now) begin packets input.old }
+        × IsInput L.Recorder (commands_of context.now.script.now) begin packets input.old }
     ensures { (begin : Begun L) (packets : List Sent)
-        → IsInput L.Recorder (commands_of script.now) begin packets input.old
-        → IsInput L.Recorder (commands_of script.now) begin packets input.new }
+        → IsInput L.Recorder (commands_of context.now.script.now) begin packets input.old
+        → IsInput L.Recorder (commands_of context.now.script.now) begin packets input.new }
 {
     match &mut input.place {
         WorkerPlace::Thread(_) => false,
-        WorkerPlace::Inline(worker) => take_turn(rt, alloc, worker, script, natives, gate, failed),
+        WorkerPlace::Inline(worker) => take_turn(context, worker),
     }
 }
 
 /// Has each worker that is in this thread take one packet out of its ring. Whether one did.
 pub fn take_turns<R: Wait, L: Recorder + Drop, G: Gate>(
-    rt: &R,
-    alloc: Global,
+    context: &WorkerContext<'_, R, G>,
     inputs: &mut Vec<LaneInput<L>>,
-    script: &Script,
-    natives: &NativeBook,
-    gate: &G,
-    failed: &AtomicBool,
 ) -> bool
     requires inputs { (begins : List (Begun L)) × (frames : List Captured)
-        × AreInputs L.Recorder script.now begins frames inputs.old.items }
+        × AreInputs L.Recorder context.now.script.now begins frames inputs.old.items }
     ensures { (begins : List (Begun L)) (frames : List Captured)
-        → AreInputs L.Recorder script.now begins frames inputs.old.items
-        → AreInputs L.Recorder script.now begins frames inputs.new.items }
+        → AreInputs L.Recorder context.now.script.now begins frames inputs.old.items
+        → AreInputs L.Recorder context.now.script.now begins frames inputs.new.items }
 {
     let mut took = false;
     for lane in 0..inputs.len() {
-        took |= make_room(rt, alloc, &mut inputs[lane], script, natives, gate, failed);
+        took |= make_room(context, &mut inputs[lane]);
     }
     took
 }
@@ -72,30 +58,25 @@ pub fn take_turns<R: Wait, L: Recorder + Drop, G: Gate>(
 /// Sends a packet to a lane. Where its ring has no room, a worker that is in this thread works, and one that is in
 /// its own is waited for.
 pub(crate) fn send_to<R: Wait, L: Recorder + Drop, G: Gate>(
-    rt: &R,
-    alloc: Global,
+    context: &WorkerContext<'_, R, G>,
     input: &mut LaneInput<L>,
     packet: Packet,
-    script: &Script,
-    natives: &NativeBook,
-    gate: &G,
-    failed: &AtomicBool,
 )
     requires input { (begin : Begun L) × (packets : List Sent)
-        × IsInput L.Recorder (commands_of script.now) begin packets input.old }
+        × IsInput L.Recorder (commands_of context.now.script.now) begin packets input.old }
     ensures { (begin : Begun L) (packets : List Sent)
-        → IsInput L.Recorder (commands_of script.now) begin packets input.old
-        → IsInput L.Recorder (commands_of script.now) begin (packets ++ packet ∷ []) input.new }
+        → IsInput L.Recorder (commands_of context.now.script.now) begin packets input.old
+        → IsInput L.Recorder (commands_of context.now.script.now) begin (packets ++ packet ∷ []) input.new }
 {
     let mut packet = packet;
     let mut backoff = Backoff::eager();
-    for _ in rt.forever() {
+    for _ in context.rt.forever() {
         match input.packets.send(packet) {
             Ok(()) => return,
             Err(back) => packet = back,
         }
-        let made = make_room(rt, alloc, input, script, natives, gate, failed);
-        backoff.looked(rt, made);
+        let made = make_room(context, input);
+        backoff.looked(context.rt, made);
     }
     unreachable!()
 }

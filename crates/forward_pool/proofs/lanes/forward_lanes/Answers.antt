@@ -1,7 +1,7 @@
 use denote.Exit.{yes}
 use denote.Param.{copied}
 use denote.Param.Send.{param_send, arg_send}
-use Rattle.std.proofs.Common.{◌∙◌, [], refl, sym, ap, subst, inl, inr, Err, length, ⊎_elim, arith}
+use Rattle.std.proofs.Common.{◌∙◌, [], List, refl, sym, ap, subst, inl, inr, Err, length, ⊎_elim, arith}
 use Rattle.std.proofs.lemmas.Result.{err_from_is_err_and}
 use Rattle.std.specs.Prelude.{IsErrOf}
 use Rattle.mos_bytes.specs.Outside.{Writes}
@@ -11,7 +11,8 @@ use Rattle.shared_forest.specs.contracts.store_user.StoreUserForestView.TheImpl 
 use Rattle.lane_core.proofs.Handed.{lane_send}
 use Rattle.worker_pool.specs.declared.job.PoolError.TheVariants.{WriteFault}
 use Rattle.forward_pool.specs.Forward.{ForwardsOver}
-use Rattle.forward_stream.specs.Streamed.{lane_at}
+use Rattle.forward_stream.specs.declared.lane_answers.LaneAnswers.{LaneAnswers}
+use Rattle.forward_stream.specs.Streamed.{AreLaneAnswers, Leaves, lane_at, taken_from}
 use Rattle.forward_pool.proofs.Stopping.{unread, told_last}
 use Rattle.forward_pool.proofs.Forwarding.{run_begins, ended_early, no_fault_early, read_all, rose_before, rose_after}
 use Rattle.worker_pool.proofs.Source.{reads_less, reads_nothing}
@@ -27,18 +28,25 @@ leave-requires-send-L g c κs within =
     let lane = lane_send _ _ (view.ghosts (copied 0 g.row.R)) c.type_bounds.send-A (user.the_send _ c.type_bounds.send-R) in
     param_send 1 _ (arg_send _ yes _ lane)
 
+pub stream_team-requires-clause-all_answers : goal.stream_team-requires-clause-all_answers
+stream_team-requires-clause-all_answers g c κs within =
+    subst (λ (a : List LaneAnswers). AreLaneAnswers c.in_ok-team.team.workers.items [] a) (sym c.in_ok-dealing.ensures.answers) c.in_ok-team.ensures.all_answers.all_answers_are
+
 pub stream_team-requires-clause-begins : goal.stream_team-requires-clause-begins
 stream_team-requires-clause-begins g c κs within =
     let all_answers = c.in_ok-team.all_answers.items in
-    run_begins c.in_ok-team.team.workers.items all_answers c.in_ok-waiting.waiting (g.O.Sink.taken c.args.out.now) c.in_ok-team.ensures.all_answers
-    (c.beginning_is_right.ensures.keeps (lane_at (length all_answers) []) c.in_ok-waiting.waiting 4096 c.in_ok-waiting.ensures.next c.in_ok-waiting.ensures.window)
+    let waiting = c.in_ok-dealing.dealing.waiting in
+    let out = g.O.Sink.taken c.args.out.now in
+    subst (λ (a : List LaneAnswers). Leaves (lane_at (length a) []) 0 (taken_from a) waiting out out) (sym c.in_ok-dealing.ensures.answers)
+    (run_begins c.in_ok-team.team.workers.items all_answers waiting out c.in_ok-team.ensures.all_answers
+    (c.beginning_is_right.ensures.keeps (lane_at (length all_answers) []) waiting 4096 c.in_ok-dealing.ensures.next c.in_ok-dealing.ensures.window))
 
-pub returns-in_err-waiting-clause-forwards : goal.returns-in_err-waiting-clause-forwards
-returns-in_err-waiting-clause-forwards g c = λ rest is.
-    let p = err_from_is_err_and c.from_residual-in_err-waiting.result c.from_residual-in_err-waiting.ensures.1 in
+pub returns-in_err-dealing-clause-forwards : goal.returns-in_err-dealing-clause-forwards
+returns-in_err-dealing-clause-forwards g c = λ rest is.
+    let p = err_from_is_err_and c.from_residual-in_err-dealing.result c.from_residual-in_err-dealing.ensures.1 in
     let app = g.A.App.meaning c.args.job.now.app in
     let f = frames_at c.args.capture.now rest in
-    ended_early app c.args.job.now.script.now c.args.job.now.workers f (g.O.Sink.taken c.args.out.now) c.from_residual-in_err-waiting.result (p.1 ∙ ap Err p.2)
+    ended_early app c.args.job.now.script.now c.args.job.now.workers f (g.O.Sink.taken c.args.out.now) c.from_residual-in_err-dealing.result (p.1 ∙ ap Err p.2)
     (c.nothing_is_a_front.ensures.front app c.args.job.now.workers f.frames (g.O.Sink.taken c.args.out.now))
 
 pub returns-in_err-read-clause-forwards : goal.returns-in_err-read-clause-forwards
@@ -85,9 +93,9 @@ returns-clause-writes g c =
       lasts = c.leave.ensures.lasts ∙ before.lasts;
     }
 
-pub returns-in_err-waiting-clause-never_heavy : goal.returns-in_err-waiting-clause-never_heavy
-returns-in_err-waiting-clause-never_heavy g c =
-    let p = err_from_is_err_and c.from_residual-in_err-waiting.result c.from_residual-in_err-waiting.ensures.1 in
+pub returns-in_err-dealing-clause-never_heavy : goal.returns-in_err-dealing-clause-never_heavy
+returns-in_err-dealing-clause-never_heavy g c =
+    let p = err_from_is_err_and c.from_residual-in_err-dealing.result c.from_residual-in_err-dealing.ensures.1 in
     rw (p.1, p.2) (λ is. cc)
 
 pub returns-in_err-read-clause-never_heavy : goal.returns-in_err-read-clause-never_heavy
@@ -107,9 +115,9 @@ returns-in_err-team-clause-stopped g c = λ live.
     let p = err_from_is_err_and c.from_residual.result c.from_residual.ensures.1 in
     (inr (p.1 ∙ ap Err p.2), unread c.args.capture.now (g.S.Source.left c.args.source.now) c.requires.opened.count)
 
-pub returns-in_err-waiting-clause-stopped : goal.returns-in_err-waiting-clause-stopped
-returns-in_err-waiting-clause-stopped g c = λ live.
-    let p = err_from_is_err_and c.from_residual-in_err-waiting.result c.from_residual-in_err-waiting.ensures.1 in
+pub returns-in_err-dealing-clause-stopped : goal.returns-in_err-dealing-clause-stopped
+returns-in_err-dealing-clause-stopped g c = λ live.
+    let p = err_from_is_err_and c.from_residual-in_err-dealing.result c.from_residual-in_err-dealing.ensures.1 in
     (inr (p.1 ∙ ap Err p.2), unread c.args.capture.now (g.S.Source.left c.args.source.now) c.requires.opened.count)
 
 pub returns-in_err-read-clause-stopped : goal.returns-in_err-read-clause-stopped
@@ -134,16 +142,16 @@ returns-in_err-team-clause-writes g c =
     let p = err_from_is_err_and c.from_residual.result c.from_residual.ensures.1 in
     record { cause = no_fault_early (g.O.Sink.faults c.args.out.now) WriteFault c.from_residual.result (p.1 ∙ ap Err p.2) (λ e. cc); lasts = refl }
 
-pub returns-in_err-waiting-clause-reads : goal.returns-in_err-waiting-clause-reads
-returns-in_err-waiting-clause-reads g c =
-    let p = err_from_is_err_and c.from_residual-in_err-waiting.result c.from_residual-in_err-waiting.ensures.1 in
+pub returns-in_err-dealing-clause-reads : goal.returns-in_err-dealing-clause-reads
+returns-in_err-dealing-clause-reads g c =
+    let p = err_from_is_err_and c.from_residual-in_err-dealing.result c.from_residual-in_err-dealing.ensures.1 in
     reads_less g.S.Source c.args.capture.now c.args.source.now c.args.source.now inl (λ fault. fault)
-    (reads_nothing g.S.Source c.args.capture.now c.args.source.now c.args.source.now c.from_residual-in_err-waiting.result (p.1 ∙ ap Err p.2) refl)
+    (reads_nothing g.S.Source c.args.capture.now c.args.source.now c.args.source.now c.from_residual-in_err-dealing.result (p.1 ∙ ap Err p.2) refl)
 
-pub returns-in_err-waiting-clause-writes : goal.returns-in_err-waiting-clause-writes
-returns-in_err-waiting-clause-writes g c =
-    let p = err_from_is_err_and c.from_residual-in_err-waiting.result c.from_residual-in_err-waiting.ensures.1 in
-    record { cause = no_fault_early (g.O.Sink.faults c.args.out.now) WriteFault c.from_residual-in_err-waiting.result (p.1 ∙ ap Err p.2) (λ e. cc); lasts = refl }
+pub returns-in_err-dealing-clause-writes : goal.returns-in_err-dealing-clause-writes
+returns-in_err-dealing-clause-writes g c =
+    let p = err_from_is_err_and c.from_residual-in_err-dealing.result c.from_residual-in_err-dealing.ensures.1 in
+    record { cause = no_fault_early (g.O.Sink.faults c.args.out.now) WriteFault c.from_residual-in_err-dealing.result (p.1 ∙ ap Err p.2) (λ e. cc); lasts = refl }
 
 pub returns-in_err-read-clause-reads : goal.returns-in_err-read-clause-reads
 returns-in_err-read-clause-reads g c =

@@ -4,13 +4,12 @@ use Rattle.forward_pool.proofs.lanes.stream_team.Goals as goal
 pub returns-clause-served : goal.returns-clause-served
 returns-clause-served g c =
     let s = c.in_ok-read.ensures.served in
-    let all_answers : c.all_answers-1.given.0 ≡ c.run_team.new.feed.all_answers.now = c.all_answers-1.given.1 (sym s.done.3) in
-    let waiting : c.waiting-1.given.0 ≡ c.run_team.new.feed.waiting.now = c.waiting-1.given.1 (sym s.done.4) in
-    let source : c.source-1.given.0 ≡ c.run_team.new.feed.source.now = c.source-1.given.1 (sym s.done.5) in
-    let out : c.out-1.given.0 ≡ c.run_team.new.feed.out.now = c.out-1.given.1 (sym s.done.6) in
+    let dealing : c.dealing-1.given.0 ≡ c.run_team.new.feed.dealing.now = c.dealing-1.given.1 (sym s.done.3) in
+    let source : c.source-1.given.0 ≡ c.run_team.new.feed.source.now = c.source-1.given.1 (sym s.done.4) in
+    let out : c.out-1.given.0 ≡ c.run_team.new.feed.out.now = c.out-1.given.1 (sym s.done.5) in
     record {
       frames = s.frames;
       few = s.few;
       served = s.served;
-      done = rw (all_answers, waiting, source, out) s.done.0;
+      done = rw (dealing, source, out) s.done.0;
     }

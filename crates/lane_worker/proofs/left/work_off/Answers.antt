@@ -10,35 +10,35 @@ use Rattle.lane_worker.proofs.left.work_off.Goals as goal
 
 pub loop-init : goal.loop-init
 loop-init g c = record {
-  worked = worked_none g.L.Recorder (commands_of c.args.script.now) c.args.w;
+  worked = worked_none g.L.Recorder (commands_of c.args.context.now.script.now) c.args.w;
   ready = c.requires.ready;
   ends = c.requires.ends;
   ring = SameTx-refl c.args.packets.now;
   sent = refl;
 }
 
-pub work-w-requires-clause-lawful : goal.work-w-requires-clause-lawful
-work-w-requires-clause-lawful g c =
-    subst (λ (m : Meaning). are_lawful (start m.presets) (commands_of c.args.script.now) ≡ true) (sym c.loop.invariant.worked.app) c.requires.lawful
+pub work_in-w-requires-clause-lawful : goal.work_in-w-requires-clause-lawful
+work_in-w-requires-clause-lawful g c =
+    subst (λ (m : Meaning). are_lawful (start m.presets) (commands_of c.args.context.now.script.now) ≡ true) (sym c.loop.invariant.worked.app) c.requires.lawful
 
 pub loop-preserved : goal.loop-preserved
 loop-preserved g c =
-    let look = worked_looked g.L.Recorder (commands_of c.args.script.now) c.loop.w c.beside.new.self
+    let look = worked_looked g.L.Recorder (commands_of c.args.context.now.script.now) c.loop.w c.beside.new.self
     (looked c.loop.w.packets c.beside.new.self c.beside.ensures.ring c.beside.ensures.taken c.beside.ensures.known) in
-    let till = worked_two g.L.Recorder (commands_of c.args.script.now) c.args.w c.loop.w (record c.loop.w { packets = c.beside.new.self }) c.loop.invariant.worked look in
+    let till = worked_two g.L.Recorder (commands_of c.args.context.now.script.now) c.args.w c.loop.w (record c.loop.w { packets = c.beside.new.self }) c.loop.invariant.worked look in
     record {
-      worked = worked_two g.L.Recorder (commands_of c.args.script.now) c.args.w (record c.loop.w { packets = c.beside.new.self }) c.work-w.result till c.work-w.ensures.worked;
-      ready = c.work-w.ensures.ready;
-      ends = ends_after c.loop.packets c.beside.new.tx c.loop.w.packets c.work-w.result.packets c.loop.invariant.ends c.beside.ensures.tx.0
-          (SameRx-trans c.loop.w.packets c.beside.new.self c.work-w.result.packets c.beside.ensures.ring c.work-w.ensures.worked.took_packets.ring);
+      worked = worked_two g.L.Recorder (commands_of c.args.context.now.script.now) c.args.w (record c.loop.w { packets = c.beside.new.self }) c.work_in-w.result till c.work_in-w.ensures.worked;
+      ready = c.work_in-w.ensures.ready;
+      ends = ends_after c.loop.packets c.beside.new.tx c.loop.w.packets c.work_in-w.result.packets c.loop.invariant.ends c.beside.ensures.tx.0
+          (SameRx-trans c.loop.w.packets c.beside.new.self c.work_in-w.result.packets c.beside.ensures.ring c.work_in-w.ensures.worked.took_packets.ring);
       ring = SameTx-trans c.args.packets.now c.loop.packets c.beside.new.tx c.loop.invariant.ring c.beside.ensures.tx.0;
       sent = c.beside.ensures.tx.1 ∙ c.loop.invariant.sent;
     }
 
 pub returns-then-beside-eq0-clause-worked : goal.returns-then-beside-eq0-clause-worked
 returns-then-beside-eq0-clause-worked g c =
-    worked_two g.L.Recorder (commands_of c.args.script.now) c.args.w c.loop.w (record c.loop.w { packets = c.beside.new.self }) c.loop.invariant.worked
-    (worked_looked g.L.Recorder (commands_of c.args.script.now) c.loop.w c.beside.new.self
+    worked_two g.L.Recorder (commands_of c.args.context.now.script.now) c.args.w c.loop.w (record c.loop.w { packets = c.beside.new.self }) c.loop.invariant.worked
+    (worked_looked g.L.Recorder (commands_of c.args.context.now.script.now) c.loop.w c.beside.new.self
     (looked c.loop.w.packets c.beside.new.self c.beside.ensures.ring c.beside.ensures.taken c.beside.ensures.known))
 
 pub returns-then-beside-eq0-clause-ends : goal.returns-then-beside-eq0-clause-ends

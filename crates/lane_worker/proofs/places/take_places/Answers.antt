@@ -6,7 +6,7 @@ use Rattle.lane_worker.proofs.places.take_places.Goals as goal
 pub loop-init : goal.loop-init
 loop-init g c = record {
   good = c.requires.good;
-  advanced = advanced_none g.L.Recorder (commands_of c.args.script.now) c.args.lane.now c.args.commands.now c.requires.good;
+  advanced = advanced_none g.L.Recorder (commands_of c.args.context.now.script.now) c.args.lane.now c.args.commands.now c.requires.good;
   under = c.requires.under;
   ceil = c.requires.before;
 }
@@ -19,7 +19,7 @@ loop-preserved-in-Continue-1 g c =
     record {
       good = good;
       advanced = advanced_next g.L.Recorder
-          (commands_of c.args.script.now) c.args.lane.now c.loop.lane c.give_next.new.lane c.args.commands.now c.loop.commands c.take_from.new.ring c.in-Some-take_from.field-0 inv.advanced inv.good
+          (commands_of c.args.context.now.script.now) c.args.lane.now c.loop.lane c.give_next.new.lane c.args.commands.now c.loop.commands c.take_from.new.ring c.in-Some-take_from.field-0 inv.advanced inv.good
           c.in-Some-take_from.ensures.some next;
       under = next.under good;
       ceil = let below = c.has_all.ensures.no c.if-has_all.false in let v = next.version good in omega (arith, below, v);
@@ -29,6 +29,6 @@ pub returns-in_err-give_next-in-Some-take_from-clause-advanced :
     goal.returns-in_err-give_next-in-Some-take_from-clause-advanced
 returns-in_err-give_next-in-Some-take_from-clause-advanced g c =
     let inv = c.loop.invariant in
-    advanced_next g.L.Recorder (commands_of c.args.script.now) c.args.lane.now c.loop.lane c.give_next.new.lane c.args.commands.now c.loop.commands c.take_from.new.ring c.in-Some-take_from.field-0
+    advanced_next g.L.Recorder (commands_of c.args.context.now.script.now) c.args.lane.now c.loop.lane c.give_next.new.lane c.args.commands.now c.loop.commands c.take_from.new.ring c.in-Some-take_from.field-0
     inv.advanced inv.good
     c.in-Some-take_from.ensures.some c.give_next.ensures.next

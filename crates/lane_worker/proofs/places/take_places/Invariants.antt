@@ -7,7 +7,7 @@ use Rattle.lane_worker.proofs.places.take_places.Given as goal
 abbrev pub invariant-loop : goal.invariant-loop
 invariant-loop g l = record {
   good : g.L.Recorder.failed l.lane ≡ None;
-  advanced : Advanced g.L.Recorder (commands_of l.script) l.fn.lane l.lane l.fn.commands l.commands;
-  under : IsUnder g.L.Recorder (commands_of l.script) l.lane;
+  advanced : Advanced g.L.Recorder (commands_of l.context.script.now) l.fn.lane l.lane l.fn.commands l.commands;
+  under : IsUnder g.L.Recorder (commands_of l.context.script.now) l.lane;
   ceil : g.L.Recorder.given l.lane ≤ l.ceil;
 }

@@ -5,7 +5,7 @@ use Rattle.lane_worker.proofs.worker.take_up.Goals as goal
 
 pub returns-then-has_failed-clause-taken_up : goal.returns-then-has_failed-clause-taken_up
 returns-then-has_failed-clause-taken_up g c =
-    skipped g.L.Recorder (commands_of c.args.script.now) c.args.w.now c.args.packet c.take_from.new.ring c.take_from.result c.take_from.ensures.some c.take_from.ensures.none
+    skipped g.L.Recorder (commands_of c.args.context.now.script.now) c.args.w.now c.args.packet c.take_from.new.ring c.take_from.result c.take_from.ensures.some c.take_from.ensures.none
     (c.has_failed.ensures.0 c.if-has_failed.true)
 
 pub decide_packet-requires-clause-good : goal.decide_packet-requires-clause-good
@@ -13,6 +13,6 @@ decide_packet-requires-clause-good g c = not_failed (g.L.Recorder.failed c.args.
 
 pub returns-then-not-is_fit-clause-taken_up : goal.returns-then-not-is_fit-clause-taken_up
 returns-then-not-is_fit-clause-taken_up g c =
-    let_go g.L.Recorder (commands_of c.args.script.now) c.args.w.now c.args.packet
+    let_go g.L.Recorder (commands_of c.args.context.now.script.now) c.args.w.now c.args.packet
     (not_failed (g.L.Recorder.failed c.args.w.now.lane) c.has_failed.result c.if-has_failed.false c.has_failed.ensures.1)
     (sym c.is_fit.ensures.fits ∙ c.if-not-is_fit.true)

@@ -15,7 +15,7 @@ run_threads-read-requires-sync-D g c κs within =
 pub returns : goal.returns
 returns g c = record {
   served =
-      subst (λ (d : g.row.E.Denot). Served g.L.Recorder c.args.script.now c.args.team.workers.items c.run_threads-read.result.1.items
+      subst (λ (d : g.row.E.Denot). Served g.L.Recorder c.args.context.now.script.now c.args.team.workers.items c.run_threads-read.result.1.items
       (λ frames. g.E.Feed.did c.args.feed.now d c.args.team.workers.items frames c.run_threads-read.result.0))
       (sym (c.feed-1.given.1 (sym c.run_threads-read.ensures.same))) c.run_threads-read.ensures.served;
 }

@@ -9,6 +9,6 @@ returns g c = record {
         frames = dealt.frames;
         few = dealt.few;
         inputs_are = dealt.inputs_are;
-        done = (dealt.done, c.stream.ensures.reads, c.stream.ensures.writes, refl, refl, refl, refl, refl, c.stream.ensures.stopped);
+        done = (dealt.done, c.stream.ensures.reads, c.stream.ensures.writes, refl, refl, refl, refl, c.stream.ensures.stopped);
       };
 }

@@ -11,7 +11,7 @@ use Rattle.worker_pool.proofs.report.conclude.joined_of.Goals as goal
 pub returns : goal.returns
 returns g c = record {
   joined = λ keep app frames begins packets few last team kept served.
-      let script = c.args.script.now in
+      let script = c.args.context.now.script.now in
       let workers = c.args.workers.items in
       let seen = c.as_slice.ensures.value in
       let found = c.lanes_have_come.ensures.came keep app frames begins packets few team kept (subst (HaveServed g.L.Recorder script begins frames) (sym seen) served) in
@@ -30,7 +30,7 @@ returns-in_err-ends g c =
     let p = err_from_is_err_and c.from_residual.result c.from_residual.ensures.1 in
     rw (p.1, p.2) (record {
       joined = λ keep app frames begins packets few last team kept served.
-          let script = c.args.script.now in
+          let script = c.args.context.now.script.now in
           let workers = c.args.workers.items in
           let seen = c.as_slice.ensures.value in
           let found = c.lanes_have_come.ensures.came keep app frames begins packets few team kept (subst (HaveServed g.L.Recorder script begins frames) (sym seen) served) in

@@ -18,7 +18,7 @@ invariant-loop-frame g l = record {
   faults : g.S.Source.faults l.fn.source ≤ g.S.Source.faults l.source;
   lasts : g.S.Source.lasting l.source ≡ g.S.Source.lasting l.fn.source;
   read : (frames : List Captured) × (length frames ≡ l.packets)
-      × ((begins : List (Worker g.row.L.Denot)) → AreInputs g.L.Recorder l.script begins [] l.fn.inputs.items → AreInputs g.L.Recorder l.script begins frames l.inputs.items)
+      × ((begins : List (Worker g.row.L.Denot)) → AreInputs g.L.Recorder l.context.script.now begins [] l.fn.inputs.items → AreInputs g.L.Recorder l.context.script.now begins frames l.inputs.items)
       × ((bytes : List ℕ) → g.S.Source.left l.fn.source ≡ Some bytes → IsReadTo l.fn.capture bytes frames l.capture (g.S.Source.left l.source))
       × (l.last ≡ greatest (arrivals 0 frames));
 }

@@ -14,13 +14,13 @@ send_to-requires g c =
     let given = c.requires.inputs in
     let count_is : c.len.result ≡ length inputs = c.len.ensures ∙ c.args.inputs.now.ok.0 in
     let within : lane < length inputs = subst (λ n. lane < n) count_is c.lane_of_frame-lane.ensures.within in
-    let p = input_of g.L.Recorder c.args.script.now given.0 given.1 inputs lane c.index_mut.result.now given.2 within in
-    record { input = (p.0, p.1, subst (λ (q : LaneInput g.row.L.Denot). IsInput g.L.Recorder (commands_of c.args.script.now) p.0 p.1 q) (sym c.index_mut.ensures.value) p.2) }
+    let p = input_of g.L.Recorder c.args.context.now.script.now given.0 given.1 inputs lane c.index_mut.result.now given.2 within in
+    record { input = (p.0, p.1, subst (λ (q : LaneInput g.row.L.Denot). IsInput g.L.Recorder (commands_of c.args.context.now.script.now) p.0 p.1 q) (sym c.index_mut.ensures.value) p.2) }
 
 pub returns-clause-sent : goal.returns-clause-sent
 returns-clause-sent g c = λ begins frames count are.
     let inputs = c.args.inputs.now.items in
-    let script = c.args.script.now in
+    let script = c.args.context.now.script.now in
     let lane = c.lane_of_frame-lane.result in
     let count_is : c.len.result ≡ length inputs = c.len.ensures ∙ c.args.inputs.now.ok.0 in
     let within : lane < length inputs = subst (λ n. lane < n) count_is c.lane_of_frame-lane.ensures.within in

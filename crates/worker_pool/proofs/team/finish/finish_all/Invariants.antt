@@ -11,8 +11,8 @@ abbrev pub invariant-loop-input : goal.invariant-loop-input
 invariant-loop-input g l = record {
   front : List (LaneInput g.row.L.Denot);
   whole : l.initial.inputs.items ≡ front ++ l.inputs.items;
-  back : AllZip (IsBack g.L.Recorder (commands_of l.script)) front l.workers.items;
-  at_work : All (IsAtWork g.L.Recorder (commands_of l.script)) l.inputs.items;
+  back : AllZip (IsBack g.L.Recorder (commands_of l.context.script.now)) front l.workers.items;
+  at_work : All (IsAtWork g.L.Recorder (commands_of l.context.script.now)) l.inputs.items;
   room : length l.workers.items + length l.inputs.items ≤ vec_capacity l.workers;
 }
 

@@ -7,13 +7,13 @@ use Rattle.worker_pool.proofs.team.lane_input.send_to.Goals as goal
 
 pub returns-in-Ok : goal.returns-in-Ok
 returns-in-Ok g c = λ begin packets p.
-    let script = commands_of c.args.script.now in
+    let script = commands_of c.args.context.now.script.now in
     subst (λ (q : Packet). IsInput g.L.Recorder script begin (packets ++ q ∷ []) (record { packets = c.send.new.self; place = c.loop.input.place })) c.loop.invariant.same
     (sent_on g.L.Recorder script begin packets c.loop.input c.send.new.self (c.loop.packet ∷ []) c.in-Ok.ensures.ring c.in-Ok.ensures.ok (c.loop.invariant.input begin packets p))
 
 pub make_room-made-requires : goal.make_room-made-requires
 make_room-made-requires g c =
-    let script = commands_of c.args.script.now in
+    let script = commands_of c.args.context.now.script.now in
     let input = c.requires.input in
     record {
       input = (
@@ -25,7 +25,7 @@ make_room-made-requires g c =
 
 pub loop-preserved : goal.loop-preserved
 loop-preserved g c =
-    let script = commands_of c.args.script.now in
+    let script = commands_of c.args.context.now.script.now in
     record {
       same = c.in-Err.ensures.full.0 ∙ c.loop.invariant.same;
       input = λ begin packets p. c.make_room-made.ensures begin packets

@@ -9,6 +9,6 @@ use Rattle.worker_pool.proofs.team.lane_input.send_to.Given as goal
 abbrev pub invariant-loop : goal.invariant-loop
 invariant-loop g l = record {
   same : l.packet ≡ l.initial.packet;
-  input : (begin : Worker g.row.L.Denot) (packets : List Packet) → IsInput g.L.Recorder (commands_of l.script) begin packets l.initial.input
-      → IsInput g.L.Recorder (commands_of l.script) begin packets l.input;
+  input : (begin : Worker g.row.L.Denot) (packets : List Packet) → IsInput g.L.Recorder (commands_of l.context.script.now) begin packets l.initial.input
+      → IsInput g.L.Recorder (commands_of l.context.script.now) begin packets l.input;
 }

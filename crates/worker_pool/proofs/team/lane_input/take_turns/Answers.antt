@@ -9,7 +9,7 @@ make_room-took-requires g c =
     let inputs = c.loop-lane.inputs.items in
     let lane = c.loop-lane.lane in
     let below : lane < length inputs = omega (arith, c.len-lane-end.ensures, c.args.inputs.now.ok.0, c.loop-lane-test.true, given.2.count, are.count) in
-    record { input = looked_at g.L.Recorder c.args.script.now given.0 given.1 inputs lane c.index_mut.result.now c.index_mut.ensures.value below are }
+    record { input = looked_at g.L.Recorder c.args.context.now.script.now given.0 given.1 inputs lane c.index_mut.result.now c.index_mut.ensures.value below are }
 
 pub loop-lane-preserved : goal.loop-lane-preserved
 loop-lane-preserved g c = λ begins frames are.
@@ -17,4 +17,4 @@ loop-lane-preserved g c = λ begins frames are.
     let inputs = c.loop-lane.inputs.items in
     let lane = c.loop-lane.lane in
     let below : lane < length inputs = omega (arith, c.len-lane-end.ensures, c.args.inputs.now.ok.0, c.loop-lane-test.true, are.count, now.count) in
-    same_inputs g.L.Recorder c.args.script.now begins frames inputs lane c.index_mut.result.now c.make_room-took.new.input below c.index_mut.ensures.value c.make_room-took.ensures now
+    same_inputs g.L.Recorder c.args.context.now.script.now begins frames inputs lane c.index_mut.result.now c.make_room-took.new.input below c.index_mut.ensures.value c.make_room-took.ensures now

@@ -6,5 +6,5 @@ use Rattle.worker_pool.proofs.team.lane_input.take_turns.Given as goal
 
 -- nothing was sent
 abbrev pub invariant-loop-lane : goal.invariant-loop-lane
-invariant-loop-lane g l = (begins : List (Worker g.row.L.Denot)) (frames : List Captured) → AreInputs g.L.Recorder l.script begins frames l.fn.inputs.items
-    → AreInputs g.L.Recorder l.script begins frames l.inputs.items
+invariant-loop-lane g l = (begins : List (Worker g.row.L.Denot)) (frames : List Captured) → AreInputs g.L.Recorder l.context.script.now begins frames l.fn.inputs.items
+    → AreInputs g.L.Recorder l.context.script.now begins frames l.inputs.items

@@ -29,7 +29,7 @@ take_on-place-requires-clause-ready g c κs within =
     let may : MayBegin g.L.Recorder (commands_of c.captures.script.now) w tx =
     zip_first (MayBegin g.L.Recorder (commands_of c.captures.script.now)) w tx c.take_first-w.new.row.items c.loop-stop.workers.items c.take_first-packets.new.row.items c.loop-stop.packets.items
     i.waiting c.take_first-w.ensures.first c.take_first-packets.ensures.first in
-    let ready : g.L.Recorder.failed w.lane ≡ None → IsReady g.L.Recorder (g.D.WorkerRunner.commands c.captures.context.now) w.lane w.commands =
+    let ready : g.L.Recorder.failed w.lane ≡ None → IsReady g.L.Recorder (g.D.WorkerRunner.commands c.captures.runner.now) w.lane w.commands =
     λ good. subst (λ (s : List Command). IsReady g.L.Recorder s w.lane w.commands) (sym c.requires.starts.context) (may.ready good) in
     ready
 
