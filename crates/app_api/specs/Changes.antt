@@ -1,3 +1,4 @@
+-- Only for proofs. How the changes of one reaction stand in an array.
 use Rattle.std.specs.Prelude.{◌≡◌, ℕ, ◌-◌, ◌≤◌, false, List, ◌++◌, length, take, drop, replicate}
 use Rattle.std.proofs.Common.{sym, arith, length-take-le, take-append-drop}
 use Rattle.app_api.specs.declared.changes.Change1.{Change1}

@@ -1,4 +1,4 @@
--- A law of the table of events.
+-- Only for proofs. A law of the table of events.
 use Rattle.std.proofs.Common.{◌≡◌, ℕ, zero, suc, ◌-◌, ◌<◌, ◌≤◌, true, false, cond, leb, List, [], ◌∷◌, length, refl, ap, sym, ◌∙◌, arith, ⊎_elim}
 use Rattle.std.specs.Prelude.{slice_get, None}
 use Rattle.std.proofs.lemmas.Bool.{cases_lt, and_from, leb-true, le-leb}

@@ -1,4 +1,4 @@
--- Laws of hearers together.
+-- Only for proofs. Laws of hearers together.
 use Rattle.std.proofs.Common.{◌≡◌, Bool, true, false, ◌||◌, cond, refl}
 use Rattle.app_api.specs.declared.hearers.Hearers.{Hearers}
 use Rattle.app_api.specs.declared.hearers.Hearers.TheVariants.{Nobody, One, More}

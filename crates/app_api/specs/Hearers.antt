@@ -1,4 +1,4 @@
--- Who hears an event at a hook, and who hears each of the built-in events.
+-- Not of the headline. Who hears an event at a hook, and who hears each of the built-in events.
 use Rattle.std.specs.Prelude.{ℕ, Bool, true, false, slice_index_or}
 use Rattle.app_api.specs.declared.hearers.Hearers.{Hearers}
 use Rattle.app_api.specs.declared.hearers.Hearers.TheVariants.{Nobody, One, More}

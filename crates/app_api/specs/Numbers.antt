@@ -1,3 +1,4 @@
+-- Not of the headline. Lists of numbers that rise, and lists in which no number stands twice.
 use Rattle.std.specs.Prelude.{ℕ, ◌+◌, ◌&&◌, ◌==◌, not, Bool, true, List, [], ◌∷◌, nat_le}
 use Rattle.std.specs.List.{list_any}
 

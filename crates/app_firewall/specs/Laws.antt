@@ -1,4 +1,4 @@
--- What the firewall's rules mean, in an administrator's words.
+-- Not of the headline. What the firewall's rules mean, in an administrator's words.
 use Rattle.std.specs.Prelude.{ℕ, ◌^◌, ◌&&◌, nat_lt, Bool, true, IsTrue}
 use Rattle.native_filters.specs.declared.facts.Facts.{Facts}
 use Rattle.app_api.specs.declared.rule.Rule.{Rule}

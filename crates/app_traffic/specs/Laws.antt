@@ -1,4 +1,4 @@
--- What the tallies mean over a list of calls, in the words of the subject.
+-- Not of the headline. What the tallies mean over a list of calls, in the words of the subject.
 use Rattle.std.specs.Prelude.{◌≡◌, ℕ, ◌+◌, ◌%◌, ◌^◌, Bool, List, [], ◌∷◌, fold, if◌then◌else◌}
 use Rattle.app_api.specs.declared.app.Call.{Call}
 use Rattle.app_api.specs.declared.app.Tally.{Tally}

@@ -1,4 +1,4 @@
--- Whether raises are heard.
+-- Not of the headline. Whether raises are heard.
 use Rattle.std.specs.Prelude.{Bool, List}
 use Rattle.std.specs.List.{list_any}
 use Rattle.app_api.specs.declared.hearers.Heard.{Heard}

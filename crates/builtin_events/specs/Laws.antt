@@ -1,4 +1,4 @@
--- What the lists of raises say, in the words of the subject.
+-- Not of the headline. What the lists of raises say, in the words of the subject.
 use Rattle.std.specs.Prelude.{◌≡◌, ℕ, Bool, true, List, map, IsTrue, nat_lt, not, ◌==◌}
 use Rattle.std.specs.List.{list_any, list_all}
 use Rattle.packet_views.specs.declared.packet.Head.{Head}

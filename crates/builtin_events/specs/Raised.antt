@@ -1,4 +1,4 @@
--- What one phase raises, with its facts kept once.
+-- Not of the headline. What one phase raises, with its facts kept once.
 use Rattle.std.specs.Prelude.{ℕ, Bool, List, [], ◌∷◌, map, if◌then◌else◌}
 use Rattle.builtin_events.specs.declared.raise.Raise.{Raise}
 use Rattle.builtin_events.specs.declared.raised.Raised.{Raised}

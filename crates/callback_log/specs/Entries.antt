@@ -1,4 +1,4 @@
--- The entries of callbacks whose notes stand in one list, and what those with a peek saw in another.
+-- Only for proofs. The entries of callbacks whose notes stand in one list, and what those with a peek saw in another.
 use Rattle.std.specs.Prelude.{ℕ, ◌+◌, Bool, true, false, if◌then◌else◌, List, [], ◌∷◌}
 use Rattle.app_api.specs.declared.entry.Entry.{Entry}
 use Rattle.app_api.specs.declared.entry.Seen.{Seen}

@@ -1,4 +1,4 @@
--- A callback as a walk lends it.
+-- Not of the headline. A callback as a walk lends it.
 use Rattle.std.specs.Prelude.{Option, Some, None}
 use Rattle.std.specs.Borrow.{Bor}
 use Rattle.app_api.specs.declared.entry.Entry.{Entry}

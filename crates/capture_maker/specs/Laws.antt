@@ -1,4 +1,4 @@
--- What the generated capture is, in the words of captures.
+-- Not of the headline. What the generated capture is, in the words of captures.
 use Rattle.std.specs.Prelude.{◌≡◌, ℕ, ◌*◌, length, map, Ok}
 use Rattle.pcap_source.specs.Capture.{Frames, capture_of, tail}
 use Rattle.capture_maker.specs.Frames.{frame_of}

@@ -1,4 +1,4 @@
--- What a run on several lanes comes to, for the meaning of its application.
+-- Not of the headline. What a run on several lanes comes to, for the meaning of its application.
 use Rattle.std.specs.Prelude.{ℕ, List, Option, Result, Ok, Err}
 use Rattle.app_api.specs.App.{Meaning}
 use Rattle.pcap_source.specs.Capture.{capture_of}

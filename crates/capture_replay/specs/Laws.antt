@@ -1,4 +1,4 @@
--- Laws on the versions of a run, in the subject's own words.
+-- Not of the headline. Laws on the versions of a run, in the subject's own words.
 use Rattle.std.specs.Prelude.{◌≡◌, ℕ, not, List, IsTrue}
 use Rattle.std.specs.List.{list_all}
 use Rattle.app_api.specs.App.{Meaning}

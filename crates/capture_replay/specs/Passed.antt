@@ -1,4 +1,4 @@
--- What a report says was dropped, and what a forwarded capture holds.
+-- Not of the headline. What a report says was dropped, and what a forwarded capture holds.
 use Rattle.std.specs.Prelude.{◌≡◌, ℕ, Bool, true, false, List, [], ◌∷◌, ◌++◌, map, take, Ok}
 use Rattle.std.specs.List.Sorted.{IsPermutation}
 use Rattle.app_api.specs.App.{Meaning}

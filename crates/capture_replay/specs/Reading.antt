@@ -1,4 +1,4 @@
--- Only for proofs: what a run has come to after the frames of a capture, under a script.
+-- Only for proofs. What a run has come to after the frames of a capture, under a script.
 use Rattle.std.specs.Prelude.{◌≡◌, ◌≢◌, ℕ, ◌<◌, ◌≤◌, Bool, true, false, not, ◌&&◌, List, [], ◌++◌, length, take, nat_lt, if◌then◌else◌, Option, None, Some, Ok}
 use Rattle.app_api.specs.App.{Meaning}
 use Rattle.pcap_source.specs.Captured.{Captured}

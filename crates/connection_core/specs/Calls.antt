@@ -1,4 +1,4 @@
--- What the calls of a connection do, each said of what it finds and of what it leaves, with whatever is in force.
+-- Not of the headline. What the calls of a connection do, each said of what it finds and of what it leaves, with whatever is in force.
 use Rattle.std.specs.Prelude.{◌≡◌, ◌+◌, ◌<◌, ◌≤◌, ◌++◌, ℕ, Bool, Option, List, []}
 use Rattle.flow_socket.specs.View.{SocketView}
 use Rattle.app_api.specs.declared.registration.Reg.{Reg}

@@ -1,4 +1,4 @@
--- What is lent to a connection: the master, and the version at which it began.
+-- Not of the headline. What is lent to a connection: the master, and the version at which it began.
 use Rattle.std.specs.Prelude.{ℕ, Option, List}
 use Rattle.app_api.specs.declared.registration.Reg.{Reg}
 use Rattle.event_trees.specs.declared.defs.EventDef.{EventDef}

@@ -1,4 +1,4 @@
--- What the callbacks of a raise are, and how a phase goes on from raise to raise, in the subject's own words.
+-- Not of the headline. What the callbacks of a raise are, and how a phase goes on from raise to raise, in the subject's own words.
 use Rattle.std.specs.Prelude.{◌≡◌, ℕ, List, [], ◌∷◌, ◌++◌, map}
 use Rattle.std.specs.List.Sorted.{IsStrictlySortedBy}
 use Rattle.native_filters.specs.declared.facts.Facts.{Facts}

@@ -1,4 +1,4 @@
--- Callbacks by the numbers of their registrations, as a walk over a tree gives these. Only proofs need this.
+-- Only for proofs. Callbacks by the numbers of their registrations, as a walk over a tree gives these.
 use Rattle.std.specs.Prelude.{ℕ, Option, Some, None, List, [], ◌∷◌}
 use Rattle.tcp_emulation.specs.declared.segment.Side.{Side}
 use Rattle.app_api.specs.declared.registration.Reg.{Reg}

@@ -1,4 +1,4 @@
--- How far the streams of a connection can have come.
+-- Only for proofs. How far the streams of a connection can have come.
 use Rattle.std.specs.Prelude.{ℕ, ◌*◌, ◌≤◌}
 use Rattle.tcp_emulation.specs.declared.segment.Side.TheVariants.{Client, Server}
 use Rattle.flow_socket.specs.View.{SocketView, next_at}

@@ -1,4 +1,4 @@
--- What holds of each registration.
+-- Only for proofs. What holds of each registration.
 use Rattle.std.specs.Prelude.{◌≤◌, IsTrue, List}
 use Rattle.app_api.specs.declared.registration.Reg.{Reg}
 use Rattle.app_api.specs.Reg.{peek_fits}

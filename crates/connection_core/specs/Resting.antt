@@ -1,4 +1,4 @@
--- Packets of which one thing is called at their receiver, and that does nothing.
+-- Only for proofs. Packets of which one thing is called at their receiver, and that does nothing.
 use Rattle.std.specs.Prelude.{◌≡◌, ℕ, ◌==◌, nat_lt, Bool, true, false, List, [], ◌∷◌}
 use Rattle.native_filters.specs.declared.facts.Facts.{Facts}
 use Rattle.native_filters.specs.declared.facts.Hook.TheVariants.{Rcv}

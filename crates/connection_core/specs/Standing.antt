@@ -1,4 +1,4 @@
--- What is kept for a connection and noted of its callbacks, and which histories and packets under way it stands for.
+-- Not of the headline. What is kept for a connection and noted of its callbacks, and which histories and packets under way it stands for.
 use Rattle.std.specs.Prelude.{◌≡◌, ℕ, ◌+◌, ◌*◌, ◌≤◌, Bool, Option, List, [], ◌∷◌, ◌++◌, length, if◌then◌else◌}
 use Rattle.tcp_emulation.specs.declared.segment.Side.{Side}
 use Rattle.tcp_emulation.specs.declared.segment.Side.TheVariants.{Client, Server}

@@ -1,4 +1,4 @@
--- Private lists as their trees name them. `at` looks registrations up by their numbers.
+-- Not of the headline. Private lists as their trees name them. `at` looks registrations up by their numbers.
 use Rattle.std.specs.Prelude.{◌≡◌, ℕ, ◌≤◌, ◌+◌, Option, Some, None, List, [], ◌∷◌, ◌++◌, map, ⊤}
 use Rattle.std.specs.List.{All}
 use Rattle.std.specs.Option.{option_to_list}

@@ -1,4 +1,4 @@
--- Raises that call nothing.
+-- Only for proofs. Raises that call nothing.
 use Rattle.std.specs.Prelude.{◌≡◌, List, []}
 use Rattle.std.specs.List.{AllByRecursion}
 use Rattle.app_api.specs.declared.registration.Reg.{Reg}

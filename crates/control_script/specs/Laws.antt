@@ -1,4 +1,4 @@
--- What the definitions of scripts say in other words.
+-- Not of the headline. What the definitions of scripts say in other words.
 use Rattle.std.specs.Prelude.{◌≡◌, ℕ, ◌+◌, ◌<◌, ◌≤◌, min, IsTrue, List, [], ◌∷◌, ◌++◌, length, Some, slice_get, Ok, Err}
 use Rattle.app_api.specs.declared.registration.Reg.{Reg}
 use Rattle.control_script.specs.declared.error.ScriptError.{ScriptError}

@@ -1,4 +1,4 @@
--- What stands between two lines.
+-- Only for proofs. What stands between two lines.
 use Rattle.std.specs.Prelude.{◌≡◌, IsTrue, List}
 use Rattle.app_api.specs.declared.registration.Reg.{Reg}
 use Rattle.forest_versions.specs.Lawful.{are_lawful}

@@ -1,4 +1,4 @@
--- What each function of the reader reads, as an equation between what the grammar says of the words before it and of
+-- Only for proofs. What each function of the reader reads, as an equation between what the grammar says of the words before it and of
 -- those behind it.
 use Rattle.std.specs.Prelude.{◌≡◌, ℕ, ◌+◌, Bool, List, [], ◌∷◌, length, Result, Ok, Err}
 use Rattle.app_api.specs.declared.registration.Reg.{Reg}

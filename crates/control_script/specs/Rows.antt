@@ -1,4 +1,4 @@
--- What a script keeps beside each command.
+-- Only for proofs. What a script keeps beside each command.
 use Rattle.std.specs.Prelude.{◌≡◌, ℕ, ◌+◌, ◌≤◌, max, IsTrue, Option, Some, None, List, [], ◌∷◌, length, map, ⊤}
 use Rattle.forest_versions.specs.declared.command.Stamp.{Stamp}
 use Rattle.forest_versions.specs.declared.command.Stamp.TheVariants.{At, Live}

@@ -1,4 +1,4 @@
--- The steps by which a tree is built: one registration after the other, in the order of their paths.
+-- Only for proofs. The steps by which a tree is built: one registration after the other, in the order of their paths.
 use Rattle.std.specs.Prelude.{ℕ, suc, ◌+◌, ◌==◌, if◌then◌else◌, List, [], ◌∷◌, drop, map}
 use Rattle.shared_forest.specs.declared.node.Node.{Node}
 use Rattle.shared_forest.specs.declared.node.Slot.{Slot}

@@ -1,4 +1,4 @@
--- The listing that the tree of a private list has.
+-- Not of the headline. The listing that the tree of a private list has.
 use Rattle.std.specs.Prelude.{◌≡◌, ℕ, if◌then◌else◌, List, [], ◌∷◌, ◌++◌, map}
 use Rattle.std.specs.Ordering.{is_lt, is_eq}
 use Rattle.app_api.specs.declared.registration.Reg.{Reg}

@@ -1,4 +1,4 @@
--- Switching one registration of a private list on or off.
+-- Not of the headline. Switching one registration of a private list on or off.
 use Rattle.std.specs.Prelude.{◌≡◌, ◌≢◌, ℕ, Bool, true, false, not, ◌==◌, if◌then◌else◌, List, [], ◌∷◌}
 use Rattle.std.specs.List.{All, Contains, filter, list_any}
 use Rattle.std.specs.Ordering.{nat_cmp, on, then_cmp, is_lt}

@@ -1,3 +1,4 @@
+-- Only for proofs. The events of a path that stands in an array.
 use Rattle.std.specs.Prelude.{ℕ, List, take}
 use Rattle.event_trees.specs.declared.path.EventPath.{EventPath}
 

@@ -1,4 +1,4 @@
--- Definitions, and those that were there before the last of them were added.
+-- Not of the headline. Definitions, and those that were there before the last of them were added.
 use Rattle.std.specs.Prelude.{◌≡◌, ℕ, IsTrue, List, ◌++◌}
 use Rattle.app_api.specs.declared.registration.Reg.{Reg}
 use Rattle.event_trees.specs.declared.defs.EventDef.{EventDef}

@@ -1,4 +1,4 @@
--- What is left of a tree at a place of a walk.
+-- Only for proofs. What is left of a tree at a place of a walk.
 use Rattle.std.specs.Prelude.{ℕ, List, ◌++◌, take, drop, Bool}
 use denote.Bor.{Bor}
 use denote.Param.Members.{Mut}

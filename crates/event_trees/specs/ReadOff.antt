@@ -1,4 +1,4 @@
--- The registrations of a listing, each with its path.
+-- Only for proofs. The registrations of a listing, each with its path.
 use Rattle.std.specs.Prelude.{ℕ, ◌≤◌, List, [], ◌∷◌, ◌++◌, map, length}
 use Rattle.std.specs.List.{AllByRecursion}
 use Rattle.shared_forest.specs.declared.node.Slot.{Slot}

@@ -1,4 +1,4 @@
--- The steps by which one registration goes out of the two lists of a tree.
+-- Only for proofs. The steps by which one registration goes out of the two lists of a tree.
 use Rattle.std.specs.Prelude.{◌≡◌, ℕ, ◌+◌, ◌-◌, ◌<◌, ◌≤◌, ◌≢◌, nat_lt, slice_index_or, if◌then◌else◌, List, [], ◌∷◌, ◌++◌, length, take, drop, ⊤}
 use Rattle.std.specs.List.{AllByRecursion}
 use Rattle.shared_forest.specs.declared.node.Node.{Node}

@@ -1,4 +1,4 @@
--- A walk over a tree, node by node.
+-- Not of the headline. A walk over a tree, node by node.
 use Rattle.std.specs.Prelude.{ℕ, zero, suc, Bool, cond, true, ◌&&◌, ◌==◌, Option, Some, None, List, [], ◌∷◌, ◌++◌, drop, map}
 use Rattle.std.specs.List.{filter}
 use Rattle.native_filters.specs.declared.facts.Facts.{Facts}

@@ -1,4 +1,4 @@
--- What a lexer has still to give.
+-- Only for proofs. What a lexer has still to give.
 use Rattle.std.specs.Prelude.{Bool, true, false, List, [], ◌∷◌, drop}
 use Rattle.filter_lang.specs.declared.lexer.Lexer.{Lexer}
 use Rattle.filter_lang.specs.Tokens.{Placed, tokens_behind}

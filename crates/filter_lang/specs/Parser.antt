@@ -1,4 +1,4 @@
--- What each function of the parser reads, as an equation between what the grammar says of the tokens
+-- Only for proofs. What each function of the parser reads, as an equation between what the grammar says of the tokens
 -- before it and of those behind it.
 use Rattle.std.specs.Prelude.{◌≡◌, ◌≢◌, ℕ, ◌+◌, List, [], ◌∷◌, ◌++◌, Result, Err}
 use Rattle.filter_lang.specs.declared.error.FilterError.{FilterError}

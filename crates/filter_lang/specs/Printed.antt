@@ -1,4 +1,4 @@
--- The printed text of a filter: one blank between tokens, none behind `!` and `(` and none before `)`,
+-- Not of the headline. The printed text of a filter: one blank between tokens, none behind `!` and `(` and none before `)`,
 -- numbers in decimal, and parentheses only where they are needed, or round a comparison under `!`.
 use Rattle.std.specs.Prelude.{ℕ, zero, suc, ◌+◌, max, Bool, true, false, List, [], ◌∷◌, ◌++◌, slice_index_or, codes}
 use Rattle.std.specs.Fmt.{decimal}

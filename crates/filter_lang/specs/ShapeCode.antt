@@ -1,4 +1,4 @@
--- A code of shapes, by which the logic stores them: each shape as a list of signs, in prefix order.
+-- Only for proofs. A code of shapes, by which the logic stores them: each shape as a list of signs, in prefix order.
 use Rattle.std.specs.Prelude.{◌≡◌, refl, ℕ, zero, suc, List, [], ◌∷◌, ◌⊎◌}
 use Rattle.std.proofs.Common.{ap, ◌∙◌, inl, inr}
 use Rattle.std.specs.Coded.{Coded, code_by, coded×, coded⊎, coded_list, coded_ℕ}

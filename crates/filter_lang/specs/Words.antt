@@ -1,4 +1,4 @@
--- What the code keeps of the token that it has read.
+-- Only for proofs. What the code keeps of the token that it has read.
 use Rattle.std.specs.Prelude.{Bool, true, false, nat_lt}
 use Rattle.filter_lang.specs.declared.token.Token.{Token}
 use Rattle.filter_lang.specs.declared.token.Token.TheVariants.{FactName, End}

@@ -1,4 +1,4 @@
--- What the definitions say of positions and peeks, in the words of the subject.
+-- Not of the headline. What the definitions say of positions and peeks, in the words of the subject.
 use Rattle.std.specs.Prelude.{◌≡◌, ◌<◌, ℤ, ℕ, ◌-◌, ◌≤◌, ◌^◌, length, min}
 use Rattle.reassembly.specs.Position.{IsPosition, position_of}
 use Rattle.flow_socket.specs.Direction.{Direction, next_in}

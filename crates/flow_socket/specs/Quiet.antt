@@ -1,4 +1,4 @@
--- Packets that change no state of an end.
+-- Only for proofs. Packets that change no state of an end.
 use Rattle.std.specs.Prelude.{◌≡◌, false, None}
 use Rattle.packet_views.specs.declared.packet.Head.{Head}
 use Rattle.packet_views.specs.Flags.{has_syn, has_fin, has_rst}

@@ -1,4 +1,4 @@
--- What contracts see of a socket, and which emulated connections it stands for.
+-- Not of the headline. What contracts see of a socket, and which emulated connections it stands for.
 use Rattle.std.specs.Prelude.{◌≡◌, ℕ, Option}
 use Rattle.packet_views.specs.declared.packet.Head.{Head}
 use Rattle.tcp_emulation.specs.declared.segment.Side.{Side}

@@ -1,4 +1,4 @@
--- What a hash reads of an endpoint: private to the crate.
+-- Not of the headline. What a hash reads of an endpoint.
 use Rattle.std.proofs.Common.{◌≡◌, ◌==◌, ◌+◌, ◌*◌, ◌++◌, true, ap₂}
 use Rattle.std.proofs.lemmas.Bool.{and_parts, eqb-true, false≢true}
 use Rattle.std.specs.Hash as fed

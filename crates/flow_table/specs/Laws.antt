@@ -1,4 +1,4 @@
--- What the lanes mean, in the words of the subject.
+-- Not of the headline. What the lanes mean, in the words of the subject.
 use Rattle.std.specs.Prelude.{◌≡◌, ℕ, List}
 use Rattle.packet_views.specs.declared.packet.Class.{Class}
 use Rattle.packet_views.specs.declared.packet.Head.{Head}

@@ -1,4 +1,4 @@
--- What a flow table ends as, once the `&mut` that `get_mut` lent has ended.
+-- Not of the headline. What a flow table ends as, once the `&mut` that `get_mut` lent has ended.
 use Rattle.std.specs.Prelude.{◌≡◌, Option, OnSome}
 use Rattle.std.specs.Borrow.{Fml, RattleType, MutBor, LendsSo}
 use Rattle.flow_table.specs.Key.{EndpointPair}

@@ -1,4 +1,4 @@
--- What a flow table holds: a finite map from keys to values.
+-- Not of the headline. What a flow table holds: a finite map from keys to values.
 use Rattle.std.specs.Prelude.{◌≡◌, ◌==◌, ℕ, refl, List, map as each, Option, Some, if◌then◌else◌}
 use Rattle.std.specs.Global.{Box}
 use Rattle.std.specs.Coded.{Coded, code_by, coded×, coded_ℕ}

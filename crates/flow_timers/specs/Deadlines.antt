@@ -1,4 +1,4 @@
--- What the fields of a book keep: a deadline for each name that is noted, and no other. Only its model and proofs need it.
+-- Only for proofs. What the fields of a book keep: a deadline for each name that is noted, and no other.
 use Rattle.std.specs.Prelude.{◌≡◌, ℕ, ◌==◌, ◌&&◌, Bool, false, Option, None, Some}
 use Rattle.std.specs.declared.cmp.Ordering.{Ordering}
 use Rattle.std.specs.Ordering.{nat_cmp, ordering_then}

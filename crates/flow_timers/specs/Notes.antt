@@ -1,4 +1,4 @@
--- What a book of names holds: a finite map from names to the last moment and the limit.
+-- Not of the headline. What a book of names holds: a finite map from names to the last moment and the limit.
 use Rattle.std.specs.Prelude.{◌≡◌, ℕ, ◌+◌, Bool, false, refl, Option, None, Some}
 use Rattle.std.specs.Coded.{Coded, code_by, coded×, coded_ℕ}
 use Rattle.std.specs.FinMap as map

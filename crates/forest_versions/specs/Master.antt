@@ -1,4 +1,4 @@
--- What a master stands for: presets and commands, at each version up to the present.
+-- Not of the headline. What a master stands for: presets and commands, at each version up to the present.
 use Rattle.std.specs.Prelude.{◌≡◌, ℕ, ◌+◌, ◌≤◌, IsTrue, List, length}
 use Rattle.shared_forest.specs.declared.store.Shared.{Shared}
 use Rattle.shared_forest.specs.Lists.{TreeLists}

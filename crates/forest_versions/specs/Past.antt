@@ -1,4 +1,4 @@
--- What was in force at each version, as look-ups tell it.
+-- Not of the headline. What was in force at each version, as look-ups tell it.
 use Rattle.std.specs.Prelude.{◌≡◌, ℕ, ◌≤◌, ◌<◌, Option, Some, None, List, [], set, slice_index_or}
 use Rattle.reassembly.specs.declared.answers.Policy.{Policy}
 use Rattle.app_api.specs.declared.registration.Reg.{Reg}

@@ -1,4 +1,4 @@
--- What is true of whatever is in force after lawful commands.
+-- Not of the headline. What is true of whatever is in force after lawful commands.
 use Rattle.std.specs.Prelude.{◌≤◌, IsTrue}
 use Rattle.std.specs.List.{All}
 use Rattle.app_api.specs.App.{are_rules}

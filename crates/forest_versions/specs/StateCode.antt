@@ -1,4 +1,4 @@
--- How proofs tell control states apart: by the tuple of their fields. No contract needs it.
+-- Only for proofs. How proofs tell control states apart: by the tuple of their fields.
 use Rattle.std.specs.Prelude.{ℕ, List, Option, refl}
 use Rattle.std.specs.Coded.{Coded, code_by, coded×, coded_list, coded_option, coded_ℕ}
 use Rattle.reassembly.specs.declared.answers.Policy.{Policy}

@@ -1,4 +1,4 @@
--- A value that changes with the versions.
+-- Not of the headline. A value that changes with the versions.
 use Rattle.std.specs.Prelude.{◌≡◌, ℕ, ◌<◌, if◌then◌else◌, nat_le, List, [], ◌∷◌, ◌++◌}
 use Rattle.std.specs.List.{All, fold}
 use Rattle.std.specs.List.Sorted.{IsNonDecreasingBy}

@@ -1,4 +1,4 @@
--- Only for proofs: what the answers of lanes say of a forward run.
+-- Only for proofs. What the answers of lanes say of a forward run.
 use Rattle.std.specs.Prelude.{◌≡◌, ℕ, ◌<◌, ◌≤◌, ◌⊎◌, Option, None, List, length, get_or}
 use Rattle.std.specs.Io.KnownBytes.{Appends}
 use mathlib.Core.List.{IsPrefix}

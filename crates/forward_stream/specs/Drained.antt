@@ -1,4 +1,4 @@
--- Only for proofs: the answers that are left once the threads of lanes have ended.
+-- Not of the headline. The answers that are left once the threads of lanes have ended.
 use Rattle.std.specs.Prelude.{◌≡◌, ◌≢◌, ℕ, ◌<◌, ◌≤◌, ◌⊎◌, Option, Some, None, List, [], ◌∷◌, suc, length, map, get_or}
 use mathlib.Core.List.{IsPrefix}
 use Rattle.lane_rings.specs.declared.items.Answer.{Answer}

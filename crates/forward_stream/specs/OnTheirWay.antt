@@ -1,4 +1,4 @@
--- How many packets of a forward run on several lanes are on their way: read, and neither written nor dropped.
+-- Not of the headline. How many packets of a forward run on several lanes are on their way: read, and neither written nor dropped.
 use Rattle.std.specs.Prelude.{◌≡◌, ◌≤◌, ◌+◌, ℕ, length}
 use Rattle.lane_rings.specs.Waiting.{Waiting}
 

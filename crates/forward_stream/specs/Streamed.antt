@@ -1,4 +1,4 @@
--- Only for proofs: the dispatcher of a forward run, with what it has sent to the lanes, taken from them, and written.
+-- Not of the headline. The dispatcher of a forward run, with what it has sent to the lanes, taken from them, and written.
 use Rattle.std.specs.Prelude.{◌≡◌, ◌≢◌, ℕ, ◌<◌, List, [], ◌++◌, length, map, get_or, Option, Some, Result, Ok, Err, ⊤}
 use Rattle.std.specs.List.{All}
 use Rattle.std.specs.Io.KnownBytes.{Appends}

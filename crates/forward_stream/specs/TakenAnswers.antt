@@ -1,4 +1,4 @@
--- Only for proofs: answers that are taken and written while a forward run streams.
+-- Only for proofs. Answers that are taken and written while a forward run streams.
 use Rattle.std.specs.Prelude.{◌≡◌, ℕ, ◌+◌, ◌<◌, Option, List, length, set, get_or}
 use Rattle.lane_rings.specs.Ring.{taken, SameRx}
 use Rattle.worker_laws.specs.Share.{share}

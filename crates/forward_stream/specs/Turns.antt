@@ -1,4 +1,4 @@
--- Only for proofs: what a turn of a forward run makes of it.
+-- Not of the headline. What a turn of a forward run makes of it.
 use Rattle.std.specs.Prelude.{◌≡◌, ◌≤◌, ◌+◌, ℕ, true, List, [], ◌∷◌, ◌++◌, length, Option, Some, None, Result, Ok, Err, ⊤}
 use Rattle.pcap_source.specs.Captured.{Captured}
 use Rattle.pcap_source.specs.Reading.{CaptureState, NextGives}

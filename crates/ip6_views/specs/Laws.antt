@@ -1,4 +1,4 @@
--- What keys and lanes mean, in the words of the subject.
+-- Not of the headline. What keys and lanes mean, in the words of the subject.
 use Rattle.std.specs.Prelude.{◌≡◌, ℕ}
 use Rattle.ip6_views.specs.Sight.{Segment, Tcp, lane_of_sight}
 

@@ -1,4 +1,4 @@
--- A sight that borrows its payload from the frame, as the definitions have it.
+-- Not of the headline. A sight that borrows its payload from the frame, as the definitions have it.
 use Rattle.std.specs.Prelude.{⊤}
 use Rattle.packet_views.specs.declared.packet.Class.{Class}
 use Rattle.ip6_views.specs.declared.sight.SightTcp.{SightTcp}

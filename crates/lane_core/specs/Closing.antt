@@ -1,4 +1,4 @@
--- Only for proofs: what the end of a run does to its records.
+-- Only for proofs. What the end of a run does to its records.
 use Rattle.std.specs.Prelude.{◌≡◌, ◌<◌, ℕ, Bool, true, Option, Some, List, map, set, get_or}
 use Rattle.app_api.specs.App.{Meaning}
 use Rattle.shared_forest.specs.declared.store.ForestView.{Ghosts}

@@ -1,4 +1,4 @@
--- Records under way as records of the report.
+-- Not of the headline. Records under way as records of the report.
 use Rattle.std.specs.Prelude.{ℕ, [], if◌then◌else◌}
 use Rattle.app_api.specs.declared.app.Tally.{Tally}
 use Rattle.app_api.specs.App.{Meaning}

@@ -1,4 +1,4 @@
--- Only for proofs: what idleness does to an open connection, to its record under way and to the table of open connections.
+-- Only for proofs. What idleness does to an open connection, to its record under way and to the table of open connections.
 use Rattle.std.specs.Prelude.{◌≡◌, ℕ, Bool, true, false, ◌&&◌, Option, Some, None, if◌then◌else◌, ⊤}
 use Rattle.native_filters.specs.declared.facts.Hook.TheVariants.{Rcv}
 use Rattle.native_filters.specs.Facts.{no_facts}

@@ -1,4 +1,4 @@
--- Which records what a lane keeps stands for.
+-- Not of the headline. Which records what a lane keeps stands for.
 use Rattle.std.specs.Prelude.{◌≡◌, ℕ, Bool, false, Option, Some, None, List, [], map, get_or, if◌then◌else◌}
 use Rattle.packet_views.specs.declared.packet.Head.{Head}
 use Rattle.packet_views.specs.declared.packet.Class.{Class}

@@ -1,4 +1,4 @@
--- What a lane ends with where its records stay as it kept them.
+-- Not of the headline. What a lane ends with where its records stay as it kept them.
 use Rattle.std.specs.Prelude.{◌≡◌, Bool, List, map}
 use Rattle.app_api.specs.App.{Meaning}
 use Rattle.report_text.specs.declared.record.Record.{Record}

@@ -1,4 +1,4 @@
--- Laws on the records of packets, in the subject's own words.
+-- Not of the headline. Laws on the records of packets, in the subject's own words.
 use Rattle.std.specs.Prelude.{◌≡◌, ◌≤◌, ◌↔◌, ℕ, Bool, IsTrue, if◌then◌else◌, Option, Some, None, List, [], ◌∷◌, ◌++◌, filter, length, map}
 use Rattle.std.specs.List.{list_any, list_all}
 use Rattle.tcp_emulation.specs.declared.segment.Side.{Side}

@@ -1,4 +1,4 @@
--- Only for proofs: what holds of the records of a lane between its calls.
+-- Only for proofs. What holds of the records of a lane between its calls.
 use Rattle.std.specs.Prelude.{◌≡◌, ℕ, ◌+◌, ◌<◌, ◌≤◌, ◌*◌, List, [], ◌∷◌, ◌++◌}
 use Rattle.shared_forest.specs.declared.store.ForestView.{Ghosts}
 use Rattle.shared_forest.specs.declared.store.Shared.{Shared}

@@ -1,4 +1,4 @@
--- Only for proofs: what a packet and a command do to the records of a lane.
+-- Not of the headline. What a packet and a command do to the records of a lane.
 use Rattle.std.specs.Prelude.{◌≡◌, ℕ, ◌+◌, ◌*◌, ◌<◌, ◌≤◌, Bool, false, Option, Some, None, List, [], if◌then◌else◌, slice_set, set, get_or, length, vec_len}
 use Rattle.std.specs.FinMap as finite
 use Rattle.packet_views.specs.declared.packet.Head.{Head}

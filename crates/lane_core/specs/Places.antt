@@ -1,4 +1,4 @@
--- Only for proofs: where the open connection of a key stands among the records so far.
+-- Not of the headline. Where the open connection of a key stands among the records so far.
 use Rattle.std.specs.Prelude.{◌≡◌, ℕ, suc, MatchBool, Bool, Option, Some, None, List, [], ◌∷◌, if◌then◌else◌}
 use Rattle.flow_table.specs.Key.{EndpointPair}
 use Rattle.lane_core.specs.Records.{RecordSoFar, is_open_at}

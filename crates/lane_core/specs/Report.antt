@@ -1,4 +1,4 @@
--- The report that a lane writes at its end.
+-- Not of the headline. The report that a lane writes at its end.
 use Rattle.std.specs.Prelude.{ℕ, Bool, List, length, map}
 use Rattle.app_api.specs.App.{Meaning}
 use Rattle.report_text.specs.declared.record.Totals.{Totals}

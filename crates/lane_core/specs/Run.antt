@@ -1,4 +1,4 @@
--- A run of a lane: packets and control commands, in the order in which they came. A connection lives under the commands that
+-- Not of the headline. A run of a lane: packets and control commands, in the order in which they came. A connection lives under the commands that
 -- stand before its first packet, for its whole life.
 use Rattle.std.specs.Prelude.{ℕ, ◌+◌, Option, Some, None, List, [], ◌∷◌, map}
 use Rattle.app_api.specs.App.{Meaning}

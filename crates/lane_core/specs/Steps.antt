@@ -1,4 +1,4 @@
--- Only for proofs: what a packet does to an open connection and to its record under way, and what an orphan leaves in its own.
+-- Only for proofs. What a packet does to an open connection and to its record under way, and what an orphan leaves in its own.
 use Rattle.std.specs.Prelude.{◌≡◌, ℕ, Bool, Option, List, [], ◌++◌}
 use Rattle.app_api.specs.App.{Meaning}
 use Rattle.app_api.specs.declared.reaction.Verdict.{Verdict}

@@ -1,4 +1,4 @@
--- Only for proofs: what holds of each open connection in the table of a lane.
+-- Only for proofs. What holds of each open connection in the table of a lane.
 use Rattle.std.specs.Prelude.{ℕ}
 use Rattle.std.specs.Option.{ForSome}
 use Rattle.flow_table.specs.Key.{EndpointPair}

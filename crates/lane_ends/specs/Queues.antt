@@ -1,4 +1,4 @@
--- Only for proofs: the lists of lanes while they are merged.
+-- Only for proofs. The lists of lanes while they are merged.
 use Rattle.std.specs.Prelude.{◌≡◌, ◌<◌, ◌≤◌, ℕ, nat_le, if◌then◌else◌, Option, Some, None, MatchOption, List, [], ◌∷◌, ◌++◌, length, map, slice_set}
 use Rattle.lane_core.specs.declared.end.KeptEnd.{KeptEnd}
 use Rattle.lane_core.specs.declared.under_way.RecordUnderWay.{RecordUnderWay}

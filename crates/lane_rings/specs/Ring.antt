@@ -1,4 +1,4 @@
--- What a contract sees of the two ends of a ring.
+-- Not of the headline. What a contract sees of the two ends of a ring.
 use Rattle.std.specs.Prelude.{ℕ, List}
 use Rattle.rtrb.specs.Ring.{sent as pushed, known_free, received, known_items, IsPair, SameProducer, SameConsumer}
 use Rattle.lane_rings.specs.declared.ring.RingTx.{RingTx}

@@ -1,4 +1,4 @@
--- What a resequencer holds: answers that came before their turn.
+-- Not of the headline. What a resequencer holds: answers that came before their turn.
 use Rattle.std.specs.Prelude.{◌≡◌, ℕ, ◌+◌, ◌-◌, Bool, ◌||◌, Option, Some, None, List, [], ◌∷◌, ◌++◌, length, drop, set, get_or, nat_lt, nat_le, is_some, if◌then◌else◌}
 use Rattle.lane_rings.specs.declared.items.Answer.{Answer}
 

@@ -1,4 +1,4 @@
--- Only for proofs: what one packet, and the places that are taken for it, make of a lane and of its ring of places.
+-- Only for proofs. What one packet, and the places that are taken for it, make of a lane and of its ring of places.
 use Rattle.std.specs.Prelude.{◌≡◌, ◌≢◌, ℕ, ◌+◌, Some, None, List, [], ◌∷◌, ◌++◌, length, map, take, drop, slice_get, Result, Ok, Err}
 use mathlib.Core.List.{IsPrefix}
 use Rattle.app_api.specs.declared.reaction.Verdict.{Verdict}

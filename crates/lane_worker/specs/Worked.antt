@@ -1,4 +1,4 @@
--- What a worker did between two moments. `L` is its lane, and `g` says what the lane stands for.
+-- Not of the headline. What a worker did between two moments. `L` is its lane, and `g` says what the lane stands for.
 use Rattle.std.specs.Prelude.{◌≡◌, ◌≢◌, ℕ, ◌+◌, true, Option, Some, None, List, [], ◌++◌, length, map, take, drop, ⊤}
 use mathlib.Core.List.{IsPrefix}
 use Rattle.forest_versions.specs.declared.command.Command.{Command}

@@ -1,4 +1,4 @@
--- What the adapters over std tell: their faults, and what their reader or writer tells.
+-- Not of the headline. What the adapters over std tell: their faults, and what their reader or writer tells.
 use Rattle.std.specs.Prelude.{ℕ, List, slice_range}
 use Rattle.std.specs.declared.option.Option.{Option}
 use Rattle.std.specs.Io.KnownBytes.{prepend_known}

@@ -1,4 +1,4 @@
--- What a fetch gives of the content of a name, where the shelf tells it.
+-- Not of the headline. What a fetch gives of the content of a name, where the shelf tells it.
 use Rattle.std.specs.Prelude.{◌≡◌, ℕ, ◌<◌, ◌≤◌, List, [], ◌∷◌, length, bytes_eq, if◌then◌else◌, ⊤}
 use Rattle.std.specs.declared.option.Option.{Option}
 use Rattle.std.specs.declared.option.Option.TheVariants.{None, Some}

@@ -1,4 +1,4 @@
--- What a sink that gathers tells.
+-- Not of the headline. What a sink that gathers tells.
 use Rattle.std.specs.Prelude.{◌≡◌, ℕ, ◌+◌, List, [], Result, IsOk}
 use Rattle.std.specs.declared.option.Option.{Option}
 use Rattle.std.specs.Io.KnownBytes.{append_known}

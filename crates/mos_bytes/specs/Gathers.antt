@@ -1,4 +1,4 @@
--- What a sink that gathers keeps of the sink below it.
+-- Not of the headline. What a sink that gathers keeps of the sink below it.
 use Rattle.std.specs.Prelude.{ℕ, ◌-◌, ◌^◌, ◌<◌, min, List, ⊤}
 use Rattle.std.specs.Io.{StartsWith}
 use Rattle.std.specs.declared.option.Option.{Option}

@@ -1,4 +1,4 @@
--- What a source, a sink and a shelf in memory hold.
+-- Not of the headline. What a source, a sink and a shelf in memory hold.
 use Rattle.std.specs.Prelude.{ℕ, List}
 use Rattle.std.specs.declared.option.Option.{Option}
 use Rattle.mos_bytes.specs.Fetches.{content_of}

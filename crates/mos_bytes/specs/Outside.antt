@@ -1,4 +1,4 @@
--- What a call did to the outside, in one clause: why it told a fault, and that the object is the one that it was.
+-- Not of the headline. What a call did to the outside, in one clause: why it told a fault, and that the object is the one that it was.
 use Rattle.std.specs.Prelude.{◌≡◌}
 use Rattle.mos_bytes.specs.Causes.{HasCauseOf}
 use Rattle.mos_bytes.specs.declared.source.Source.{Ghosts as Source}

@@ -1,4 +1,4 @@
--- What a source has at hand, and what `fill` does to the bytes that are left in it, where it tells them.
+-- Not of the headline. What a source has at hand, and what `fill` does to the bytes that are left in it, where it tells them.
 use Rattle.std.specs.Prelude.{◌≡◌, ℕ, ◌<◌, ◌≤◌, ⊤, List, length, take, drop, Result, MatchResult}
 use Rattle.std.specs.Io.{StartsWith}
 use Rattle.std.specs.declared.option.Option.{Option}

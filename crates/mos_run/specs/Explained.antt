@@ -1,4 +1,4 @@
--- Why a run over a file ends: what its source met, in place of the fault by which it stopped.
+-- Only for proofs. Why a run over a file ends: what its source met, in place of the fault by which it stopped.
 use Rattle.std.specs.Prelude.{ℕ, List, Option, Some, Result, Ok, Err}
 use Rattle.pcapng_source.specs.declared.fault.NgFault.{NgFault}
 use Rattle.capture_replay.specs.declared.refusal.ReplayError.{ReplayError}

@@ -1,4 +1,4 @@
--- What a replay comes to under versions that it may have, a run over a file, and one under words: what the calls below the top one
+-- Only for proofs. What a replay comes to under versions that it may have, a run over a file, and one under words: what the calls below the top one
 -- promise.
 use Rattle.std.specs.Prelude.{◌≡◌, ◌≢◌, ◌⊎◌, ℕ, ◌<◌, ◌≤◌, false, List, [], Option, None, Some, Result, Ok, Err, IsOk, IsErr, IfErr, IsErrOf}
 use Rattle.mos_bytes.specs.Causes.{Rose}

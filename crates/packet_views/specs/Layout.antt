@@ -1,4 +1,4 @@
--- Where the headers and the payload lie in a frame that holds a whole TCP segment, over either version of IP.
+-- Not of the headline. Where the headers and the payload lie in a frame that holds a whole TCP segment, over either version of IP.
 use Rattle.std.specs.Prelude.{◌≡◌, ℕ, ◌+◌, ◌≤◌, ◌<◌, ◌^◌, List, length}
 use Rattle.packet_views.specs.declared.layout.Layout.{Layout}
 use Rattle.packet_views.specs.Frame.{ip_start}

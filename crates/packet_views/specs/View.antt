@@ -1,4 +1,4 @@
--- What a view tells of its frame.
+-- Not of the headline. What a view tells of its frame.
 use Rattle.std.specs.Prelude.{ℕ, List, ⊤}
 use Rattle.packet_views.specs.declared.packet.Class.{Class}
 use Rattle.packet_views.specs.declared.view.View.{View}

@@ -1,4 +1,4 @@
--- What the definition of a capture means, in the words of the subject.
+-- Not of the headline. What the definition of a capture means, in the words of the subject.
 use Rattle.std.specs.Prelude.{◌≡◌, ℕ, ◌+◌, ◌-◌, ◌<◌, ◌≤◌, Bool, if◌then◌else◌, List, [], ◌∷◌, ◌++◌, length, take, false, All, Ok}
 use Rattle.pcap_source.specs.Captured.{Captured}
 use Rattle.pcap_source.specs.Capture.{Frames, ending_of, is_whole, tail, capture_of}

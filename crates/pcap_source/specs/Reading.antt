@@ -1,4 +1,4 @@
--- What a capture that is read front to back gives, where its source tells the bytes that are left.
+-- Not of the headline. What a capture that is read front to back gives, where its source tells the bytes that are left.
 use Rattle.std.specs.Prelude.{◌≡◌, ℕ, ◌+◌, ◌-◌, ◌<◌, ◌≤◌, Bool, true, List, [], length, take, drop, ⊤, IsTrue, Option, Some, None, Result, Ok, Err}
 use Rattle.pcap_source.specs.Captured.{Captured}
 use Rattle.pcap_source.specs.Capture.{Frames, ended, with_frame, frames_from, header_of, record_of, tail, too_long, too_many}

@@ -1,4 +1,4 @@
--- What the head of an option says of the time resolution.
+-- Only for proofs. What the head of an option says of the time resolution.
 use Rattle.std.specs.Prelude.{◌≡◌, ℕ, ◌+◌, ◌*◌, ◌<◌, List, ◌++◌, length, Bool, true, false}
 use Rattle.pcap_source.specs.Order.{number_in}
 use Rattle.pcapng_source.specs.Fields.{is_resolution, option_size, resolution_in}

@@ -1,4 +1,4 @@
--- What the definition means, in the words of the subject.
+-- Not of the headline. What the definition means, in the words of the subject.
 use Rattle.std.specs.Prelude.{◌≡◌, ◌≢◌, ℕ, List, take, false, None}
 use Rattle.pcapng_source.specs.Given.{whole}
 use Rattle.pcapng_source.specs.Blocks.{any, classic_header, is_pcapng}

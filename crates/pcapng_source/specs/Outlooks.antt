@@ -1,4 +1,4 @@
--- What a reader gives over a source of which these bytes are left, where they are told.
+-- Not of the headline. What a reader gives over a source of which these bytes are left, where they are told.
 use Rattle.std.specs.Prelude.{◌≡◌, ℕ, ◌+◌, ◌<◌, ◌≤◌, ◌⊎◌, ⊤, List, [], length, take, zero, suc, refl, Option, None, Some, Result, Ok, Err, option_map}
 use Rattle.std.specs.Io.KnownBytes.{IsAtEnd}
 use Rattle.std.specs.Coded.{Coded, Coded-set, code_by, coded×, coded_option, coded_ℕ, Unit-prop}

@@ -1,4 +1,4 @@
--- A place between blocks.
+-- Only for proofs. A place between blocks.
 use Rattle.std.specs.Prelude.{ℕ}
 
 -- how many bytes stand before it, and how many more blocks are allowed

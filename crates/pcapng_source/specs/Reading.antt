@@ -1,4 +1,4 @@
--- What a reader stands for, between the bytes that it has read and those that come next.
+-- Not of the headline. What a reader stands for, between the bytes that it has read and those that come next.
 use Rattle.std.specs.Prelude.{◌≡◌, ℕ, zero, suc, ◌+◌, ◌-◌, ◌*◌, ◌<◌, ◌≤◌, ⊤, List, [], ◌++◌, length, take, drop, Bool, false, ◌==◌, min, slice_index, if◌then◌else◌, Option, None, Some}
 use Rattle.pcapng_source.specs.Given.{Given, after, nothing, refused, whole}
 use Rattle.pcapng_source.specs.Fields.{SectionState, has, head_length, kind_of, resolution_in, with_resolution}

@@ -1,4 +1,4 @@
--- What a source over a file of either form tells.
+-- Not of the headline. What a source over a file of either form tells.
 use Rattle.std.specs.Prelude.{◌≡◌, ℕ, ◌+◌, ◌≤◌, ⊤, List, [], Option, None, Some}
 use Rattle.std.specs.Io.KnownBytes.{IsAtEnd}
 use Rattle.mos_bytes.specs.declared.source.Source.{Ghosts}

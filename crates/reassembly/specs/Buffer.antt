@@ -1,4 +1,4 @@
--- What a buffer holds, as a window, whichever of its forms it has: private to the crate.
+-- Only for proofs. What a buffer holds, as a window, whichever of its forms it has.
 use Rattle.std.specs.Prelude.{◌≡◌, ℕ, ◌+◌, ◌-◌, ◌≤◌, ◌^◌, min, not, ◌&&◌, nat_le, nat_eq, List, [], ◌∷◌, length, slice_index, Option, Some, refl}
 use Rattle.std.specs.Global.{Global}
 use Rattle.std.specs.declared.vec.Vec.{Vec}

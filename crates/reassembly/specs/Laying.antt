@@ -1,4 +1,4 @@
--- Laying a segment's bytes over cells of which some are accepted: private to the crate.
+-- Only for proofs. Laying a segment's bytes over cells of which some are accepted.
 use Rattle.std.specs.Prelude.{◌≡◌, ℕ, ◌+◌, ◌<◌, ◌≤◌, Bool, not, ◌&&◌, nat_eq, List, length, slice_index, if◌then◌else◌}
 use Rattle.reassembly.specs.declared.answers.Policy.{Policy}
 use Rattle.reassembly.specs.declared.runs.Run.{Run}

@@ -1,4 +1,4 @@
--- The pages of a stream and the bytes in them: private to the crate.
+-- Only for proofs. The pages of a stream and the bytes in them.
 use Rattle.std.specs.Prelude.{◌≡◌, ℕ, ◌+◌, ◌-◌, ◌/◌, ◌%◌, ◌<◌, ◌≤◌, not, ◌&&◌, nat_le, nat_lt, nat_eq, List, [], length, Option, Some, None, slice_index, if◌then◌else◌}
 use Rattle.std.specs.declared.vec.Vec.{Vec}
 use Rattle.slab.specs.Slab.{get, ContainsKey}

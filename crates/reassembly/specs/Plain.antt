@@ -1,4 +1,4 @@
--- One byte after another, as the plain receiver judges them: private to the crate.
+-- Only for proofs. One byte after another, as the plain receiver judges them.
 use Rattle.std.specs.Prelude.{ℕ, ◌+◌, List, Option, slice_index, if◌then◌else◌}
 use Rattle.reassembly.specs.declared.answers.Placed.{Placed}
 use Rattle.reassembly.specs.declared.plain.Before.{Before}

@@ -1,4 +1,4 @@
--- The accepted positions above next, as runs: private to the crate.
+-- Only for proofs. The accepted positions above next, as runs.
 use Rattle.std.specs.Prelude.{◌≡◌, ℕ, ◌<◌, ◌≤◌, Bool, ◌&&◌, ◌||◌, nat_le, nat_lt, List, length, slice_index_or}
 use Rattle.std.specs.List.{list_any}
 use Rattle.reassembly.specs.declared.runs.Run.{Run}

@@ -1,4 +1,4 @@
--- One segment, told from what a stream knows and with no receiver in sight: private to the crate.
+-- Only for proofs. One segment, told from what a stream knows and with no receiver in sight.
 use Rattle.std.specs.Prelude.{◌≡◌, ℕ, ◌+◌, ◌-◌, ◌<◌, ◌≤◌, true, false, List, None, is_some, length, slice_index}
 use Rattle.reassembly.specs.declared.answers.Policy.{Policy}
 use Rattle.reassembly.specs.declared.answers.Placed.{Placed}

@@ -1,4 +1,4 @@
--- What contracts see of a stream, and which receivers it stands for.
+-- Not of the headline. What contracts see of a stream, and which receivers it stands for.
 use Rattle.std.specs.Prelude.{◌≡◌, ℕ, List, Option}
 use Rattle.reassembly.specs.Receiver.{Receiver, held, kept, next_of, wide_of}
 

@@ -1,4 +1,4 @@
--- The runs of a stream that wait, as they stand in a map: private to the crate.
+-- Only for proofs. The runs of a stream that wait, as they stand in a map.
 use Rattle.std.specs.Prelude.{◌≡◌, ◌⊎◌, ℕ, ◌-◌, ◌<◌, ◌≤◌, List, length, map, Some, None}
 use Rattle.std.specs.Ordering.{nat_cmp}
 use Rattle.std.specs.BTreeMap.{BTreeMap, IsOrdered, get}

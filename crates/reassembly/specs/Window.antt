@@ -1,4 +1,4 @@
--- The buffer of a stream and what it holds: private to the crate.
+-- Only for proofs. The buffer of a stream and what it holds.
 use Rattle.std.specs.Prelude.{◌≡◌, ℕ, ◌+◌, ◌-◌, ◌<◌, ◌≤◌, Bool, max, not, ◌&&◌, nat_le, nat_eq, true, List, [], ◌∷◌, length, map, Option, Some, None, is_some, slice_index, if◌then◌else◌}
 use Rattle.std.specs.List.{range_with_len}
 use Rattle.reassembly.specs.declared.answers.Policy.{Policy}

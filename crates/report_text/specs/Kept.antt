@@ -1,4 +1,4 @@
--- Records as they are kept: for which record of a report each stands.
+-- Not of the headline. Records as they are kept: for which record of a report each stands.
 use Rattle.std.specs.Prelude.{Bool, true, false, if◌then◌else◌, []}
 use Rattle.app_api.specs.App.{Meaning}
 use Rattle.report_text.specs.declared.kept.KeptRecord.{KeptRecord}

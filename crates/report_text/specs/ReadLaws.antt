@@ -1,4 +1,4 @@
--- What reading and writing are to each other.
+-- Not of the headline. What reading and writing are to each other.
 use Rattle.std.specs.Prelude.{◌≡◌, ℕ, List, length, drop, Option, Some, Result, IfOk, IfErr, IsOk, IsTrue, ⊤}
 use Rattle.std.specs.List.{list_all}
 use Rattle.mos_bytes.specs.Writes.{WriteAdds}

@@ -1,4 +1,4 @@
--- How the words of a line are read: tolerantly, since what is read is written again and compared with the line.
+-- Only for proofs. How the words of a line are read: tolerantly, since what is read is written again and compared with the line.
 use Rattle.std.specs.Prelude.{ℕ, zero, suc, ◌+◌, ◌*◌, ◌%◌, ◌^◌, ◌==◌, ◌||◌, Bool, if◌then◌else◌, List, [], ◌∷◌, nat_lt, slice_index, length, Result, Ok, Err}
 use Rattle.std.specs.Char.{digit_value}
 use Rattle.std.specs.Int.{w32, from_be_bytes}

@@ -1,4 +1,4 @@
--- Which texts are reports, with which a report begins, and where a text stops being one.
+-- Not of the headline. Which texts are reports, with which a report begins, and where a text stops being one.
 use Rattle.std.specs.Prelude.{◌≡◌, ℕ, ◌+◌, ◌-◌, ◌==◌, ◌<◌, List, ◌++◌, take, drop, slice_index, IsTrue, Some}
 use Rattle.std.specs.List.{list_all, position}
 use Rattle.report_text.specs.declared.record.Record.{Record}

@@ -1,4 +1,4 @@
--- A line that stands in an array.
+-- Only for proofs. A line that stands in an array.
 use Rattle.std.specs.Prelude.{ℕ, List, take, drop}
 use Rattle.report_text.specs.declared.short.ShortLine.{ShortLine}
 

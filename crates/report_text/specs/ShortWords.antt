@@ -1,4 +1,4 @@
--- The words of a callback's line between the packet's place and the registration's number.
+-- Only for proofs. The words of a callback's line between the packet's place and the registration's number.
 use Rattle.std.specs.Prelude.{◌≡◌, ℕ, ◌≤◌, List, ◌++◌, codes, take}
 use Rattle.report_text.specs.Words.{event_text}
 

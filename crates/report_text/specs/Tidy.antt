@@ -1,4 +1,4 @@
--- Which records a report may have. Endpoints are of IPv4 or IPv6.
+-- Not of the headline. Which records a report may have. Endpoints are of IPv4 or IPv6.
 use Rattle.std.specs.Prelude.{ℕ, ◌+◌, Option, Some, None, is_some, ◌&&◌, ◌||◌, ◌==◌, Bool, true, List, length, map, nat_le, nat_lt}
 use Rattle.std.specs.List.{list_all}
 use Rattle.app_api.specs.declared.entry.Entry.{Entry}

@@ -1,4 +1,4 @@
--- What a call writes to a sink.
+-- Not of the headline. What a call writes to a sink.
 use Rattle.std.specs.Prelude.{ℕ, List, Result}
 use Rattle.mos_bytes.specs.Writes.{WriteAdds}
 use Rattle.mos_bytes.specs.declared.sink.Sink.{Ghosts as Sink}

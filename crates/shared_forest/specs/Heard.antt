@@ -1,4 +1,4 @@
--- Who hears a root's event at a hook: of the registrations on paths that begin with the event, those that have the hook.
+-- Not of the headline. Who hears a root's event at a hook: of the registrations on paths that begin with the event, those that have the hook.
 use Rattle.std.specs.Prelude.{◌≡◌, ℕ, ◌==◌, cond, Bool, IsTrue, List, [], ◌∷◌}
 use Rattle.native_filters.specs.declared.facts.Hook.{Hook}
 use Rattle.app_api.specs.declared.hearers.Hearers.{Hearers}

@@ -1,4 +1,4 @@
--- The laws of trees as keys: the test is an equivalence, and what it finds equal has one hash.
+-- Not of the headline. The laws of trees as keys: the test is an equivalence, and what it finds equal has one hash.
 use Rattle.std.proofs.Common.{◌≡◌, ◌==◌, ◌&&◌, Bool, true≢false, refl, sym, ap, ◌∙◌}
 use Rattle.std.specs.Bool.{Decides, IsTrue}
 use Rattle.std.specs.Cmp.{IsEquivalence, both_ways, unsigned_Decides}

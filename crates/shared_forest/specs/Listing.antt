@@ -1,4 +1,4 @@
--- What a tree says, with every path written out.
+-- Not of the headline. What a tree says, with every path written out.
 use Rattle.std.specs.Prelude.{ℕ, ◌-◌, List, [], ◌∷◌, ◌++◌, take, drop, map}
 use Rattle.std.specs.List.{All}
 use Rattle.std.specs.List.Sorted.{IsStrictlySortedBy, IsStrictlyIncreasing}

@@ -1,4 +1,4 @@
--- A tree as its two lists.
+-- Not of the headline. A tree as its two lists.
 use Rattle.std.specs.Prelude.{List}
 use Rattle.shared_forest.specs.declared.node.Node.{Node}
 use Rattle.shared_forest.specs.declared.node.Slot.{Slot}

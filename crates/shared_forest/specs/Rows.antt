@@ -1,4 +1,4 @@
--- The rows of a store of one owner.
+-- Not of the headline. The rows of a store of one owner.
 use Rattle.std.specs.Prelude.{◌≡◌, ℕ, ◌<◌, List, [], length, slice_index_or, AllPairs}
 use Rattle.std.specs.Coded.{le_prop}
 use Rattle.shared_forest.specs.declared.store.Shared.{Shared}

@@ -1,4 +1,4 @@
--- What the calls of a store leave as it was.
+-- Not of the headline. What the calls of a store leave as it was.
 use Rattle.std.specs.Prelude.{◌≡◌, ◌≤◌, ℕ, ◌+◌, Option, Some, None, ⊤}
 use Rattle.boxcar.specs.Table.{Where}
 use Rattle.shared_forest.specs.declared.store.Shared.{Shared}

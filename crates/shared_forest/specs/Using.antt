@@ -1,4 +1,4 @@
--- What a user of a store that threads share sees of it.
+-- Not of the headline. What a user of a store that threads share sees of it.
 use Rattle.std.specs.Prelude.{◌≡◌, ℕ, Option, Some, None, [], IsSomeAnd}
 use Rattle.std.specs.Coded.{Coded, coded×, coded_ℕ, code_by, Coded-set, ×_prop}
 use Rattle.boxcar.specs.Table.{Shelves, shelves_coded, Where, Shows}

@@ -1,4 +1,4 @@
--- The text of records that is made in parts.
+-- Only for proofs. The text of records that is made in parts.
 use Rattle.std.specs.Prelude.{◌≡◌, ℕ, ◌<◌, List, length, slice_index_or, Result, IfOk}
 use Rattle.std.specs.declared.vec.Vec.{Vec}
 use Rattle.std.specs.Fork.{slice_chunk}

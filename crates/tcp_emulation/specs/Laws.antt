@@ -1,4 +1,4 @@
--- What the tables say, in the words of the subject.
+-- Not of the headline. What the tables say, in the words of the subject.
 use Rattle.std.specs.Prelude.{◌≡◌, ◌≢◌, Bool, true, false, ◌&&◌, not, IsTrue, if◌then◌else◌}
 use Rattle.tcp_emulation.specs.declared.state.State.{State}
 use Rattle.tcp_emulation.specs.declared.state.State.TheVariants.{Closed, SynSent, Established, TimeWait}

@@ -1,4 +1,4 @@
--- The program's command, as a parse reads it.
+-- Only for proofs. The program's command, as a parse reads it.
 use Rattle.std.specs.Prelude.{ℕ, List, Some, true, codes}
 use Rattle.clap.specs.Walk.{Rule}
 use Rattle.clap.specs.Simple.{App, new_app, new_rule, on_top, with_rule}

@@ -1,4 +1,4 @@
--- What the code tests and reads once `clap` has read the words.
+-- Only for proofs. What the code tests and reads once `clap` has read the words.
 use Rattle.std.specs.Prelude.{ℕ, Bool, true, ◌&&◌, if◌then◌else◌, List, codes, Option, Some, None}
 use Rattle.std.specs.List.{list_any}
 use Rattle.std.specs.Str.{bytes_eq}

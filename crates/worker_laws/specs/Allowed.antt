@@ -1,4 +1,4 @@
--- Only for proofs: which lists of versions are allowed: each record's version lies between the floor and the ceiling of its first packet, and
+-- Not of the headline. Which lists of versions are allowed: each record's version lies between the floor and the ceiling of its first packet, and
 -- versions never fall along the records of one lane. Floor and ceiling are any functions of a packet's number.
 use Rattle.std.specs.Prelude.{◌≡◌, ◌≤◌, ℕ, List, length, map}
 use Rattle.std.specs.List.{All}

@@ -1,4 +1,4 @@
--- What is counted over records: callbacks, dropped packets, weight.
+-- Not of the headline. What is counted over records: callbacks, dropped packets, weight.
 use Rattle.std.specs.Prelude.{ℕ, zero, suc, ◌+◌, List, [], ◌∷◌}
 use Rattle.flow_table.specs.Key.{EndpointPair}
 use Rattle.worker_laws.specs.Members.{Members}

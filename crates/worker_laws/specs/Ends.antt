@@ -1,4 +1,4 @@
--- What lanes end with, one after the other, and what their ends come to.
+-- Not of the headline. What lanes end with, one after the other, and what their ends come to.
 use Rattle.std.specs.Prelude.{◌≡◌, ◌<◌, ℕ, ◌+◌, ◌-◌, ◌^◌, min, Bool, Option, List, [], ◌∷◌, length, get_or, map}
 use Rattle.app_api.specs.App.{Meaning}
 use Rattle.report_text.specs.declared.record.Record.{Record}

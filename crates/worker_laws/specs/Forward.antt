@@ -1,4 +1,4 @@
--- A forward run while it streams: packets are read in order, each goes to its lane, answers are taken from the lanes as they
+-- Not of the headline. A forward run while it streams: packets are read in order, each goes to its lane, answers are taken from the lanes as they
 -- come, and leave in the order of the capture. What a lane answers is known for sure only when the lane has ended, so the run
 -- keeps a fact on whatever the right answers are.
 use Rattle.std.specs.Prelude.{◌≡◌, ◌≤◌, ◌<◌, ℕ, ◌+◌, nat_lt, Bool, true, false, Option, Some, None, List, [], ◌++◌, length, take, map, get_or, if◌then◌else◌}

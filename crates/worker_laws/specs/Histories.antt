@@ -1,4 +1,4 @@
--- Only for proofs: the records of a lane, with their histories, by their packets.
+-- Not of the headline. The records of a lane, with their histories, by their packets.
 use Rattle.std.specs.Prelude.{ℕ, Bool, false, if◌then◌else◌, List, [], ◌∷◌}
 use Rattle.app_api.specs.declared.reaction.Verdict.{Verdict}
 use Rattle.app_api.specs.App.{Meaning}

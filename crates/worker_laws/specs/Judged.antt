@@ -1,4 +1,4 @@
--- What becomes of each packet. A verdict is any function `judge` of the version and the packets so far of the packet's record,
+-- Not of the headline. What becomes of each packet. A verdict is any function `judge` of the version and the packets so far of the packet's record,
 -- and of the packet.
 use Rattle.std.specs.Prelude.{ℕ, if◌then◌else◌, List, [], ◌∷◌}
 use Rattle.std.specs.List.{flat_map}

@@ -1,6 +1,6 @@
--- Only for proofs: which packets belong to a record, whatever comes of them: a connection is opened by a SYN with neither ACK nor RST while none of
--- its key is open (RFC 9293, section 3.5), and takes each later packet of its key until it has ended. Whether it is over after its
--- packets so far, and whether it has been silent for too long at a later moment, are any functions of its version and these packets.
+-- Not of the headline. Which packets belong to a record, whatever comes of them: a connection is opened by a SYN with neither ACK nor RST while none
+-- of its key is open (RFC 9293, section 3.5), and takes each later packet of its key until it has ended. Whether it is over after its packets so far,
+-- and whether it has been silent for too long at a later moment, are any functions of its version and these packets.
 use Rattle.std.specs.Prelude.{ℕ, Bool, true, false, not, ◌&&◌, ◌||◌, if◌then◌else◌, List, [], ◌∷◌, ◌++◌, map}
 use Rattle.flow_table.specs.Key.{EndpointPair}
 use Rattle.lane_core.specs.Sight.{Sight, Tcp, Other, Moment, Arrival, key_of_segment}

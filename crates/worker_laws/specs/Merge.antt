@@ -1,4 +1,4 @@
--- The records of several lanes, each lane's by rising name, as one list.
+-- Not of the headline. The records of several lanes, each lane's by rising name, as one list.
 use Rattle.std.specs.Prelude.{◌≡◌, ℕ, ◌==◌, if◌then◌else◌, List, [], ◌∷◌, map, get_or, filter}
 use Rattle.std.specs.List.{All}
 use Rattle.flow_table.specs.Key.{EndpointPair}

@@ -1,4 +1,4 @@
--- Only for proofs: versions of records, given by a list: the j-th record has the j-th version of the list, or 0 where the list is too short.
+-- Not of the headline. Versions of records, given by a list: the j-th record has the j-th version of the list, or 0 where the list is too short.
 use Rattle.std.specs.Prelude.{ℕ, List, [], ◌∷◌, length, get_or}
 use Rattle.lane_core.specs.Sight.{Arrival}
 use Rattle.lane_core.specs.Records.{VersionedPacket}

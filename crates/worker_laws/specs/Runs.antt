@@ -1,4 +1,4 @@
--- What lanes made of their packets, each with its own versions, and what one list of versions makes of all.
+-- Not of the headline. What lanes made of their packets, each with its own versions, and what one list of versions makes of all.
 use Rattle.std.specs.Prelude.{◌≡◌, ℕ, ◌==◌, List, filter}
 use Rattle.flow_table.specs.Key.{EndpointPair}
 use Rattle.app_api.specs.declared.reaction.Verdict.{Verdict}

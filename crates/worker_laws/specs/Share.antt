@@ -1,4 +1,4 @@
--- Which packets go to a lane, where `lane` tells the lane of each packet by its number.
+-- Not of the headline. Which packets go to a lane, where `lane` tells the lane of each packet by its number.
 use Rattle.std.specs.Prelude.{ℕ, zero, suc, ◌==◌, List, [], ◌∷◌, ◌++◌, length, if◌then◌else◌}
 
 -- the packets of a lane among the first n, in order

@@ -1,5 +1,5 @@
--- Which versions a packet may have, by the stamps of the commands: a command is stamped with the first packet that it holds for, or
--- is live, so that each lane takes it when it comes.
+-- Not of the headline. Which versions a packet may have, by the stamps of the commands: a command is stamped with the first packet that it holds for,
+-- or is live, so that each lane takes it when it comes.
 use Rattle.std.specs.Prelude.{ℕ, zero, suc, Bool, true, false, if◌then◌else◌, nat_le, nat_lt, List, [], ◌∷◌}
 use Rattle.forest_versions.specs.declared.command.Stamp.{Stamp}
 use Rattle.forest_versions.specs.declared.command.Stamp.TheVariants.{At, Live}

@@ -1,4 +1,4 @@
--- The answers of a forward run that writes while it reads, where `frame_of` tells the frame of each packet by its number.
+-- Not of the headline. The answers of a forward run that writes while it reads, where `frame_of` tells the frame of each packet by its number.
 use Rattle.std.specs.Prelude.{◌≡◌, ◌<◌, ℕ, ◌++◌, List, length, map, get_or}
 use Rattle.pcap_source.specs.Captured.{Captured}
 use Rattle.app_api.specs.declared.reaction.Verdict.{Verdict}

@@ -1,4 +1,4 @@
--- What lanes come to that share the packets of a run. Each stands for its events: packets of its share, each behind the commands
+-- Not of the headline. What lanes come to that share the packets of a run. Each stands for its events: packets of its share, each behind the commands
 -- that the lane had taken before it.
 use Rattle.std.specs.Prelude.{◌≡◌, ◌<◌, ◌≤◌, ℕ, ◌==◌, List, [], ◌∷◌, length, get_or, filter}
 use Rattle.std.specs.List.{All}

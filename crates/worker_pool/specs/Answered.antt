@@ -1,4 +1,4 @@
--- Only for proofs: what workers answered.
+-- Not of the headline. What workers answered.
 use Rattle.std.specs.Prelude.{◌≡◌, ℕ, ◌<◌, None, List, length, get_or}
 use mathlib.Core.List.{IsPrefix}
 use Rattle.app_api.specs.App.{Meaning}

@@ -1,4 +1,4 @@
--- Only for proofs: workers and their inputs, from the start of the threads to their end.
+-- Not of the headline. Workers and their inputs, from the start of the threads to their end.
 use Rattle.std.specs.Prelude.{◌≡◌, ℕ, ◌≤◌, List, [], length, None, IsTrue}
 use Rattle.pcap_source.specs.Captured.{Captured}
 use Rattle.app_api.specs.App.{Meaning}

@@ -1,4 +1,4 @@
--- Only for proofs: what the lanes of workers came to, from their packets to the end of the whole run.
+-- Not of the headline. What the lanes of workers came to, from their packets to the end of the whole run.
 use Rattle.std.specs.Prelude.{◌≡◌, ◌⊎◌, ℕ, ◌<◌, Bool, true, List, length, get_or, Option, Some, None, Result, Ok, Err, ⊤}
 use Rattle.app_api.specs.App.{Meaning}
 use Rattle.pcap_source.specs.Captured.{Captured}

@@ -1,4 +1,4 @@
--- How far a capture was read, and where it may be read on.
+-- Not of the headline. How far a capture was read, and where it may be read on.
 use Rattle.std.specs.Prelude.{◌≡◌, ℕ, Option, Some, List, ◌++◌, length}
 use Rattle.pcap_source.specs.Captured.{Captured}
 use Rattle.pcap_source.specs.Capture.{Frames}

@@ -1,4 +1,4 @@
--- What lanes are fed by, and what was sent to them.
+-- Not of the headline. What lanes are fed by, and what was sent to them.
 use Rattle.std.specs.Prelude.{◌≡◌, ℕ, ◌<◌, ◌≤◌, List, [], length, get_or, Option, Some, IsTrue, Result, Ok, Err, ⊤}
 use Rattle.pcap_source.specs.Captured.{Captured}
 use Rattle.pcap_source.specs.Capture.{tail, too_long, too_many}

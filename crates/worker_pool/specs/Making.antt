@@ -1,4 +1,4 @@
--- Only for proofs: workers that are made one after the other.
+-- Not of the headline. Workers that are made one after the other.
 use Rattle.std.specs.Prelude.{◌≡◌, ℕ, ◌<◌, Bool, List, [], length, get_or, None}
 use Rattle.app_api.specs.App.{Meaning}
 use Rattle.forest_versions.specs.State.{start}

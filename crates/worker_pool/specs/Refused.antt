@@ -1,4 +1,4 @@
--- Why a run on several lanes ends early, by what ended it.
+-- Not of the headline. Why a run on several lanes ends early, by what ended it.
 use Rattle.pcap_source.specs.declared.errors.NextError.{NextError}
 use Rattle.pcap_source.specs.declared.errors.NextError.TheVariants as Next
 use Rattle.lane_core.specs.declared.errors.LaneError.{LaneError}

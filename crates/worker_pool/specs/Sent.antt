@@ -1,4 +1,4 @@
--- What the dispatcher makes of a capture: of each frame a packet, numbered in the order of the capture, for the lane of its key.
+-- Not of the headline. What the dispatcher makes of a capture: of each frame a packet, numbered in the order of the capture, for the lane of its key.
 use Rattle.std.specs.Prelude.{ℕ, ◌+◌, ◌==◌, List, [], ◌∷◌, filter}
 use Rattle.pcap_source.specs.Captured.{Captured}
 use Rattle.ip6_views.specs.Sight.{sight_of, lane_of_sight}

@@ -1,4 +1,4 @@
--- What a run did to the source of an opened capture.
+-- Not of the headline. What a run did to the source of an opened capture.
 use Rattle.std.specs.Prelude.{◌≡◌, ℕ, List, [], Option, Some}
 use Rattle.mos_bytes.specs.declared.source.Source.{Ghosts as Source}
 use Rattle.mos_bytes.specs.Outside.{Reads}

@@ -1,4 +1,4 @@
--- Workers that share a run, from their start to their end.
+-- Not of the headline. Workers that share a run, from their start to their end.
 use Rattle.std.specs.Prelude.{◌≡◌, ℕ, ◌<◌, ◌≤◌, Bool, List, [], length, get_or, Option, Some, None, Result, Ok, Err, ⊤}
 use Rattle.pcap_source.specs.Captured.{Captured}
 use Rattle.pcap_source.specs.Capture.{too_long, too_many}
