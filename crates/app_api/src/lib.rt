@@ -1,5 +1,11 @@
-//! The words between the emulation and user code: registrations, actions, reactions, entries, and the
-//! trait by which an application is asked.
+//! The words between the emulation and user code: the built-in events, registrations, callbacks with what they saw, reactions,
+//! and the trait `App` of applications.
+//!
+//! Contract: what an application answers is a function of its tally, the call and the rules, which its `meaning` gives, and
+//! that meaning is lawful. `Heard` tells who hears each built-in event.
+//! Begin with `specs/App.antt` and `src/app.rt`, then `specs/Reg.antt`. The built-in events are one table, `specs/Events.antt`
+//! and `src/events.rt`. `LogApp` (`src/log.rt`, `specs/Log.antt`) is the smallest application.
+//! Tests: `packet_tests` (applications).
 #![tactic(auto)]
 
 mod answers;

@@ -1,4 +1,11 @@
-//! A firewall: rules on addresses and ports decide which packets of connections pass.
+//! A firewall: rules on the client's net, the server's net and the server's port decide which packets of connections pass, and
+//! `FirewallApp` is the application that drops the others.
+//!
+//! Contract: `decide` answers what the matching rule with the least number says, and `(false, 0)` exactly where no rule
+//! matches; the application is that of its definition.
+//! Begin with `specs/Decision.antt`, then `specs/Firewall.antt`; `specs/Laws.antt` and `src/laws.rt` say what rules mean to an
+//! administrator.
+//! Tests: `event_tests` (firewall).
 #![tactic(auto)]
 
 mod decision;

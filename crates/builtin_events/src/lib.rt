@@ -1,4 +1,11 @@
-//! Which built-in events a packet raises, or the silence after it, in which order, and with which facts.
+//! From one phase of the emulation to the list of its raises: which built-in events a packet raises, or the silence after it,
+//! in which order and with which facts. No call takes memory.
+//!
+//! Contract: the calls of `src/phases.rt` give exactly the list of the definition, at most six raises; those of
+//! `src/listening.rt` tell whether any of them is heard, before a raise is made.
+//! Begin with `specs/Raises.antt` and `specs/Facts.antt`, then `src/phases.rt`; `specs/Laws.antt` and `src/laws.rt` say the
+//! same in plain words.
+//! Tests: `packet_tests` (events).
 #![tactic(auto)]
 
 mod facts;

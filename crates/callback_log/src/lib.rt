@@ -1,7 +1,10 @@
-//! The callbacks of a record, kept in little memory: one list of notes of a fixed size, and what the callbacks saw apart from
-//! them, since most see nothing.
+//! The callbacks of one record, kept in little memory: a list of notes of one size, and what was seen of the stream apart from
+//! them, since most callbacks see nothing.
 //!
-//! Start with `specs/Entries.antt`, which says what list of entries is kept.
+//! Contract: a `CallbackLog` is the list of its entries. `push` adds one at its end, or leaves the log as it was where memory
+//! is refused; `callbacks` lends them in order, and `into_list` makes an `EntryList` of them.
+//! Begin with `src/log.rt` and `src/walk.rt`; `specs/Entries.antt` says which entries the notes stand for.
+//! Tests: none of its own; connections in `event_tests` and lanes in `worker_tests` keep their callbacks in it.
 #![tactic(auto)]
 
 mod log;

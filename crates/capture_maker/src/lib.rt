@@ -1,7 +1,11 @@
-//! A generated capture: TCP connections that open, send data that partly arrives late and twice, and close.
+//! A source that gives a generated capture: TCP connections that open, send bytes of which some come late and some twice, and
+//! close. It takes no memory and never fails.
 //!
-//! The definitions in `specs/` are the table of the packets and the whole list of their bytes. `Maker` gives these
-//! bytes record by record and takes no memory.
+//! Contract: the bytes that are left in a `Maker` are those of the table of the definitions, 24 + 1,064 n in all for n
+//! connections, at most 100,000. By `reader_takes_all_packets` the reader of captures takes all of them; the code itself uses
+//! nothing of that reader.
+//! Begin with `specs/Table.antt`, `specs/Turns.antt`, `specs/Frames.antt` and `specs/Made.antt`, then `src/maker.rt`.
+//! Tests: `text_tests` (made), `run_tests` (runs over it).
 #![tactic(auto)]
 
 mod laws;

@@ -1,5 +1,13 @@
 //! A capture under a script: it is replayed by one worker or by several, and what was asked for is written, or why it can't be
-//! is answered.
+//! is answered. One path serves all applications and all three outputs.
+//!
+//! Contract: `run_one` and `run_several` write the outcome of the capture under the script and versions that the run may have,
+//! and answer these versions; at an error a prefix is written.
+//! Begin with `specs/Records.antt` and `specs/Outcome.antt`, then `run_one` in `src/single.rt` and `run_several` in
+//! `src/several.rt`. `src/chosen.rt` is the application that settings choose, `src/replay.rt` and `src/advance.rt` the replay
+//! of one worker under the script's commands, `src/close.rt` and `src/summary.rt` what is written at the end, `src/refusal.rt`
+//! why a replay ends before. `src/laws.rt` and `src/verdicts.rt` say what the outcome means.
+//! Tests: none of its own; `run_tests` and `whole_runs`, through `mos_run`.
 #![tactic(auto)]
 
 mod advance;

@@ -1,6 +1,13 @@
-//! One connection: its callbacks, what they ask, and what a packet makes of it.
+//! One connection under control, generic in its application and its store of trees: the two phases of a packet with the
+//! callbacks of their raises, each with its peek, its entry and its reaction, the drop that is asked, and the changes of the
+//! connection's own registrations.
 //!
-//! Start with `specs/PacketUnderWay.antt`, one callback after the other, and `specs/History.antt`, one packet after the other.
+//! Contract: whatever history a `Flow` and its notes stand for before a packet, they stand for that history with the packet
+//! after it. `orphan` is a packet of no connection, `silence` the end of a connection that was idle.
+//! Begin with `specs/PacketUnderWay.antt` (one callback after the other) and `specs/History.antt` (one packet after the other),
+//! then `src/calls.rt`, `src/changes.rt`, `src/flow.rt` and `src/rests.rt`; what is in force is lent as `InForce`
+//! (`src/in_force.rt`).
+//! Tests: `event_tests` (connections).
 #![tactic(auto)]
 
 mod arrival;

@@ -1,4 +1,11 @@
-//! Control scripts: the text that says what is monitored from which packet on, read into commands.
+//! Control scripts: the text that says what is monitored from which packet on, read into commands; and for each packet, how
+//! many of them it has to see and may see.
+//!
+//! Contract: `parse_script` answers the script of the definition, or its first refusal, or that memory was refused;
+//! `Script::floor` and `Script::ceil` are the least and the greatest version of a record that begins at a packet.
+//! Begin with `specs/Grammar.antt` and `specs/Script.antt`, then `specs/Versions.antt`; in the code with `src/parse.rt` and
+//! `src/progress.rt` (line by line), `src/commands.rt` (one line) and `src/script.rt` (what is kept).
+//! Tests: `event_tests` (scripts).
 #![tactic(auto)]
 
 mod commands;

@@ -1,4 +1,11 @@
-//! Tests of stores, event trees, scripts, versions, connections and the small applications, by public calls alone.
+//! Tests of events and connections under control, by public calls alone: stores of trees (`stores`, `sharing`), user-defined
+//! events (`definitions`), trees and walks (`trees`, `forests`, `walks`, `natives`), scripts and versions (`scripts`,
+//! `versions`, `masters`), connections (`connections`), and the small applications (`traffic`, `firewall`).
+//!
+//! Crates tested: `shared_forest`, `event_trees`, `forest_versions`, `control_script`, `connection_core`, `app_traffic`,
+//! `app_firewall`.
+//! Begin with the table of rows in the module of the subject. `random` compares a walk with a check of each registration alone,
+//! and `edit` with `build`.
 #![tactic(auto)]
 
 #[cfg(test)]

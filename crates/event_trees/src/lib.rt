@@ -1,4 +1,11 @@
-//! User-defined events, the tree of a connection's registrations, and the walk that gives those that fire.
+//! User-defined events, the tree of a connection's private list of registrations, and the walk over it that gives those that
+//! fire.
+//!
+//! Contract: a `Walk` gives exactly the registrations that a check of each one alone gives, in order. `build` makes the tree of
+//! a private list; `edit` makes that of the list with one registration switched on or off.
+//! Begin with `specs/Defs.antt`, `specs/Private.antt`, `specs/Canon.antt` and `specs/Fires.antt`, then `src/walk.rt` and
+//! `src/forest.rt`. Laws for the crates above are in `src/laws.rt`.
+//! Tests: `event_tests` (definitions, trees, forests, walks, random).
 #![tactic(auto)]
 
 mod defs;

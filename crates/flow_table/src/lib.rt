@@ -1,5 +1,11 @@
-//! Which connection a packet belongs to: endpoints, the key of a pair of endpoints, the lane that
-//! a key goes to, and the table of what is kept for each key.
+//! Which connection a packet belongs to, and which lane: endpoints, the key of two endpoints, the lane of a key, and a table of
+//! what is kept for each key, over `indexmap`.
+//!
+//! Contract: both directions of a connection have one key, and so one lane of the 1 to 16; a `FlowTable` is a finite map from
+//! keys to values, whatever the seed of its hashes.
+//! Begin with `specs/Key.antt`, `specs/Lane.antt` and `specs/Table.antt`, then `src/table.rt`; `src/laws.rt` says what keys and
+//! lanes mean.
+//! Tests: `packet_tests` (connections).
 #![tactic(auto)]
 
 mod endpoint;

@@ -1,7 +1,12 @@
 //! A run on several lanes that forwards: the capture is written again without its dropped packets, while it is read.
 //!
-//! Its team (`make`) has workers that answer. Its feed (`feed`) is the stream of `forward_stream`. Once the threads have ended,
-//! what the rings still hold is taken and written, and the run ends (`leave`). `explain` says what the answers are.
+//! Contract: `forward_lanes` writes, behind the header, the packets that pass, as they were read and in their order, under
+//! versions that it answers and that the run may have, whatever the order of the threads' steps; at an error a prefix of that
+//! is written.
+//! Begin with `specs/Forward.antt` and `src/lanes.rt`. The team has workers that answer (`src/make.rt`), and its feed
+//! (`src/feed.rt`) is the stream of `forward_stream`; `src/leave.rt` writes what is left once the threads have ended, and
+//! `src/explain.rt` says what the answers are.
+//! Tests: none of its own; `run_tests` (handing_on, failing, held_threads) and `whole_runs` forward with several workers.
 #![tactic(auto)]
 
 mod explain;

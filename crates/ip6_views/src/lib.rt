@@ -1,5 +1,11 @@
-//! What is seen of a captured frame, over IPv4 or IPv6: a TCP segment with its endpoints, or the class of what it is
-//! instead. No call copies the payload or takes memory.
+//! What is seen of a captured frame, over IPv4 or IPv6: a TCP segment with its header fields, both endpoints, window scale and
+//! payload, or the class of what the frame is instead. No call copies the payload or takes memory.
+//!
+//! The IPv6 header is read here, with at most eight extension headers; the TCP header behind it, and every other frame, by
+//! `packet_views`. A frame over IPv4 in its plainest form is read at fixed places (`src/plain.rt`).
+//! Contract: `sight_of` gives the sight of the definition, the same for a lane and for the thread that sends packets to lanes.
+//! Begin with `specs/Sight.antt`, `specs/Packet.antt` and `specs/Chain.antt`, then `src/seeing.rt` and `src/chain.rt`.
+//! Tests: `packet_tests` (ip6).
 #![tactic(auto)]
 
 mod chain;

@@ -1,4 +1,13 @@
-//! One lane: the records of its packets, with their callbacks, as connections open, go on and end.
+//! One lane: the records of its packets, under control commands that may come between them.
+//!
+//! Contract, said once in the trait `Recorder`: whatever list of packets and commands a lane stands for before a call, it
+//! stands for that list with one event more after it; its first error is for good. `Reporter` adds two ends: a report that the
+//! lane writes itself, and records that it hands out as it kept them.
+//! Begin with `specs/Sight.antt`, `specs/Records.antt`, `specs/Run.antt` and `specs/Laws.antt`, then `src/recorder.rt`,
+//! `src/lane.rt` and `src/records.rt`. `Records` is all that a lane keeps of its packets: in `src/records/`, `follow.rt` is a
+//! segment of an open connection, `idle.rt` the end of one that was idle, `begin.rt` a packet that begins a record, `end.rt`
+//! the end of a run.
+//! Tests: `worker_tests` (lanes, idle, trees, failing).
 #![tactic(auto)]
 
 mod connection;

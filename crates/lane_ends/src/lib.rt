@@ -1,6 +1,11 @@
-//! What lanes end with becomes the end of one run: the records of all lanes as one list in order of name, what is counted
-//! and weighed added up; and, while packets are read, their greatest moment, which tells each lane what is idle
-//! at the end. `worker_laws` says why what comes of it is one run's.
+//! What lanes end with, made the end of one run. `join` makes one list by name of the records that they kept, and adds up what
+//! is counted and weighed; `greatest_with` keeps the greatest moment of the packets that were read, which tells each lane what
+//! is idle at the end.
+//!
+//! Contract: where the lanes are those of one run over all packets, `join` answers what that run comes to; `greatest_with` the
+//! greatest moment with one packet more. The definitions and laws are those of `worker_laws`.
+//! Begin with `join` in `src/ends.rt`, then `src/merging.rt` and `src/moments.rt`.
+//! Tests: `worker_tests` (merging).
 #![tactic(auto)]
 
 mod ends;

@@ -1,5 +1,11 @@
-//! What goes between threads: rings, whose two ends say what was sent and what was taken, and the resequencer, which gives
-//! answers out in the order of the capture. No call waits.
+//! What goes between threads: rings over `rtrb` (packets to a lane, places in the script to a lane, answers or packets back
+//! from it), and the resequencer, which gives answers out in the order of the capture. No call waits, and no thread is started
+//! here.
+//!
+//! Contract: the sending end of a ring tells what was sent, the taking end what was taken; where one thread holds both, what
+//! was taken and what is left are what was sent, in order. A `Resequencer` gives each index out once, in order from 0.
+//! Begin with `specs/Ring.antt` and `specs/Waiting.antt`, then `src/ring.rt` and `src/resequencer.rt`.
+//! Tests: `worker_tests` (rings).
 #![tactic(auto)]
 
 mod items;

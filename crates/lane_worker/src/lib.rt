@@ -1,9 +1,15 @@
-//! A worker: a lane with its ends of the rings by which other threads reach it, and its work.
+//! A worker: a lane with its ends of the rings by which other threads reach it, and its work. It is generic in the lane
+//! (`Recorder`). No thread is started here.
 //!
-//! The way of a packet: the worker takes it out of its ring (`worker`), takes the places in the script that it needs
-//! (`places`), hands it to the lane (`turn`) and sends it on with the verdict, or back for its memory (`ends`). What is
-//! left in a ring once its thread has ended is worked off in place (`left`). A thread that waits for another spins at
-//! first, and then sleeps for longer and longer (`backoff`). No thread is started here.
+//! `work` takes a packet out of its ring, takes the places in the script that it needs (`src/places.rt`), hands it to the lane
+//! (`src/turn.rt`) and sends it on with the verdict, or back for its memory (`src/ends.rt`). `work_off` does the same in place
+//! with what is left in a ring once its thread has ended. A thread that waits spins at first, and then sleeps for longer and
+//! longer (`src/backoff.rt`).
+//! Contract: one relation between the worker handed in and the one handed back, which composes: what two calls did is what one
+//! longer call does.
+//! Begin with `specs/Steps.antt` and `specs/Worked.antt`, then `work` in `src/worker.rt`; `proofs/Composed.antt` shows that the
+//! relation composes.
+//! Tests: `worker_tests` (workers).
 #![tactic(auto)]
 
 mod backoff;

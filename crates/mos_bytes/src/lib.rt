@@ -1,8 +1,13 @@
-//! The outside world as a program sees it: sources of bytes, sinks of bytes, shelves of
-//! whole contents, and what their faults mean.
+//! The outside as all other crates see it: three traits, `Source`, `Sink` and `Shelf`, for bytes that come in, bytes that go
+//! out, and contents by name.
 //!
-//! A source tells, where it can, the bytes that are left in it, and a sink those that it has taken.
-//! Each keeps a count of faults that never falls, and answers `Failed` only where that count rose.
+//! There are adapters over std (`ReadSource`, `WriteSink`, `FolderShelf`), forms in memory for tests, and a sink that gathers
+//! small pieces (`GatheringSink`). Where a source can, it tells the bytes that it has at hand and lends them; a sink hands on
+//! what it holds back when it is asked to. Who writes a source or a sink need not have these calls.
+//! Contract: reads take a prefix of the bytes that are left, writes add bytes behind those that were taken, and a fault is told
+//! only where the object's count of faults, which never falls, rose.
+//! Begin with `src/source.rt` and `src/sink.rt`, then `specs/Reads.antt`, `specs/Writes.antt` and `specs/Causes.antt`.
+//! Tests: `text_tests`.
 #![tactic(auto)]
 
 mod copy;

@@ -1,4 +1,10 @@
-//! The program `mos` over any words, streams and shelf.
+//! The program `mos` but for its streams: `run_program` makes the book of native filters, calls `run_gathered` over any words,
+//! streams and shelf, and gives the exit code; `run_process` hands it the words of the process and the current folder.
+//!
+//! Contract: the clauses of `run_gathered`, and the exit code is the status. Words that can't be read end it with status 1 or
+//! 6, and nothing but the error output is touched.
+//! Begin with `run_program` in this file.
+//! Tests: `whole_runs`.
 #![tactic(auto)]
 
 ghost use Rattle.std.specs.Prelude.{◌≡◌, ◌⊎◌, map, Some, IfOk, IsErr, string_bytes};

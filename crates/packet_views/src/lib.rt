@@ -1,5 +1,12 @@
-//! Views of captured Ethernet frames: the class of a packet, its header fields and its payload,
-//! read in place. No call copies bytes or takes memory.
+//! From the bytes of one Ethernet frame to the class of its packet, or to a view of its TCP segment over IPv4, read in place.
+//! No call copies bytes or takes memory.
+//!
+//! Contract: a view is given exactly where the class is tcp, and its header fields, payload and window scale are those of the
+//! definition.
+//! Begin with `specs/Packet.antt`, then `view_of` in `src/classify.rt`, `src/view.rt` and `src/options.rt`. The TCP header is
+//! said and read for both versions of IP, by the place where it begins and the place where its packet ends: `specs/Tcp.antt`,
+//! and `Layout` in `src/layout.rt`.
+//! Tests: `packet_tests` (frames).
 #![tactic(auto)]
 
 mod classify;

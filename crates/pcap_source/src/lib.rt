@@ -1,7 +1,12 @@
-//! Captures in the classic pcap form: a global header of 24 bytes, then records one after another.
+//! Captures in the classic pcap form: a global header of 24 bytes, then records one after another. `Capture` reads them front
+//! to back from any source, each into a frame that is used again. `Capture::is_at_hand` tells beforehand whether the next
+//! record stands whole among the bytes that the source has at hand.
 //!
-//! The definitions in `specs/Capture.antt` cut the whole list of bytes. `Capture` reads the same front to back
-//! from a source, one record at a time, into one frame that is used again.
+//! Contract: `Capture::next` gives the record, the end, the tail or the refusal that the definition finds at that place of the
+//! whole list of bytes.
+//! Begin with `specs/Capture.antt`, which cuts the whole list of bytes, and `specs/Reading.antt`, then `Capture::next` in
+//! `src/capture.rt`; `src/laws.rt` says what the definition means.
+//! Tests: `text_tests` (captures).
 #![tactic(auto)]
 
 mod capture;

@@ -1,11 +1,13 @@
-//! Captures in the pcapng form, which are turned into the classic form while they are read.
+//! A source over a source: of a file that begins as pcapng, `AnySource` gives the classic capture with the same packets, and
+//! any other file as it is. A run reads every capture through it. It takes no memory.
 //!
-//! The definitions in `specs/` turn the whole list of bytes. `AnySource` reads the same front to back from a source, in
-//! any cut of reads, and keeps the head of one block. A file that is no pcapng file goes through as it is.
-//!
-//! The profile is a small one, of this project: section headers, interfaces, enhanced and simple packet blocks, Ethernet
-//! alone. The body of every other block is skipped unread. `specs/Fields.antt` has the places of the fields,
-//! `specs/Packets.antt` the record that a packet gives, `specs/Refusals.antt` what is refused.
+//! The profile is a small one, of this project: section headers, interfaces, enhanced and simple packet blocks, Ethernet alone.
+//! The body of every other block is skipped unread.
+//! Contract: what it gives are the bytes of the definition (`any`), in every cut of reads, and the refusal that it tells is the
+//! definition's.
+//! Begin with `specs/Blocks.antt` and `specs/Refusals.antt`, then `specs/Fields.antt` and `specs/Packets.antt`; in the code
+//! with `src/any_source.rt` and `src/reader.rt`.
+//! Tests: `text_tests` (pcapng, pcapng_refusals).
 #![tactic(auto)]
 
 mod any_source;

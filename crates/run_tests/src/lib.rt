@@ -1,5 +1,10 @@
-//! Runs over sources, shelves and outputs that fail, wait or count, and threads that are held: what no file in and no file out
-//! shows.
+//! Tests of whole runs that no file in and no file out shows: each read, write and fetch that fails in turn (`failing`), a
+//! source that gives a few bytes a read (`pieces`), when a forwarded capture is handed on (`handing_on`), threads that are held
+//! side by side (`held_threads`), a command that may come at any moment (`live_commands`), as many packets as a capture may
+//! have (`many_packets`), and the line that tells a refusal (`refusals`).
+//!
+//! Crates tested: `mos_run`, and through it `capture_replay`, `forward_pool`, `forward_stream` and `shared_text`.
+//! Begin with `runs`, which runs over any source and output; `traffic` and `watched` are what the others are given.
 #![tactic(auto)]
 
 #[cfg(test)]

@@ -1,5 +1,12 @@
-//! Event trees in one flat list, and stores that keep each different tree once: that of one owner, and that which
-//! threads share.
+//! Event trees, each as two flat lists, and stores that keep each different tree once where they can: `Table`, of one owner,
+//! over `indexmap`, and `ForestStore`, which threads share through a `StoreUser` each, over the rows of `boxcar` and an index
+//! under a lock.
+//!
+//! Contract: a place that a store answered holds its tree for good, and equal row numbers mean equal trees. Looking at a tree
+//! never waits.
+//! Begin with `specs/Listing.antt` and `specs/Layout.antt`, then `src/tree.rt` and `src/store.rt`; for threads with
+//! `specs/Using.antt`, `src/forest_store.rt` and `src/store_user.rt`.
+//! Tests: `event_tests` (stores, sharing).
 #![tactic(auto)]
 
 mod forest_store;

@@ -1,4 +1,9 @@
-//! Tests of bytes and texts: sources, sinks and shelves, captures, filters, reports and the words of the command line.
+//! Tests of bytes and texts, by public calls alone: sources, sinks and shelves (`memory`, `adapters`, `files`, `gathering`,
+//! `plain`), captures (`captures`, `made`, `pcapng`, `pcapng_refusals`), filters (`filters`), reports (`records`, `reports`,
+//! `refusals`), the words of the command line (`settings`), and types that threads hand over or share (`threads`).
+//!
+//! Crates tested: `mos_bytes`, `pcap_source`, `pcapng_source`, `capture_maker`, `filter_lang`, `report_text`, `words`.
+//! Begin with the table of rows in the module of the subject.
 #![tactic(auto)]
 
 #[cfg(test)]

@@ -1,6 +1,11 @@
-//! Whole runs of the program, from capture and script to output and status: prints how many there were, and which differ from
-//! what is wanted. Then it is the program itself, under its own words and over its own streams: it forwards what a script lets pass
-//! of a capture that is refused at its end, so its exit status is 3.
+//! Whole runs as files, from capture and script to output and status: a program that calls `run_program` over the files in
+//! `data/`. It prints how many runs there were, and the name of each that differs from what is wanted.
+//!
+//! `data/cases` lists a run a line: capture, words, workers, and the status, output, versions and line on the error output that
+//! are wanted. `data/cuts` lists captures that are cut off at each of their lengths. A new case is a new line and its files.
+//! Then it is the program itself, under its own words and over its own streams: it forwards what a script lets pass of a
+//! capture that is refused at its end, so its exit status is 3.
+//! Begin with `data/cases` and `src/cases.rt`. Crates tested: `mos_program`, and all below it.
 #![tactic(auto)]
 
 mod cases;

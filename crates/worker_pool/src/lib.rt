@@ -1,11 +1,15 @@
-//! Workers of a run on several lanes, each in a thread of its own, fed by a ring of packets and a ring of places in the
-//! script; and a run that is reported.
+//! Workers of a run on several lanes, each in a thread of its own, and a run on several lanes that is reported.
 //!
-//! The way of a packet: the *feed* of a run (`team::feed`), in the thread that called, reads it and sends it
-//! (`team::dispatch`) to the *input* of its lane (`team::lane_input`). The worker of the lane (`lane_worker`), wherever it
-//! is (`team::worker_place`), takes it out of its ring. In a run that is reported (`report`) that is all, until what the
-//! lanes end with (`team::ends`) is joined (`report::conclude`). `team` makes the workers, starts their threads, has the feed
-//! send, and has each come back; a run of another kind is a team with another feed.
+//! The way of a packet: the *feed* of a run (`team::feed`), in the calling thread, reads it and sends it (`team::dispatch`) to
+//! the *input* of its lane (`team::lane_input`); the worker of the lane (`lane_worker`) takes it. `team` makes the workers,
+//! starts their threads, has one thread more send places in the script, and joins all of them; a run of another kind is a team
+//! with another feed. `report` runs a team for a report, and joins what its lanes end with.
+//! Contract: `run_lanes` and `run_lanes_kept` answer the records and totals of one run over all packets, under versions that
+//! they answer too and that the run may have, whatever the order of the threads' steps. A thread that can't be started is no
+//! error.
+//! Begin with `specs/Run.antt`, then `specs/Team.antt`, `specs/Inputs.antt` and `specs/Sent.antt`; in the code with
+//! `src/report/lanes.rt` and `src/team.rt`.
+//! Tests: `worker_tests` (several).
 #![tactic(auto)]
 
 mod job;

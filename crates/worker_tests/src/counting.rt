@@ -1,4 +1,4 @@
-// A store that counts how often a tree is looked at.
+//! A store that counts how often a tree is looked at.
 ghost use Rattle.std.specs.Prelude.{Some};
 
 use shared_forest::{ForestView, Forests, Shared, Table, Tree};

@@ -1,4 +1,9 @@
-//! Tests of lanes, rings and workers, by their public calls.
+//! Tests of lanes, rings and workers, by public calls alone: a lane under packets and commands (`lanes`, `idle`, `trees`), and
+//! one for which memory is refused (`failing`), rings and the resequencer (`rings`), a worker (`workers`), what lanes end with
+//! (`merging`), and whole captures on several lanes, whose ends are the same whatever the number of lanes (`several`).
+//!
+//! Crates tested: `lane_core`, `lane_rings`, `lane_worker`, `lane_ends`, `worker_pool`.
+//! Begin with `lanes`; `frames` and `plain` are what the others are given.
 #![tactic(auto)]
 
 #[cfg(test)]
