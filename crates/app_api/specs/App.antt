@@ -1,3 +1,4 @@
+-- What an application is: plain functions of its tally, the call and the rules, and what each keeps.
 use Rattle.std.specs.Prelude.{◌≡◌, ℕ, ◌≤◌, ◌&&◌, ◌||◌, ◌==◌, Bool, List, length, map, nat_le, nat_lt, IsTrue, Option, Some, None}
 use Rattle.std.specs.Borrow.{Bor}
 use Rattle.std.specs.List.{list_all}

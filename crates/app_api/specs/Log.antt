@@ -1,3 +1,4 @@
+-- The log application: it sees every packet, and asks nothing.
 use Rattle.std.specs.Prelude.{true, List, [], ◌∷◌, refl}
 use Rattle.std.proofs.Common.{lit≤}
 use Rattle.native_filters.specs.declared.facts.Hook.TheVariants.{Snd, Rcv}

@@ -1,3 +1,4 @@
+-- What a callback asks.
 use Rattle.std.specs.Prelude.{[], None}
 use Rattle.app_api.specs.declared.reaction.Reaction.{Reaction}
 

@@ -1,3 +1,4 @@
+-- Registrations: which of them an application may have as presets, and how one is found by its number.
 use Rattle.std.specs.Prelude.{ℕ, ◌^◌, ◌&&◌, ◌==◌, not, Bool, true, false, List, [], map, Option, nat_le, nat_lt}
 use Rattle.std.specs.List.{list_all, find}
 use Rattle.native_filters.specs.declared.facts.Hook.{Hook}

@@ -1,3 +1,4 @@
+-- What an application keeps of a connection before its first call.
 use Rattle.app_api.specs.declared.app.Tally.{Tally}
 
 -- eight zeros

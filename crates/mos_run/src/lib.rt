@@ -2,8 +2,8 @@
 //! told, with a status.
 //!
 //! Contract: that of `run_mos` is the headline: on status 0 exactly the text of the run's outcome was written, under versions
-//! that the run may have; and one record, `MosRun`, of all else that it promises, such as the cause of every other status.
-//! `run_gathered` has the same over an output that is called once for many lines.
+//! that the run may have; and one record, `MosRun`, of all else that it promises, such as the cause of every other status but
+//! want of memory. `run_gathered` has the same over an output that is called once for many lines.
 //! Begin with `specs/Request.antt` and `specs/Run.antt`, then `run_mos` in `src/run.rt` and `src/gathered.rt`. `src/script.rt`
 //! fetches the script, `src/explained.rt` tells why a file was refused, `src/refusal.rt` and `src/telling.rt` are refusals with
 //! their statuses and lines, `src/ended.rt` is how a run ended.

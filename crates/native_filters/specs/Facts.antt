@@ -1,3 +1,4 @@
+-- The facts of a raise, by their names and places.
 use Rattle.std.specs.Prelude.{ℕ, List, [], ◌∷◌, codes, slice_index_or}
 use Rattle.native_filters.specs.declared.facts.Facts.{Facts}
 

@@ -1,3 +1,4 @@
+-- The six native filters, by their numbers.
 use Rattle.std.specs.Prelude.{ℕ, ◌+◌, ◌*◌, ◌-◌, ◌/◌, ◌^◌, Bool, not, ◌&&◌, ◌||◌, ◌==◌, if◌then◌else◌, nat_lt, bit_and}
 use Rattle.native_filters.specs.declared.facts.Facts.{Facts}
 
