@@ -1,5 +1,5 @@
 //! A firewall: rules on the client's net, the server's net and the server's port decide which packets of connections pass, and
-//! `FirewallApp` is the application that drops the others.
+//! `FirewallApp` is the application that drops the others, and orphans that aren't of class other.
 //!
 //! Contract: `decide` answers what the matching rule with the least number says, and `(false, 0)` exactly where no rule
 //! matches; the application is that of its definition.

@@ -2,7 +2,7 @@
 //! in which order and with which facts. No call takes memory.
 //!
 //! Contract: the calls of `src/phases.rt` give exactly the list of the definition, at most six raises; those of
-//! `src/listening.rt` tell whether any of them is heard, before a raise is made.
+//! `src/listening.rt` tell whether any raise of a packet's phase is heard, before one is made.
 //! Begin with `specs/Raises.antt` and `specs/Facts.antt`, then `src/phases.rt`; `specs/Laws.antt` and `src/laws.rt` say the
 //! same in plain words.
 //! Tests: `packet_tests` (events).

@@ -7,7 +7,7 @@
 //! Begin with `specs/Forward.antt` and `src/lanes.rt`. The team has workers that answer (`src/make.rt`), and its feed
 //! (`src/feed.rt`) is the stream of `forward_stream`; `src/leave.rt` writes what is left once the threads have ended, and
 //! `src/explain.rt` says what the answers are.
-//! Tests: none of its own; `run_tests` (handing_on, failing, held_threads) and `whole_runs` forward with several workers.
+//! Tests: none of its own; `run_tests` (handing_on, failing) and `whole_runs` forward with several workers.
 #![tactic(auto)]
 
 mod explain;

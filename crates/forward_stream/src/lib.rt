@@ -7,7 +7,7 @@
 //! Contract: at every exit the records whose turn it was are written whole, and at a fault of writing a prefix of the next one;
 //! at most 4,096 packets are on their way (`specs/OnTheirWay.antt`).
 //! Begin with `specs/Streamed.antt`, which says what was sent, taken and written, then `src/dispatch.rt`.
-//! Tests: none of its own; `run_tests` (handing_on, failing, held_threads) and `whole_runs` forward with several workers.
+//! Tests: none of its own; `run_tests` (handing_on, failing) and `whole_runs` forward with several workers.
 #![tactic(auto)]
 
 mod dispatch;

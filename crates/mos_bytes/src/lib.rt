@@ -3,7 +3,8 @@
 //!
 //! There are adapters over std (`ReadSource`, `WriteSink`, `FolderShelf`), forms in memory for tests, and a sink that gathers
 //! small pieces (`GatheringSink`). Where a source can, it tells the bytes that it has at hand and lends them; a sink hands on
-//! what it holds back when it is asked to. Who writes a source or a sink need not have these calls.
+//! what it holds back when it is asked to. Who writes a source or a sink need not write these calls: the traits have bodies for
+//! them.
 //! Contract: reads take a prefix of the bytes that are left, writes add bytes behind those that were taken, and a fault is told
 //! only where the object's count of faults, which never falls, rose.
 //! Begin with `src/source.rt` and `src/sink.rt`, then `specs/Reads.antt`, `specs/Writes.antt` and `specs/Causes.antt`.

@@ -1,7 +1,7 @@
 //! The words after the program's name, read as settings by a command of `clap` with five options.
 //!
 //! Contract: `read_words` answers the settings of the definition, which knows no parser; Usage exactly where the words aren't
-//! accepted, or that memory was refused before that was known. `usage_text` is the line that tells refused words.
+//! accepted, unless memory was refused before that was known. `usage_text` is the line that tells refused words.
 //! Begin with `specs/Words.antt` and `specs/Offers.antt`, then `src/read.rt` and `src/settings.rt`; `proofs/Reading.antt` is
 //! the induction that joins the walk of `clap` to the definition.
 //! Tests: `text_tests` (settings).
