@@ -7,7 +7,7 @@ TO = $(DESTDIR)$(PREFIX)
 BASH_COMPLETION = $(TO)/share/bash-completion/completions
 ZSH_COMPLETION = $(TO)/share/zsh/site-functions
 
-.PHONY: run build check test bench install uninstall
+.PHONY: run build check test measure install uninstall
 
 run:            ## the report of a capture: make run CAPTURE=FILE
 	@./mos < $(CAPTURE)
@@ -22,8 +22,8 @@ check:          ## prove one crate: make check CRATE=flow_table
 test:           ## prove all, try the wrong bodies, run every test and the program
 	rt ci
 
-bench:          ## measure the built program
-	bench/run
+measure:        ## measure the built program
+	tools/measure/run
 
 install:        ## the built program, its helpers, its page and completions: make install PREFIX=/usr/local DESTDIR=
 	@test -x $(BUILT) || { echo "make install: there is no built program: ./build"; exit 1; }
