@@ -1,16 +1,16 @@
 //! The filters in which authors say which packets matter: their grammar, meaning and printed text.
 #![tactic(auto)]
 
-pub mod error;
-pub mod evaluation;
-pub mod expr;
+mod error;
+mod evaluation;
+mod expr;
 mod law;
 mod lexeme;
 mod lexer;
 mod natives;
 mod parser;
 mod printer;
-pub mod term;
+mod term;
 mod token;
 
 pub use error::FilterError;
