@@ -1,17 +1,18 @@
 //! The token at the front of a text.
 
 ghost use Rattle.std.specs.Prelude.{◌≡◌, ◌≤◌, ◌<◌, ◌&&◌, ◌^◌, ◌==◌, slice_index, take, true, false, length, IsTrue, IfSome, MatchOption};
-ghost use Rattle.std.specs.Char.{digit_value, is_ascii_digit, is_ascii_hexdigit, is_ascii_lowercase};
+ghost use Rattle.std.specs.Char.{is_ascii_digit, is_ascii_hexdigit, is_ascii_lowercase};
 ghost use Rattle.std.specs.List.{position_from, prefix_len};
 ghost use Rattle.std.specs.Option.{option_map, unwrap_or};
 ghost use Rattle.std.specs.Str.{bytes_eq};
-ghost use Rattle.std.specs.Str.Parse.{digits_value};
+ghost use Rattle.std.specs.Str.Parse.{IsNumeral, digits_value};
 ghost use Rattle.filter_lang.specs.declared.token.Token.TheVariants.{FactName, UnknownWord};
 ghost use Rattle.filter_lang.specs.Tokens.{is_blank, lexeme, fact_names, word_token, name_at, numeral_token, begins_hex, hex_at, dotted_part, last_part, quad_from, decimal_at, number_at, signs, sign_in, token_at};
 
 use crate::term::{Join, Op};
 use crate::token::Token;
 use number_text::octet;
+use std::str::from_utf8;
 
 /// A token at the front of a text.
 #[derive(Clone, Copy, PartialEq, Eq, Debug)]
@@ -162,7 +163,7 @@ fn begins_hex(bytes: &[u8]) -> bool
 
 // The hexadecimal number at the front of the text.
 fn hex_at(bytes: &[u8]) -> Lexeme
-    requires { 3 ≤ length bytes.now }
+    requires { IsTrue (begins_hex bytes.now) }
     ensures value { result ≡ hex_at bytes.now }
     ensures some { 0 < result.len }
     ensures within { result.len ≤ length bytes.now }
@@ -195,9 +196,10 @@ fn is_dot(bytes: &[u8], at: usize) -> bool
 }
 
 // The token of a number with these digits.
-fn numeral_token(digits: &[u8], radix: u64) -> Token
+fn numeral_token(digits: &[u8], radix: u32) -> Token
     requires low { 2 ≤ radix }
     requires high { radix ≤ 16 }
+    requires numeral { IsNumeral radix digits.now }
     ensures { result ≡ numeral_token (digits_value radix digits.now) }
 {
     match value(digits, radix) {
@@ -207,24 +209,17 @@ fn numeral_token(digits: &[u8], radix: u64) -> Token
 }
 
 // The number that the digits write, where it is below 2^64.
-fn value(digits: &[u8], radix: u64) -> Option<u64>
+fn value(digits: &[u8], radix: u32) -> Option<u64>
     requires low { 2 ≤ radix }
     requires high { radix ≤ 16 }
+    requires numeral { IsNumeral radix digits.now }
     ensures { MatchOption result (2 ^ 64 ≤ digits_value radix digits.now)
         (λ n. n ≡ digits_value radix digits.now) }
 {
-    let mut value = 0u64;
-    for byte in digits {
-        value = value.checked_mul(radix)?.checked_add(digit(*byte))?;
+    match from_utf8(digits) {
+        Ok(text) => u64::from_str_radix(text, radix).ok(),
+        Err(_) => None,
     }
-    Some(value)
-}
-
-// What a digit stands for, in any radix up to 36, and 36 for any other byte.
-fn digit(byte: u8) -> u64
-    ensures { result ≡ digit_value byte }
-{
-    char::from(byte).to_digit(36).map_or(36, u64::from)
 }
 
 // The dotted address at the front of the text, or a bad token of one byte where there is none.

@@ -8,16 +8,16 @@
 //! Tests: `text_tests` (filters), `event_tests` (natives).
 #![tactic(auto)]
 
-pub mod error;
-pub mod evaluation;
-pub mod expr;
+mod error;
+mod evaluation;
+mod expr;
 mod law;
 mod lexeme;
 mod lexer;
 mod natives;
 mod parser;
 mod printer;
-pub mod term;
+mod term;
 mod token;
 
 pub use error::FilterError;

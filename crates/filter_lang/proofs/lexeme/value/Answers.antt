@@ -1,32 +1,15 @@
-use Rattle.std.proofs.Common.{ap, ◌+◌, ◌*◌, ◌^◌, ◌≤◌, get_or, arith, rules}
-use Rattle.std.specs.Char.{digit_value}
-use Rattle.std.specs.Str.Parse.{digits_value}
-use Rattle.std.proofs.lemmas.Int.Digits.{digits_value_more}
-use Rattle.std.proofs.lemmas.Str.Parse.{digits_value-take-le}
+use Rattle.std.proofs.Common.{subst, arith}
+use Rattle.std.specs.Str.Parse.{ParsesUnsigned}
+use Rattle.std.proofs.lemmas.Str.{IsUtf8-from_ascii}
+use Rattle.filter_lang.proofs.Numerals.{ascii, parsed}
 use Rattle.filter_lang.proofs.lexeme.value.Goals as goal
 
-pub returns-in_err-checked_mul : goal.returns-in_err-checked_mul
-returns-in_err-checked_mul c =
-    let bs = c.args.digits.now in
-    let i = c.loop-byte.byte-index in
-    let more = digits_value_more c.args.radix bs i c.loop-byte-test.true in
-    let most = digits_value-take-le c.args.radix bs (i + 1) (omega arith) in
-    let large : 2 ^ 64 ≤ c.loop-byte.value * c.args.radix = omega (arith, c.in_err-checked_mul.ensures) in
-    let whole : 2 ^ 64 ≤ digits_value c.args.radix bs = grind arith in
-    search rules
+pub returns-in-Err : goal.returns-in-Err
+returns-in-Err c =
+    let small = ascii c.args.radix c.args.digits.now (omega arith) c.requires.numeral.1 in
+    absurd (c.in-Err.ensures.cases.0 (IsUtf8-from_ascii c.args.digits.now small))
 
-pub returns-in_err-value : goal.returns-in_err-value
-returns-in_err-value c =
-    let bs = c.args.digits.now in
-    let i = c.loop-byte.byte-index in
-    let more = digits_value_more c.args.radix bs i c.loop-byte-test.true in
-    let most = digits_value-take-le c.args.radix bs (i + 1) (omega arith) in
-    let large : 2 ^ 64 ≤ c.loop-byte.value * c.args.radix + digit_value (get_or bs i 0) = omega (arith, c.in_err-value.ensures, c.in_ok-checked_mul.ensures, c.digit.ensures) in
-    let whole : 2 ^ 64 ≤ digits_value c.args.radix bs = grind arith in
-    search rules
-
-pub loop-byte-preserved : goal.loop-byte-preserved
-loop-byte-preserved c =
-    let more = digits_value_more c.args.radix c.args.digits.now c.loop-byte.byte-index c.loop-byte-test.true in
-    let product = ap (λ n. n * c.args.radix) c.loop-byte.invariant in
-    omega (arith, product, c.in_ok-value.ensures, c.in_ok-checked_mul.ensures, c.digit.ensures)
+pub returns-in-Ok : goal.returns-in-Ok
+returns-in-Ok c =
+    let told = subst (λ bs. ParsesUnsigned 64 c.args.radix bs c.from_str_radix.result) c.in-Ok.ensures.cases.0 c.from_str_radix.ensures.value in
+    rw c.ok.ensures.value (parsed c.args.radix c.args.digits.now c.from_str_radix.result (omega arith) c.requires.numeral told)
