@@ -32,6 +32,7 @@ use Rattle.connection_core.specs.PacketUnderWay.{PacketUnderWay, seen_by, after_
 use Rattle.connection_core.specs.History.{weight_of}
 use Rattle.connection_core.specs.Standing.{IsUnder, Steps}
 use Rattle.connection_core.specs.Numbers.{called_by, called_numbers}
+use Rattle.connection_core.specs.Unheard.{CallsOne}
 
 pub weight-append : (xs ys : List Entry) → weight_of (xs ++ ys) ≡ weight_of xs + weight_of ys
 weight-append [] ys = omega arith
@@ -136,6 +137,17 @@ calls_done app s keep list number from raise socket notes ledger all socket_now 
       ∙ ap (λ l. called_all app s number from raise c (fires s.defs raise.facts raise.hook raise.event l)) (sym u.active) in
       subst (λ w. IsUnder keep others list socket_now notes_now ledger_now w) same (k.steps.stands others c u);
 }
+
+-- where one registration alone fires, its callback is the raise
+pub calls_one : (app : Meaning) (s : ControlState) (keep : Bool) (list : List Reg) (number : ℕ) (from : Side) (raise : Raise)
+    (socket socket_after : SocketView) (notes notes_after : Notes) (ledger ledger_after : Ledger) (n : ℕ)
+    → All (λ (r : Reg). reg_of s.regs r.number ≡ Some r) list → CallsOne s list raise n
+    → Steps keep list socket notes ledger socket_after notes_after ledger_after (λ c. called_by app s number from raise c (reg_of s.regs n))
+    → Steps keep list socket notes ledger socket_after notes_after ledger_after (called_at app s number from raise)
+calls_one app s keep list number from raise socket socket_after notes notes_after ledger ledger_after n known one step =
+    calls_done app s keep list number from raise socket notes ledger (n ∷ []) socket_after notes_after ledger_after []
+    (calls_on app s keep list number from raise socket notes ledger (n ∷ []) socket socket_after notes notes_after ledger ledger_after
+    (n ∷ []) [] n (calls_begun app s keep list number from raise socket notes ledger (n ∷ [])) refl step) refl known (sym one)
 
 -- no more fire than there are
 filter_short : {X : Type 0} (p : X → Bool) (xs : List X) → length (filter p xs) ≤ length xs

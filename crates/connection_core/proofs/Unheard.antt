@@ -27,7 +27,7 @@ use Rattle.connection_core.specs.declared.ledger.Notes.{Notes}
 use Rattle.connection_core.specs.declared.ledger.Counts.{Counts}
 use Rattle.connection_core.specs.declared.ledger.Ledger.{Ledger}
 use Rattle.connection_core.specs.PacketUnderWay.{PacketUnderWay, called_all, called_at, changed_all, settled, raise_done, phase}
-use Rattle.connection_core.specs.Standing.{IsUnder, Makes, Reached}
+use Rattle.connection_core.specs.Standing.{IsUnder, Steps, Makes, Reached}
 use Rattle.connection_core.specs.Unheard.{CallsNothing, CallNothing}
 use Rattle.connection_core.proofs.Changing.{within-same}
 
@@ -36,6 +36,14 @@ use Rattle.connection_core.proofs.Changing.{within-same}
 called-none : (app : Meaning) (s : ControlState) (number : ℕ) (from : Side) (raise : Raise) (c : PacketUnderWay) → CallsNothing s c.active raise → called_at app s number from raise c ≡ c
 unfolding called_at
 called-none app s number from raise c none = ap (called_all app s number from raise c) none
+
+pub calls_nothing : (app : Meaning) (s : ControlState) (keep : Bool) (list : List Reg) (number : ℕ) (from : Side) (raise : Raise) (socket : SocketView) (notes : Notes) (ledger : Ledger)
+    → CallsNothing s list raise → Steps keep list socket notes ledger socket notes ledger (called_at app s number from raise)
+calls_nothing app s keep list number from raise socket notes ledger silent = record {
+  stands = λ others c u.
+      let here : CallsNothing s c.active raise = subst (λ l. CallsNothing s l raise) (sym u.active) silent in
+      subst (λ (d : PacketUnderWay). IsUnder keep others list socket notes ledger d) (sym (called-none app s number from raise c here)) u;
+}
 
 pub settled-none : (s : ControlState) (c : PacketUnderWay) → c.asked ≡ [] → settled s c ≡ c
 unfolding settled

@@ -10,10 +10,11 @@ ghost use Rattle.connection_core.specs.Standing.{IsAsFar, RiseBy, raise_of, at_r
 ghost use Rattle.connection_core.specs.Calls.{StepsInForce};
 
 use crate::arrival::{Phase, RaiseAt};
+use crate::hearing::hearers;
 use crate::ledger::{Ledger, Notes};
 use crate::look::look;
 use crate::terms::Terms;
-use app_api::{App, Call, Entry, Reg, Seen};
+use app_api::{App, Call, Entry, Hearers, Reg, Seen};
 use event_trees::{Walk, later_events_change_nothing, slots_in_order};
 use flow_socket::FlowSocket;
 use shared_forest::Tree;
@@ -71,8 +72,9 @@ impl<A: App> Terms<'_, A> {
         }
     }
 
-    /// Calls what fires at one raise: at most as many as a private list has.
-    pub(crate) fn call_at(
+    // Calls what fires at one raise, as a walk over the tree finds it.
+    #[inline(never)]
+    fn walk(
         &self,
         alloc: Global,
         tree: &Tree,
@@ -98,6 +100,35 @@ impl<A: App> Terms<'_, A> {
             self.call_number(alloc, raise_at, number, socket, notes, ledger)?;
         }
         Ok(())
+    }
+
+    /// Calls what fires at one raise: at most as many as a private list has. Where one registration alone hears a root's
+    /// event no filter is asked on the way to it, so that it is called without a walk.
+    pub(crate) fn call_at(
+        &self,
+        alloc: Global,
+        tree: &Tree,
+        raise_at: &RaiseAt,
+        socket: &mut FlowSocket,
+        notes: &mut Notes,
+        ledger: &mut Ledger,
+    ) -> Result<(), AllocError>
+        requires forest { IsForestInForce self.now.in_force tree.now }
+        requires callbacks { ledger.old.counts.callbacks < 2 ^ 62 }
+        requires weight { ledger.old.counts.weight < 2 ^ 62 }
+        ensures stands { OnOk result (StepsInForce self.now.keep self.now.in_force
+            (list_in_force self.now.in_force tree.now) socket.old notes.old ledger.old socket.new notes.new ledger.new
+            (λ s. at_raise (called_at (A.meaning self.now.app.now) s) raise_at.now)) }
+        ensures rise { RiseBy 255 ledger.old.counts ledger.new.counts }
+        ensures as_far { IsAsFar socket.old socket.new }
+    {
+        match hearers(&self.in_force, tree, raise_at.hook, raise_at.event) {
+            Hearers::Nobody => Ok(()),
+            Hearers::One(number) => {
+                self.call_number(alloc, raise_at, number, socket, notes, ledger)
+            }
+            Hearers::More => self.walk(alloc, tree, raise_at, socket, notes, ledger),
+        }
     }
 
     /// Calls what fires at several raises, of which there are at most six, all of one tree: the changes that are asked

@@ -16,9 +16,10 @@ ghost use Rattle.event_trees.specs.Private.{numbers_of};
 ghost use Rattle.forest_versions.specs.State.{ControlState};
 ghost use Rattle.connection_core.specs.InForce.{IsInForce};
 ghost use Rattle.connection_core.specs.Trees.{list_in_force, IsForestInForce};
-ghost use Rattle.connection_core.specs.Unheard.{CallsNothing, CallNothing};
+ghost use Rattle.connection_core.specs.Unheard.{CallsNothing, CallNothing, CallsOne};
 
 use crate::in_force::InForce;
+use app_api::{Hearers, is_built_in};
 use builtin_events::{is_heard_at_receiver, is_heard_at_sender};
 use event_trees::{heard_where_registered, later_events_change_nothing, one_hearer_is_called};
 use flow_socket::{Got, Sent};
@@ -46,6 +47,23 @@ fn one_hearer_is_named(in_force: &InForce, tree: &Tree)
 {
     one_hearer_is_called(tree);
     later_events_change_nothing(in_force.defs());
+}
+
+/// Who hears the raise of an event.
+#[inline(always)]
+pub(crate) fn hearers(in_force: &InForce, tree: &Tree, hook: Hook, event: u16) -> Hearers
+    requires forest { IsForestInForce in_force.now tree.now }
+    ensures nobody { result ≡ Hearers.Nobody → (s : ControlState) (facts : Facts) → IsInForce in_force.now s
+        → CallsNothing s (list_in_force in_force.now tree.now) (record { hook = hook; event = event; facts = facts }) }
+    ensures one { (number : ℕ) → result ≡ Hearers.One number → (s : ControlState) (facts : Facts) → IsInForce in_force.now s
+        → CallsOne s (list_in_force in_force.now tree.now) (record { hook = hook; event = event; facts = facts }) number }
+{
+    unheard_calls_nothing(in_force, tree);
+    one_hearer_is_named(in_force, tree);
+    if !is_built_in(event) {
+        return Hearers::More;
+    }
+    tree.heard(hook).get(event)
 }
 
 /// Whether the raise of an event is heard.

@@ -1,4 +1,4 @@
-use Rattle.std.proofs.Common.{refl, sym, subst}
+use Rattle.std.proofs.Common.{refl, subst}
 use Rattle.shared_forest.specs.Lists.{TreeLists}
 use Rattle.connection_core.specs.InForce.{registered}
 use Rattle.connection_core.specs.PacketUnderWay.{called_at}

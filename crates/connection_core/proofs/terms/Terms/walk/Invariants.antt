@@ -5,7 +5,7 @@ use Rattle.connection_core.specs.InForce.{registered, IsInForce}
 use Rattle.connection_core.specs.Trees.{active_in}
 use Rattle.connection_core.specs.Standing.{IsAsFar, raise_of}
 use Rattle.connection_core.proofs.Callbacks.{CallsLeft}
-use Rattle.connection_core.proofs.terms.Terms.call_at.Given as goal
+use Rattle.connection_core.proofs.terms.Terms.walk.Given as goal
 
 abbrev pub invariant-loop-number : goal.invariant-loop-number
 invariant-loop-number g l =
