@@ -77,6 +77,7 @@ fn holds(left: &Sum, op: Op, right: &Sum, facts: &Facts) -> bool
 }
 
 // The number that a sum makes, from the left.
+#[inline(always)]
 fn value(sum: &Sum, facts: &Facts) -> u64
     requires { SumIsWithin sum.now }
     ensures { result ≡ sum_value facts.now sum.now }
@@ -89,6 +90,7 @@ fn value(sum: &Sum, facts: &Facts) -> u64
 }
 
 // The number that an atom names.
+#[inline(always)]
 fn atom(atom: &Atom, facts: &Facts) -> u64
     requires { AtomIsWithin atom.now }
     ensures { result ≡ atom_value facts.now atom.now }
@@ -100,6 +102,7 @@ fn atom(atom: &Atom, facts: &Facts) -> u64
 }
 
 // A number joined to what stands left of it.
+#[inline(never)]
 fn join(left: u64, join: Join, right: u64) -> u64
     ensures { result ≡ joined_value left join right }
 {
@@ -111,6 +114,7 @@ fn join(left: u64, join: Join, right: u64) -> u64
 }
 
 // Whether two numbers compare so.
+#[inline(always)]
 fn compare(left: u64, op: Op, right: u64) -> bool
     ensures { result ≡ compared left op right }
 {

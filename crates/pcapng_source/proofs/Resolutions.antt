@@ -1,7 +1,7 @@
 -- Options, one after another.
-use Rattle.std.proofs.Common.{◌≡◌, ℕ, zero, suc, ◌+◌, ◌-◌, ◌<◌, ◌≤◌, List, [], ◌∷◌, ◌++◌, length, take, drop, Bool, true, false, ◌==◌, not, cond, get_or, set, refl, sym, ap, ◌∙◌, arith, length-append, length-drop}
+use Rattle.std.proofs.Common.{◌≡◌, ℕ, zero, suc, ◌+◌, ◌-◌, ◌<◌, ◌≤◌, List, [], ◌∷◌, ◌++◌, length, drop, Bool, true, false, ◌==◌, not, cond, get_or, refl, sym, ap, ◌∙◌, arith, length-append, length-drop}
 use Rattle.std.proofs.lemmas.Bool.{leb-true, ne_eqb, not-false, or_from, or_left, or_parts, or_right}
-use Rattle.std.proofs.lemmas.List.{drop_all, get_or-append-add, take_more, take_more_set}
+use Rattle.std.proofs.lemmas.List.{drop_all, get_or-append-add}
 use Rattle.std.proofs.Math.Seq.{drop-append-add}
 use Rattle.std.specs.Prelude.{slice_index}
 use Rattle.pcap_source.specs.Order.{number_in}
@@ -60,17 +60,6 @@ last_resolved-push : (interfaces : List Interface) (interface : Interface) (reso
 last_resolved-push [] interface resolution = refl
 last_resolved-push (first ∷ []) interface resolution = refl
 last_resolved-push (first ∷ (second ∷ others)) interface resolution = ap (λ l. first ∷ l) (last_resolved-push (second ∷ others) interface resolution)
-
--- in an array: y is the last of the first interfaces, with its resolution
-pub resolved-array : (interfaces : List Interface) (count resolution : ℕ) (last : Interface) → 0 < count → count ≤ length interfaces → last ≡ get_or interfaces (count - 1) last
-    → take count (set interfaces (count - 1) (record last { resolution = resolution_told resolution })) ≡ last_resolved (take count interfaces) resolution
-resolved-array interfaces count resolution last some within read =
-    let one : count ≡ count - 1 + 1 = omega arith in
-    ap (λ k. take k (set interfaces (count - 1) (record last { resolution = resolution_told resolution }))) one
-    ∙ take_more_set interfaces (count - 1) (record last { resolution = resolution_told resolution }) (omega arith)
-    ∙ sym (last_resolved-push (take (count - 1) interfaces) last resolution)
-    ∙ ap (λ l. last_resolved (take (count - 1) interfaces ++ l ∷ []) resolution) read
-    ∙ ap (λ l. last_resolved l resolution) (sym (take_more interfaces (count - 1) last (omega arith)) ∙ ap (λ k. take k interfaces) (sym one))
 
 pub resolved-added : (section : SectionState) (interface : Interface) (resolution : ℕ)
     → with_resolution (with_interface section interface) resolution ≡ with_interface section (record interface { resolution = resolution_told resolution })

@@ -1,10 +1,12 @@
 //! A section: the order of its bytes, and its interfaces.
 
-ghost use Rattle.std.specs.Prelude.{◌≡◌, ◌<◌, ◌≤◌, [], ◌∷◌, ◌++◌, length, take, nat_le, Option};
+ghost use Rattle.std.specs.Prelude.{◌≡◌, ◌<◌, ◌≤◌, [], ◌∷◌, ◌++◌, length, nat_le, Option};
 ghost use Rattle.std.specs.List.{slice_get};
 ghost use Rattle.pcapng_source.specs.Fields.{resolution_told, snap_told};
 ghost use Rattle.pcapng_source.specs.Packets.{within_snap};
 
+use crate::open::MICROSECONDS;
+use arrayvec::ArrayVec;
 use pcap_source::Order;
 use std::marker::Model;
 
@@ -36,8 +38,14 @@ impl Resolution {
     }
 }
 
+impl Default for Resolution {
+    fn default() -> Self {
+        Resolution::told(MICROSECONDS)
+    }
+}
+
 /// An interface on which packets were captured.
-#[derive(Clone, Copy, Debug)]
+#[derive(Clone, Copy, Debug, Default)]
 pub struct Interface {
     /// Its link type.
     pub link: u16,
@@ -70,19 +78,18 @@ impl Interface {
 #[derive(Drop)]
 pub(crate) struct Section {
     order: Order,
-    interfaces: [Interface; INTERFACE_LIMIT],
-    count: usize,
+    interfaces: ArrayVec<Interface, INTERFACE_LIMIT>,
 }
 
 impl Model for Section {
     ghost use Rattle.pcapng_source.specs.Fields.{SectionState};
-    ghost use Rattle.std.specs.Prelude.{◌≡◌, ◌≤◌, length, take};
+    ghost use Rattle.std.specs.Prelude.{◌≤◌, length};
 
     ghost Value = { SectionState };
 
-    ghost view = { λ s. record { order = s.order; interfaces = take s.count s.interfaces } };
+    ghost view = { λ s. record { order = s.order; interfaces = s.interfaces.items } };
 
-    ghost invariant = { λ s. (s.count ≤ 64) × (length s.interfaces ≡ 64) };
+    ghost invariant = { λ s. length s.interfaces.items ≤ 64 };
 }
 
 impl Section {
@@ -92,15 +99,9 @@ impl Section {
     pub(crate) fn new(order: Order) -> Self
         ensures { result ≡ record { order = order; interfaces = [] } }
     {
-        let none = Interface {
-            link: 0,
-            snap: None,
-            resolution: Resolution::PowerOfTen(0),
-        };
         Section {
             order,
-            interfaces: [none; INTERFACE_LIMIT],
-            count: 0,
+            interfaces: ArrayVec::new(),
         }
     }
 
@@ -114,22 +115,23 @@ impl Section {
     pub(crate) fn is_full(&self) -> bool
         ensures { result ≡ nat_le 64 (length self.now.interfaces) }
     {
-        self.count >= INTERFACE_LIMIT
+        self.interfaces.len() >= INTERFACE_LIMIT
     }
 
     // The interface of this number, if it is there.
     pub(crate) fn interface(&self, number: u32) -> Option<Interface>
         ensures { result ≡ slice_get self.now.interfaces number }
     {
-        self.interfaces[..self.count].get(number as usize).copied()
+        self.interfaces.as_slice().get(number as usize).copied()
     }
 
     // Sets the resolution of the interface that was added last to the one that this byte tells.
     pub(crate) fn resolve(&mut self, byte: u8)
         ensures { self.new ≡ with_resolution self.old byte }
     {
-        if self.count > 0 {
-            self.interfaces[self.count - 1].resolution = Resolution::told(byte);
+        if let Some(last) = self.interfaces.pop() {
+            let resolution = Resolution::told(byte);
+            self.interfaces.push(Interface { resolution, ..last });
         }
     }
 
@@ -138,7 +140,6 @@ impl Section {
         requires { length self.old.interfaces < 64 }
         ensures { self.new ≡ with_interface self.old interface }
     {
-        self.interfaces[self.count] = interface;
-        self.count += 1;
+        self.interfaces.push(interface);
     }
 }
