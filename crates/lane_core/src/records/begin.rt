@@ -6,10 +6,12 @@ ghost use Rattle.std.specs.Option.{option_copied};
 ghost use Rattle.flow_table.specs.Table.{found};
 ghost use Rattle.shared_forest.specs.Store.{Keeps};
 ghost use Rattle.builtin_events.specs.Raised.{raises_of};
+ghost use Rattle.report_text.specs.declared.record.RecordKind.TheVariants.{Conn};
 ghost use Rattle.connection_core.specs.Standing.{RiseBy};
 ghost use Rattle.connection_core.specs.Calls.{HasRoom};
 ghost use Rattle.connection_core.specs.Trees.{InternsWithin};
 ghost use Rattle.ip6_views.specs.Seen.{seen};
+ghost use Rattle.lane_core.specs.End.{new_slot};
 ghost use Rattle.lane_core.specs.Live.{IsLive, HasFirst};
 ghost use Rattle.lane_core.specs.Sight.{Tcp, key_of_segment};
 ghost use Rattle.lane_core.specs.Records.{opens};
@@ -38,37 +40,35 @@ use std::alloc::AllocError;
 #[derive(Drop)]
 struct Opened {
     conn: Connection,
-    slot: RecordUnderWay,
     step: Step,
 }
 
-// A connection that a segment opens: its record will stand at a place.
+// A connection that a segment opens: its record stands at a place already, and is stepped where it stands.
 fn start_one<A: App, F: Forests>(
     terms: &PacketTerms<'_, A>,
     master: &Master,
     forests: &mut F,
-    ledger: &mut Ledger,
     place: usize,
+    slot: &mut RecordUnderWay,
+    ledger: &mut Ledger,
     segment: &SightTcp<'_>,
 ) -> Result<Opened, AllocError>
     requires first { HasFirst (F.answered forests.old) (F.content forests.old) master.now }
     requires room { HasRoom (2 ^ 60) ledger.old.counts }
+    requires empty { slot.old ≡ new_slot terms.now.number (Conn (seen segment.now).sender (seen segment.now).receiver)
+        master.now.version (A.meaning terms.now.app.now).fresh }
     ensures kept { Keeps F.answered F.content forests.old forests.new }
     ensures rise { RiseBy 3060 ledger.old.counts ledger.new.counts }
     ensures place { IfOk result (λ opened. opened.conn.place ≡ place) }
     ensures live { IfOk result (λ opened.
         IsLive (F.answered forests.new) (F.content forests.new) master.now (place + 1) 1 opened.conn) }
-    ensures stands { IfOk result (λ opened. Opens (taking A.meaning terms.now) master.now ledger.old.counts (F.interns forests.old)
-        (stage_in F.ForestView forests.new opened.conn opened.slot ledger.new.counts) (seen segment.now) opened.step) }
+    ensures stands { IfOk result (λ opened. Opens (taking A.meaning terms.now) master.now
+        ledger.old.counts (F.interns forests.old)
+        (stage_in F.ForestView forests.new opened.conn slot.new ledger.new.counts) (seen segment.now) opened.step) }
     ensures interned { InternsWithin (F.interns forests.old) (F.interns forests.new) 0
         (opened_by (A.meaning terms.now.app.now) master.now.now terms.now.number (seen segment.now)).altered }
 {
     let version = master.version();
-    let kind = RecordKind::Conn {
-        client: segment.from,
-        server: segment.to,
-    };
-    let mut slot = RecordUnderWay::new(terms.alloc, terms.number, kind, version, terms.app.fresh());
     let in_force = InForce { master, version };
     let forest = forests.again(terms.alloc, master.forest())?;
     first_tree_names_the_first_list(&in_force, forests.tree_of(&forest));
@@ -81,10 +81,8 @@ fn start_one<A: App, F: Forests>(
         moment: terms.moment,
         flow: Flow::new(terms.alloc, &in_force, forest),
     };
-    let step = step_one(
-        terms, master, forests, &mut conn, &mut slot, ledger, segment,
-    )?;
-    Ok(Opened { conn, slot, step })
+    let step = step_one(terms, master, forests, &mut conn, slot, ledger, segment)?;
+    Ok(Opened { conn, step })
 }
 
 // The callbacks of a packet of no connection, noted in a record that has none before.
@@ -100,7 +98,8 @@ fn orphan_at<A: App, F: Forests>(
     requires room { HasRoom (2 ^ 60) ledger.old.counts }
     ensures rise { RiseBy 1530 ledger.old.counts ledger.new.counts }
     ensures stands { IfOk result (IsOrphanNoted (taking A.meaning terms.now) master.now.now
-        (record { slot = slot.old; counts = ledger.old.counts }) (record { slot = slot.new; counts = ledger.new.counts }) (raises_of raised)) }
+        (record { slot = slot.old; counts = ledger.old.counts })
+        (record { slot = slot.new; counts = ledger.new.counts }) (raises_of raised)) }
 {
     let called = Terms {
         app: terms.app,
@@ -163,18 +162,34 @@ impl<F: Forests + Drop> Records<F> {
         requires opens { opens (Tcp (seen segment.now)) ≡ true }
         requires come { HasCome terms.now.number self.old }
         ensures stands { IfOk result (Places (taking A.meaning terms.now) self.old self.new (Tcp (seen segment.now))) }
-        ensures failed { OnErr result (CostsToPlace (taking A.meaning terms.now) self.old self.new (Tcp (seen segment.now))) }
+        ensures failed { OnErr result
+            (CostsToPlace (taking A.meaning terms.now) self.old self.new (Tcp (seen segment.now))) }
     {
+        let version = self.master.version();
+        let kind = RecordKind::Conn {
+            client: segment.from,
+            server: segment.to,
+        };
+        let record = RecordUnderWay::new(
+            terms.alloc,
+            terms.number,
+            kind,
+            version,
+            terms.app.fresh(),
+        );
+        let place = self.list.len();
+        self.list.push(record)?;
+        let slot = &mut self.list[place];
         let opened = start_one(
             terms,
             &self.master,
             &mut self.forests,
+            place,
+            slot,
             &mut self.ledger,
-            self.list.len(),
             segment,
         )?;
-        let Opened { conn, slot, step } = opened;
-        self.list.push(slot)?;
+        let Opened { conn, step } = opened;
         keep(&mut self.connections, key, conn, step.over)?;
         Ok(step.verdict)
     }
@@ -187,7 +202,8 @@ impl<F: Forests + Drop> Records<F> {
         head: Option<&Head>,
     ) -> Result<Verdict, AllocError>
         requires come { HasCome terms.now.number self.old }
-        ensures stands { IfOk result (PlacesOrphan (taking A.meaning terms.now) self.old self.new class (option_copied head.entry)) }
+        ensures stands { IfOk result
+            (PlacesOrphan (taking A.meaning terms.now) self.old self.new class (option_copied head.entry)) }
         ensures forests { self.new.forests ≡ self.old.forests }
         ensures taken { IsTaken terms.now.number self.old self.new }
     {

@@ -1,9 +1,8 @@
-use Rattle.std.proofs.Common.{◌≡◌, [], refl, sym, ap, subst, ◌∙◌, arith}
+use Rattle.std.proofs.Common.{◌≡◌, refl, sym, ap, subst, ◌∙◌, arith}
 use Rattle.forest_versions.specs.Master.{Tells}
 use Rattle.forest_versions.specs.State.{active}
 use Rattle.shared_forest.specs.Listing.{listing}
 use Rattle.shared_forest.specs.Lists.{TreeLists}
-use Rattle.report_text.specs.declared.record.RecordKind.TheVariants.{Conn}
 use Rattle.event_trees.specs.Edit.{IsForestOf}
 use Rattle.connection_core.specs.InForce.{registered_at}
 use Rattle.connection_core.specs.Trees.{active_in}
@@ -36,25 +35,16 @@ returns-clause-stands g c =
     let conn : Connection = record { place = c.args.place; client = segment.sender; version = c.version-version.result; last = c.args.terms.now.number; moment = c.args.terms.now.moment; flow = c.new.result } in
     record {
       conn = conn;
-      slot = c.new-slot.result;
+      slot = c.args.slot.now;
       tree = tree;
-      slot_is = c.new-slot.ensures
-          ∙ ap (λ t. record {
-            name = c.args.terms.now.number;
-            kind = Conn segment.sender segment.receiver;
-            version = c.version-version.result;
-            notes = record
-                { tally = t; entries = [] };
-            drops = [];
-          }) c.fresh.ensures
-          ∙ ap (λ v. record { name = c.args.terms.now.number; kind = Conn segment.sender segment.receiver; version = v; notes = record { tally = app.fresh; entries = [] }; drops = [] }) version;
+      slot_is = c.requires.empty;
       client = refl;
       version = version;
       fresh_flow = c.new.ensures.opened m.now tree tells first app;
       step_is =
-          subst (λ n. IsStep (taking g.A.App.meaning c.args.terms.now) m (record { conn = conn; slot = c.new-slot.result; counts = c.args.ledger.now.counts; tree = tree; interns = n })
+          subst (λ n. IsStep (taking g.A.App.meaning c.args.terms.now) m (record { conn = conn; slot = c.args.slot.now; counts = c.args.ledger.now.counts; tree = tree; interns = n })
           (stage_in g.F.ForestView c.step_one.new.forests c.step_one.new.conn c.step_one.new.slot c.step_one.new.ledger.counts) segment c.in_ok-step.step) c.again.ensures.uncounted
-          (subst (λ s. IsStep (taking g.A.App.meaning c.args.terms.now) m (record { conn = conn; slot = c.new-slot.result; counts = c.args.ledger.now.counts; tree = content s; interns = g.F.ForestView.interns store })
+          (subst (λ s. IsStep (taking g.A.App.meaning c.args.terms.now) m (record { conn = conn; slot = c.args.slot.now; counts = c.args.ledger.now.counts; tree = content s; interns = g.F.ForestView.interns store })
           (stage_in g.F.ForestView c.step_one.new.forests c.step_one.new.conn c.step_one.new.slot c.step_one.new.ledger.counts) segment c.in_ok-step.step)
           c.new.ensures.forest c.in_ok-step.ensures.stands);
     }
@@ -78,13 +68,13 @@ returns-in_err-step-clause-interned g c =
     let first : active_in (registered_at m c.version-version.result) tree ≡ active m.now =
     subst (λ (t : TreeLists). active_in (registered_at m c.version-version.result) t ≡ active m.now) c.tree_of.ensures (c.first_tree_names_the_first_list.ensures.list m.now tells shown) in
     let begun : IsConnection c.args.terms.now.keep c.args.ledger.now.counts (registered_at m c.version-version.result)
-    (g.F.ForestView.content store c.new.result.forest) c.new.result c.new-slot.result.notes c.args.ledger.now.counts (fresh app m.now) =
+    (g.F.ForestView.content store c.new.result.forest) c.new.result c.args.slot.now.notes c.args.ledger.now.counts (fresh app m.now) =
     subst (λ s. IsConnection c.args.terms.now.keep c.args.ledger.now.counts (registered_at m c.version-version.result) (g.F.ForestView.content store s)
-    c.new.result c.new-slot.result.notes c.args.ledger.now.counts (fresh app m.now))
+    c.new.result c.args.slot.now.notes c.args.ledger.now.counts (fresh app m.now))
     (sym c.new.ensures.forest)
-    (fresh_connection app c.args.terms.now.keep (registered_at m c.version-version.result) tree c.new.result c.new-slot.result.notes
+    (fresh_connection app c.args.terms.now.keep (registered_at m c.version-version.result) tree c.new.result c.args.slot.now.notes
     c.args.ledger.now.counts m.now (c.new.ensures.opened m.now tree tells first app)
-    (ap (λ (s : RecordUnderWay). s.notes) c.new-slot.ensures ∙ ap (λ t. record { tally = t; entries = [] }) c.fresh.ensures)) in
+    (ap (λ (s : RecordUnderWay). s.notes) c.requires.empty)) in
     let altered = (opened_by app m.now c.args.terms.now.number (seen c.args.segment.now)).altered in
     subst (λ i. InternsWithin i (g.F.ForestView.interns c.step_one.new.forests) 0 altered) c.again.ensures.uncounted
     (c.in_err-step.ensures.costs m.now tells c.args.ledger.now.counts (fresh app m.now) begun)
@@ -102,13 +92,13 @@ returns-clause-interned g c =
     let first : active_in (registered_at m c.version-version.result) tree ≡ active m.now =
     subst (λ (t : TreeLists). active_in (registered_at m c.version-version.result) t ≡ active m.now) c.tree_of.ensures (c.first_tree_names_the_first_list.ensures.list m.now tells shown) in
     let begun : IsConnection c.args.terms.now.keep c.args.ledger.now.counts (registered_at m c.version-version.result)
-    (g.F.ForestView.content store c.new.result.forest) c.new.result c.new-slot.result.notes c.args.ledger.now.counts (fresh app m.now) =
+    (g.F.ForestView.content store c.new.result.forest) c.new.result c.args.slot.now.notes c.args.ledger.now.counts (fresh app m.now) =
     subst (λ s. IsConnection c.args.terms.now.keep c.args.ledger.now.counts (registered_at m c.version-version.result) (g.F.ForestView.content store s)
-    c.new.result c.new-slot.result.notes c.args.ledger.now.counts (fresh app m.now))
+    c.new.result c.args.slot.now.notes c.args.ledger.now.counts (fresh app m.now))
     (sym c.new.ensures.forest)
-    (fresh_connection app c.args.terms.now.keep (registered_at m c.version-version.result) tree c.new.result c.new-slot.result.notes
+    (fresh_connection app c.args.terms.now.keep (registered_at m c.version-version.result) tree c.new.result c.args.slot.now.notes
     c.args.ledger.now.counts m.now (c.new.ensures.opened m.now tree tells first app)
-    (ap (λ (s : RecordUnderWay). s.notes) c.new-slot.ensures ∙ ap (λ t. record { tally = t; entries = [] }) c.fresh.ensures)) in
+    (ap (λ (s : RecordUnderWay). s.notes) c.requires.empty)) in
     let altered = (opened_by app m.now c.args.terms.now.number (seen c.args.segment.now)).altered in
     subst (λ i. InternsWithin i (g.F.ForestView.interns c.step_one.new.forests) 0 altered) c.again.ensures.uncounted
     (c.in_ok-step.ensures.stands.interned m.now tells c.args.ledger.now.counts (fresh app m.now) begun)
