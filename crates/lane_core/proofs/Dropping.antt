@@ -13,7 +13,7 @@ use Rattle.forest_versions.specs.State.{ControlState}
 use Rattle.connection_core.specs.PacketUnderWay.{PacketUnderWay}
 use Rattle.connection_core.specs.History.{History, fresh, followed, verdict, sender_phase, receiver_phase, received_unless, verdict_of, drops_of, orphan_history, orphan_verdict}
 use Rattle.lane_core.specs.Sight.{Sight, Tcp, Other, Moment, Arrival}
-use Rattle.lane_core.specs.Records.{VersionedPacket, ended_at, records, RecordSoFar, opens, belongs_to, side_in, orphan_raises_of, timer_raise_of, history_after, first_history, verdict_after, first_verdict, started_by, continued_by, ended_before, placed, verdict_among, added, verdict_on, records_from}
+use Rattle.lane_core.specs.Records.{VersionedPacket, ended_at, records, RecordSoFar, opens, belongs_to, side_in, orphan_raises_of, timer_raise_of, history_after, first_history, verdict_after, first_verdict, continued_by, ended_before, placed, verdict_among, added, verdict_on, records_from}
 use Rattle.lane_core.specs.Verdicts.{verdicts_from, dropped_of}
 use Rattle.lane_core.specs.Once.{drops_in}
 use Rattle.lane_core.proofs.Ended.{Ends, ends_before, ends_at, either, silenced-drops}

@@ -1,5 +1,5 @@
 -- Open connections that were idle for too long: the records are those of which they have ended.
-use Rattle.std.proofs.Common.{◌≡◌, ℕ, ◌+◌, ◌<◌, Bool, true, false, Option, Some, None, List, [], length, get_or, set, refl, sym, ap, subst, ◌∙◌, map}
+use Rattle.std.proofs.Common.{◌≡◌, ℕ, ◌+◌, Bool, true, false, Option, Some, None, List, [], length, get_or, set, refl, sym, ap, subst, ◌∙◌, map}
 use Rattle.std.proofs.lemmas.List.{map-set, get_or-map, set-get_or}
 use Rattle.std.specs.Prelude.{if◌then◌else◌, ◌&&◌}
 use Rattle.flow_table.specs.Key.{EndpointPair, same_key}
@@ -25,7 +25,7 @@ use Rattle.lane_core.specs.declared.connection.Connection.{Connection}
 use Rattle.lane_core.specs.declared.records.Records.{Records}
 use Rattle.lane_core.specs.declared.under_way.RecordUnderWay.{RecordUnderWay}
 use Rattle.lane_core.specs.Sight.{Segment, Sight, Tcp, Other, Moment, key_of_segment}
-use Rattle.lane_core.specs.Records.{RecordSoFar, opens, is_open_at, belongs_to, timer_raise_of, is_past, is_silent, started_by, ended_before}
+use Rattle.lane_core.specs.Records.{RecordSoFar, opens, is_open_at, belongs_to, timer_raise_of, is_past, is_silent, ended_before}
 use Rattle.lane_core.specs.Shown.{kind_of}
 use Rattle.lane_core.specs.Places.{place_of, IsSingle}
 use Rattle.lane_core.specs.Idle.{raise_in, IsIdle, IsHeard, IsGone, IsEnded, idle_history}

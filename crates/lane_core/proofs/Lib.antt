@@ -7,6 +7,7 @@ pub mod Growing
 pub mod Handed
 pub mod Totals
 pub mod OpenFlows
+pub mod Opening
 pub mod Tables
 pub mod Verdicts
 pub mod Stored

@@ -2,12 +2,11 @@
 use Rattle.std.proofs.Common.{◌≡◌, ℕ, Bool, true, false, Option, Some, None, List, [], ◌∷◌, ◌++◌, refl, sym, ap, subst, ◌∙◌, append_assoc, append-nil, map}
 use Rattle.std.proofs.lemmas.List.Sorted.{IsPermutation-refl, IsPermutation-sym, IsPermutation-trans, IsPermutation-cons, IsPermutation-middle, IsPermutation-append_left, IsPermutation-append_right}
 use Rattle.std.specs.Prelude.{if◌then◌else◌, MatchBool}
-use Rattle.std.specs.List.{list_any}
 use Rattle.std.specs.List.Sorted.{IsPermutation}
 use Rattle.app_api.specs.App.{Meaning}
 use Rattle.forest_versions.specs.State.{ControlState}
 use Rattle.lane_core.specs.Sight.{Arrival}
-use Rattle.lane_core.specs.Records.{VersionedPacket, RecordSoFar, is_open_at, belongs_to, started_by, continued_by, ended_before, added}
+use Rattle.lane_core.specs.Records.{VersionedPacket, RecordSoFar, is_open_at, belongs_to, started_by, added}
 use Rattle.lane_core.specs.Laws.{takes}
 use Rattle.lane_core.specs.Once.{taken_through, packets_after, joined}
 use Rattle.lane_core.specs.Places.{further, place_by, IsSingle}

@@ -5,10 +5,8 @@ use Rattle.flow_table.specs.Table.{Flows, found}
 use Rattle.app_api.specs.declared.registration.Reg.{Reg}
 use Rattle.shared_forest.specs.declared.store.Shared.{Shared}
 use Rattle.shared_forest.specs.Lists.{TreeLists}
-use Rattle.connection_core.specs.declared.ledger.Counts.{Counts}
 use Rattle.connection_core.specs.Standing.{IsFlow}
 use Rattle.lane_core.specs.declared.connection.Connection.{Connection}
-use Rattle.lane_core.specs.declared.under_way.RecordUnderWay.{RecordUnderWay}
 use Rattle.lane_core.specs.Records.{RecordSoFar}
 use Rattle.lane_core.specs.Shown.{total}
 use Rattle.lane_core.specs.Places.{place_by, place_of, IsSingle}
@@ -41,24 +39,3 @@ module _ (keep : Bool) (registered : ℕ → ℕ → Option Reg) where
       → ((conn : Connection) → o ≡ Some conn → content' conn.flow.forest ≡ content conn.flow.forest) → IsOpenAt registered content o place pasts → IsOpenAt registered content' o place pasts
   IsOpenAt-stored content content' None place pasts same none = none
   IsOpenAt-stored content content' (Some conn) place pasts same at = (at.0, λ d. IsOpen-stored content content' conn _ (same conn refl) (at.1 d))
-
-  pub kept-stored : (content content' : Shared → TreeLists) (flows : Flows Connection) (slots : List RecordUnderWay) (counts : Counts) (pasts : List RecordSoFar)
-      → ((key : EndpointPair) (conn : Connection) → found flows key ≡ Some conn → content' conn.flow.forest ≡ content conn.flow.forest)
-      → AreKept keep registered content flows slots counts pasts → AreKept keep registered content' flows slots counts pasts
-  kept-stored content content' flows slots counts pasts same stands = record {
-    shown = stands.shown;
-    placed = λ key. IsOpenAt-stored content content' (found flows key) (place_of key pasts) pasts (same key) (stands.placed key);
-    single = stands.single;
-    counted = stands.counted;
-    weighed = stands.weighed;
-  }
-
--- where no open connection took a packet, what was kept is kept still
-pub kept_unfollowed : {S : Type 0} (content : S → Shared → TreeLists) (keep : Bool) (registered : ℕ → ℕ
-    → Option Reg) (old new : S) (flows after : Flows Connection) (slots slots' : List RecordUnderWay) (counts counts' : Counts) (pasts : List RecordSoFar)
-    → after ≡ flows → slots' ≡ slots → new ≡ old → counts' ≡ counts → AreKept keep registered (content old) flows slots counts pasts → AreKept keep registered (content new) after slots' counts' pasts
-kept_unfollowed content keep registered old new flows after slots slots' counts counts' pasts flows_are slots_are store_is counts_are kept =
-    subst (λ n. AreKept keep registered (content new) after slots' n pasts) (sym counts_are)
-    (subst (λ s. AreKept keep registered (content s) after slots' counts pasts) (sym store_is)
-    (subst (λ ss. AreKept keep registered (content old) after ss counts pasts) (sym slots_are)
-    (subst (λ (f : Flows Connection). AreKept keep registered (content old) f slots counts pasts) (sym flows_are) kept)))

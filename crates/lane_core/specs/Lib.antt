@@ -11,6 +11,7 @@ pub mod End
 pub mod Trees
 pub mod Live
 pub mod Steps
+pub mod Opening
 pub mod Idle
 pub mod Kept
 pub mod Packets

@@ -1,5 +1,5 @@
 -- Not of the headline. Each packet stands in one record, and each packet that is dropped in one drop of a record.
-use Rattle.std.specs.Prelude.{ℕ, Bool, if◌then◌else◌, Option, List, [], ◌∷◌, ◌++◌, map}
+use Rattle.std.specs.Prelude.{ℕ, if◌then◌else◌, Option, List, [], ◌∷◌, ◌++◌, map}
 use Rattle.std.specs.List.{list_any}
 use Rattle.std.specs.List.Sorted.{IsPermutation}
 use Rattle.app_api.specs.App.{Meaning}

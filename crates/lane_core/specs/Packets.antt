@@ -19,7 +19,7 @@ use Rattle.connection_core.specs.Trees.{InternsWithin}
 use Rattle.lane_core.specs.declared.connection.Connection.{Connection}
 use Rattle.lane_core.specs.declared.records.Records.{Records}
 use Rattle.lane_core.specs.declared.under_way.RecordUnderWay.{RecordUnderWay}
-use Rattle.lane_core.specs.Sight.{Segment, Sight, Moment, key_of_segment}
+use Rattle.lane_core.specs.Sight.{Segment, Sight, key_of_segment}
 use Rattle.lane_core.specs.Records.{RecordSoFar, VersionedPacket, ended_by_silence, placed, verdict_among, added, verdict_on}
 use Rattle.lane_core.specs.Shown.{alterations, drops_of as drops_in}
 use Rattle.lane_core.specs.Places.{place_of}

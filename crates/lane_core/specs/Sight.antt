@@ -18,10 +18,6 @@ arrival_of number captured = record {
   sight = sight_of captured.bytes;
 }
 
--- a packet of this number, with its time and what is seen of it
-abbrev pub arrival_at : ℕ → Moment → Sight → Arrival
-arrival_at number moment sight = record { number = number; moment = moment; sight = sight }
-
 -- the packets of captured records, numbered from n on
 abbrev pub arrivals : ℕ → List Captured → List Arrival
 arrivals n [] = []

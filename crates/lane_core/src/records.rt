@@ -124,7 +124,8 @@ impl<F: Forests + Drop> Records<F> {
         requires rising { self.old.next ≤ terms.now.number }
         requires bound { terms.now.number < 1048576 }
         ensures stands { IfOk result (Adds (taking A.meaning terms.now) self.old self.new (Tcp (seen segment.now))) }
-        ensures failed { OnErr result (CostsToAdd (taking A.meaning terms.now) self.old self.new (Tcp (seen segment.now))) }
+        ensures failed { OnErr result
+            (CostsToAdd (taking A.meaning terms.now) self.old self.new (Tcp (seen segment.now))) }
     {
         let key = key_between(segment.from, segment.to);
         if let Some(step) = self.follow(terms, &key, segment)? {
@@ -179,8 +180,10 @@ impl<F: Forests + Drop> Records<F> {
     ) -> Result<Verdict, AllocError>
         requires rising { self.old.next ≤ terms.now.number }
         requires bound { terms.now.number < 1048576 }
-        ensures stands { IfOk result (AddsCounted (taking A.meaning terms.now) self.old self.new (sight_of frame.now.bytes)) }
-        ensures failed { OnErr result (CostsToAdd (taking A.meaning terms.now) self.old self.new (sight_of frame.now.bytes)) }
+        ensures stands { IfOk result
+            (AddsCounted (taking A.meaning terms.now) self.old self.new (sight_of frame.now.bytes)) }
+        ensures failed { OnErr result
+            (CostsToAdd (taking A.meaning terms.now) self.old self.new (sight_of frame.now.bytes)) }
     {
         self.prepare(terms.alloc, frame);
         let sight = sight_of(frame.bytes.as_slice());

@@ -48,8 +48,10 @@ impl<F: Forests + Drop> Records<F> {
     // Ends each open connection that was idle for too long at a moment. The entries that are kept are weighed after each,
     // since so many connections may end at once.
     fn end_each<A: App>(&mut self, terms: &PacketTerms<'_, A>) -> Result<(), LaneError>
-        ensures ends { OnOk result (EndsAll (A.meaning terms.now.app.now) terms.now.keep self.old self.new (Some terms.now.moment)) }
-        ensures heavy { result ≡ Err Heavy → IsTooHeavy (A.meaning terms.now.app.now) terms.now.keep self.old (Some terms.now.moment) }
+        ensures ends { OnOk result
+            (EndsAll (A.meaning terms.now.app.now) terms.now.keep self.old self.new (Some terms.now.moment)) }
+        ensures heavy { result ≡ Err Heavy
+            → IsTooHeavy (A.meaning terms.now.app.now) terms.now.keep self.old (Some terms.now.moment) }
         ensures dropped { self.new.dropped ≡ self.old.dropped }
     {
         for place in 0..self.list.len() {

@@ -45,7 +45,8 @@ pub(crate) fn step_one<A: App, F: Forests>(
         (stage_in F.ForestView forests.old conn.old slot.old ledger.old.counts)
         (stage_in F.ForestView forests.new conn.new slot.new ledger.new.counts) (seen segment.now)) }
     ensures costs { OnErr result (FailsStep (taking A.meaning terms.now) master.now
-        (stage_in F.ForestView forests.old conn.old slot.old ledger.old.counts) (F.interns forests.new) (seen segment.now)) }
+        (stage_in F.ForestView forests.old conn.old slot.old ledger.old.counts)
+        (F.interns forests.new) (seen segment.now)) }
 {
     let called = Terms {
         app: terms.app,

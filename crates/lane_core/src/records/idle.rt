@@ -61,7 +61,8 @@ fn call_idle<A: App, F: Forests>(
     requires tree { IsTree master.now conn.version (F.content forests.now conn.flow.forest) }
     requires room { HasRoom (2 ^ 60) ledger.old.counts }
     ensures called { OnOk result (IsEnded (taking A.meaning terms.now) master.now
-        (stage_in F.ForestView forests.now conn slot.old ledger.old.counts) (record { slot = slot.new; counts = ledger.new.counts })) }
+        (stage_in F.ForestView forests.now conn slot.old ledger.old.counts)
+        (record { slot = slot.new; counts = ledger.new.counts })) }
     ensures rise { RiseBy 255 ledger.old.counts ledger.new.counts }
 {
     let called = Terms {

@@ -1,4 +1,3 @@
-use Rattle.std.proofs.Common.{arith}
 use Rattle.lane_core.proofs.Commands.{tree_on, list_on}
 use Rattle.lane_core.proofs.Standing.{taken_by, never_fewer}
 use Rattle.lane_core.proofs.records.give_to.Goals as goal

@@ -1,4 +1,4 @@
-use Rattle.std.proofs.Common.{None, ◌∙◌, subst}
+use Rattle.std.proofs.Common.{◌∙◌, subst}
 use Rattle.lane_core.specs.Lane.{IsRun}
 use Rattle.lane_core.proofs.Standing.{command_stands, command_failed}
 use Rattle.lane_core.proofs.lane.LaneRecorder.command.Goals as goal

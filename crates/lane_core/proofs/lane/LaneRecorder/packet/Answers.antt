@@ -1,4 +1,4 @@
-use Rattle.std.proofs.Common.{◌≡◌, ◌&&◌, nat_lt, None, true, false, sym, ap, subst, ◌∙◌}
+use Rattle.std.proofs.Common.{◌≡◌, ◌&&◌, nat_lt, true, false, sym, ap, subst, ◌∙◌}
 use Rattle.lane_core.specs.declared.errors.LaneError.TheVariants.{NoMemory, Heavy}
 use Rattle.lane_core.specs.Lane.{IsRun}
 use Rattle.lane_core.specs.Sight.{sight_of, arrival_of}

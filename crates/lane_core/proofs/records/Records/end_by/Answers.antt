@@ -1,4 +1,4 @@
-use Rattle.std.proofs.Common.{Some, sym, subst}
+use Rattle.std.proofs.Common.{sym, subst}
 use Rattle.std.specs.Prelude.{OnOk}
 use Rattle.lane_core.specs.Closing.{EndsAll}
 use Rattle.lane_core.proofs.EndOfRun.{none_by, none_limited}

@@ -1,4 +1,4 @@
-use Rattle.std.proofs.Common.{◌+◌, None, refl, sym, ap, subst, ◌∙◌, arith}
+use Rattle.std.proofs.Common.{None, refl, sym, ap, subst, ◌∙◌, arith}
 use Rattle.std.proofs.lemmas.Result.{on_ok_weaker}
 use Rattle.std.specs.FinMap as map
 use Rattle.flow_table.specs.Table.{Flows, found}

@@ -1,4 +1,4 @@
-use Rattle.std.proofs.Common.{◌≡◌, ◌+◌, arith, Ok, None, subst, sym, ap, ◌∙◌, refl}
+use Rattle.std.proofs.Common.{◌≡◌, ◌+◌, arith, Ok, None, subst, sym, ap, ◌∙◌}
 use Rattle.std.proofs.lemmas.Result.{IfOk-weaker, on_err_weaker}
 use Rattle.std.specs.Option.{IfSome}
 use Rattle.flow_table.specs.Table.{found}
@@ -8,7 +8,7 @@ use Rattle.connection_core.proofs.Errors.{on_err_always}
 use Rattle.lane_core.specs.Sight.{Tcp}
 use Rattle.lane_core.specs.Idle.{IsGone}
 use Rattle.lane_core.specs.Steps.{taking}
-use Rattle.lane_core.specs.Packets.{Follows, Adds, CostsToAdd, Leaves, HasCome}
+use Rattle.lane_core.specs.Packets.{Follows, Adds, CostsToAdd, Leaves}
 use Rattle.lane_core.proofs.Live.{live_later, has_come}
 use Rattle.lane_core.proofs.Following.{follows_adds, costs_to_add}
 use Rattle.lane_core.proofs.Joined.{end_costs, ended_then_placed, ended_then_costs, orphan_placed, orphan_costs_to_place}

@@ -2,7 +2,6 @@ use Rattle.std.proofs.Common.{◌≡◌, ◌+◌, length, ap, subst, ◌∙◌}
 use Rattle.pcap_source.specs.Captured.{Captured}
 use Rattle.connection_core.specs.History.{drops_of}
 use Rattle.connection_core.proofs.Errors.{on_err_always}
-use Rattle.ip6_views.specs.Seen.{shown}
 use Rattle.lane_core.specs.Sight.{sight_of}
 use Rattle.lane_core.specs.Steps.{taking}
 use Rattle.lane_core.specs.Packets.{Adds, CostsToAdd}
