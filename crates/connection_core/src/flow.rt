@@ -11,6 +11,7 @@ use crate::changes::change_all;
 use crate::hearing::{hears, hears_receiver, hears_sender};
 use crate::in_force::InForce;
 use crate::ledger::{Ledger, Notes};
+use crate::rests::entry_at_rest;
 use crate::terms::Terms;
 use app_api::{App, Reason, Verdict};
 use builtin_events::{raised_at_receiver, raised_at_sender};
@@ -221,9 +222,9 @@ impl Flow {
         if !hears_receiver(&terms.in_force, tree, arrived.head, &got) {
             return Ok(());
         }
-        if terms.rests(tree) {
+        if let Some(number) = terms.resting(tree) {
             ledger.count(0);
-            return Ok(());
+            return notes.keep_entry(terms.keep, entry_at_rest(arrived.number, number));
         }
         let phase = Phase {
             number: arrived.number,

@@ -50,6 +50,7 @@ impl Notes {
     }
 
     /// Keeps an entry, where these are kept.
+    #[inline(always)]
     pub(crate) fn keep_entry(&mut self, keep: bool, entry: Entry) -> Result<(), AllocError>
         ensures tally { self.new.tally ≡ self.old.tally }
         ensures entries { OnOk result (self.new.entries ≡ kept_with keep self.old.entries entry) }
