@@ -40,9 +40,6 @@ pub struct Step {
     pub verdict: Verdict,
 }
 
-/// The most changes that a raise asks: four at each of 255 registrations.
-const MOST: usize = 4 * 255;
-
 impl Flow {
     ghost use Rattle.app_api.specs.App.{Meaning};
     ghost use Rattle.shared_forest.specs.Lists.{TreeLists};
@@ -69,8 +66,7 @@ impl Flow {
     }
 
     // Makes one raise: calls what fires of the private list as it is, and then makes the changes that the callbacks
-    // ask. The tree is borrowed from the store for the calls alone, so no walk sees it change. Room for the changes is
-    // taken first; it is still there at the next raise.
+    // ask. The tree is borrowed from the store for the calls alone, so no walk sees it change.
     #[inline(always)]
     fn raise<A: App, F: Forests>(
         &mut self,
@@ -96,8 +92,10 @@ impl Flow {
         ensures count { self.new.count ≡ self.old.count }
     {
         let tree = forests.tree_of(&self.forest);
-        ledger.make_room(MOST)?;
         terms.call_at(alloc, tree, raise_at, &mut self.socket, notes, ledger)?;
+        if ledger.asks_no_change() {
+            return Ok(());
+        }
         change_all(
             alloc,
             &terms.in_force,
