@@ -43,6 +43,7 @@ impl CallbackLog {
     }
 
     /// One more callback. At an error, which is want of memory, the log is as before.
+    #[inline(always)]
     pub fn push(&mut self, entry: Entry) -> Result<(), AllocError>
         ensures kept { OnOk result (self.new ≡ self.old ++ entry ∷ []) }
         ensures stays { OnErr result (self.new ≡ self.old) }

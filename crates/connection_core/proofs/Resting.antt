@@ -11,6 +11,8 @@ use Rattle.tcp_emulation.specs.declared.segment.Side.{Side}
 use Rattle.flow_socket.specs.View.{SocketView, SocketStandsFor}
 use Rattle.flow_socket.specs.declared.answers.Got.{Got}
 use Rattle.app_api.specs.declared.app.Call.{Call}
+use Rattle.app_api.specs.declared.entry.Entry.{Entry}
+use Rattle.app_api.specs.declared.entry.Seen.TheVariants.{Nothing as SawNothing}
 use Rattle.app_api.specs.declared.app.Tally.{Tally}
 use Rattle.app_api.specs.declared.reaction.Reaction.{Reaction}
 use Rattle.app_api.specs.declared.reaction.Reason.{Reason}
@@ -34,10 +36,10 @@ use Rattle.connection_core.specs.declared.ledger.Notes.{Notes}
 use Rattle.connection_core.specs.declared.ledger.Counts.{Counts}
 use Rattle.connection_core.specs.declared.ledger.Ledger.{Ledger}
 use Rattle.connection_core.specs.PacketUnderWay.{PacketUnderWay, seen_by, after_seen, bytes_seen, asked_by, entry_of, reaction_of, first_reason, called, called_all, called_at, settled, raise_done, phase}
-use Rattle.connection_core.specs.Standing.{IsUnder, Reached}
+use Rattle.connection_core.specs.Standing.{IsUnder, Reached, kept_with}
 use Rattle.connection_core.specs.Trees.{InternsWithin}
 use Rattle.connection_core.specs.Unheard.{CallsNothing, CallNothing}
-use Rattle.connection_core.specs.Resting.{IsPlain, CallsAlone}
+use Rattle.connection_core.specs.Resting.{IsPlain, CallsAlone, entry_at_rest}
 use Rattle.connection_core.proofs.Callbacks.{called_under}
 use Rattle.connection_core.proofs.Changing.{within-same}
 use Rattle.connection_core.proofs.Unheard.{settled-none, phase-none}
@@ -190,18 +192,28 @@ pub record CountsOne (ledger ledger_after : Ledger) : Type 0 where
   pub changes : ledger_after.changes ≡ ledger.changes
   pub drop : ledger_after.drop ≡ ledger.drop
 
-called_alone : (app : Meaning) → RestsAtReceiver app → (s : ControlState) (keep : Bool) → keep ≡ false → (others : Counts) (list : List Reg) (number : ℕ) (from : Side) (facts : Facts)
-    (r : Reg) → IsPlain r → (socket : SocketView) (notes : Notes) (ledger ledger_after : Ledger) → CountsOne ledger ledger_after
-    → (c : PacketUnderWay) → IsUnder keep others list socket notes ledger c → IsUnder keep others list socket notes ledger_after (called app s number from (raised_at facts 257) c r)
-called_alone app rests s keep none others list number from facts r plain socket notes ledger ledger_after counts c u =
+-- notes with what the report tells of it
+pub record NotesOne (keep : Bool) (number reg : ℕ) (notes notes_after : Notes) : Type 0 where
+  pub tally : notes_after.tally ≡ notes.tally
+  pub entries : notes_after.entries ≡ kept_with keep notes.entries (entry_at_rest number reg)
+
+abbrev told : ℕ → ℕ → ℕ → Entry
+told number event reg = record { index = number; hook = Rcv; event = event; reg = reg; seen = SawNothing }
+
+called_alone : (app : Meaning) → RestsAtReceiver app → (s : ControlState) (keep : Bool) (others : Counts) (list : List Reg) (number : ℕ) (from : Side) (facts : Facts)
+    (r : Reg) → IsPlain r → (socket : SocketView) (notes notes_after : Notes) (ledger ledger_after : Ledger) → NotesOne keep number r.number notes notes_after → CountsOne ledger ledger_after
+    → (c : PacketUnderWay) → IsUnder keep others list socket notes ledger c → IsUnder keep others list socket notes_after ledger_after (called app s number from (raised_at facts 257) c r)
+called_alone app rests s keep others list number from facts r plain socket notes notes_after ledger ledger_after noted counts c u =
     let e = c.emulation in
     let rest = call-rests app rests s r plain facts notes.tally in
     let stays : SocketStandsFor socket (after_seen from r.peek e) = subst (λ (p : PeekSpec). SocketStandsFor socket (after_seen from p e)) (sym plain.unseen) u.heard in
     let unseen : 0 ≡ bytes_seen (seen_by from r.peek e) = ap (λ (p : PeekSpec). bytes_seen (seen_by from p e)) (sym plain.unseen) in
-    let kept : notes.entries ≡ (if keep then notes.entries ++ entry_of number (raised_at facts 257) r (seen_by from r.peek e) ∷ [] else notes.entries) =
-    ap (λ (k : Bool). if k then notes.entries ++ entry_of number (raised_at facts 257) r (seen_by from r.peek e) ∷ [] else notes.entries) (sym none) in
-    called_under app s number from (raised_at facts 257) r keep others list socket socket notes notes ledger ledger_after 0 (seen_by from r.peek e) asks_nothing c u
-    stays (λ k. refl) unseen (ap (λ (a : Tally × Reaction). a.0) (sym rest)) (ap (λ (a : Tally × Reaction). a.1) (sym rest)) kept
+    let entry : entry_at_rest number r.number ≡ entry_of number (raised_at facts 257) r (seen_by from r.peek e) =
+    ap (λ n. told number n r.number) (sym plain.event) ∙ ap (λ (p : PeekSpec). entry_of number (raised_at facts 257) r (seen_by from p e)) (sym plain.unseen) in
+    let kept : notes_after.entries ≡ kept_with keep notes.entries (entry_of number (raised_at facts 257) r (seen_by from r.peek e)) =
+    noted.entries ∙ ap (λ w. kept_with keep notes.entries w) entry in
+    called_under app s number from (raised_at facts 257) r keep others list socket socket notes notes_after ledger ledger_after 0 (seen_by from r.peek e) asks_nothing c u
+    stays (λ k. refl) unseen (noted.tally ∙ ap (λ (a : Tally × Reaction). a.0) (sym rest)) (ap (λ (a : Tally × Reaction). a.1) (sym rest)) kept
     (ap (λ v. v.items) counts.changes ∙ sym (append-nil ledger.changes.items)) (counts.drop ∙ first-stays ledger.drop) counts.callbacks counts.weight
 
 -- a raise that calls one thing, after which no change is asked
@@ -217,16 +229,17 @@ unfolding phase
 phase-first app s number from raise raises c after is = ap (phase app s number from raises) is
 
 -- the phase of such a packet is this one callback
-pub phase_rests : (app : Meaning) → RestsAtReceiver app → (s : ControlState) (keep : Bool) → keep ≡ false → (others : Counts) (list : List Reg) (i : Option ℕ) (number : ℕ) (from : Side)
-    (h : Head) (nth : ℕ) (got : Got) (r : Reg) → CallsAlone s list r → (socket : SocketView) (notes : Notes) (ledger ledger_after : Ledger) → CountsOne ledger ledger_after
+pub phase_rests : (app : Meaning) → RestsAtReceiver app → (s : ControlState) (keep : Bool) (others : Counts) (list : List Reg) (i : Option ℕ) (number : ℕ) (from : Side)
+    (h : Head) (nth : ℕ) (got : Got) (r : Reg) → CallsAlone s list r → (socket : SocketView) (notes notes_after : Notes) (ledger ledger_after : Ledger)
+    → NotesOne keep number r.number notes notes_after → CountsOne ledger ledger_after
     → ledger.changes.items ≡ [] → (c : PacketUnderWay) → IsUnder keep others list socket notes ledger c
-    → Reached keep others list socket notes ledger_after i i c.altered (phase app s number from (receiver_raises h from nth got) c)
-phase_rests app rests s keep none others list i number from h nth got r alone socket notes ledger ledger_after counts quiet c u =
+    → Reached keep others list socket notes_after ledger_after i i c.altered (phase app s number from (receiver_raises h from nth got) c)
+phase_rests app rests s keep others list i number from h nth got r alone socket notes notes_after ledger ledger_after noted counts quiet c u =
     let f = receiver_facts h from nth got in
     let x = raised_at f 257 in
     let after = called app s number from x c r in
-    let under : IsUnder keep others list socket notes ledger_after after =
-    called_alone app rests s keep none others list number from f r alone.plain socket notes ledger ledger_after counts c u in
+    let under : IsUnder keep others list socket notes_after ledger_after after =
+    called_alone app rests s keep others list number from f r alone.plain socket notes notes_after ledger ledger_after noted counts c u in
     let unasked : after.asked ≡ [] = sym under.asked ∙ (ap (λ v. v.items) counts.changes ∙ quiet) in
     let only : fires s.defs f Rcv 257 c.active ≡ r ∷ [] = ap (λ l. fires s.defs f Rcv 257 l) u.active ∙ alone.called f in
     let one : raise_done app s number from x c ≡ after = done-one app s number from x c r only unasked in
@@ -237,4 +250,4 @@ phase_rests app rests s keep none others list i number from h nth got r alone so
     ∙ (phase-first app s number from x (behind f got) c after one ∙ phase-none app s number from (behind f got) after nothing unasked) in
     let interned : InternsWithin i i c.altered after.altered =
     subst (λ n. InternsWithin i i c.altered n) (sym (altered-same app s number from x c r)) (within-same i c.altered) in
-    subst (λ (d : PacketUnderWay). Reached keep others list socket notes ledger_after i i c.altered d) (sym whole) (record { under = under; interned = interned })
+    subst (λ (d : PacketUnderWay). Reached keep others list socket notes_after ledger_after i i c.altered d) (sym whole) (record { under = under; interned = interned })

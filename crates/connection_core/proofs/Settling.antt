@@ -76,7 +76,7 @@ altered-called_at app s number from raise c = altered-called_all app s number fr
 -- ---- a raise
 
 -- a ledger with the same content stands for the same
-under_room : (keep : Bool) (others : Counts) (list : List Reg) (socket : SocketView) (notes : Notes) (ledger roomy : Ledger) (c : PacketUnderWay)
+pub under_room : (keep : Bool) (others : Counts) (list : List Reg) (socket : SocketView) (notes : Notes) (ledger roomy : Ledger) (c : PacketUnderWay)
     → roomy.changes.items ≡ ledger.changes.items → roomy.drop ≡ ledger.drop → roomy.counts ≡ ledger.counts
     → IsUnder keep others list socket notes ledger c → IsUnder keep others list socket notes roomy c
 under_room keep others list socket notes ledger roomy c changes drop counts u = record {
@@ -122,6 +122,17 @@ raise_made app s keep list after i j number from raise socket socket_after notes
       let reached = settled_under s keep others list after i j socket_after notes_after called_for emptied made under alters none drop_after counts_after in
       subst (λ n. Reached keep others after socket_after notes_after emptied i j n (settled s made)) (altered-called_at app s number from raise c) reached;
 }
+
+-- one whose callbacks asked no change
+pub raise_made_unasked : (app : Meaning) (s : ControlState) (keep : Bool) (list : List Reg) (i : Option ℕ) (number : ℕ) (from : Side) (raise : Raise)
+    (socket socket_after : SocketView) (notes notes_after : Notes) (ledger ledger_after : Ledger)
+    → Steps keep list socket notes ledger socket_after notes_after ledger_after (called_at app s number from raise)
+    → ledger_after.changes.items ≡ []
+    → Makes keep list socket notes ledger i list socket_after notes_after ledger_after i (raise_done app s number from raise)
+raise_made_unasked app s keep list i number from raise socket socket_after notes notes_after ledger ledger_after steps none =
+    let nothing : Alters list list i i (changed_all s []) = record { made = λ c is. is; interned = λ c is. within-same i c.altered } in
+    raise_made app s keep list list i i number from raise socket socket_after notes notes_after ledger ledger ledger_after ledger_after refl refl refl steps
+    (subst (λ l. Alters list list i i (changed_all s l)) (sym none) nothing) none refl refl
 
 raise_rises : (app : Meaning) (s : ControlState) (number : ℕ) (from : Side) (raise : Raise) (c : PacketUnderWay) → c.altered ≤ (raise_done app s number from raise c).altered
 unfolding raise_done settled

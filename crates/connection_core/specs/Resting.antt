@@ -1,7 +1,9 @@
 -- Only for proofs. Packets of which one thing is called at their receiver, and that does nothing.
-use Rattle.std.specs.Prelude.{◌≡◌, ℕ, ◌==◌, nat_lt, Bool, true, false, List, [], ◌∷◌}
+use Rattle.std.specs.Prelude.{◌≡◌, ℕ, ◌==◌, nat_lt, true, false, List, [], ◌∷◌}
 use Rattle.native_filters.specs.declared.facts.Facts.{Facts}
 use Rattle.native_filters.specs.declared.facts.Hook.TheVariants.{Rcv}
+use Rattle.app_api.specs.declared.entry.Entry.{Entry}
+use Rattle.app_api.specs.declared.entry.Seen.TheVariants.{Nothing as SawNothing}
 use Rattle.app_api.specs.declared.registration.Reg.{Reg}
 use Rattle.app_api.specs.declared.registration.PeekSpec.TheVariants.{Nothing}
 use Rattle.app_api.specs.App.{Meaning, RestsAtReceiver}
@@ -24,6 +26,11 @@ pub record CallsAlone (s : ControlState) (list : List Reg) (r : Reg) : Type 0 wh
   pub called : (facts : Facts) → fires s.defs facts Rcv 257 list ≡ r ∷ []
   pub alone : (facts : Facts) (event : ℕ) → (257 == event) ≡ false → fires s.defs facts Rcv event list ≡ []
 
--- no entries are kept, and all that a packet calls at its receiver is one preset of an application that does nothing there
-abbrev pub Rests : Meaning → Bool → InForce → TreeLists → Type 0
-Rests app keep lent tree = (keep ≡ false) × (RestsAtReceiver app × ForControl lent (λ s. (r : Reg) × CallsAlone s (list_in_force lent tree) r))
+-- all that a packet calls at its receiver is one preset, that of this number, of an application that does nothing there
+abbrev pub Rests : Meaning → InForce → TreeLists → ℕ → Type 0
+Rests app lent tree number =
+    RestsAtReceiver app × ForControl lent (λ s. (r : Reg) × ((r.number ≡ number) × CallsAlone s (list_in_force lent tree) r))
+
+-- what the report tells of its callback, for the packet at this index
+abbrev pub entry_at_rest : ℕ → ℕ → Entry
+entry_at_rest index number = record { index = index; hook = Rcv; event = 257; reg = number; seen = SawNothing }

@@ -20,6 +20,9 @@ use flow_socket::FlowSocket;
 use shared_forest::Tree;
 use std::alloc::{AllocError, Global};
 
+/// The most changes that a raise asks: four at each of 255 registrations.
+const MOST: usize = 4 * 255;
+
 impl<A: App> Terms<'_, A> {
     // One callback: it peeks, leaves an entry where these are kept, and reacts.
     fn call(
@@ -103,7 +106,8 @@ impl<A: App> Terms<'_, A> {
     }
 
     /// Calls what fires at one raise: at most as many as a private list has. Where one registration alone hears a root's
-    /// event no filter is asked on the way to it, so that it is called without a walk.
+    /// event no filter is asked on the way to it, so that it is called without a walk. Before a walk room is taken for all
+    /// changes that may be asked; it is still there at the next one.
     pub(crate) fn call_at(
         &self,
         alloc: Global,
@@ -127,7 +131,10 @@ impl<A: App> Terms<'_, A> {
             Hearers::One(number) => {
                 self.call_number(alloc, raise_at, number, socket, notes, ledger)
             }
-            Hearers::More => self.walk(alloc, tree, raise_at, socket, notes, ledger),
+            Hearers::More => {
+                ledger.make_room(MOST)?;
+                self.walk(alloc, tree, raise_at, socket, notes, ledger)
+            }
         }
     }
 

@@ -11,6 +11,7 @@ use crate::changes::change_all;
 use crate::hearing::{hears, hears_receiver, hears_sender};
 use crate::in_force::InForce;
 use crate::ledger::{Ledger, Notes};
+use crate::rests::entry_at_rest;
 use crate::terms::Terms;
 use app_api::{App, Reason, Verdict};
 use builtin_events::{raised_at_receiver, raised_at_sender};
@@ -39,9 +40,6 @@ pub struct Step {
     pub verdict: Verdict,
 }
 
-/// The most changes that a raise asks: four at each of 255 registrations.
-const MOST: usize = 4 * 255;
-
 impl Flow {
     ghost use Rattle.app_api.specs.App.{Meaning};
     ghost use Rattle.shared_forest.specs.Lists.{TreeLists};
@@ -68,8 +66,7 @@ impl Flow {
     }
 
     // Makes one raise: calls what fires of the private list as it is, and then makes the changes that the callbacks
-    // ask. The tree is borrowed from the store for the calls alone, so no walk sees it change. Room for the changes is
-    // taken first; it is still there at the next raise.
+    // ask. The tree is borrowed from the store for the calls alone, so no walk sees it change.
     #[inline(always)]
     fn raise<A: App, F: Forests>(
         &mut self,
@@ -95,8 +92,10 @@ impl Flow {
         ensures count { self.new.count ≡ self.old.count }
     {
         let tree = forests.tree_of(&self.forest);
-        ledger.make_room(MOST)?;
         terms.call_at(alloc, tree, raise_at, &mut self.socket, notes, ledger)?;
+        if ledger.asks_no_change() {
+            return Ok(());
+        }
         change_all(
             alloc,
             &terms.in_force,
@@ -221,9 +220,9 @@ impl Flow {
         if !hears_receiver(&terms.in_force, tree, arrived.head, &got) {
             return Ok(());
         }
-        if terms.rests(tree) {
+        if let Some(number) = terms.resting(tree) {
             ledger.count(0);
-            return Ok(());
+            return notes.keep_entry(terms.keep, entry_at_rest(arrived.number, number));
         }
         let phase = Phase {
             number: arrived.number,

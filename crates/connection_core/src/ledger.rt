@@ -1,6 +1,6 @@
 //! What is noted of callbacks: in their record, and for the packet under way.
 
-ghost use Rattle.std.specs.Prelude.{◌≡◌, ◌+◌, ◌<◌, ◌≤◌, ◌^◌, ◌++◌, [], None, OnOk};
+ghost use Rattle.std.specs.Prelude.{◌≡◌, ◌+◌, ◌<◌, ◌≤◌, ◌^◌, ◌++◌, [], None, IsTrue, OnOk};
 ghost use Rattle.connection_core.specs.PacketUnderWay.{first_reason};
 ghost use Rattle.connection_core.specs.Standing.{kept_with};
 
@@ -50,6 +50,7 @@ impl Notes {
     }
 
     /// Keeps an entry, where these are kept.
+    #[inline(always)]
     pub(crate) fn keep_entry(&mut self, keep: bool, entry: Entry) -> Result<(), AllocError>
         ensures tally { self.new.tally ≡ self.old.tally }
         ensures entries { OnOk result (self.new.entries ≡ kept_with keep self.old.entries entry) }
@@ -98,6 +99,14 @@ impl Ledger {
         ensures counts { self.new.counts ≡ self.old.counts }
     {
         self.changes.reserve(changes)
+    }
+
+    /// Whether no change is asked.
+    #[inline(always)]
+    pub(crate) fn asks_no_change(&self) -> bool
+        ensures { IsTrue result → self.now.changes.items ≡ [] }
+    {
+        self.changes.is_empty()
     }
 
     /// Counts a callback that saw so many bytes.

@@ -1,14 +1,14 @@
-//! Packets of which one thing is called at their receiver, and that does nothing: where no entries are kept it has only to
-//! be counted, without facts and without a walk.
+//! Packets of which one thing is called at their receiver, and that does nothing: it has only to be counted, and noted where
+//! entries are kept, without facts and without a walk.
 
 ghost use Rattle.std.specs.Prelude.{◌≡◌, ◌∷◌, [], IsTrue, IfSome};
 ghost use Rattle.native_filters.specs.declared.facts.Hook.TheVariants.{Rcv};
 ghost use Rattle.event_trees.specs.Walk.{called};
 ghost use Rattle.connection_core.specs.Trees.{IsForestInForce};
-ghost use Rattle.connection_core.specs.Resting.{IsPlain, Rests};
+ghost use Rattle.connection_core.specs.Resting.{IsPlain, Rests, entry_at_rest};
 
 use crate::terms::{FIRST_OF_SCRIPTS, Terms};
-use app_api::{App, PKT_IN, PeekSpec, Reg};
+use app_api::{App, Entry, PKT_IN, PeekSpec, Reg, Seen};
 use native_filters::Hook;
 use shared_forest::{Slot, Tree};
 
@@ -36,20 +36,35 @@ fn is_plain(reg: &Reg) -> bool
 }
 
 impl<A: App> Terms<'_, A> {
-    /// Whether all that a packet calls at its receiver is one preset which does nothing there, and no entry is kept of it.
-    pub(crate) fn rests(&self, tree: &Tree) -> bool
+    /// The number of the registration of which this is so: all that a packet calls at its receiver is this one, a preset
+    /// which does nothing there.
+    pub(crate) fn resting(&self, tree: &Tree) -> Option<u8>
         requires forest { IsForestInForce self.now.in_force tree.now }
-        ensures { IsTrue result → Rests (A.meaning self.now.app.now) self.now.keep self.now.in_force tree.now }
+        ensures { IfSome result (λ number. Rests (A.meaning self.now.app.now) self.now.in_force tree.now number) }
     {
-        if self.keep || !self.app.rests_at_receiver() {
-            return false;
+        if !self.app.rests_at_receiver() {
+            return None;
         }
         let Some(number) = lone_receiver(tree.slots()) else {
-            return false;
+            return None;
         };
         match self.in_force.reg_at(number) {
-            Some(reg) => is_plain(reg),
-            None => false,
+            Some(reg) if is_plain(reg) => Some(number),
+            _ => None,
         }
+    }
+}
+
+/// What the report tells of the callback of such a registration, for the packet of this number.
+#[inline(always)]
+pub(crate) fn entry_at_rest(index: u64, number: u8) -> Entry
+    ensures { result ≡ entry_at_rest index number }
+{
+    Entry {
+        index,
+        hook: Hook::Rcv,
+        event: PKT_IN,
+        reg: number,
+        seen: Seen::Nothing,
     }
 }

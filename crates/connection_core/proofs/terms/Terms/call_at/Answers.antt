@@ -4,6 +4,7 @@ use Rattle.connection_core.specs.Trees.{active_in}
 use Rattle.connection_core.specs.Standing.{raise_of}
 use Rattle.connection_core.proofs.Earlier.{known_in}
 use Rattle.connection_core.proofs.Callbacks.{calls_one}
+use Rattle.connection_core.proofs.Settling.{under_room}
 use Rattle.connection_core.proofs.Unheard.{calls_nothing}
 use Rattle.connection_core.proofs.terms.Terms.call_at.Goals as goal
 
@@ -26,3 +27,14 @@ returns-in-One-clause-stands g c =
     c.args.socket.now c.call_number.new.socket c.args.notes.now c.call_number.new.notes c.args.ledger.now c.call_number.new.ledger c.in-One.number known
     (c.hearers.ensures.one c.in-One.number c.in-One.is s m.facts.now force) (all list s force))
     c.call_number.ensures.stands
+
+-- more of them
+pub returns-in_ok-make_room-in-More-clause-stands : goal.returns-in_ok-make_room-in-More-clause-stands
+returns-in_ok-make_room-in-More-clause-stands g c =
+    on_ok_weaker c.walk.result (λ all. λ s force. record {
+      stands = λ others under_way u.
+          (all s force).stands others under_way
+          (under_room c.args.self.now.keep others (active_in (registered c.args.self.now.in_force) c.args.tree.now) c.args.socket.now c.args.notes.now c.args.ledger.now c.make_room.new.self under_way
+          c.make_room.ensures.changes c.make_room.ensures.drop c.make_room.ensures.counts u);
+    })
+    c.walk.ensures.stands
