@@ -16,13 +16,13 @@ use Rattle.lane_worker.specs.Steps.{Step, answers_of, answer_to, events_of}
 use Rattle.lane_worker.specs.Worked.{Takes, Sends, SameAnswers, WentOn, Ran}
 use Rattle.lane_worker.specs.declared.worker.Worker.{Worker}
 
-module _ {L : Type 0} where
+module _ {L : Type 0} (g : Ghosts L) (script : List Command) where
   -- what the lane's first commands make is in force
-  abbrev pub IsUnder : Ghosts L → List Command → L → Type 0
-  IsUnder g script lane = g.control lane ≡ control (g.app lane).presets (take (g.given lane) script)
+  abbrev pub IsUnder : L → Type 0
+  IsUnder lane = g.control lane ≡ control (g.app lane).presets (take (g.given lane) script)
 
   -- a lane took commands, one for each place; those of `done` went well, and at that of `bad`, if there is one, it failed
-  pub record Advanced (g : Ghosts L) (script : List Command) (a b : L) (from to : RingRx ℕ) : Type 0 where
+  pub record Advanced (a b : L) (from to : RingRx ℕ) : Type 0 where
     pub done : List Command
     pub bad : List Command
     pub places : List ℕ
@@ -39,7 +39,7 @@ module _ {L : Type 0} where
     pub light : g.failed b ≢ Some Heavy
 
   -- a packet that fits was handed over behind the commands for it, or the lane failed at one of these
-  pub record Turned (g : Ghosts L) (script : List Command) (a b : L) (from to : RingRx ℕ) (p : Packet) (result : Result Verdict LaneError) : Type 0 where
+  pub record Turned (a b : L) (from to : RingRx ℕ) (p : Packet) (result : Result Verdict LaneError) : Type 0 where
     pub turn : List Command
     pub done : List Step
     pub bad : List Step
@@ -51,7 +51,7 @@ module _ {L : Type 0} where
     pub silent : (e : LaneError) → result ≡ Err e → (events : List LaneEvent) → g.stands a events → answers_of (g.app a) events done ≡ []
 
   -- the lane took the script's next command, or failed at it
-  pub record TakesNext (g : Ghosts L) (script : List Command) (a b : L) : Type 0 where
+  pub record TakesNext (a b : L) : Type 0 where
     pub command : Command
     pub next : slice_get script (g.given a) ≡ Some command
     pub stands : (events : List LaneEvent) → g.stands a events → g.stands b (with_event (Gave command) events)
@@ -59,11 +59,11 @@ module _ {L : Type 0} where
     pub app : g.app b ≡ g.app a
     pub keeps : g.keeps b ≡ g.keeps a
     pub version : g.failed b ≡ None → g.given b ≡ g.given a + 1
-    pub under : g.failed b ≡ None → IsUnder g script b
+    pub under : g.failed b ≡ None → IsUnder b
     pub light : g.failed b ≢ Some Heavy
 
   -- what a worker made of a packet that it had taken out of its ring
-  pub record TookUp (g : Ghosts L) (script : List Command) (a b : Worker L) (p : Packet) : Type 0 where
+  pub record TookUp (a b : Worker L) (p : Packet) : Type 0 where
     pub places : List ℕ
     pub same : b.packets ≡ a.packets
     pub number : b.number ≡ a.number

@@ -45,18 +45,19 @@ module _ {L : Type 0} where
     pub team : IsTeam g app workers packets
     pub lawful : IsTrue (are_lawful (start app.presets) (commands_of script))
 
-  -- A team may start: what its workers share and its feed are under the script, there is room for its inputs and for its workers once they are back,
-  -- and a flag for each.
-  pub record MayStart (g : Ghosts L) (script : List Stamped) (commands : List Command) (dealt_under : List Stamped) (workers : List (Worker L)) (packets : List (RingTx Packet))
-      (inputs : List (LaneInput L)) (room : ℕ) (back : List (Worker L)) (places : ℕ) (flags : ℕ) : Type 0 where
+  -- a team may start: what its workers share and its feed are under the script
+  pub record MayStart (g : Ghosts L) (script : List Stamped) (commands : List Command) (dealt_under : List Stamped) (workers : List (Worker L)) (packets : List (RingTx Packet)) : Type 0 where
     pub context : commands ≡ commands_of script
     pub feed : dealt_under ≡ script
     pub team : CanRun g script workers packets
+
+  -- there is room for the inputs of so many workers and for these once they are back, and a flag for each
+  pub record HasRoom (count : ℕ) (inputs : List (LaneInput L)) (room : ℕ) (back : List (Worker L)) (places : ℕ) (flags : ℕ) : Type 0 where
     pub no_inputs : inputs ≡ []
-    pub room_for_inputs : length workers ≤ room
+    pub room_for_inputs : count ≤ room
     pub none_back : back ≡ []
-    pub room_for_workers : length workers ≤ places
-    pub flag_each : flags ≡ length workers
+    pub room_for_workers : count ≤ places
+    pub flag_each : flags ≡ count
 
   -- Workers that began so served the packets of some frames, of which this holds.
   pub record Served (g : Ghosts L) (script : List Stamped) (begins : List (Worker L)) (workers : List (Worker L)) (did : List Captured → Type 0) : Type 0 where

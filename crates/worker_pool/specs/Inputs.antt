@@ -58,14 +58,6 @@ ReadsAs frames capture old new (Err ReadFault) = ⊤
 ReadsAs frames capture old new (Err NoMemory) = ⊤
 
 module _ {L : Type 0} where
-  -- a capture was read, and its packets were sent
-  pub record Dispatched (g : Ghosts L) (script : List Stamped) (begins : List (Worker L)) (inputs : List (LaneInput L)) (capture : CaptureState) (old new : Option (List ℕ))
-      (result : Result Whole NextError) : Type 0 where
-    pub frames : List Captured
-    pub few : length frames ≤ 1048576
-    pub inputs_are : AreInputs g script begins frames inputs
-    pub read : ReadsAs frames capture old new result
-
   -- the packets of some frames were sent to these inputs, and this holds of the frames
   pub record Dealt (g : Ghosts L) (script : List Stamped) (begins : List (Worker L)) (inputs : List (LaneInput L)) (did : List Captured → Type 0) : Type 0 where
     pub frames : List Captured

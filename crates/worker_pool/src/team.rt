@@ -7,7 +7,7 @@ ghost use Rattle.forest_versions.specs.Lawful.{are_lawful};
 ghost use Rattle.forest_versions.specs.State.{start};
 ghost use Rattle.control_script.specs.Order.{commands_of};
 ghost use Rattle.lane_worker.specs.Worked.{MayWork, WorkedOn};
-ghost use Rattle.worker_pool.specs.AtWork.{CanRun, MayStart, Served};
+ghost use Rattle.worker_pool.specs.AtWork.{CanRun, HasRoom, MayStart, Served};
 ghost use Rattle.worker_pool.specs.Inputs.{IsPlaced};
 
 use crate::job::PoolError;
@@ -22,7 +22,6 @@ use control_script::Script;
 use lane_core::Recorder;
 use lane_rings::{CommandTx, PacketTx};
 use lane_worker::{Gate, Worker, WorkerContext};
-use native_filters::NativeBook;
 use std::alloc::{AllocError, Global};
 use std::collections::VecDeque;
 use std::snapshot::Snapshot;
@@ -143,27 +142,31 @@ fn run_threads<
     E: Feed<L>,
     G: Gate + Sync,
 >(
-    rt: &'c R,
-    alloc: Global,
+    context: &'c WorkerContext<'c, R, G>,
     team: Team<L>,
     inputs: Vec<LaneInput<L>>,
     back: Vec<Worker<L>>,
     stops: &'c [AtomicBool],
-    failed: &'c AtomicBool,
     runner: &'c D,
-    script: &'c Script,
-    natives: &'c NativeBook,
-    gate: &'c G,
     feed: &'c mut E,
 ) -> (Result<Whole, PoolError>, Vec<Worker<L>>, &'c mut E)
-    requires starts { MayStart L.Recorder script.now (D.commands runner.now)
-        (E.script feed.old) team.workers.items team.packets.items inputs.items (vec_capacity inputs) back.items
+    requires starts { MayStart L.Recorder context.now.script.now (D.commands runner.now) (E.script feed.old)
+        team.workers.items team.packets.items }
+    requires room { HasRoom (length team.workers.items) inputs.items (vec_capacity inputs) back.items
         (vec_capacity back) (length stops.now) }
     requires may { E.may feed.old team.workers.items }
-    ensures served { Served L.Recorder script.now team.workers.items result.1.items
+    ensures served { Served L.Recorder context.now.script.now team.workers.items result.1.items
         (λ frames. E.did feed.old result.2.now team.workers.items frames result.0) }
     ensures same { result.2.ghost_name ≡ feed.entry.ghost_name }
 {
+    let WorkerContext {
+        rt,
+        alloc,
+        script,
+        natives,
+        gate,
+        failed,
+    } = *context;
     let Team {
         workers,
         packets,
@@ -176,8 +179,9 @@ fn run_threads<
         move |scope| -> (Result<Whole, PoolError>, Vec<Worker<L>>, &mut E)
             requires duty_shared { IsSync D.row }
             requires gate_shared { IsSync G.row }
-            requires starts { MayStart L.Recorder script.now (D.commands runner.now)
-                (E.script feed.now) workers.items packets.items inputs.items (vec_capacity inputs) back.items
+            requires starts { MayStart L.Recorder script.now (D.commands runner.now) (E.script feed.now)
+                workers.items packets.items }
+            requires room { HasRoom (length workers.items) inputs.items (vec_capacity inputs) back.items
                 (vec_capacity back) (length stops.now) }
             requires may { E.may feed.now workers.items }
             ensures served { Served L.Recorder script.entry.now workers.items result.1.items
@@ -211,7 +215,7 @@ fn run_threads<
     )
 }
 
-// The same, with the feed lent.
+// The same, with the feed lent, and with a context that lives as long as the feed is lent.
 fn run_lent_feed<
     R: Threads + Wait + Sync + Send + Copy + Drop + 'static,
     L: Recorder + Drop + Send,
@@ -226,7 +230,8 @@ fn run_lent_feed<
     feed: &mut E,
 ) -> (Result<Whole, PoolError>, Vec<Worker<L>>)
     requires starts { MayStart L.Recorder context.now.script.now (commands_of context.now.script.now)
-        (E.script feed.old) team.workers.items team.packets.items inputs.items (vec_capacity inputs) back.items
+        (E.script feed.old) team.workers.items team.packets.items }
+    requires room { HasRoom (length team.workers.items) inputs.items (vec_capacity inputs) back.items
         (vec_capacity back) (length stops.now) }
     requires may { E.may feed.old team.workers.items }
     ensures served { Served L.Recorder context.now.script.now team.workers.items result.1.items
@@ -240,7 +245,7 @@ fn run_lent_feed<
         gate,
         failed,
     } = *context;
-    let runner = WorkerContext {
+    let shared = WorkerContext {
         rt,
         alloc,
         script,
@@ -248,9 +253,7 @@ fn run_lent_feed<
         gate,
         failed,
     };
-    let (read, workers, _feed) = run_threads(
-        rt, alloc, team, inputs, back, stops, failed, &runner, script, natives, gate, feed,
-    );
+    let (read, workers, _feed) = run_threads(&shared, team, inputs, back, stops, &shared, feed);
     (read, workers)
 }
 

@@ -6,7 +6,7 @@ ghost use Rattle.pcap_source.specs.Reading.{Opened};
 ghost use Rattle.flow_table.specs.Lane.{lane_of_key};
 ghost use Rattle.ip6_views.specs.Sight.{sight_of, lane_of_sight};
 ghost use Rattle.lane_worker.specs.declared.worker.Worker.{Worker as Begun};
-ghost use Rattle.worker_pool.specs.Inputs.{AreInputs, Dispatched};
+ghost use Rattle.worker_pool.specs.Inputs.{AreInputs, Dealt, ReadsAs};
 ghost use Rattle.worker_pool.specs.Source.{ReadsOn};
 
 use crate::team::lane_input::{LaneInput, send_to};
@@ -111,8 +111,8 @@ pub(crate) fn dispatch<R: Wait, L: Recorder + Drop, S: Source, G: Gate>(
         × AreInputs L.Recorder context.now.script.now begins [] inputs.old.items }
     ensures dispatched { (begins : List (Begun L))
         → AreInputs L.Recorder context.now.script.now begins [] inputs.old.items
-        → Dispatched L.Recorder context.now.script.now begins inputs.new.items capture.old (S.left source.old)
-        (S.left source.new) result }
+        → Dealt L.Recorder context.now.script.now begins inputs.new.items
+        (λ frames. ReadsAs frames capture.old (S.left source.old) (S.left source.new) result) }
     ensures reads { ReadsOn S.Source capture.old source.old source.new (IsOk result)
         (IsErrOf result NextError.ReadFault) }
     ensures stopped { capture.new.is_live ≡ false }

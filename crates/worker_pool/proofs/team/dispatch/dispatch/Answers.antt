@@ -35,7 +35,7 @@ returns-in_err-next-clause-dispatched g c = λ begins are.
       frames = read.0;
       few = let few = inv.few in let count = read.1 in omega (arith, few, count);
       inputs_are = read.2 begins are;
-      read = read_refused c.args.capture.now at.capture c.next.new.self read.0 c.next.new.frame (g.S.Source.left c.args.source.now) (g.S.Source.left at.source) (g.S.Source.left c.next.new.source)
+      done = read_refused c.args.capture.now at.capture c.next.new.self read.0 c.next.new.frame (g.S.Source.left c.args.source.now) (g.S.Source.left at.source) (g.S.Source.left c.next.new.source)
           (g.S.Source.left c.next.new.source)
           c.in_err-next.field-0.0 c.in_err-next.ensures.gives read.3;
     })
@@ -93,7 +93,7 @@ returns-in-Tail-clause-dispatched g c = λ begins are.
       frames = read.0;
       few = let few = inv.few in let count = read.1 in omega (arith, few, count);
       inputs_are = read.2 begins are;
-      read = record {
+      done = record {
         count = read.1;
         last = read.4;
         holds = λ bytes told. read_tail c.args.capture.now bytes read.0 at.capture c.next.new.self c.next.new.frame c.in-Tail.tail (g.S.Source.left at.source)
@@ -120,7 +120,7 @@ returns-in-End-clause-dispatched g c = λ begins are.
       frames = read.0;
       few = let few = inv.few in let count = read.1 in omega (arith, few, count);
       inputs_are = read.2 begins are;
-      read = record {
+      done = record {
         count = read.1;
         last = read.4;
         holds = λ bytes told. read_end c.args.capture.now bytes read.0 at.capture c.next.new.self c.next.new.frame (g.S.Source.left at.source) (g.S.Source.left c.next.new.source) gives

@@ -12,7 +12,7 @@ returns g c = record {
         few = dealt.few;
         inputs_are = dealt.inputs_are;
         done = (
-          dealt.read,
+          dealt.done,
           reads_less g.S.Source c.args.self.now.capture.now c.args.self.now.source.now c.dispatch.new.source (λ ok. ok) (λ fault. absurd (no_error _ ReadFault fault)) c.in_ok-whole.ensures.reads,
           refl,
           refl,

@@ -37,13 +37,13 @@ pub loop-stop-init : goal.loop-stop-init
 loop-stop-init g c = record {
   front = [];
   whole = refl;
-  fresh = subst (λ (l : List (LaneInput g.row.L.Denot)). AllZip (IsFresh g.L.Recorder (commands_of c.captures.script.now)) [] l) (sym c.requires.starts.no_inputs) tt;
+  fresh = subst (λ (l : List (LaneInput g.row.L.Denot)). AllZip (IsFresh g.L.Recorder (commands_of c.captures.script.now)) [] l) (sym c.requires.room.no_inputs) tt;
   waiting =
       subst (λ (l : List (Worker g.row.L.Denot)). AllZip (MayBegin g.L.Recorder (commands_of c.captures.script.now)) l c.from-packets.result.items) (sym c.from-workers.ensures.0)
       (subst (λ (l : List (RingTx Packet)). AllZip (MayBegin g.L.Recorder (commands_of c.captures.script.now)) c.captures.workers.items l) (sym c.from-packets.ensures.0)
       (all_may_begin g.L.Recorder c.captures.script.now c.captures.workers.items c.captures.packets.items c.requires.starts.team));
-  flags = let e = ap length c.from-workers.ensures.0 in let f = c.requires.starts.flag_each in omega (arith, e, f);
-  room = let e = ap length c.from-workers.ensures.0 in let f = ap length c.requires.starts.no_inputs in let h = c.requires.starts.room_for_inputs in omega (arith, e, f, h);
+  flags = let e = ap length c.from-workers.ensures.0 in let f = c.requires.room.flag_each in omega (arith, e, f);
+  room = let e = ap length c.from-workers.ensures.0 in let f = ap length c.requires.room.no_inputs in let h = c.requires.room.room_for_inputs in omega (arith, e, f, h);
 }
 
 pub loop-stop-preserved : goal.loop-stop-preserved
@@ -93,8 +93,8 @@ finish_all-workers-requires g c =
     (c.send_packets-read.ensures.dealt c.captures.workers.items under c.requires.may) in
     record {
       at_work = all_at_work g.L.Recorder c.captures.script.now c.captures.workers.items sent.frames c.send_packets-read.new.inputs.items sent.inputs_are;
-      empty = c.requires.starts.none_back;
-      places = let e = sent.inputs_are.count in let f = c.requires.starts.room_for_workers in omega (arith, e, f);
+      empty = c.requires.room.none_back;
+      places = let e = sent.inputs_are.count in let f = c.requires.room.room_for_workers in omega (arith, e, f);
     }
 
 pub returns : goal.returns
