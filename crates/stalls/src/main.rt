@@ -1,0 +1,16 @@
+//! Where downloads stand still: the program `stalls`, an application of its own over the stack of mos.
+//!
+//! Each connection has four fields: how often its client and its server advertised a window of zero, how many packets arrived while
+//! a window was closed, and how many brought bytes past the window.
+#![tactic(auto)]
+
+mod laws;
+mod windows;
+
+use std::process::ExitCode;
+
+fn main(_rt: HostRuntime) -> ExitCode {
+    let _app = windows::Stalls;
+    laws::stalls_are_counted();
+    ExitCode::SUCCESS
+}
