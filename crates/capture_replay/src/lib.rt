@@ -22,4 +22,5 @@ pub use plan::{Crew, Task};
 pub use refusal::ReplayError;
 pub use several::{run_several, run_several_with};
 pub use single::{run_one, run_one_with};
+pub use task::task_of;
 pub use worker_pool::VersionList;

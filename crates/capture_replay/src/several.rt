@@ -11,6 +11,7 @@ ghost use Rattle.capture_replay.specs.Outcome.{closing, is_forward, made_for, ou
 ghost use Rattle.capture_replay.specs.Runs.{IsJob, Runs, RunsFor, RunsUnderSettings};
 
 use crate::laws::what_one_worker_has_is_allowed;
+use crate::chosen::Chosen;
 use crate::plan::{Crew, Plan, Task};
 use crate::task::task_of;
 use crate::summary::write_summary;
@@ -230,6 +231,6 @@ pub fn run_several<
         (RunsWith (meaning_of settings.now.app) script.now settings.now.workers (output_of settings.now))
         capture.old capture.new out.old out.new result }
 {
-    let task = task_of(settings, script);
+    let task = task_of(Chosen(settings.app), settings, script);
     run_several_with(crew, alloc, &task, capture, out, natives)
 }
