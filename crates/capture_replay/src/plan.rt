@@ -1,5 +1,7 @@
 //! What a run is to do, and who does it.
 
+ghost use Rattle.std.specs.Prelude.{◌≡◌};
+
 use crate::Output;
 use control_script::Script;
 use native_filters::NativeBook;

@@ -7,10 +7,16 @@
 mod knocks;
 mod laws;
 
+use knocks::Scans;
+use mos_bytes::{FolderShelf, ReadSource, WriteSink};
+use mos_program::{run_own_program, words_given};
 use std::process::ExitCode;
 
-fn main(_rt: HostRuntime) -> ExitCode {
-    let _app = knocks::Scans;
-    laws::knocks_are_counted();
-    ExitCode::SUCCESS
+fn main(rt: HostRuntime) -> ExitCode {
+    let words = words_given(&rt);
+    let mut capture = ReadSource::new(rt.stdin());
+    let mut shelf = FolderShelf::new(rt);
+    let mut err = WriteSink::new(rt.stderr());
+    let out = WriteSink::new(rt.stdout());
+    run_own_program(&rt, Scans, words, &mut capture, &mut shelf, out, &mut err).code
 }

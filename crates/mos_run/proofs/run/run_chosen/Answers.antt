@@ -4,19 +4,19 @@ use Rattle.mos_run.specs.Run.{EndsAs}
 use Rattle.mos_run.specs.Outcome.{StopsAs}
 use Rattle.mos_bytes.specs.Writes.{AppendsFront}
 use Rattle.mos_run.proofs.Outcomes.{ends_as, finishes_alone, under_more}
-use Rattle.mos_run.proofs.run.run_mos.Goals as goal
+use Rattle.mos_run.proofs.run.run_chosen.Goals as goal
 
 pub returns-in-Ok-clause-alone : goal.returns-in-Ok-clause-alone
-returns-in-Ok-clause-alone g c = λ zero t is.
-    finishes_alone c.what_one_worker_has_is_allowed.ensures.outcome c.what_one_worker_has_is_allowed.ensures.forwarded c.without_live_commands_all_versions_are_known.ensures (map string_bytes c.args.words.now)
-    (g.H.Shelf.content c.args.shelf.now) (g.S.Source.left c.args.capture.now) t _ _ _ is (c.in-Ok.ensures.runs t is)
+returns-in-Ok-clause-alone g c = λ settings chooses zero t is.
+    finishes_alone c.what_one_worker_has_is_allowed.ensures.outcome c.what_one_worker_has_is_allowed.ensures.forwarded c.without_live_commands_all_versions_are_known.ensures (g.A.App.meaning c.args.app) settings
+    (g.H.Shelf.content c.args.shelf.now) (g.S.Source.left c.args.capture.now) t _ _ _ is (c.in-Ok.ensures.runs settings chooses t is)
 
 pub returns-in-Err-clause-ran : goal.returns-in-Err-clause-ran
-returns-in-Err-clause-ran g c = record {
+returns-in-Err-clause-ran g c = λ settings chooses. let ran = c.in-Err.ensures.ran settings chooses in record {
   read = search rules;
   ends = λ t is.
       under_more t (λ o. StopsAs o c.in-Err.error × AppendsFront _ _ o.text) (λ o. EndsAs o c.refuse.result.status)
-      (λ o stops. ends_as o c.in-Err.error c.refuse.result.status stops.0 c.refuse.ensures.status) (c.in-Err.ensures.runs t is);
+      (λ o stops. ends_as o c.in-Err.error c.refuse.result.status stops.0 c.refuse.ensures.status) (c.in-Err.ensures.runs settings chooses t is);
   usage = search rules;
   only_usage = search rules;
   read_fault = search rules;
