@@ -1,6 +1,6 @@
 -- What a replay comes to under versions that it may have, a run over a file, and one under words: what the calls below the top one
 -- promise.
-use Rattle.std.specs.Prelude.{◌≡◌, ◌≢◌, ◌⊎◌, ℕ, ◌<◌, ◌≤◌, false, List, [], Option, None, Some, Result, Ok, Err, IsOk, IsErr, IfOk, IfErr, IsErrOf}
+use Rattle.std.specs.Prelude.{◌≡◌, ◌≢◌, ◌⊎◌, ℕ, ◌<◌, ◌≤◌, false, List, [], Option, None, Some, Result, Ok, Err, IsOk, IsErr, IfErr, IsErrOf}
 use Rattle.mos_bytes.specs.Causes.{Rose}
 use Rattle.mos_bytes.specs.Outside.{Reads, Writes}
 use Rattle.mos_bytes.specs.Writes.{AppendsFront}
@@ -9,8 +9,6 @@ use Rattle.mos_bytes.specs.declared.shelf.Shelf.{Ghosts as Shelf}
 use Rattle.mos_bytes.specs.declared.sink.Sink.{Ghosts as Sink}
 use Rattle.pcapng_source.specs.Given.{Given}
 use Rattle.words.specs.declared.settings.Settings.{Settings}
-use Rattle.words.specs.declared.settings.WordsError.{WordsError}
-use Rattle.words.specs.declared.settings.WordsError.TheVariants as Words
 use Rattle.capture_replay.specs.declared.plan.Task.{Task}
 use Rattle.mos_run.specs.declared.refusal.RunError.{RunError}
 use Rattle.mos_run.specs.declared.refusal.RunError.TheVariants.{Usage, ReadFault, WriteFault, NoMemory}
@@ -26,11 +24,6 @@ use Rattle.mos_run.specs.Run.{RunsUnder, ReadsCapture, Makes, NamesNone, forward
 -- what a task asks, for the meaning of its application
 abbrev pub wanted_by : {A : Type 0} → (A → Meaning) → Task A → Wanted
 wanted_by meaning task = record { app = meaning task.app; commands = task.script.now; workers = task.workers; output = task.output }
-
--- words chose these settings, or are refused; nothing is said where there was no memory to read them
-pub record Chooses (chosen : Result Settings WordsError) (settings : Option Settings) : Type 0 where
-  pub ok : IfOk chosen (λ s. settings ≡ Some s)
-  pub refused : IsErrOf chosen Words.Usage → settings ≡ None
 
 module _ (w : Wanted) (bytes : List ℕ) where
   -- the outcome of a replay whose records have these versions

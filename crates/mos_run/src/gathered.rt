@@ -1,16 +1,15 @@
 //! The top calls over an output of which each call costs much, as a file or a pipe.
 
-ghost use Rattle.std.specs.Prelude.{◌≡◌, ◌≤◌, List, ℕ, Option, map, Some, IfOk, IfSome, string_bytes};
-ghost use Rattle.words.specs.declared.settings.Settings.{Settings as Choice};
+ghost use Rattle.std.specs.Prelude.{◌≡◌, ◌≤◌, map, Some, IfSome, string_bytes};
 ghost use Rattle.words.specs.Own.{own_settings};
 ghost use Rattle.mos_run.specs.Request.{Request, request_for, request_of, requested};
 ghost use Rattle.mos_run.specs.Run.{FinishesAlone, FinishesUnder, MosRun, RanUnder};
-ghost use Rattle.mos_run.specs.Runs.{Chooses};
 
 use crate::ended::{Ended, handed_on, refuse};
 use crate::refusal::RunError;
-use crate::run::{Machine, app_in, run_chosen};
+use crate::run::{Machine, run_chosen};
 use app_api::App;
+use capture_replay::Chosen;
 use capture_replay::laws::{
     what_one_worker_has_is_allowed, without_live_commands_all_versions_are_known,
 };
@@ -19,7 +18,7 @@ use native_filters::NativeBook;
 use std::alloc::{AllocFailed, Global};
 use std::sync::Wait;
 use std::thread::Threads;
-use words::{Settings, WordsError, read_own_words, read_words};
+use words::{Settings, read_own_words, read_words};
 use worker_pool::Gate;
 
 /// How a run ended, and the output that it was given.
@@ -41,22 +40,21 @@ fn gather_chosen<
 >(
     machine: &Machine<'_, R, G>,
     app: A,
-    chosen: Result<Settings, WordsError>,
+    settings: &Settings,
     capture: &mut S,
     shelf: &mut H,
     out: O,
     err: &mut E,
 ) -> GatheredRun<O>
-    requires workers { IfOk chosen (λ s. (1 ≤ s.workers) × (s.workers ≤ 16)) }
-    requires few { IfOk chosen (λ s. IfSome s.make (λ n. n ≤ 100000)) }
-    ensures done { (settings : Option Choice) → Chooses chosen settings → result.ended.status ≡ 0
-        → (t : Request) → requested (A.meaning app) settings (H.content shelf.old) (S.left capture.old) ≡ Some t
+    requires workers { (1 ≤ settings.now.workers) × (settings.now.workers ≤ 16) }
+    requires few { IfSome settings.now.make (λ n. n ≤ 100000) }
+    ensures done { result.ended.status ≡ 0
+        → (t : Request) → requested (A.meaning app) (Some settings.now) (H.content shelf.old) (S.left capture.old) ≡ Some t
         → FinishesUnder t result.ended.versions (O.taken out) (O.taken result.out) }
-    ensures alone { (settings : Option Choice) → Chooses chosen settings → result.ended.status ≡ 0
-        → (t : Request) → requested (A.meaning app) settings (H.content shelf.old) (S.left capture.old) ≡ Some t
+    ensures alone { result.ended.status ≡ 0
+        → (t : Request) → requested (A.meaning app) (Some settings.now) (H.content shelf.old) (S.left capture.old) ≡ Some t
         → FinishesAlone t result.ended.versions (O.taken out) (O.taken result.out) }
-    ensures ran { (settings : Option Choice) → Chooses chosen settings
-        → RanUnder S.Source H.Shelf O.Sink E.Sink (A.meaning app) settings
+    ensures ran { RanUnder S.Source H.Shelf O.Sink E.Sink (A.meaning app) (Some settings.now)
         capture.old capture.new shelf.old shelf.new out result.out err.old err.new result.ended }
 {
     what_one_worker_has_is_allowed();
@@ -69,7 +67,7 @@ fn gather_chosen<
             return GatheredRun { ended, out };
         }
     };
-    let ended = run_chosen(machine, app, chosen, capture, shelf, &mut gathering, err);
+    let ended = run_chosen(machine, app, settings, capture, shelf, &mut gathering, err);
     let handed = gathering.finish();
     let ended = handed_on(alloc, ended, handed, err);
     let out = gathering.into_inner();
@@ -117,9 +115,17 @@ pub fn run_gathered<
         natives,
         gate,
     };
-    let chosen = read_words(alloc, words);
-    let app = app_in(&chosen);
-    gather_chosen(&machine, app, chosen, capture, shelf, out, err)
+    what_one_worker_has_is_allowed();
+    match read_words(alloc, words) {
+        Ok(settings) => {
+            let app = Chosen(settings.app);
+            gather_chosen(&machine, app, &settings, capture, shelf, out, err)
+        }
+        Err(error) => {
+            let ended = refuse(alloc, err, RunError::from(error));
+            GatheredRun { ended, out }
+        }
+    }
 }
 
 /// Runs an application of anybody's as `run_gathered` runs those that the words of mos name. The words are those of mos without
@@ -154,6 +160,12 @@ pub fn run_application<
     ensures ran { RanUnder S.Source H.Shelf O.Sink E.Sink (A.meaning app) (own_settings (map string_bytes words.now))
         capture.old capture.new shelf.old shelf.new out result.out err.old err.new result.ended }
 {
-    let chosen = read_own_words(machine.alloc, words);
-    gather_chosen(machine, app, chosen, capture, shelf, out, err)
+    what_one_worker_has_is_allowed();
+    match read_own_words(machine.alloc, words) {
+        Ok(settings) => gather_chosen(machine, app, &settings, capture, shelf, out, err),
+        Err(error) => {
+            let ended = refuse(machine.alloc, err, RunError::from(error));
+            GatheredRun { ended, out }
+        }
+    }
 }

@@ -1,12 +1,11 @@
 //! The top call: words, a script and a capture come in; what was asked for, or the reason why it isn't there, goes out.
 
-ghost use Rattle.std.specs.Prelude.{◌≡◌, ◌≤◌, List, ℕ, Option, map, Some, None, IfOk, IfSome, IsErrOf, string_bytes};
-ghost use Rattle.words.specs.declared.settings.Settings.{Settings as Choice};
+ghost use Rattle.std.specs.Prelude.{◌≡◌, ◌≤◌, map, Some, IfSome, string_bytes};
 ghost use Rattle.capture_replay.specs.Outcome.{made_for};
 ghost use Rattle.capture_replay.specs.Runs.{IsJob, RunsFor};
 ghost use Rattle.mos_run.specs.Request.{Request, request_of, requested};
 ghost use Rattle.mos_run.specs.Run.{FinishesAlone, FinishesUnder, MosRun, RanUnder, RunsUnder};
-ghost use Rattle.mos_run.specs.Runs.{Chooses, Replays, RunsOverFile, RunsUnderSettings, wanted_by};
+ghost use Rattle.mos_run.specs.Runs.{Replays, RunsOverFile, RunsUnderSettings, wanted_by};
 
 use crate::ended::{Ended, refuse};
 use crate::explained::explain;
@@ -23,7 +22,7 @@ use pcapng_source::{AnySource, refused_files_begin_with_a_header};
 use std::alloc::Global;
 use std::sync::Wait;
 use std::thread::Threads;
-use words::{AppKind, Settings, WordsError, read_words};
+use words::{Settings, read_words};
 use worker_pool::{Gate, VersionList};
 
 /// What a run works with.
@@ -94,7 +93,7 @@ fn run_file<
     explain(source.fault(), ran)
 }
 
-// The run of an application under what words chose, up to its versions, or to why it stopped.
+// The run of an application under settings, up to its versions, or to why it stopped.
 fn run<
     R: Threads + Wait + Sync + Send + Copy + Drop + 'static,
     A: App + Copy + Send + Sync + Drop,
@@ -105,27 +104,25 @@ fn run<
 >(
     machine: &Machine<'_, R, G>,
     app: A,
-    chosen: Result<Settings, WordsError>,
+    settings: &Settings,
     capture: &mut S,
     shelf: &mut H,
     out: &mut O,
 ) -> Result<VersionList, RunError>
-    requires workers { IfOk chosen (λ s. (1 ≤ s.workers) × (s.workers ≤ 16)) }
-    requires few { IfOk chosen (λ s. IfSome s.make (λ n. n ≤ 100000)) }
-    ensures runs { (settings : Option Choice) → Chooses chosen settings → (t : Request)
-        → requested (A.meaning app) settings (H.content shelf.old) (S.left capture.old) ≡ Some t
+    requires workers { (1 ≤ settings.now.workers) × (settings.now.workers ≤ 16) }
+    requires few { IfSome settings.now.make (λ n. n ≤ 100000) }
+    ensures runs { (t : Request)
+        → requested (A.meaning app) (Some settings.now) (H.content shelf.old) (S.left capture.old) ≡ Some t
         → RunsUnder t (O.taken out.old) (O.taken out.new) result }
-    ensures ran { (settings : Option Choice) → Chooses chosen settings
-        → RunsUnderSettings S.Source H.Shelf O.Sink (A.meaning app) settings
+    ensures ran { RunsUnderSettings S.Source H.Shelf O.Sink (A.meaning app) (Some settings.now)
         capture.old capture.new shelf.old shelf.new out.old out.new result }
 {
     what_one_worker_has_is_allowed();
-    let settings = chosen?;
     let script = script_of(machine.alloc, &app, shelf, &settings.script)?;
-    run_file(machine, &task_of(app, &settings, &script), capture, out)
+    run_file(machine, &task_of(app, settings, &script), capture, out)
 }
 
-/// Runs an application under what words chose, and tells a refusal on `err`: all that `run_mos` does once its words are read.
+/// Runs an application under settings, and tells a refusal on `err`: all that `run_mos` does once its words are read.
 pub(crate) fn run_chosen<
     R: Threads + Wait + Sync + Send + Copy + Drop + 'static,
     A: App + Copy + Send + Sync + Drop,
@@ -137,39 +134,28 @@ pub(crate) fn run_chosen<
 >(
     machine: &Machine<'_, R, G>,
     app: A,
-    chosen: Result<Settings, WordsError>,
+    settings: &Settings,
     capture: &mut S,
     shelf: &mut H,
     out: &mut O,
     err: &mut E,
 ) -> Ended
-    requires workers { IfOk chosen (λ s. (1 ≤ s.workers) × (s.workers ≤ 16)) }
-    requires few { IfOk chosen (λ s. IfSome s.make (λ n. n ≤ 100000)) }
-    ensures done { (settings : Option Choice) → Chooses chosen settings → result.status ≡ 0
-        → (t : Request) → requested (A.meaning app) settings (H.content shelf.old) (S.left capture.old) ≡ Some t
+    requires workers { (1 ≤ settings.now.workers) × (settings.now.workers ≤ 16) }
+    requires few { IfSome settings.now.make (λ n. n ≤ 100000) }
+    ensures done { result.status ≡ 0
+        → (t : Request) → requested (A.meaning app) (Some settings.now) (H.content shelf.old) (S.left capture.old) ≡ Some t
         → FinishesUnder t result.versions (O.taken out.old) (O.taken out.new) }
-    ensures alone { (settings : Option Choice) → Chooses chosen settings → result.status ≡ 0
-        → (t : Request) → requested (A.meaning app) settings (H.content shelf.old) (S.left capture.old) ≡ Some t
+    ensures alone { result.status ≡ 0
+        → (t : Request) → requested (A.meaning app) (Some settings.now) (H.content shelf.old) (S.left capture.old) ≡ Some t
         → FinishesAlone t result.versions (O.taken out.old) (O.taken out.new) }
-    ensures ran { (settings : Option Choice) → Chooses chosen settings
-        → RanUnder S.Source H.Shelf O.Sink E.Sink (A.meaning app) settings
+    ensures ran { RanUnder S.Source H.Shelf O.Sink E.Sink (A.meaning app) (Some settings.now)
         capture.old capture.new shelf.old shelf.new out.old out.new err.old err.new result }
 {
     what_one_worker_has_is_allowed();
     without_live_commands_all_versions_are_known();
-    match run(machine, app, chosen, capture, shelf, out) {
+    match run(machine, app, settings, capture, shelf, out) {
         Ok(versions) => Ended::done(versions),
         Err(error) => refuse(machine.alloc, err, error),
-    }
-}
-
-// The application that the words chose; where they chose none, any will do.
-pub(crate) fn app_in(chosen: &Result<Settings, WordsError>) -> Chosen
-    ensures { IfOk chosen.now (λ s. result.0 ≡ s.app) }
-{
-    match chosen {
-        Ok(settings) => Chosen(settings.app),
-        Err(_) => Chosen(AppKind::Log),
     }
 }
 
@@ -233,7 +219,12 @@ pub fn run_mos<
         natives,
         gate,
     };
-    let chosen = read_words(alloc, words);
-    let app = app_in(&chosen);
-    run_chosen(&machine, app, chosen, capture, shelf, out, err)
+    what_one_worker_has_is_allowed();
+    match read_words(alloc, words) {
+        Ok(settings) => {
+            let app = Chosen(settings.app);
+            run_chosen(&machine, app, &settings, capture, shelf, out, err)
+        }
+        Err(error) => refuse(alloc, err, RunError::from(error)),
+    }
 }

@@ -1,6 +1,6 @@
 -- What the run did to the sink that gathers, and what is left to hand on, is what the output took.
-use Rattle.std.proofs.Common.{◌≡◌, ℕ, ap, arith, inl, inr, le_refl, map, subst, sym, ◌≤◌, ◌∙◌}
-use Rattle.std.specs.Prelude.{◌⊎◌, string_bytes}
+use Rattle.std.proofs.Common.{◌≡◌, ℕ, Some, ap, arith, inl, inr, le_refl, subst, sym, ◌≤◌, ◌∙◌}
+use Rattle.std.specs.Prelude.{◌⊎◌}
 use Rattle.mos_bytes.specs.Gathering.{failures_of, gathering_faults, given_to, held_of, inner_of, start_of}
 use Rattle.mos_run.specs.Run.{FinishesUnder}
 use Rattle.mos_run.proofs.Below.{done_below, front_below, rose_below}
@@ -15,30 +15,31 @@ either-six status (inl six) = six
 either-six status (inr six) = six
 
 pub returns-in-Err-clause-ran : goal.returns-in-Err-clause-ran
-returns-in-Err-clause-ran g c = λ settings chooses.
+returns-in-Err-clause-ran g c =
     let refused = c.refuse-ended.ensures in
-    ran_without_memory g.S.Source g.H.Shelf g.O.Sink g.E.Sink (g.A.App.meaning c.args.app) settings c.args.capture.now c.args.shelf.now c.args.out _
+    ran_without_memory g.S.Source g.H.Shelf g.O.Sink g.E.Sink (g.A.App.meaning c.args.app) (Some c.args.settings.now) c.args.capture.now c.args.shelf.now c.args.out _
     c.args.err.now c.refuse-ended.new.err c.refuse-ended.result
     (λ x is. has_some c.what_one_worker_has_is_allowed.ensures.allowed _ _ _ _ x is) c.in-Err.ensures.err (either-six _ refused.status) refused.versions refused.told refused.lasts
 
 pub returns-clause-done : goal.returns-clause-done
-returns-clause-done g c = λ settings chooses zero t is.
+returns-clause-done g c = λ zero t is.
     let new = c.in-Ok.ensures.ok in
     let whole = c.handed_on-ended.ensures.whole zero in
     let same = (c.handed_on-ended.ensures.stays (inl whole)).0 in
     let finished = ok_value c.finish-handed.result whole c.finish-handed.ensures.finished in
     subst (λ ended. FinishesUnder t ended.versions (g.O.Sink.taken c.args.out) (g.O.Sink.taken c.into_inner-out.result)) (sym same)
     (done_below t c.run_chosen-ended.result.versions (g.O.Sink.taken c.args.out) (given_to c.in-Ok.gathering) (given_to c.run_chosen-ended.new.out) (given_to c.finish-handed.new.self)
-    (g.O.Sink.taken c.into_inner-out.result) new.given (c.run_chosen-ended.ensures.done settings chooses (sym (ap (λ ended. ended.status) same) ∙ zero) t is) c.finish-handed.ensures.given
+    (g.O.Sink.taken c.into_inner-out.result) new.given (c.run_chosen-ended.ensures.done (sym (ap (λ ended. ended.status) same) ∙ zero) t is) c.finish-handed.ensures.given
     (ap g.O.Sink.taken c.into_inner-out.ensures.inner ∙ finished.taken))
 
 pub returns-clause-alone : goal.returns-clause-alone
-returns-clause-alone g c = λ settings chooses zero t is.
-    finishes_alone c.what_one_worker_has_is_allowed.ensures.outcome c.what_one_worker_has_is_allowed.ensures.forwarded c.without_live_commands_all_versions_are_known.ensures (g.A.App.meaning c.args.app) settings
-    (g.H.Shelf.content c.args.shelf.now) (g.S.Source.left c.args.capture.now) t _ _ _ is (returns-clause-done g c settings chooses zero t is)
+returns-clause-alone g c = λ zero t is.
+    finishes_alone c.what_one_worker_has_is_allowed.ensures.outcome c.what_one_worker_has_is_allowed.ensures.forwarded c.without_live_commands_all_versions_are_known.ensures (g.A.App.meaning c.args.app) (Some c.args.settings.now)
+    (g.H.Shelf.content c.args.shelf.now) (g.S.Source.left c.args.capture.now) t _ _ _ is (returns-clause-done g c zero t is)
 
 pub returns-clause-ran : goal.returns-clause-ran
-returns-clause-ran g c = λ settings chooses.
+returns-clause-ran g c =
+    let settings = Some c.args.settings.now in
     let app = g.A.App.meaning c.args.app in
     let out = c.args.out in
     let got = c.into_inner-out.result in
@@ -46,7 +47,7 @@ returns-clause-ran g c = λ settings chooses.
     let b = c.run_chosen-ended.new.out in
     let handed = c.finish-handed.new.self in
     let new = c.in-Ok.ensures.ok in
-    let ran = c.run_chosen-ended.ensures.ran settings chooses in
+    let ran = c.run_chosen-ended.ensures.ran in
     let finish = c.finish-handed.ensures in
     let inner = c.into_inner-out.ensures in
     let start : start_of handed ≡ out = ap (λ p. p.0) finish.lasts ∙ ap (λ p. p.0) ran.out_lasts ∙ new.start in
@@ -67,7 +68,7 @@ returns-clause-ran g c = λ settings chooses.
     (λ failed zero.
     ran_failed g.S.Source g.H.Shelf g.O.Sink g.E.Sink app settings c.args.capture.now c.run_chosen-ended.new.capture c.args.shelf.now c.run_chosen-ended.new.shelf
     out got c.args.err.now c.run_chosen-ended.new.err c.handed_on-ended.new.err
-    c.run_chosen-ended.result c.handed_on-ended.result _ _ run zero (c.run_chosen-ended.ensures.done settings chooses zero)
+    c.run_chosen-ended.result c.handed_on-ended.result _ _ run zero (c.run_chosen-ended.ensures.done zero)
     (rose_below g.O.Sink.faults out (start_of handed) (gathering_faults a) (gathering_faults handed) (gathering_faults handed) (g.O.Sink.faults got) start first (le_refl _) inner.cause
     (rose_since (gathering_faults a) (gathering_faults b) (gathering_faults handed) ran.write_fault.later (finish.cause.failed failed)))
     (after.status failed zero) (after.told failed zero).0 (after.told failed zero).1 after.lasts)
