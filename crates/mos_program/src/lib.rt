@@ -58,16 +58,18 @@ fn finished<O>(run: GatheredRun<O>) -> ProgramRun<O>
     }
 }
 
-// The six native filters.
-fn natives() -> NativeBook {
-    NativeBook::new(
-        Native::new(0, is_opening),
-        Native::new(1, has_system_port),
-        Native::new(2, is_private_traffic),
-        Native::new(3, is_keep_alive),
-        Native::new(4, is_ending),
-        Native::new(5, has_differing_bytes),
-    )
+// The six native filters. A function can't give them away, since they hold functions by their type.
+macro_rules! natives {
+    () => {
+        NativeBook::new(
+            Native::new(0, is_opening),
+            Native::new(1, has_system_port),
+            Native::new(2, is_private_traffic),
+            Native::new(3, is_keep_alive),
+            Native::new(4, is_ending),
+            Native::new(5, has_differing_bytes),
+        )
+    };
 }
 
 /// Replays `capture` as the words say, writes what they ask for to `out`, and tells a refusal on `err`. The words name a script
@@ -105,7 +107,7 @@ pub fn run_program<
         × TellsOf e result.ended.status (E.taken err.old) (E.taken err.new) (E.faults err.old) (E.faults err.new) }
 {
     let alloc = rt.alloc();
-    let natives = natives();
+    let natives = natives!();
     match words {
         Ok(words) => finished(run_gathered(
             rt,
@@ -161,7 +163,7 @@ pub fn run_own_program<
         × TellsOf e result.ended.status (E.taken err.old) (E.taken err.new) (E.faults err.old) (E.faults err.new) }
 {
     let alloc = rt.alloc();
-    let natives = natives();
+    let natives = natives!();
     let machine = Machine {
         rt,
         alloc,
