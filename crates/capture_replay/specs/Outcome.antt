@@ -43,6 +43,12 @@ is_forward Report = false
 is_forward Forward = true
 is_forward (Summary n) = false
 
+-- how many connections the capture has that is made for a run, where one is: its summary is written
+abbrev pub made_for : Output → Option ℕ
+made_for Report = None
+made_for Forward = None
+made_for (Summary n) = Some n
+
 -- what is written at the end, of these records and totals
 abbrev pub closing : Output → List Record → Totals → List ℕ
 closing Report records totals = report_text records totals

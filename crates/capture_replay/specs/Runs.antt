@@ -89,14 +89,18 @@ module _ {S O : Type 0} (source : Source S) (sink : Sink O) where
     pub from : Reads source s t (IsErrOf result ReadFault)
     pub to : Writes sink o p (IsErrOf result WriteFault)
 
-  -- the same under settings, by which the capture may be made: then the source isn't touched
-  pub record RunsUnderSettings (settings : Settings) (comes : List ℕ → Option (List ℕ) → Option (List ℕ) → Result (List ℕ) ReplayError → Type 0)
+  -- the same where the capture may be made: then the source isn't touched
+  pub record RunsFor (make : Option ℕ) (output : Output) (comes : List ℕ → Option (List ℕ) → Option (List ℕ) → Result (List ℕ) ReplayError → Type 0)
       (s t : S) (o p : O) (result : Result (List ℕ) ReplayError) : Type 0 where
-    pub comes_to : (bytes : List ℕ) → bytes_under settings.make (source.left s) ≡ Some bytes → comes bytes (sink.taken o) (sink.taken p) result
-    pub read : IsOk result → settings.make ≡ None → (bytes : List ℕ) → source.left s ≡ Some bytes → source.left t ≡ Some []
-    pub made : settings.make ≢ None → t ≡ s
-    pub silent : is_forward (output_of settings) ≡ false → IfErr result (λ e. e ≢ WriteFault → e ≢ NoMemory → p ≡ o)
-    pub reads : settings.make ≡ None
-        → ReadsFile source (output_of settings) (λ bytes. source.left s ≡ Some bytes) t (IsIdle o p result) result
+    pub comes_to : (bytes : List ℕ) → bytes_under make (source.left s) ≡ Some bytes → comes bytes (sink.taken o) (sink.taken p) result
+    pub read : IsOk result → make ≡ None → (bytes : List ℕ) → source.left s ≡ Some bytes → source.left t ≡ Some []
+    pub made : make ≢ None → t ≡ s
+    pub silent : is_forward output ≡ false → IfErr result (λ e. e ≢ WriteFault → e ≢ NoMemory → p ≡ o)
+    pub reads : make ≡ None → ReadsFile source output (λ bytes. source.left s ≡ Some bytes) t (IsIdle o p result) result
     pub from : Reads source s t (IsErrOf result ReadFault)
     pub to : Writes sink o p (IsErrOf result WriteFault)
+
+  -- and under settings
+  abbrev pub RunsUnderSettings : Settings → (List ℕ → Option (List ℕ) → Option (List ℕ) → Result (List ℕ) ReplayError → Type 0)
+      → S → S → O → O → Result (List ℕ) ReplayError → Type 0
+  RunsUnderSettings settings = RunsFor settings.make (output_of settings)

@@ -21,12 +21,14 @@ mod replay;
 mod several;
 mod single;
 mod summary;
+mod task;
 pub mod verdicts;
 
 pub use chosen::Chosen;
 pub use output::Output;
-pub use plan::Crew;
+pub use plan::{Crew, Task};
 pub use refusal::ReplayError;
-pub use several::run_several;
-pub use single::run_one;
+pub use several::{run_several, run_several_with};
+pub use single::{run_one, run_one_with};
+pub use task::task_of;
 pub use worker_pool::VersionList;

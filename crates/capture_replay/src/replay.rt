@@ -8,7 +8,6 @@ ghost use Rattle.mos_bytes.specs.Writes.{WriteAdds};
 ghost use Rattle.pcap_source.specs.Captured.{Captured};
 ghost use Rattle.pcap_source.specs.Reading.{Opened};
 ghost use Rattle.worker_laws.specs.Forwarded.{bytes_under as left_by};
-ghost use Rattle.capture_replay.specs.Apps.{meaning_of};
 ghost use Rattle.capture_replay.specs.Records.{packets_of};
 ghost use Rattle.capture_replay.specs.Outcome.{is_forward, streamed};
 ghost use Rattle.mos_bytes.specs.Outside.{Reads, Writes};
@@ -16,11 +15,10 @@ ghost use Rattle.capture_replay.specs.Reading.{LaneIsReady, LaneHasRead, Replayi
 ghost use Rattle.capture_replay.specs.Runs.{IsIdle, MayRun, ReadsFile, Runs, RunsAlone};
 
 use crate::advance::advance;
-use crate::chosen::Chosen;
 use crate::close::close;
 use crate::plan::Plan;
 use crate::{Output, ReplayError, VersionList};
-use app_api::Verdict;
+use app_api::{App, Verdict};
 use lane_core::laws::{last_packet_is_added, weight_never_falls};
 use lane_core::{Lane, LaneError, Recorder, Reporter};
 use lane_ends::greatest_with;
@@ -173,25 +171,21 @@ fn read_on<L: Reporter + Drop, S: Source, O: Sink>(
     }
 }
 
-/// Runs over a capture with one worker, and answers the version of each record.
-pub(crate) fn replay<S: Source, O: Sink>(
+/// Runs over a capture with one worker, which calls an application, and answers the version of each record.
+pub(crate) fn replay<A: App + Drop, S: Source, O: Sink>(
     alloc: Global,
+    app: A,
     plan: &Plan<'_>,
     source: &mut S,
     out: &mut O,
 ) -> Result<VersionList, ReplayError>
-    requires lawful { MayRun (meaning_of plan.now.app) plan.now.script.now }
+    requires lawful { MayRun (A.meaning app) plan.now.script.now }
     ensures ran { Runs S.Source O.Sink plan.now.output
-        (RunsAlone (meaning_of plan.now.app) plan.now.script.now plan.now.output)
+        (RunsAlone (A.meaning app) plan.now.script.now plan.now.output)
         source.old source.new out.old out.new result }
 {
     let capture = Capture::open(source)?;
     write_front(plan.output, &capture, out)?;
-    let lane = Lane::new(
-        alloc,
-        Chosen(plan.app),
-        Table::new(alloc),
-        !plan.output.is_forward(),
-    )?;
+    let lane = Lane::new(alloc, app, Table::new(alloc), !plan.output.is_forward())?;
     read_on(alloc, plan, lane, capture, source, out)
 }

@@ -7,15 +7,16 @@ ghost use Rattle.mos_bytes.specs.Writes.{WriteAdds};
 ghost use Rattle.lane_core.specs.KeptEnd.{shown_as};
 ghost use Rattle.capture_replay.specs.Apps.{meaning_of};
 ghost use Rattle.capture_replay.specs.Lanes.{RunsWith};
-ghost use Rattle.capture_replay.specs.Outcome.{closing, is_forward, output_of};
-ghost use Rattle.capture_replay.specs.Runs.{IsJob, Runs, RunsUnderSettings};
+ghost use Rattle.capture_replay.specs.Outcome.{closing, is_forward, made_for, output_of};
+ghost use Rattle.capture_replay.specs.Runs.{IsJob, Runs, RunsFor, RunsUnderSettings};
 
-use crate::chosen::Chosen;
 use crate::laws::what_one_worker_has_is_allowed;
-use crate::output::output_of;
-use crate::plan::{Crew, Plan};
+use crate::chosen::Chosen;
+use crate::plan::{Crew, Plan, Task};
+use crate::task::task_of;
 use crate::summary::write_summary;
 use crate::{Output, ReplayError, VersionList};
+use app_api::App;
 use capture_maker::Maker;
 use control_script::Script;
 use forward_pool::forward_lanes;
@@ -33,9 +34,10 @@ use worker_laws::runs::a_run_has_its_versions;
 use worker_pool::{Gate, Job, run_lanes_kept};
 
 // Writes what is written at the end. As many threads as there were workers share the making of a report's text.
-fn write_end_by<R: Threads + Sync, G, O: Sink>(
+fn write_end_by<R: Threads + Sync, A: App + Sync, G, O: Sink>(
     crew: &Crew<'_, R, G>,
     alloc: Global,
+    app: &A,
     plan: &Plan<'_>,
     records: &[RecordUnderWay],
     totals: &Totals,
@@ -43,7 +45,7 @@ fn write_end_by<R: Threads + Sync, G, O: Sink>(
 ) -> Result<(), ReplayError>
     requires some { 1 ≤ plan.now.workers }
     ensures text { WriteAdds (O.taken out.old) (O.taken out.new) result
-        (closing plan.now.output (shown_as (meaning_of plan.now.app) records.now) totals.now) }
+        (closing plan.now.output (shown_as (A.meaning app.now) records.now) totals.now) }
     ensures silent { is_forward plan.now.output ≡ true → out.new ≡ out.old }
     ensures only { IfErr result
         (λ e. ((e ≡ ReplayError.WriteFault) × (is_forward plan.now.output ≡ false)) ⊎ (e ≡ ReplayError.NoMemory)) }
@@ -51,15 +53,7 @@ fn write_end_by<R: Threads + Sync, G, O: Sink>(
 {
     match plan.output {
         Output::Report => {
-            write_report_by(
-                crew.rt,
-                alloc,
-                plan.workers,
-                &Chosen(plan.app),
-                out,
-                records,
-                totals,
-            )?;
+            write_report_by(crew.rt, alloc, plan.workers, app, out, records, totals)?;
             Ok(())
         }
         Output::Forward => Ok(()),
@@ -70,28 +64,30 @@ fn write_end_by<R: Threads + Sync, G, O: Sink>(
 // Runs over a capture on the plan's lanes, and then writes what is written at the end.
 fn report_on<
     R: Threads + Wait + Sync + Send + Copy + Drop + 'static,
+    A: App + Copy + Send + Sync + Drop,
     S: Source,
     O: Sink,
     G: Gate + Sync,
 >(
     crew: &Crew<'_, R, G>,
     alloc: Global,
+    app: A,
     plan: &Plan<'_>,
     source: &mut S,
     out: &mut O,
 ) -> Result<VersionList, ReplayError>
-    requires job { IsJob (meaning_of plan.now.app) plan.now.script.now plan.now.workers }
+    requires job { IsJob (A.meaning app) plan.now.script.now plan.now.workers }
     requires order { IsTrue (are_in_order plan.now.script.now) }
     requires kept { is_forward plan.now.output ≡ false }
     ensures ran { Runs S.Source O.Sink plan.now.output
-        (RunsWith (meaning_of plan.now.app) plan.now.script.now plan.now.workers plan.now.output)
+        (RunsWith (A.meaning app) plan.now.script.now plan.now.workers plan.now.output)
         source.old source.new out.old out.new result }
 {
     a_run_has_its_versions();
     what_one_worker_has_is_allowed();
     let mut capture = Capture::open(source)?;
     let job = Job {
-        app: Chosen(plan.app),
+        app,
         script: plan.script,
         workers: plan.workers,
     };
@@ -104,28 +100,30 @@ fn report_on<
         plan.natives,
         crew.gate,
     )?;
-    write_end_by(crew, alloc, plan, end.records.as_slice(), &end.totals, out)?;
+    write_end_by(crew, alloc, &app, plan, end.records.as_slice(), &end.totals, out)?;
     Ok(end.versions)
 }
 
 // Runs over a capture on the plan's lanes, and writes the capture without its dropped packets meanwhile.
 fn forward_on<
     R: Threads + Wait + Sync + Send + Copy + Drop + 'static,
+    A: App + Copy + Send + Sync + Drop,
     S: Source,
     O: Sink,
     G: Gate + Sync,
 >(
     crew: &Crew<'_, R, G>,
     alloc: Global,
+    app: A,
     plan: &Plan<'_>,
     source: &mut S,
     out: &mut O,
 ) -> Result<VersionList, ReplayError>
-    requires job { IsJob (meaning_of plan.now.app) plan.now.script.now plan.now.workers }
+    requires job { IsJob (A.meaning app) plan.now.script.now plan.now.workers }
     requires order { IsTrue (are_in_order plan.now.script.now) }
     requires forwards { is_forward plan.now.output ≡ true }
     ensures ran { Runs S.Source O.Sink plan.now.output
-        (RunsWith (meaning_of plan.now.app) plan.now.script.now plan.now.workers plan.now.output)
+        (RunsWith (A.meaning app) plan.now.script.now plan.now.workers plan.now.output)
         source.old source.new out.old out.new result }
 {
     a_run_has_its_versions();
@@ -133,7 +131,7 @@ fn forward_on<
     let mut capture = Capture::open(source)?;
     capture.write_header(out)?;
     let job = Job {
-        app: Chosen(plan.app),
+        app,
         script: plan.script,
         workers: plan.workers,
     };
@@ -153,34 +151,66 @@ fn forward_on<
 // Runs over a capture on the plan's lanes.
 fn run_on<
     R: Threads + Wait + Sync + Send + Copy + Drop + 'static,
+    A: App + Copy + Send + Sync + Drop,
     S: Source,
     O: Sink,
     G: Gate + Sync,
 >(
     crew: &Crew<'_, R, G>,
     alloc: Global,
+    app: A,
     plan: &Plan<'_>,
     source: &mut S,
     out: &mut O,
 ) -> Result<VersionList, ReplayError>
-    requires job { IsJob (meaning_of plan.now.app) plan.now.script.now plan.now.workers }
+    requires job { IsJob (A.meaning app) plan.now.script.now plan.now.workers }
     requires order { IsTrue (are_in_order plan.now.script.now) }
     ensures ran { Runs S.Source O.Sink plan.now.output
-        (RunsWith (meaning_of plan.now.app) plan.now.script.now plan.now.workers plan.now.output)
+        (RunsWith (A.meaning app) plan.now.script.now plan.now.workers plan.now.output)
         source.old source.new out.old out.new result }
 {
     if plan.output.is_forward() {
-        return forward_on(crew, alloc, plan, source, out);
+        return forward_on(crew, alloc, app, plan, source, out);
     }
-    report_on(crew, alloc, plan, source, out)
+    report_on(crew, alloc, app, plan, source, out)
 }
 
-/// Replays a capture, or the one that is made, with the settings' workers, 1 to 16, each in a thread of its own, and writes
-/// what they ask for. Answers the version of each record, in order of name.
+/// Replays a capture, or the one that is made, with the task's workers, 1 to 16, each in a thread of its own, and writes what
+/// the task asks for. Answers the version of each record, in order of name.
 ///
-/// It asks a script that is lawful with the presets of the settings' application, and at most 100,000 connections to make. With
-/// a capture that is made, `capture` isn't read. At an `Err` `out` has gained a front of what was to be written; a report and
-/// a summary are written when the capture was read whole, a forwarded capture while it is read. It waits for its threads.
+/// It asks a script that is lawful with the presets of the task's application, and at most 100,000 connections to make. With a
+/// capture that is made, `capture` isn't read. At an `Err` `out` has gained a prefix of what was to be written; a report and a
+/// summary are written when the capture was read whole, a forwarded capture while it is read. It waits for its threads.
+pub fn run_several_with<
+    R: Threads + Wait + Sync + Send + Copy + Drop + 'static,
+    A: App + Copy + Send + Sync + Drop,
+    S: Source,
+    O: Sink,
+    G: Gate + Sync,
+>(
+    crew: &Crew<'_, R, G>,
+    alloc: Global,
+    task: &Task<'_, A>,
+    capture: &mut S,
+    out: &mut O,
+    natives: &NativeBook,
+) -> Result<VersionList, ReplayError>
+    requires job { IsJob (A.meaning task.now.app) task.now.script.now task.now.workers }
+    requires few { IfSome (made_for task.now.output) (λ n. n ≤ 100000) }
+    ensures ran { RunsFor S.Source O.Sink (made_for task.now.output) task.now.output
+        (RunsWith (A.meaning task.now.app) task.now.script.now task.now.workers task.now.output)
+        capture.old capture.new out.old out.new result }
+{
+    let plan = task.plan(natives);
+    // With its length a script tells that its commands are in order.
+    let _ = task.script.len();
+    match task.output {
+        Output::Summary(n) => run_on(crew, alloc, task.app, &plan, &mut Maker::new(n), out),
+        Output::Report | Output::Forward => run_on(crew, alloc, task.app, &plan, capture, out),
+    }
+}
+
+/// Does what `run_several_with` does, with the application and the task that settings choose.
 pub fn run_several<
     R: Threads + Wait + Sync + Send + Copy + Drop + 'static,
     S: Source,
@@ -201,17 +231,6 @@ pub fn run_several<
         (RunsWith (meaning_of settings.now.app) script.now settings.now.workers (output_of settings.now))
         capture.old capture.new out.old out.new result }
 {
-    let plan = Plan {
-        app: settings.app,
-        script,
-        natives,
-        output: output_of(settings),
-        workers: settings.workers,
-    };
-    // With its length a script tells that its commands are in order.
-    let _ = script.len();
-    match settings.make {
-        Some(n) => run_on(crew, alloc, &plan, &mut Maker::new(n), out),
-        None => run_on(crew, alloc, &plan, capture, out),
-    }
+    let task = task_of(Chosen(settings.app), settings, script);
+    run_several_with(crew, alloc, &task, capture, out, natives)
 }

@@ -2,13 +2,15 @@
 
 ghost use Rattle.std.specs.Prelude.{◌≤◌, IfSome};
 ghost use Rattle.capture_replay.specs.Apps.{meaning_of};
-ghost use Rattle.capture_replay.specs.Outcome.{output_of};
-ghost use Rattle.capture_replay.specs.Runs.{MayRun, RunsAlone, RunsUnderSettings};
+ghost use Rattle.capture_replay.specs.Outcome.{made_for, output_of};
+ghost use Rattle.capture_replay.specs.Runs.{MayRun, RunsAlone, RunsFor, RunsUnderSettings};
 
-use crate::output::output_of;
-use crate::plan::Plan;
+use crate::chosen::Chosen;
+use crate::plan::Task;
 use crate::replay::replay;
-use crate::{ReplayError, VersionList};
+use crate::task::task_of;
+use crate::{Output, ReplayError, VersionList};
+use app_api::App;
 use capture_maker::Maker;
 use control_script::Script;
 use mos_bytes::{Sink, Source};
@@ -16,12 +18,34 @@ use native_filters::NativeBook;
 use std::alloc::Global;
 use words::Settings;
 
-/// Replays a capture, or the one that is made, with one worker, and writes what the settings ask for. Answers the version of
-/// each record, in order of name: before each packet the commands up to its ceiling are given.
+/// Replays a capture, or the one that is made, with one worker, and writes what the task asks for. Answers the version of each
+/// record, in order of name: before each packet the commands up to its ceiling are given. How many workers the task names
+/// doesn't matter.
 ///
-/// It asks a script that is lawful with the presets of the settings' application, and at most 100,000 connections to make. With
-/// a capture that is made, `capture` isn't read. At an `Err` `out` has gained a front of what was to be written; a report and
-/// a summary are written when the capture was read whole, a forwarded capture while it is read.
+/// It asks a script that is lawful with the presets of the task's application, and at most 100,000 connections to make. With a
+/// capture that is made, `capture` isn't read. At an `Err` `out` has gained a prefix of what was to be written; a report and a
+/// summary are written when the capture was read whole, a forwarded capture while it is read.
+pub fn run_one_with<A: App + Copy + Drop, S: Source, O: Sink>(
+    alloc: Global,
+    task: &Task<'_, A>,
+    capture: &mut S,
+    out: &mut O,
+    natives: &NativeBook,
+) -> Result<VersionList, ReplayError>
+    requires lawful { MayRun (A.meaning task.now.app) task.now.script.now }
+    requires few { IfSome (made_for task.now.output) (λ n. n ≤ 100000) }
+    ensures ran { RunsFor S.Source O.Sink (made_for task.now.output) task.now.output
+        (RunsAlone (A.meaning task.now.app) task.now.script.now task.now.output)
+        capture.old capture.new out.old out.new result }
+{
+    let plan = task.plan(natives);
+    match task.output {
+        Output::Summary(n) => replay(alloc, task.app, &plan, &mut Maker::new(n), out),
+        Output::Report | Output::Forward => replay(alloc, task.app, &plan, capture, out),
+    }
+}
+
+/// Does what `run_one_with` does, with the application and the output that settings choose.
 pub fn run_one<S: Source, O: Sink>(
     alloc: Global,
     settings: &Settings,
@@ -36,15 +60,6 @@ pub fn run_one<S: Source, O: Sink>(
         (RunsAlone (meaning_of settings.now.app) script.now (output_of settings.now))
         capture.old capture.new out.old out.new result }
 {
-    let plan = Plan {
-        app: settings.app,
-        script,
-        natives,
-        output: output_of(settings),
-        workers: 1,
-    };
-    match settings.make {
-        Some(n) => replay(alloc, &plan, &mut Maker::new(n), out),
-        None => replay(alloc, &plan, capture, out),
-    }
+    let task = task_of(Chosen(settings.app), settings, script);
+    run_one_with(alloc, &task, capture, out, natives)
 }

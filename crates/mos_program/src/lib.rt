@@ -9,11 +9,15 @@
 
 ghost use Rattle.std.specs.Prelude.{◌≡◌, ◌⊎◌, map, Some, IfOk, IsErr, string_bytes};
 ghost use Rattle.std.specs.Process.{exit_status};
-ghost use Rattle.mos_run.specs.Request.{Request, request_of};
-ghost use Rattle.mos_run.specs.Run.{FinishesAlone, FinishesUnder, MosRun, TellsOf};
+ghost use Rattle.words.specs.Own.{own_settings};
+ghost use Rattle.mos_run.specs.Request.{Request, request_for, request_of};
+ghost use Rattle.mos_run.specs.Run.{FinishesAlone, FinishesUnder, MosRun, RanUnder, TellsOf};
 
+use app_api::App;
 use mos_bytes::{FolderShelf, ReadSource, Shelf, Sink, Source, WriteSink};
-use mos_run::{Ended, GatheredRun, OpenGate, RunError, refuse, run_gathered};
+use mos_run::{
+    Ended, GatheredRun, Machine, OpenGate, RunError, refuse, run_application, run_gathered,
+};
 use native_filters::{
     Native, NativeBook, has_differing_bytes, has_system_port, is_ending, is_keep_alive, is_opening,
     is_private_traffic,
@@ -60,6 +64,20 @@ fn finished<O>(run: GatheredRun<O>) -> ProgramRun<O>
     }
 }
 
+// The six native filters. A function can't give them away, since they hold functions by their type.
+macro_rules! natives {
+    () => {
+        NativeBook::new(
+            Native::new(0, is_opening),
+            Native::new(1, has_system_port),
+            Native::new(2, is_private_traffic),
+            Native::new(3, is_keep_alive),
+            Native::new(4, is_ending),
+            Native::new(5, has_differing_bytes),
+        )
+    };
+}
+
 /// Replays `capture` as the words say, writes what they ask for to `out`, and tells a refusal on `err`. The words name a script
 /// by its name on `shelf`. It is `run_gathered` with the six native filters, and may wait for its threads as that does.
 ///
@@ -95,14 +113,7 @@ pub fn run_program<
         × TellsOf e result.ended.status (E.taken err.old) (E.taken err.new) (E.faults err.old) (E.faults err.new) }
 {
     let alloc = rt.alloc();
-    let natives = NativeBook::new(
-        Native::new(0, is_opening),
-        Native::new(1, has_system_port),
-        Native::new(2, is_private_traffic),
-        Native::new(3, is_keep_alive),
-        Native::new(4, is_ending),
-        Native::new(5, has_differing_bytes),
-    );
+    let natives = natives!();
     match words {
         Ok(words) => finished(run_gathered(
             rt,
@@ -122,8 +133,68 @@ pub fn run_program<
     }
 }
 
-// The words after the program's name.
-fn words(rt: &(impl Env + AllocGlobal)) -> io::Result<Vec<String>> {
+/// Replays `capture` with an application of anybody's, as the words say, which are those of mos without `--app`. Else it is as
+/// `run_program`: a program of one's own calls it with the words of its process and its streams.
+pub fn run_own_program<
+    R: AllocGlobal + Threads + Wait + Sync + Send + Copy + Drop + 'static,
+    A: App + Copy + Send + Sync + Drop,
+    S: Source,
+    H: Shelf,
+    O: Sink,
+    E: Sink,
+>(
+    rt: &R,
+    app: A,
+    words: io::Result<Vec<String>>,
+    capture: &mut S,
+    shelf: &mut H,
+    out: O,
+    err: &mut E,
+) -> ProgramRun<O>
+    ensures code { exit_status result.code ≡ result.ended.status }
+    // Where the words can be read, all is as `run_mos` promises, with this application's meaning.
+    ensures done { IfOk words (λ words. result.ended.status ≡ 0 → (t : Request)
+        → request_for (A.meaning app) (map string_bytes words.items) (H.content shelf.old) (S.left capture.old) ≡ Some t
+        → FinishesUnder t result.ended.versions (O.taken out) (O.taken result.out)) }
+    ensures alone { IfOk words (λ words. result.ended.status ≡ 0 → (t : Request)
+        → request_for (A.meaning app) (map string_bytes words.items) (H.content shelf.old) (S.left capture.old) ≡ Some t
+        → FinishesAlone t result.ended.versions (O.taken out) (O.taken result.out)) }
+    ensures ran { IfOk words (λ words. RanUnder S.Source H.Shelf O.Sink E.Sink (A.meaning app)
+        (own_settings (map string_bytes words.items))
+        capture.old capture.new shelf.old shelf.new out result.out err.old err.new result.ended) }
+    // Else nothing but `err` is touched.
+    ensures unread { IsErr words → ((result.ended.status ≡ 1) ⊎ (result.ended.status ≡ 6))
+        × (capture.new ≡ capture.old) × (shelf.new ≡ shelf.old) × (result.out ≡ out) }
+    ensures told { IsErr words → (e : RunError) × ((e ≡ RunError.Usage) ⊎ (e ≡ RunError.NoMemory))
+        × TellsOf e result.ended.status (E.taken err.old) (E.taken err.new) (E.faults err.old) (E.faults err.new) }
+{
+    let alloc = rt.alloc();
+    let natives = natives!();
+    let machine = Machine {
+        rt,
+        alloc,
+        natives: &natives,
+        gate: &OpenGate,
+    };
+    match words {
+        Ok(words) => finished(run_application(
+            &machine,
+            app,
+            words.as_slice(),
+            capture,
+            shelf,
+            out,
+            err,
+        )),
+        Err(error) => {
+            let ended = refuse(alloc, err, words_refusal(&error));
+            finished(GatheredRun { ended, out })
+        }
+    }
+}
+
+/// The words after the program's name.
+pub fn words_given(rt: &(impl Env + AllocGlobal)) -> io::Result<Vec<String>> {
     let mut words = env::args(rt)?;
     let _ = words.next();
     words.collect(rt.alloc()).map_err(io::Error::from)
@@ -137,7 +208,7 @@ pub fn run_process<
     O: Write + Drop,
     E: Write + Drop,
 >(rt: R, input: I, out: O, err: E) -> ExitCode {
-    let words = words(&rt);
+    let words = words_given(&rt);
     let mut capture = ReadSource::new(input);
     let mut shelf = FolderShelf::new(rt);
     let mut err = WriteSink::new(err);

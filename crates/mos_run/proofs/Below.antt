@@ -22,10 +22,9 @@ use Rattle.capture_replay.specs.declared.refusal.ReplayError.{ReplayError}
 use Rattle.capture_replay.specs.declared.refusal.ReplayError.TheVariants as Replay
 use Rattle.mos_run.specs.declared.refusal.RunError.{RunError}
 use Rattle.mos_run.specs.declared.refusal.RunError.TheVariants as Run
-use Rattle.capture_replay.specs.Apps.{meaning_of}
 use Rattle.capture_replay.specs.Records.{packets_with, records_of}
 use Rattle.capture_replay.specs.Forward.{forwarded}
-use Rattle.capture_replay.specs.Outcome.{is_heavy, refused, outcome_by, followed, weighed, ended, output_of}
+use Rattle.capture_replay.specs.Outcome.{is_heavy, refused, outcome_by, followed, weighed, ended}
 use Rattle.mos_run.specs.Outcome.{StopsAs, followed_in_file, outcome, outcome_in_file, told}
 use Rattle.mos_run.specs.Request.{Request, Refused, Asked, outcome_under}
 use Rattle.mos_run.specs.Run.{FinishesUnder, UnderSome}
@@ -94,8 +93,8 @@ module _ (app : Meaning) (script : List Stamped) (given : List Captured → List
 -- what ends well isn't empty
 pub writes_some : (t : Request) (vs versions : List ℕ) → (outcome_under vs t).ends ≡ Ok versions → (outcome_under vs t).text ≢ []
 writes_some (Refused e) vs versions ends = absurd (cc)
-writes_some (Asked s commands file) vs versions ends =
-    some_text (meaning_of s.app) commands (packets_with (meaning_of s.app) commands vs) (output_of s) versions file.bytes file.refusal ends
+writes_some (Asked w file) vs versions ends =
+    some_text w.app w.commands (packets_with w.app w.commands vs) w.output versions file.bytes file.refusal ends
 
 -- so it may end by a fault of writing
 pub may_fail : (t : Request) (e : RunError) (versions : List ℕ) (old new : Option (List ℕ)) → FinishesUnder t versions old new

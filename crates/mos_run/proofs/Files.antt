@@ -18,7 +18,6 @@ use Rattle.pcapng_source.specs.declared.any_source.AnySource.{AnySource}
 use Rattle.pcapng_source.specs.declared.fault.NgFault.{NgFault}
 use Rattle.pcapng_source.specs.declared.fault.NgFault.TheVariants as Ng
 use Rattle.control_script.specs.declared.stamped.Stamped.{Stamped}
-use Rattle.words.specs.declared.settings.Settings.{Settings}
 use Rattle.lane_core.specs.Records.{VersionedPacket}
 use Rattle.worker_pool.specs.Source.{EndsInTail}
 use Rattle.capture_replay.specs.declared.output.Output.{Output}
@@ -27,13 +26,12 @@ use Rattle.capture_replay.specs.declared.refusal.ReplayError.{ReplayError}
 use Rattle.capture_replay.specs.declared.refusal.ReplayError.TheVariants as Replay
 use Rattle.mos_run.specs.declared.refusal.RunError.{RunError}
 use Rattle.mos_run.specs.declared.refusal.RunError.TheVariants as Run
-use Rattle.capture_replay.specs.Apps.{meaning_of}
 use Rattle.capture_replay.specs.Records.{packets_with}
-use Rattle.capture_replay.specs.Outcome.{Outcome, ended, followed, is_forward, is_heavy, outcome_by, outcome_over, output_of, refused, streamed, weighed}
+use Rattle.capture_replay.specs.Outcome.{Outcome, ended, followed, is_forward, is_heavy, made_for, outcome_by, outcome_over, refused, streamed, weighed}
 use Rattle.mos_run.specs.Outcome.{StopsAs, cut_off, followed_in_file, outcome, outcome_in_file, told, told_as}
 use Rattle.mos_run.specs.Explained.{explained, met_in}
 use Rattle.mos_run.specs.Refusal.{file_refusal, replay_refusal, status_of}
-use Rattle.mos_run.specs.Request.{Asked, given_under}
+use Rattle.mos_run.specs.Request.{Asked, Wanted, given_under}
 use Rattle.capture_replay.specs.Runs.{Finishes, bytes_under, AreUnrefused, StopsAs as ReplayStopsAs}
 use Rattle.mos_run.specs.Run.{RunsUnder}
 use Rattle.mos_run.specs.Runs.{Replays}
@@ -138,16 +136,16 @@ long-enough bytes is =
     let same : min 24 (length bytes) ≡ 24 = sym (length-take 24 bytes) ∙ ap length is in
     omega (arith, same)
 
-module _ (s : Settings) (commands : List Stamped) (bytes : List ℕ) (old new : Option (List ℕ)) where
+module _ (w : Wanted) (bytes : List ℕ) (old new : Option (List ℕ)) where
   -- where a replay comes to this over the bytes
   pub over_given : (refusal fault : Option NgFault) (result : Result (List ℕ) ReplayError)
       → ((f : NgFault) → fault ≡ Some f → refusal ≡ Some f)
       → (refusal ≢ None → 24 ≤ length bytes)
       → (IsOk result ⊎ IsErrOf result Replay.Heavy → refusal ≡ None)
-      → (is_forward (output_of s) ≡ false → ((new ≡ old) × (IsErrOf result Replay.WriteFault → ⊥)) ⊎ (refusal ≡ None))
+      → (is_forward w.output ≡ false → ((new ≡ old) × (IsErrOf result Replay.WriteFault → ⊥)) ⊎ (refusal ≡ None))
       → (IsErrOf result Replay.ReadFault → fault ≢ None → AreUnrefused bytes)
-      → Replays s commands bytes old new result
-      → RunsUnder (Asked s commands (record { bytes = bytes; refusal = refusal })) old new (explained fault result)
+      → Replays w bytes old new result
+      → RunsUnder (Asked w (record { bytes = bytes; refusal = refusal })) old new (explained fault result)
   unfolding outcome outcome_over
   over_given None None (Ok versions) met long all begun cut runs = record { allowed = runs.allowed; finishes = told-done _ versions old new runs.finishes }
   over_given None None (Err e) met long all begun cut runs = record {
@@ -158,11 +156,10 @@ module _ (s : Settings) (commands : List Stamped) (bytes : List ℕ) (old new : 
   over_given None (Some f) result met long all begun cut runs = absurd (let bad = met f refl in cc)
   over_given (Some f) fault (Ok versions) met long all begun cut runs = absurd (let bad = all (inl refl) in cc)
   over_given (Some f) fault (Err e) met long all begun cut runs =
-      let app = meaning_of s.app in
       record {
         versions = runs.versions;
         allowed = runs.allowed;
-        holds = at-capture app commands (packets_with app commands runs.versions) (output_of s) (take 24 bytes) old new f fault e
+        holds = at-capture w.app w.commands (packets_with w.app w.commands runs.versions) w.output (take 24 bytes) old new f fault e
             (λ g is. let same = met g is in cc)
             (λ heavy. let bad = all (inr (ap (λ x. Err x) heavy)) in cc)
             (λ kept. idle (begun kept))
@@ -306,20 +303,20 @@ module _ {S : Type 0} (source : Source S) (a b : AnySource S source) (s0 : S) (s
   met-is : (f : NgFault) → met_fault b ≡ Some f → MeetsRefusal (source.left s0) (any_left b) f
   met-is f is = subst (λ x. MeetsRefusal (source.left x) (any_left b) f) start_is (stands.met f is)
 
-  module _ (s : Settings) (commands : List Stamped) (old new : Option (List ℕ)) (result : Result (List ℕ) ReplayError) (law : (bytes : List ℕ) → HasHeader bytes) (none0 : met_fault a ≡ None)
-      (comes : (bytes : List ℕ) → bytes_under s.make (any_left a) ≡ Some bytes → Replays s commands bytes old new result)
-      (made : s.make ≢ None → b ≡ a)
-      (ended : s.make ≡ None → IsOk result ⊎ IsErrOf result Replay.Heavy → any_ended b)
-      (begun : s.make ≡ None → is_forward (output_of s) ≡ false → ((new ≡ old) × (IsErrOf result Replay.WriteFault → ⊥)) ⊎ any_ended b)
-      (cut : s.make ≡ None → IsErrOf result Replay.ReadFault → (bytes : List ℕ) → any_left a ≡ Some bytes → any_left b ≡ Some [] → AreUnrefused bytes) where
+  module _ (w : Wanted) (old new : Option (List ℕ)) (result : Result (List ℕ) ReplayError) (law : (bytes : List ℕ) → HasHeader bytes) (none0 : met_fault a ≡ None)
+      (comes : (bytes : List ℕ) → bytes_under (made_for w.output) (any_left a) ≡ Some bytes → Replays w bytes old new result)
+      (made : made_for w.output ≢ None → b ≡ a)
+      (ended : made_for w.output ≡ None → IsOk result ⊎ IsErrOf result Replay.Heavy → any_ended b)
+      (begun : made_for w.output ≡ None → is_forward w.output ≡ false → ((new ≡ old) × (IsErrOf result Replay.WriteFault → ⊥)) ⊎ any_ended b)
+      (cut : made_for w.output ≡ None → IsErrOf result Replay.ReadFault → (bytes : List ℕ) → any_left a ≡ Some bytes → any_left b ≡ Some [] → AreUnrefused bytes) where
     some-fault : (o : Option NgFault) → o ≢ None → (f : NgFault) × (o ≡ Some f)
     some-fault None some = absurd (some refl)
     some-fault (Some f) some = (f, refl)
 
-    comes-by : (make : Option ℕ) → s.make ≡ make → (file : Given) → given_under make (source.left s0) ≡ Some file → RunsUnder (Asked s commands file) old new (explained (met_fault b) result)
+    comes-by : (make : Option ℕ) → made_for w.output ≡ make → (file : Given) → given_under make (source.left s0) ≡ Some file → RunsUnder (Asked w file) old new (explained (met_fault b) result)
     comes-by None is file told =
         let bytes_are : any_left a ≡ Some file.bytes = left0 ∙ given-by (source.left s0) file told in
-        over_given s commands file.bytes old new file.refusal (met_fault b) result
+        over_given w file.bytes old new file.refusal (met_fault b) result
         (λ f met. (met-by (source.left s0) (any_left b) file f told (met-is f met)).0)
         (long-by law (source.left s0) file told)
         (λ which. whole-by (source.left s0) (source.left (any_source b)) file told (whole_is (ended is which)))
@@ -329,10 +326,10 @@ module _ {S : Type 0} (source : Source S) (a b : AnySource S source) (s0 : S) (s
     comes-by (Some n) is file told =
         let same : whole (made_bytes n) ≡ file = cc in
         let none : met_fault b ≡ None = ap (λ x. met_fault x) (made (λ bad. let both = sym is ∙ bad in cc)) ∙ none0 in
-        subst (λ g. RunsUnder (Asked s commands g) old new (explained (met_fault b) result)) same
-        (over_given s commands (made_bytes n) old new None (met_fault b) result
+        subst (λ g. RunsUnder (Asked w g) old new (explained (met_fault b) result)) same
+        (over_given w (made_bytes n) old new None (met_fault b) result
         (λ f met. absurd (let both = sym none ∙ met in cc)) (λ some. absurd (some refl)) (λ which. refl) (λ kept. inr refl) (λ fault some. absurd (some none))
         (comes (made_bytes n) (ap (λ m. bytes_under m (any_left a)) is)))
 
-    pub file_comes : (file : Given) → given_under s.make (source.left s0) ≡ Some file → RunsUnder (Asked s commands file) old new (explained (met_fault b) result)
-    file_comes file told = comes-by s.make refl file told
+    pub file_comes : (file : Given) → given_under (made_for w.output) (source.left s0) ≡ Some file → RunsUnder (Asked w file) old new (explained (met_fault b) result)
+    file_comes file told = comes-by (made_for w.output) refl file told

@@ -3,3 +3,4 @@ pub mod Files
 pub mod Outcomes
 pub mod Below
 pub mod Gathering
+pub mod Chosen

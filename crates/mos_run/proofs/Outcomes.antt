@@ -1,6 +1,6 @@
 -- What a run comes to, where the words, the shelf and the capture are told.
 use Rattle.std.proofs.Common.{◌≡◌, ◌≢◌, ℕ, Bool, true, false, List, [], take, Option, Some, None, Result, Ok, Err, refl, sym, ap, subst, ◌∙◌, append-nil, inl, inr}
-use Rattle.std.specs.Prelude.{◌⊎◌, if◌then◌else◌, option_map, option_and_then, is_ok}
+use Rattle.std.specs.Prelude.{◌⊎◌, if◌then◌else◌, ◌++◌, option_map, option_and_then, is_ok}
 use Rattle.mos_bytes.specs.Writes.{AppendsFront}
 use Rattle.mos_bytes.proofs.Writes.{AppendsFront-nil, AppendsFront-whole}
 use Rattle.app_api.specs.App.{Meaning}
@@ -15,19 +15,17 @@ use Rattle.control_script.specs.Order.{are_in_order}
 use Rattle.words.specs.declared.settings.Settings.{Settings}
 use Rattle.words.specs.declared.settings.WordsError.{WordsError}
 use Rattle.words.specs.declared.settings.WordsError.TheVariants as Words
-use Rattle.words.specs.Words.{words_settings}
 use Rattle.lane_core.specs.Records.{VersionedPacket}
 use Rattle.capture_replay.specs.declared.output.Output.{Output}
 use Rattle.capture_replay.specs.declared.refusal.ReplayError.{ReplayError}
 use Rattle.capture_replay.specs.declared.refusal.ReplayError.TheVariants as Replay
 use Rattle.mos_run.specs.declared.refusal.RunError.{RunError}
 use Rattle.mos_run.specs.declared.refusal.RunError.TheVariants as Run
-use Rattle.capture_replay.specs.Apps.{meaning_of}
 use Rattle.capture_replay.specs.Records.{packets_of, packets_with, records_of, versions_of, frames_in}
 use Rattle.capture_replay.specs.Forward.{forwarded}
-use Rattle.capture_replay.specs.Outcome.{Outcome, refused, outcome_by, followed, streamed, ended, is_forward, is_heavy, output_of, outcome_over}
+use Rattle.capture_replay.specs.Outcome.{Outcome, refused, outcome_by, followed, streamed, ended, is_forward, is_heavy, made_for, output_of, outcome_over}
 use Rattle.mos_run.specs.Outcome.{StopsAs, followed_in_file, outcome, outcome_in_file, told_as}
-use Rattle.mos_run.specs.Request.{Request, Refused, Asked, Allows, AreAllowed, given_under, asked, chosen, request_of, outcome_under}
+use Rattle.mos_run.specs.Request.{Request, Refused, Asked, Allows, AreAllowed, Wanted, asked, given_under, outcome_under, requested, wanted}
 use Rattle.mos_run.specs.Script.{commands_in, text_under}
 use Rattle.mos_run.specs.Refusal.{file_refusal, status_of, words_refusal}
 use Rattle.capture_replay.specs.Runs.{Finishes, RunsAs, StopsAs as ReplayStopsAs}
@@ -37,57 +35,62 @@ use Rattle.capture_replay.specs.Lanes.{RunsWith}
 use Rattle.capture_replay.specs.Laws.{ceilings_of, CeilingsMayBeHad, CeilingsAreOneWorkers, CeilingsForwardTheSame, OneListIsAllowed}
 use Rattle.mos_run.proofs.Scripts.{commands_order}
 
-request-by : (words : List (List ℕ)) (content : List ℕ → Option (List ℕ)) (left : Option (List ℕ)) (settings : Option Settings)
-    → words_settings words ≡ settings → request_of words content left ≡ chosen settings content left
-unfolding request_of
-request-by words content left settings is = ap (λ s. chosen s content left) is
+refused-request : (app : Meaning) (content : List ℕ → Option (List ℕ)) (left : Option (List ℕ)) → requested app None content left ≡ Some (Refused Run.Usage)
+unfolding requested
+refused-request app content left = refl
+
+accepted-request : (app : Meaning) (s : Settings) (content : List ℕ → Option (List ℕ)) (left : Option (List ℕ))
+    → requested app (Some s) content left ≡ option_and_then (λ text. asked app s left (commands_in app text)) (text_under s.script content)
+unfolding requested
+accepted-request app s content left = refl
 
 -- ---- what is told, step by step
 
 -- accepted words have a text that was told, under which it is told what to do
-pub record IsUnderText (s : Settings) (content : List ℕ → Option (List ℕ)) (left : Option (List ℕ)) (t : Request) : Type 0 where
+pub record IsUnderText (app : Meaning) (s : Settings) (content : List ℕ → Option (List ℕ)) (left : Option (List ℕ)) (t : Request) : Type 0 where
   pub text : List ℕ
   pub told_so : text_under s.script content ≡ Some text
-  pub comes_to : asked s left (commands_in s.app text) ≡ Some t
+  pub comes_to : asked app s left (commands_in app text) ≡ Some t
 
-under-by : (s : Settings) (content : List ℕ → Option (List ℕ)) (left : Option (List ℕ)) (t : Request) (text : Option (List ℕ)) → text_under s.script content ≡ text
-    → option_and_then (λ text. asked s left (commands_in s.app text)) text ≡ Some t → IsUnderText s content left t
-under-by s content left t None is comes = absurd (cc)
-under-by s content left t (Some text) is comes = record { text = text; told_so = is; comes_to = comes }
+under-by : (app : Meaning) (s : Settings) (content : List ℕ → Option (List ℕ)) (left : Option (List ℕ)) (t : Request) (text : Option (List ℕ)) → text_under s.script content ≡ text
+    → option_and_then (λ text. asked app s left (commands_in app text)) text ≡ Some t → IsUnderText app s content left t
+under-by app s content left t None is comes = absurd (cc)
+under-by app s content left t (Some text) is comes = record { text = text; told_so = is; comes_to = comes }
 
-pub under_text : (words : List (List ℕ)) (content : List ℕ → Option (List ℕ)) (left : Option (List ℕ)) (t : Request) (s : Settings)
-    → words_settings words ≡ Some s → request_of words content left ≡ Some t → IsUnderText s content left t
-under_text words content left t s accepted is =
-    under-by s content left t (text_under s.script content) refl (sym (request-by words content left (Some s) accepted) ∙ is)
+pub under_text : (app : Meaning) (settings : Option Settings) (content : List ℕ → Option (List ℕ)) (left : Option (List ℕ)) (t : Request) (s : Settings)
+    → settings ≡ Some s → requested app settings content left ≡ Some t → IsUnderText app s content left t
+under_text app settings content left t s accepted is =
+    under-by app s content left t (text_under s.script content) refl
+    (sym (ap (λ x. requested app x content left) accepted ∙ accepted-request app s content left) ∙ is)
 
 -- an accepted script has a capture that was told
-pub record IsOver (s : Settings) (left : Option (List ℕ)) (commands : List Stamped) (t : Request) : Type 0 where
+pub record IsOver (app : Meaning) (s : Settings) (left : Option (List ℕ)) (commands : List Stamped) (t : Request) : Type 0 where
   pub file : Given
-  pub told_so : given_under s.make left ≡ Some file
-  pub comes_to : Asked s commands file ≡ t
+  pub told_so : given_under (made_for (output_of s)) left ≡ Some file
+  pub comes_to : Asked (wanted app s commands) file ≡ t
 
-over-by : (s : Settings) (left : Option (List ℕ)) (commands : List Stamped) (t : Request) (g : Option Given) → given_under s.make left ≡ g
-    → option_map (Asked s commands) g ≡ Some t → IsOver s left commands t
-over-by s left commands t None is comes = absurd (cc)
-over-by s left commands t (Some file) is comes = record { file = file; told_so = is; comes_to = cc }
+over-by : (app : Meaning) (s : Settings) (left : Option (List ℕ)) (commands : List Stamped) (t : Request) (g : Option Given) → given_under (made_for (output_of s)) left ≡ g
+    → option_map (Asked (wanted app s commands)) g ≡ Some t → IsOver app s left commands t
+over-by app s left commands t None is comes = absurd (cc)
+over-by app s left commands t (Some file) is comes = record { file = file; told_so = is; comes_to = cc }
 
-pub over_file : (s : Settings) (content : List ℕ → Option (List ℕ)) (left : Option (List ℕ)) (t : Request) (commands : List Stamped)
-    → (u : IsUnderText s content left t) → commands_in s.app u.text ≡ Ok commands → IsOver s left commands t
-over_file s content left t commands u accepted =
-    over-by s left commands t (given_under s.make left) refl (sym (ap (asked s left) accepted) ∙ u.comes_to)
+pub over_file : (app : Meaning) (s : Settings) (content : List ℕ → Option (List ℕ)) (left : Option (List ℕ)) (t : Request) (commands : List Stamped)
+    → (u : IsUnderText app s content left t) → commands_in app u.text ≡ Ok commands → IsOver app s left commands t
+over_file app s content left t commands u accepted =
+    over-by app s left commands t (given_under (made_for (output_of s)) left) refl (sym (ap (asked app s left) accepted) ∙ u.comes_to)
 
 -- a refused script
-pub refused_text : (s : Settings) (content : List ℕ → Option (List ℕ)) (left : Option (List ℕ)) (t : Request) (e : RunError)
-    → (u : IsUnderText s content left t) → commands_in s.app u.text ≡ Err e → Refused e ≡ t
-refused_text s content left t e u refusal = let same = sym (ap (asked s left) refusal) ∙ u.comes_to in cc
+pub refused_text : (app : Meaning) (s : Settings) (content : List ℕ → Option (List ℕ)) (left : Option (List ℕ)) (t : Request) (e : RunError)
+    → (u : IsUnderText app s content left t) → commands_in app u.text ≡ Err e → Refused e ≡ t
+refused_text app s content left t e u refusal = let same = sym (ap (asked app s left) refusal) ∙ u.comes_to in cc
 
 -- where words and script are accepted, nothing is refused
-pub not_refused : (words : List (List ℕ)) (content : List ℕ → Option (List ℕ)) (left : Option (List ℕ)) (s : Settings) (commands : List Stamped) (e : RunError)
-    → words_settings words ≡ Some s → ((text : List ℕ) → text_under s.script content ≡ Some text → commands_in s.app text ≡ Ok commands)
-    → request_of words content left ≡ Some (Refused e) → ⊥
-not_refused words content left s commands e accepted read is =
-    let u = under_text words content left (Refused e) s accepted is in
-    let over = (over_file s content left (Refused e) commands u (read u.text u.told_so)).comes_to in
+pub not_refused : (app : Meaning) (settings : Option Settings) (content : List ℕ → Option (List ℕ)) (left : Option (List ℕ)) (s : Settings) (commands : List Stamped) (e : RunError)
+    → settings ≡ Some s → ((text : List ℕ) → text_under s.script content ≡ Some text → commands_in app text ≡ Ok commands)
+    → requested app settings content left ≡ Some (Refused e) → ⊥
+not_refused app settings content left s commands e accepted read is =
+    let u = under_text app settings content left (Refused e) s accepted is in
+    let over = (over_file app s content left (Refused e) commands u (read u.text u.told_so)).comes_to in
     cc
 
 -- ---- there are versions that a run may have
@@ -96,32 +99,32 @@ pub record HasSome (t : Request) : Type 0 where
   pub versions : List ℕ
   pub allowed : Allows t versions
 
-pub ceilings_are_allowed : CeilingsMayBeHad → (s : Settings) (commands : List Stamped) (bytes : List ℕ) → are_in_order commands ≡ true
-    → AreAllowed s commands bytes (ceilings_of (meaning_of s.app) commands bytes)
-ceilings_are_allowed law s commands bytes ordered = record { may_have = law (meaning_of s.app) commands s.workers bytes ordered; with_one = λ one. refl }
+pub ceilings_are_allowed : CeilingsMayBeHad → (w : Wanted) (bytes : List ℕ) → are_in_order w.commands ≡ true → AreAllowed w bytes (ceilings_of w.app w.commands bytes)
+ceilings_are_allowed law w bytes ordered = record { may_have = law w.app w.commands w.workers bytes ordered; with_one = λ one. refl }
 
-some-under : CeilingsMayBeHad → (s : Settings) (content : List ℕ → Option (List ℕ)) (left : Option (List ℕ)) (t : Request)
-    (commands : Result (List Stamped) RunError) → (u : IsUnderText s content left t)
-    → commands_in s.app u.text ≡ commands → HasSome t
-some-under law s content left t (Err e) u is = subst HasSome (refused_text s content left t e u is) (record { versions = []; allowed = tt })
-some-under law s content left t (Ok commands) u is =
-    let over = over_file s content left t commands u is in
+some-under : CeilingsMayBeHad → (app : Meaning) (s : Settings) (content : List ℕ → Option (List ℕ)) (left : Option (List ℕ)) (t : Request)
+    (commands : Result (List Stamped) RunError) → (u : IsUnderText app s content left t)
+    → commands_in app u.text ≡ commands → HasSome t
+some-under law app s content left t (Err e) u is = subst HasSome (refused_text app s content left t e u is) (record { versions = []; allowed = tt })
+some-under law app s content left t (Ok commands) u is =
+    let over = over_file app s content left t commands u is in
     subst HasSome over.comes_to (record {
-      versions = ceilings_of (meaning_of s.app) commands over.file.bytes;
-      allowed = ceilings_are_allowed law s commands over.file.bytes (commands_order s.app u.text commands is);
+      versions = ceilings_of app commands over.file.bytes;
+      allowed = ceilings_are_allowed law (wanted app s commands) over.file.bytes (commands_order app u.text commands is);
     })
 
-some-by : CeilingsMayBeHad → (words : List (List ℕ)) (content : List ℕ
-    → Option (List ℕ)) (left : Option (List ℕ)) (t : Request) (settings : Option Settings) → words_settings words ≡ settings → request_of words content left ≡ Some t → HasSome t
-some-by law words content left t None accepted is =
-    let same : Refused Run.Usage ≡ t = let both = sym (request-by words content left None accepted) ∙ is in cc in
+some-by : CeilingsMayBeHad → (app : Meaning) (settings : Option Settings) (content : List ℕ → Option (List ℕ)) (left : Option (List ℕ)) (t : Request)
+    → requested app settings content left ≡ Some t → HasSome t
+some-by law app None content left t is =
+    let same : Refused Run.Usage ≡ t = let both = sym (refused-request app content left) ∙ is in cc in
     subst HasSome same (record { versions = []; allowed = tt })
-some-by law words content left t (Some s) accepted is =
-    let u = under_text words content left t s accepted is in
-    some-under law s content left t (commands_in s.app u.text) u refl
+some-by law app (Some s) content left t is =
+    let u = under_text app (Some s) content left t s refl is in
+    some-under law app s content left t (commands_in app u.text) u refl
 
-pub has_some : CeilingsMayBeHad → (words : List (List ℕ)) (content : List ℕ → Option (List ℕ)) (left : Option (List ℕ)) (t : Request) → request_of words content left ≡ Some t → HasSome t
-has_some law words content left t is = some-by law words content left t (words_settings words) refl is
+pub has_some : CeilingsMayBeHad → (app : Meaning) (settings : Option Settings) (content : List ℕ → Option (List ℕ)) (left : Option (List ℕ)) (t : Request)
+    → requested app settings content left ≡ Some t → HasSome t
+has_some law app settings content left t is = some-by law app settings content left t is
 
 -- ---- runs that end before a packet is read
 
@@ -133,18 +136,18 @@ stops-refused : (t : Request) (old : Option (List ℕ)) (e : RunError) → Refus
 stops-refused t old e same = subst (λ x. RunsUnder x old old (Err e)) same (record { versions = []; allowed = tt; holds = (inl refl, AppendsFront-nil old []) })
 
 -- words that are refused, or for which there is no memory
-pub refused_words : CeilingsMayBeHad → (words : List (List ℕ)) (content : List ℕ
-    → Option (List ℕ)) (left old : Option (List ℕ)) (t : Request) (e : WordsError) → (e ≡ Words.Usage → words_settings words ≡ None) → request_of words content left ≡ Some t
+pub refused_words : CeilingsMayBeHad → (app : Meaning) (settings : Option Settings) (content : List ℕ
+    → Option (List ℕ)) (left old : Option (List ℕ)) (t : Request) (e : WordsError) → (e ≡ Words.Usage → settings ≡ None) → requested app settings content left ≡ Some t
     → RunsUnder t old old (Err (words_refusal e))
-refused_words law words content left old t Words.Usage usage is =
-    stops-refused t old Run.Usage (let both = sym (request-by words content left None (usage refl)) ∙ is in cc)
-refused_words law words content left old t Words.NoMemory usage is = stops_early t old Run.NoMemory (has_some law words content left t is) (inr refl)
+refused_words law app settings content left old t Words.Usage usage is =
+    stops-refused t old Run.Usage (let both = sym (ap (λ x. requested app x content left) (usage refl) ∙ refused-request app content left) ∙ is in cc)
+refused_words law app settings content left old t Words.NoMemory usage is = stops_early t old Run.NoMemory (has_some law app settings content left t is) (inr refl)
 
 -- a script that is refused, or can't be fetched
-pub refused_script : (s : Settings) (content : List ℕ → Option (List ℕ)) (left old : Option (List ℕ)) (t : Request) (e : RunError) → HasSome t → (u : IsUnderText s content left t)
-    → (commands_in s.app u.text ≡ Err e) ⊎ (e ≡ Run.ReadFault) ⊎ (e ≡ Run.NoMemory) → RunsUnder t old old (Err e)
-refused_script s content left old t e some u (inl refusal) = stops-refused t old e (refused_text s content left t e u refusal)
-refused_script s content left old t e some u (inr other) = stops_early t old e some other
+pub refused_script : (app : Meaning) (s : Settings) (content : List ℕ → Option (List ℕ)) (left old : Option (List ℕ)) (t : Request) (e : RunError) → HasSome t → (u : IsUnderText app s content left t)
+    → (commands_in app u.text ≡ Err e) ⊎ (e ≡ Run.ReadFault) ⊎ (e ≡ Run.NoMemory) → RunsUnder t old old (Err e)
+refused_script app s content left old t e some u (inl refusal) = stops-refused t old e (refused_text app s content left t e u refusal)
+refused_script app s content left old t e some u (inr other) = stops_early t old e some other
 
 -- ---- a run of one worker, and one of several
 
@@ -170,29 +173,29 @@ module _ (app : Meaning) (script : List Stamped) (given : List Captured → List
   unfolding outcome_over
   answers_its_own bytes ends = versions-by (take 24 bytes) (capture_of bytes) ends
 
-module _ (s : Settings) (commands : List Stamped) (bytes : List ℕ) (old new : Option (List ℕ)) where
-  pub under_one : CeilingsMayBeHad → CeilingsAreOneWorkers → are_in_order commands ≡ true → (result : Result (List ℕ) ReplayError)
-      → RunsAs (outcome_over (meaning_of s.app) commands (packets_of commands) (output_of s) bytes) old new result → Replays s commands bytes old new result
+module _ (w : Wanted) (bytes : List ℕ) (old new : Option (List ℕ)) where
+  pub under_one : CeilingsMayBeHad → CeilingsAreOneWorkers → are_in_order w.commands ≡ true → (result : Result (List ℕ) ReplayError)
+      → RunsAs (outcome_over w.app w.commands (packets_of w.commands) w.output bytes) old new result → Replays w bytes old new result
   under_one law same ordered (Ok versions) done =
-      let vs = ceilings_of (meaning_of s.app) commands bytes in
-      let is : versions ≡ vs = answers_its_own (meaning_of s.app) commands (packets_of commands) (output_of s) versions bytes done.answered in
-      let all : ReplayFinishes s commands bytes vs old new = record {
-        allowed = ceilings_are_allowed law s commands bytes ordered;
-        finishes = subst (λ o. Finishes o vs old new) (sym (same (meaning_of s.app) commands (output_of s) bytes))
-            (subst (λ l. Finishes (outcome_over (meaning_of s.app) commands (packets_of commands) (output_of s) bytes) l old new) is done);
+      let vs = ceilings_of w.app w.commands bytes in
+      let is : versions ≡ vs = answers_its_own w.app w.commands (packets_of w.commands) w.output versions bytes done.answered in
+      let all : ReplayFinishes w bytes vs old new = record {
+        allowed = ceilings_are_allowed law w bytes ordered;
+        finishes = subst (λ o. Finishes o vs old new) (sym (same w.app w.commands w.output bytes))
+            (subst (λ l. Finishes (outcome_over w.app w.commands (packets_of w.commands) w.output bytes) l old new) is done);
       } in
-      subst (λ l. ReplayFinishes s commands bytes l old new) (sym is) all
+      subst (λ l. ReplayFinishes w bytes l old new) (sym is) all
   under_one law same ordered (Err e) stops =
-      let is = sym (same (meaning_of s.app) commands (output_of s) bytes) in
+      let is = sym (same w.app w.commands w.output bytes) in
       record {
-        versions = ceilings_of (meaning_of s.app) commands bytes;
-        allowed = ceilings_are_allowed law s commands bytes ordered;
+        versions = ceilings_of w.app w.commands bytes;
+        allowed = ceilings_are_allowed law w bytes ordered;
         stops = subst (λ o. ReplayStopsAs o e) is stops.0;
         front = subst (λ o. AppendsFront old new o.text) is stops.1;
       }
 
-  pub under_several : s.workers ≢ 1 → (result : Result (List ℕ) ReplayError)
-      → RunsWith (meaning_of s.app) commands s.workers (output_of s) bytes old new result → Replays s commands bytes old new result
+  pub under_several : w.workers ≢ 1 → (result : Result (List ℕ) ReplayError)
+      → RunsWith w.app w.commands w.workers w.output bytes old new result → Replays w bytes old new result
   under_several many (Ok versions) done = record {
     allowed = record { may_have = done.may_have; with_one = λ one. absurd (many one) };
     finishes = done.finishes;
@@ -239,31 +242,30 @@ module _ (same : CeilingsAreOneWorkers) (forwards : CeilingsForwardTheSame) (app
 
 -- ---- a run without live commands
 
-asked-order : (s asked : Settings) (content : List ℕ → Option (List ℕ)) (left : Option (List ℕ)) (commands : List Stamped) (file : Given) (r : Result (List Stamped) RunError)
-    → (u : IsUnderText s content left (Asked asked commands file)) → commands_in s.app u.text ≡ r → are_in_order commands ≡ true
-asked-order s asked content left commands file (Err e) u is = absurd (let refused = refused_text s content left (Asked asked commands file) e u is in cc)
-asked-order s asked content left commands file (Ok found) u is =
-    let over = (over_file s content left (Asked asked commands file) found u is).comes_to in
-    let same : found ≡ commands = cc in
-    subst (λ l. are_in_order l ≡ true) same (commands_order s.app u.text found is)
+asked-order : (app : Meaning) (s : Settings) (content : List ℕ → Option (List ℕ)) (left : Option (List ℕ)) (w : Wanted) (file : Given) (r : Result (List Stamped) RunError)
+    → (u : IsUnderText app s content left (Asked w file)) → commands_in app u.text ≡ r → are_in_order w.commands ≡ true
+asked-order app s content left w file (Err e) u is = absurd (let refused = refused_text app s content left (Asked w file) e u is in cc)
+asked-order app s content left w file (Ok found) u is =
+    let over = (over_file app s content left (Asked w file) found u is).comes_to in
+    let same : wanted app s found ≡ w = cc in
+    subst (λ x. are_in_order x.commands ≡ true) same (commands_order app u.text found is)
 
-order-by : (words : List (List ℕ)) (content : List ℕ → Option (List ℕ)) (left : Option (List ℕ)) (asked : Settings) (commands : List Stamped) (file : Given) (settings : Option Settings)
-    → words_settings words ≡ settings → request_of words content left ≡ Some (Asked asked commands file) → are_in_order commands ≡ true
-order-by words content left asked commands file None accepted is = absurd (let both = sym (request-by words content left None accepted) ∙ is in cc)
-order-by words content left asked commands file (Some s) accepted is =
-    let u = under_text words content left (Asked asked commands file) s accepted is in
-    asked-order s asked content left commands file (commands_in s.app u.text) u refl
+order-by : (app : Meaning) (settings : Option Settings) (content : List ℕ → Option (List ℕ)) (left : Option (List ℕ)) (w : Wanted) (file : Given)
+    → requested app settings content left ≡ Some (Asked w file) → are_in_order w.commands ≡ true
+order-by app None content left w file is = absurd (let both = sym (refused-request app content left) ∙ is in cc)
+order-by app (Some s) content left w file is =
+    let u = under_text app (Some s) content left (Asked w file) s refl is in
+    asked-order app s content left w file (commands_in app u.text) u refl
 
 -- it ends well as that of one worker
-pub finishes_alone : CeilingsAreOneWorkers → CeilingsForwardTheSame → OneListIsAllowed → (words : List (List ℕ)) (content : List ℕ → Option (List ℕ)) (left : Option (List ℕ)) (t : Request)
-    (versions : List ℕ) (old new : Option (List ℕ)) → request_of words content left ≡ Some t → FinishesUnder t versions old new → FinishesAlone t versions old new
-finishes_alone same forwards known words content left (Refused e) versions old new is done = tt
-finishes_alone same forwards known words content left (Asked s commands file) versions old new is done = λ stamped.
-    let app = meaning_of s.app in
-    let ordered = order-by words content left s commands file (words_settings words) refl is in
-    let ceilings : versions ≡ ceilings_of app commands file.bytes = known app commands s.workers file.bytes versions ordered stamped done.allowed.may_have in
+pub finishes_alone : CeilingsAreOneWorkers → CeilingsForwardTheSame → OneListIsAllowed → (app : Meaning) (settings : Option Settings) (content : List ℕ → Option (List ℕ)) (left : Option (List ℕ)) (t : Request)
+    (versions : List ℕ) (old new : Option (List ℕ)) → requested app settings content left ≡ Some t → FinishesUnder t versions old new → FinishesAlone t versions old new
+finishes_alone same forwards known app settings content left (Refused e) versions old new is done = tt
+finishes_alone same forwards known app settings content left (Asked w file) versions old new is done = λ stamped.
+    let ordered = order-by app settings content left w file is in
+    let ceilings : versions ≡ ceilings_of w.app w.commands file.bytes = known w.app w.commands w.workers file.bytes versions ordered stamped done.allowed.may_have in
     subst (λ o. Finishes o versions old new)
-    (ap (λ vs. outcome app commands (packets_with app commands vs) (output_of s) file) ceilings ∙ same_in_file same forwards app commands (output_of s) file.bytes file.refusal) done.finishes
+    (ap (λ vs. outcome w.app w.commands (packets_with w.app w.commands vs) w.output file) ceilings ∙ same_in_file same forwards w.app w.commands w.output file.bytes file.refusal) done.finishes
 
 -- ---- the status
 

@@ -13,9 +13,8 @@ use Rattle.control_script.specs.declared.stamped.Stamped.{Stamped}
 use Rattle.control_script.specs.Lines.{lines, without_return, is_skipped, next_line}
 use Rattle.control_script.specs.Order.{commands_of, is_later, are_in_order}
 use Rattle.control_script.specs.Script.{said, joined, admitted_said, line_read, then_lines, lines_read, script}
-use Rattle.words.specs.declared.settings.AppKind.{AppKind}
+use Rattle.app_api.specs.App.{Meaning}
 use Rattle.mos_run.specs.declared.refusal.RunError.TheVariants as Run
-use Rattle.capture_replay.specs.Apps.{meaning_of}
 use Rattle.mos_run.specs.Refusal.{script_refusal}
 use Rattle.mos_run.specs.Script.{commands_in, read_as}
 use Rattle.capture_replay.proofs.Following.{both}
@@ -84,13 +83,13 @@ unfolding script
 script_order text presets commands is = lines-order presets 1 (lines text) [] commands refl is
 
 -- and of one that may be too long
-pub commands_order : (app : AppKind) (text : List ℕ) (commands : List Stamped) → commands_in app text ≡ Ok commands → are_in_order commands ≡ true
-commands_order app text commands is = by (nat_lt 262144 (length text)) (script text (meaning_of app).presets) refl is
+pub commands_order : (app : Meaning) (text : List ℕ) (commands : List Stamped) → commands_in app text ≡ Ok commands → are_in_order commands ≡ true
+commands_order app text commands is = by (nat_lt 262144 (length text)) (script text app.presets) refl is
   where
-    by : (long : Bool) (r : Result (List Stamped) ScriptError) → script text (meaning_of app).presets ≡ r
+    by : (long : Bool) (r : Result (List Stamped) ScriptError) → script text app.presets ≡ r
         → (if long then Err Run.ScriptTooLong else read_as r) ≡ Ok commands → are_in_order commands ≡ true
     by true r here comes = absurd (cc)
     by false (Ok found) here comes =
         let same : found ≡ commands = cc in
-        script_order text (meaning_of app).presets commands (here ∙ ap (λ l. Ok l) same)
+        script_order text app.presets commands (here ∙ ap (λ l. Ok l) same)
     by false (Err e) here comes = absurd (cc)

@@ -14,7 +14,8 @@ use Rattle.capture_replay.specs.Outcome.{Outcome, is_forward, output_of}
 use Rattle.mos_run.specs.Refusal.{WritesText, status_of, refusal_text}
 use Rattle.capture_replay.specs.Runs.{Finishes}
 use Rattle.mos_run.specs.Outcome.{StopsAs}
-use Rattle.mos_run.specs.Request.{Request, Refused, Asked, Allows, HasNoLive, outcome_alone, outcome_under, request_of}
+use Rattle.app_api.specs.App.{Meaning}
+use Rattle.mos_run.specs.Request.{Request, Refused, Asked, Allows, HasNoLive, app_in, outcome_alone, outcome_under, requested}
 
 -- the status of a run with this outcome
 abbrev pub EndsAs : Outcome RunError → ℕ → Type 0
@@ -34,7 +35,7 @@ pub record FinishesUnder (request : Request) (versions : List ℕ) (old new : Op
 -- where no command is stamped live, the run ends well as that of one worker does
 abbrev pub FinishesAlone : Request → List ℕ → Option (List ℕ) → Option (List ℕ) → Type 0
 FinishesAlone (Refused e) versions old new = ⊤
-FinishesAlone (Asked s commands file) versions old new = HasNoLive commands → Finishes (outcome_alone s commands file) versions old new
+FinishesAlone (Asked w file) versions old new = HasNoLive w.commands → Finishes (outcome_alone w file) versions old new
 
 -- a run ends well under all versions that it may have
 abbrev pub EndsWell : Request → Type 0
@@ -63,33 +64,33 @@ pub record TellsOf (error : RunError) (status : ℕ) (old new : Option (List ℕ
 abbrev pub ComesBefore : ℕ → Type 0
 ComesBefore status = (status ≡ 1) ⊎ (status ≡ 2) ⊎ (status ≡ 3) ⊎ (status ≡ 4) ⊎ (status ≡ 7)
 
--- whether the words ask for a forwarded capture
+-- whether settings ask for a forwarded capture
 abbrev pub forwards : Option Settings → Bool
 forwards None = false
 forwards (Some s) = is_forward (output_of s)
 
--- the words name no script
-abbrev pub NamesNone : List (List ℕ) → Type 0
-NamesNone words = (s : Settings) → words_settings words ≡ Some s → s.script ≡ None
+-- they name no script
+abbrev pub NamesNone : Option Settings → Type 0
+NamesNone settings = (s : Settings) → settings ≡ Some s → s.script ≡ None
 
--- the words ask for a capture to be made
-abbrev pub Makes : List (List ℕ) → Type 0
-Makes words = (s : Settings) × (words_settings words ≡ Some s) × (s.make ≢ None)
+-- they ask for a capture to be made
+abbrev pub Makes : Option Settings → Type 0
+Makes settings = (s : Settings) × (settings ≡ Some s) × (s.make ≢ None)
 
 -- the capture was read whole, where none is made
-abbrev pub ReadsCapture : List (List ℕ) → Option (List ℕ) → Option (List ℕ) → Type 0
-ReadsCapture words old new = (s : Settings) → words_settings words ≡ Some s → s.make ≡ None → (bytes : List ℕ) → old ≡ Some bytes → new ≡ Some []
+abbrev pub ReadsCapture : Option Settings → Option (List ℕ) → Option (List ℕ) → Type 0
+ReadsCapture settings old new = (s : Settings) → settings ≡ Some s → s.make ≡ None → (bytes : List ℕ) → old ≡ Some bytes → new ≡ Some []
 
--- How a run under these words ended, and what it did: it found the capture as s and left it as t, the shelf as h and i, the output as o and
--- p, and err as e and f.
+-- How a run of an application under settings, or of refused words, ended, and what it did: it found the capture as s and left it as t,
+-- the shelf as h and i, the output as o and p, and err as e and f.
 module _ {S H O E : Type 0} (source : Source S) (shelf : Shelf H) (sink : Sink O) (err : Sink E) where
-  pub record MosRun (words : List (List ℕ)) (s t : S) (h i : H) (o p : O) (e f : E) (ended : Ended) : Type 0 where
+  pub record RanUnder (app : Meaning) (settings : Option Settings) (s t : S) (h i : H) (o p : O) (e f : E) (ended : Ended) : Type 0 where
     -- where all was written, the capture was read whole
-    pub read : ended.status ≡ 0 → ReadsCapture words (source.left s) (source.left t)
+    pub read : ended.status ≡ 0 → ReadsCapture settings (source.left s) (source.left t)
     -- every other status has its cause; only want of memory has none
-    pub ends : (x : Request) → request_of words (shelf.content h) (source.left s) ≡ Some x → UnderSome x (λ outcome. EndsAs outcome ended.status)
-    pub usage : words_settings words ≡ None → ((ended.status ≡ 1) ⊎ (ended.status ≡ 6)) × (t ≡ s) × (i ≡ h) × (p ≡ o)
-    pub only_usage : ended.status ≡ 1 → words_settings words ≡ None
+    pub ends : (x : Request) → requested app settings (shelf.content h) (source.left s) ≡ Some x → UnderSome x (λ outcome. EndsAs outcome ended.status)
+    pub usage : settings ≡ None → ((ended.status ≡ 1) ⊎ (ended.status ≡ 6)) × (t ≡ s) × (i ≡ h) × (p ≡ o)
+    pub only_usage : ended.status ≡ 1 → settings ≡ None
     pub read_fault : ended.status ≡ 4 → Rose (source.faults s) (source.faults t) ⊎ Rose (shelf.faults h) (shelf.faults i)
     pub write_fault : HasCauseOf (sink.faults o) (sink.faults p) (ended.status ≡ 5)
     -- where all was written, the shelf failed in no call
@@ -99,19 +100,19 @@ module _ {S H O E : Type 0} (source : Source S) (shelf : Shelf H) (sink : Sink O
     -- what isn't touched
     pub unread : (ended.status ≡ 1) ⊎ (ended.status ≡ 2) → t ≡ s
     -- refused words and a refused script, whatever the status that tells it
-    pub refused : (e : RunError) → request_of words (shelf.content h) (source.left s) ≡ Some (Refused e) → (t ≡ s) × (p ≡ o)
-    pub made : Makes words → t ≡ s
-    pub unasked : NamesNone words → (i ≡ h) × (ended.status ≢ 2)
+    pub refused : (e : RunError) → requested app settings (shelf.content h) (source.left s) ≡ Some (Refused e) → (t ≡ s) × (p ≡ o)
+    pub made : Makes settings → t ≡ s
+    pub unasked : NamesNone settings → (i ≡ h) × (ended.status ≢ 2)
     -- what is written where the output isn't whole
-    pub silent : forwards (words_settings words) ≡ false → ComesBefore ended.status → p ≡ o
-    pub front : (x : Request) → request_of words (shelf.content h) (source.left s) ≡ Some x
+    pub silent : forwards settings ≡ false → ComesBefore ended.status → p ≡ o
+    pub front : (x : Request) → requested app settings (shelf.content h) (source.left s) ≡ Some x
         → UnderSome x (λ outcome. AppendsFront (sink.taken o) (sink.taken p) outcome.text)
     pub no_versions : ended.status ≢ 0 → ended.versions ≡ []
     -- what is told on err
     pub told_nothing : ended.status ≡ 0 → f ≡ e
-    pub told : ended.status ≢ 0 → Tells (request_of words (shelf.content h) (source.left s)) ended.status (err.taken e) (err.taken f) (err.faults e) (err.faults f)
+    pub told : ended.status ≢ 0 → Tells (requested app settings (shelf.content h) (source.left s)) ended.status (err.taken e) (err.taken f) (err.faults e) (err.faults f)
     -- what ends well under all versions that it may have is written whole, or memory is refused, unless the outside fails
-    pub complete : (x : Request) → request_of words (shelf.content h) (source.left s) ≡ Some x → EndsWell x
+    pub complete : (x : Request) → requested app settings (shelf.content h) (source.left s) ≡ Some x → EndsWell x
         → ¬ Rose (source.faults s) (source.faults t) → ¬ Rose (shelf.faults h) (shelf.faults i) → ¬ Rose (sink.faults o) (sink.faults p)
         → (ended.status ≡ 0) ⊎ (ended.status ≡ 6)
     -- what no call of the outside changes stays
@@ -119,3 +120,7 @@ module _ {S H O E : Type 0} (source : Source S) (shelf : Shelf H) (sink : Sink O
     pub shelf_lasts : shelf.lasting i ≡ shelf.lasting h
     pub out_lasts : sink.lasting p ≡ sink.lasting o
     pub err_lasts : err.lasting f ≡ err.lasting e
+
+  -- how a run of mos under these words ended: they choose the application, too
+  abbrev pub MosRun : List (List ℕ) → S → S → H → H → O → O → E → E → Ended → Type 0
+  MosRun words = RanUnder (app_in (words_settings words)) (words_settings words)

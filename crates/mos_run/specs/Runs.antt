@@ -8,34 +8,37 @@ use Rattle.mos_bytes.specs.declared.source.Source.{Ghosts as Source}
 use Rattle.mos_bytes.specs.declared.shelf.Shelf.{Ghosts as Shelf}
 use Rattle.mos_bytes.specs.declared.sink.Sink.{Ghosts as Sink}
 use Rattle.pcapng_source.specs.Given.{Given}
-use Rattle.control_script.specs.declared.stamped.Stamped.{Stamped}
-use Rattle.words.specs.Words.{words_settings}
 use Rattle.words.specs.declared.settings.Settings.{Settings}
+use Rattle.capture_replay.specs.declared.plan.Task.{Task}
 use Rattle.mos_run.specs.declared.refusal.RunError.{RunError}
 use Rattle.mos_run.specs.declared.refusal.RunError.TheVariants.{Usage, ReadFault, WriteFault, NoMemory}
 use Rattle.capture_replay.specs.declared.refusal.ReplayError.{ReplayError}
-use Rattle.capture_replay.specs.Apps.{meaning_of}
+use Rattle.app_api.specs.App.{Meaning}
 use Rattle.capture_replay.specs.Records.{packets_with}
-use Rattle.capture_replay.specs.Outcome.{Outcome, is_forward, outcome_over, output_of}
+use Rattle.capture_replay.specs.Outcome.{Outcome, is_forward, made_for, outcome_over}
 use Rattle.capture_replay.specs.Runs.{Finishes, StopsAs}
 use Rattle.mos_run.specs.Refusal.{status_of}
-use Rattle.mos_run.specs.Request.{AreAllowed, Refused, Asked, given_under, request_of}
+use Rattle.mos_run.specs.Request.{AreAllowed, Asked, Refused, Wanted, given_under, requested}
 use Rattle.mos_run.specs.Run.{RunsUnder, ReadsCapture, Makes, NamesNone, forwards}
 
-module _ (s : Settings) (commands : List Stamped) (bytes : List ℕ) where
+-- what a task asks, for the meaning of its application
+abbrev pub wanted_by : {A : Type 0} → (A → Meaning) → Task A → Wanted
+wanted_by meaning task = record { app = meaning task.app; commands = task.script.now; workers = task.workers; output = task.output }
+
+module _ (w : Wanted) (bytes : List ℕ) where
   -- the outcome of a replay whose records have these versions
   abbrev pub outcome_with : List ℕ → Outcome ReplayError
-  outcome_with vs = outcome_over (meaning_of s.app) commands (packets_with (meaning_of s.app) commands vs) (output_of s) bytes
+  outcome_with vs = outcome_over w.app w.commands (packets_with w.app w.commands vs) w.output bytes
 
   -- it ends well under these versions, which it may have
   pub record ReplayFinishes (versions : List ℕ) (old new : Option (List ℕ)) : Type 0 where
-    pub allowed : AreAllowed s commands bytes versions
+    pub allowed : AreAllowed w bytes versions
     pub finishes : Finishes (outcome_with versions) versions old new
 
   -- it stops so under versions that it may have, with a front of its text
   pub record ReplayStops (e : ReplayError) (old new : Option (List ℕ)) : Type 0 where
     pub versions : List ℕ
-    pub allowed : AreAllowed s commands bytes versions
+    pub allowed : AreAllowed w bytes versions
     pub stops : StopsAs (outcome_with versions) e
     pub front : AppendsFront old new (outcome_with versions).text
 
@@ -45,28 +48,28 @@ module _ (s : Settings) (commands : List Stamped) (bytes : List ℕ) where
   Replays old new (Err e) = ReplayStops e old new
 
 module _ {S O : Type 0} (source : Source S) (sink : Sink O) where
-  -- A run under settings over a file of either form. The capture may be made: then the source isn't touched.
-  pub record RunsOverFile (settings : Settings) (script : List Stamped) (s t : S) (o p : O) (result : Result (List ℕ) RunError) : Type 0 where
-    pub comes_to : (file : Given) → given_under settings.make (source.left s) ≡ Some file
-        → RunsUnder (Asked settings script file) (sink.taken o) (sink.taken p) result
-    pub read : IsOk result → settings.make ≡ None → (bytes : List ℕ) → source.left s ≡ Some bytes → source.left t ≡ Some []
-    pub made : settings.make ≢ None → t ≡ s
-    pub silent : is_forward (output_of settings) ≡ false → IfErr result (λ e. e ≢ WriteFault → e ≢ NoMemory → p ≡ o)
+  -- A run over a file of either form. The capture may be made: then the source isn't touched.
+  pub record RunsOverFile (w : Wanted) (s t : S) (o p : O) (result : Result (List ℕ) RunError) : Type 0 where
+    pub comes_to : (file : Given) → given_under (made_for w.output) (source.left s) ≡ Some file
+        → RunsUnder (Asked w file) (sink.taken o) (sink.taken p) result
+    pub read : IsOk result → made_for w.output ≡ None → (bytes : List ℕ) → source.left s ≡ Some bytes → source.left t ≡ Some []
+    pub made : made_for w.output ≢ None → t ≡ s
+    pub silent : is_forward w.output ≡ false → IfErr result (λ e. e ≢ WriteFault → e ≢ NoMemory → p ≡ o)
     pub late : IfErr result (λ e. 2 < status_of e)
     pub from : Reads source s t (IsErrOf result ReadFault)
     pub to : Writes sink o p (IsErrOf result WriteFault)
 
--- a run under words, up to the versions that it answers or to why it stopped
+-- a run of an application under settings, or of refused words, up to the versions that it answers or to why it stopped
 module _ {S H O : Type 0} (source : Source S) (shelf : Shelf H) (sink : Sink O) where
-  pub record RunsUnderWords (words : List (List ℕ)) (s t : S) (h i : H) (o p : O) (result : Result (List ℕ) RunError) : Type 0 where
-    pub read : IsOk result → ReadsCapture words (source.left s) (source.left t)
-    pub usage : words_settings words ≡ None → IfErr result (λ e. (e ≡ Usage) ⊎ (e ≡ NoMemory)) × IsErr result × (t ≡ s) × (i ≡ h) × (p ≡ o)
-    pub only_usage : IsErrOf result Usage → words_settings words ≡ None
+  pub record RunsUnderSettings (app : Meaning) (settings : Option Settings) (s t : S) (h i : H) (o p : O) (result : Result (List ℕ) RunError) : Type 0 where
+    pub read : IsOk result → ReadsCapture settings (source.left s) (source.left t)
+    pub usage : settings ≡ None → IfErr result (λ e. (e ≡ Usage) ⊎ (e ≡ NoMemory)) × IsErr result × (t ≡ s) × (i ≡ h) × (p ≡ o)
+    pub only_usage : IsErrOf result Usage → settings ≡ None
     pub unread : IfErr result (λ e. status_of e < 3 → t ≡ s)
-    pub refused : (e : RunError) → request_of words (shelf.content h) (source.left s) ≡ Some (Refused e) → (t ≡ s) × (p ≡ o)
-    pub made : Makes words → t ≡ s
-    pub unasked : NamesNone words → (i ≡ h) × IfErr result (λ e. status_of e ≢ 2)
-    pub silent : forwards (words_settings words) ≡ false → IfErr result (λ e. e ≢ WriteFault → e ≢ NoMemory → p ≡ o)
+    pub refused : (e : RunError) → requested app settings (shelf.content h) (source.left s) ≡ Some (Refused e) → (t ≡ s) × (p ≡ o)
+    pub made : Makes settings → t ≡ s
+    pub unasked : NamesNone settings → (i ≡ h) × IfErr result (λ e. status_of e ≢ 2)
+    pub silent : forwards settings ≡ false → IfErr result (λ e. e ≢ WriteFault → e ≢ NoMemory → p ≡ o)
     pub shelf_faultless : IsOk result → shelf.faults i ≡ shelf.faults h
     pub read_fault : IsErrOf result ReadFault → Rose (source.faults s) (source.faults t) ⊎ Rose (shelf.faults h) (shelf.faults i)
     pub capture_counts : source.faults s ≤ source.faults t

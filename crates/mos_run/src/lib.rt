@@ -20,8 +20,8 @@ mod telling;
 
 pub use capture_replay::{Output, ReplayError, laws, output, run_one};
 pub use ended::{Ended, refuse};
-pub use gathered::{GatheredRun, run_gathered};
+pub use gathered::{GatheredRun, run_application, run_gathered};
 pub use refusal::{RunError, ScriptFault};
-pub use run::run_mos;
-pub use words::{AppKind, Emit, Name, Settings, WordsError, read_words};
+pub use run::{Machine, run_mos};
+pub use words::{AppKind, Emit, Name, Settings, WordsError, read_own_words, read_words};
 pub use worker_pool::{Gate, OpenGate, VersionList};

@@ -1,21 +1,21 @@
 //! The top call: words, a script and a capture come in; what was asked for, or the reason why it isn't there, goes out.
 
 ghost use Rattle.std.specs.Prelude.{◌≡◌, ◌≤◌, map, Some, IfSome, string_bytes};
-ghost use Rattle.capture_replay.specs.Apps.{meaning_of};
-ghost use Rattle.mos_run.specs.Request.{Request, request_of};
-ghost use Rattle.mos_run.specs.Run.{FinishesAlone, FinishesUnder, MosRun, RunsUnder};
-ghost use Rattle.capture_replay.specs.Runs.{IsJob, RunsUnderSettings};
-ghost use Rattle.mos_run.specs.Runs.{Replays, RunsOverFile, RunsUnderWords};
+ghost use Rattle.capture_replay.specs.Outcome.{made_for};
+ghost use Rattle.capture_replay.specs.Runs.{IsJob, RunsFor};
+ghost use Rattle.mos_run.specs.Request.{Request, request_of, requested};
+ghost use Rattle.mos_run.specs.Run.{FinishesAlone, FinishesUnder, MosRun, RanUnder, RunsUnder};
+ghost use Rattle.mos_run.specs.Runs.{Replays, RunsOverFile, RunsUnderSettings, wanted_by};
 
 use crate::ended::{Ended, refuse};
 use crate::explained::explain;
 use crate::refusal::RunError;
 use crate::script::script_of;
+use app_api::App;
 use capture_replay::laws::{
     what_one_worker_has_is_allowed, without_live_commands_all_versions_are_known,
 };
-use capture_replay::{Crew, ReplayError, run_one, run_several};
-use control_script::Script;
+use capture_replay::{Chosen, Crew, ReplayError, Task, run_one_with, run_several_with, task_of};
 use mos_bytes::{Shelf, Sink, Source};
 use native_filters::NativeBook;
 use pcapng_source::{AnySource, refused_files_begin_with_a_header};
@@ -25,88 +25,138 @@ use std::thread::Threads;
 use words::{Settings, read_words};
 use worker_pool::{Gate, VersionList};
 
-// The replay of these settings: with one worker, or with several.
+/// What a run works with.
+#[derive(Drop)]
+pub struct Machine<'a, R, G> {
+    /// Starts threads and waits for them.
+    pub rt: &'a R,
+    pub alloc: Global,
+    /// Answers the native filters.
+    pub natives: &'a NativeBook,
+    /// Is told what threads are about to do; it is there for tests.
+    pub gate: &'a G,
+}
+
+// The replay of a task: with one worker, or with several.
 fn run_asked<
     R: Threads + Wait + Sync + Send + Copy + Drop + 'static,
+    A: App + Copy + Send + Sync + Drop,
     S: Source,
     O: Sink,
     G: Gate + Sync,
 >(
-    crew: &Crew<'_, R, G>,
-    alloc: Global,
-    settings: &Settings,
+    machine: &Machine<'_, R, G>,
+    task: &Task<'_, A>,
     capture: &mut S,
-    script: &Script,
     out: &mut O,
-    natives: &NativeBook,
 ) -> Result<VersionList, ReplayError>
-    requires job { IsJob (meaning_of settings.now.app) script.now settings.now.workers }
-    requires few { IfSome settings.now.make (λ n. n ≤ 100000) }
-    ensures ran { RunsUnderSettings S.Source O.Sink settings.now (Replays settings.now script.now)
-        capture.old capture.new out.old out.new result }
+    requires job { IsJob (A.meaning task.now.app) task.now.script.now task.now.workers }
+    requires few { IfSome (made_for task.now.output) (λ n. n ≤ 100000) }
+    ensures ran { RunsFor S.Source O.Sink (made_for task.now.output) task.now.output
+        (Replays (wanted_by A.meaning task.now)) capture.old capture.new out.old out.new result }
 {
     what_one_worker_has_is_allowed();
     // With its length a script tells that its commands are in order.
-    let _ = script.len();
-    if settings.workers == 1 {
-        return run_one(alloc, settings, capture, script, out, natives);
+    let _ = task.script.len();
+    if task.workers == 1 {
+        return run_one_with(machine.alloc, task, capture, out, machine.natives);
     }
-    run_several(crew, alloc, settings, capture, script, out, natives)
+    let crew = Crew {
+        rt: machine.rt,
+        gate: machine.gate,
+    };
+    run_several_with(&crew, machine.alloc, task, capture, out, machine.natives)
 }
 
 // The run over a file of either form. Where a block of it is refused, that is told in place of the fault by which the
 // source stops there.
 fn run_file<
     R: Threads + Wait + Sync + Send + Copy + Drop + 'static,
+    A: App + Copy + Send + Sync + Drop,
     S: Source,
     O: Sink,
     G: Gate + Sync,
 >(
-    crew: &Crew<'_, R, G>,
-    alloc: Global,
-    settings: &Settings,
+    machine: &Machine<'_, R, G>,
+    task: &Task<'_, A>,
     capture: &mut S,
-    script: &Script,
     out: &mut O,
-    natives: &NativeBook,
 ) -> Result<VersionList, RunError>
-    requires job { IsJob (meaning_of settings.now.app) script.now settings.now.workers }
-    requires few { IfSome settings.now.make (λ n. n ≤ 100000) }
-    ensures ran { RunsOverFile S.Source O.Sink settings.now script.now
+    requires job { IsJob (A.meaning task.now.app) task.now.script.now task.now.workers }
+    requires few { IfSome (made_for task.now.output) (λ n. n ≤ 100000) }
+    ensures ran { RunsOverFile S.Source O.Sink (wanted_by A.meaning task.now)
         capture.old capture.new out.old out.new result }
 {
     refused_files_begin_with_a_header();
     let mut source = AnySource::new(capture);
-    let ran = run_asked(crew, alloc, settings, &mut source, script, out, natives);
+    let ran = run_asked(machine, task, &mut source, out);
     explain(source.fault(), ran)
 }
 
-// The run up to its versions, or to why it stopped.
+// The run of an application under settings, up to its versions, or to why it stopped.
 fn run<
     R: Threads + Wait + Sync + Send + Copy + Drop + 'static,
+    A: App + Copy + Send + Sync + Drop,
     S: Source,
     H: Shelf,
     O: Sink,
     G: Gate + Sync,
 >(
-    crew: &Crew<'_, R, G>,
-    alloc: Global,
-    words: &[String],
+    machine: &Machine<'_, R, G>,
+    app: A,
+    settings: &Settings,
     capture: &mut S,
     shelf: &mut H,
     out: &mut O,
-    natives: &NativeBook,
 ) -> Result<VersionList, RunError>
+    requires workers { (1 ≤ settings.now.workers) × (settings.now.workers ≤ 16) }
+    requires few { IfSome settings.now.make (λ n. n ≤ 100000) }
     ensures runs { (t : Request)
-        → request_of (map string_bytes words.now) (H.content shelf.old) (S.left capture.old) ≡ Some t
+        → requested (A.meaning app) (Some settings.now) (H.content shelf.old) (S.left capture.old) ≡ Some t
         → RunsUnder t (O.taken out.old) (O.taken out.new) result }
-    ensures ran { RunsUnderWords S.Source H.Shelf O.Sink (map string_bytes words.now)
+    ensures ran { RunsUnderSettings S.Source H.Shelf O.Sink (A.meaning app) (Some settings.now)
         capture.old capture.new shelf.old shelf.new out.old out.new result }
 {
     what_one_worker_has_is_allowed();
-    let settings = read_words(alloc, words)?;
-    let script = script_of(alloc, shelf, &settings)?;
-    run_file(crew, alloc, &settings, capture, &script, out, natives)
+    let script = script_of(machine.alloc, &app, shelf, &settings.script)?;
+    run_file(machine, &task_of(app, settings, &script), capture, out)
+}
+
+/// Runs an application under settings, and tells a refusal on `err`: all that `run_mos` does once its words are read.
+pub(crate) fn run_chosen<
+    R: Threads + Wait + Sync + Send + Copy + Drop + 'static,
+    A: App + Copy + Send + Sync + Drop,
+    S: Source,
+    H: Shelf,
+    O: Sink,
+    E: Sink,
+    G: Gate + Sync,
+>(
+    machine: &Machine<'_, R, G>,
+    app: A,
+    settings: &Settings,
+    capture: &mut S,
+    shelf: &mut H,
+    out: &mut O,
+    err: &mut E,
+) -> Ended
+    requires workers { (1 ≤ settings.now.workers) × (settings.now.workers ≤ 16) }
+    requires few { IfSome settings.now.make (λ n. n ≤ 100000) }
+    ensures done { result.status ≡ 0
+        → (t : Request) → requested (A.meaning app) (Some settings.now) (H.content shelf.old) (S.left capture.old) ≡ Some t
+        → FinishesUnder t result.versions (O.taken out.old) (O.taken out.new) }
+    ensures alone { result.status ≡ 0
+        → (t : Request) → requested (A.meaning app) (Some settings.now) (H.content shelf.old) (S.left capture.old) ≡ Some t
+        → FinishesAlone t result.versions (O.taken out.old) (O.taken out.new) }
+    ensures ran { RanUnder S.Source H.Shelf O.Sink E.Sink (A.meaning app) (Some settings.now)
+        capture.old capture.new shelf.old shelf.new out.old out.new err.old err.new result }
+{
+    what_one_worker_has_is_allowed();
+    without_live_commands_all_versions_are_known();
+    match run(machine, app, settings, capture, shelf, out) {
+        Ok(versions) => Ended::done(versions),
+        Err(error) => refuse(machine.alloc, err, error),
+    }
 }
 
 /// Runs as the words say: fetches the script that they name, replays the capture, and writes what they ask for to `out`. The
@@ -163,11 +213,18 @@ pub fn run_mos<
     ensures ran { MosRun S.Source H.Shelf O.Sink E.Sink (map string_bytes words.now)
         capture.old capture.new shelf.old shelf.new out.old out.new err.old err.new result }
 {
+    let machine = Machine {
+        rt,
+        alloc,
+        natives,
+        gate,
+    };
     what_one_worker_has_is_allowed();
-    without_live_commands_all_versions_are_known();
-    let crew = Crew { rt, gate };
-    match run(&crew, alloc, words, capture, shelf, out, natives) {
-        Ok(versions) => Ended::done(versions),
-        Err(error) => refuse(alloc, err, error),
+    match read_words(alloc, words) {
+        Ok(settings) => {
+            let app = Chosen(settings.app);
+            run_chosen(&machine, app, &settings, capture, shelf, out, err)
+        }
+        Err(error) => refuse(alloc, err, RunError::from(error)),
     }
 }

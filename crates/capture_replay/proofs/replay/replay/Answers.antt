@@ -1,7 +1,6 @@
 use Rattle.std.proofs.Common.{[], refl, sym, subst, ◌∙◌, inl, inr, ⊎_elim, rules}
 use Rattle.std.proofs.lemmas.Result.{err_from_is_err_and}
 use Rattle.mos_bytes.proofs.Writes.{AppendsFront-nil}
-use Rattle.capture_replay.specs.Apps.{meaning_of}
 use Rattle.capture_replay.specs.Records.{packets_of}
 use Rattle.capture_replay.specs.Outcome.{is_forward, outcome_over}
 use Rattle.capture_replay.specs.Runs.{RunsAs}
@@ -19,7 +18,7 @@ returns-in_err-capture g c = record {
         let plan = c.args.plan.now in
         let p = err_from_is_err_and c.from_residual.result c.from_residual.ensures.1 in
         rw (p.1, p.2) (
-          refused_header (meaning_of plan.app) plan.script.now (packets_of plan.script.now) plan.output (g.S.Source.left c.args.source.now)
+          refused_header (g.A.App.meaning c.args.app) plan.script.now (packets_of plan.script.now) plan.output (g.S.Source.left c.args.source.now)
               (g.S.Source.left c.open.new.source) bytes c.in_err-capture.field-0.0 c.in_err-capture.ensures.gives told,
           AppendsFront-nil _ _,
         );
@@ -42,7 +41,7 @@ returns-in_err-write_front g c = record {
   ran = record {
     comes_to = λ bytes told.
         let plan = c.args.plan.now in
-        let app = meaning_of plan.app in
+        let app = g.A.App.meaning c.args.app in
         let start = c.in_ok-capture.ensures.start in
         let rep = opened_replay (g.S.Source.left c.args.source.now) (g.S.Source.left c.open.new.source) c.in_ok-capture.capture bytes c.in_ok-capture.ensures.gives start.count start.offset told in
         let forward = fails_forward (is_forward plan.output) c.write_front.result c.in_err-write_front.field-0.0 c.in_err-write_front.was (λ is. (c.write_front.ensures.silent is).0) in
@@ -68,7 +67,7 @@ returns-in_err-lane g c = record {
   ran = record {
     comes_to = λ bytes told.
         let plan = c.args.plan.now in
-        let app = meaning_of plan.app in
+        let app = g.A.App.meaning c.args.app in
         let start = c.in_ok-capture.ensures.start in
         let rep = opened_replay (g.S.Source.left c.args.source.now) (g.S.Source.left c.open.new.source) c.in_ok-capture.capture bytes c.in_ok-capture.ensures.gives start.count start.offset told in
         let written = header_written app plan.script.now plan.output c.in_ok-capture.capture.header (g.O.Sink.taken c.args.out.now)
@@ -91,7 +90,7 @@ pub read_on-requires-clause-read : goal.read_on-requires-clause-read
 read_on-requires-clause-read g c =
     let lane = c.in_ok-lane.lane in
     let made = c.in_ok-lane.ensures in
-    none_read (meaning_of lane.app.0) c.args.plan.now.script.now c.args.plan.now.output lane.records.master.version lane.failed _ made.failed made.given made.stands
+    none_read (g.A.App.meaning lane.app) c.args.plan.now.script.now c.args.plan.now.output lane.records.master.version lane.failed _ made.failed made.given made.stands
 
 pub returns : goal.returns
 returns g c = record {
@@ -101,7 +100,7 @@ returns g c = record {
         let lane = c.in_ok-lane.lane in
         let start = c.in_ok-capture.ensures.start in
         let rep = opened_replay (g.S.Source.left c.args.source.now) (g.S.Source.left c.open.new.source) c.in_ok-capture.capture bytes c.in_ok-capture.ensures.gives start.count start.offset told in
-        let written = header_written (meaning_of lane.app.0) plan.script.now plan.output c.in_ok-capture.capture.header
+        let written = header_written (g.A.App.meaning lane.app) plan.script.now plan.output c.in_ok-capture.capture.header
         (g.O.Sink.taken c.args.out.now) (g.O.Sink.taken c.write_front.new.out) c.in_ok-write_front.ensures.text in
         subst (λ a. RunsAs (outcome_over a plan.script.now (packets_of plan.script.now) plan.output bytes) (g.O.Sink.taken c.args.out.now)
         (g.O.Sink.taken c.read_on.new.out) c.read_on.result) c.in_ok-lane.ensures.app

@@ -1,7 +1,6 @@
 use Rattle.std.proofs.Common.{Ok, Err, refl, sym, ap, ◌∙◌, rules}
 use Rattle.std.proofs.lemmas.Result.{err_from_is_err_and}
 use Rattle.pcap_source.specs.Reading.{frames_at}
-use Rattle.capture_replay.specs.Apps.{meaning_of}
 use Rattle.capture_replay.specs.Records.{packets_with}
 use Rattle.capture_replay.proofs.Replaying.{opened_replay, refused_header}
 use Rattle.capture_replay.proofs.Joined.{stopped_any}
@@ -16,7 +15,7 @@ returns-in_err-capture g c = record {
   ran = record {
     comes_to = λ bytes told.
         let plan = c.args.plan.now in
-        let app = meaning_of plan.app in
+        let app = g.A.App.meaning c.args.app in
         let p = err_from_is_err_and c.from_residual.result c.from_residual.ensures.1 in
         rw (p.1, p.2)
         (stopped_any app plan.script.now plan.workers plan.output bytes c.what_one_worker_has_is_allowed.ensures.allowed c.requires.order (g.O.Sink.taken c.args.out.now) _
@@ -41,7 +40,7 @@ returns-in_err-write_header g c = record {
   ran = record {
     comes_to = λ bytes told.
         let plan = c.args.plan.now in
-        let app = meaning_of plan.app in
+        let app = g.A.App.meaning c.args.app in
         let capture = c.in_ok-capture.capture in
         let start = c.in_ok-capture.ensures.start in
         let rep = opened_replay (g.S.Source.left c.args.source.now) (g.S.Source.left c.open.new.source) capture bytes c.in_ok-capture.ensures.gives start.count start.offset told in
@@ -67,7 +66,7 @@ returns-in_err-versions g c = record {
   ran = record {
     comes_to = λ bytes told.
         let plan = c.args.plan.now in
-        let app = meaning_of plan.app in
+        let app = g.A.App.meaning c.args.app in
         let capture = c.in_ok-capture.capture in
         let start = c.in_ok-capture.ensures.start in
         let rep = opened_replay (g.S.Source.left c.args.source.now) (g.S.Source.left c.open.new.source) capture bytes c.in_ok-capture.ensures.gives start.count start.offset told in
@@ -100,7 +99,7 @@ returns g c = record {
   ran = record {
     comes_to = λ bytes told.
         let plan = c.args.plan.now in
-        let app = meaning_of plan.app in
+        let app = g.A.App.meaning c.args.app in
         let capture = c.in_ok-capture.capture in
         let start = c.in_ok-capture.ensures.start in
         let rep = opened_replay (g.S.Source.left c.args.source.now) (g.S.Source.left c.open.new.source) capture bytes c.in_ok-capture.ensures.gives start.count start.offset told in

@@ -7,7 +7,6 @@ use Rattle.lane_core.specs.KeptEnd.{shown_as}
 use Rattle.worker_pool.specs.Run.{as_shown}
 use Rattle.pcap_source.specs.Reading.{frames_at}
 use Rattle.capture_replay.specs.declared.refusal.ReplayError.TheVariants as Replay
-use Rattle.capture_replay.specs.Apps.{meaning_of}
 use Rattle.capture_replay.specs.Records.{packets_with}
 use Rattle.capture_replay.specs.Outcome.{closing, is_forward}
 use Rattle.capture_replay.proofs.Replaying.{opened_replay, refused_header}
@@ -22,7 +21,7 @@ returns-in_err-capture g c = record {
   ran = record {
     comes_to = λ bytes told.
         let plan = c.args.plan.now in
-        let app = meaning_of plan.app in
+        let app = g.A.App.meaning c.args.app in
         let p = err_from_is_err_and c.from_residual.result c.from_residual.ensures.1 in
         rw (p.1, p.2)
         (stopped_any app plan.script.now plan.workers plan.output bytes c.what_one_worker_has_is_allowed.ensures.allowed c.requires.order (g.O.Sink.taken c.args.out.now) _
@@ -47,7 +46,7 @@ returns-in_err-end g c = record {
   ran = record {
     comes_to = λ bytes told.
         let plan = c.args.plan.now in
-        let app = meaning_of plan.app in
+        let app = g.A.App.meaning c.args.app in
         let start = c.in_ok-capture.ensures.start in
         let rep = opened_replay (g.S.Source.left c.args.source.now) (g.S.Source.left c.open.new.source) c.in_ok-capture.capture bytes c.in_ok-capture.ensures.gives start.count start.offset told in
         let ends = c.in_err-end.ensures.ends rep.rest rep.told in
@@ -89,7 +88,7 @@ returns-in_err-write_end_by g c = record {
   ran = record {
     comes_to = λ bytes told.
         let plan = c.args.plan.now in
-        let app = meaning_of plan.app in
+        let app = g.A.App.meaning c.args.app in
         let start = c.in_ok-capture.ensures.start in
         let rep = opened_replay (g.S.Source.left c.args.source.now) (g.S.Source.left c.open.new.source) c.in_ok-capture.capture bytes c.in_ok-capture.ensures.gives start.count start.offset told in
         let ends = c.in_ok-end.ensures.ends rep.rest rep.told in
@@ -117,7 +116,7 @@ returns g c = record {
   ran = record {
     comes_to = λ bytes told.
         let plan = c.args.plan.now in
-        let app = meaning_of plan.app in
+        let app = g.A.App.meaning c.args.app in
         let start = c.in_ok-capture.ensures.start in
         let rep = opened_replay (g.S.Source.left c.args.source.now) (g.S.Source.left c.open.new.source) c.in_ok-capture.capture bytes c.in_ok-capture.ensures.gives start.count start.offset told in
         let ends = c.in_ok-end.ensures.ends rep.rest rep.told in

@@ -3,6 +3,7 @@ use Rattle.std.proofs.Common.{◌≡◌, ◌≤◌, ap, sym, subst, ◌∙◌, i
 use Rattle.mos_bytes.specs.Causes.{Rose}
 use Rattle.pcapng_source.specs.Sources.{any_faults, any_source}
 use Rattle.mos_run.specs.Explained.{explained}
+use Rattle.mos_run.specs.Runs.{wanted_by}
 use Rattle.mos_run.proofs.Files.{fault_before, file_comes, late_after, ok_before, read_by, silent_after, start_is, whole_is, write_before}
 use Rattle.mos_run.proofs.run.run_file.Goals as goal
 
@@ -22,7 +23,7 @@ returns g c =
     let is = c.explain.ensures ∙ ap (λ f. explained f result) c.fault.ensures.met in
     record {
       ran = rw (is, back) (record {
-        comes_to = file_comes g.S.Source a b s0 made.start made.left run.from.lasts stands c.args.settings.now c.args.script.now (taken c.args.out.now) (taken c.run_asked-ran.new.out) result
+        comes_to = file_comes g.S.Source a b s0 made.start made.left run.from.lasts stands (wanted_by g.A.App.meaning c.args.task.now) (taken c.args.out.now) (taken c.run_asked-ran.new.out) result
             c.refused_files_begin_with_a_header.ensures made.fault run.comes_to run.made
             (λ none. (run.reads none).ended)
             (λ none kept. ⊎_elim (λ idle. inl (ap taken idle.0, idle.1)) (λ end. inr end) ((run.reads none).begun kept))

@@ -1,41 +1,14 @@
-use Rattle.std.proofs.Common.{map, rules}
+use Rattle.std.proofs.Common.{map}
 use Rattle.std.specs.Prelude.{string_bytes}
-use Rattle.mos_run.specs.Run.{EndsAs}
-use Rattle.mos_run.specs.Outcome.{StopsAs}
-use Rattle.mos_bytes.specs.Writes.{AppendsFront}
-use Rattle.mos_run.proofs.Outcomes.{ends_as, finishes_alone, under_more}
+use Rattle.words.specs.Words.{words_settings}
+use Rattle.mos_run.specs.Request.{app_in}
+use Rattle.mos_run.proofs.Chosen.{ran_refused}
 use Rattle.mos_run.proofs.run.run_mos.Goals as goal
 
-pub returns-in-Ok-clause-alone : goal.returns-in-Ok-clause-alone
-returns-in-Ok-clause-alone g c = λ zero t is.
-    finishes_alone c.what_one_worker_has_is_allowed.ensures.outcome c.what_one_worker_has_is_allowed.ensures.forwarded c.without_live_commands_all_versions_are_known.ensures (map string_bytes c.args.words.now)
-    (g.H.Shelf.content c.args.shelf.now) (g.S.Source.left c.args.capture.now) t _ _ _ is (c.in-Ok.ensures.runs t is)
-
 pub returns-in-Err-clause-ran : goal.returns-in-Err-clause-ran
-returns-in-Err-clause-ran g c = record {
-  read = search rules;
-  ends = λ t is.
-      under_more t (λ o. StopsAs o c.in-Err.error × AppendsFront _ _ o.text) (λ o. EndsAs o c.refuse.result.status)
-      (λ o stops. ends_as o c.in-Err.error c.refuse.result.status stops.0 c.refuse.ensures.status) (c.in-Err.ensures.runs t is);
-  usage = search rules;
-  only_usage = search rules;
-  read_fault = search rules;
-  write_fault = search rules;
-  shelf_faultless = search rules;
-  capture_counts = search rules;
-  shelf_counts = search rules;
-  unread = search rules;
-  refused = search rules;
-  made = search rules;
-  unasked = search rules;
-  silent = search rules;
-  front = search rules;
-  no_versions = search rules;
-  told_nothing = search rules;
-  told = search rules;
-  complete = search rules;
-  capture_lasts = search rules;
-  shelf_lasts = search rules;
-  out_lasts = search rules;
-  err_lasts = search rules;
-}
+returns-in-Err-clause-ran g c =
+    let settings = words_settings (map string_bytes c.args.words.now) in
+    let told = c.refuse.ensures in
+    ran_refused g.S.Source g.H.Shelf g.O.Sink g.E.Sink (app_in settings) settings _ _ _ _ _ _
+    c.in-Err.error c.from.result c.from.ensures c.what_one_worker_has_is_allowed.ensures.allowed c.in-Err.ensures.usage
+    told.status told.usage told.versions told.told told.lasts

@@ -2,13 +2,12 @@ use Rattle.std.proofs.Common.{IsTrue, [], subst, sym, ap, ◌∙◌}
 use Rattle.std.proofs.lemmas.Result.{err_from_is_err_and}
 use Rattle.app_api.specs.Reg.{are_presets}
 use Rattle.mos_run.specs.Script.{text_under}
-use Rattle.capture_replay.specs.Apps.{lawful_app}
 use Rattle.mos_run.proofs.Scripts.{never_refused}
 use Rattle.mos_run.proofs.script.script_of.Goals as goal
 
 pub parse_script-requires : goal.parse_script-requires
 parse_script-requires g c = record {
-  lawful = subst (λ ps. IsTrue (are_presets ps)) (sym (c.deref-2.ensures.value ∙ c.in_ok-presets.ensures)) (lawful_app c.args.settings.now.app).presets;
+  lawful = subst (λ ps. IsTrue (are_presets ps)) (sym (c.deref-2.ensures.value ∙ c.in_ok-presets.ensures)) (g.met.A.App.lawful c.args.app.now).presets;
 }
 
 pub returns-in_err-script-clause-unasked : goal.returns-in_err-script-clause-unasked

@@ -1,0 +1,2 @@
+pub mod Knocks
+pub mod Laws
