@@ -16,5 +16,5 @@ returns-clause-outcome c =
 
 pub returns-clause-forwarded : goal.returns-clause-forwarded
 returns-clause-forwarded c =
-    same_forwarded c.fronts_go_on_to_an_allowed_list.ensures.ceilings c.a_script_gives_floors_and_ceilings.ensures.rises c.packets_of_a_capture_rise.ensures.numbers
+    same_forwarded c.ceilings_are_allowed.ensures c.a_script_gives_floors_and_ceilings.ensures.rises c.packets_of_a_capture_rise.ensures.numbers
     c.a_run_has_its_versions.ensures.versions c.without_live_commands_there_is_one_run.ensures.records c.without_live_commands_there_is_one_run.ensures.verdicts
