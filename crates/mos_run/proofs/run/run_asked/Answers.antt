@@ -13,7 +13,6 @@ returns-then-settings-eq1 g c =
         read = one.read;
         made = one.made;
         silent = one.silent;
-        late = one.late;
         reads = one.reads;
         from = one.from;
         to = one.to;

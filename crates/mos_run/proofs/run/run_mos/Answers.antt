@@ -1,6 +1,6 @@
-use Rattle.std.proofs.Common.{map, rules}
+use Rattle.std.proofs.Common.{map, rules, subst, sym}
 use Rattle.std.specs.Prelude.{string_bytes}
-use Rattle.mos_run.specs.Run.{EndsAs}
+use Rattle.mos_run.specs.Run.{EndsAs, FinishesUnder}
 use Rattle.mos_run.specs.Outcome.{StopsAs}
 use Rattle.mos_bytes.specs.Writes.{AppendsFront}
 use Rattle.mos_run.proofs.Outcomes.{ends_as, finishes_alone, under_more}
@@ -8,8 +8,11 @@ use Rattle.mos_run.proofs.run.run_mos.Goals as goal
 
 pub returns-in-Ok-clause-alone : goal.returns-in-Ok-clause-alone
 returns-in-Ok-clause-alone g c = λ zero t is.
+    let old = g.O.Sink.taken c.args.out.now in
+    let new = g.O.Sink.taken c.run.new.out in
     finishes_alone c.what_one_worker_has_is_allowed.ensures.outcome c.what_one_worker_has_is_allowed.ensures.forwarded c.without_live_commands_all_versions_are_known.ensures (map string_bytes c.args.words.now)
-    (g.H.Shelf.content c.args.shelf.now) (g.S.Source.left c.args.capture.now) t _ _ _ is (c.in-Ok.ensures.runs t is)
+    (g.H.Shelf.content c.args.shelf.now) (g.S.Source.left c.args.capture.now) t c.done.result.versions old new is
+    (subst (λ vs. FinishesUnder t vs old new) (sym c.done.ensures.versions) (c.in-Ok.ensures.runs t is))
 
 pub returns-in-Err-clause-ran : goal.returns-in-Err-clause-ran
 returns-in-Err-clause-ran g c = record {
