@@ -1,5 +1,5 @@
 -- The versions of one worker: any number of workers may have them, and under them all make the same records and verdicts.
-use Rattle.std.proofs.Common.{◌≡◌, ℕ, ◌≤◌, List, [], map, refl, sym, ap, subst, ◌∙◌, le_refl, Result, Ok, Err, Option, None, Some}
+use Rattle.std.proofs.Common.{◌≡◌, ℕ, ◌≤◌, List, [], map, refl, sym, ap, subst, ◌∙◌, le_refl, Result, Ok, Err}
 use Rattle.std.specs.Prelude.{◌&&◌, not, nat_lt, if◌then◌else◌, ◌++◌, length, take}
 use Rattle.flow_table.specs.Key.{EndpointPair}
 use Rattle.flow_table.specs.Lane.{lane_of_key}

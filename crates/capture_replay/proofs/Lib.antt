@@ -8,3 +8,4 @@ pub mod Ceilings
 pub mod Joined
 pub mod Forwarding
 mod Passed
+mod ReadBack

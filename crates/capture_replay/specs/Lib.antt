@@ -8,4 +8,5 @@ pub mod Reading
 pub mod Runs
 pub mod Lanes
 pub mod Laws
+pub mod ReadBack
 pub mod Passed

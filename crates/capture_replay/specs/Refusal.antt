@@ -3,13 +3,12 @@ use Rattle.pcap_source.specs.declared.errors.CaptureFault.TheVariants as Fault
 use Rattle.pcap_source.specs.declared.errors.OpenError.{OpenError}
 use Rattle.pcap_source.specs.declared.errors.OpenError.TheVariants as Open
 use Rattle.pcap_source.specs.declared.errors.NextError.{NextError}
-use Rattle.pcap_source.specs.declared.errors.NextError.TheVariants as Next
 use Rattle.lane_core.specs.declared.errors.LaneError.{LaneError}
-use Rattle.lane_core.specs.declared.errors.LaneError.TheVariants as Lane
 use Rattle.lane_core.specs.declared.report.ReportError.{ReportError}
 use Rattle.lane_core.specs.declared.report.ReportError.TheVariants as LaneReport
 use Rattle.report_text.specs.declared.write.TextError.{TextError}
 use Rattle.report_text.specs.declared.write.TextError.TheVariants as Report
+use Rattle.worker_pool.specs.Refused.{read_refusal, lane_refusal as lane_failure}
 use Rattle.worker_pool.specs.declared.job.PoolError.{PoolError}
 use Rattle.worker_pool.specs.declared.job.PoolError.TheVariants as Pool
 use Rattle.capture_replay.specs.declared.refusal.ReplayError.{ReplayError}
@@ -34,19 +33,7 @@ report_refusal LaneReport.WriteFault = WriteFault
 report_refusal LaneReport.NoMemory = NoMemory
 report_refusal LaneReport.Heavy = Heavy
 
--- a record of the capture that can't be read
-abbrev pub record_refusal : NextError → ReplayError
-record_refusal (Next.TooLong offset) = Capture Fault.TooLong offset
-record_refusal (Next.TooMany offset) = TooMany offset
-record_refusal Next.ReadFault = ReadFault
-record_refusal Next.NoMemory = NoMemory
-
--- a lane that failed
-abbrev pub lane_refusal : LaneError → ReplayError
-lane_refusal Lane.Heavy = Heavy
-lane_refusal Lane.NoMemory = NoMemory
-
--- what ends a run of several lanes
+-- what ends a run early while its capture is read, however many lanes it has
 abbrev pub pool_refusal : PoolError → ReplayError
 pool_refusal (Pool.TooLong offset) = Capture Fault.TooLong offset
 pool_refusal (Pool.TooMany offset) = TooMany offset
@@ -54,3 +41,11 @@ pool_refusal Pool.ReadFault = ReadFault
 pool_refusal Pool.WriteFault = WriteFault
 pool_refusal Pool.Heavy = Heavy
 pool_refusal Pool.NoMemory = NoMemory
+
+-- so a record of the capture that can't be read
+abbrev pub record_refusal : NextError → ReplayError
+record_refusal e = pool_refusal (read_refusal e)
+
+-- and a lane that failed
+abbrev pub lane_refusal : LaneError → ReplayError
+lane_refusal e = pool_refusal (lane_failure e)

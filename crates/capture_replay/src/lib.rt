@@ -18,6 +18,7 @@ pub mod output;
 mod plan;
 mod refusal;
 mod replay;
+pub mod reports;
 mod several;
 mod single;
 mod summary;

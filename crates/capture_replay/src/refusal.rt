@@ -48,12 +48,7 @@ impl From<NextError> for ReplayError {
     ghost from_gives = { λ e r. r ≡ record_refusal e };
 
     fn from(error: NextError) -> Self {
-        match error {
-            NextError::TooLong(offset) => ReplayError::Capture(CaptureFault::TooLong, offset),
-            NextError::TooMany(offset) => ReplayError::TooMany(offset),
-            NextError::ReadFault => ReplayError::ReadFault,
-            NextError::NoMemory => ReplayError::NoMemory,
-        }
+        ReplayError::from(PoolError::from(error))
     }
 }
 
@@ -87,10 +82,7 @@ impl From<LaneError> for ReplayError {
     ghost from_gives = { λ e r. r ≡ lane_refusal e };
 
     fn from(error: LaneError) -> Self {
-        match error {
-            LaneError::Heavy => ReplayError::Heavy,
-            LaneError::NoMemory => ReplayError::NoMemory,
-        }
+        ReplayError::from(PoolError::from(error))
     }
 }
 
@@ -108,7 +100,7 @@ impl From<ReportError> for ReplayError {
     }
 }
 
-// What ends a run of several lanes.
+// What ends a run while its capture is read is one table, whether one lane has its packets or several.
 impl From<PoolError> for ReplayError {
     ghost use Rattle.capture_replay.specs.Refusal.{pool_refusal};
 

@@ -10,7 +10,7 @@ use Rattle.control_script.specs.declared.stamped.Stamped.{Stamped}
 use Rattle.lane_core.specs.Records.{VersionedPacket}
 use Rattle.capture_replay.specs.declared.output.Output.{Output}
 use Rattle.capture_replay.specs.declared.refusal.ReplayError.{ReplayError}
-use Rattle.capture_replay.specs.Outcome.{Outcome, followed, outcome_by, refused, streamed}
+use Rattle.capture_replay.specs.Outcome.{Outcome, followed, outcome_by, streamed}
 use Rattle.mos_run.specs.declared.refusal.RunError.{RunError}
 use Rattle.mos_run.specs.declared.refusal.RunError.TheVariants.{ReadFault, WriteFault, NoMemory}
 use Rattle.mos_run.specs.Refusal.{file_refusal, replay_refusal}
