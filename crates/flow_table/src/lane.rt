@@ -26,12 +26,11 @@ pub fn mix(endpoint: &Endpoint) -> u64
     product ^ (product >> 32)
 }
 
-/// The lane of a key among 1 to 16 lanes, from 0. It is the same for both directions of a
-/// connection, since their key is the same.
+/// The lane of a key among so many lanes, at least one, from 0. It is the same for both directions
+/// of a connection, since their key is the same.
 #[tactic(auto, unfolding(crate::specs::Lane::lane_of_key))]
 pub fn lane_of(key: &Key, lanes: usize) -> usize
     requires some { 1 ≤ lanes }
-    requires most { lanes ≤ 16 }
     ensures lane { result ≡ lane_of_key key.now lanes }
     ensures within { result < lanes }
 {

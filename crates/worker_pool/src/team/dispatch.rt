@@ -3,14 +3,13 @@
 ghost use Rattle.std.specs.Prelude.{◌≡◌, ◌<◌, ◌≤◌, ◌++◌, [], ◌∷◌, List, length, IsOk, IsErrOf, false};
 ghost use Rattle.pcap_source.specs.Captured.{Captured};
 ghost use Rattle.pcap_source.specs.Reading.{Opened};
-ghost use Rattle.flow_table.specs.Lane.{lane_of_key};
 ghost use Rattle.ip6_views.specs.Sight.{sight_of, lane_of_sight};
 ghost use Rattle.lane_worker.specs.declared.worker.Worker.{Worker as Begun};
 ghost use Rattle.worker_pool.specs.Inputs.{AreInputs, Dealt, ReadsAs};
 ghost use Rattle.worker_pool.specs.Source.{ReadsOn};
 
 use crate::team::lane_input::{LaneInput, send_to};
-use flow_table::{Key, mix};
+use flow_table::lane_of;
 use flow_timers::Moment;
 use ip6_views::{Sight, key_between, sight_of};
 use lane_core::Recorder;
@@ -33,25 +32,14 @@ pub struct Whole {
     pub last: Option<Moment>,
 }
 
-// The lane of a key. `flow_table::lane_of` says the same, but asks at most 16 lanes.
-#[tactic(auto, unfolding(flow_table::specs::Lane::lane_of_key))]
-fn lane_of_key(key: &Key, lanes: usize) -> usize
-    requires some { 1 ≤ lanes }
-    ensures lane { result ≡ lane_of_key key.now lanes }
-    ensures within { result < lanes }
-{
-    let sum = mix(&key.lo).wrapping_add(mix(&key.hi));
-    (sum % lanes as u64) as usize
-}
-
-// The lane of a packet; what has no key goes to lane 0.
+// The lane of a packet: that of its key, as `flow_table` has it. What has no key goes to lane 0.
 fn lane_of_frame(frame: &Frame, lanes: usize) -> usize
     requires some { 1 ≤ lanes }
     ensures lane { result ≡ lane_of_sight (sight_of frame.now.bytes) lanes }
     ensures within { result < lanes }
 {
     match sight_of(&frame.bytes) {
-        Sight::Tcp(segment) => lane_of_key(&key_between(segment.from, segment.to), lanes),
+        Sight::Tcp(segment) => lane_of(&key_between(segment.from, segment.to), lanes),
         Sight::Other(_) => 0,
     }
 }
