@@ -16,16 +16,17 @@ use Rattle.control_script.specs.Versions.{floor, ceil}
 use Rattle.lane_core.specs.Sight.{Arrival, arrivals}
 use Rattle.lane_core.specs.Records.{VersionedPacket, RecordSoFar, ended_at, records, versioned}
 use Rattle.lane_core.specs.Shown.{record_of, weight}
-use Rattle.worker_laws.specs.Greatest.{greatest}
-use Rattle.worker_laws.specs.Rising.{Rises}
+use Rattle.run_outcome.specs.Greatest.{greatest}
+use Rattle.run_outcome.specs.Rising.{Rises}
 use Rattle.lane_core.specs.Verdicts.{verdicts_from}
 use Rattle.lane_core.specs.Versions.{versions_in}
-use Rattle.worker_laws.specs.Whole.{in_force, run_under, verdicts_under, IsAllowedRun}
-use Rattle.worker_pool.specs.Run.{MayHave, totals_of}
+use Rattle.run_outcome.specs.Whole.{in_force, run_under, verdicts_under, IsAllowedRun}
+use Rattle.run_outcome.specs.Allowed.{MayHave}
+use Rattle.run_outcome.specs.Totals.{totals_of}
 use Rattle.capture_replay.specs.declared.output.Output.{Output}
 use Rattle.capture_replay.specs.declared.refusal.ReplayError.TheVariants.{Heavy, Capture, TooMany}
 use Rattle.capture_replay.specs.Records.{packets_of, packets_with, records_of, verdicts_of, versions_of, frames_in}
-use Rattle.forward_pool.specs.Forward.{left_by_all}
+use Rattle.run_outcome.specs.Forwarded.{left_by_all}
 use Rattle.capture_replay.specs.Outcome.{Outcome, refused, is_forward, closing, followed, outcome_by, outcome_over}
 use Rattle.capture_replay.specs.declared.refusal.ReplayError.{ReplayError}
 use Rattle.capture_replay.specs.Forward.{forwarded}

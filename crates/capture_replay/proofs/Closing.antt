@@ -26,12 +26,12 @@ use Rattle.lane_core.specs.KeptEnd.{IsKeptEnd}
 use Rattle.lane_core.specs.Lane.{IsHeavyAtEnd}
 use Rattle.lane_core.specs.Report.{end_text, lane_fault}
 use Rattle.lane_core.specs.Laws.{LaterCommandsChangeNone, WeightNeverFalls}
-use Rattle.worker_laws.specs.Greatest.{greatest}
+use Rattle.run_outcome.specs.Greatest.{greatest}
 use Rattle.capture_replay.specs.declared.output.Output.{Output}
 use Rattle.capture_replay.specs.declared.output.Output.TheVariants.{Report, Forward, Summary}
 use Rattle.capture_replay.specs.declared.refusal.ReplayError.{ReplayError}
 use Rattle.capture_replay.specs.declared.refusal.ReplayError.TheVariants as Replay
-use Rattle.worker_pool.specs.Run.{totals_of}
+use Rattle.run_outcome.specs.Totals.{totals_of}
 use Rattle.capture_replay.specs.Records.{control_at, packets_of, records_of, records_so_far, versions_of}
 use Rattle.capture_replay.specs.Outcome.{Outcome, is_forward, is_heavy, streamed, closing, ended, weighed, refused}
 use Rattle.capture_replay.specs.Summary.{summary_text, made_line}

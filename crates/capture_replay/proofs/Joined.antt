@@ -14,7 +14,9 @@ use Rattle.control_script.specs.Order.{commands_of, are_in_order}
 use Rattle.lane_core.specs.Sight.{arrivals}
 use Rattle.lane_core.specs.Records.{VersionedPacket}
 use Rattle.lane_core.specs.Shown.{record_of, weight}
-use Rattle.worker_pool.specs.Run.{EndsOver, IsWhole, MayHave, totals_of}
+use Rattle.worker_pool.specs.Run.{EndsOver, IsWhole}
+use Rattle.run_outcome.specs.Allowed.{MayHave}
+use Rattle.run_outcome.specs.Totals.{totals_of}
 use Rattle.worker_pool.specs.declared.job.LanesEnd.{LanesEnd}
 use Rattle.worker_pool.specs.declared.job.PoolError.{PoolError}
 use Rattle.worker_pool.specs.declared.job.PoolError.TheVariants as Pool

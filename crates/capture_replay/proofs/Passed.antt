@@ -9,14 +9,14 @@ use Rattle.pcap_source.specs.Captured.{Captured}
 use Rattle.pcap_source.specs.Capture.{Frames, tail, capture_of}
 use Rattle.pcap_source.specs.Laws.{SomeRecordsAreACapture, marked, written}
 use Rattle.control_script.specs.declared.stamped.Stamped.{Stamped}
-use Rattle.worker_laws.specs.Forwarded.{bytes_under}
-use Rattle.forward_pool.specs.Forward.{left_by_all}
+use Rattle.run_outcome.specs.Forwarded.{bytes_under}
+use Rattle.run_outcome.specs.Forwarded.{left_by_all}
 use Rattle.lane_core.specs.Sight.{Arrival, arrivals}
 use Rattle.lane_core.specs.Records.{VersionedPacket, RecordSoFar}
 use Rattle.lane_core.specs.Shown.{record_of}
 use Rattle.lane_core.specs.Verdicts.{dropped_of}
 use Rattle.lane_core.specs.Once.{DropsAreVerdicts, drops_in}
-use Rattle.worker_laws.specs.Greatest.{greatest}
+use Rattle.run_outcome.specs.Greatest.{greatest}
 use Rattle.capture_replay.specs.declared.output.Output.TheVariants.{Forward}
 use Rattle.capture_replay.specs.Records.{control_at, records_of, verdicts_of}
 use Rattle.capture_replay.specs.Outcome.{streamed}

@@ -26,8 +26,8 @@ use Rattle.report_text.specs.ReadLaws.{GainedIsRead}
 use Rattle.lane_core.specs.Laws.{AreEvents, RecordsAreTidy, rise}
 use Rattle.lane_core.specs.Records.{VersionedPacket}
 use Rattle.lane_core.specs.Sight.{arrivals}
-use Rattle.worker_laws.specs.Greatest.{greatest}
-use Rattle.worker_laws.specs.Whole.{packets_under}
+use Rattle.run_outcome.specs.Greatest.{greatest}
+use Rattle.run_outcome.specs.Whole.{packets_under}
 use Rattle.capture_replay.specs.declared.output.Output.TheVariants.{Report}
 use Rattle.capture_replay.specs.declared.refusal.ReplayError.TheVariants.{Heavy}
 use Rattle.capture_replay.specs.Records.{control_at, packets_with}
@@ -55,9 +55,9 @@ of_event event may =
     let parts = and_parts (leb 1 event) (leb event LAST) may in
     let high = leb-true event LAST parts.1 in
     ⊎_elim
-      (λ (less : event < START). or_left (leb 1 event && leb event 255) (is_some (event_name event)) (and_from (leb 1 event) (leb event 255) parts.0 (le-leb event 255 (omega (arith, less)))))
-      (λ (low : START ≤ event). named event low high)
-      (cases_lt event START)
+    (λ (less : event < START). or_left (leb 1 event && leb event 255) (is_some (event_name event)) (and_from (leb 1 event) (leb event 255) parts.0 (le-leb event 255 (omega (arith, less)))))
+    (λ (low : START ≤ event). named event low high)
+    (cases_lt event START)
 
 -- ---- the registrations at each version
 
@@ -143,8 +143,8 @@ unfolding outcome_over
 report_read_back gained law rising app script vs bytes f rest lawful may opened ends types versions before after done read back =
     let o = outcome_over app script (packets_with app script vs) Report bytes in
     let at : o ≡ weighed app script (packets_with app script vs) Report (take 24 bytes) f.frames rest =
-        ap (λ r. outcome_by app script (packets_with app script vs) Report (take 24 bytes) r) opened
-        ∙ ap (λ e. followed app script (packets_with app script vs) Report (take 24 bytes) f.frames e) ends in
+    ap (λ r. outcome_by app script (packets_with app script vs) Report (take 24 bytes) r) opened
+    ∙ ap (λ e. followed app script (packets_with app script vs) Report (take 24 bytes) f.frames e) ends in
     let text = ap (λ o. o.text) at ∙ whole app script vs f.frames (take 24 bytes) rest versions (sym (ap (λ o. o.ends) at) ∙ done.answered) in
     gained before after (Ok tt) (shown app script vs f.frames) (counted app script vs f.frames rest)
     (tidy_records app script vs f.frames law (rising app (commands_of script)) lawful may) types.records_fit types.counts_fit

@@ -16,9 +16,9 @@ use Rattle.lane_core.specs.Run.{LaneEvent}
 use Rattle.lane_core.specs.Laws.{LastPacketIsAdded, WeightNeverFalls}
 use Rattle.lane_core.specs.Shown.{weight, total}
 use Rattle.capture_replay.specs.declared.output.Output.{Output}
-use Rattle.worker_laws.specs.Greatest.{greatest, greatest_from}
+use Rattle.run_outcome.specs.Greatest.{greatest, greatest_from}
 use Rattle.capture_replay.specs.Records.{control_at, packets_of, records_of, records_so_far}
-use Rattle.worker_laws.specs.Forwarded.{bytes_under as left_by}
+use Rattle.run_outcome.specs.Forwarded.{bytes_under as left_by}
 use Rattle.capture_replay.specs.Outcome.{is_forward, is_heavy}
 use Rattle.capture_replay.specs.Reading.{Follows, IsOver, IsRead, gained, is_heavy_so_far, packet_of}
 use Rattle.capture_replay.proofs.Following.{both}

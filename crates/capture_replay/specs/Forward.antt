@@ -4,7 +4,7 @@ use Rattle.app_api.specs.App.{Meaning}
 use Rattle.pcap_source.specs.Captured.{Captured}
 use Rattle.control_script.specs.declared.stamped.Stamped.{Stamped}
 use Rattle.lane_core.specs.Records.{VersionedPacket}
-use Rattle.forward_pool.specs.Forward.{left_by_all}
+use Rattle.run_outcome.specs.Forwarded.{left_by_all}
 use Rattle.capture_replay.specs.Records.{verdicts_of}
 
 -- the records of a capture whose packets pass, in order

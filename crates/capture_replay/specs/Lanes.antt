@@ -4,7 +4,7 @@ use Rattle.app_api.specs.App.{Meaning}
 use Rattle.pcap_source.specs.Capture.{capture_of}
 use Rattle.mos_bytes.specs.Writes.{AppendsFront}
 use Rattle.control_script.specs.declared.stamped.Stamped.{Stamped}
-use Rattle.worker_pool.specs.Run.{MayHave}
+use Rattle.run_outcome.specs.Allowed.{MayHave}
 use Rattle.capture_replay.specs.declared.output.Output.{Output}
 use Rattle.capture_replay.specs.declared.refusal.ReplayError.{ReplayError}
 use Rattle.capture_replay.specs.Records.{packets_with, frames_in}

@@ -6,7 +6,7 @@ use Rattle.pcap_source.specs.Capture.{capture_of}
 use Rattle.control_script.specs.declared.stamped.Stamped.{Stamped}
 use Rattle.control_script.specs.Order.{are_in_order}
 use Rattle.control_script.specs.Versions.{is_live}
-use Rattle.worker_pool.specs.Run.{MayHave}
+use Rattle.run_outcome.specs.Allowed.{MayHave}
 use Rattle.capture_replay.specs.declared.output.Output.{Output}
 use Rattle.capture_replay.specs.Records.{packets_of, packets_with, records_of, versions_of, frames_in}
 use Rattle.capture_replay.specs.Forward.{forwarded}

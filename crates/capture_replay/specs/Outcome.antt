@@ -11,7 +11,7 @@ use Rattle.report_text.specs.declared.record.Totals.{Totals}
 use Rattle.control_script.specs.declared.stamped.Stamped.{Stamped}
 use Rattle.lane_core.specs.Records.{VersionedPacket}
 use Rattle.lane_core.specs.Shown.{record_of, weight}
-use Rattle.worker_pool.specs.Run.{totals_of}
+use Rattle.run_outcome.specs.Totals.{totals_of}
 use Rattle.words.specs.declared.settings.Emit.{Emit}
 use Rattle.words.specs.declared.settings.Settings.{Settings}
 use Rattle.capture_replay.specs.declared.output.Output.{Output}

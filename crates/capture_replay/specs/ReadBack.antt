@@ -1,4 +1,4 @@
--- What the report of a run says when it is read back.
+-- Not of the headline. What the report of a run says when it is read back.
 use Rattle.std.specs.Prelude.{◌≡◌, ℕ, List, length, map, drop, Some, Result, Ok, IfOk, IfErr, IsTrue}
 use Rattle.std.specs.List.{list_all}
 use Rattle.app_api.specs.App.{Meaning, IsLawful}
@@ -12,7 +12,7 @@ use Rattle.report_text.specs.declared.record.Record.{Record}
 use Rattle.report_text.specs.declared.record.Totals.{Totals}
 use Rattle.control_script.specs.declared.stamped.Stamped.{Stamped}
 use Rattle.lane_core.specs.Shown.{record_of}
-use Rattle.worker_pool.specs.Run.{totals_of}
+use Rattle.run_outcome.specs.Totals.{totals_of}
 use Rattle.capture_replay.specs.declared.output.Output.TheVariants.{Report}
 use Rattle.capture_replay.specs.Records.{packets_with, records_of}
 use Rattle.capture_replay.specs.Outcome.{outcome_over}

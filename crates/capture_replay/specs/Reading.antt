@@ -17,7 +17,7 @@ use Rattle.lane_core.specs.Lane.{IsAfter}
 use Rattle.lane_core.specs.declared.recorder.Recorder.{Ghosts as Recorder}
 use Rattle.capture_replay.specs.declared.output.Output.{Output}
 use Rattle.capture_replay.specs.Records.{control_at, packets_of, records_so_far}
-use Rattle.worker_laws.specs.Forwarded.{bytes_under as left_by}
+use Rattle.run_outcome.specs.Forwarded.{bytes_under as left_by}
 use Rattle.capture_replay.specs.Outcome.{is_forward}
 
 -- the packet of a number, under the commands up to its ceiling

@@ -11,10 +11,10 @@ use Rattle.control_script.specs.Order.{commands_of}
 use Rattle.control_script.specs.Versions.{ceil}
 use Rattle.lane_core.specs.Sight.{Arrival, arrivals}
 use Rattle.lane_core.specs.Records.{VersionedPacket, RecordSoFar, records, versioned, ended_at}
-use Rattle.worker_laws.specs.Greatest.{greatest}
+use Rattle.run_outcome.specs.Greatest.{greatest}
 use Rattle.lane_core.specs.Verdicts.{verdicts_from}
 pub use Rattle.lane_core.specs.Versions.{versions_in as versions_of}
-use Rattle.worker_laws.specs.Whole.{packets_under}
+use Rattle.run_outcome.specs.Whole.{packets_under}
 
 -- what is in force at each version: after the first so many commands of the script
 abbrev pub control_at : Meaning → List Stamped → ℕ → ControlState

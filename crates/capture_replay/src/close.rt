@@ -6,7 +6,7 @@ ghost use Rattle.mos_bytes.specs.Writes.{WriteAdds};
 ghost use Rattle.report_text.specs.declared.record.Record.{Record};
 ghost use Rattle.pcap_source.specs.Captured.{Captured};
 ghost use Rattle.lane_core.specs.Sight.{arrivals};
-ghost use Rattle.worker_laws.specs.Greatest.{greatest};
+ghost use Rattle.run_outcome.specs.Greatest.{greatest};
 ghost use Rattle.capture_replay.specs.Records.{packets_of};
 ghost use Rattle.capture_replay.specs.Outcome.{is_forward, streamed, closing};
 ghost use Rattle.mos_bytes.specs.Outside.{Writes};

@@ -7,7 +7,7 @@ ghost use Rattle.mos_bytes.specs.Causes.{HasCause};
 ghost use Rattle.mos_bytes.specs.Writes.{WriteAdds};
 ghost use Rattle.pcap_source.specs.Captured.{Captured};
 ghost use Rattle.pcap_source.specs.Reading.{Opened};
-ghost use Rattle.worker_laws.specs.Forwarded.{bytes_under as left_by};
+ghost use Rattle.run_outcome.specs.Forwarded.{bytes_under as left_by};
 ghost use Rattle.capture_replay.specs.Records.{packets_of};
 ghost use Rattle.capture_replay.specs.Outcome.{is_forward, streamed};
 ghost use Rattle.mos_bytes.specs.Outside.{Reads, Writes};

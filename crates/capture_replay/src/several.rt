@@ -10,11 +10,11 @@ ghost use Rattle.capture_replay.specs.Lanes.{RunsWith};
 ghost use Rattle.capture_replay.specs.Outcome.{closing, is_forward, made_for, output_of};
 ghost use Rattle.capture_replay.specs.Runs.{IsJob, Runs, RunsFor, RunsUnderSettings};
 
-use crate::laws::what_one_worker_has_is_allowed;
 use crate::chosen::Chosen;
+use crate::laws::what_one_worker_has_is_allowed;
 use crate::plan::{Crew, Plan, Task};
-use crate::task::task_of;
 use crate::summary::write_summary;
+use crate::task::task_of;
 use crate::{Output, ReplayError, VersionList};
 use app_api::App;
 use capture_maker::Maker;
@@ -100,7 +100,15 @@ fn report_on<
         plan.natives,
         crew.gate,
     )?;
-    write_end_by(crew, alloc, &app, plan, end.records.as_slice(), &end.totals, out)?;
+    write_end_by(
+        crew,
+        alloc,
+        &app,
+        plan,
+        end.records.as_slice(),
+        &end.totals,
+        out,
+    )?;
     Ok(end.versions)
 }
 

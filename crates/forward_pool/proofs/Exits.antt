@@ -27,7 +27,7 @@ use Rattle.lane_core.specs.Sight.{Moment, arrivals}
 use Rattle.lane_core.specs.Records.{RecordSoFar}
 use Rattle.lane_core.specs.Run.{LaneEvent}
 use Rattle.lane_core.specs.Lane.{shown}
-use Rattle.worker_laws.specs.Greatest.{greatest}
+use Rattle.run_outcome.specs.Greatest.{greatest}
 use Rattle.worker_laws.specs.Lanes.{share as share_of}
 use Rattle.worker_laws.specs.Ends.{IsJoined}
 use Rattle.worker_laws.specs.Taken.{events_at, HaveRun, AreOneRun}
@@ -38,7 +38,7 @@ use Rattle.worker_pool.specs.declared.job.PoolError.{PoolError}
 use Rattle.worker_pool.specs.declared.job.PoolError.TheVariants.{TooLong, TooMany, ReadFault, WriteFault, Heavy, NoMemory}
 use Rattle.lane_worker.specs.Worked.{SameAnswers}
 use Rattle.worker_pool.specs.Team.{HaveServed}
-use Rattle.worker_pool.specs.Run.{MayHave}
+use Rattle.run_outcome.specs.Allowed.{MayHave}
 use Rattle.worker_pool.specs.Ending.{by_key, CameTo, AreEnded, IsCause}
 use Rattle.forward_pool.specs.Forward.{RefusedAs, ForwardsAll, ForwardsFront, ForwardsOver}
 use Rattle.forward_stream.specs.Streamed.{AreLaneAnswers, Leaves, HasLeft, Streamed, StopsAs, lane_at, taken_from}

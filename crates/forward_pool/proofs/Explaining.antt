@@ -21,22 +21,24 @@ use Rattle.lane_rings.specs.declared.ring.RingTx.{RingTx}
 use Rattle.lane_rings.specs.Ring.{sent}
 use Rattle.worker_laws.specs.Share.{share as numbers_of_share}
 use Rattle.lane_rings.specs.Waiting.{Waiting, first_of}
-use Rattle.worker_laws.specs.Forwarded.{bytes_out, forwarded as forwarded_numbers, bytes_under as captured_under}
+use Rattle.worker_laws.specs.Forwarded.{bytes_out, forwarded as forwarded_numbers}
+use Rattle.run_outcome.specs.Forwarded.{bytes_under as captured_under}
 use Rattle.worker_laws.specs.Forward.{Leaving, Keeps, AreFronts, AreIndexed, bytes_of_first}
 use Rattle.lane_core.specs.declared.recorder.Recorder.{Ghosts}
 use Rattle.lane_core.specs.Sight.{Arrival, arrivals, arrival_of, sight_of}
 use Rattle.lane_core.specs.Run.{LaneEvent}
 use Rattle.worker_laws.specs.Judged.{forwarded, bytes_under}
-use Rattle.worker_laws.specs.Lanes.{lane_of, share}
+use Rattle.worker_laws.specs.Lanes.{share}
+use Rattle.run_outcome.specs.Lanes.{lane_of}
 use Rattle.worker_laws.specs.Allowed.{arrivals_of}
-use Rattle.worker_laws.specs.Whole.{verdicts_under}
+use Rattle.run_outcome.specs.Whole.{verdicts_under}
 use Rattle.worker_laws.specs.Taken.{packets_at, events_at, verdicts_in, HaveRun, HaveRunAll}
 use Rattle.worker_laws.specs.Streamed.{answers_to, answer_at, lane_in, frame_bytes}
 use Rattle.lane_worker.specs.declared.worker.Worker.{Worker}
 use Rattle.forward_stream.specs.declared.lane_answers.LaneAnswers.{LaneAnswers}
 use Rattle.lane_worker.specs.Worked.{Sends}
 use Rattle.worker_pool.specs.Ending.{by_key, CameTo}
-use Rattle.forward_pool.specs.Forward.{left_by_all, forwarded_with}
+use Rattle.run_outcome.specs.Forwarded.{left_by_all, forwarded_with}
 use Rattle.forward_stream.specs.Streamed.{IsAnswered, AreLaneAnswers, Leaves, HasLeft, lane_at}
 use Rattle.forward_stream.specs.Drained.{sent_in, sent_from}
 use Rattle.worker_pool.specs.Answered.{TellsFrames, HasAnswered, HaveAnswered}

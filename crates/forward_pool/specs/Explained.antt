@@ -15,9 +15,9 @@ use Rattle.lane_core.specs.Sight.{arrivals}
 use Rattle.lane_core.specs.Run.{LaneEvent}
 use Rattle.worker_laws.specs.Taken.{AreOneRun}
 use Rattle.lane_worker.specs.declared.worker.Worker.{Worker}
-use Rattle.worker_pool.specs.Run.{MayHave}
+use Rattle.run_outcome.specs.Allowed.{MayHave}
 use Rattle.worker_pool.specs.Ending.{by_key}
-use Rattle.forward_pool.specs.Forward.{forwarded_with}
+use Rattle.run_outcome.specs.Forwarded.{forwarded_with}
 use Rattle.forward_stream.specs.Streamed.{Leaves, HasLeft, lane_at}
 use Rattle.forward_stream.specs.Drained.{sent_from}
 

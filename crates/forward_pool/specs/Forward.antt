@@ -1,29 +1,15 @@
--- A forward run on several lanes: the capture without its dropped packets, in its order, under versions that the run may have.
-use Rattle.std.specs.Prelude.{◌≡◌, ℕ, List, [], ◌∷◌, ◌++◌, Option, Result, Ok, Err, ⊤}
+-- Not of the headline. A forward run on several lanes: the capture without its dropped packets, in its order, under versions that the run may have.
+use Rattle.std.specs.Prelude.{◌≡◌, ℕ, List, Option, Result, Ok, Err, ⊤}
 use Rattle.std.specs.Io.KnownBytes.{Appends}
 use Rattle.mos_bytes.specs.Writes.{AppendsFront}
 use Rattle.app_api.specs.App.{Meaning}
-use Rattle.app_api.specs.declared.reaction.Verdict.{Verdict}
 use Rattle.pcap_source.specs.Captured.{Captured}
 use Rattle.pcap_source.specs.Capture.{Frames, tail, too_long, too_many}
 use Rattle.control_script.specs.declared.stamped.Stamped.{Stamped}
-use Rattle.control_script.specs.Order.{commands_of}
-use Rattle.worker_laws.specs.Forwarded.{bytes_under}
-use Rattle.lane_core.specs.Sight.{Arrival, arrivals}
-use Rattle.worker_laws.specs.Whole.{verdicts_under}
-use Rattle.worker_pool.specs.Run.{MayHave}
+use Rattle.run_outcome.specs.Allowed.{MayHave}
 use Rattle.worker_pool.specs.declared.job.PoolError.{PoolError}
 use Rattle.worker_pool.specs.declared.job.PoolError.TheVariants.{TooLong, TooMany, ReadFault, WriteFault, Heavy, NoMemory}
-
--- what captured packets leave, each by what became of it
-unfoldable pub left_by_all : List (Arrival × Verdict) → List Captured → List ℕ
-left_by_all [] frames = []
-left_by_all (j ∷ js) [] = []
-left_by_all (j ∷ js) (frame ∷ frames) = bytes_under j.1 frame ++ left_by_all js frames
-
--- the records of these frames whose packets pass, in order, in a run of which the j-th record has the j-th version
-abbrev pub forwarded_with : Meaning → List Stamped → List ℕ → List Captured → List ℕ
-forwarded_with app script vs frames = left_by_all (verdicts_under app (commands_of script) vs (arrivals 0 frames)) frames
+use Rattle.run_outcome.specs.Forwarded.{forwarded_with}
 
 -- why a forward run over a capture ends before it is whole; a run that keeps no entries is never too heavy
 abbrev pub RefusedAs : Frames → PoolError → Type 0

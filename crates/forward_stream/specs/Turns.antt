@@ -6,7 +6,7 @@ use Rattle.pcap_source.specs.declared.capture.Step.TheVariants.{Frame}
 use Rattle.control_script.specs.declared.stamped.Stamped.{Stamped}
 use Rattle.lane_core.specs.declared.recorder.Recorder.{Ghosts}
 use Rattle.lane_core.specs.Sight.{arrivals}
-use Rattle.worker_laws.specs.Greatest.{greatest}
+use Rattle.run_outcome.specs.Greatest.{greatest}
 use Rattle.lane_worker.specs.declared.worker.Worker.{Worker}
 use Rattle.worker_pool.specs.declared.team.dispatch.Whole.{Whole}
 use Rattle.worker_pool.specs.declared.job.PoolError.{PoolError}

@@ -1,4 +1,4 @@
--- Only for proofs: a connection that a segment opens, before this segment.
+-- Only for proofs. A connection that a segment opens, before this segment.
 use Rattle.std.specs.Prelude.{◌≡◌}
 use Rattle.shared_forest.specs.Lists.{TreeLists}
 use Rattle.forest_versions.specs.Master.{Versions}

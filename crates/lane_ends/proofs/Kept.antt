@@ -9,7 +9,7 @@ use Rattle.lane_core.specs.declared.end.KeptEnd.{KeptEnd}
 use Rattle.lane_core.specs.declared.under_way.RecordUnderWay.{RecordUnderWay}
 use Rattle.lane_core.specs.End.{ended}
 use Rattle.lane_core.specs.KeptEnd.{shown_as}
-use Rattle.worker_laws.specs.Rising.{Rises}
+use Rattle.run_outcome.specs.Rising.{Rises}
 use Rattle.worker_laws.specs.Merge.{list_at, names_in, shown_name, AreOfLanes, IsMerge}
 use Rattle.lane_ends.specs.Queues.{kept_name, lists_in}
 

@@ -2,7 +2,7 @@
 use Rattle.std.proofs.Common.{◌≡◌, ◌+◌, ℕ, Option, Some, List, [], ◌∷◌, ◌++◌, refl}
 use Rattle.pcap_source.specs.Captured.{Captured}
 use Rattle.lane_core.specs.Sight.{Moment, arrivals}
-use Rattle.worker_laws.specs.Greatest.{later_of, greatest_from}
+use Rattle.run_outcome.specs.Greatest.{later_of, greatest_from}
 
 abbrev pub moment_of : Captured → Moment
 moment_of frame = record { seconds = frame.seconds; fraction = frame.fraction }

@@ -6,7 +6,7 @@ use Rattle.std.proofs.lemmas.List.{map-append, get_or_past}
 use Rattle.std.proofs.lemmas.List.Elements.{All-nil, All-cons, All-head, All-tail, All-push, All-weaker}
 use Rattle.std.proofs.lemmas.Bool.{cases_eq, cases_lt, eq-eqb, ne_eqb}
 use Rattle.lane_core.specs.declared.under_way.RecordUnderWay.{RecordUnderWay}
-use Rattle.worker_laws.specs.Rising.{Rises}
+use Rattle.run_outcome.specs.Rising.{Rises}
 use Rattle.worker_laws.specs.Merge.{list_at, names_in as names_by, AreOfLanes, IsMerge}
 use Rattle.lane_ends.specs.Queues.{first_name, kept_name, AreEmpty, Moves}
 

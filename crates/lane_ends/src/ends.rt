@@ -7,9 +7,9 @@ ghost use Rattle.forest_versions.specs.declared.command.Command.{Command};
 ghost use Rattle.lane_core.specs.KeptEnd.{shown_as};
 ghost use Rattle.lane_core.specs.Sight.{Arrival};
 ghost use Rattle.lane_core.specs.Run.{LaneEvent};
-ghost use Rattle.worker_laws.specs.Rising.{Rises};
-ghost use Rattle.worker_laws.specs.Greatest.{greatest};
-ghost use Rattle.worker_laws.specs.Whole.{run_under};
+ghost use Rattle.run_outcome.specs.Rising.{Rises};
+ghost use Rattle.run_outcome.specs.Greatest.{greatest};
+ghost use Rattle.run_outcome.specs.Whole.{run_under};
 ghost use Rattle.worker_laws.specs.Taken.{AreOneRun};
 ghost use Rattle.worker_laws.specs.Ends.{AreEnds, IsJoined, sum_of};
 

@@ -3,7 +3,7 @@
 ghost use Rattle.std.specs.Prelude.{◌≡◌, ◌++◌, [], ◌∷◌, List};
 ghost use Rattle.pcap_source.specs.Captured.{Captured};
 ghost use Rattle.lane_core.specs.Sight.{arrivals};
-ghost use Rattle.worker_laws.specs.Greatest.{later_of, greatest};
+ghost use Rattle.run_outcome.specs.Greatest.{later_of, greatest};
 
 use flow_timers::{Moment, is_idle};
 use pcap_source::Frame;

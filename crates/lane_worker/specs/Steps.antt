@@ -1,4 +1,4 @@
--- Not of the headline. What a worker makes of the packets and places that it takes: the steps of its lane.
+-- Only for proofs. What a worker makes of the packets and places that it takes: the steps of its lane.
 use Rattle.std.specs.Prelude.{ℕ, ◌+◌, ◌≤◌, min, Bool, true, ◌&&◌, if◌then◌else◌, nat_lt, nat_le, Option, Some, None, List, [], ◌∷◌, ◌++◌, length, map, ⊤}
 use Rattle.app_api.specs.App.{Meaning}
 use Rattle.app_api.specs.declared.reaction.Verdict.{Verdict}

@@ -15,7 +15,7 @@ use Rattle.pcapng_source.specs.declared.fault.NgFault.{NgFault}
 use Rattle.control_script.specs.declared.stamped.Stamped.{Stamped}
 use Rattle.lane_core.specs.Records.{VersionedPacket}
 use Rattle.lane_core.specs.Shown.{record_of}
-use Rattle.worker_pool.specs.Run.{totals_of}
+use Rattle.run_outcome.specs.Totals.{totals_of}
 use Rattle.capture_replay.specs.declared.output.Output.{Output}
 use Rattle.capture_replay.specs.declared.output.Output.TheVariants.{Report, Forward, Summary}
 use Rattle.capture_replay.specs.declared.refusal.ReplayError.{ReplayError}

@@ -12,7 +12,7 @@ use Rattle.control_script.specs.Versions.{is_live}
 use Rattle.words.specs.declared.settings.Settings.{Settings}
 use Rattle.words.specs.Words.{words_settings}
 use Rattle.words.specs.Own.{own_settings}
-use Rattle.worker_pool.specs.Run.{MayHave}
+use Rattle.run_outcome.specs.Allowed.{MayHave}
 use Rattle.mos_run.specs.declared.refusal.RunError.{RunError}
 use Rattle.mos_run.specs.declared.refusal.RunError.TheVariants.{Usage}
 use Rattle.capture_replay.specs.Apps.{meaning_of}

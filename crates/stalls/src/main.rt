@@ -7,10 +7,10 @@
 mod laws;
 mod windows;
 
-use windows::Stalls;
 use mos_bytes::{FolderShelf, ReadSource, WriteSink};
 use mos_program::{run_own_program, words_given};
 use std::process::ExitCode;
+use windows::Stalls;
 
 fn main(rt: HostRuntime) -> ExitCode {
     let words = words_given(&rt);

@@ -1,4 +1,4 @@
--- The words of a program whose application is its own: no word names one.
+-- Not of the headline. The words of a program whose application is its own: no word names one.
 use Rattle.std.specs.Prelude.{ℕ, List, ◌∷◌, codes, Option}
 use Rattle.words.specs.Words.{words_settings}
 use Rattle.words.specs.declared.settings.Settings.{Settings}

@@ -9,10 +9,11 @@ use Rattle.flow_table.specs.Key.{EndpointPair}
 use Rattle.lane_core.specs.Sight.{Arrival}
 use Rattle.lane_core.specs.Records.{VersionedPacket, versioned}
 use Rattle.worker_laws.specs.Members.{Endings, name_of, records_from, records}
-use Rattle.worker_laws.specs.Lanes.{lane_of, part}
+use Rattle.worker_laws.specs.Lanes.{part}
+use Rattle.run_outcome.specs.Lanes.{lane_of}
 use Rattle.worker_laws.specs.Named.{named_from, records_under}
 use Rattle.worker_laws.specs.Judged.{judged_from}
-use Rattle.worker_laws.specs.Rising.{Rises, NeverFalls}
+use Rattle.run_outcome.specs.Rising.{Rises, NeverFalls}
 use Rattle.worker_laws.specs.Allowed.{versions_of, IsWithin, IsAllowed, AreStamped}
 use Rattle.worker_laws.specs.Runs.{judged_part, AreRuns}
 use Rattle.worker_laws.proofs.Restricted.{restricted, judged_restricted}

@@ -15,7 +15,7 @@ use Rattle.lane_core.specs.Run.{LaneEvent}
 use Rattle.worker_laws.specs.Judged.{forwarded}
 use Rattle.worker_laws.specs.Runs.{judged_part}
 use Rattle.worker_laws.specs.Streamed.{answer_to, answers_to, answer_at, lane_in, frame_bytes}
-use Rattle.worker_laws.specs.Whole.{verdicts_under}
+use Rattle.run_outcome.specs.Whole.{verdicts_under}
 use Rattle.worker_laws.specs.Taken.{events_at, verdicts_in, AreOneRun, AreFrontsOfRun}
 use Rattle.worker_laws.proofs.Streamed.{streamed_share, streamed_bytes}
 use Rattle.worker_laws.proofs.Whole.{verdicts_numbered}

@@ -12,12 +12,13 @@ use Rattle.lane_core.specs.Sight.{Arrival}
 use Rattle.lane_core.specs.Records.{VersionedPacket, RecordSoFar, added as lane_added, records}
 use Rattle.lane_core.specs.Versions.{listed, listed_from, versions_in}
 use Rattle.worker_laws.specs.Members.{Members, name_of, added}
-use Rattle.worker_laws.specs.Lanes.{lane_of, part}
+use Rattle.worker_laws.specs.Lanes.{part}
+use Rattle.run_outcome.specs.Lanes.{lane_of}
 use Rattle.worker_laws.specs.Named.{named_by, named_from, named, records_under}
-use Rattle.worker_laws.specs.Rising.{NeverFalls}
+use Rattle.run_outcome.specs.Rising.{NeverFalls}
 use Rattle.worker_laws.specs.Allowed.{IsAllowed, IsWithin, versions_of}
 use Rattle.worker_laws.specs.Histories.{over_by, over_under, with_history}
-use Rattle.worker_laws.specs.Whole.{in_force, packets_under, run_so_far, IsAllowedRun}
+use Rattle.run_outcome.specs.Whole.{in_force, packets_under, run_so_far, IsAllowedRun}
 use Rattle.worker_laws.proofs.Histories.{shown, shown_first, shown_version, same_added, same_records, same_part}
 
 module _ (app : Meaning) (control_at : ℕ → ControlState) where

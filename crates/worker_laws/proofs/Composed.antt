@@ -13,11 +13,12 @@ use Rattle.app_api.specs.App.{Meaning}
 use Rattle.lane_core.specs.Sight.{Moment, Arrival}
 use Rattle.lane_core.specs.Records.{VersionedPacket, versioned, records as lane_records, ended_at}
 use Rattle.worker_laws.specs.Members.{Endings, Members, name_of, joined_by, ended_by_silence, records}
-use Rattle.worker_laws.specs.Lanes.{lane_of, share, part}
+use Rattle.worker_laws.specs.Lanes.{share, part}
+use Rattle.run_outcome.specs.Lanes.{lane_of}
 use Rattle.worker_laws.specs.Named.{named, records_under}
 use Rattle.worker_laws.specs.Judged.{judged}
 use Rattle.worker_laws.specs.Counted.{total}
-use Rattle.worker_laws.specs.Rising.{Rises, NeverFalls}
+use Rattle.run_outcome.specs.Rising.{Rises, NeverFalls}
 use Rattle.worker_laws.specs.Allowed.{versions_of, arrivals_of, IsWithin, IsAllowed, AreStamped}
 use Rattle.worker_laws.specs.Runs.{judged_part, AreRuns}
 use Rattle.worker_laws.specs.Histories.{over_by, with_history}

@@ -8,7 +8,8 @@ use Rattle.flow_table.specs.Key.{EndpointPair}
 use Rattle.lane_core.specs.Sight.{Arrival}
 use Rattle.lane_core.specs.Records.{VersionedPacket}
 use Rattle.worker_laws.specs.Members.{Endings, Members, packets_of, joined_by, ended_by_silence, takes, found, placed, added, records_from}
-use Rattle.worker_laws.specs.Lanes.{lane_of, part}
+use Rattle.worker_laws.specs.Lanes.{part}
+use Rattle.run_outcome.specs.Lanes.{lane_of}
 use Rattle.worker_laws.specs.Counted.{total, total_of_lanes}
 
 module _ (lane : EndpointPair → ℕ) (count : Members → ℕ) where

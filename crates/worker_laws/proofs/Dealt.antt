@@ -12,11 +12,11 @@ use Rattle.app_api.specs.Numbers.{rise_from}
 use Rattle.forest_versions.specs.declared.command.Command.{Command}
 use Rattle.lane_core.specs.Sight.{Sight, Tcp, Other, arrivals}
 use Rattle.lane_core.specs.Laws.{rise}
-use Rattle.worker_laws.specs.Lanes.{lane_of}
-use Rattle.worker_laws.specs.Rising.{Rises}
+use Rattle.run_outcome.specs.Lanes.{lane_of}
+use Rattle.run_outcome.specs.Rising.{Rises}
 use Rattle.worker_laws.specs.Allowed.{arrivals_of}
 use Rattle.worker_laws.specs.Histories.{over_under}
-use Rattle.worker_laws.specs.Whole.{packets_under}
+use Rattle.run_outcome.specs.Whole.{packets_under}
 use Rattle.worker_laws.proofs.Bridging.{packets_are}
 use Rattle.worker_laws.proofs.Reported.{named_packets, named_numbers}
 

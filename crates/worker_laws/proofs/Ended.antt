@@ -18,13 +18,14 @@ use Rattle.lane_core.specs.Run.{LaneEvent, control_of, lane_run, ended_run}
 use Rattle.lane_core.specs.Shown.{total}
 use Rattle.lane_core.specs.Lane.{shown}
 use Rattle.worker_laws.specs.Members.{Members, name_of}
-use Rattle.worker_laws.specs.Greatest.{greatest}
-use Rattle.worker_laws.specs.Lanes.{lane_of, part}
+use Rattle.run_outcome.specs.Greatest.{greatest}
+use Rattle.worker_laws.specs.Lanes.{part}
+use Rattle.run_outcome.specs.Lanes.{lane_of}
 use Rattle.worker_laws.specs.Counted.{total as total_by, total_of_lanes}
-use Rattle.worker_laws.specs.Rising.{Rises}
+use Rattle.run_outcome.specs.Rising.{Rises}
 use Rattle.worker_laws.specs.Merge.{list_at, AreOfLanes, IsMerge, lane_at, shown_name}
 use Rattle.worker_laws.specs.Histories.{over_under}
-use Rattle.worker_laws.specs.Whole.{in_force, run_under}
+use Rattle.run_outcome.specs.Whole.{in_force, run_under}
 use Rattle.worker_laws.specs.Taken.{events_at, AreOneRun}
 use Rattle.worker_laws.specs.Ends.{AreEnds, IsJoined, sum_of}
 use Rattle.worker_laws.proofs.Counting.{lanes_add_up}

@@ -16,9 +16,9 @@ use Rattle.lane_core.specs.Sight.{Sight, Tcp, Other, Moment, Arrival}
 use Rattle.lane_core.specs.Records.{VersionedPacket, RecordSoFar, belongs_to, side_in, history_after, opens, orphan_raises_of, timer_raise_of, is_shut, is_silent, ended_by_silence, ended_before, ended_at, continued_by, placed, added, records_from}
 use Rattle.lane_core.specs.Shown.{total, weight, callbacks_of, drops_of}
 use Rattle.forest_versions.specs.declared.command.Command.{Command}
-use Rattle.worker_laws.specs.Greatest.{greatest}
+use Rattle.run_outcome.specs.Greatest.{greatest}
 use Rattle.worker_laws.specs.Histories.{over_under}
-use Rattle.worker_laws.specs.Whole.{in_force, packets_under, run_under}
+use Rattle.run_outcome.specs.Whole.{in_force, packets_under, run_under}
 use Rattle.worker_laws.proofs.Bridging.{packets_are}
 use Rattle.worker_laws.proofs.Reported.{named_packets}
 

@@ -5,7 +5,8 @@ use Rattle.std.proofs.lemmas.Bool.{cases_eq, eq-eqb, ne_eqb}
 use Rattle.flow_table.specs.Key.{EndpointPair}
 use Rattle.lane_core.specs.Sight.{Arrival}
 use Rattle.lane_core.specs.Records.{VersionedPacket, versioned}
-use Rattle.worker_laws.specs.Lanes.{lane_of, share}
+use Rattle.worker_laws.specs.Lanes.{share}
+use Rattle.run_outcome.specs.Lanes.{lane_of}
 use Rattle.worker_laws.specs.Allowed.{arrivals_of}
 
 -- the first of a list that isn't empty

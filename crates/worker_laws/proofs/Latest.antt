@@ -6,7 +6,7 @@ use Rattle.std.proofs.lemmas.Bool.Decides.{nat_tests}
 use Rattle.std.proofs.lemmas.List.Elements.{All-nil, All-cons}
 use Rattle.flow_timers.specs.Moments.{is_idle, comes_after}
 use Rattle.lane_core.specs.Sight.{Moment, Arrival}
-use Rattle.worker_laws.specs.Greatest.{later_of, greatest_from, greatest}
+use Rattle.run_outcome.specs.Greatest.{later_of, greatest_from, greatest}
 
 -- ---- no moment comes after it. A moment by its second and its fraction: of g, of s, and of m
 

@@ -9,9 +9,10 @@ use Rattle.report_text.specs.declared.record.Record.{Record}
 use Rattle.lane_core.specs.Sight.{Arrival}
 use Rattle.lane_core.specs.Records.{VersionedPacket}
 use Rattle.worker_laws.specs.Members.{Endings, Members, name_of, added}
-use Rattle.worker_laws.specs.Lanes.{lane_of, part}
+use Rattle.worker_laws.specs.Lanes.{part}
+use Rattle.run_outcome.specs.Lanes.{lane_of}
 use Rattle.worker_laws.specs.Named.{named_by, named_from, named, records_under}
-use Rattle.worker_laws.specs.Rising.{Rises}
+use Rattle.run_outcome.specs.Rising.{Rises}
 use Rattle.worker_laws.specs.Allowed.{arrivals_of}
 use Rattle.worker_laws.specs.Merge.{list_at, names_in, AreOfLanes, IsMerge, lane_at, shown_name}
 use Rattle.worker_laws.proofs.Parts.{same_parts}

@@ -8,7 +8,7 @@ use Rattle.flow_table.specs.Key.{EndpointPair}
 use Rattle.flow_table.proofs.Keys.{same_key-equal}
 use Rattle.lane_core.specs.Records.{VersionedPacket, is_between}
 use Rattle.worker_laws.specs.Members.{Endings, Members, packets_of, joined_by, takes, ended_before, found, placed, added, records_from}
-use Rattle.worker_laws.specs.Lanes.{lane_of}
+use Rattle.run_outcome.specs.Lanes.{lane_of}
 use Rattle.worker_laws.specs.Judged.{verdict_among, verdict_of, judged_from}
 use Rattle.worker_laws.proofs.Silence.{untaken_stays, of_before}
 

@@ -8,7 +8,7 @@ use Rattle.std.proofs.lemmas.List.Elements.{All-nil, All-cons, All-head, All-tai
 use Rattle.lane_core.specs.Sight.{Arrival}
 use Rattle.lane_core.specs.Records.{VersionedPacket}
 use Rattle.worker_laws.specs.Members.{Endings, Members, begun_by, joined_by, ended_by_silence, name_of, takes, found, placed, added, records_from}
-use Rattle.worker_laws.specs.Rising.{Rises, NeverFalls}
+use Rattle.run_outcome.specs.Rising.{Rises, NeverFalls}
 use Rattle.worker_laws.proofs.Silence.{of_found}
 use Rattle.worker_laws.proofs.Naming.{added_new}
 

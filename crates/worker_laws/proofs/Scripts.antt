@@ -9,7 +9,7 @@ use Rattle.forest_versions.specs.declared.command.Stamp.TheVariants.{At, Live}
 use Rattle.control_script.specs.declared.stamped.Stamped.{Stamped}
 use Rattle.control_script.specs.Order.{is_later, are_in_order}
 use Rattle.control_script.specs.Versions.{is_forced as is_forced_in, is_barred as is_barred_in, behind_one as behind_one_in, floor as floor_in, ceil as ceil_in, is_live as is_live_in}
-use Rattle.worker_laws.specs.Rising.{NeverFalls}
+use Rattle.run_outcome.specs.Rising.{NeverFalls}
 use Rattle.worker_laws.specs.Stamps.{is_forced, is_barred, behind_one, floor, ceil, named_packets, is_live}
 use Rattle.worker_laws.proofs.Stamps.{floor_within, ceil_rises, floor_is_ceil}
 

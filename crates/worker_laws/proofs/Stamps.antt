@@ -6,7 +6,7 @@ use Rattle.std.proofs.lemmas.Bool.{cases_lt, le-leb, lt-leb, lt-ltb, le-ltb}
 use Rattle.std.proofs.lemmas.List.Elements.{All-cons, All-head, All-tail, All-weaker}
 use Rattle.forest_versions.specs.declared.command.Stamp.{Stamp}
 use Rattle.forest_versions.specs.declared.command.Stamp.TheVariants.{At, Live}
-use Rattle.worker_laws.specs.Rising.{NeverFalls}
+use Rattle.run_outcome.specs.Rising.{NeverFalls}
 use Rattle.worker_laws.specs.Stamps.{behind_one, floor, ceil, named_packets, is_live}
 
 -- where all stamps name later packets, none is forced

@@ -8,10 +8,11 @@ use Rattle.app_api.specs.declared.reaction.Verdict.{Verdict}
 use Rattle.app_api.specs.declared.reaction.Verdict.TheVariants.{Pass, Drop}
 use Rattle.lane_rings.specs.declared.items.Answer.{Answer}
 use Rattle.worker_laws.specs.Share.{share as numbers_of_share}
-use Rattle.worker_laws.specs.Forwarded.{bytes_out, bytes_under as frame_under, forwarded as forwarded_numbers}
+use Rattle.worker_laws.specs.Forwarded.{bytes_out, forwarded as forwarded_numbers}
+use Rattle.run_outcome.specs.Forwarded.{bytes_under as frame_under}
 use Rattle.flow_table.specs.Key.{EndpointPair}
 use Rattle.lane_core.specs.Sight.{Arrival}
-use Rattle.worker_laws.specs.Lanes.{lane_of}
+use Rattle.run_outcome.specs.Lanes.{lane_of}
 use Rattle.worker_laws.specs.Judged.{bytes_under, forwarded}
 use Rattle.worker_laws.specs.Runs.{judged_part}
 use Rattle.worker_laws.specs.Streamed.{answer_to, answers_to, answer_at, lane_in, AreNumbered, frame_bytes}

@@ -14,11 +14,12 @@ use Rattle.lane_core.specs.Records.{VersionedPacket, RecordSoFar, added, verdict
 use Rattle.lane_core.specs.Run.{LaneEvent, Gave, Arrived, commands_of, versioned_from, lane_run, ended_run}
 use Rattle.lane_core.specs.Lane.{with_event, next_verdict}
 use Rattle.lane_core.specs.Laws.{OneEventMore, LaterCommandsChangeNone, LastPacketIsAdded}
-use Rattle.worker_laws.specs.Lanes.{lane_of, share}
-use Rattle.worker_laws.specs.Rising.{NeverFalls}
+use Rattle.worker_laws.specs.Lanes.{share}
+use Rattle.run_outcome.specs.Lanes.{lane_of}
+use Rattle.run_outcome.specs.Rising.{NeverFalls}
 use Rattle.worker_laws.specs.Allowed.{arrivals_of, IsWithin, AreStamped}
 use Rattle.lane_core.specs.Verdicts.{verdicts_from}
-use Rattle.worker_laws.specs.Whole.{in_force}
+use Rattle.run_outcome.specs.Whole.{in_force}
 use Rattle.worker_laws.specs.Taken.{events_at, packets_at, HaveRun, HaveRunAll, verdicts_behind, verdicts_in}
 
 -- ---- events and then others

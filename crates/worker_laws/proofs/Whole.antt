@@ -15,18 +15,19 @@ use Rattle.lane_core.specs.Run.{LaneEvent, commands_of, lane_run, ended_run}
 use Rattle.lane_core.specs.Shown.{total, weight}
 use Rattle.lane_core.specs.Laws.{OneEventMore, LaterCommandsChangeNone, LastPacketIsAdded, WeightNeverFalls}
 use Rattle.worker_laws.specs.Members.{Members, records as members_of}
-use Rattle.worker_laws.specs.Greatest.{greatest}
-use Rattle.worker_laws.specs.Lanes.{lane_of, share, part}
+use Rattle.run_outcome.specs.Greatest.{greatest}
+use Rattle.worker_laws.specs.Lanes.{share, part}
+use Rattle.run_outcome.specs.Lanes.{lane_of}
 use Rattle.worker_laws.specs.Named.{named_from, named, records_under}
 use Rattle.worker_laws.specs.Judged.{judged_from, judged}
-use Rattle.worker_laws.specs.Rising.{Rises}
+use Rattle.run_outcome.specs.Rising.{Rises}
 use Rattle.worker_laws.specs.Allowed.{versions_of, arrivals_of}
 use Rattle.worker_laws.specs.Runs.{judged_part, AreRuns}
 use Rattle.worker_laws.specs.Histories.{judge_by, over_under}
 use Rattle.worker_laws.specs.Streamed.{AreNumbered}
 use Rattle.lane_core.specs.Verdicts.{verdicts_from}
 use Rattle.lane_core.specs.Versions.{versions_in}
-use Rattle.worker_laws.specs.Whole.{in_force, packets_under, run_under, verdicts_under, IsAllowedRun}
+use Rattle.run_outcome.specs.Whole.{in_force, packets_under, run_under, verdicts_under, IsAllowedRun}
 use Rattle.worker_laws.specs.Taken.{events_at, packets_at, verdicts_in, HaveRun, HaveRunAll, AreOneRun, AreFrontsOfRun}
 use Rattle.worker_laws.proofs.Histories.{same_judged, same_records, same_part, final, final_first, final_versions, ended_records}
 use Rattle.worker_laws.proofs.Bridging.{packets_are, same_versions, run_allowed, members_allowed}

@@ -8,7 +8,7 @@ use Rattle.lane_core.specs.Records.{VersionedPacket}
 use Rattle.worker_laws.specs.Members.{Endings, Members, name_of}
 use Rattle.worker_laws.specs.Lanes.{part}
 use Rattle.worker_laws.specs.Named.{records_under}
-use Rattle.worker_laws.specs.Rising.{NeverFalls}
+use Rattle.run_outcome.specs.Rising.{NeverFalls}
 
 abbrev pub versions_of : List Members → List ℕ
 versions_of ms = map (λ m. m.version) ms

@@ -1,14 +1,7 @@
--- What a forward run writes behind the capture's header.
+-- Not of the headline. What a forward run writes behind the capture's header.
 use Rattle.std.specs.Prelude.{ℕ, zero, suc, List, [], ◌++◌}
-use Rattle.pcap_source.specs.Captured.{Captured}
-use Rattle.app_api.specs.declared.reaction.Verdict.{Verdict}
-use Rattle.app_api.specs.declared.reaction.Verdict.TheVariants.{Pass, Drop}
+use Rattle.run_outcome.specs.Forwarded.{bytes_under}
 use Rattle.lane_rings.specs.declared.items.Answer.{Answer}
-
--- a packet that passes leaves as it was captured, and one that is dropped leaves nothing
-abbrev pub bytes_under : Verdict → Captured → List ℕ
-bytes_under Pass frame = frame.head ++ frame.bytes
-bytes_under (Drop reason) frame = []
 
 abbrev pub bytes_out : Answer → List ℕ
 bytes_out a = bytes_under a.verdict a.frame

@@ -1,18 +1,15 @@
--- Which packets go to which lane: those of a key all to one, which `lane` tells, and those without a key to lane 0.
+-- Not of the headline. Which packets go to which lane: those of a key all to one, which `lane` tells, and those without a key to lane 0.
 use Rattle.std.specs.Prelude.{ℕ, ◌==◌, List, filter}
 use Rattle.flow_table.specs.Key.{EndpointPair}
-use Rattle.lane_core.specs.Sight.{Sight, Tcp, Other, Arrival, key_of_segment}
+use Rattle.lane_core.specs.Sight.{Arrival}
+use Rattle.run_outcome.specs.Lanes.{lane_of}
 use Rattle.worker_laws.specs.Members.{Members}
 
 module _ (lane : EndpointPair → ℕ) where
-  abbrev pub lane_of : Sight → ℕ
-  lane_of (Tcp segment) = lane (key_of_segment segment)
-  lane_of (Other class) = 0
-
   -- a lane's share of the packets, in their order
   abbrev pub share : ℕ → List Arrival → List Arrival
-  share l ps = filter (λ a. lane_of a.sight == l) ps
+  share l ps = filter (λ a. lane_of lane a.sight == l) ps
 
   -- a lane's part of records: those whose first packet is of its share
   abbrev pub part : ℕ → List Members → List Members
-  part l ms = filter (λ m. lane_of m.first.sight == l) ms
+  part l ms = filter (λ m. lane_of lane m.first.sight == l) ms

@@ -1,9 +1,7 @@
 pub mod Members
-pub mod Greatest
 pub mod Lanes
 pub mod Named
 pub mod Judged
-pub mod Rising
 pub mod Counted
 pub mod Allowed
 pub mod Runs
@@ -11,7 +9,6 @@ pub mod Histories
 pub mod Stamps
 pub mod Merge
 pub mod Streamed
-pub mod Whole
 pub mod Taken
 pub mod Ends
 pub mod Share

@@ -4,8 +4,8 @@ use Rattle.std.specs.List.{All}
 use Rattle.flow_table.specs.Key.{EndpointPair}
 use Rattle.report_text.specs.declared.record.Record.{Record}
 use Rattle.lane_core.specs.Sight.{Arrival}
-use Rattle.worker_laws.specs.Lanes.{lane_of}
-use Rattle.worker_laws.specs.Rising.{Rises}
+use Rattle.run_outcome.specs.Lanes.{lane_of}
+use Rattle.run_outcome.specs.Rising.{Rises}
 
 -- the list of a lane; empty where there is none
 abbrev pub list_at : {T : Type 0} → List (List T) → ℕ → List T

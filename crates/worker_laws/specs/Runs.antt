@@ -5,7 +5,8 @@ use Rattle.app_api.specs.declared.reaction.Verdict.{Verdict}
 use Rattle.lane_core.specs.Sight.{Arrival}
 use Rattle.lane_core.specs.Records.{VersionedPacket}
 use Rattle.worker_laws.specs.Members.{Endings, records}
-use Rattle.worker_laws.specs.Lanes.{lane_of, part}
+use Rattle.worker_laws.specs.Lanes.{part}
+use Rattle.run_outcome.specs.Lanes.{lane_of}
 use Rattle.worker_laws.specs.Named.{named, records_under}
 use Rattle.worker_laws.specs.Judged.{judged}
 

@@ -5,7 +5,7 @@ use Rattle.app_api.specs.declared.reaction.Verdict.{Verdict}
 use Rattle.lane_rings.specs.declared.items.Answer.{Answer}
 use Rattle.flow_table.specs.Key.{EndpointPair}
 use Rattle.lane_core.specs.Sight.{Arrival}
-use Rattle.worker_laws.specs.Lanes.{lane_of}
+use Rattle.run_outcome.specs.Lanes.{lane_of}
 
 abbrev pub answer_to : (ℕ → Captured) → ℕ → Verdict → Answer
 answer_to frame_of number verdict = record { index = number; verdict = verdict; frame = frame_of number }

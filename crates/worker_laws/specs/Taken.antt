@@ -12,11 +12,12 @@ use Rattle.lane_core.specs.Records.{VersionedPacket}
 use Rattle.lane_core.specs.Run.{LaneEvent, Gave, Arrived, commands_of, versioned_from, lane_run, ended_run}
 use Rattle.lane_core.specs.Lane.{with_event, next_verdict}
 use Rattle.lane_core.specs.Shown.{weight}
-use Rattle.worker_laws.specs.Greatest.{greatest}
-use Rattle.worker_laws.specs.Lanes.{lane_of, share}
+use Rattle.run_outcome.specs.Greatest.{greatest}
+use Rattle.worker_laws.specs.Lanes.{share}
+use Rattle.run_outcome.specs.Lanes.{lane_of}
 use Rattle.worker_laws.specs.Runs.{judged_part}
 use Rattle.worker_laws.specs.Allowed.{arrivals_of, IsWithin}
-use Rattle.worker_laws.specs.Whole.{run_under, verdicts_under}
+use Rattle.run_outcome.specs.Whole.{run_under, verdicts_under}
 
 -- the events of a lane; none where there is no such lane
 abbrev pub events_at : List (List LaneEvent) → ℕ → List LaneEvent

@@ -7,7 +7,7 @@ ghost use Rattle.flow_table.specs.Key.{EndpointPair};
 ghost use Rattle.lane_core.specs.Sight.{Arrival};
 ghost use Rattle.lane_core.specs.Records.{VersionedPacket};
 ghost use Rattle.worker_laws.specs.Members.{Endings, Members, joined_by, ended_by_silence, records};
-ghost use Rattle.worker_laws.specs.Lanes.{lane_of};
+ghost use Rattle.run_outcome.specs.Lanes.{lane_of};
 ghost use Rattle.worker_laws.specs.Named.{records_under};
 ghost use Rattle.worker_laws.specs.Counted.{total, total_of_lanes};
 ghost use Rattle.worker_laws.specs.Runs.{AreRuns};

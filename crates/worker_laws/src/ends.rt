@@ -9,10 +9,10 @@ ghost use Rattle.lane_core.specs.declared.end.KeptEnd.{KeptEnd};
 ghost use Rattle.lane_core.specs.KeptEnd.{shown_as};
 ghost use Rattle.lane_core.specs.Sight.{Arrival};
 ghost use Rattle.lane_core.specs.Run.{LaneEvent};
-ghost use Rattle.worker_laws.specs.Rising.{Rises};
-ghost use Rattle.worker_laws.specs.Greatest.{greatest};
+ghost use Rattle.run_outcome.specs.Rising.{Rises};
+ghost use Rattle.run_outcome.specs.Greatest.{greatest};
 ghost use Rattle.worker_laws.specs.Merge.{lane_at, AreOfLanes, IsMerge, shown_name};
-ghost use Rattle.worker_laws.specs.Whole.{run_under};
+ghost use Rattle.run_outcome.specs.Whole.{run_under};
 ghost use Rattle.worker_laws.specs.Taken.{AreOneRun};
 ghost use Rattle.worker_laws.specs.Ends.{AreEnds, IsJoined, sum_of};
 

@@ -4,7 +4,7 @@ ghost use Rattle.std.specs.Prelude.{◌≡◌, ◌<◌, [], ℕ, List, Some, Non
 ghost use Rattle.std.specs.List.{All};
 ghost use Rattle.flow_timers.specs.Moments.{is_idle};
 ghost use Rattle.lane_core.specs.Sight.{Moment, Arrival};
-ghost use Rattle.worker_laws.specs.Greatest.{greatest};
+ghost use Rattle.run_outcome.specs.Greatest.{greatest};
 
 /// The greatest moment of packets is that of one of them, and that of none comes after it. There is none only where there
 /// is no packet. This function does nothing: who speaks of that moment calls it for what it says.

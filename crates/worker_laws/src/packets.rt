@@ -9,9 +9,9 @@ ghost use Rattle.app_api.specs.App.{Meaning};
 ghost use Rattle.forest_versions.specs.declared.command.Command.{Command};
 ghost use Rattle.lane_core.specs.Sight.{Sight, arrivals, sight_of};
 ghost use Rattle.lane_core.specs.Laws.{rise};
-ghost use Rattle.worker_laws.specs.Lanes.{lane_of};
-ghost use Rattle.worker_laws.specs.Rising.{Rises};
-ghost use Rattle.worker_laws.specs.Whole.{packets_under};
+ghost use Rattle.run_outcome.specs.Lanes.{lane_of};
+ghost use Rattle.run_outcome.specs.Rising.{Rises};
+ghost use Rattle.run_outcome.specs.Whole.{packets_under};
 
 /// The numbers of a capture's packets rise, and so do they in a run, whatever its versions.
 pub fn packets_of_a_capture_rise()

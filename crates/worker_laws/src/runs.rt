@@ -12,15 +12,15 @@ ghost use Rattle.lane_core.specs.Records.{RecordSoFar, VersionedPacket, records,
 ghost use Rattle.lane_core.specs.Run.{LaneEvent, commands_of, versioned_from};
 ghost use Rattle.lane_core.specs.Shown.{weight, callbacks_of, drops_of};
 ghost use Rattle.lane_core.specs.Lane.{IsHeavy, IsHeavyAtEnd};
-ghost use Rattle.worker_laws.specs.Rising.{Rises};
-ghost use Rattle.worker_laws.specs.Greatest.{greatest};
+ghost use Rattle.run_outcome.specs.Rising.{Rises};
+ghost use Rattle.run_outcome.specs.Greatest.{greatest};
 ghost use Rattle.worker_laws.specs.Lanes.{share};
 ghost use Rattle.worker_laws.specs.Allowed.{arrivals_of};
 ghost use Rattle.worker_laws.specs.Judged.{judged};
 ghost use Rattle.worker_laws.specs.Histories.{judge_by, over_under};
 ghost use Rattle.lane_core.specs.Versions.{versions_in};
 ghost use Rattle.lane_core.specs.Verdicts.{verdicts_from};
-ghost use Rattle.worker_laws.specs.Whole.{in_force, packets_under, run_under, verdicts_under, IsAllowedRun};
+ghost use Rattle.run_outcome.specs.Whole.{in_force, packets_under, run_under, verdicts_under, IsAllowedRun};
 ghost use Rattle.worker_laws.specs.Taken.{events_at, packets_at, verdicts_behind, HaveRun, HaveRunAll, AreOneRun, AreFrontsOfRun};
 ghost use Rattle.worker_laws.specs.Streamed.{AreNumbered};
 

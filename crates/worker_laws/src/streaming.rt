@@ -15,7 +15,7 @@ ghost use Rattle.lane_core.specs.Sight.{Arrival, arrivals};
 ghost use Rattle.lane_core.specs.Run.{LaneEvent};
 ghost use Rattle.worker_laws.specs.Judged.{forwarded};
 ghost use Rattle.worker_laws.specs.Runs.{judged_part};
-ghost use Rattle.worker_laws.specs.Whole.{verdicts_under};
+ghost use Rattle.run_outcome.specs.Whole.{verdicts_under};
 ghost use Rattle.worker_laws.specs.Taken.{events_at, verdicts_in, AreOneRun, AreFrontsOfRun};
 ghost use Rattle.worker_laws.specs.Streamed.{answers_to, answer_at, lane_in, AreNumbered, frame_bytes};
 

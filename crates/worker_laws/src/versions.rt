@@ -14,7 +14,7 @@ ghost use Rattle.worker_laws.specs.Members.{Endings, records};
 ghost use Rattle.worker_laws.specs.Lanes.{share};
 ghost use Rattle.worker_laws.specs.Named.{named, records_under};
 ghost use Rattle.worker_laws.specs.Judged.{judged};
-ghost use Rattle.worker_laws.specs.Rising.{Rises, NeverFalls};
+ghost use Rattle.run_outcome.specs.Rising.{Rises, NeverFalls};
 ghost use Rattle.worker_laws.specs.Allowed.{versions_of, arrivals_of, IsAllowed, AreStamped};
 ghost use Rattle.worker_laws.specs.Runs.{AreRuns};
 ghost use Rattle.worker_laws.specs.Stamps.{floor, ceil, named_packets, is_live};

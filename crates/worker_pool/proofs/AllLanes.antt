@@ -8,7 +8,7 @@ use Rattle.control_script.specs.declared.stamped.Stamped.{Stamped}
 use Rattle.lane_core.specs.declared.recorder.Recorder.{Ghosts}
 use Rattle.lane_core.specs.Sight.{Sight, sight_of}
 use Rattle.lane_core.specs.Run.{LaneEvent}
-use Rattle.worker_laws.specs.Lanes.{lane_of}
+use Rattle.run_outcome.specs.Lanes.{lane_of}
 use Rattle.worker_laws.specs.Taken.{events_at}
 use Rattle.lane_worker.specs.declared.worker.Worker.{Worker}
 use Rattle.lane_rings.specs.declared.items.Packet.{Packet}

@@ -21,14 +21,15 @@ use Rattle.control_script.specs.Order.{commands_of}
 use Rattle.control_script.specs.Versions.{floor, ceil}
 use Rattle.lane_ends.specs.declared.ends.Joined.{Joined}
 use Rattle.worker_laws.specs.Allowed.{arrivals_of}
-use Rattle.worker_laws.specs.Greatest.{greatest}
+use Rattle.run_outcome.specs.Greatest.{greatest}
 use Rattle.worker_laws.specs.Lanes.{share}
 use Rattle.worker_laws.specs.Ends.{AreEnds, IsJoined}
 use Rattle.worker_laws.specs.Taken.{events_at, packets_at, HaveRunAll, AreOneRun}
-use Rattle.worker_laws.specs.Whole.{IsAllowedRun, run_under}
+use Rattle.run_outcome.specs.Whole.{IsAllowedRun, run_under}
 use Rattle.lane_worker.specs.declared.worker.Worker.{Worker}
 use Rattle.worker_pool.specs.declared.job.KeptLanes.{KeptLanes}
-use Rattle.worker_pool.specs.Run.{MayHave, run_of, as_shown, shown_end, IsWhole, IsTooHeavy, EndsOver}
+use Rattle.worker_pool.specs.Run.{as_shown, shown_end, IsWhole, IsTooHeavy, EndsOver}
+use Rattle.run_outcome.specs.Allowed.{MayHave, run_of}
 use Rattle.worker_pool.specs.declared.job.PoolError.{PoolError}
 use Rattle.worker_pool.specs.declared.job.PoolError.TheVariants.{TooLong, TooMany, ReadFault, WriteFault, Heavy, NoMemory}
 use Rattle.worker_pool.specs.Ending.{by_key, CameTo, AreEnded, IsCause, IsJoinedRun, Concludes}

@@ -16,7 +16,8 @@ use Rattle.lane_core.specs.Sight.{arrivals, sight_of}
 use Rattle.lane_core.specs.Run.{LaneEvent, versioned_from, commands_of as given_in}
 use Rattle.lane_core.specs.Lane.{IsHeavy}
 use Rattle.worker_laws.specs.Allowed.{arrivals_of, IsWithin}
-use Rattle.worker_laws.specs.Lanes.{lane_of, share}
+use Rattle.worker_laws.specs.Lanes.{share}
+use Rattle.run_outcome.specs.Lanes.{lane_of}
 use Rattle.worker_laws.specs.Taken.{verdicts_in}
 use Rattle.worker_laws.specs.Streamed.{answers_to}
 use Rattle.lane_worker.specs.declared.worker.Worker.{Worker}

@@ -23,7 +23,8 @@ use Rattle.lane_worker.specs.declared.worker.Worker.{Worker}
 use Rattle.worker_pool.specs.declared.job.KeptLanes.{KeptLanes}
 use Rattle.worker_pool.specs.declared.job.PoolError.{PoolError}
 use Rattle.worker_pool.specs.declared.job.PoolError.TheVariants.{TooLong, TooMany, ReadFault, WriteFault, Heavy, NoMemory}
-use Rattle.worker_pool.specs.Run.{MayHave, run_of, as_shown, IsWhole, IsTooHeavy}
+use Rattle.worker_pool.specs.Run.{as_shown, IsWhole, IsTooHeavy}
+use Rattle.run_outcome.specs.Allowed.{MayHave, run_of}
 
 -- which of so many lanes has a key
 abbrev pub by_key : ℕ → EndpointPair → ℕ

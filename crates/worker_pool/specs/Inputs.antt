@@ -14,7 +14,7 @@ use Rattle.lane_rings.specs.declared.items.Packet.{Packet}
 use Rattle.lane_rings.specs.Ring.{sent, AreEnds}
 use Rattle.lane_core.specs.declared.recorder.Recorder.{Ghosts}
 use Rattle.lane_core.specs.Sight.{arrivals}
-use Rattle.worker_laws.specs.Greatest.{greatest}
+use Rattle.run_outcome.specs.Greatest.{greatest}
 use Rattle.lane_worker.specs.declared.worker.Worker.{Worker}
 use Rattle.worker_pool.specs.declared.team.worker_place.WorkerPlace.{WorkerPlace}
 use Rattle.worker_pool.specs.declared.team.worker_place.WorkerPlace.TheVariants.{Thread, Inline}

@@ -8,10 +8,10 @@ ghost use Rattle.lane_rings.specs.declared.items.Packet.{Packet};
 ghost use Rattle.lane_rings.specs.declared.ring.RingTx.{RingTx};
 ghost use Rattle.lane_core.specs.KeptEnd.{shown_as};
 ghost use Rattle.lane_core.specs.Sight.{arrivals};
-ghost use Rattle.worker_laws.specs.Greatest.{greatest};
+ghost use Rattle.run_outcome.specs.Greatest.{greatest};
 ghost use Rattle.worker_laws.specs.Ends.{IsJoined};
 ghost use Rattle.lane_worker.specs.declared.worker.Worker.{Worker as Begun};
-ghost use Rattle.worker_pool.specs.Run.{MayHave, run_of};
+ghost use Rattle.run_outcome.specs.Allowed.{MayHave, run_of};
 ghost use Rattle.worker_pool.specs.Team.{IsTeam, AllKeep, HaveServed};
 ghost use Rattle.worker_pool.specs.Ending.{IsJoinedRun, Concludes};
 

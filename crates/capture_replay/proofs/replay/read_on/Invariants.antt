@@ -2,7 +2,7 @@ use Rattle.std.proofs.Common.{◌≡◌, ℕ, ◌-◌, ◌≤◌, List, Option, 
 use Rattle.std.specs.Io.KnownBytes.{Appends}
 use Rattle.pcap_source.specs.Captured.{Captured}
 use Rattle.lane_core.specs.Sight.{arrivals}
-use Rattle.worker_laws.specs.Greatest.{greatest}
+use Rattle.run_outcome.specs.Greatest.{greatest}
 use Rattle.capture_replay.specs.Records.{packets_of}
 use Rattle.capture_replay.specs.Outcome.{is_forward, streamed}
 use Rattle.capture_replay.specs.Reading.{IsReady, IsRead, Replaying}

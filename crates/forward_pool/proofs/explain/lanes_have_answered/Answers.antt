@@ -3,7 +3,7 @@ use Rattle.pcap_source.specs.Captured.{Captured}
 use Rattle.control_script.specs.Order.{commands_of}
 use Rattle.control_script.specs.Versions.{floor, ceil}
 use Rattle.lane_core.specs.Sight.{arrivals}
-use Rattle.worker_laws.specs.Whole.{verdicts_under}
+use Rattle.run_outcome.specs.Whole.{verdicts_under}
 use Rattle.worker_laws.specs.Streamed.{answer_at, lane_in}
 use Rattle.worker_pool.specs.Ending.{by_key}
 use Rattle.forward_stream.specs.Streamed.{lane_at}

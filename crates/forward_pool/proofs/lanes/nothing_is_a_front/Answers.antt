@@ -4,8 +4,8 @@ use Rattle.control_script.specs.Versions.{floor, ceil}
 use Rattle.lane_core.specs.Sight.{arrivals}
 use Rattle.lane_core.specs.Records.{records, versioned}
 use Rattle.lane_core.specs.Versions.{versions_in}
-use Rattle.worker_laws.specs.Whole.{in_force}
-use Rattle.forward_pool.specs.Forward.{forwarded_with}
+use Rattle.run_outcome.specs.Whole.{in_force}
+use Rattle.run_outcome.specs.Forwarded.{forwarded_with}
 use Rattle.forward_pool.proofs.Forwarding.{front_of_nothing}
 use Rattle.forward_pool.proofs.lanes.nothing_is_a_front.Goals as goal
 

@@ -3,7 +3,7 @@ use Rattle.std.proofs.lemmas.Result.{err_from_is_err_and}
 use Rattle.control_script.specs.Order.{commands_of}
 use Rattle.control_script.specs.Versions.{floor, ceil}
 use Rattle.lane_core.specs.Sight.{arrivals}
-use Rattle.worker_pool.specs.Run.{run_of}
+use Rattle.run_outcome.specs.Allowed.{run_of}
 use Rattle.worker_pool.specs.Ending.{by_key}
 use Rattle.worker_pool.proofs.Concluding.{lanes_end}
 use Rattle.forward_pool.proofs.Exits.{versions_joined, good_ended, not_heavy, why_none}

@@ -2,7 +2,7 @@ use Rattle.std.proofs.Common.{◌∙◌, ap}
 use Rattle.std.specs.Prelude.{min, ◌-◌, ◌^◌}
 use Rattle.lane_core.specs.KeptEnd.{shown_as}
 use Rattle.worker_laws.specs.Merge.{lane_at}
-use Rattle.worker_laws.specs.Whole.{run_under}
+use Rattle.run_outcome.specs.Whole.{run_under}
 use Rattle.worker_laws.specs.Ends.{sum_of}
 use Rattle.lane_ends.proofs.Kept.{of_lanes, merge_shown}
 use Rattle.lane_ends.proofs.ends.join.Goals as goal

@@ -1,5 +1,5 @@
 use Rattle.std.proofs.Common.{None, Some, sym, ap, ◌∙◌}
-use Rattle.worker_laws.specs.Greatest.{later_of}
+use Rattle.run_outcome.specs.Greatest.{later_of}
 use Rattle.lane_ends.proofs.Latest.{moment_of, greatest_push}
 use Rattle.lane_ends.proofs.moments.greatest_with.Goals as goal
 

@@ -1,5 +1,5 @@
 use Rattle.worker_laws.specs.Members.{name_of}
-use Rattle.worker_laws.specs.Lanes.{lane_of}
+use Rattle.run_outcome.specs.Lanes.{lane_of}
 use Rattle.worker_laws.proofs.Parts.{same_parts}
 use Rattle.worker_laws.proofs.shares.parts_make_the_whole.Goals as goal
 

@@ -1,5 +1,5 @@
 use Rattle.std.proofs.Common.{◌≡◌, [], None, refl, sym, ◌∙◌}
-use Rattle.worker_laws.specs.Greatest.{greatest_from, greatest}
+use Rattle.run_outcome.specs.Greatest.{greatest_from, greatest}
 use Rattle.forward_stream.proofs.dispatch.Dealing.stream.Goals as goal
 
 none_yet : None ≡ greatest []

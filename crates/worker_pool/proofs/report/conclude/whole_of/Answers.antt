@@ -2,7 +2,7 @@ use Rattle.std.proofs.Common.{sym, ◌∙◌, arith}
 use Rattle.control_script.specs.Order.{commands_of}
 use Rattle.control_script.specs.Versions.{floor, ceil}
 use Rattle.lane_core.specs.Sight.{arrivals}
-use Rattle.worker_pool.specs.Run.{run_of}
+use Rattle.run_outcome.specs.Allowed.{run_of}
 use Rattle.worker_pool.specs.Ending.{by_key}
 use Rattle.worker_pool.proofs.Concluding.{is_whole, too_heavy, length-arrivals}
 use Rattle.worker_pool.proofs.report.conclude.whole_of.Goals as goal

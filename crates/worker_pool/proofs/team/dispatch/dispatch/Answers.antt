@@ -5,7 +5,7 @@ use Rattle.std.specs.Prelude.{IsErrOf}
 use Rattle.pcap_source.specs.declared.capture.Step.TheVariants.{Frame}
 use Rattle.pcap_source.specs.Reading.{NextGives}
 use Rattle.pcap_source.specs.declared.errors.NextError.TheVariants.{ReadFault}
-use Rattle.worker_laws.specs.Greatest.{greatest_from, greatest}
+use Rattle.run_outcome.specs.Greatest.{greatest_from, greatest}
 use Rattle.worker_pool.proofs.Reading.{same_error, read_none, read_more, read_tail, read_end, read_refused, read_cut}
 use Rattle.worker_pool.proofs.Source.{reads_well, reads_ill, no_value, no_error}
 use Rattle.worker_pool.proofs.team.dispatch.dispatch.Goals as goal

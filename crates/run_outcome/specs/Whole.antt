@@ -11,9 +11,9 @@ use Rattle.lane_core.specs.Sight.{Arrival}
 use Rattle.lane_core.specs.Records.{VersionedPacket, RecordSoFar, records, ended_at}
 use Rattle.lane_core.specs.Verdicts.{verdicts_from}
 use Rattle.lane_core.specs.Versions.{listed_from, versions_in}
-use Rattle.worker_laws.specs.Greatest.{greatest}
-use Rattle.worker_laws.specs.Lanes.{lane_of}
-use Rattle.worker_laws.specs.Rising.{NeverFalls}
+use Rattle.run_outcome.specs.Greatest.{greatest}
+use Rattle.run_outcome.specs.Lanes.{lane_of}
+use Rattle.run_outcome.specs.Rising.{NeverFalls}
 
 module _ (app : Meaning) (commands : List Command) where
   -- what is in force at each version: after the first so many commands
