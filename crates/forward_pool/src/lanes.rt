@@ -52,6 +52,53 @@ fn nothing_is_a_front(script: &Script)
 
 // Runs a team over an opened capture, reads that, and writes what the lanes let pass while it is read. Answers what the
 // dispatcher ended with, and the workers. An error is want of memory, before anything was read.
+fn stream_lent<
+    'a,
+    R: Threads + Wait + Sync + Send + Copy + Drop + 'static,
+    L: Recorder + Drop + Send,
+    S: Source,
+    O: Sink,
+    G: Gate + Sync,
+>(
+    context: &'a WorkerContext<'a, R, G>,
+    team: Team<L>,
+    dealing: &'a mut Dealing<L>,
+    capture: &'a mut Capture,
+    source: &'a mut S,
+    out: &'a mut O,
+) -> Result<(Result<Whole, PoolError>, Vec<Worker<L>>), AllocError>
+    requires opened { Opened capture.old }
+    requires team { CanRun L.Recorder context.now.script.now team.workers.items team.packets.items }
+    requires all_answers { AreLaneAnswers team.workers.items [] dealing.old.all_answers.items }
+    requires begins { Leaves (lane_at (length dealing.old.all_answers.items) []) 0
+        (taken_from dealing.old.all_answers.items) dealing.old.waiting (O.taken out.old) (O.taken out.old) }
+    requires places { HasPlaces dealing.old.waiting }
+    requires packets { dealing.old.packets ≡ 0 }
+    requires last { dealing.old.last ≡ None }
+    ensures served { IfOk result (λ r. Served L.Recorder context.now.script.now team.workers.items r.1.items
+        (λ frames. Streamed team.workers.items frames dealing.new.all_answers.items dealing.new.waiting
+        capture.old (S.left source.old) (S.left source.new) (O.taken out.old) (O.taken out.new) r.0)) }
+    ensures reads { IfOk result (λ r. ReadsOn S.Source capture.old source.old source.new (IsOk r.0)
+        (IsErrOf r.0 PoolError.ReadFault)) }
+    ensures writes { IfOk result (λ r. Writes O.Sink out.old out.new (IsErrOf r.0 PoolError.WriteFault)) }
+    ensures stopped { IfOk result (λ r. IsTrue capture.new.is_live
+        → ((r.0 ≡ Err PoolError.WriteFault) ⊎ (r.0 ≡ Err PoolError.NoMemory))
+        × GoesOn capture.old capture.new (S.left source.old) (S.left source.new)) }
+    ensures unchanged { IfErr result (λ _. (capture.new ≡ capture.old) × (source.new ≡ source.old)
+        × (out.new ≡ out.old)) }
+{
+    let mut feed = ForwardFeed {
+        context,
+        dealing,
+        capture,
+        source,
+        out,
+    };
+    let (read, workers) = run_team(context, team, &mut feed)?;
+    Ok((read, workers))
+}
+
+// The same, with a context that lives as long as the rest is lent.
 fn stream_team<
     R: Threads + Wait + Sync + Send + Copy + Drop + 'static,
     L: Recorder + Drop + Send,
@@ -86,15 +133,23 @@ fn stream_team<
     ensures unchanged { IfErr result (λ _. (capture.new ≡ capture.old) × (source.new ≡ source.old)
         × (out.new ≡ out.old)) }
 {
-    let mut feed = ForwardFeed {
-        context,
-        dealing,
-        capture,
-        source,
-        out,
+    let WorkerContext {
+        rt,
+        alloc,
+        script,
+        natives,
+        gate,
+        failed,
+    } = *context;
+    let shared = WorkerContext {
+        rt,
+        alloc,
+        script,
+        natives,
+        gate,
+        failed,
     };
-    let (read, workers) = run_team(context, team, &mut feed)?;
-    Ok((read, workers))
+    stream_lent(&shared, team, dealing, capture, source, out)
 }
 
 /// Runs an application over the packets of an opened capture, on several lanes, as `worker_pool::run_lanes` does, and

@@ -94,7 +94,8 @@ pub(crate) fn leave<R: Threads + Sync, L: Reporter + Drop + Send, O: Sink, G>(
         (start : CaptureState) (old new before : Option (List ℕ)) (rest : List ℕ)
         → length frames ≤ 1048576 → IsTeam L.Recorder app begins packets → AllKeep L.Recorder false begins
         → HaveServed L.Recorder context.now.script.now begins frames workers.items
-        → Streamed begins frames dealing.all_answers.items dealing.waiting start old new before (O.taken out.old) read → old ≡ Some rest
+        → Streamed begins frames dealing.all_answers.items dealing.waiting start old new before (O.taken out.old) read
+        → old ≡ Some rest
         → ForwardsOver app context.now.script.now (length begins) (frames_at start rest) before (O.taken out.new) result }
     ensures never_heavy { (app : Meaning) (frames : List Captured) (begins : List (Begun L))
         (packets : List (RingTx Packet))

@@ -1,14 +1,23 @@
-use Rattle.std.proofs.Common.{List, length, false, sym, subst, ◌∙◌}
+use Rattle.std.proofs.Common.{◌≡◌, ◌⊎◌, ℕ, List, length, false, refl, sym, ap, subst, ◌∙◌, inr}
+use Rattle.std.specs.Prelude.{Result, Ok, Err, IfErr, IsErr}
 use Rattle.std.proofs.lemmas.Result.{err_from_is_err_and, IfErr-weaker}
 use Rattle.pcap_source.specs.Reading.{frames_at}
 use Rattle.lane_core.specs.Run.{LaneEvent}
 use Rattle.lane_worker.specs.declared.worker.Worker.{Worker}
+use Rattle.worker_pool.specs.declared.job.PoolError.{PoolError}
+use Rattle.worker_pool.specs.declared.job.PoolError.TheVariants.{WriteFault}
+use Rattle.worker_pool.specs.declared.team.dispatch.Whole.{Whole}
 use Rattle.worker_pool.specs.Team.{HaveServed}
 use Rattle.worker_pool.specs.Ending.{CameTo}
 use Rattle.forward_stream.specs.Streamed.{StopsAs, lane_at, taken_from}
 use Rattle.forward_pool.specs.Explained.{AreGood, LeavesFront, LeavesAll}
 use Rattle.forward_pool.proofs.Exits.{came_after, never_too_heavy, are_beside, refused_as, leaves_now, cut_before, cut_at, stopped_at, over_at}
 use Rattle.forward_pool.proofs.leave.leave.Goals as goal
+
+told_fault : (read : Result Whole PoolError) (result : Result (List ℕ) PoolError) → result ≡ Err WriteFault
+    → IfErr read (λ e. (result ≡ Err e) ⊎ (result ≡ Err WriteFault))
+told_fault (Ok whole) result is = tt
+told_fault (Err e) result is = inr is
 
 pub drain-requires : goal.drain-requires
 drain-requires g c =
@@ -50,8 +59,16 @@ returns-in_err-write_ready-clause-ends g c app frames begins packets start old n
           (g.O.Sink.taken c.args.out.now) rest c.args.read served streamed c.drain.ensures.drained c.drain.ensures.offered law (c.is_write_fault.ensures.other c.if-is_write_fault.false))),
     )
 
-pub returns-in-Err-clause-ends : goal.returns-in-Err-clause-ends
-returns-in-Err-clause-ends g c app frames begins packets start old new before rest few team kept served streamed is =
+pub returns-in_err-write_ready-clause-error : goal.returns-in_err-write_ready-clause-error
+returns-in_err-write_ready-clause-error g c =
+    let p = err_from_is_err_and c.from_residual.result c.from_residual.ensures.1 in
+    told_fault c.args.read c.from_residual.result (p.1 ∙ ap Err p.2)
+
+pub returns-in_err-write_ready-clause-write_fault : goal.returns-in_err-write_ready-clause-write_fault
+returns-in_err-write_ready-clause-write_fault g c = λ fault. inr (c.write_ready.ensures.cause.failed (subst IsErr (sym c.in_err-write_ready.was) refl))
+
+pub returns-clause-ends : goal.returns-clause-ends
+returns-clause-ends g c app frames begins packets start old new before rest few team kept served streamed is =
     let script = c.args.context.now.script.now in
     let workers = c.args.workers.items in
     let all_answers = c.args.dealing.all_answers.items in
@@ -91,8 +108,8 @@ returns-in-Ok-clause-ends g c app frames begins packets start old new before res
     (λ lanes vs last came one may_have. c.versions_in.ensures.versions app script frames lanes vs last came one may_have)
     (λ lanes came. c.versions_in.ensures.no_memory app script frames lanes came)
 
-pub returns-in-Err-clause-never_heavy : goal.returns-in-Err-clause-never_heavy
-returns-in-Err-clause-never_heavy g c app frames begins packets start old new before few team kept served streamed =
+pub returns-clause-never_heavy : goal.returns-clause-never_heavy
+returns-clause-never_heavy g c app frames begins packets start old new before few team kept served streamed =
     never_too_heavy frames start old new c.in-Err.error (subst (StopsAs frames start old new) c.in-Err.is streamed.stops)
 
 pub returns-in-Ok-clause-never_heavy : goal.returns-in-Ok-clause-never_heavy

@@ -1,5 +1,5 @@
 use Rattle.std.proofs.Common.{◌≡◌, sym}
-use Rattle.forward_pool.proofs.lanes.stream_team.Goals as goal
+use Rattle.forward_pool.proofs.lanes.stream_lent.Goals as goal
 
 pub returns-clause-served : goal.returns-clause-served
 returns-clause-served g c =
