@@ -193,6 +193,15 @@ ceil_rises (s ∷ script) n = by s.stamp (ceil_rises script n)
     by Live rises = omega (arith, rises)
     by (At k) rises = ceil-cases k n (ceil script n) (ceil script (n + 1)) (nat_lt n k) (nat_lt (n + 1) k) refl refl rises
 
+-- a packet sees no more commands than there are
+pub ceil_within : (script : List Stamped) (n : ℕ) → ceil script n ≤ length script
+ceil_within [] n = omega arith
+ceil_within (s ∷ script) n = by (is_barred n s.stamp) (ceil_within script n)
+  where
+    by : (barred : Bool) → ceil script n ≤ length script → (if barred then 0 else suc (ceil script n)) ≤ length (s ∷ script)
+    by true within = omega arith
+    by false within = omega (arith, within)
+
 after-more : (last : Option ℕ) (n : ℕ) → IsAfter last n → IsAfter last (n + 1)
 after-more None n after = tt
 after-more (Some l) n after = omega (arith, after)

@@ -2,6 +2,7 @@
 
 ghost use Rattle.std.specs.Prelude.{◌≡◌, ◌≢◌, ◌+◌, ◌<◌, ◌≤◌, [], ◌∷◌, ◌++◌, List, length, true, None, Err, IsOk, OnOk, IfOk};
 ghost use Rattle.lane_core.specs.Records.{VersionedPacket, records, verdict_on};
+ghost use Rattle.control_script.specs.Versions.{ceil};
 ghost use Rattle.capture_replay.specs.Records.{control_at};
 ghost use Rattle.capture_replay.specs.Reading.{LaneIsUnder, LaneIsReady, LaneFollows, IsOver, packet_of};
 ghost use Rattle.capture_replay.specs.Runs.{MayRun};
@@ -48,6 +49,32 @@ fn give<L: Recorder>(
     Ok(())
 }
 
+// Gives the lane the commands that a packet may see. Where it has the whole script, nothing is looked up.
+fn catch_up<L: Recorder>(
+    alloc: Global,
+    script: &Script,
+    lane: &mut L,
+    number: u64,
+) -> Result<(), AllocError>
+    requires good { L.failed lane.old ≡ None }
+    requires lawful { MayRun (L.app lane.old) script.now }
+    requires under { LaneIsUnder L.Recorder script.now lane.old }
+    requires before { L.given lane.old ≤ ceil script.now number }
+    ensures good { IsOk result → L.failed lane.new ≡ None }
+    ensures given { IsOk result → L.given lane.new ≡ ceil script.now number }
+    ensures under { IsOk result → LaneIsUnder L.Recorder script.now lane.new }
+    ensures follows { IsOk result → (ps : List VersionedPacket)
+        → LaneFollows L.Recorder script.now lane.old ps → LaneFollows L.Recorder script.now lane.new ps }
+    ensures newest { L.last lane.new ≡ L.last lane.old }
+    ensures app { L.app lane.new ≡ L.app lane.old }
+    ensures keeps { L.keeps lane.new ≡ L.keeps lane.old }
+{
+    if lane.version() >= script.len() {
+        return Ok(());
+    }
+    give(alloc, script, lane, script.ceil(number))
+}
+
 /// One packet more, behind the commands up to its ceiling.
 ///
 /// An error is want of memory, or that the lane keeps entries and they weigh too much with this packet.
@@ -85,7 +112,7 @@ pub(crate) fn advance<L: Recorder>(
     one_event_more();
     later_commands_change_none();
     last_packet_is_added();
-    if give(alloc, script, lane, script.ceil(number)).is_err() {
+    if catch_up(alloc, script, lane, number).is_err() {
         return Err(LaneError::NoMemory);
     }
     lane.packet(alloc, number, frame, natives)
