@@ -14,7 +14,7 @@ mod advance;
 mod chosen;
 mod close;
 pub mod laws;
-pub mod output;
+mod output;
 mod plan;
 mod refusal;
 mod replay;

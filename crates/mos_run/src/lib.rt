@@ -14,11 +14,11 @@ mod ended;
 mod explained;
 mod gathered;
 mod refusal;
-pub mod run;
+mod run;
 mod script;
 mod telling;
 
-pub use capture_replay::{Output, ReplayError, laws, output, run_one};
+pub use capture_replay::{Output, ReplayError, laws, run_one};
 pub use ended::{Ended, refuse};
 pub use gathered::{GatheredRun, run_application, run_gathered};
 pub use refusal::{RunError, ScriptFault};
