@@ -191,10 +191,6 @@ const CASES: &[Case] = &[
     },
 ];
 
-/// The changes that the callbacks of one raise may ask: four at each of 255 registrations. Room for them is taken before
-/// the first callback, so that what one asks takes no memory.
-const MOST_CHANGES: usize = 4 * 255;
-
 /// What is kept of the connection, and which of its packets were dropped.
 #[derive(Drop)]
 struct Played {
@@ -416,8 +412,7 @@ fn plays(
             let has_followed = follow_all(alloc, terms, table, &mut played, &OPEN)
                 && follow_all(alloc, terms, table, &mut played, packets);
             let count = played.flow.count;
-            let has_room = played.ledger.changes.capacity() >= MOST_CHANGES;
-            has_followed && has_room && is_told(alloc, played, CONNECTION, version, count, report)
+            has_followed && is_told(alloc, played, CONNECTION, version, count, report)
         }
         Traffic::Orphan => {
             let kind = RecordKind::Orphan {
