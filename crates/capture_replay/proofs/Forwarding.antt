@@ -12,7 +12,7 @@ use Rattle.control_script.specs.Order.{commands_of, are_in_order}
 use Rattle.lane_core.specs.Sight.{arrivals}
 use Rattle.lane_core.specs.Records.{VersionedPacket}
 use Rattle.run_outcome.specs.Allowed.{MayHave}
-use Rattle.forward_pool.specs.Forward.{RefusedAs, ForwardsOver}
+use Rattle.forward_run.specs.Forward.{RefusedAs, ForwardsOver}
 use Rattle.worker_pool.specs.declared.job.PoolError.{PoolError}
 use Rattle.worker_pool.specs.declared.job.PoolError.TheVariants as Pool
 use Rattle.capture_replay.specs.declared.output.Output.{Output}

@@ -2,11 +2,11 @@
 
 ghost use Rattle.capture_replay.specs.Laws.{CeilingsMayBeHad, CeilingsAreOneWorkers, CeilingsForwardTheSame, OneListIsAllowed};
 
-use worker_laws::packets::packets_of_a_capture_rise;
-use worker_laws::runs::{
+use lane_composition::packets::packets_of_a_capture_rise;
+use lane_composition::runs::{
     a_run_has_its_versions, ceilings_are_allowed, without_live_commands_there_is_one_run,
 };
-use worker_laws::versions::a_script_gives_floors_and_ceilings;
+use lane_composition::versions::a_script_gives_floors_and_ceilings;
 
 /// The versions of a run with one worker, the ceiling of each record's first packet, may be had by any number of
 /// workers; and under them all write what one worker writes.

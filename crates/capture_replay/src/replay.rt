@@ -21,7 +21,7 @@ use crate::{Output, ReplayError, VersionList};
 use app_api::{App, Verdict};
 use lane_core::laws::{last_packet_is_added, weight_never_falls};
 use lane_core::{Lane, LaneError, Recorder, Reporter};
-use lane_ends::greatest_with;
+use lane_join::greatest_with;
 use mos_bytes::{Failed, Sink, Source};
 use pcap_source::{Capture, Frame, Step};
 use shared_forest::Table;

@@ -11,14 +11,14 @@
 #![tactic(auto)]
 
 mod connection;
-pub mod end;
-pub mod errors;
-pub mod lane;
+mod end;
+mod errors;
+mod lane;
 pub mod laws;
 pub mod limits;
-pub mod recorder;
+mod recorder;
 mod records;
-pub mod report;
+mod report;
 mod sides;
 mod terms;
 mod under_way;

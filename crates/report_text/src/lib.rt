@@ -10,16 +10,16 @@
 #![tactic(auto)]
 
 mod by_line;
-pub mod kept;
+mod kept;
 pub mod laws;
 mod lines;
 mod newline;
 mod read;
-pub mod record;
+mod record;
 mod short;
-pub mod tidy;
+mod tidy;
 mod words;
-pub mod write;
+mod write;
 
 pub use by_line::write_lines;
 pub use kept::{KeptRecord, write_kept};

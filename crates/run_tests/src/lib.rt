@@ -3,7 +3,7 @@
 //! side by side (`held_threads`), a command that may come at any moment (`live_commands`), as many packets as a capture may
 //! have (`many_packets`), and the line that tells a refusal (`refusals`).
 //!
-//! Crates tested: `mos_run`, and through it `capture_replay`, `forward_pool`, `forward_stream` and `shared_text`.
+//! Crates tested: `mos_run`, and through it `capture_replay`, `forward_run`, `forward_dispatch` and `parallel_report`.
 //! Begin with `runs`, which runs over any source and output; `traffic` and `watched` are what the others are given.
 #![tactic(auto)]
 

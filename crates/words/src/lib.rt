@@ -11,7 +11,7 @@ mod command;
 mod own;
 mod parse;
 mod read;
-pub mod settings;
+mod settings;
 mod usage;
 mod values;
 

@@ -9,7 +9,7 @@ use Rattle.lane_core.specs.declared.recorder.Recorder.{Ghosts}
 use Rattle.lane_core.specs.Sight.{Sight, sight_of}
 use Rattle.lane_core.specs.Run.{LaneEvent}
 use Rattle.run_outcome.specs.Lanes.{lane_of}
-use Rattle.worker_laws.specs.Taken.{events_at}
+use Rattle.lane_composition.specs.Taken.{events_at}
 use Rattle.lane_worker.specs.declared.worker.Worker.{Worker}
 use Rattle.lane_rings.specs.declared.items.Packet.{Packet}
 use Rattle.lane_rings.specs.declared.ring.RingTx.{RingTx}

@@ -19,12 +19,12 @@ use Rattle.lane_core.specs.KeptEnd.{IsKeptEnd, shown_as}
 use Rattle.lane_core.specs.Lane.{IsHeavy, IsHeavyAtEnd}
 use Rattle.control_script.specs.Order.{commands_of}
 use Rattle.control_script.specs.Versions.{floor, ceil}
-use Rattle.lane_ends.specs.declared.ends.Joined.{Joined}
-use Rattle.worker_laws.specs.Allowed.{arrivals_of}
+use Rattle.lane_join.specs.declared.ends.Joined.{Joined}
+use Rattle.lane_composition.specs.Allowed.{arrivals_of}
 use Rattle.run_outcome.specs.Greatest.{greatest}
-use Rattle.worker_laws.specs.Lanes.{share}
-use Rattle.worker_laws.specs.Ends.{AreEnds, IsJoined}
-use Rattle.worker_laws.specs.Taken.{events_at, packets_at, HaveRunAll, AreOneRun}
+use Rattle.lane_composition.specs.Lanes.{share}
+use Rattle.lane_composition.specs.Ends.{AreEnds, IsJoined}
+use Rattle.lane_composition.specs.Taken.{events_at, packets_at, HaveRunAll, AreOneRun}
 use Rattle.run_outcome.specs.Whole.{IsAllowedRun, run_under}
 use Rattle.lane_worker.specs.declared.worker.Worker.{Worker}
 use Rattle.worker_pool.specs.declared.job.KeptLanes.{KeptLanes}

@@ -11,7 +11,7 @@ use Rattle.control_script.specs.declared.stamped.Stamped.{Stamped}
 use Rattle.control_script.specs.Versions.{floor, ceil}
 use Rattle.lane_rings.specs.declared.items.Packet.{Packet}
 use Rattle.lane_core.specs.Sight.{Arrival, arrivals, arrival_of, sight_of}
-use Rattle.worker_laws.specs.Lanes.{share}
+use Rattle.lane_composition.specs.Lanes.{share}
 use Rattle.run_outcome.specs.Lanes.{lane_of as lane_by}
 use Rattle.worker_pool.specs.Sent.{sent_as, packets_from, lane_of, dealt}
 use Rattle.lane_worker.specs.Steps.{is_behind}

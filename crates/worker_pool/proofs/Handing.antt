@@ -9,7 +9,7 @@ use Rattle.forest_versions.specs.declared.command.Command.{Command}
 use Rattle.lane_rings.specs.declared.items.Packet.{Packet}
 use Rattle.lane_core.specs.Sight.{Arrival, arrival_of}
 use Rattle.lane_core.specs.Run.{versioned_from}
-use Rattle.worker_laws.specs.Allowed.{arrivals_of, IsWithin as IsAllowedAt}
+use Rattle.lane_composition.specs.Allowed.{arrivals_of, IsWithin as IsAllowedAt}
 use Rattle.lane_worker.specs.Steps.{Step, Took, Handed, Turn, is_behind, fits, steps_of, events_of, AreWithin}
 
 -- the packets that were handed over

@@ -15,11 +15,11 @@ use Rattle.lane_core.specs.declared.recorder.Recorder.{Ghosts}
 use Rattle.lane_core.specs.Sight.{arrivals, sight_of}
 use Rattle.lane_core.specs.Run.{LaneEvent, versioned_from, commands_of as given_in}
 use Rattle.lane_core.specs.Lane.{IsHeavy}
-use Rattle.worker_laws.specs.Allowed.{arrivals_of, IsWithin}
-use Rattle.worker_laws.specs.Lanes.{share}
+use Rattle.lane_composition.specs.Allowed.{arrivals_of, IsWithin}
+use Rattle.lane_composition.specs.Lanes.{share}
 use Rattle.run_outcome.specs.Lanes.{lane_of}
-use Rattle.worker_laws.specs.Taken.{verdicts_in}
-use Rattle.worker_laws.specs.Streamed.{answers_to}
+use Rattle.lane_composition.specs.Taken.{verdicts_in}
+use Rattle.lane_composition.specs.Streamed.{answers_to}
 use Rattle.lane_worker.specs.declared.worker.Worker.{Worker}
 use Rattle.lane_worker.specs.Steps.{Step, steps_of, events_of, answers_of, AreWithin}
 use Rattle.lane_worker.specs.Worked.{Ran, Sends, at_hand}

@@ -6,8 +6,8 @@ use Rattle.pcap_source.specs.Captured.{Captured}
 use Rattle.lane_rings.specs.declared.items.Answer.{Answer}
 use Rattle.lane_core.specs.declared.recorder.Recorder.{Ghosts}
 use Rattle.lane_core.specs.Run.{LaneEvent}
-use Rattle.worker_laws.specs.Taken.{events_at, verdicts_in}
-use Rattle.worker_laws.specs.Streamed.{answers_to}
+use Rattle.lane_composition.specs.Taken.{events_at, verdicts_in}
+use Rattle.lane_composition.specs.Streamed.{answers_to}
 use Rattle.lane_worker.specs.declared.worker.Worker.{Worker}
 use Rattle.lane_worker.specs.Worked.{Sends}
 

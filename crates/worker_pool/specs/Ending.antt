@@ -14,11 +14,11 @@ use Rattle.lane_core.specs.Sight.{Moment, arrivals}
 use Rattle.lane_core.specs.Run.{LaneEvent, ended_run}
 use Rattle.lane_core.specs.KeptEnd.{IsKeptEnd, shown_as}
 use Rattle.lane_core.specs.Lane.{IsHeavy, IsHeavyAtEnd}
-use Rattle.lane_ends.specs.declared.ends.Joined.{Joined}
-use Rattle.worker_laws.specs.Allowed.{arrivals_of}
-use Rattle.worker_laws.specs.Ends.{IsJoined}
-use Rattle.worker_laws.specs.Lanes.{share}
-use Rattle.worker_laws.specs.Taken.{packets_at, events_at, HaveRun}
+use Rattle.lane_join.specs.declared.ends.Joined.{Joined}
+use Rattle.lane_composition.specs.Allowed.{arrivals_of}
+use Rattle.lane_composition.specs.Ends.{IsJoined}
+use Rattle.lane_composition.specs.Lanes.{share}
+use Rattle.lane_composition.specs.Taken.{packets_at, events_at, HaveRun}
 use Rattle.lane_worker.specs.declared.worker.Worker.{Worker}
 use Rattle.worker_pool.specs.declared.job.KeptLanes.{KeptLanes}
 use Rattle.worker_pool.specs.declared.job.PoolError.{PoolError}

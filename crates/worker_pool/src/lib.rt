@@ -15,9 +15,9 @@
 mod job;
 mod report;
 pub mod team;
-pub mod versions;
+mod versions;
 
 pub use job::{Job, KeptLanes, LanesEnd, PoolError};
 pub use lane_worker::{Gate, OpenGate, WorkerContext};
 pub use report::lanes::{run_lanes, run_lanes_kept};
-pub use versions::VersionList;
+pub use versions::{VersionList, versions_of};

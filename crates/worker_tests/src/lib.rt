@@ -2,7 +2,7 @@
 //! one for which memory is refused (`failing`), rings and the resequencer (`rings`), a worker (`workers`), what lanes end with
 //! (`merging`), and whole captures on several lanes, whose ends are the same whatever the number of lanes (`several`).
 //!
-//! Crates tested: `lane_core`, `lane_rings`, `lane_worker`, `lane_ends`, `worker_pool`.
+//! Crates tested: `lane_core`, `lane_rings`, `lane_worker`, `lane_join`, `worker_pool`.
 //! Begin with `lanes`; `frames` and `plain` are what the others are given.
 #![tactic(auto)]
 

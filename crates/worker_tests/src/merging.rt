@@ -3,7 +3,7 @@
 use app_api::{DropList, Tally};
 use connection_core::Notes;
 use lane_core::{KeptEnd, KeptRecords, RecordUnderWay};
-use lane_ends::{Joined, join};
+use lane_join::{Joined, join};
 use packet_views::Class;
 use report_text::RecordKind;
 use std::alloc::{AllocError, Global};

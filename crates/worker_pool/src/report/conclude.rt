@@ -9,7 +9,7 @@ ghost use Rattle.lane_rings.specs.declared.ring.RingTx.{RingTx};
 ghost use Rattle.lane_core.specs.KeptEnd.{shown_as};
 ghost use Rattle.lane_core.specs.Sight.{arrivals};
 ghost use Rattle.run_outcome.specs.Greatest.{greatest};
-ghost use Rattle.worker_laws.specs.Ends.{IsJoined};
+ghost use Rattle.lane_composition.specs.Ends.{IsJoined};
 ghost use Rattle.lane_worker.specs.declared.worker.Worker.{Worker as Begun};
 ghost use Rattle.run_outcome.specs.Allowed.{MayHave, run_of};
 ghost use Rattle.worker_pool.specs.Team.{IsTeam, AllKeep, HaveServed};
@@ -22,13 +22,13 @@ use crate::versions::versions_of;
 use flow_timers::Moment;
 use lane_core::Reporter;
 use lane_core::limits::WEIGHT as WEIGHT_LIMIT;
-use lane_ends::{Joined, join};
+use lane_join::{Joined, join};
 use lane_worker::{Worker, WorkerContext};
 use report_text::Totals;
 use std::alloc::Global;
 use std::thread::Threads;
-use worker_laws::packets::packets_of_a_capture_rise;
-use worker_laws::runs::{
+use lane_composition::packets::packets_of_a_capture_rise;
+use lane_composition::runs::{
     a_heavy_lane_makes_a_heavy_run, a_run_has_its_versions, counts_of_a_run_fit, lanes_are_one_run,
 };
 

@@ -13,7 +13,7 @@ use flow_table::lane_of;
 use flow_timers::Moment;
 use ip6_views::{Sight, key_between, sight_of};
 use lane_core::Recorder;
-use lane_ends::greatest_with;
+use lane_join::greatest_with;
 use lane_rings::{Packet, PacketRx};
 use lane_worker::{Gate, WorkerContext};
 use mos_bytes::Source;

@@ -21,8 +21,8 @@ use native_filters::NativeBook;
 use std::alloc::{AllocError, Global};
 use std::thread;
 use std::thread::Threads;
-use worker_laws::packets::packets_go_to_lanes;
-use worker_laws::versions::a_script_gives_floors_and_ceilings;
+use lane_composition::packets::packets_go_to_lanes;
+use lane_composition::versions::a_script_gives_floors_and_ceilings;
 
 /// The lanes of workers that have served a capture share its packets, under the commands of the script, and have
 /// answered them. This function does nothing: who ends the lanes calls it for what it says.

@@ -1,0 +1,167 @@
+use denote.Exit.{yes}
+use denote.Param.{copied}
+use denote.Param.Send.{param_send, arg_send}
+use Rattle.std.proofs.Common.{◌∙◌, [], List, refl, sym, ap, subst, inl, inr, Err, length, ⊎_elim, arith}
+use Rattle.std.proofs.lemmas.Result.{err_from_is_err_and}
+use Rattle.std.specs.Prelude.{IsErrOf}
+use Rattle.mos_bytes.specs.Outside.{Writes}
+use Rattle.pcap_source.specs.Reading.{frames_at}
+use Rattle.shared_forest.proofs.store_user.StoreUser.TheSendSync as user
+use Rattle.shared_forest.specs.contracts.store_user.StoreUserForestView.TheImpl as view
+use Rattle.lane_core.proofs.Handed.{lane_send}
+use Rattle.worker_pool.specs.declared.job.PoolError.TheVariants.{WriteFault}
+use Rattle.forward_run.specs.Forward.{ForwardsOver}
+use Rattle.forward_dispatch.specs.declared.lane_answers.LaneAnswers.{LaneAnswers}
+use Rattle.forward_dispatch.specs.Streamed.{AreLaneAnswers, Leaves, lane_at, taken_from}
+use Rattle.forward_run.proofs.Stopping.{unread, told_last}
+use Rattle.forward_run.proofs.Forwarding.{run_begins, ended_early, no_fault_early, read_all, rose_before, rose_after}
+use Rattle.worker_pool.proofs.Source.{reads_less, reads_nothing}
+use Rattle.forward_run.proofs.lanes.forward_lanes.Goals as goal
+
+pub stream_team-requires-send-L : goal.stream_team-requires-send-L
+stream_team-requires-send-L g c κs within =
+    let lane = lane_send _ _ (view.ghosts (copied 0 g.row.R)) c.type_bounds.send-A (user.the_send _ c.type_bounds.send-R) in
+    param_send 1 _ (arg_send _ yes _ lane)
+
+pub leave-requires-send-L : goal.leave-requires-send-L
+leave-requires-send-L g c κs within =
+    let lane = lane_send _ _ (view.ghosts (copied 0 g.row.R)) c.type_bounds.send-A (user.the_send _ c.type_bounds.send-R) in
+    param_send 1 _ (arg_send _ yes _ lane)
+
+pub stream_team-requires-clause-all_answers : goal.stream_team-requires-clause-all_answers
+stream_team-requires-clause-all_answers g c κs within =
+    subst (λ (a : List LaneAnswers). AreLaneAnswers c.in_ok-team.team.workers.items [] a) (sym c.in_ok-dealing.ensures.answers) c.in_ok-team.ensures.all_answers.all_answers_are
+
+pub stream_team-requires-clause-begins : goal.stream_team-requires-clause-begins
+stream_team-requires-clause-begins g c κs within =
+    let all_answers = c.in_ok-team.all_answers.items in
+    let waiting = c.in_ok-dealing.dealing.waiting in
+    let out = g.O.Sink.taken c.args.out.now in
+    subst (λ (a : List LaneAnswers). Leaves (lane_at (length a) []) 0 (taken_from a) waiting out out) (sym c.in_ok-dealing.ensures.answers)
+    (run_begins c.in_ok-team.team.workers.items all_answers waiting out c.in_ok-team.ensures.all_answers
+    (c.beginning_is_right.ensures.keeps (lane_at (length all_answers) []) waiting 4096 c.in_ok-dealing.ensures.next c.in_ok-dealing.ensures.window))
+
+pub returns-in_err-dealing-clause-forwards : goal.returns-in_err-dealing-clause-forwards
+returns-in_err-dealing-clause-forwards g c = λ rest is.
+    let p = err_from_is_err_and c.from_residual-in_err-dealing.result c.from_residual-in_err-dealing.ensures.1 in
+    let app = g.A.App.meaning c.args.job.now.app in
+    let f = frames_at c.args.capture.now rest in
+    ended_early app c.args.job.now.script.now c.args.job.now.workers f (g.O.Sink.taken c.args.out.now) c.from_residual-in_err-dealing.result (p.1 ∙ ap Err p.2)
+    (c.nothing_is_a_front.ensures.front app c.args.job.now.workers f.frames (g.O.Sink.taken c.args.out.now))
+
+pub returns-in_err-read-clause-forwards : goal.returns-in_err-read-clause-forwards
+returns-in_err-read-clause-forwards g c = λ rest is.
+    let p = err_from_is_err_and c.from_residual-in_err-read.result c.from_residual-in_err-read.ensures.1 in
+    let app = g.A.App.meaning c.args.job.now.app in
+    let f = frames_at c.args.capture.now rest in
+    subst (λ (o : g.row.O.Denot). ForwardsOver app c.args.job.now.script.now c.args.job.now.workers f (g.O.Sink.taken c.args.out.now) (g.O.Sink.taken o) c.from_residual-in_err-read.result)
+    (sym c.in_err-read.ensures.unchanged.2)
+    (ended_early app c.args.job.now.script.now c.args.job.now.workers f (g.O.Sink.taken c.args.out.now) c.from_residual-in_err-read.result (p.1 ∙ ap Err p.2)
+    (c.nothing_is_a_front.ensures.front app c.args.job.now.workers f.frames (g.O.Sink.taken c.args.out.now)))
+
+pub returns-clause-forwards : goal.returns-clause-forwards
+returns-clause-forwards g c = λ rest is.
+    let app = g.A.App.meaning c.args.job.now.app in
+    let script = c.args.job.now.script.now in
+    let s = c.in_ok-read.ensures.served in
+    let over = c.leave.ensures.ends app s.frames c.in_ok-team.team.workers.items c.in_ok-team.team.packets.items c.args.capture.now
+    (g.S.Source.left c.args.source.now) (g.S.Source.left c.stream_team.new.source) (g.O.Sink.taken c.args.out.now) rest
+    s.few c.in_ok-team.ensures.team c.in_ok-team.ensures.keep s.served s.done is in
+    subst (λ n. ForwardsOver app script n (frames_at c.args.capture.now rest) (g.O.Sink.taken c.args.out.now) (g.O.Sink.taken c.leave.new.out) c.leave.result) c.in_ok-team.ensures.count over
+
+pub returns-clause-read : goal.returns-clause-read
+returns-clause-read g c = λ ok rest is.
+    let s = c.in_ok-read.ensures.served in
+    read_all s.frames c.args.capture.now (g.S.Source.left c.args.source.now) (g.S.Source.left c.stream_team.new.source) c.in_ok-read.read (c.leave.ensures.ok ok) s.done.stops rest is
+
+pub returns-clause-reads : goal.returns-clause-reads
+returns-clause-reads g c =
+    reads_less g.S.Source c.args.capture.now c.args.source.now c.stream_team.new.source c.leave.ensures.ok c.leave.ensures.read_fault c.in_ok-read.ensures.reads
+
+pub returns-clause-writes : goal.returns-clause-writes
+returns-clause-writes g c =
+    let before = c.in_ok-read.ensures.writes in
+    let then = c.leave.ensures.counts in
+    record {
+      cause = record {
+        later = let e = before.cause.later in omega (arith, e, then);
+        cause = λ fault. ⊎_elim
+            (λ told. rose_before (g.O.Sink.faults c.args.out.now) (g.O.Sink.faults c.stream_team.new.out) (g.O.Sink.faults c.leave.new.out) (before.cause.cause told) then)
+            (λ rose. rose_after (g.O.Sink.faults c.args.out.now) (g.O.Sink.faults c.stream_team.new.out) (g.O.Sink.faults c.leave.new.out) before.cause.later rose)
+            (c.leave.ensures.write_fault fault);
+      };
+      lasts = c.leave.ensures.lasts ∙ before.lasts;
+    }
+
+pub returns-in_err-dealing-clause-never_heavy : goal.returns-in_err-dealing-clause-never_heavy
+returns-in_err-dealing-clause-never_heavy g c =
+    let p = err_from_is_err_and c.from_residual-in_err-dealing.result c.from_residual-in_err-dealing.ensures.1 in
+    rw (p.1, p.2) (λ is. cc)
+
+pub returns-in_err-read-clause-never_heavy : goal.returns-in_err-read-clause-never_heavy
+returns-in_err-read-clause-never_heavy g c =
+    let p = err_from_is_err_and c.from_residual-in_err-read.result c.from_residual-in_err-read.ensures.1 in
+    rw (p.1, p.2) (λ is. cc)
+
+pub returns-clause-never_heavy : goal.returns-clause-never_heavy
+returns-clause-never_heavy g c =
+    let s = c.in_ok-read.ensures.served in
+    c.leave.ensures.never_heavy (g.A.App.meaning c.args.job.now.app) s.frames c.in_ok-team.team.workers.items c.in_ok-team.team.packets.items c.args.capture.now
+    (g.S.Source.left c.args.source.now) (g.S.Source.left c.stream_team.new.source) (g.O.Sink.taken c.args.out.now)
+    s.few c.in_ok-team.ensures.team c.in_ok-team.ensures.keep s.served s.done
+
+pub returns-in_err-team-clause-stopped : goal.returns-in_err-team-clause-stopped
+returns-in_err-team-clause-stopped g c = λ live.
+    let p = err_from_is_err_and c.from_residual.result c.from_residual.ensures.1 in
+    (inr (p.1 ∙ ap Err p.2), unread c.args.capture.now (g.S.Source.left c.args.source.now) c.requires.opened.count)
+
+pub returns-in_err-dealing-clause-stopped : goal.returns-in_err-dealing-clause-stopped
+returns-in_err-dealing-clause-stopped g c = λ live.
+    let p = err_from_is_err_and c.from_residual-in_err-dealing.result c.from_residual-in_err-dealing.ensures.1 in
+    (inr (p.1 ∙ ap Err p.2), unread c.args.capture.now (g.S.Source.left c.args.source.now) c.requires.opened.count)
+
+pub returns-in_err-read-clause-stopped : goal.returns-in_err-read-clause-stopped
+returns-in_err-read-clause-stopped g c = λ live.
+    let p = err_from_is_err_and c.from_residual-in_err-read.result c.from_residual-in_err-read.ensures.1 in
+    let same = c.in_err-read.ensures.unchanged in
+    (inr (p.1 ∙ ap Err p.2), rw (same.0, same.1) (unread c.args.capture.now (g.S.Source.left c.args.source.now) c.requires.opened.count))
+
+pub returns-clause-stopped : goal.returns-clause-stopped
+returns-clause-stopped g c = λ live.
+    let stopped = c.in_ok-read.ensures.stopped live in
+    (told_last c.in_ok-read.read c.leave.result stopped.0 c.leave.ensures.error, stopped.1)
+
+pub returns-in_err-team-clause-reads : goal.returns-in_err-team-clause-reads
+returns-in_err-team-clause-reads g c =
+    let p = err_from_is_err_and c.from_residual.result c.from_residual.ensures.1 in
+    reads_less g.S.Source c.args.capture.now c.args.source.now c.args.source.now inl (λ fault. fault)
+    (reads_nothing g.S.Source c.args.capture.now c.args.source.now c.args.source.now c.from_residual.result (p.1 ∙ ap Err p.2) refl)
+
+pub returns-in_err-team-clause-writes : goal.returns-in_err-team-clause-writes
+returns-in_err-team-clause-writes g c =
+    let p = err_from_is_err_and c.from_residual.result c.from_residual.ensures.1 in
+    record { cause = no_fault_early (g.O.Sink.faults c.args.out.now) WriteFault c.from_residual.result (p.1 ∙ ap Err p.2) (λ e. cc); lasts = refl }
+
+pub returns-in_err-dealing-clause-reads : goal.returns-in_err-dealing-clause-reads
+returns-in_err-dealing-clause-reads g c =
+    let p = err_from_is_err_and c.from_residual-in_err-dealing.result c.from_residual-in_err-dealing.ensures.1 in
+    reads_less g.S.Source c.args.capture.now c.args.source.now c.args.source.now inl (λ fault. fault)
+    (reads_nothing g.S.Source c.args.capture.now c.args.source.now c.args.source.now c.from_residual-in_err-dealing.result (p.1 ∙ ap Err p.2) refl)
+
+pub returns-in_err-dealing-clause-writes : goal.returns-in_err-dealing-clause-writes
+returns-in_err-dealing-clause-writes g c =
+    let p = err_from_is_err_and c.from_residual-in_err-dealing.result c.from_residual-in_err-dealing.ensures.1 in
+    record { cause = no_fault_early (g.O.Sink.faults c.args.out.now) WriteFault c.from_residual-in_err-dealing.result (p.1 ∙ ap Err p.2) (λ e. cc); lasts = refl }
+
+pub returns-in_err-read-clause-reads : goal.returns-in_err-read-clause-reads
+returns-in_err-read-clause-reads g c =
+    let p = err_from_is_err_and c.from_residual-in_err-read.result c.from_residual-in_err-read.ensures.1 in
+    reads_less g.S.Source c.args.capture.now c.args.source.now c.stream_team.new.source inl (λ fault. fault)
+    (reads_nothing g.S.Source c.args.capture.now c.args.source.now c.stream_team.new.source c.from_residual-in_err-read.result (p.1 ∙ ap Err p.2) (sym c.in_err-read.ensures.unchanged.1))
+
+pub returns-in_err-read-clause-writes : goal.returns-in_err-read-clause-writes
+returns-in_err-read-clause-writes g c =
+    let p = err_from_is_err_and c.from_residual-in_err-read.result c.from_residual-in_err-read.ensures.1 in
+    let same = c.in_err-read.ensures.unchanged.2 in
+    subst (λ (o : g.row.O.Denot). Writes g.O.Sink c.args.out.now o (IsErrOf c.from_residual-in_err-read.result WriteFault)) (sym same)
+    (record { cause = no_fault_early (g.O.Sink.faults c.args.out.now) WriteFault c.from_residual-in_err-read.result (p.1 ∙ ap Err p.2) (λ e. cc); lasts = refl })

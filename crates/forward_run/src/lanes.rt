@@ -1,0 +1,215 @@
+//! A forward run on several lanes.
+
+ghost use Rattle.std.specs.Prelude.{◌≡◌, ◌≢◌, ◌≤◌, ◌⊎◌, [], ℕ, List, Option, None, Some, Err, length, IsOk, IsTrue, IsErrOf, IfOk, IfErr};
+ghost use Rattle.mos_bytes.specs.Outside.{Writes};
+ghost use Rattle.pcap_source.specs.Captured.{Captured};
+ghost use Rattle.pcap_source.specs.Reading.{Opened, frames_at};
+ghost use Rattle.app_api.specs.App.{Meaning};
+ghost use Rattle.forest_versions.specs.Lawful.{are_lawful};
+ghost use Rattle.forest_versions.specs.State.{start};
+ghost use Rattle.control_script.specs.Order.{commands_of};
+ghost use Rattle.worker_pool.specs.GoesOn.{GoesOn};
+ghost use Rattle.worker_pool.specs.AtWork.{CanRun, Served};
+ghost use Rattle.worker_pool.specs.Source.{IsReadWhole, ReadsOn};
+ghost use Rattle.forward_dispatch.specs.OnTheirWay.{HasPlaces};
+ghost use Rattle.forward_dispatch.specs.Streamed.{AreLaneAnswers, Leaves, Streamed, lane_at, taken_from};
+ghost use Rattle.forward_run.specs.Forward.{ForwardsFront, ForwardsOver};
+
+use crate::feed::ForwardFeed;
+use crate::leave::leave;
+use crate::make::make_forward_team;
+use app_api::App;
+use control_script::Script;
+use forward_dispatch::Dealing;
+use lane_core::Recorder;
+use lane_worker::{Gate, Worker, WorkerContext};
+use mos_bytes::{Sink, Source};
+use native_filters::NativeBook;
+use pcap_source::Capture;
+use std::alloc::{AllocError, Global};
+use std::sync::Wait;
+use std::sync::atomic::AtomicBool;
+use std::thread::Threads;
+use lane_composition::forward::beginning_is_right;
+use lane_composition::packets::packets_of_a_capture_rise;
+use lane_composition::runs::ceilings_are_allowed;
+use lane_composition::versions::a_script_gives_floors_and_ceilings;
+use worker_pool::team::dispatch::Whole;
+use worker_pool::team::{Team, run_team};
+use worker_pool::{Job, PoolError, VersionList};
+
+// A run that has written nothing has written a front of what it may write. This function does nothing: who ends a run
+// before it has begun calls it for what it says.
+fn nothing_is_a_front(script: &Script)
+    ensures front { (app : Meaning) (lanes : ℕ) (frames : List Captured) (before : Option (List ℕ))
+        → ForwardsFront app script.now lanes frames before before }
+{
+    let _commands = script.len();
+    a_script_gives_floors_and_ceilings();
+    packets_of_a_capture_rise();
+    ceilings_are_allowed();
+}
+
+// Runs a team over an opened capture, reads that, and writes what the lanes let pass while it is read. Answers what the
+// dispatcher ended with, and the workers. An error is want of memory, before anything was read.
+fn stream_lent<
+    'a,
+    R: Threads + Wait + Sync + Send + Copy + Drop + 'static,
+    L: Recorder + Drop + Send,
+    S: Source,
+    O: Sink,
+    G: Gate + Sync,
+>(
+    context: &'a WorkerContext<'a, R, G>,
+    team: Team<L>,
+    dealing: &'a mut Dealing<L>,
+    capture: &'a mut Capture,
+    source: &'a mut S,
+    out: &'a mut O,
+) -> Result<(Result<Whole, PoolError>, Vec<Worker<L>>), AllocError>
+    requires opened { Opened capture.old }
+    requires team { CanRun L.Recorder context.now.script.now team.workers.items team.packets.items }
+    requires all_answers { AreLaneAnswers team.workers.items [] dealing.old.all_answers.items }
+    requires begins { Leaves (lane_at (length dealing.old.all_answers.items) []) 0
+        (taken_from dealing.old.all_answers.items) dealing.old.waiting (O.taken out.old) (O.taken out.old) }
+    requires places { HasPlaces dealing.old.waiting }
+    requires packets { dealing.old.packets ≡ 0 }
+    requires last { dealing.old.last ≡ None }
+    ensures served { IfOk result (λ r. Served L.Recorder context.now.script.now team.workers.items r.1.items
+        (λ frames. Streamed team.workers.items frames dealing.new.all_answers.items dealing.new.waiting
+        capture.old (S.left source.old) (S.left source.new) (O.taken out.old) (O.taken out.new) r.0)) }
+    ensures reads { IfOk result (λ r. ReadsOn S.Source capture.old source.old source.new (IsOk r.0)
+        (IsErrOf r.0 PoolError.ReadFault)) }
+    ensures writes { IfOk result (λ r. Writes O.Sink out.old out.new (IsErrOf r.0 PoolError.WriteFault)) }
+    ensures stopped { IfOk result (λ r. IsTrue capture.new.is_live
+        → ((r.0 ≡ Err PoolError.WriteFault) ⊎ (r.0 ≡ Err PoolError.NoMemory))
+        × GoesOn capture.old capture.new (S.left source.old) (S.left source.new)) }
+    ensures unchanged { IfErr result (λ _. (capture.new ≡ capture.old) × (source.new ≡ source.old)
+        × (out.new ≡ out.old)) }
+{
+    let mut feed = ForwardFeed {
+        context,
+        dealing,
+        capture,
+        source,
+        out,
+    };
+    let (read, workers) = run_team(context, team, &mut feed)?;
+    Ok((read, workers))
+}
+
+// The same, with a context that lives as long as the rest is lent.
+fn stream_team<
+    R: Threads + Wait + Sync + Send + Copy + Drop + 'static,
+    L: Recorder + Drop + Send,
+    S: Source,
+    O: Sink,
+    G: Gate + Sync,
+>(
+    context: &WorkerContext<'_, R, G>,
+    team: Team<L>,
+    dealing: &mut Dealing<L>,
+    capture: &mut Capture,
+    source: &mut S,
+    out: &mut O,
+) -> Result<(Result<Whole, PoolError>, Vec<Worker<L>>), AllocError>
+    requires opened { Opened capture.old }
+    requires team { CanRun L.Recorder context.now.script.now team.workers.items team.packets.items }
+    requires all_answers { AreLaneAnswers team.workers.items [] dealing.old.all_answers.items }
+    requires begins { Leaves (lane_at (length dealing.old.all_answers.items) []) 0
+        (taken_from dealing.old.all_answers.items) dealing.old.waiting (O.taken out.old) (O.taken out.old) }
+    requires places { HasPlaces dealing.old.waiting }
+    requires packets { dealing.old.packets ≡ 0 }
+    requires last { dealing.old.last ≡ None }
+    ensures served { IfOk result (λ r. Served L.Recorder context.now.script.now team.workers.items r.1.items
+        (λ frames. Streamed team.workers.items frames dealing.new.all_answers.items dealing.new.waiting
+        capture.old (S.left source.old) (S.left source.new) (O.taken out.old) (O.taken out.new) r.0)) }
+    ensures reads { IfOk result (λ r. ReadsOn S.Source capture.old source.old source.new (IsOk r.0)
+        (IsErrOf r.0 PoolError.ReadFault)) }
+    ensures writes { IfOk result (λ r. Writes O.Sink out.old out.new (IsErrOf r.0 PoolError.WriteFault)) }
+    ensures stopped { IfOk result (λ r. IsTrue capture.new.is_live
+        → ((r.0 ≡ Err PoolError.WriteFault) ⊎ (r.0 ≡ Err PoolError.NoMemory))
+        × GoesOn capture.old capture.new (S.left source.old) (S.left source.new)) }
+    ensures unchanged { IfErr result (λ _. (capture.new ≡ capture.old) × (source.new ≡ source.old)
+        × (out.new ≡ out.old)) }
+{
+    let WorkerContext {
+        rt,
+        alloc,
+        script,
+        natives,
+        gate,
+        failed,
+    } = *context;
+    let shared = WorkerContext {
+        rt,
+        alloc,
+        script,
+        natives,
+        gate,
+        failed,
+    };
+    stream_lent(&shared, team, dealing, capture, source, out)
+}
+
+/// Runs an application over the packets of an opened capture, on several lanes, as `worker_pool::run_lanes` does, and
+/// writes the records whose packets pass while the capture is read, in its order and each once. Answers the version of each
+/// record, in order of name.
+///
+/// At most 4,096 packets are on their way between the capture and the output. At an error a front of what was to be
+/// written was written; where that is a fault of writing or want of memory, the capture may still be live, and then
+/// goes on behind the records that were read. It asks a script that is lawful with the application's presets, and 1 to
+/// 16 lanes. It waits for its threads; a lane for which no thread can be started is run in this one, which is no error.
+pub fn forward_lanes<
+    R: Threads + Wait + Sync + Send + Copy + Drop + 'static,
+    A: App + Copy + Send + Sync + Drop,
+    S: Source,
+    O: Sink,
+    G: Gate + Sync,
+>(
+    rt: &R,
+    alloc: Global,
+    job: &Job<'_, A>,
+    capture: &mut Capture,
+    source: &mut S,
+    out: &mut O,
+    natives: &NativeBook,
+    gate: &G,
+) -> Result<VersionList, PoolError>
+    requires opened { Opened capture.old }
+    requires some { 1 ≤ job.now.workers }
+    requires most { job.now.workers ≤ 16 }
+    requires lawful { IsTrue (are_lawful (start (A.meaning job.now.app).presets) (commands_of job.now.script.now)) }
+    ensures forwards { (rest : List ℕ) → S.left source.old ≡ Some rest
+        → ForwardsOver (A.meaning job.now.app) job.now.script.now job.now.workers (frames_at capture.old rest)
+        (O.taken out.old) (O.taken out.new) result }
+    ensures read { IsOk result → IsReadWhole (S.left source.old) (S.left source.new) }
+
+    // It keeps no entries, so they never weigh too much.
+    ensures never_heavy { IfErr result (λ e. e ≢ PoolError.Heavy) }
+    ensures reads { ReadsOn S.Source capture.old source.old source.new (IsOk result)
+        (IsErrOf result PoolError.ReadFault) }
+    ensures writes { Writes O.Sink out.old out.new (IsErrOf result PoolError.WriteFault) }
+
+    // The capture may be read on only where a write failed or memory was refused: then it goes on behind the records
+    // read.
+    ensures stopped { IsTrue capture.new.is_live
+        → ((result ≡ Err PoolError.WriteFault) ⊎ (result ≡ Err PoolError.NoMemory))
+        × GoesOn capture.old capture.new (S.left source.old) (S.left source.new) }
+{
+    nothing_is_a_front(job.script);
+    beginning_is_right();
+    let (team, all_answers) = make_forward_team(rt, alloc, job)?;
+    let mut dealing = Dealing::new(alloc, all_answers)?;
+    let failed = AtomicBool::new(false);
+    let context = WorkerContext {
+        rt,
+        alloc,
+        script: job.script,
+        natives,
+        gate,
+        failed: &failed,
+    };
+    let (read, workers) = stream_team(&context, team, &mut dealing, capture, source, out)?;
+    leave(&context, workers, dealing, read, capture, out)
+}

@@ -1,5 +1,0 @@
-use Rattle.lane_ends.specs.Queues.{waiting, IsBest}
-use Rattle.lane_ends.proofs.merging.lowest.Given as goal
-
-abbrev pub invariant-loop-i : goal.invariant-loop-i
-invariant-loop-i l = IsBest l.best (waiting l.queues) l.i

@@ -1,9 +1,0 @@
-use Rattle.lane_core.specs.Sight.{sight_of}
-use Rattle.worker_laws.proofs.Dealt.{below, dealt}
-use Rattle.worker_laws.proofs.packets.packets_go_to_lanes.Goals as goal
-
-pub returns-clause-below : goal.returns-clause-below
-returns-clause-below c = λ lanes sight some. below lanes sight some
-
-pub returns-clause-frame : goal.returns-clause-frame
-returns-clause-frame c = λ lanes frame. dealt lanes (sight_of frame)

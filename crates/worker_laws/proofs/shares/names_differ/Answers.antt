@@ -1,9 +1,0 @@
-use Rattle.worker_laws.proofs.Rising.{names_rise}
-use Rattle.worker_laws.proofs.Composed.{names_apart}
-use Rattle.worker_laws.proofs.shares.names_differ.Goals as goal
-
-pub returns-clause-rise : goal.returns-clause-rise
-returns-clause-rise c = names_rise
-
-pub returns-clause-apart : goal.returns-clause-apart
-returns-clause-apart c = names_apart
