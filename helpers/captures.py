@@ -24,7 +24,7 @@ MAGICS = {
 }
 SECTION = b"\x0a\x0d\x0d\x0a"
 SECOND = 1_000_000_000
-PACKED = ((b"\x1f\x8b", "gzip"), (b"\xfd7zXZ\x00", "xz"), (b"\x28\xb5\x2f\xfd", "zstd"))
+COMPRESSED = ((b"\x1f\x8b", "gzip"), (b"\xfd7zXZ\x00", "xz"), (b"\x28\xb5\x2f\xfd", "zstd"))
 
 
 if signal.getsignal(signal.SIGINT) is signal.default_int_handler:
@@ -77,19 +77,19 @@ def feed(reader, pipe):
         pass
 
 
-def unpacked(reader):
+def decompressed(reader):
     """The reader of a capture, behind gzip, xz or zstd where its first bytes say so, and a call that ends it."""
     front = reader.peek(6)
-    for magic, tool in PACKED:
+    for magic, tool in COMPRESSED:
         if front.startswith(magic):
             if not shutil.which(tool):
-                raise Refused(f"it is packed by {tool}, which isn't installed")
+                raise Refused(f"it is compressed by {tool}, which isn't installed")
             process = subprocess.Popen([tool, "-dc"], stdin=subprocess.PIPE, stdout=subprocess.PIPE)
             threading.Thread(target=feed, args=(reader, process.stdin), daemon=True).start()
 
             def end():
                 if process.wait():
-                    raise Refused(f"{tool} couldn't unpack it")
+                    raise Refused(f"{tool} couldn't decompress it")
 
             return Reader(process.stdout.fileno(), reader.idle), end
     return reader, lambda: None
