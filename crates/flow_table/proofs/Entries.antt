@@ -1,5 +1,5 @@
 -- A flow table's entries, read as a finite map.
-use Rattle.std.proofs.Common.{◌≡◌, ◌+◌, ◌-◌, ◌<◌, ℕ, zero, suc, Bool, true, false, cond, refl, sym, ap, ◌∙◌, true≢false, List, [], ◌∷◌, ◌++◌, length, Option, None, Some, is_some, arith}
+use Rattle.std.proofs.Common.{◌≡◌, ◌+◌, ◌-◌, ℕ, zero, suc, Bool, true, false, cond, refl, sym, ap, ◌∙◌, true≢false, List, [], ◌∷◌, ◌++◌, Option, None, Some, is_some, arith}
 use Rattle.std.specs.FinMap as map
 use Rattle.std.specs.Option.{option_map}
 use Rattle.std.specs.FinMap.{find, get-empty, get-insert, get-remove, get-from_entries, len-insert, len-remove, empty_of_len, same_map}
@@ -17,7 +17,7 @@ use Rattle.flow_table.proofs.Keys.{keys_total, exact_keys, ties_key, eq_key}
 tied : (a b : EndpointPair) → eq_by_cmp key_cmp b a ≡ same_key a b
 tied a b = (eq_by_cmp_equiv keys_total).symm b a ∙ ties_key a b
 
-reflexive : (key : EndpointPair) → ends.eq key key ≡ true
+pub reflexive : (key : EndpointPair) → ends.eq key key ≡ true
 reflexive key = eq_key key key ∙ sym (ties_key key key) ∙ (eq_by_cmp_equiv keys_total).refl key
 
 module _ {T : Type 0} where
@@ -50,7 +50,7 @@ module _ {T : Type 0} where
   removed es fs key h = same_map keys_total exact_keys _ _ (λ q.
       found_is fs q ∙ h q ∙ (λ i. cond (eq_key key q i) None (sym (found_is es q) i)) ∙ sym (found-remove (map.from_entries es) key q))
 
-  none≢some : (v : T) → None ≡ Some v → ⊥
+  pub none≢some : (v : T) → None ≡ Some v → ⊥
   none≢some v e = true≢false (sym (ap is_some e))
 
   -- the map is one smaller without a key that was there
@@ -64,7 +64,7 @@ module _ {T : Type 0} where
       by zero e less = absurd (none≢some v (sym (get-empty key_cmp key) ∙ ap (λ m. found m key) (sym (empty_of_len flows e)) ∙ there))
       by (suc n) e less = omega arith
 
-  lookup_last : (test : EndpointPair → Bool) (es : List (EndpointPair × T)) (e : EndpointPair × T) → lookup test es ≡ None → test e.0 ≡ true → lookup test (es ++ e ∷ []) ≡ Some e.1
+  pub lookup_last : (test : EndpointPair → Bool) (es : List (EndpointPair × T)) (e : EndpointPair × T) → lookup test es ≡ None → test e.0 ≡ true → lookup test (es ++ e ∷ []) ≡ Some e.1
   lookup_last test [] e none last = ap (λ b. cond b (Some e.1) None) last
   lookup_last test (d ∷ es) e none last = by (test d.0) refl (λ rest. lookup_last test es e rest last)
     where
@@ -72,17 +72,6 @@ module _ {T : Type 0} where
       by true h later = absurd (none≢some d.1 (sym none ∙ ap (λ b. cond b (Some d.1) (lookup test es)) h))
       by false h later = ap (λ b. cond b (Some d.1) (lookup test (es ++ e ∷ []))) h
           ∙ later (sym (ap (λ b. cond b (Some d.1) (lookup test es)) h) ∙ none)
-
-  -- the last entry is found by its key, where no other entry has it
-  found_last : (es fs : List (EndpointPair × T)) (e : EndpointPair × T) → es ≡ fs ++ e ∷ [] → lookup (ends.eq e.0) fs ≡ None → found (map.from_entries es) e.0 ≡ Some e.1
-  found_last es fs e split none = found_is es e.0 ∙ ap (lookup (ends.eq e.0)) split ∙ lookup_last (ends.eq e.0) fs e none (reflexive e.0)
-
-  some_entries : (es : List (EndpointPair × T)) → map.from_entries {R = key_cmp} es ≡ map.empty → 0 < length es → ⊥
-  some_entries [] h more = omega arith
-  some_entries (e ∷ es) h more =
-      none≢some e.1 (sym (get-empty key_cmp e.0) ∙ ap (λ m. found m e.0) (sym h)
-      ∙ found-insert (map.from_entries es) e.0 e.1 e.0
-      ∙ ap (λ b. cond b (Some e.1) (found (map.from_entries es) e.0)) (sym (eq_key e.0 e.0) ∙ reflexive e.0))
 
 module _ {T : Type 0} where
   -- what a box holds, where there is one
@@ -116,19 +105,6 @@ module _ {T : Type 0} where
   pub removed_boxed : (es fs : List (EndpointPair × Box T)) (key : EndpointPair) → Differ es fs key None
       → map.from_entries {R = key_cmp} (unboxed fs) ≡ map.remove (map.from_entries (unboxed es)) key
   removed_boxed es fs key h = removed (unboxed es) (unboxed fs) key (differ_unboxed es fs key None h)
-
-  unboxed_append : (es fs : List (EndpointPair × Box T)) → unboxed (es ++ fs) ≡ unboxed es ++ unboxed fs
-  unboxed_append [] fs = refl
-  unboxed_append (e ∷ es) fs = ap (λ rest. (e.0, e.1.value) ∷ rest) (unboxed_append es fs)
-
-  pub found_last_boxed : (es fs : List (EndpointPair × Box T)) (e : EndpointPair × Box T) → es ≡ fs ++ e ∷ [] → lookup (ends.eq e.0) fs ≡ None
-      → found (map.from_entries (unboxed es)) e.0 ≡ Some e.1.value
-  found_last_boxed es fs e split none =
-      found_last (unboxed es) (unboxed fs) (e.0, e.1.value) (ap unboxed split ∙ unboxed_append fs (e ∷ [])) (lookup_unboxed (ends.eq e.0) fs ∙ ap held none)
-
-  pub some_entries_boxed : (es : List (EndpointPair × Box T)) → map.from_entries {R = key_cmp} (unboxed es) ≡ map.empty → 0 < length es → ⊥
-  some_entries_boxed [] h more = omega arith
-  some_entries_boxed (e ∷ es) h more = some_entries (unboxed (e ∷ es)) h (omega arith)
 
   -- a write into the box of a key puts the value at the key
   pub written : (box : Box T) (es fs : List (EndpointPair × Box T)) (key : EndpointPair) (w : T)

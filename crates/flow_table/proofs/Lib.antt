@@ -1,2 +1,4 @@
 pub mod Keys
 pub mod Entries
+pub mod Apart
+pub mod Lanes

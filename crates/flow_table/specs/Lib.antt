@@ -4,5 +4,6 @@ pub mod Lane
 pub mod Table
 pub mod Lends
 pub mod Hashing
+pub mod Pair
 pub use Rattle.packet_views.specs.Packet
 pub mod Laws

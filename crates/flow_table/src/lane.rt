@@ -1,6 +1,7 @@
 //! The lane that a key goes to.
 
 ghost use Rattle.std.specs.Prelude.{◌≡◌, ◌<◌, ◌≤◌};
+ghost use Rattle.flow_table.specs.Key.{key_between};
 ghost use Rattle.flow_table.specs.Lane.{mix_of, lane_of_key};
 
 use crate::endpoint::Endpoint;
@@ -35,5 +36,16 @@ pub fn lane_of(key: &Key, lanes: usize) -> usize
     ensures within { result < lanes }
 {
     let sum = mix(&key.lo).wrapping_add(mix(&key.hi));
+    (sum % lanes as u64) as usize
+}
+
+/// The lane of the key of two endpoints, in either order: the sum of two hashes doesn't ask which is lower, so no key is made.
+#[tactic(auto, using(crate::proofs::Lanes::lane_of_ends))]
+pub fn lane_between(a: &Endpoint, b: &Endpoint, lanes: usize) -> usize
+    requires some { 1 ≤ lanes }
+    ensures lane { result ≡ lane_of_key (key_between a.now b.now) lanes }
+    ensures within { result < lanes }
+{
+    let sum = mix(a).wrapping_add(mix(b));
     (sum % lanes as u64) as usize
 }

@@ -2,34 +2,41 @@
 
 ghost use Rattle.std.specs.Prelude.{◌≡◌, ◌+◌, ◌↔◌, None, Some, IsNone, IfSome, IfNone, OnOk, OnErr, IfErr};
 ghost use Rattle.std.specs.Borrow.{sem};
-ghost use Rattle.std.specs.Option.{option_copied, option_copied_mut};
+ghost use Rattle.std.specs.Option.{option_copied, option_copied_mut, option_map};
 ghost use Rattle.std.specs.FinMap as map;
 ghost use Rattle.flow_table.specs.Key.{EndpointPair};
 ghost use Rattle.flow_table.specs.Table.{found, FindsAt};
 
 use crate::hashing::KeyHashing;
 use crate::key::Key;
+use crate::pair::Pair;
 use indexmap::IndexMap;
 use std::alloc::Global;
 use std::marker::Model;
 
 /// What is kept for each open connection, by its key, in a box of its own. Contracts see it as a finite map.
-/// Every call takes constant time on average.
+/// Every call takes constant time on average. Connections over IPv4 have a list of their own, by shorter keys, so that they are
+/// found by fewer comparisons.
 #[derive(Drop)]
 pub struct FlowTable<T> {
+    pairs: IndexMap<Pair, Box<T>, KeyHashing>,
     flows: IndexMap<Key, Box<T>, KeyHashing>,
     alloc: Global,
 }
 
 impl<T> Model for FlowTable<T> {
     ghost use Rattle.std.specs.FinMap as map;
+    ghost use Rattle.std.specs.Prelude.{◌++◌};
+    ghost use Rattle.flow_table.specs.Pair.{IsApart};
     ghost use Rattle.flow_table.specs.Table.{key_cmp, Flows, coded_pair, unboxed};
 
     ghost Value = { Flows T };
 
     ghost coded = { map.code coded_pair T.code };
 
-    ghost view = { λ table. map.from_entries (unboxed table.flows.entries) };
+    ghost view = { λ table. map.from_entries (unboxed (table.pairs.entries ++ table.flows.entries)) };
+
+    ghost invariant = { λ table. IsApart table.pairs.entries table.flows.entries };
 }
 
 impl<T> FlowTable<T> {
@@ -42,6 +49,7 @@ impl<T> FlowTable<T> {
         ensures none { (key : EndpointPair) → found result key ≡ None }
     {
         FlowTable {
+            pairs: IndexMap::with_hasher(alloc, KeyHashing::fixed()),
             flows: IndexMap::with_hasher(alloc, KeyHashing::fixed()),
             alloc,
         }
@@ -54,6 +62,7 @@ impl<T> FlowTable<T> {
         ensures none { (key : EndpointPair) → found result key ≡ None }
     {
         FlowTable {
+            pairs: IndexMap::with_hasher(alloc, KeyHashing::seeded(seed)),
             flows: IndexMap::with_hasher(alloc, KeyHashing::seeded(seed)),
             alloc,
         }
@@ -75,12 +84,21 @@ impl<T> FlowTable<T> {
             Ok(boxed) => boxed,
             Err(failed) => return Err(failed.value),
         };
-        match self.flows.insert(key, boxed) {
-            Ok(_) => Ok(()),
-            Err(failed) => {
-                let (_, boxed) = failed.value;
-                Err(Box::into_inner(boxed))
-            }
+        match Pair::of(&key) {
+            Some(pair) => match self.pairs.insert(pair, boxed) {
+                Ok(_) => Ok(()),
+                Err(failed) => {
+                    let (_, boxed) = failed.value;
+                    Err(Box::into_inner(boxed))
+                }
+            },
+            None => match self.flows.insert(key, boxed) {
+                Ok(_) => Ok(()),
+                Err(failed) => {
+                    let (_, boxed) = failed.value;
+                    Err(Box::into_inner(boxed))
+                }
+            },
         }
     }
 
@@ -88,8 +106,16 @@ impl<T> FlowTable<T> {
     pub fn get(&self, key: &Key) -> Option<&T>
         ensures value { option_copied result ≡ found self.now key.now }
     {
-        let boxed = self.flows.get(key)?;
-        Some(boxed.as_ref())
+        match Pair::of(key) {
+            Some(pair) => {
+                let boxed = self.pairs.get(&pair)?;
+                Some(boxed.as_ref())
+            }
+            None => {
+                let boxed = self.flows.get(key)?;
+                Some(boxed.as_ref())
+            }
+        }
     }
 
     /// The value of a key, to write, where the key is there.
@@ -98,9 +124,15 @@ impl<T> FlowTable<T> {
         ensures* writes_back { sem 𝓛 (LendsFlow T.row self.entry key.now result) }
         ensures value { option_copied_mut result ≡ found self.old key.now }
     {
-        match self.flows.get_mut(key) {
-            Some(boxed) => Some(boxed.as_mut()),
-            None => None,
+        match Pair::of(key) {
+            Some(pair) => match self.pairs.get_mut(&pair) {
+                Some(boxed) => Some(boxed.as_mut()),
+                None => None,
+            },
+            None => match self.flows.get_mut(key) {
+                Some(boxed) => Some(boxed.as_mut()),
+                None => None,
+            },
         }
     }
 
@@ -113,7 +145,7 @@ impl<T> FlowTable<T> {
         ensures none { IfNone result (self.new ≡ self.old) }
         ensures len { IfSome result (λ _. map.len self.new + 1 ≡ map.len self.old) }
     {
-        let boxed = self.flows.swap_remove(key)?;
+        let boxed = self.remove(key)?;
         Some(Box::into_inner(boxed))
     }
 
@@ -124,7 +156,20 @@ impl<T> FlowTable<T> {
         ensures removed { self.new ≡ map.remove self.old key.now }
         ensures found { FindsAt self.old self.new key.now None }
     {
-        let _ = self.flows.swap_remove(key);
+        let _ = self.remove(key);
+    }
+
+    // Takes the box of a key out of the list where the key belongs.
+    #[inline(always)]
+    fn remove(&mut self, key: &Key) -> Option<Box<T>>
+        ensures value { option_map (λ boxed. boxed.value) result ≡ found self.old key.now }
+        ensures removed { self.new ≡ map.remove self.old key.now }
+        ensures none { IfNone result (self.new ≡ self.old) }
+    {
+        match Pair::of(key) {
+            Some(pair) => self.pairs.swap_remove(&pair),
+            None => self.flows.swap_remove(key),
+        }
     }
 
     /// Removes some connection, where there is one.
@@ -136,7 +181,12 @@ impl<T> FlowTable<T> {
         ensures none { IfNone result (self.new ≡ self.old) }
         ensures len { IfSome result (λ _. map.len self.new + 1 ≡ map.len self.old) }
     {
-        let (key, boxed) = self.flows.pop()?;
-        Some((key, Box::into_inner(boxed)))
+        match self.pairs.pop() {
+            Some((pair, boxed)) => Some((pair.key(), Box::into_inner(boxed))),
+            None => {
+                let (key, boxed) = self.flows.pop()?;
+                Some((key, Box::into_inner(boxed)))
+            }
+        }
     }
 }

@@ -3,7 +3,8 @@
 //!
 //! The IPv6 header is read here, with at most eight extension headers; the TCP header behind it, and every other frame, by
 //! `packet_views`. A frame over IPv4 in its plainest form is read at fixed places (`src/plain.rt`).
-//! Contract: `sight_of` gives the sight of the definition, the same for a lane and for the thread that sends packets to lanes.
+//! Contract: `sight_of` gives the sight of the definition, and `lane_of_frame` the lane of that sight. Both are the same for a
+//! lane and for the thread that sends packets to lanes.
 //! Begin with `specs/Sight.antt`, `specs/Packet.antt` and `specs/Chain.antt`, then `src/seeing.rt` and `src/chain.rt`.
 //! Tests: `packet_tests` (ip6).
 #![tactic(auto)]
@@ -12,6 +13,7 @@ mod chain;
 mod fields;
 mod header;
 mod key;
+mod lane;
 mod laws;
 mod plain;
 mod seeing;
@@ -19,6 +21,7 @@ mod segment;
 mod sight;
 
 pub use key::key_between;
+pub use lane::lane_of_frame;
 pub use laws::both_directions_have_one_lane;
 pub use seeing::sight_of;
 pub use sight::{Sight, SightTcp};

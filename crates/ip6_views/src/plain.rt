@@ -1,12 +1,13 @@
 //! Plain frames: without a tag, with a whole TCP segment over IPv4 whose header has no options and that is no fragment.
 //! All their fields but the options of TCP and the payload stand at fixed places.
 
-ghost use Rattle.std.specs.Prelude.{◌≡◌, ◌≤◌, IfSome, false};
+ghost use Rattle.std.specs.Prelude.{◌≡◌, ◌≤◌, IfSome, false, length};
 ghost use Rattle.packet_views.specs.declared.packet.Class.{Class};
 ghost use Rattle.packet_views.specs.Frame.{carries, ip_end, ip_start, tcp_start};
 ghost use Rattle.packet_views.specs.Layout.{IsLayoutOf};
 ghost use Rattle.packet_views.specs.Options.{scale_at};
-ghost use Rattle.packet_views.specs.Packet.{class_of};
+ghost use Rattle.packet_views.specs.Packet.{class_of, head_of};
+ghost use Rattle.flow_table.specs.Endpoint.{source_of, destination_of};
 ghost use Rattle.ip6_views.specs.Sight.{segment_of};
 ghost use Rattle.ip6_views.specs.Seen.{seen};
 
@@ -56,6 +57,35 @@ pub(crate) fn plain_segment(frame: &[u8]) -> Option<SightTcp<'_>>
     })
 }
 
+/// Who sent a plain frame's segment, and to whom.
+#[derive(Clone, Copy)]
+pub(crate) struct Ends {
+    pub(crate) from: Endpoint,
+    pub(crate) to: Endpoint,
+}
+
+/// The endpoints of a plain frame, without what else its segment has.
+#[inline(always)]
+#[tactic(auto, unfolding(packet_views::specs::Packet::head_of, packet_views::specs::Tcp::head_at, flow_table::specs::Endpoint::source_of, flow_table::specs::Endpoint::destination_of))]
+pub(crate) fn plain_ends(frame: &[u8]) -> Option<Ends>
+    ensures from { IfSome result (λ ends. ends.from ≡ source_of (head_of frame.now)) }
+    ensures to { IfSome result (λ ends. ends.to ≡ destination_of (head_of frame.now)) }
+    ensures class { IfSome result (λ _. class_of frame.now ≡ Class.Tcp) }
+    ensures ipv4 { IfSome result (λ _. carries 0x86dd frame.now ≡ false) }
+{
+    plain_layout(frame)?;
+    Some(Ends {
+        from: Endpoint::V4 {
+            addr: u32_at(frame, IP + 12),
+            port: u16_at(frame, TCP),
+        },
+        to: Endpoint::V4 {
+            addr: u32_at(frame, IP + 16),
+            port: u16_at(frame, TCP + 2),
+        },
+    })
+}
+
 // The window scale of a frame with a layout: without options there is none.
 #[inline(always)]
 fn plain_scale(frame: &[u8], layout: Layout) -> Option<u8>
@@ -76,6 +106,8 @@ fn plain_layout(frame: &[u8]) -> Option<Layout>
     ensures layout { IfSome result (λ layout. IsLayoutOf frame.now layout) }
     ensures start { IfSome result (λ _. ip_start frame.now ≡ 14) }
     ensures tcp { IfSome result (λ layout. layout.tcp ≡ tcp_start frame.now) }
+    ensures place { IfSome result (λ _. tcp_start frame.now ≡ 34) }
+    ensures room { IfSome result (λ _. 54 ≤ length frame.now) }
     ensures end { IfSome result (λ layout. layout.end ≡ ip_end frame.now) }
     ensures class { IfSome result (λ _. class_of frame.now ≡ Class.Tcp) }
     ensures ipv4 { IfSome result (λ _. carries 0x86dd frame.now ≡ false) }

@@ -32,10 +32,10 @@ pub fn sight_of(bytes: &[u8]) -> Sight<'_>
     }
 }
 
-// The same of any frame, header by header.
+/// The same of any frame, header by header.
 #[inline(never)]
 #[tactic(auto, unfolding(crate::specs::Sight::sight_of))]
-fn sight_of_any(bytes: &[u8]) -> Sight<'_>
+pub(crate) fn sight_of_any(bytes: &[u8]) -> Sight<'_>
     ensures sight { shown result ≡ sight_of bytes.now }
     ensures not_tcp { IfOther result (λ class. class ≢ Class.Tcp) }
 {
