@@ -159,11 +159,10 @@ impl BackwardLine {
         match *kind {
             RecordKind::Conn {
                 client: Endpoint::V4 { addr, port },
-                server:
-                    Endpoint::V4 {
-                        addr: to_addr,
-                        port: to_port,
-                    },
+                server: Endpoint::V4 {
+                    addr: to_addr,
+                    port: to_port,
+                },
             } => {
                 self.put_conn(name, (addr, port), (to_addr, to_port), version);
                 true

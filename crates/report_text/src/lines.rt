@@ -116,16 +116,6 @@ pub(crate) fn push_field(line: &mut String, name: &[u8], value: u64) -> Result<(
     push_value(line, value)
 }
 
-// The same of a name that is a text.
-#[tactic(auto, unfolding(crate::specs::Lines::field_line))]
-pub(crate) fn push_named(line: &mut String, name: &str, value: u64) -> Result<(), AllocError>
-    ensures { OnOk result (string_bytes line.new ≡ string_bytes line.old ++ field_line (name.now, value)) }
-{
-    line.push_str("field ")?;
-    line.push_str(name)?;
-    push_value(line, value)
-}
-
 #[tactic(auto, unfolding(crate::specs::Lines::totals_line))]
 pub(crate) fn push_totals(line: &mut String, totals: &Totals) -> Result<(), AllocError>
     ensures { OnOk result (string_bytes line.new ≡ string_bytes line.old ++ totals_line totals.now) }
