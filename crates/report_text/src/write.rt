@@ -87,20 +87,6 @@ pub(crate) fn write_callback<O: Sink>(
     Ok(())
 }
 
-fn write_entry<O: Sink>(
-    alloc: Global,
-    out: &mut O,
-    line: &mut String,
-    short: &mut ShortLine,
-    entry: &Entry,
-) -> Result<(), TextError>
-    ensures text { Adds O.Sink out.old out.new result (callback_line entry.now) }
-    ensures cause { HasCauseOf (O.faults out.old) (O.faults out.new) (IsErrOf result TextError.WriteFault) }
-    ensures lasts { O.lasting out.new ≡ O.lasting out.old }
-{
-    write_callback(alloc, out, line, short, &Callback::of(entry))
-}
-
 // The first line of a record, of any form.
 fn write_long_head<O: Sink>(
     out: &mut O,
@@ -172,6 +158,7 @@ fn write_long_field<O: Sink>(
     Ok(())
 }
 
+// A field's line. `line` and `row` are room that is used again.
 pub(crate) fn write_field<O: Sink>(
     out: &mut O,
     line: &mut String,
@@ -203,7 +190,7 @@ fn write_entries<O: Sink>(
 {
     let mut short = ShortLine::new();
     for entry in entries {
-        write_entry(alloc, out, line, &mut short, entry)?;
+        write_callback(alloc, out, line, &mut short, &Callback::of(entry))?;
     }
     Ok(())
 }

@@ -1,5 +1,4 @@
-use Rattle.std.proofs.Common.{◌≡◌, ◌++◌, List, ℕ, ap, sym, refl, append_assoc, rules, codes}
-use Rattle.std.specs.Fmt.{decimal}
+use Rattle.std.proofs.Common.{append_assoc, rules}
 use Rattle.report_text.proofs.backward.BackwardLine.put_octets.Goals as goal
 
 pub returns-clause-text : goal.returns-clause-text
