@@ -123,6 +123,6 @@ pub fn write_kept<A: App, O: Sink>(
     ensures lasts { O.lasting out.new ≡ O.lasting out.old }
 {
     let mut row = BackwardLine::new();
-    write_head(out, line, &mut row, of.name, &of.kind, of.version)?;
+    write_head(out, &mut row, of.name, &of.kind, of.version)?;
     write_rest(alloc, app, out, line, &mut row, of)
 }

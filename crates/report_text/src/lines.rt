@@ -36,7 +36,7 @@ fn push_kind(line: &mut String, name: u64, kind: &RecordKind) -> Result<(), Allo
 }
 
 // The first line of a record of this name, kind and version.
-pub(crate) fn push_head(
+fn push_head(
     line: &mut String,
     name: u64,
     kind: &RecordKind,

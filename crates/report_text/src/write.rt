@@ -11,7 +11,7 @@ ghost use Rattle.std.specs.List.{list_all};
 ghost use Rattle.app_api.specs.App.{is_field_name};
 
 use crate::backward::BackwardLine;
-use crate::lines::{push_callback, push_field, push_head, push_totals};
+use crate::lines::{push_callback, push_field, push_totals};
 use crate::record::{Record, RecordKind, Totals};
 use crate::short::ShortLine;
 use app_api::{Bytes, Entry, Reason};
@@ -87,28 +87,9 @@ pub(crate) fn write_callback<O: Sink>(
     Ok(())
 }
 
-// The first line of a record, of any form.
-fn write_long_head<O: Sink>(
-    out: &mut O,
-    line: &mut String,
-    name: u64,
-    kind: &RecordKind,
-    version: u32,
-) -> Result<(), TextError>
-    ensures text { Adds O.Sink out.old out.new result (head_line name kind.now version) }
-    ensures cause { HasCauseOf (O.faults out.old) (O.faults out.new) (IsErrOf result TextError.WriteFault) }
-    ensures lasts { O.lasting out.new ≡ O.lasting out.old }
-{
-    line.clear();
-    push_head(line, name, kind, version)?;
-    out.write_all(line.as_bytes())?;
-    Ok(())
-}
-
-// The first line of a record of this name, kind and version. `line` and `row` are room that is used again.
+// The first line of a record of this name, kind and version. `row` is room that is used again.
 pub(crate) fn write_head<O: Sink>(
     out: &mut O,
-    line: &mut String,
     row: &mut BackwardLine,
     name: u64,
     kind: &RecordKind,
@@ -118,9 +99,7 @@ pub(crate) fn write_head<O: Sink>(
     ensures cause { HasCauseOf (O.faults out.old) (O.faults out.new) (IsErrOf result TextError.WriteFault) }
     ensures lasts { O.lasting out.new ≡ O.lasting out.old }
 {
-    if !row.put_head(name, kind, version) {
-        return write_long_head(out, line, name, kind, version);
-    }
+    row.put_head(name, kind, version);
     out.write_all(row.text())?;
     Ok(())
 }
@@ -257,7 +236,7 @@ fn write_record<O: Sink>(
     ensures lasts { O.lasting out.new ≡ O.lasting out.old }
 {
     let mut row = BackwardLine::new();
-    write_head(out, line, &mut row, of.name, &of.kind, of.version)?;
+    write_head(out, &mut row, of.name, &of.kind, of.version)?;
     write_rest(alloc, out, line, &mut row, of)
 }
 
