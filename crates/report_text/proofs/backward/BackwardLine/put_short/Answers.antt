@@ -1,4 +1,4 @@
-use Rattle.std.proofs.Common.{◌∙◌, ◌/◌, ◌%◌, ◌∷◌, ◌++◌, false, List, ℕ, ap, sym, arith}
+use Rattle.std.proofs.Common.{◌∙◌, ◌/◌, ◌∷◌, ◌++◌, false, List, ℕ, ap, sym, arith}
 use Rattle.std.specs.Fmt.{digit_glyph}
 use Rattle.std.proofs.lemmas.Fmt.{hex_two_digits}
 use Rattle.report_text.specs.Backward.{text_in}
