@@ -10,4 +10,5 @@ pub mod ReadLines
 pub mod ReadLaws
 pub mod ShortWords
 pub mod Short
+pub mod Backward
 pub mod Written

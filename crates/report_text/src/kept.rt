@@ -7,10 +7,10 @@ ghost use Rattle.report_text.specs.Lines.{field_line, callback_line};
 ghost use Rattle.report_text.specs.Report.{rest_text, record_text};
 ghost use Rattle.report_text.specs.Written.{Adds};
 
-use crate::lines::push_named;
+use crate::backward::BackwardLine;
 use crate::record::RecordKind;
 use crate::short::ShortLine;
-use crate::write::{TextError, write_callback, write_drops, write_head};
+use crate::write::{TextError, write_callback, write_drops, write_field, write_head};
 use app_api::{App, DropList, Tally};
 use callback_log::CallbackLog;
 use mos_bytes::Sink;
@@ -51,27 +51,12 @@ fn write_callbacks<O: Sink>(
     Ok(())
 }
 
-fn write_named<O: Sink>(
-    out: &mut O,
-    line: &mut String,
-    name: &str,
-    value: u64,
-) -> Result<(), TextError>
-    ensures text { Adds O.Sink out.old out.new result (field_line (name.now, value)) }
-    ensures cause { HasCauseOf (O.faults out.old) (O.faults out.new) (IsErrOf result TextError.WriteFault) }
-    ensures lasts { O.lasting out.new ≡ O.lasting out.old }
-{
-    line.clear();
-    push_named(line, name, value)?;
-    out.write_all(line.as_bytes())?;
-    Ok(())
-}
-
 // The fields that an application tells of a tally.
 fn write_told<A: App, O: Sink>(
     app: &A,
     out: &mut O,
     line: &mut String,
+    row: &mut BackwardLine,
     tally: &Tally,
 ) -> Result<(), TextError>
     ensures text { Adds O.Sink out.old out.new result (flat_map field_line ((A.meaning app.now).fields tally.now)) }
@@ -82,7 +67,7 @@ fn write_told<A: App, O: Sink>(
         let Some((name, value)) = app.field(place as u8, tally) else {
             break;
         };
-        write_named(out, line, name, value)?;
+        write_field(out, line, row, name.as_bytes(), value)?;
     }
     Ok(())
 }
@@ -92,6 +77,7 @@ fn write_fields<A: App, O: Sink>(
     app: &A,
     out: &mut O,
     line: &mut String,
+    row: &mut BackwardLine,
     of: &KeptRecord<'_>,
 ) -> Result<(), TextError>
     ensures text { Adds O.Sink out.old out.new result
@@ -100,7 +86,7 @@ fn write_fields<A: App, O: Sink>(
     ensures lasts { O.lasting out.new ≡ O.lasting out.old }
 {
     match of.kind {
-        RecordKind::Conn { .. } => write_told(app, out, line, of.tally),
+        RecordKind::Conn { .. } => write_told(app, out, line, row, of.tally),
         RecordKind::Orphan { .. } => Ok(()),
     }
 }
@@ -111,6 +97,7 @@ fn write_rest<A: App, O: Sink>(
     app: &A,
     out: &mut O,
     line: &mut String,
+    row: &mut BackwardLine,
     of: &KeptRecord<'_>,
 ) -> Result<(), TextError>
     ensures text { Adds O.Sink out.old out.new result (rest_text (kept_record (A.meaning app.now) of.now)) }
@@ -118,8 +105,8 @@ fn write_rest<A: App, O: Sink>(
     ensures lasts { O.lasting out.new ≡ O.lasting out.old }
 {
     write_callbacks(alloc, out, line, of.callbacks)?;
-    write_drops(out, line, of.drops.as_slice())?;
-    write_fields(app, out, line, of)
+    write_drops(out, row, of.drops.as_slice())?;
+    write_fields(app, out, line, row, of)
 }
 
 /// Writes the lines of a record as it is kept, each by one call: those that `write_report` writes of the record for which it
@@ -135,6 +122,7 @@ pub fn write_kept<A: App, O: Sink>(
     ensures cause { HasCauseOf (O.faults out.old) (O.faults out.new) (IsErrOf result TextError.WriteFault) }
     ensures lasts { O.lasting out.new ≡ O.lasting out.old }
 {
-    write_head(out, line, of.name, &of.kind, of.version)?;
-    write_rest(alloc, app, out, line, of)
+    let mut row = BackwardLine::new();
+    write_head(out, &mut row, of.name, &of.kind, of.version)?;
+    write_rest(alloc, app, out, line, &mut row, of)
 }

@@ -9,6 +9,7 @@
 //! Tests: `text_tests` (reports, records, refusals).
 #![tactic(auto)]
 
+mod backward;
 mod by_line;
 mod kept;
 pub mod laws;

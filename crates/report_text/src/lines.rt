@@ -36,7 +36,7 @@ fn push_kind(line: &mut String, name: u64, kind: &RecordKind) -> Result<(), Allo
 }
 
 // The first line of a record of this name, kind and version.
-pub(crate) fn push_head(
+fn push_head(
     line: &mut String,
     name: u64,
     kind: &RecordKind,
@@ -113,16 +113,6 @@ pub(crate) fn push_field(line: &mut String, name: &[u8], value: u64) -> Result<(
 {
     line.push_str("field ")?;
     push_name(line, name)?;
-    push_value(line, value)
-}
-
-// The same of a name that is a text.
-#[tactic(auto, unfolding(crate::specs::Lines::field_line))]
-pub(crate) fn push_named(line: &mut String, name: &str, value: u64) -> Result<(), AllocError>
-    ensures { OnOk result (string_bytes line.new ≡ string_bytes line.old ++ field_line (name.now, value)) }
-{
-    line.push_str("field ")?;
-    line.push_str(name)?;
     push_value(line, value)
 }
 

@@ -75,7 +75,7 @@ pub(crate) fn push_event(line: &mut String, event: u16) -> Result<(), AllocError
 }
 
 #[tactic(auto, unfolding(crate::specs::Words::groups_of, std::specs::Net::Addr::IsIpv6OfBits))]
-fn groups(addr: u128) -> [u16; 8]
+pub(crate) fn groups(addr: u128) -> [u16; 8]
     ensures { result ≡ groups_of addr }
 {
     Ipv6Addr::from_bits(addr).segments()

@@ -10,7 +10,8 @@ ghost use Rattle.report_text.specs.Written.{Adds};
 ghost use Rattle.std.specs.List.{list_all};
 ghost use Rattle.app_api.specs.App.{is_field_name};
 
-use crate::lines::{push_callback, push_drop, push_field, push_head, push_totals};
+use crate::backward::BackwardLine;
+use crate::lines::{push_callback, push_field, push_totals};
 use crate::record::{Record, RecordKind, Totals};
 use crate::short::ShortLine;
 use app_api::{Bytes, Entry, Reason};
@@ -86,24 +87,10 @@ pub(crate) fn write_callback<O: Sink>(
     Ok(())
 }
 
-fn write_entry<O: Sink>(
-    alloc: Global,
-    out: &mut O,
-    line: &mut String,
-    short: &mut ShortLine,
-    entry: &Entry,
-) -> Result<(), TextError>
-    ensures text { Adds O.Sink out.old out.new result (callback_line entry.now) }
-    ensures cause { HasCauseOf (O.faults out.old) (O.faults out.new) (IsErrOf result TextError.WriteFault) }
-    ensures lasts { O.lasting out.new ≡ O.lasting out.old }
-{
-    write_callback(alloc, out, line, short, &Callback::of(entry))
-}
-
-// The first line of a record of this name, kind and version.
+// The first line of a record of this name, kind and version. `row` is room that is used again.
 pub(crate) fn write_head<O: Sink>(
     out: &mut O,
-    line: &mut String,
+    row: &mut BackwardLine,
     name: u64,
     kind: &RecordKind,
     version: u32,
@@ -112,15 +99,14 @@ pub(crate) fn write_head<O: Sink>(
     ensures cause { HasCauseOf (O.faults out.old) (O.faults out.new) (IsErrOf result TextError.WriteFault) }
     ensures lasts { O.lasting out.new ≡ O.lasting out.old }
 {
-    line.clear();
-    push_head(line, name, kind, version)?;
-    out.write_all(line.as_bytes())?;
+    row.put_head(name, kind, version);
+    out.write_all(row.text())?;
     Ok(())
 }
 
 fn write_drop<O: Sink>(
     out: &mut O,
-    line: &mut String,
+    row: &mut BackwardLine,
     index: u64,
     reason: Reason,
 ) -> Result<(), TextError>
@@ -128,13 +114,13 @@ fn write_drop<O: Sink>(
     ensures cause { HasCauseOf (O.faults out.old) (O.faults out.new) (IsErrOf result TextError.WriteFault) }
     ensures lasts { O.lasting out.new ≡ O.lasting out.old }
 {
-    line.clear();
-    push_drop(line, index, reason)?;
-    out.write_all(line.as_bytes())?;
+    row.put_drop(index, reason);
+    out.write_all(row.text())?;
     Ok(())
 }
 
-fn write_field<O: Sink>(
+// A field's line, of a name of any length.
+fn write_long_field<O: Sink>(
     out: &mut O,
     line: &mut String,
     name: &[u8],
@@ -151,6 +137,26 @@ fn write_field<O: Sink>(
     Ok(())
 }
 
+// A field's line. `line` and `row` are room that is used again.
+pub(crate) fn write_field<O: Sink>(
+    out: &mut O,
+    line: &mut String,
+    row: &mut BackwardLine,
+    name: &[u8],
+    value: u64,
+) -> Result<(), TextError>
+    requires { IsTrue (is_field_name name.now) }
+    ensures text { Adds O.Sink out.old out.new result (field_line (name.now, value)) }
+    ensures cause { HasCauseOf (O.faults out.old) (O.faults out.new) (IsErrOf result TextError.WriteFault) }
+    ensures lasts { O.lasting out.new ≡ O.lasting out.old }
+{
+    if !row.put_field(name, value) {
+        return write_long_field(out, line, name, value);
+    }
+    out.write_all(row.text())?;
+    Ok(())
+}
+
 fn write_entries<O: Sink>(
     alloc: Global,
     out: &mut O,
@@ -163,14 +169,14 @@ fn write_entries<O: Sink>(
 {
     let mut short = ShortLine::new();
     for entry in entries {
-        write_entry(alloc, out, line, &mut short, entry)?;
+        write_callback(alloc, out, line, &mut short, &Callback::of(entry))?;
     }
     Ok(())
 }
 
 pub(crate) fn write_drops<O: Sink>(
     out: &mut O,
-    line: &mut String,
+    row: &mut BackwardLine,
     drops: &[(u64, Reason)],
 ) -> Result<(), TextError>
     ensures text { Adds O.Sink out.old out.new result (flat_map drop_line drops.now) }
@@ -178,7 +184,7 @@ pub(crate) fn write_drops<O: Sink>(
     ensures lasts { O.lasting out.new ≡ O.lasting out.old }
 {
     for (index, reason) in drops {
-        write_drop(out, line, *index, *reason)?;
+        write_drop(out, row, *index, *reason)?;
     }
     Ok(())
 }
@@ -186,6 +192,7 @@ pub(crate) fn write_drops<O: Sink>(
 fn write_fields<O: Sink>(
     out: &mut O,
     line: &mut String,
+    row: &mut BackwardLine,
     fields: &[(Bytes, u64)],
 ) -> Result<(), TextError>
     requires { IsTrue (are_named fields.now) }
@@ -194,7 +201,7 @@ fn write_fields<O: Sink>(
     ensures lasts { O.lasting out.new ≡ O.lasting out.old }
 {
     for (name, value) in fields {
-        write_field(out, line, name.as_slice(), *value)?;
+        write_field(out, line, row, name.as_slice(), *value)?;
     }
     Ok(())
 }
@@ -204,6 +211,7 @@ fn write_rest<O: Sink>(
     alloc: Global,
     out: &mut O,
     line: &mut String,
+    row: &mut BackwardLine,
     of: &Record,
 ) -> Result<(), TextError>
     requires { IsTrue (is_tidy_record of.now) }
@@ -212,8 +220,8 @@ fn write_rest<O: Sink>(
     ensures lasts { O.lasting out.new ≡ O.lasting out.old }
 {
     write_entries(alloc, out, line, of.entries.as_slice())?;
-    write_drops(out, line, of.drops.as_slice())?;
-    write_fields(out, line, of.fields.as_slice())
+    write_drops(out, row, of.drops.as_slice())?;
+    write_fields(out, line, row, of.fields.as_slice())
 }
 
 fn write_record<O: Sink>(
@@ -227,8 +235,9 @@ fn write_record<O: Sink>(
     ensures cause { HasCauseOf (O.faults out.old) (O.faults out.new) (IsErrOf result TextError.WriteFault) }
     ensures lasts { O.lasting out.new ≡ O.lasting out.old }
 {
-    write_head(out, line, of.name, &of.kind, of.version)?;
-    write_rest(alloc, out, line, of)
+    let mut row = BackwardLine::new();
+    write_head(out, &mut row, of.name, &of.kind, of.version)?;
+    write_rest(alloc, out, line, &mut row, of)
 }
 
 fn write_records<O: Sink>(

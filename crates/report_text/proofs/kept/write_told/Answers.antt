@@ -1,23 +1,39 @@
-use Rattle.std.proofs.Common.{◌∙◌, sym, ap}
-use Rattle.app_api.specs.App.{field_shown}
+use Rattle.std.proofs.Common.{◌∙◌, ◌≡◌, ◌+◌, ◌++◌, ℕ, List, drop, sym, ap, subst, true, flat_map}
+use Rattle.app_api.specs.App.{field_shown, is_field_name}
+use Rattle.std.proofs.lemmas.Option.{slice_get_within, get_or_from_slice_get}
+use Rattle.report_text.specs.Lines.{field_line}
+use Rattle.report_text.proofs.Each.{passes-at}
 use Rattle.report_text.proofs.Pieces.{fields-asked, fields-past}
 use Rattle.mos_bytes.proofs.Writing.{Writing-more, Writing-failed, Writing-done, WriteAdds-err}
 use Rattle.report_text.proofs.kept.write_told.Goals as goal
 
+pub write_field-requires : goal.write_field-requires
+write_field-requires g c =
+    let fields = (g.A.App.meaning c.args.app.now).fields c.args.tally.now in
+    let field : List ℕ × ℕ = (c.in-Some.name.now, c.in-Some.value) in
+    let here = sym c.field.ensures ∙ ap field_shown c.in-Some.is in
+    subst (λ n. is_field_name n ≡ true) (sym c.as_bytes.ensures.value)
+    (passes-at (λ f. is_field_name f.0) fields c.loop-place.place field ((g.met.A.App.lawful c.args.app.now).names c.args.tally.now)
+    (slice_get_within fields c.loop-place.place field here) (sym (get_or_from_slice_get fields c.loop-place.place field field here)))
+
 pub loop-place-preserved : goal.loop-place-preserved
 loop-place-preserved g c =
     let fields = (g.A.App.meaning c.args.app.now).fields c.args.tally.now in
-    let next = fields-asked fields c.loop-place.place (c.in-Some.name.now, c.in-Some.value) (sym c.field.ensures ∙ ap field_shown c.in-Some.is) in (
-      Writing-more g.O.Sink.taken g.O.Sink.faults _ _ _ _ _ _ _ c.loop-place.invariant.0 next c.in_ok-write_named.ensures.text c.write_named.ensures.cause.later,
-      c.write_named.ensures.lasts ∙ c.loop-place.invariant.1,
+    let next = fields-asked fields c.loop-place.place (c.in-Some.name.now, c.in-Some.value) (sym c.field.ensures ∙ ap field_shown c.in-Some.is) in
+    let read = subst (λ n. flat_map field_line (drop c.loop-place.place fields) ≡ field_line (n, c.in-Some.value) ++ flat_map field_line (drop (c.loop-place.place + 1) fields))
+    (sym c.as_bytes.ensures.value) next in (
+      Writing-more g.O.Sink.taken g.O.Sink.faults _ _ _ _ _ _ _ c.loop-place.invariant.0 read c.in_ok-write_field.ensures.text c.write_field.ensures.cause.later,
+      c.write_field.ensures.lasts ∙ c.loop-place.invariant.1,
     )
 
-pub returns-in_err-write_named-clause-text : goal.returns-in_err-write_named-clause-text
-returns-in_err-write_named-clause-text g c =
+pub returns-in_err-write_field-clause-text : goal.returns-in_err-write_field-clause-text
+returns-in_err-write_field-clause-text g c =
     let fields = (g.A.App.meaning c.args.app.now).fields c.args.tally.now in
     let next = fields-asked fields c.loop-place.place (c.in-Some.name.now, c.in-Some.value) (sym c.field.ensures ∙ ap field_shown c.in-Some.is) in
+    let read = subst (λ n. flat_map field_line (drop c.loop-place.place fields) ≡ field_line (n, c.in-Some.value) ++ flat_map field_line (drop (c.loop-place.place + 1) fields))
+    (sym c.as_bytes.ensures.value) next in
     WriteAdds-err _ _ _ _ c.from_residual.ensures.0
-    (Writing-failed g.O.Sink.taken g.O.Sink.faults _ _ _ _ _ _ _ c.loop-place.invariant.0 next c.in_err-write_named.ensures.text)
+    (Writing-failed g.O.Sink.taken g.O.Sink.faults _ _ _ _ _ _ _ c.loop-place.invariant.0 read c.in_err-write_field.ensures.text)
 
 pub returns-in_default-clause-text : goal.returns-in_default-clause-text
 returns-in_default-clause-text g c =

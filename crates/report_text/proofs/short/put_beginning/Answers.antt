@@ -1,4 +1,4 @@
-use Rattle.std.proofs.Common.{◌+◌, ◌-◌, ◌≡◌, arith}
+use Rattle.std.proofs.Common.{◌-◌, arith}
 use Rattle.report_text.proofs.ShortLines.{length_index, begins}
 use Rattle.report_text.proofs.short.put_beginning.Goals as goal
 

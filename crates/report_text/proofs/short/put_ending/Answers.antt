@@ -1,4 +1,4 @@
-use Rattle.std.proofs.Common.{◌≡◌, ◌+◌, ◌++◌, length, take, drop, ap, ◌∙◌, arith}
+use Rattle.std.proofs.Common.{◌≡◌, arith}
 use Rattle.std.specs.Fmt.{decimal}
 use Rattle.report_text.proofs.ShortLines.{ended, kept_before}
 use Rattle.report_text.proofs.short.put_ending.Goals as goal

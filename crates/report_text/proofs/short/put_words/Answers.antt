@@ -1,4 +1,4 @@
-use Rattle.std.proofs.Common.{◌≡◌, ◌+◌, ◌++◌, take, sym, ap, ◌∙◌, arith}
+use Rattle.std.proofs.Common.{arith}
 use Rattle.report_text.proofs.ShortLines.{worded}
 use Rattle.report_text.proofs.short.put_words.Goals as goal
 
