@@ -2,7 +2,8 @@
 
 use std::alloc::Global;
 use std::test::Fail;
-use words::{AppKind, Emit, Settings, WordsError, read_words, usage_text};
+use applications::AppKind;
+use words::{Emit, Settings, WordsError, read_words, usage_text};
 
 fn push_word(alloc: Global, words: &mut Vec<String>, word: &str) -> Result<(), Fail> {
     words.push(String::from_str(alloc, word)?)?;

@@ -1,24 +1,56 @@
-//! The application that the words choose.
+//! The applications of mos by their kinds.
+
+ghost use Rattle.std.specs.Prelude.{◌≡◌};
+ghost use Rattle.applications.specs.Apps.{kind_named};
 
 use app_api::{App, Call, LogApp, Reaction, Reg, Rule, Tally};
 use app_firewall::FirewallApp;
 use app_traffic::{AcctApp, RexmitApp};
-use words::AppKind;
 
-/// The application of a kind: each of its calls is the call of the application that bears the name. So all above is there
-/// once for all of them.
-#[derive(Clone, Copy, Debug, PartialEq, Eq)]
-pub struct Chosen(pub AppKind);
+/// The application that a run calls: each of its calls is the call of the application that bears the name. So all above is
+/// there once for all of them.
+#[derive(Clone, Copy, PartialEq, Eq, Debug)]
+pub enum AppKind {
+    /// Each packet is noted at both of its ends.
+    Log,
+    /// Packets and bytes of each connection.
+    Acct,
+    /// Retransmissions.
+    Rexmit,
+    /// Packets are passed or dropped by rules.
+    Firewall,
+}
 
-impl App for Chosen {
-    ghost use Rattle.capture_replay.specs.Apps.{meaning_of, lawful_app};
+/// A literal that has the words of the applications, with a bar between two, behind one text and before another.
+#[macro_export]
+macro_rules! around_app_words {
+    ($front:literal, $back:literal) => {
+        concat!($front, "log|acct|rexmit|firewall", $back)
+    };
+}
 
-    ghost meaning = { λ chosen. meaning_of chosen.0 };
+/// The kind that a word names.
+pub fn kind_named(word: &str) -> Option<AppKind>
+    ensures { result ≡ kind_named word.now }
+{
+    match word {
+        "log" => Some(AppKind::Log),
+        "acct" => Some(AppKind::Acct),
+        "rexmit" => Some(AppKind::Rexmit),
+        "firewall" => Some(AppKind::Firewall),
+        _ => None,
+    }
+}
 
-    ghost lawful = { λ chosen. lawful_app chosen.0 };
+impl App for AppKind {
+    ghost use Rattle.applications.specs.Apps.{meaning_of, lawful_app};
+
+    ghost meaning = { λ kind. meaning_of kind };
+
+    ghost lawful = { λ kind. lawful_app kind };
 
     fn preset(&self, number: u8) -> Option<Reg> {
-        match self.0 {
+        match self {
             AppKind::Log => LogApp.preset(number),
             AppKind::Acct => AcctApp.preset(number),
             AppKind::Rexmit => RexmitApp.preset(number),
@@ -27,7 +59,7 @@ impl App for Chosen {
     }
 
     fn fresh(&self) -> Tally {
-        match self.0 {
+        match self {
             AppKind::Log => LogApp.fresh(),
             AppKind::Acct => AcctApp.fresh(),
             AppKind::Rexmit => RexmitApp.fresh(),
@@ -36,7 +68,7 @@ impl App for Chosen {
     }
 
     fn react(&self, t: &mut Tally, call: &Call, rules: &[Rule]) -> Reaction {
-        match self.0 {
+        match self {
             AppKind::Log => LogApp.react(t, call, rules),
             AppKind::Acct => AcctApp.react(t, call, rules),
             AppKind::Rexmit => RexmitApp.react(t, call, rules),
@@ -45,7 +77,7 @@ impl App for Chosen {
     }
 
     fn rests_at_receiver(&self) -> bool {
-        match self.0 {
+        match self {
             AppKind::Log => LogApp.rests_at_receiver(),
             AppKind::Acct => AcctApp.rests_at_receiver(),
             AppKind::Rexmit => RexmitApp.rests_at_receiver(),
@@ -54,7 +86,7 @@ impl App for Chosen {
     }
 
     fn field(&self, i: u8, t: &Tally) -> Option<(&str, u64)> {
-        match self.0 {
+        match self {
             AppKind::Log => LogApp.field(i, t),
             AppKind::Acct => AcctApp.field(i, t),
             AppKind::Rexmit => RexmitApp.field(i, t),
