@@ -8,16 +8,16 @@ use app_firewall::FirewallApp;
 use app_traffic::{AcctApp, RexmitApp};
 
 /// The application that a run calls: each of its calls is the call of the application that bears the name. So all above is
-/// there once for all of them.
+/// there once for all of them. `./mos --help` shows what stands at each.
 #[derive(Clone, Copy, PartialEq, Eq, Debug)]
 pub enum AppKind {
-    /// Each packet is noted at both of its ends.
+    /// A line for each packet at each of its ends.
     Log,
-    /// Packets and bytes of each connection.
+    /// Packets, bytes, new bytes and last states, by connection.
     Acct,
-    /// Retransmissions.
+    /// Bytes that came again, and those that came again with other values.
     Rexmit,
-    /// Packets are passed or dropped by rules.
+    /// Drops what the script's rules don't allow; without rules all TCP.
     Firewall,
 }
 
