@@ -1,8 +1,8 @@
 //! The words after the program's name: rows of words, accepted and refused.
 
+use applications::AppKind;
 use std::alloc::Global;
 use std::test::Fail;
-use applications::AppKind;
 use words::{Emit, Settings, WordsError, read_words, usage_text};
 
 fn push_word(alloc: Global, words: &mut Vec<String>, word: &str) -> Result<(), Fail> {
