@@ -29,7 +29,7 @@ install:        ## the built program, its helpers, its page and completions: mak
 	@test -x $(BUILT) || { echo "make install: there is no built program: ./build"; exit 1; }
 	install -d $(TO)/bin $(TO)/lib/mos/helpers $(TO)/share/man/man1 $(BASH_COMPLETION) $(ZSH_COMPLETION)
 	install -m 755 $(BUILT) $(TO)/lib/mos/mos
-	install -m 644 helpers/captures.py $(TO)/lib/mos/helpers
+	install -m 644 helpers/captures.py crates/app_api/src/events.rt $(TO)/lib/mos/helpers
 	ln -sf ../lib/mos/mos $(TO)/bin/mos
 	for name in $(HELPERS); do \
 	  install -m 755 helpers/$$name $(TO)/lib/mos/helpers && ln -sf ../lib/mos/helpers/$$name $(TO)/bin/mos-$$name && \

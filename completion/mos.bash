@@ -13,13 +13,20 @@ _mos_files() {
   compopt -o filenames 2>/dev/null
 }
 
+# The applications, as the usage line of mos has them.
+_mos_apps() {
+  local mos=mos
+  [ "${COMP_WORDS[0]##*/}" = mos ] && mos=${COMP_WORDS[0]/#\~/$HOME}
+  "$mos" - 2>&1 </dev/null | sed -n 's/^mos: usage: .*--app \([^]]*\)\].*/\1/p' | tr '|' ' '
+}
+
 _mos() {
   local at=${COMP_WORDS[COMP_CWORD]} before=${COMP_WORDS[COMP_CWORD - 1]} more
   # A name with its value behind = comes as three words.
   [ "$at" = = ] && at=
   [ "$before" = = ] && before=${COMP_WORDS[COMP_CWORD - 2]}
   case $before in
-    --app) _mos_words "log acct rexmit firewall" "$at" ;;
+    --app) _mos_words "$(_mos_apps)" "$at" ;;
     --emit) _mos_words "report forward" "$at" ;;
     --by) _mos_words "bytes packets again time" "$at" ;;
     --workers) _mos_words "1 2 4 8 16" "$at" ;;

@@ -1,4 +1,3 @@
-pub mod Apps
 pub mod Records
 pub mod Forward
 pub mod Summary

@@ -4,14 +4,13 @@
 //! Contract: `run_one` and `run_several` write the outcome of the capture under the script and versions that the run may have,
 //! and answer these versions; at an error a prefix is written.
 //! Begin with `specs/Records.antt` and `specs/Outcome.antt`, then `run_one` in `src/single.rt` and `run_several` in
-//! `src/several.rt`. `src/chosen.rt` is the application that settings choose, `src/replay.rt` and `src/advance.rt` the replay
-//! of one worker under the script's commands, `src/close.rt` and `src/summary.rt` what is written at the end, `src/refusal.rt`
-//! why a replay ends before. `src/laws.rt` and `src/verdicts.rt` say what the outcome means.
+//! `src/several.rt`. `src/replay.rt` and `src/advance.rt` are the replay of one worker under the script's commands,
+//! `src/close.rt` and `src/summary.rt` what is written at the end, `src/refusal.rt` why a replay ends before. `src/laws.rt` and
+//! `src/verdicts.rt` say what the outcome means.
 //! Tests: none of its own; `run_tests` and `whole_runs`, through `mos_run`.
 #![tactic(auto)]
 
 mod advance;
-mod chosen;
 mod close;
 pub mod laws;
 mod output;
@@ -25,7 +24,6 @@ mod summary;
 mod task;
 pub mod verdicts;
 
-pub use chosen::Chosen;
 pub use output::Output;
 pub use plan::{Crew, Task};
 pub use refusal::ReplayError;

@@ -5,12 +5,11 @@ ghost use Rattle.control_script.specs.Order.{are_in_order};
 ghost use Rattle.mos_bytes.specs.Outside.{Writes};
 ghost use Rattle.mos_bytes.specs.Writes.{WriteAdds};
 ghost use Rattle.lane_core.specs.KeptEnd.{shown_as};
-ghost use Rattle.capture_replay.specs.Apps.{meaning_of};
+ghost use Rattle.applications.specs.Apps.{meaning_of};
 ghost use Rattle.capture_replay.specs.Lanes.{RunsWith};
 ghost use Rattle.capture_replay.specs.Outcome.{closing, is_forward, made_for, output_of};
 ghost use Rattle.capture_replay.specs.Runs.{IsJob, Runs, RunsFor, RunsUnderSettings};
 
-use crate::chosen::Chosen;
 use crate::laws::what_one_worker_has_is_allowed;
 use crate::plan::{Crew, Plan, Task};
 use crate::summary::write_summary;
@@ -239,6 +238,6 @@ pub fn run_several<
         (RunsWith (meaning_of settings.now.app) script.now settings.now.workers (output_of settings.now))
         capture.old capture.new out.old out.new result }
 {
-    let task = task_of(Chosen(settings.app), settings, script);
+    let task = task_of(settings.app, settings, script);
     run_several_with(crew, alloc, &task, capture, out, natives)
 }

@@ -1,11 +1,10 @@
 //! The run of one worker.
 
 ghost use Rattle.std.specs.Prelude.{◌≤◌, IfSome};
-ghost use Rattle.capture_replay.specs.Apps.{meaning_of};
+ghost use Rattle.applications.specs.Apps.{meaning_of};
 ghost use Rattle.capture_replay.specs.Outcome.{made_for, output_of};
 ghost use Rattle.capture_replay.specs.Runs.{MayRun, RunsAlone, RunsFor, RunsUnderSettings};
 
-use crate::chosen::Chosen;
 use crate::plan::Task;
 use crate::replay::replay;
 use crate::task::task_of;
@@ -60,6 +59,6 @@ pub fn run_one<S: Source, O: Sink>(
         (RunsAlone (meaning_of settings.now.app) script.now (output_of settings.now))
         capture.old capture.new out.old out.new result }
 {
-    let task = task_of(Chosen(settings.app), settings, script);
+    let task = task_of(settings.app, settings, script);
     run_one_with(alloc, &task, capture, out, natives)
 }

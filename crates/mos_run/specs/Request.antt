@@ -15,7 +15,7 @@ use Rattle.words.specs.Own.{own_settings}
 use Rattle.run_outcome.specs.Allowed.{MayHave}
 use Rattle.mos_run.specs.declared.refusal.RunError.{RunError}
 use Rattle.mos_run.specs.declared.refusal.RunError.TheVariants.{Usage}
-use Rattle.capture_replay.specs.Apps.{meaning_of}
+use Rattle.applications.specs.Apps.{meaning_of}
 use Rattle.capture_replay.specs.Records.{frames_in, packets_of, packets_with, records_of, versions_of}
 use Rattle.capture_replay.specs.declared.output.Output.{Output}
 use Rattle.capture_replay.specs.Outcome.{Outcome, made_for, output_of, refused}

@@ -9,7 +9,6 @@ use crate::ended::{Ended, handed_on, refuse};
 use crate::refusal::RunError;
 use crate::run::{Machine, run_chosen};
 use app_api::App;
-use capture_replay::Chosen;
 use capture_replay::laws::{
     what_one_worker_has_is_allowed, without_live_commands_all_versions_are_known,
 };
@@ -118,7 +117,7 @@ pub fn run_gathered<
     what_one_worker_has_is_allowed();
     match read_words(alloc, words) {
         Ok(settings) => {
-            let app = Chosen(settings.app);
+            let app = settings.app;
             gather_chosen(&machine, app, &settings, capture, shelf, out, err)
         }
         Err(error) => {

@@ -18,10 +18,11 @@ mod run;
 mod script;
 mod telling;
 
+pub use applications::AppKind;
 pub use capture_replay::{Output, ReplayError, laws, run_one};
 pub use ended::{Ended, refuse};
 pub use gathered::{GatheredRun, run_application, run_gathered};
 pub use refusal::{RunError, ScriptFault};
 pub use run::{Machine, run_mos};
-pub use words::{AppKind, Emit, Name, Settings, WordsError, read_own_words, read_words};
+pub use words::{Emit, Name, Settings, WordsError, read_own_words, read_words};
 pub use worker_pool::{Gate, OpenGate, VersionList};

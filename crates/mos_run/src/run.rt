@@ -15,7 +15,7 @@ use app_api::App;
 use capture_replay::laws::{
     what_one_worker_has_is_allowed, without_live_commands_all_versions_are_known,
 };
-use capture_replay::{Chosen, Crew, ReplayError, Task, run_one_with, run_several_with, task_of};
+use capture_replay::{Crew, ReplayError, Task, run_one_with, run_several_with, task_of};
 use mos_bytes::{Shelf, Sink, Source};
 use native_filters::NativeBook;
 use pcapng_source::{AnySource, refused_files_begin_with_a_header};
@@ -222,7 +222,7 @@ pub fn run_mos<
     what_one_worker_has_is_allowed();
     match read_words(alloc, words) {
         Ok(settings) => {
-            let app = Chosen(settings.app);
+            let app = settings.app;
             run_chosen(&machine, app, &settings, capture, shelf, out, err)
         }
         Err(error) => refuse(alloc, err, RunError::from(error)),

@@ -1,8 +1,9 @@
 //! The words after the program's name: rows of words, accepted and refused.
 
+use applications::AppKind;
 use std::alloc::Global;
 use std::test::Fail;
-use words::{AppKind, Emit, Settings, WordsError, read_words, usage_text};
+use words::{Emit, Settings, WordsError, read_words, usage_text};
 
 fn push_word(alloc: Global, words: &mut Vec<String>, word: &str) -> Result<(), Fail> {
     words.push(String::from_str(alloc, word)?)?;

@@ -1,13 +1,7 @@
--- What the words may choose today, of what they are to choose.
+-- What the words may choose beside an application.
 use Rattle.std.specs.Prelude.{ℕ, List, [], ◌∷◌, codes}
-use Rattle.words.specs.declared.settings.AppKind.{AppKind}
-use Rattle.words.specs.declared.settings.AppKind.TheVariants.{Log, Acct, Rexmit, Firewall}
 use Rattle.words.specs.declared.settings.Emit.{Emit}
 use Rattle.words.specs.declared.settings.Emit.TheVariants.{Report, Forward}
-
--- the applications by name
-abbrev pub apps : List (List ℕ × AppKind)
-apps = (codes "log", Log) ∷ (codes "acct", Acct) ∷ (codes "rexmit", Rexmit) ∷ (codes "firewall", Firewall) ∷ []
 
 -- what may be written, by name
 abbrev pub emits : List (List ℕ × Emit)

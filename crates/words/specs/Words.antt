@@ -4,9 +4,10 @@ use Rattle.std.specs.List.{list_all, list_any, before_first, after_first}
 use Rattle.std.specs.Borrow.{Bor}
 use Rattle.std.specs.Str.{bytes_eq}
 use Rattle.number_text.specs.Numbers.{number_in}
-use Rattle.words.specs.Offers.{apps, emits, most_workers, most_made}
-use Rattle.words.specs.declared.settings.AppKind.{AppKind}
-use Rattle.words.specs.declared.settings.AppKind.TheVariants.{Log}
+use Rattle.applications.specs.Apps.{kind_named}
+use Rattle.words.specs.Offers.{emits, most_workers, most_made}
+use Rattle.applications.specs.declared.apps.AppKind.{AppKind}
+use Rattle.applications.specs.declared.apps.AppKind.TheVariants.{Log}
 use Rattle.words.specs.declared.settings.Emit.{Emit}
 use Rattle.words.specs.declared.settings.Emit.TheVariants.{Report, Summary}
 use Rattle.words.specs.declared.settings.Settings.{Settings}
@@ -97,7 +98,7 @@ read_or default read None = Some default
 read_or default read (Some text) = read text
 
 abbrev pub app_of : Option (List ℕ) → Option AppKind
-app_of = read_or Log (named_in apps)
+app_of = read_or Log kind_named
 
 abbrev pub workers_of : Option (List ℕ) → Option ℕ
 workers_of = read_or 1 (number_in 1 most_workers)

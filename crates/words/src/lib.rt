@@ -17,5 +17,5 @@ mod values;
 
 pub use own::read_own_words;
 pub use read::read_words;
-pub use settings::{AppKind, Emit, Name, Settings, WordsError};
+pub use settings::{Emit, Name, Settings, WordsError};
 pub use usage::usage_text;

@@ -1,21 +1,9 @@
 //! What the words choose, and why there is no choice.
 
+use applications::AppKind;
 use std::alloc::{AllocError, AllocFailed};
 use std::marker::Model;
 use thiserror::Error;
-
-/// The application that a run calls.
-#[derive(Clone, Copy, PartialEq, Eq, Debug)]
-pub enum AppKind {
-    /// Each packet is noted at both of its ends.
-    Log,
-    /// Packets and bytes of each connection.
-    Acct,
-    /// Retransmissions.
-    Rexmit,
-    /// Packets are passed or dropped by rules.
-    Firewall,
-}
 
 /// What a run writes.
 #[derive(Clone, Copy, PartialEq, Eq, Debug)]

@@ -3,7 +3,8 @@
 ghost use Rattle.std.specs.Prelude.{◌≡◌, ◌≤◌, IfOk, IfSome, Some, None};
 ghost use Rattle.words.specs.Words.{UsageMeansNone, given, app_of, workers_of, script_of, emit_of, make_of};
 
-use crate::settings::{AppKind, Emit, Name, WordsError};
+use crate::settings::{Emit, Name, WordsError};
+use applications::{AppKind, kind_named};
 use number_text::number_in;
 use std::alloc::Global;
 
@@ -17,22 +18,10 @@ const MOST_MADE: u64 = 100_000;
 pub(crate) fn app_of(text: Option<&str>) -> Option<AppKind>
     ensures { result ≡ app_of (given text.entry) }
 {
-    let Some(text) = text else {
-        return Some(AppKind::Log);
-    };
-    if text == "log" {
-        return Some(AppKind::Log);
+    match text {
+        Some(text) => kind_named(text),
+        None => Some(AppKind::Log),
     }
-    if text == "acct" {
-        return Some(AppKind::Acct);
-    }
-    if text == "rexmit" {
-        return Some(AppKind::Rexmit);
-    }
-    if text == "firewall" {
-        return Some(AppKind::Firewall);
-    }
-    None
 }
 
 /// So many workers, or one.

@@ -1,0 +1,96 @@
+//! The applications of mos by their kinds.
+
+ghost use Rattle.std.specs.Prelude.{◌≡◌};
+ghost use Rattle.applications.specs.Apps.{kind_named};
+
+use app_api::{App, Call, LogApp, Reaction, Reg, Rule, Tally};
+use app_firewall::FirewallApp;
+use app_traffic::{AcctApp, RexmitApp};
+
+/// The application that a run calls: each of its calls is the call of the application that bears the name. So all above is
+/// there once for all of them. `./mos --help` shows what stands at each.
+#[derive(Clone, Copy, PartialEq, Eq, Debug)]
+pub enum AppKind {
+    /// A line for each packet at each of its ends.
+    Log,
+    /// Packets, bytes, new bytes and last states, by connection.
+    Acct,
+    /// Bytes that came again, and those that came again with other values.
+    Rexmit,
+    /// Drops what the script's rules don't allow; without rules all TCP.
+    Firewall,
+}
+
+/// A literal that has the words of the applications, with a bar between two, behind one text and before another.
+#[macro_export]
+macro_rules! around_app_words {
+    ($front:literal, $back:literal) => {
+        concat!($front, "log|acct|rexmit|firewall", $back)
+    };
+}
+
+/// The kind that a word names.
+pub fn kind_named(word: &str) -> Option<AppKind>
+    ensures { result ≡ kind_named word.now }
+{
+    match word {
+        "log" => Some(AppKind::Log),
+        "acct" => Some(AppKind::Acct),
+        "rexmit" => Some(AppKind::Rexmit),
+        "firewall" => Some(AppKind::Firewall),
+        _ => None,
+    }
+}
+
+impl App for AppKind {
+    ghost use Rattle.applications.specs.Apps.{meaning_of, lawful_app};
+
+    ghost meaning = { λ kind. meaning_of kind };
+
+    ghost lawful = { λ kind. lawful_app kind };
+
+    fn preset(&self, number: u8) -> Option<Reg> {
+        match self {
+            AppKind::Log => LogApp.preset(number),
+            AppKind::Acct => AcctApp.preset(number),
+            AppKind::Rexmit => RexmitApp.preset(number),
+            AppKind::Firewall => FirewallApp.preset(number),
+        }
+    }
+
+    fn fresh(&self) -> Tally {
+        match self {
+            AppKind::Log => LogApp.fresh(),
+            AppKind::Acct => AcctApp.fresh(),
+            AppKind::Rexmit => RexmitApp.fresh(),
+            AppKind::Firewall => FirewallApp.fresh(),
+        }
+    }
+
+    fn react(&self, t: &mut Tally, call: &Call, rules: &[Rule]) -> Reaction {
+        match self {
+            AppKind::Log => LogApp.react(t, call, rules),
+            AppKind::Acct => AcctApp.react(t, call, rules),
+            AppKind::Rexmit => RexmitApp.react(t, call, rules),
+            AppKind::Firewall => FirewallApp.react(t, call, rules),
+        }
+    }
+
+    fn rests_at_receiver(&self) -> bool {
+        match self {
+            AppKind::Log => LogApp.rests_at_receiver(),
+            AppKind::Acct => AcctApp.rests_at_receiver(),
+            AppKind::Rexmit => RexmitApp.rests_at_receiver(),
+            AppKind::Firewall => FirewallApp.rests_at_receiver(),
+        }
+    }
+
+    fn field(&self, i: u8, t: &Tally) -> Option<(&str, u64)> {
+        match self {
+            AppKind::Log => LogApp.field(i, t),
+            AppKind::Acct => AcctApp.field(i, t),
+            AppKind::Rexmit => RexmitApp.field(i, t),
+            AppKind::Firewall => FirewallApp.field(i, t),
+        }
+    }
+}
