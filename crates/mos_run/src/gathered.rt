@@ -1,7 +1,6 @@
 //! The top calls over an output of which each call costs much, as a file or a pipe.
 
 ghost use Rattle.std.specs.Prelude.{◌≡◌, ◌≤◌, map, Some, IfSome, string_bytes};
-ghost use Rattle.applications.specs.Apps.{meaning_of};
 ghost use Rattle.words.specs.Own.{own_settings};
 ghost use Rattle.mos_run.specs.Request.{Request, request_for, request_of, requested};
 ghost use Rattle.mos_run.specs.Run.{FinishesAlone, FinishesUnder, MosRun, RanUnder};
@@ -9,10 +8,7 @@ ghost use Rattle.mos_run.specs.Run.{FinishesAlone, FinishesUnder, MosRun, RanUnd
 use crate::ended::{Ended, handed_on, refuse};
 use crate::refusal::RunError;
 use crate::run::{Machine, run_chosen};
-use app_api::{App, LogApp};
-use app_firewall::FirewallApp;
-use app_traffic::{AcctApp, RexmitApp};
-use applications::AppKind;
+use app_api::App;
 use capture_replay::laws::{
     what_one_worker_has_is_allowed, without_live_commands_all_versions_are_known,
 };
@@ -77,49 +73,6 @@ fn gather_chosen<
     GatheredRun { ended, out }
 }
 
-// Runs the application that settings choose. Each has a run of its own, so that no packet asks which one it is.
-fn gather_named<
-    R: Threads + Wait + Sync + Send + Copy + Drop + 'static,
-    S: Source,
-    H: Shelf,
-    O: Sink,
-    E: Sink,
-    G: Gate + Sync,
->(
-    machine: &Machine<'_, R, G>,
-    settings: &Settings,
-    capture: &mut S,
-    shelf: &mut H,
-    out: O,
-    err: &mut E,
-) -> GatheredRun<O>
-    requires workers { (1 ≤ settings.now.workers) × (settings.now.workers ≤ 16) }
-    requires few { IfSome settings.now.make (λ n. n ≤ 100000) }
-    ensures done { result.ended.status ≡ 0
-        → (t : Request) → requested (meaning_of settings.now.app) (Some settings.now) (H.content shelf.old) (S.left capture.old) ≡ Some t
-        → FinishesUnder t result.ended.versions (O.taken out) (O.taken result.out) }
-    ensures alone { result.ended.status ≡ 0
-        → (t : Request) → requested (meaning_of settings.now.app) (Some settings.now) (H.content shelf.old) (S.left capture.old) ≡ Some t
-        → FinishesAlone t result.ended.versions (O.taken out) (O.taken result.out) }
-    ensures ran { RanUnder S.Source H.Shelf O.Sink E.Sink (meaning_of settings.now.app) (Some settings.now)
-        capture.old capture.new shelf.old shelf.new out result.out err.old err.new result.ended }
-{
-    match settings.app {
-        AppKind::Log => gather_chosen(machine, LogApp, settings, capture, shelf, out, err),
-        AppKind::Acct => gather_chosen(machine, AcctApp, settings, capture, shelf, out, err),
-        AppKind::Rexmit => gather_chosen(machine, RexmitApp, settings, capture, shelf, out, err),
-        AppKind::Firewall => gather_chosen(
-            machine,
-            FirewallApp,
-            settings,
-            capture,
-            shelf,
-            out,
-            err,
-        ),
-    }
-}
-
 /// Runs as `run_mos` does, and gives the output back. What is written is gathered, so that `out` is called once for some 65,536
 /// bytes. The packets of a forwarded capture are handed on at the latest before more of the capture is asked of the outside.
 ///
@@ -163,7 +116,10 @@ pub fn run_gathered<
     };
     what_one_worker_has_is_allowed();
     match read_words(alloc, words) {
-        Ok(settings) => gather_named(&machine, &settings, capture, shelf, out, err),
+        Ok(settings) => {
+            let app = settings.app;
+            gather_chosen(&machine, app, &settings, capture, shelf, out, err)
+        }
         Err(error) => {
             let ended = refuse(alloc, err, RunError::from(error));
             GatheredRun { ended, out }
