@@ -169,6 +169,7 @@ impl<A: App> Terms<'_, A> {
 ghost use Rattle.connection_core.specs.PacketUnderWay.{entry_of};
 
 // What the report tells of a callback.
+#[inline(always)]
 fn entry_of(raise_at: &RaiseAt, called: &Reg, seen: Seen) -> Entry
     ensures { result ≡ entry_of raise_at.now.number (raise_of raise_at.now) called.now seen }
 {

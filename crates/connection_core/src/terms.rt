@@ -28,7 +28,13 @@ impl<A: App> Terms<'_, A> {
     /// Runs a callback that saw so many bytes: a preset's application, or the action of a script's registration. An
     /// application alone is told the facts.
     #[inline(always)]
-    pub(crate) fn react(&self, raise_at: &RaiseAt, reg: &Reg, got: u32, tally: &mut Tally) -> Reaction
+    pub(crate) fn react(
+        &self,
+        raise_at: &RaiseAt,
+        reg: &Reg,
+        got: u32,
+        tally: &mut Tally,
+    ) -> Reaction
         ensures tally { ForControl self.now.in_force (λ s.
             tally.new ≡ (reaction_of (A.meaning self.now.app.now) s.rules reg.now (call_with raise_at.now reg.now got) tally.old).0) }
         ensures reaction { ForControl self.now.in_force (λ s.

@@ -5,9 +5,6 @@ use Rattle.connection_core.specs.InForce.{registered}
 use Rattle.connection_core.specs.Trees.{active_in}
 use Rattle.connection_core.specs.PacketUnderWay.{phase as phase_of}
 use Rattle.connection_core.specs.Standing.{Makes, CostsUnder, raise_of}
-use Rattle.shared_forest.specs.Lists.{TreeLists}
-use Rattle.connection_core.specs.Unheard.{CallsNothing}
-use Rattle.connection_core.proofs.Unheard.{made_silent}
 use Rattle.connection_core.proofs.Errors.{on_err_always}
 use Rattle.connection_core.proofs.Settling.{phase_begun, phase_on, phase_failed, raise_as}
 use Rattle.builtin_events.specs.Source.{facts_of}
