@@ -3,3 +3,4 @@ pub mod Heard
 pub mod Laws
 pub mod Raised
 pub mod Raises
+pub mod Source

@@ -14,6 +14,8 @@ mod listening;
 mod phases;
 mod raise;
 mod raised;
+mod raising;
+mod source;
 
 pub use laws::{receiver_raises_each_event_in_order, sender_raises_each_event_in_order};
 pub use listening::{is_heard_at_receiver, is_heard_at_sender};
@@ -23,3 +25,5 @@ pub use phases::{
 };
 pub use raise::{Raise, RaiseList};
 pub use raised::{EventList, Raised};
+pub use raising::{Raising, raising_at_receiver, raising_at_sender};
+pub use source::FactSource;

@@ -1,12 +1,15 @@
 //! What is raised in both phases of a packet, by an orphan, and where a connection ended by idleness.
 
-ghost use Rattle.std.specs.Prelude.{◌≡◌, [], ◌∷◌};
+ghost use Rattle.std.specs.Prelude.{◌≡◌, [], ◌∷◌, ℕ};
 ghost use Rattle.std.specs.Option.{option_copied};
+ghost use Rattle.native_filters.specs.declared.facts.Hook.TheVariants.{Snd, Rcv};
+ghost use Rattle.packet_views.specs.declared.packet.Head.{Head as HeadOf};
+ghost use Rattle.tcp_emulation.specs.declared.segment.Side.{Side};
 ghost use Rattle.builtin_events.specs.Facts.{sender_facts, receiver_facts, orphan_facts, timer_facts};
-ghost use Rattle.builtin_events.specs.Raised.{raises_of};
+ghost use Rattle.builtin_events.specs.Raised.{raises_of, raises_with};
 ghost use Rattle.builtin_events.specs.Raises.{sender_raises, receiver_raises, orphan_raises, timer_raise};
 
-use crate::facts::{orphan_facts, receiver_facts, sender_facts, timer_facts};
+use crate::facts::{orphan_facts, read_bytes, receiver_facts, sender_facts, timer_facts};
 use crate::raise::RaiseList;
 use crate::raised::{EventList, Raised};
 use app_api::{END, ERROR, NEW_DATA, ORPHAN, PKT_IN, REXMIT, START, STATE, TIMER};
@@ -25,16 +28,25 @@ pub fn raised_at_sender(h: &Head, from: Side, nth: u64, first: bool, s: &Sent) -
     ensures hook { result.hook ≡ Hook.Snd }
     ensures facts { result.facts ≡ sender_facts h.now from nth s.now }
 {
-    let facts = sender_facts(h, from, nth, s);
+    Raised {
+        hook: Hook::Snd,
+        facts: sender_facts(h, from, nth, s),
+        events: events_at_sender(first, s),
+    }
+}
+
+/// The events of these raises.
+#[inline(always)]
+#[tactic(auto, unfolding(crate::specs::Raises::sender_raises, crate::specs::Facts::sender_facts))]
+pub(crate) fn events_at_sender(first: bool, s: &Sent) -> EventList
+    ensures { (h : HeadOf) (from : Side) (nth : ℕ) → raises_with Snd (sender_facts h from nth s.now) result
+        ≡ sender_raises h from nth first s.now }
+{
     let mut events = EventList::new();
     events.add_if(first, START);
     events.add_if(true, PKT_IN);
-    events.add_if(facts.old != facts.new, STATE);
-    Raised {
-        hook: Hook::Snd,
-        facts,
-        events,
-    }
+    events.add_if(s.change.old.number() != s.change.new.number(), STATE);
+    events
 }
 
 /// What a packet raises at its receiver, after the receiver's step: `pkt_in`, `rexmit` where bytes
@@ -46,19 +58,28 @@ pub fn raised_at_receiver(h: &Head, from: Side, nth: u64, g: &Got) -> Raised
     ensures hook { result.hook ≡ Hook.Rcv }
     ensures facts { result.facts ≡ receiver_facts h.now from nth g.now }
 {
-    let facts = receiver_facts(h, from, nth, g);
-    let mut events = EventList::new();
-    events.add_if(true, PKT_IN);
-    events.add_if(facts.rexlen > 0, REXMIT);
-    events.add_if(g.rose, NEW_DATA);
-    events.add_if(facts.fault != 0, ERROR);
-    events.add_if(facts.old != facts.new, STATE);
-    events.add_if(g.over, END);
     Raised {
         hook: Hook::Rcv,
-        facts,
-        events,
+        facts: receiver_facts(h, from, nth, g),
+        events: events_at_receiver(h, g),
     }
+}
+
+/// The events of these raises.
+#[inline(always)]
+#[tactic(auto, unfolding(crate::specs::Raises::receiver_raises, crate::specs::Facts::receiver_facts))]
+pub(crate) fn events_at_receiver(h: &Head, g: &Got) -> EventList
+    ensures { (from : Side) (nth : ℕ) → raises_with Rcv (receiver_facts h.now from nth g.now) result
+        ≡ receiver_raises h.now from nth g.now }
+{
+    let mut events = EventList::new();
+    events.add_if(true, PKT_IN);
+    events.add_if(read_bytes(h, g.placed.old) > 0, REXMIT);
+    events.add_if(g.rose, NEW_DATA);
+    events.add_if(g.fault != 0, ERROR);
+    events.add_if(g.change.old.number() != g.change.new.number(), STATE);
+    events.add_if(g.over, END);
+    events
 }
 
 /// What a packet that belongs to no connection raises: `orphan` alone. Its header fields count for class

@@ -92,6 +92,7 @@ impl CallbackLog {
 
 // Room for one note more. A full list grows by half and eight places, not to twice its length: a run keeps a list for each of
 // many records to its end. The first room is for eight, since a list that grows is copied.
+#[inline(always)]
 fn make_room(notes: &mut Vec<Note>) -> Result<(), AllocError>
     ensures room { OnOk result (vec_len notes.new < vec_capacity notes.new) }
     ensures same { notes.new.items ≡ notes.old.items }
@@ -104,6 +105,7 @@ fn make_room(notes: &mut Vec<Note>) -> Result<(), AllocError>
 }
 
 // Keeps what a callback saw, if it had a peek.
+#[inline(always)]
 fn keep_seen(peeks: &mut Vec<Seen>, seen: Seen) -> Result<(), AllocError>
     ensures kept { OnOk result (peeks.new.items ≡ peeks.old.items ++ seen_kept seen) }
     ensures stays { OnErr result (peeks.new.items ≡ peeks.old.items) }

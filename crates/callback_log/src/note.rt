@@ -37,6 +37,7 @@ impl Note {
 }
 
 /// Whether a callback had a peek.
+#[inline(always)]
 pub(crate) fn has_seen(seen: &Seen) -> bool
     ensures { result ≡ has_seen seen.now }
 {

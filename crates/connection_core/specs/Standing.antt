@@ -4,13 +4,14 @@ use Rattle.tcp_emulation.specs.declared.segment.Side.{Side}
 use Rattle.tcp_emulation.specs.declared.segment.Side.TheVariants.{Client, Server}
 use Rattle.flow_socket.specs.Emulation.{Emulation}
 use Rattle.flow_socket.specs.View.{SocketView, SocketStandsFor, next_at}
+use Rattle.app_api.specs.declared.app.Call.{Call}
 use Rattle.app_api.specs.declared.app.Tally.{Tally}
 use Rattle.app_api.specs.declared.entry.Entry.{Entry}
 use Rattle.app_api.specs.declared.entry.Seen.{Seen}
 use Rattle.app_api.specs.declared.registration.PeekSpec.{PeekSpec}
 use Rattle.app_api.specs.declared.registration.Reg.{Reg}
 use Rattle.builtin_events.specs.declared.raise.Raise.{Raise}
-use Rattle.builtin_events.specs.Raised.{raises_of}
+use Rattle.builtin_events.specs.Source.{facts_of, raises_in}
 use Rattle.shared_forest.specs.Lists.{TreeLists}
 use Rattle.connection_core.specs.declared.ledger.Notes.{Notes}
 use Rattle.connection_core.specs.declared.ledger.Counts.{Counts}
@@ -96,7 +97,11 @@ pub record RiseBy (n : ℕ) (old new : Counts) : Type 0 where
   pub weight : new.weight ≤ old.weight + 288 * n
 
 abbrev pub raise_of : RaiseAt → Raise
-raise_of m = record { hook = m.hook; event = m.event; facts = m.facts.now }
+raise_of m = record { hook = m.hook; event = m.event; facts = facts_of m.source }
+
+-- the call of a registration that saw so many bytes
+abbrev pub call_with : RaiseAt → Reg → ℕ → Call
+call_with m r got = record { reg = r.number; hook = m.hook; event = r.event; facts = facts_of m.source; got = got }
 
 -- a step of the packet with this number, sent by this side, for one of its raises
 abbrev pub at_raise : {T : Type 0} → (ℕ → Side → Raise → T) → RaiseAt → T
@@ -104,7 +109,7 @@ at_raise step m = step m.number m.from (raise_of m)
 
 -- and for all raises of its phase
 abbrev pub in_phase : {T : Type 0} → (ℕ → Side → List Raise → T) → Phase → T
-in_phase step p = step p.number p.from (raises_of p.raised)
+in_phase step p = step p.number p.from (raises_in p.raising)
 
 -- one more is kept, where anything is kept
 abbrev pub kept_with : {T : Type 0} → Bool → List T → T → List T

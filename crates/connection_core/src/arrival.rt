@@ -3,8 +3,8 @@
 ghost use Rattle.std.specs.Prelude.{◌≡◌, ◌≤◌, length};
 ghost use Rattle.std.specs.Option.{ForSome};
 
-use builtin_events::Raised;
-use native_filters::{Facts, Hook};
+use builtin_events::{FactSource, Raising};
+use native_filters::Hook;
 use packet_views::Head;
 use tcp_emulation::Side;
 
@@ -35,35 +35,38 @@ pub(crate) struct RaiseAt<'a> {
     pub(crate) hook: Hook,
     /// The event that is raised.
     pub(crate) event: u16,
-    pub(crate) facts: &'a Facts,
+    /// What its facts are made of.
+    pub(crate) source: FactSource<'a>,
 }
 
 /// One phase of a packet, and what it raises.
 #[derive(Drop)]
-pub(crate) struct Phase {
+pub(crate) struct Phase<'a> {
     /// The packet's number.
     pub(crate) number: u64,
     /// Who sent it.
     pub(crate) from: Side,
-    pub(crate) raised: Raised,
+    pub(crate) raising: Raising<'a>,
 }
 
-impl Phase {
+impl Phase<'_> {
     ghost use Rattle.connection_core.specs.Standing.{raise_of};
+    ghost use Rattle.builtin_events.specs.Source.{facts_of};
 
     /// Its raise of an event.
+    #[inline(always)]
     pub(crate) fn raise_at(&self, event: u16) -> RaiseAt<'_>
         ensures number { result.number ≡ self.now.number }
         ensures from { result.from ≡ self.now.from }
         ensures raise { raise_of result
-            ≡ record { hook = self.now.raised.hook; event = event; facts = self.now.raised.facts } }
+            ≡ record { hook = self.now.raising.hook; event = event; facts = facts_of self.now.raising.source } }
     {
         RaiseAt {
             number: self.number,
             from: self.from,
-            hook: self.raised.hook,
+            hook: self.raising.hook,
             event,
-            facts: &self.raised.facts,
+            source: self.raising.source,
         }
     }
 }

@@ -14,7 +14,7 @@ use crate::hearing::hearers;
 use crate::ledger::{Ledger, Notes};
 use crate::look::look;
 use crate::terms::Terms;
-use app_api::{App, Call, Entry, Hearers, Reg, Seen};
+use app_api::{App, Entry, Hearers, Reg, Seen};
 use event_trees::{Walk, later_events_change_nothing, slots_in_order};
 use flow_socket::FlowSocket;
 use shared_forest::Tree;
@@ -44,8 +44,7 @@ impl<A: App> Terms<'_, A> {
         ensures as_far { IsAsFar socket.old socket.new }
     {
         let look = look(alloc, self.keep, socket, raise_at.from, &reg.peek)?;
-        let call = call_of(raise_at, reg, look.got);
-        let reaction = self.react(reg, &call, &mut notes.tally);
+        let reaction = self.react(raise_at, reg, look.got, &mut notes.tally);
         ledger.count(look.got);
         ledger.ask(&reaction)?;
         notes.keep_entry(self.keep, entry_of(raise_at, reg, look.seen))
@@ -81,7 +80,7 @@ impl<A: App> Terms<'_, A> {
         &self,
         alloc: Global,
         tree: &Tree,
-        raise_at: &RaiseAt,
+        raise_at: RaiseAt,
         socket: &mut FlowSocket,
         notes: &mut Notes,
         ledger: &mut Ledger,
@@ -91,16 +90,17 @@ impl<A: App> Terms<'_, A> {
         requires weight { ledger.old.counts.weight < 2 ^ 62 }
         ensures stands { OnOk result (StepsInForce self.now.keep self.now.in_force
             (list_in_force self.now.in_force tree.now) socket.old notes.old ledger.old socket.new notes.new ledger.new
-            (λ s. at_raise (called_at (A.meaning self.now.app.now) s) raise_at.now)) }
+            (λ s. at_raise (called_at (A.meaning self.now.app.now) s) raise_at.entry)) }
         ensures rise { RiseBy 255 ledger.old.counts ledger.new.counts }
         ensures as_far { IsAsFar socket.old socket.new }
     {
         let defs = self.in_force.defs();
         slots_in_order(tree);
         later_events_change_nothing(defs);
-        let mut walk = Walk::start(tree, raise_at.hook, raise_at.event, raise_at.facts);
+        let facts = raise_at.source.facts();
+        let mut walk = Walk::start(tree, raise_at.hook, raise_at.event, &facts);
         while let Some(number) = walk.next(defs, self.natives) {
-            self.call_number(alloc, raise_at, number, socket, notes, ledger)?;
+            self.call_number(alloc, &raise_at, number, socket, notes, ledger)?;
         }
         Ok(())
     }
@@ -133,7 +133,7 @@ impl<A: App> Terms<'_, A> {
             }
             Hearers::More => {
                 ledger.make_room(MOST)?;
-                self.walk(alloc, tree, raise_at, socket, notes, ledger)
+                self.walk(alloc, tree, *raise_at, socket, notes, ledger)
             }
         }
     }
@@ -158,7 +158,7 @@ impl<A: App> Terms<'_, A> {
         ensures rise { RiseBy 1530 ledger.old.counts ledger.new.counts }
         ensures as_far { IsAsFar socket.old socket.new }
     {
-        for event in phase.raised.events.as_slice() {
+        for event in phase.raising.events.as_slice() {
             let raise_at = phase.raise_at(*event);
             self.call_at(alloc, tree, &raise_at, socket, notes, ledger)?;
         }
@@ -168,26 +168,8 @@ impl<A: App> Terms<'_, A> {
 
 ghost use Rattle.connection_core.specs.PacketUnderWay.{entry_of};
 
-// The call as the application sees it.
-fn call_of(raise_at: &RaiseAt, reg: &Reg, got: u32) -> Call
-    ensures { result ≡ record {
-      reg = reg.now.number;
-      hook = raise_at.now.hook;
-      event = reg.now.event;
-      facts = raise_at.now.facts.now;
-      got = got;
-    } }
-{
-    Call {
-        reg: reg.number,
-        hook: raise_at.hook,
-        event: reg.event,
-        facts: *raise_at.facts,
-        got,
-    }
-}
-
 // What the report tells of a callback.
+#[inline(always)]
 fn entry_of(raise_at: &RaiseAt, called: &Reg, seen: Seen) -> Entry
     ensures { result ≡ entry_of raise_at.now.number (raise_of raise_at.now) called.now seen }
 {

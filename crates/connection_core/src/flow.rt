@@ -8,13 +8,13 @@ ghost use Rattle.connection_core.specs.Reach.{Reaches};
 
 use crate::arrival::{Arrived, Phase, RaiseAt};
 use crate::changes::change_all;
-use crate::hearing::{hears, hears_receiver, hears_sender};
+use crate::hearing::{hears_receiver, hears_sender};
 use crate::in_force::InForce;
 use crate::ledger::{Ledger, Notes};
 use crate::rests::entry_at_rest;
 use crate::terms::Terms;
 use app_api::{App, Reason, Verdict};
-use builtin_events::{raised_at_receiver, raised_at_sender};
+use builtin_events::{raising_at_receiver, raising_at_sender};
 use flow_socket::FlowSocket;
 use shared_forest::{Forests, Shared};
 use std::alloc::{AllocError, Global};
@@ -107,8 +107,7 @@ impl Flow {
         Ok(())
     }
 
-    // Makes the raises of a phase, one after the other, each over the list that the one before it left. Of those that
-    // nobody hears nothing is made: they call nothing, and no change is asked that isn't made yet.
+    // Makes the raises of a phase, one after the other, each over the list that the one before it left.
     #[inline(always)]
     fn make<A: App, F: Forests>(
         &mut self,
@@ -134,11 +133,7 @@ impl Flow {
         ensures asked { OnOk result (ledger.new.changes.items ≡ []) }
         ensures count { self.new.count ≡ self.old.count }
     {
-        for event in phase.raised.events.as_slice() {
-            let tree = forests.tree_of(&self.forest);
-            if !hears(&terms.in_force, tree, phase.raised.hook, *event) {
-                continue;
-            }
+        for event in phase.raising.events.as_slice() {
             let raise_at = phase.raise_at(*event);
             self.raise(alloc, terms, forests, &raise_at, notes, ledger)?;
         }
@@ -177,11 +172,11 @@ impl Flow {
         if !hears_sender(&terms.in_force, forests.tree_of(&self.forest), first, &sent) {
             return Ok(());
         }
-        let raised = raised_at_sender(arrived.head, arrived.from, self.count, first, &sent);
+        let raising = raising_at_sender(arrived.head, arrived.from, self.count, first, &sent);
         let phase = Phase {
             number: arrived.number,
             from: arrived.from,
-            raised,
+            raising,
         };
         self.make(alloc, terms, forests, &phase, notes, ledger)
     }
@@ -227,7 +222,7 @@ impl Flow {
         let phase = Phase {
             number: arrived.number,
             from: arrived.from,
-            raised: raised_at_receiver(arrived.head, arrived.from, nth, &got),
+            raising: raising_at_receiver(arrived.head, arrived.from, nth, &got),
         };
         self.make(alloc, terms, forests, &phase, notes, ledger)
     }

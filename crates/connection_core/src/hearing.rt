@@ -66,16 +66,6 @@ pub(crate) fn hearers(in_force: &InForce, tree: &Tree, hook: Hook, event: u16) -
     tree.heard(hook).get(event)
 }
 
-/// Whether the raise of an event is heard.
-pub(crate) fn hears(in_force: &InForce, tree: &Tree, hook: Hook, event: u16) -> bool
-    requires forest { IsForestInForce in_force.now tree.now }
-    ensures { result ≡ false → (s : ControlState) (facts : Facts) → IsInForce in_force.now s
-        → CallsNothing s (list_in_force in_force.now tree.now) (record { hook = hook; event = event; facts = facts }) }
-{
-    unheard_calls_nothing(in_force, tree);
-    tree.is_heard(hook, event)
-}
-
 /// Whether any raise of a packet's phase at its sender is heard.
 pub(crate) fn hears_sender(in_force: &InForce, tree: &Tree, first: bool, sent: &Sent) -> bool
     requires forest { IsForestInForce in_force.now tree.now }

@@ -83,6 +83,7 @@ impl Ledger {
     }
 
     /// A packet begins, for which nothing was asked yet.
+    #[inline(always)]
     pub(crate) fn begin(&mut self)
         ensures changes { self.new.changes.items ≡ [] }
         ensures drop { self.new.drop ≡ None }
@@ -110,6 +111,7 @@ impl Ledger {
     }
 
     /// Counts a callback that saw so many bytes.
+    #[inline(always)]
     pub(crate) fn count(&mut self, got: u32)
         requires callbacks { self.old.counts.callbacks < 2 ^ 63 }
         requires weight { self.old.counts.weight < 2 ^ 63 }
@@ -123,6 +125,7 @@ impl Ledger {
     }
 
     /// Notes what a callback asks.
+    #[inline(always)]
     pub(crate) fn ask(&mut self, reaction: &Reaction) -> Result<(), AllocError>
         ensures changes { OnOk result (self.new.changes.items ≡ self.old.changes.items ++ reaction.now.changes) }
         ensures drop { self.new.drop ≡ first_reason self.old.drop reaction.now.drop }

@@ -27,6 +27,7 @@ pub(crate) struct Looked {
 }
 
 /// Peeks. Bytes are copied only where they are to be kept.
+#[inline(always)]
 pub(crate) fn look(
     alloc: Global,
     keep: bool,

@@ -12,7 +12,7 @@ use crate::flow::verdict_of;
 use crate::ledger::{Ledger, Notes};
 use crate::terms::Terms;
 use app_api::{App, Verdict};
-use builtin_events::Raised;
+use builtin_events::{FactSource, Raised, Raising};
 use flow_socket::FlowSocket;
 use shared_forest::{ForestView, Shared};
 use std::alloc::{AllocError, Global};
@@ -47,10 +47,19 @@ pub fn orphan<A: App, F: ForestView>(
     ensures rise { RiseBy 1530 ledger.old.counts ledger.new.counts }
 {
     ledger.begin();
+    let Raised {
+        hook,
+        facts,
+        events,
+    } = raised;
     let phase = Phase {
         number,
         from: Side::Client,
-        raised,
+        raising: Raising {
+            hook,
+            source: FactSource::Made(&facts),
+            events,
+        },
     };
     let mut socket = FlowSocket::new(alloc, terms.in_force.rbuf(), terms.in_force.policy());
     let tree = forests.tree_of(forest);

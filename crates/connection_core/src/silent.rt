@@ -13,6 +13,7 @@ use crate::flow::Flow;
 use crate::ledger::{Ledger, Notes};
 use crate::terms::Terms;
 use app_api::{App, TIMER};
+use builtin_events::FactSource;
 use native_filters::{Facts, Hook};
 use shared_forest::ForestView;
 use std::alloc::{AllocError, Global};
@@ -50,7 +51,7 @@ pub fn silence<A: App, F: ForestView>(
         from: Side::Client,
         hook: Hook::Rcv,
         event: TIMER,
-        facts,
+        source: FactSource::Made(facts),
     };
     let tree = forests.tree_of(&forest);
     terms.call_at(alloc, tree, &raise_at, &mut socket, notes, ledger)

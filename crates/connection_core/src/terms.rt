@@ -3,7 +3,9 @@
 ghost use Rattle.std.specs.Prelude.{◌≡◌, IsTrue};
 ghost use Rattle.connection_core.specs.InForce.{ForControl};
 ghost use Rattle.connection_core.specs.PacketUnderWay.{reaction_of, asked_by};
+ghost use Rattle.connection_core.specs.Standing.{call_with};
 
+use crate::arrival::RaiseAt;
 use crate::in_force::InForce;
 use app_api::{App, Call, Reaction, Reason, Reg, Tally};
 use native_filters::NativeBook;
@@ -23,18 +25,41 @@ pub struct Terms<'a, A> {
 pub(crate) const FIRST_OF_SCRIPTS: u8 = 16;
 
 impl<A: App> Terms<'_, A> {
-    /// Runs a callback: a preset's application, or the action of a script's registration.
-    pub(crate) fn react(&self, reg: &Reg, call: &Call, tally: &mut Tally) -> Reaction
+    /// Runs a callback that saw so many bytes: a preset's application, or the action of a script's registration. An
+    /// application alone is told the facts.
+    #[inline(always)]
+    pub(crate) fn react(
+        &self,
+        raise_at: &RaiseAt,
+        reg: &Reg,
+        got: u32,
+        tally: &mut Tally,
+    ) -> Reaction
         ensures tally { ForControl self.now.in_force (λ s.
-            tally.new ≡ (reaction_of (A.meaning self.now.app.now) s.rules reg.now call.now tally.old).0) }
+            tally.new ≡ (reaction_of (A.meaning self.now.app.now) s.rules reg.now (call_with raise_at.now reg.now got) tally.old).0) }
         ensures reaction { ForControl self.now.in_force (λ s.
-            result ≡ (reaction_of (A.meaning self.now.app.now) s.rules reg.now call.now tally.old).1) }
+            result ≡ (reaction_of (A.meaning self.now.app.now) s.rules reg.now (call_with raise_at.now reg.now got) tally.old).1) }
     {
         if reg.number < FIRST_OF_SCRIPTS {
-            self.app.react(tally, call, self.in_force.rules())
+            let call = call_with(raise_at, reg, got);
+            self.app.react(tally, &call, self.in_force.rules())
         } else {
             asked_by(reg)
         }
+    }
+}
+
+// The call as the application sees it.
+#[inline(always)]
+fn call_with(raise_at: &RaiseAt, reg: &Reg, got: u32) -> Call
+    ensures { result ≡ call_with raise_at.now reg.now got }
+{
+    Call {
+        reg: reg.number,
+        hook: raise_at.hook,
+        event: reg.event,
+        facts: raise_at.source.facts(),
+        got,
     }
 }
 

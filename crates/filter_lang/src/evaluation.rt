@@ -68,6 +68,7 @@ fn any_true<N: Natives>(terms: &[Term], facts: &Facts, natives: &N) -> bool
 }
 
 // Whether a comparison is true of the facts.
+#[inline(always)]
 fn holds(left: &Sum, op: Op, right: &Sum, facts: &Facts) -> bool
     requires left { SumIsWithin left.now }
     requires right { SumIsWithin right.now }

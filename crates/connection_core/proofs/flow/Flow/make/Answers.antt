@@ -5,11 +5,9 @@ use Rattle.connection_core.specs.InForce.{registered}
 use Rattle.connection_core.specs.Trees.{active_in}
 use Rattle.connection_core.specs.PacketUnderWay.{phase as phase_of}
 use Rattle.connection_core.specs.Standing.{Makes, CostsUnder, raise_of}
-use Rattle.shared_forest.specs.Lists.{TreeLists}
-use Rattle.connection_core.specs.Unheard.{CallsNothing}
-use Rattle.connection_core.proofs.Unheard.{made_silent}
 use Rattle.connection_core.proofs.Errors.{on_err_always}
 use Rattle.connection_core.proofs.Settling.{phase_begun, phase_on, phase_failed, raise_as}
+use Rattle.builtin_events.specs.Source.{facts_of}
 use Rattle.connection_core.proofs.flow.Flow.make.Goals as goal
 
 pub loop-event-init : goal.loop-event-init
@@ -41,7 +39,7 @@ loop-event-preserved g c =
           let content = g.F.ForestView.content in
           let in_tree = active_in (registered c.args.terms.now.in_force) in
           let phase = c.args.phase.now in
-          let at : ℕ → Raise = λ event. record { hook = phase.raised.hook; event = event; facts = phase.raised.facts } in
+          let at : ℕ → Raise = λ event. record { hook = phase.raising.hook; event = event; facts = facts_of phase.raising.source } in
           let n = c.loop-event.event-index in
           let items = c.as_slice-event-items.ensures.items in
           let list_now = in_tree (content c.loop-event.forests c.loop-event.self.forest) in
@@ -49,10 +47,10 @@ loop-event-preserved g c =
           let one = raise_as
           (λ step. Makes keep list_now c.loop-event.self.socket c.loop-event.notes c.loop-event.ledger (interns c.loop-event.forests)
           list_after c.raise.new.self.socket c.raise.new.notes c.raise.new.ledger (interns c.raise.new.forests) step)
-          app s phase.number c.raise_at-raise_at.result.number phase.from c.raise_at-raise_at.result.from (at (get_or phase.raised.events n 0)) (raise_of c.raise_at-raise_at.result)
+          app s phase.number c.raise_at-raise_at.result.number phase.from c.raise_at-raise_at.result.from (at (get_or phase.raising.events n 0)) (raise_of c.raise_at-raise_at.result)
           c.raise_at-raise_at.ensures.number c.raise_at-raise_at.ensures.from (c.raise_at-raise_at.ensures.raise ∙ ap (λ (l : List ℕ). at (get_or l n 0)) items)
           (c.in_ok-raise.ensures.made s force) in
-          phase_on app s keep phase.number phase.from at phase.raised.events n
+          phase_on app s keep phase.number phase.from at phase.raising.events n
           (in_tree (content c.args.forests.now c.args.self.now.forest)) list_now list_after
           c.args.self.now.socket c.loop-event.self.socket c.raise.new.self.socket c.args.notes.now c.loop-event.notes c.raise.new.notes c.args.ledger.now c.loop-event.ledger c.raise.new.ledger
           (interns c.args.forests.now) (interns c.loop-event.forests) (interns c.raise.new.forests)
@@ -62,48 +60,17 @@ loop-event-preserved g c =
       count = c.raise.ensures.count ∙ inv.count;
     }
 
--- nobody hears it
-pub loop-event-preserved-then-not-hears : goal.loop-event-preserved-then-not-hears
-loop-event-preserved-then-not-hears g c =
-    let inv = c.loop-event.invariant in record {
-      held = inv.held;
-      kept = inv.kept;
-      made = λ s force.
-          let app = g.A.App.meaning c.args.terms.now.app.now in
-          let keep = c.args.terms.now.keep in
-          let interns = g.F.ForestView.interns in
-          let in_tree = active_in (registered c.args.terms.now.in_force) in
-          let phase = c.args.phase.now in
-          let at : ℕ → Raise = λ event. record { hook = phase.raised.hook; event = event; facts = phase.raised.facts } in
-          let n = c.loop-event.event-index in
-          let items = c.as_slice-event-items.ensures.items in
-          let list_now = in_tree (g.F.ForestView.content c.loop-event.forests c.loop-event.self.forest) in
-          let over_it = subst (λ (t : TreeLists). CallsNothing s (in_tree t) (at (get_or c.as_slice-event-items.result.now n 0))) c.tree_of-tree.ensures
-          (c.hears.ensures c.if-not-hears.true s phase.raised.facts force) in
-          let silent = subst (λ (l : List ℕ). CallsNothing s list_now (at (get_or l n 0))) items over_it in
-          phase_on app s keep phase.number phase.from at phase.raised.events n
-          (in_tree (g.F.ForestView.content c.args.forests.now c.args.self.now.forest)) list_now list_now
-          c.args.self.now.socket c.loop-event.self.socket c.loop-event.self.socket c.args.notes.now c.loop-event.notes c.loop-event.notes c.args.ledger.now c.loop-event.ledger c.loop-event.ledger
-          (interns c.args.forests.now) (interns c.loop-event.forests) (interns c.loop-event.forests)
-          (subst (λ (l : List ℕ). n < length l) items c.loop-event-test.true) (inv.made s force)
-          (made_silent app s keep list_now (interns c.loop-event.forests) phase.number phase.from (at (get_or phase.raised.events n 0))
-          c.loop-event.self.socket c.loop-event.notes c.loop-event.ledger silent inv.asked);
-      rise = record { callbacks = omega (arith, inv.rise.callbacks); weight = omega (arith, inv.rise.weight) };
-      asked = inv.asked;
-      count = inv.count;
-    }
-
 pub returns-clause-made : goal.returns-clause-made
 returns-clause-made g c = λ s force.
     let phase = c.args.phase.now in
-    let at : ℕ → Raise = λ event. record { hook = phase.raised.hook; event = event; facts = phase.raised.facts } in
+    let at : ℕ → Raise = λ event. record { hook = phase.raising.hook; event = event; facts = facts_of phase.raising.source } in
     let in_tree = active_in (registered c.args.terms.now.in_force) in
     let n = c.loop-event.event-index in
-    let last : length phase.raised.events ≤ n = subst (λ (l : List ℕ). length l ≤ n) c.as_slice-event-items.ensures.items c.loop-event-test.false in
+    let last : length phase.raising.events ≤ n = subst (λ (l : List ℕ). length l ≤ n) c.as_slice-event-items.ensures.items c.loop-event-test.false in
     subst (λ l. Makes c.args.terms.now.keep
     (in_tree (g.F.ForestView.content c.args.forests.now c.args.self.now.forest)) c.args.self.now.socket c.args.notes.now c.args.ledger.now (g.F.ForestView.interns c.args.forests.now)
     (in_tree (g.F.ForestView.content c.loop-event.forests c.loop-event.self.forest)) c.loop-event.self.socket c.loop-event.notes c.loop-event.ledger (g.F.ForestView.interns c.loop-event.forests)
-    (phase_of (g.A.App.meaning c.args.terms.now.app.now) s phase.number phase.from (map at l))) (take_all n phase.raised.events last) (c.loop-event.invariant.made s force)
+    (phase_of (g.A.App.meaning c.args.terms.now.app.now) s phase.number phase.from (map at l))) (take_all n phase.raising.events last) (c.loop-event.invariant.made s force)
 
 pub returns-in_err-raise-clause-failed : goal.returns-in_err-raise-clause-failed
 returns-in_err-raise-clause-failed g c = on_err_always c.from_residual.result (λ s force.
@@ -112,16 +79,16 @@ returns-in_err-raise-clause-failed g c = on_err_always c.from_residual.result (�
     let interns = g.F.ForestView.interns in
     let in_tree = active_in (registered c.args.terms.now.in_force) in
     let phase = c.args.phase.now in
-    let at : ℕ → Raise = λ event. record { hook = phase.raised.hook; event = event; facts = phase.raised.facts } in
+    let at : ℕ → Raise = λ event. record { hook = phase.raising.hook; event = event; facts = facts_of phase.raising.source } in
     let n = c.loop-event.event-index in
     let items = c.as_slice-event-items.ensures.items in
     let list_now = in_tree (g.F.ForestView.content c.loop-event.forests c.loop-event.self.forest) in
     let one = raise_as
     (λ step. CostsUnder keep list_now c.loop-event.self.socket c.loop-event.notes c.loop-event.ledger (interns c.loop-event.forests) (interns c.raise.new.forests) step)
-    app s phase.number c.raise_at-raise_at.result.number phase.from c.raise_at-raise_at.result.from (at (get_or phase.raised.events n 0)) (raise_of c.raise_at-raise_at.result)
+    app s phase.number c.raise_at-raise_at.result.number phase.from c.raise_at-raise_at.result.from (at (get_or phase.raising.events n 0)) (raise_of c.raise_at-raise_at.result)
     c.raise_at-raise_at.ensures.number c.raise_at-raise_at.ensures.from (c.raise_at-raise_at.ensures.raise ∙ ap (λ (l : List ℕ). at (get_or l n 0)) items)
     (c.in_err-raise.ensures.failed s force) in
-    phase_failed app s keep phase.number phase.from at phase.raised.events n (in_tree (g.F.ForestView.content c.args.forests.now c.args.self.now.forest)) list_now
+    phase_failed app s keep phase.number phase.from at phase.raising.events n (in_tree (g.F.ForestView.content c.args.forests.now c.args.self.now.forest)) list_now
     c.args.self.now.socket c.loop-event.self.socket c.args.notes.now c.loop-event.notes c.args.ledger.now c.loop-event.ledger
     (interns c.args.forests.now) (interns c.loop-event.forests) (interns c.raise.new.forests)
     (subst (λ (l : List ℕ). n < length l) items c.loop-event-test.true) (c.loop-event.invariant.made s force) one)

@@ -1,5 +1,5 @@
 use Rattle.std.proofs.lemmas.Result.{on_ok_weaker, on_err_weaker}
-use Rattle.builtin_events.specs.Raised.{raises_of}
+use Rattle.builtin_events.specs.Source.{raises_in}
 use Rattle.connection_core.specs.InForce.{registered}
 use Rattle.connection_core.specs.Standing.{Reached, kept_with}
 use Rattle.connection_core.specs.Trees.{active_in, InternsWithin}
@@ -23,10 +23,10 @@ returns-clause-stands g c =
           let keep = c.args.terms.now.keep in
           receiver_makes app s keep others (active_in at (g.F.ForestView.content c.args.forests.now c.args.self.now.forest))
           c.args.arrived.now.number c.args.arrived.now.from c.args.arrived.now.head.now c.args.arrived.now.payload.now c.args.self.now.count
-          c.in_ok-got.got (raises_of c.raised_at_receiver.result) c.args.self.now.socket c.receive.new.self c.args.notes.now c.args.ledger.now under_way
+          c.in_ok-got.got (raises_in c.raising_at_receiver.result) c.args.self.now.socket c.receive.new.self c.args.notes.now c.args.ledger.now under_way
           (λ before after. Reached keep others (active_in at (g.F.ForestView.content c.make.new.forests c.make.new.self.forest)) c.make.new.self.socket c.make.new.notes c.make.new.ledger
           (g.F.ForestView.interns c.args.forests.now) (g.F.ForestView.interns c.make.new.forests) before.altered after)
-          u c.in_ok-got.ensures.stands c.in_ok-got.ensures.answer c.raised_at_receiver.ensures.raises ((makes s force).stands others);
+          u c.in_ok-got.ensures.stands c.in_ok-got.ensures.answer c.raising_at_receiver.ensures ((makes s force).stands others);
     })
     c.make.ensures.made
 
@@ -37,9 +37,9 @@ returns-clause-failed g c =
           receiver_makes (g.A.App.meaning c.args.terms.now.app.now) s c.args.terms.now.keep others
           (active_in (registered c.args.terms.now.in_force) (g.F.ForestView.content c.args.forests.now c.args.self.now.forest))
           c.args.arrived.now.number c.args.arrived.now.from c.args.arrived.now.head.now c.args.arrived.now.payload.now c.args.self.now.count
-          c.in_ok-got.got (raises_of c.raised_at_receiver.result) c.args.self.now.socket c.receive.new.self c.args.notes.now c.args.ledger.now under_way
+          c.in_ok-got.got (raises_in c.raising_at_receiver.result) c.args.self.now.socket c.receive.new.self c.args.notes.now c.args.ledger.now under_way
           (λ before after. InternsWithin (g.F.ForestView.interns c.args.forests.now) (g.F.ForestView.interns c.make.new.forests) before.altered after.altered)
-          u c.in_ok-got.ensures.stands c.in_ok-got.ensures.answer c.raised_at_receiver.ensures.raises ((costs s force).interned others);
+          u c.in_ok-got.ensures.stands c.in_ok-got.ensures.answer c.raising_at_receiver.ensures ((costs s force).interned others);
     })
     c.make.ensures.failed
 

@@ -1,5 +1,5 @@
 use Rattle.std.proofs.lemmas.Result.{on_ok_weaker, on_err_weaker}
-use Rattle.builtin_events.specs.Raised.{raises_of}
+use Rattle.builtin_events.specs.Source.{raises_in}
 use Rattle.connection_core.specs.InForce.{registered}
 use Rattle.connection_core.specs.Standing.{Reached}
 use Rattle.connection_core.specs.Trees.{active_in, InternsWithin}
@@ -19,10 +19,10 @@ returns-clause-stands g c =
     let keep = c.args.terms.now.keep in
     sender_makes app s keep others at (g.F.ForestView.content c.args.forests.now c.args.self.now.forest)
     c.args.arrived.now.number c.args.arrived.now.from c.args.arrived.now.head.now c.args.arrived.now.scale
-    c.send-sent.result (raises_of c.raised_at_sender-raised.result) c.args.self.now c.send-sent.new.self c.args.notes.now c.args.ledger.now c.begin.new.self h
+    c.send-sent.result (raises_in c.raising_at_sender-raising.result) c.args.self.now c.send-sent.new.self c.args.notes.now c.args.ledger.now c.begin.new.self h
     (λ before after. Reached keep others (active_in at (g.F.ForestView.content c.make.new.forests c.make.new.self.forest)) c.make.new.self.socket c.make.new.notes c.make.new.ledger
     (g.F.ForestView.interns c.args.forests.now) (g.F.ForestView.interns c.make.new.forests) before.altered after)
-    is c.send-sent.ensures.stands c.send-sent.ensures.answer c.raised_at_sender-raised.ensures.raises c.begin.ensures.changes c.begin.ensures.drop
+    is c.send-sent.ensures.stands c.send-sent.ensures.answer c.raising_at_sender-raising.ensures c.begin.ensures.changes c.begin.ensures.drop
     c.begin.ensures.counts ((makes s force).stands others))
     c.make.ensures.made
 
@@ -32,9 +32,9 @@ returns-clause-failed g c =
     let app = g.A.App.meaning c.args.terms.now.app.now in
     sender_makes app s c.args.terms.now.keep others (registered c.args.terms.now.in_force) (g.F.ForestView.content c.args.forests.now c.args.self.now.forest)
     c.args.arrived.now.number c.args.arrived.now.from c.args.arrived.now.head.now c.args.arrived.now.scale
-    c.send-sent.result (raises_of c.raised_at_sender-raised.result) c.args.self.now c.send-sent.new.self c.args.notes.now c.args.ledger.now c.begin.new.self h
+    c.send-sent.result (raises_in c.raising_at_sender-raising.result) c.args.self.now c.send-sent.new.self c.args.notes.now c.args.ledger.now c.begin.new.self h
     (λ before after. InternsWithin (g.F.ForestView.interns c.args.forests.now) (g.F.ForestView.interns c.make.new.forests) before.altered after.altered)
-    is c.send-sent.ensures.stands c.send-sent.ensures.answer c.raised_at_sender-raised.ensures.raises c.begin.ensures.changes c.begin.ensures.drop
+    is c.send-sent.ensures.stands c.send-sent.ensures.answer c.raising_at_sender-raising.ensures c.begin.ensures.changes c.begin.ensures.drop
     c.begin.ensures.counts ((costs s force).interned others))
     c.make.ensures.failed
 

@@ -1,10 +1,9 @@
 use Rattle.std.proofs.Common.{ap, ◌∙◌, ◌++◌, ◌∷◌, []}
 use Rattle.std.specs.Prelude.{if◌then◌else◌}
 use Rattle.std.proofs.lemmas.Result.{on_ok_weaker}
-use Rattle.app_api.specs.declared.app.Call.{Call}
 use Rattle.app_api.specs.declared.entry.Entry.{Entry}
 use Rattle.connection_core.specs.declared.ledger.Counts.{Counts}
-use Rattle.connection_core.specs.PacketUnderWay.{reaction_of, first_reason}
+use Rattle.connection_core.specs.PacketUnderWay.{first_reason}
 use Rattle.connection_core.specs.Standing.{raise_of}
 use Rattle.connection_core.proofs.Callbacks.{called_under}
 use Rattle.connection_core.proofs.terms.Terms.call.Goals as goal
@@ -16,15 +15,14 @@ returns-clause-stands g c =
           let app = g.A.App.meaning c.args.self.now.app.now in
           let r = c.args.reg.now in
           let e = under_way.emulation in
-          let call_is = c.call_of-call.ensures in
           called_under app s c.args.raise_at.now.number c.args.raise_at.now.from (raise_of c.args.raise_at.now) r c.args.self.now.keep others list
           c.args.socket.now c.look.new.socket c.args.notes.now c.keep_entry.new.self c.args.ledger.now c.ask.new.self c.in_ok-look.look.got c.in_ok-look.look.seen c.react-reaction.result under_way
           u
           (c.look.ensures.stands e u.heard)
           (λ k. c.in_ok-look.ensures.seen k e u.heard)
           (c.in_ok-look.ensures.got e u.heard)
-          (c.keep_entry.ensures.tally ∙ c.react-reaction.ensures.tally s force ∙ ap (λ (w : Call). (reaction_of app s.rules r w c.args.notes.now.tally).0) call_is)
-          (c.react-reaction.ensures.reaction s force ∙ ap (λ (w : Call). (reaction_of app s.rules r w c.args.notes.now.tally).1) call_is)
+          (c.keep_entry.ensures.tally ∙ c.react-reaction.ensures.tally s force)
+          (c.react-reaction.ensures.reaction s force)
           (entries ∙ ap (λ (w : Entry). if c.args.self.now.keep then c.args.notes.now.entries ++ w ∷ [] else c.args.notes.now.entries) c.entry_of.ensures)
           (c.in_ok-ask.ensures.changes ∙ ap (λ v. v.items ++ c.react-reaction.result.changes) c.count.ensures.changes)
           (c.ask.ensures.drop ∙ ap (λ d. first_reason d c.react-reaction.result.drop) c.count.ensures.drop)

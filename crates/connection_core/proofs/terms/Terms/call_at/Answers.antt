@@ -6,6 +6,7 @@ use Rattle.connection_core.proofs.Earlier.{known_in}
 use Rattle.connection_core.proofs.Callbacks.{calls_one}
 use Rattle.connection_core.proofs.Settling.{under_room}
 use Rattle.connection_core.proofs.Unheard.{calls_nothing}
+use Rattle.builtin_events.specs.Source.{facts_of}
 use Rattle.connection_core.proofs.terms.Terms.call_at.Goals as goal
 
 -- nobody hears it
@@ -13,7 +14,7 @@ pub returns-in-Nobody-clause-stands : goal.returns-in-Nobody-clause-stands
 returns-in-Nobody-clause-stands g c = λ s force.
     let m = c.args.raise_at.now in
     calls_nothing (g.A.App.meaning c.args.self.now.app.now) s c.args.self.now.keep (active_in (registered c.args.self.now.in_force) c.args.tree.now) m.number m.from (raise_of m)
-    c.args.socket.now c.args.notes.now c.args.ledger.now (c.hearers.ensures.nobody c.in-Nobody.is s m.facts.now force)
+    c.args.socket.now c.args.notes.now c.args.ledger.now (c.hearers.ensures.nobody c.in-Nobody.is s (facts_of m.source) force)
 
 -- one registration alone
 pub returns-in-One-clause-stands : goal.returns-in-One-clause-stands
@@ -25,7 +26,7 @@ returns-in-One-clause-stands g c =
     let known = known_in (registered lent) s.regs list force.regs c.requires.forest.private.numbers c.requires.forest.known in
     calls_one (g.A.App.meaning c.args.self.now.app.now) s c.args.self.now.keep list m.number m.from (raise_of m)
     c.args.socket.now c.call_number.new.socket c.args.notes.now c.call_number.new.notes c.args.ledger.now c.call_number.new.ledger c.in-One.number known
-    (c.hearers.ensures.one c.in-One.number c.in-One.is s m.facts.now force) (all list s force))
+    (c.hearers.ensures.one c.in-One.number c.in-One.is s (facts_of m.source) force) (all list s force))
     c.call_number.ensures.stands
 
 -- more of them

@@ -6,6 +6,7 @@ use Rattle.connection_core.specs.Trees.{active_in}
 use Rattle.connection_core.specs.PacketUnderWay.{raised}
 use Rattle.connection_core.specs.Standing.{Steps, raise_of}
 use Rattle.connection_core.proofs.Raises.{raised_none, raised_more, raise_as}
+use Rattle.builtin_events.specs.Source.{facts_of}
 use Rattle.connection_core.proofs.terms.Terms.raise_all.Goals as goal
 
 pub loop-event-init : goal.loop-event-init
@@ -21,8 +22,8 @@ pub loop-event-preserved : goal.loop-event-preserved
 loop-event-preserved g c =
     let app = g.A.App.meaning c.args.self.now.app.now in
     let inv = c.loop-event.invariant in
-    let hook = c.args.phase.now.raised.hook in
-    let facts = c.args.phase.now.raised.facts in record {
+    let hook = c.args.phase.now.raising.hook in
+    let facts = facts_of c.args.phase.now.raising.source in record {
       stands = λ s force.
           let at : ℕ → Raise = λ event. record { hook = hook; event = event; facts = facts } in
           let items = c.as_slice-event-items.result.now in
@@ -49,8 +50,8 @@ loop-event-preserved g c =
 
 pub returns-clause-stands : goal.returns-clause-stands
 returns-clause-stands g c = λ s force.
-    let at : ℕ → Raise = λ event. record { hook = c.args.phase.now.raised.hook; event = event; facts = c.args.phase.now.raised.facts } in
-    let events = c.args.phase.now.raised.events in
+    let at : ℕ → Raise = λ event. record { hook = c.args.phase.now.raising.hook; event = event; facts = facts_of c.args.phase.now.raising.source } in
+    let events = c.args.phase.now.raising.events in
     let last : length events ≤ c.loop-event.event-index = subst (λ (l : List ℕ). length l ≤ c.loop-event.event-index) c.as_slice-event-items.ensures.items c.loop-event-test.false in
     subst (λ l. Steps c.args.self.now.keep (active_in (registered c.args.self.now.in_force) c.args.tree.now) c.args.socket.now c.args.notes.now
     c.args.ledger.now c.loop-event.socket c.loop-event.notes c.loop-event.ledger

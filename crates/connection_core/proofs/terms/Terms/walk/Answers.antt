@@ -14,7 +14,7 @@ use Rattle.connection_core.proofs.terms.Terms.walk.Goals as goal
 pub loop-number-init : goal.loop-number-init
 loop-number-init g c = record {
   stands = λ s force. calls_begun (g.A.App.meaning c.args.self.now.app.now) s c.args.self.now.keep
-      (active_in (registered c.args.self.now.in_force) c.args.tree.now) c.args.raise_at.now.number c.args.raise_at.now.from (raise_of c.args.raise_at.now)
+      (active_in (registered c.args.self.now.in_force) c.args.tree.now) c.args.raise_at.number c.args.raise_at.from (raise_of c.args.raise_at)
       c.args.socket.now c.args.notes.now c.args.ledger.now (to_come c.defs-defs.result.now c.start-walk.result);
   callbacks = omega arith;
   weight = omega arith;
@@ -24,17 +24,17 @@ loop-number-init g c = record {
 pub call_number-requires-clause-callbacks : goal.call_number-requires-clause-callbacks
 call_number-requires-clause-callbacks g c =
     let list = active_in (registered c.args.self.now.in_force) c.args.tree.now in
-    let few = all_few (defs_at c.args.self.now.in_force) c.defs-defs.result.now list c.args.tree.now (raise_of c.args.raise_at.now) (to_come c.defs-defs.result.now c.start-walk.result)
+    let few = all_few (defs_at c.args.self.now.in_force) c.defs-defs.result.now list c.args.tree.now (raise_of c.args.raise_at) (to_come c.defs-defs.result.now c.start-walk.result)
     c.defs-defs.ensures c.requires.forest.private c.requires.forest.listed c.slots_in_order.ensures.slots c.slots_in_order.ensures.few
-    c.later_events_change_nothing.ensures.defs (c.start-walk.ensures.fires c.defs-defs.result.now) in
+    c.later_events_change_nothing.ensures.defs (rw (← c.facts-facts.ensures) (c.start-walk.ensures.fires c.defs-defs.result.now)) in
     omega (arith, few, c.loop-number.invariant.callbacks, c.requires.callbacks)
 
 pub call_number-requires-clause-weight : goal.call_number-requires-clause-weight
 call_number-requires-clause-weight g c =
     let list = active_in (registered c.args.self.now.in_force) c.args.tree.now in
-    let few = all_few (defs_at c.args.self.now.in_force) c.defs-defs.result.now list c.args.tree.now (raise_of c.args.raise_at.now) (to_come c.defs-defs.result.now c.start-walk.result)
+    let few = all_few (defs_at c.args.self.now.in_force) c.defs-defs.result.now list c.args.tree.now (raise_of c.args.raise_at) (to_come c.defs-defs.result.now c.start-walk.result)
     c.defs-defs.ensures c.requires.forest.private c.requires.forest.listed c.slots_in_order.ensures.slots c.slots_in_order.ensures.few
-    c.later_events_change_nothing.ensures.defs (c.start-walk.ensures.fires c.defs-defs.result.now) in
+    c.later_events_change_nothing.ensures.defs (rw (← c.facts-facts.ensures) (c.start-walk.ensures.fires c.defs-defs.result.now)) in
     omega (arith, few, c.loop-number.invariant.weight, c.requires.weight)
 
 pub loop-number-preserved : goal.loop-number-preserved
@@ -43,7 +43,7 @@ loop-number-preserved g c =
     let count = ap length given in
     let inv = c.loop-number.invariant in record {
       stands = λ s force. calls_on (g.A.App.meaning c.args.self.now.app.now) s c.args.self.now.keep
-          (active_in (registered c.args.self.now.in_force) c.args.tree.now) c.args.raise_at.now.number c.args.raise_at.now.from (raise_of c.args.raise_at.now)
+          (active_in (registered c.args.self.now.in_force) c.args.tree.now) c.args.raise_at.number c.args.raise_at.from (raise_of c.args.raise_at)
           c.args.socket.now c.args.notes.now c.args.ledger.now (to_come c.defs-defs.result.now c.start-walk.result) c.loop-number.socket
           c.call_number.new.socket c.loop-number.notes c.call_number.new.notes c.loop-number.ledger c.call_number.new.ledger
           _ _ c.in-Some.number (inv.stands s force) given (c.in_ok-call_number.ensures.stands _ s force);
@@ -59,9 +59,9 @@ loop-number-preserved g c =
 pub returns-in_err-call_number-clause-rise : goal.returns-in_err-call_number-clause-rise
 returns-in_err-call_number-clause-rise g c =
     let list = active_in (registered c.args.self.now.in_force) c.args.tree.now in
-    let few = all_few (defs_at c.args.self.now.in_force) c.defs-defs.result.now list c.args.tree.now (raise_of c.args.raise_at.now) (to_come c.defs-defs.result.now c.start-walk.result)
+    let few = all_few (defs_at c.args.self.now.in_force) c.defs-defs.result.now list c.args.tree.now (raise_of c.args.raise_at) (to_come c.defs-defs.result.now c.start-walk.result)
     c.defs-defs.ensures c.requires.forest.private c.requires.forest.listed c.slots_in_order.ensures.slots c.slots_in_order.ensures.few
-    c.later_events_change_nothing.ensures.defs (c.start-walk.ensures.fires c.defs-defs.result.now) in
+    c.later_events_change_nothing.ensures.defs (rw (← c.facts-facts.ensures) (c.start-walk.ensures.fires c.defs-defs.result.now)) in
     let count = ap length c.in-Some.ensures.given in
     let inv = c.loop-number.invariant in record {
       callbacks = omega (arith, few, count, inv.callbacks, c.call_number.ensures.rise.callbacks);
@@ -80,25 +80,25 @@ pub returns-clause-stands : goal.returns-clause-stands
 returns-clause-stands g c = λ s force.
     let lent = c.args.self.now.in_force in
     let list = active_in (registered lent) c.args.tree.now in
-    let raise = raise_of c.args.raise_at.now in
+    let raise = raise_of c.args.raise_at in
     let later = c.later_events_change_nothing.ensures in
     let earlier = subst (IsEarlier s.defs) (sym c.defs-defs.ensures) force.defs in
     let known = known_in (registered lent) s.regs list force.regs c.requires.forest.private.numbers c.requires.forest.known in
     let there = subst (λ d. IsPrivate d list) (sym c.defs-defs.ensures) c.requires.forest.private in
     let private = private_earlier s.defs c.defs-defs.result.now list (λ event is. later.paths s.defs event earlier is) (events_known s.defs s.regs list force.sound.private known) there in
-    calls_done (g.A.App.meaning c.args.self.now.app.now) s c.args.self.now.keep list c.args.raise_at.now.number c.args.raise_at.now.from raise
+    calls_done (g.A.App.meaning c.args.self.now.app.now) s c.args.self.now.keep list c.args.raise_at.number c.args.raise_at.from raise
     c.args.socket.now c.args.notes.now c.args.ledger.now (to_come c.defs-defs.result.now c.start-walk.result) c.loop-number.socket c.loop-number.notes c.loop-number.ledger _
     (c.loop-number.invariant.stands s force) c.in_default.ensures.end known
-    (c.start-walk.ensures.fires c.defs-defs.result.now list (later.defs _ ([], append-nil c.defs-defs.result.now)) there
-    (subst (λ d. listing c.args.tree.now ≡ canon d list) (sym c.defs-defs.ensures) c.requires.forest.listed)
+    (rw (← c.facts-facts.ensures) (c.start-walk.ensures.fires c.defs-defs.result.now list (later.defs _ ([], append-nil c.defs-defs.result.now)) there
+    (subst (λ d. listing c.args.tree.now ≡ canon d list) (sym c.defs-defs.ensures) c.requires.forest.listed))
     ∙ ap numbers_of (later.fires s.defs list earlier private raise.facts raise.hook raise.event))
 
 pub returns-clause-rise : goal.returns-clause-rise
 returns-clause-rise g c =
     let list = active_in (registered c.args.self.now.in_force) c.args.tree.now in
-    let few = all_few (defs_at c.args.self.now.in_force) c.defs-defs.result.now list c.args.tree.now (raise_of c.args.raise_at.now) (to_come c.defs-defs.result.now c.start-walk.result)
+    let few = all_few (defs_at c.args.self.now.in_force) c.defs-defs.result.now list c.args.tree.now (raise_of c.args.raise_at) (to_come c.defs-defs.result.now c.start-walk.result)
     c.defs-defs.ensures c.requires.forest.private c.requires.forest.listed c.slots_in_order.ensures.slots c.slots_in_order.ensures.few
-    c.later_events_change_nothing.ensures.defs (c.start-walk.ensures.fires c.defs-defs.result.now) in
+    c.later_events_change_nothing.ensures.defs (rw (← c.facts-facts.ensures) (c.start-walk.ensures.fires c.defs-defs.result.now)) in
     let inv = c.loop-number.invariant in record {
       callbacks = omega (arith, few, inv.callbacks);
       weight = omega (arith, few, inv.weight);
