@@ -34,7 +34,7 @@ use lane_composition::runs::a_run_has_its_versions;
 use worker_pool::{Gate, Job, run_lanes_kept};
 
 // Writes what is written at the end. As many threads as there were workers share the making of a report's text.
-fn write_end_by<R: Threads + Sync, A: App + Sync, G, O: Sink>(
+fn write_end_by<R: Threads + Wait, A: App + Sync, G, O: Sink>(
     crew: &Crew<'_, R, G>,
     alloc: Global,
     app: &A,
