@@ -33,7 +33,7 @@ use words::Settings;
 use worker_pool::{Gate, Job, run_lanes_kept};
 
 // Writes what is written at the end. As many threads as there were workers share the making of a report's text.
-fn write_end_by<R: Threads + Sync, A: App + Sync, G, O: Sink>(
+fn write_end_by<R: Threads + Wait, A: App + Sync, G, O: Sink>(
     crew: &Crew<'_, R, G>,
     alloc: Global,
     app: &A,

@@ -1,13 +1,12 @@
--- Only for proofs. The text of records that is made in parts.
-use Rattle.std.specs.Prelude.{◌≡◌, ℕ, ◌<◌, List, length, slice_index_or, Result, IfOk}
-use Rattle.std.specs.declared.vec.Vec.{Vec}
-use Rattle.std.specs.Fork.{slice_chunk}
+-- Only for proofs. The text of records that is made in pieces.
+use Rattle.std.specs.Prelude.{◌≡◌, ◌≤◌, List, length, take}
 use Rattle.app_api.specs.App.{Meaning}
 use Rattle.lane_core.specs.declared.under_way.RecordUnderWay.{RecordUnderWay}
 use Rattle.lane_core.specs.KeptEnd.{shown_as}
 use Rattle.report_text.specs.Report.{records_text}
+use Rattle.parallel_report.specs.declared.text.Made.{Made}
 
--- each text is that of so many records, in order, where memory wasn't refused for it
-abbrev pub AreTexts : {Z E : Type 0} → Meaning → ℕ → List RecordUnderWay → List (Result (Vec ℕ Z) E) → Type 0
-AreTexts app size records texts = (n : ℕ) (d : _) → n < length texts
-    → IfOk (slice_index_or texts n d) (λ text. text.items ≡ records_text (shown_as app (slice_chunk records size n)))
+-- the text of the first of these records
+pub record IsMadeOf (app : Meaning) (records : List RecordUnderWay) (made : Made) : Type 0 where
+  pub within : made.done ≤ length records
+  pub text : made.text.items ≡ records_text (shown_as app (take made.done records))
