@@ -1,17 +1,18 @@
 -- What is written is read: the parts of a line.
-use Rattle.std.proofs.Common.{◌≡◌, ℕ, zero, suc, ◌-◌, ◌%◌, ◌^◌, ◌<◌, ◌≤◌, true, false, List, [], ◌∷◌, ◌++◌, length, drop, refl, ap, sym, subst, ◌∙◌, arith, codes, inl, inr}
+use Rattle.std.proofs.Common.{◌≡◌, ℕ, zero, suc, ◌+◌, ◌-◌, ◌%◌, ◌^◌, ◌<◌, ◌≤◌, ◌==◌, ◌&&◌, Bool, true, false, not, List, [], ◌∷◌, ◌++◌, length, drop, Option, Some, None, refl, ap, subst, ◌∙◌, arith, inl, inr}
 use Rattle.std.specs.Prelude.{nat_le, nat_lt, slice_get, slice_index, is_some}
 use Rattle.std.specs.Char.{digit_value}
 use Rattle.std.specs.Fmt.{decimal}
 use Rattle.std.specs.Option.{unwrap_or}
 use Rattle.std.specs.Str.Parse.{AllDigits}
 use Rattle.std.proofs.lemmas.Fmt.{decimal_is_IsNumeral}
-use Rattle.std.proofs.lemmas.Bool.{cases_lt}
+use Rattle.std.proofs.lemmas.Bool.{cases_lt, and_parts, not-true, eqb-true}
 use Rattle.std.proofs.lemmas.Bool.Decides.{nat_tests}
 use Rattle.native_filters.specs.declared.facts.Hook.{Hook}
 use Rattle.native_filters.specs.declared.facts.Hook.TheVariants.{Snd, Rcv}
 use Rattle.packet_views.specs.declared.packet.Class.{Class}
 use Rattle.packet_views.specs.declared.packet.Class.TheVariants.{Tcp, Other, Fragment, Cut, Bad}
+use Rattle.app_api.specs.Events.{START}
 use Rattle.app_api.specs.Names.{event_names, event_name, event_named}
 use Rattle.report_text.specs.Words.{class_text, hook_text, event_text}
 use Rattle.report_text.specs.Tidy.{is_event}
@@ -86,55 +87,55 @@ event-named n w t is p letter found m = record {
   is_plain = rw is p;
 }
 
-name-within : (names : List (List ℕ)) (i : ℕ) → is_some (slice_get names i) ≡ true → i < length names
-name-within [] i h = cc
-name-within (name ∷ names) zero h = omega arith
-name-within (name ∷ names) (suc i) h = let more = name-within names i h in omega (arith, more)
+-- a name begins with a letter, and is read as this number
+abbrev is_told : ℕ → List ℕ → Bool
+is_told n name = plain name && (not (nat_lt (slice_index name 0) 97) && (nat_lt 0 (length name) && unwrap_or (event_named name) 0 == n))
 
-event-range : (n : ℕ) → is_event n ≡ true → n < 265
-event-range n h =
-    elim (cases_lt n 256) [
-      | inl user ↦ omega (arith, user)
-      | inr up ↦
-          let one : nat_le 1 n ≡ true = grind (arith, nat_tests) in
-          let past : nat_le n 255 ≡ false = grind (arith, nat_tests) in
-          let built : nat_le 256 n ≡ true = grind (arith, nat_tests) in
-          let named : is_some (slice_get event_names (n - 256)) ≡ true = rw (one, past, built) at h in
-          let within = name-within event_names (n - 256) named in omega (arith, within)
-    ]
+-- so are all names, from a number on
+abbrev are_told : ℕ → List (List ℕ) → Bool
+are_told n [] = true
+are_told n (name ∷ names) = is_told n name && are_told (suc n) names
 
-event-built : (n k : ℕ) (t : List ℕ) → EventRead k t → n ≡ k → EventRead n t
-event-built n k t read is = subst (λ x. EventRead x t) (sym is) read
+told-at : (n i : ℕ) (names : List (List ℕ)) (name : List ℕ) → are_told n names ≡ true → slice_get names i ≡ Some name → is_told (n + i) name ≡ true
+told-at n i [] name all at = cc
+told-at n zero (first ∷ names) name all at =
+    let told = (and_parts (is_told n first) (are_told (suc n) names) all).0 in
+    let same : first ≡ name = cc in
+    let here : n + 0 ≡ n = omega arith in
+    rw here (subst (λ w. is_told n w ≡ true) same told)
+told-at n (suc i) (first ∷ names) name all at =
+    let further = told-at (suc n) i names name (and_parts (is_told n first) (are_told (suc n) names) all).1 at in
+    let here : n + suc i ≡ suc n + i = omega arith in
+    rw here further
+
+first-stays : (w t : List ℕ) → nat_lt 0 (length w) ≡ true → slice_index (w ++ t) 0 ≡ slice_index w 0
+first-stays [] t some = cc
+first-stays (c ∷ cs) t some = refl
+
+event-told : (n : ℕ) (w t : List ℕ) → event_text n ≡ w → is_told n w ≡ true → marked t ≡ true → EventRead n t
+event-told n w t is told m =
+    let parts = and_parts (plain w) _ told in
+    let more = and_parts (not (nat_lt (slice_index w 0) 97)) _ parts.1 in
+    let last = and_parts (nat_lt 0 (length w)) _ more.1 in
+    let letter : nat_lt (slice_index (w ++ t) 0) 97 ≡ false = rw (first-stays w t last.0) (not-true _ more.0) in
+    event-named n w t is parts.0 letter (eqb-true _ _ last.1) m
+
+event-built : (n : ℕ) (t : List ℕ) (name : Option (List ℕ)) → START ≤ n → slice_get event_names (n - START) ≡ name → is_some name ≡ true → marked t ≡ true → EventRead n t
+unfolding event_text
+event-built n t None up at some m = cc
+event-built n t (Some name) up at some m =
+    let built : nat_le START n ≡ true = grind (arith, nat_tests) in
+    let text : event_text n ≡ name = rw (built, at) refl in
+    let number : START + (n - START) ≡ n = omega (arith, up) in
+    event-told n name t text (rw number at (told-at START (n - START) event_names name refl at)) m
 
 pub event-read : (n : ℕ) (t : List ℕ) → is_event n ≡ true → marked t ≡ true → EventRead n t
-unfolding event_text
 event-read n t h m =
-    let top : n < 265 = event-range n h in
-    elim (cases_lt n 256) [
+    elim (cases_lt n START) [
       | inl user ↦ event-numbered n t user m
-      | inr up ↦ elim (cases_lt n 257) [
-        | inl a ↦ event-built n 256 t (event-named 256 (codes "start") t refl refl refl refl m) (omega arith)
-        | inr a ↦ elim (cases_lt n 258) [
-          | inl b ↦ event-built n 257 t (event-named 257 (codes "pkt_in") t refl refl refl refl m) (omega arith)
-          | inr b ↦ elim (cases_lt n 259) [
-            | inl d ↦ event-built n 258 t (event-named 258 (codes "rexmit") t refl refl refl refl m) (omega arith)
-            | inr d ↦ elim (cases_lt n 260) [
-              | inl e ↦ event-built n 259 t (event-named 259 (codes "new_data") t refl refl refl refl m) (omega arith)
-              | inr e ↦ elim (cases_lt n 261) [
-                | inl f ↦ event-built n 260 t (event-named 260 (codes "error") t refl refl refl refl m) (omega arith)
-                | inr f ↦ elim (cases_lt n 262) [
-                  | inl g ↦ event-built n 261 t (event-named 261 (codes "state") t refl refl refl refl m) (omega arith)
-                  | inr g ↦ elim (cases_lt n 263) [
-                    | inl i ↦ event-built n 262 t (event-named 262 (codes "end") t refl refl refl refl m) (omega arith)
-                    | inr i ↦ elim (cases_lt n 264) [
-                      | inl j ↦ event-built n 263 t (event-named 263 (codes "orphan") t refl refl refl refl m) (omega arith)
-                      | inr j ↦ event-built n 264 t (event-named 264 (codes "timer") t refl refl refl refl m) (omega arith)
-                    ]
-                  ]
-                ]
-              ]
-            ]
-          ]
-        ]
-      ]
+      | inr up ↦
+          let past : nat_le n 255 ≡ false = grind (arith, nat_tests) in
+          let one : nat_le 1 n ≡ true = grind (arith, nat_tests) in
+          let built : nat_le START n ≡ true = grind (arith, nat_tests) in
+          event-built n t (slice_get event_names (n - START)) up refl (rw (one, past, built) at h) m
     ]
