@@ -17,7 +17,7 @@ mod laws;
 mod order;
 mod write;
 
-pub use capture::{CAPTURED_LIMIT, Capture, RECORD_LIMIT, Step};
+pub use capture::{CAPTURED_LIMIT, Capture, RECORD_LIMIT, Step, WholeRecord};
 pub use errors::{CaptureFault, NextError, OpenError};
 pub use frame::Frame;
 pub use laws::{records_are_the_longest_front, some_records_are_a_capture};
