@@ -76,9 +76,9 @@ pub trait Recorder {
         ensures interned { CountsAtMost (interns self.old) (interns self.new) }
         ensures interns_stay { OnErr result (interns self.new ≡ interns self.old) };
 
-    /// One more packet, of a number above all before, by its time and its captured bytes. Answers what becomes of it. Where the open connection of its key was
-    /// silent for longer than the limit that is in force for it, that has ended before, with its callbacks for the event
-    /// `timer`. No packet of another key ends it, since moments needn't rise.
+    /// One more packet, of a number above all before, by its time and its captured bytes. Answers what becomes of it. Where the
+    /// open connection of its key was silent for longer than the limit that is in force for it, that has ended before, with
+    /// its callbacks for the event `timer`. No packet of another key ends it, since moments needn't rise.
     ///
     /// An error is want of memory; that the lane keeps entries and its callbacks weigh more than 134,217,728 with this
     /// packet; or that for which the lane failed before. Whatever is answered, the store interned at most once for each change
