@@ -10,13 +10,13 @@ pub record Arrival : Type 0 where
   pub moment : Moment
   pub sight : Sight
 
+-- the captured bytes of a packet, as the packet of a number and a time
+abbrev pub arrival_at : ℕ → Moment → List ℕ → Arrival
+arrival_at number moment bytes = record { number = number; moment = moment; sight = sight_of bytes }
+
 -- a record of the capture as the packet of a number
 abbrev pub arrival_of : ℕ → Captured → Arrival
-arrival_of number captured = record {
-  number = number;
-  moment = record { seconds = captured.seconds; fraction = captured.fraction };
-  sight = sight_of captured.bytes;
-}
+arrival_of number captured = arrival_at number (record { seconds = captured.seconds; fraction = captured.fraction }) captured.bytes
 
 -- the packets of captured records, numbered from n on
 abbrev pub arrivals : ℕ → List Captured → List Arrival

@@ -14,7 +14,6 @@ use Rattle.connection_core.specs.declared.ledger.Counts.{Counts}
 use Rattle.connection_core.specs.History.{History, fresh, followed, verdict, orphan_history, orphan_verdict, drops_of, is_over}
 use Rattle.connection_core.specs.Standing.{IsFlow, IsConnection, IsNoted}
 use Rattle.connection_core.specs.Trees.{InternsWithin}
-use Rattle.pcap_source.specs.Captured.{Captured}
 use Rattle.lane_core.specs.declared.connection.Connection.{Connection}
 use Rattle.lane_core.specs.declared.terms.PacketTerms.{PacketTerms}
 use Rattle.lane_core.specs.declared.under_way.RecordUnderWay.{RecordUnderWay}
@@ -32,9 +31,9 @@ pub record Taking : Type 0 where
 abbrev pub taking : {A X : Type 0} {g : _} → (A → Meaning) → PacketTerms A X g → Taking
 taking meaning terms = record { app = meaning terms.app.now; keep = terms.keep; number = terms.number; moment = terms.moment }
 
--- a captured record as the packet of a number
-abbrev pub taken_as : Meaning → Bool → ℕ → Captured → Taking
-taken_as app keep number captured = record { app = app; keep = keep; number = number; moment = record { seconds = captured.seconds; fraction = captured.fraction } }
+-- the packet of a number and a time
+abbrev pub taken_as : Meaning → Bool → ℕ → Moment → Taking
+taken_as app keep number moment = record { app = app; keep = keep; number = number; moment = moment }
 
 -- a record under way, with the counts of all callbacks
 pub record Page : Type 0 where

@@ -70,14 +70,15 @@ impl<A: App + Drop, F: Forests + Drop> Lane<A, F> {
         alloc: Global,
         natives: &NativeBook,
         number: u64,
-        frame: &Frame,
+        moment: Moment,
+        bytes: &[u8],
     ) -> Result<Verdict, AllocError>
         requires rising { self.old.records.next ≤ number }
         requires bound { number < 1048576 }
-        ensures stands { IfOk result (AddsCounted (taken_as (A.meaning self.old.app) self.old.keep number frame.now)
-            self.old.records self.new.records (sight_of frame.now.bytes)) }
-        ensures costs { OnErr result (CostsToAdd (taken_as (A.meaning self.old.app) self.old.keep number frame.now)
-            self.old.records self.new.records (sight_of frame.now.bytes)) }
+        ensures stands { IfOk result (AddsCounted (taken_as (A.meaning self.old.app) self.old.keep number moment)
+            self.old.records self.new.records (sight_of bytes.now)) }
+        ensures costs { OnErr result (CostsToAdd (taken_as (A.meaning self.old.app) self.old.keep number moment)
+            self.old.records self.new.records (sight_of bytes.now)) }
         ensures rest { self.new ≡ record self.old { records = self.new.records } }
     {
         let terms = PacketTerms {
@@ -86,12 +87,9 @@ impl<A: App + Drop, F: Forests + Drop> Lane<A, F> {
             keep: self.keep,
             natives,
             number,
-            moment: Moment {
-                seconds: frame.seconds,
-                fraction: frame.fraction,
-            },
+            moment,
         };
-        self.records.take(&terms, frame)
+        self.records.take(&terms, bytes)
     }
 
     // Fails for good, and answers why. What was kept is asked for no more, so its memory goes back at once.
@@ -201,6 +199,27 @@ impl<A: App + Drop, F: Forests + Drop> Recorder for Lane<A, F> {
         }
     }
 
+    #[inline(always)]
+    fn packet_at(
+        &mut self,
+        alloc: Global,
+        number: u64,
+        moment: Moment,
+        bytes: &[u8],
+        natives: &NativeBook,
+    ) -> Result<Verdict, LaneError> {
+        if let Some(error) = self.failed {
+            return Err(error);
+        }
+        let Ok(verdict) = self.take(alloc, natives, number, moment, bytes) else {
+            return Err(self.fail(alloc, LaneError::NoMemory));
+        };
+        if self.records.is_too_heavy(self.keep) {
+            return Err(self.fail(alloc, LaneError::Heavy));
+        }
+        Ok(verdict)
+    }
+
     fn packet(
         &mut self,
         alloc: Global,
@@ -208,16 +227,11 @@ impl<A: App + Drop, F: Forests + Drop> Recorder for Lane<A, F> {
         frame: &Frame,
         natives: &NativeBook,
     ) -> Result<Verdict, LaneError> {
-        if let Some(error) = self.failed {
-            return Err(error);
-        }
-        let Ok(verdict) = self.take(alloc, natives, number, frame) else {
-            return Err(self.fail(alloc, LaneError::NoMemory));
+        let moment = Moment {
+            seconds: frame.seconds,
+            fraction: frame.fraction,
         };
-        if self.records.is_too_heavy(self.keep) {
-            return Err(self.fail(alloc, LaneError::Heavy));
-        }
-        Ok(verdict)
+        self.packet_at(alloc, number, moment, frame.bytes.as_slice(), natives)
     }
 
     fn version(&self) -> u32 {

@@ -5,7 +5,7 @@ ghost use Rattle.forest_versions.specs.Lawful.{is_lawful};
 ghost use Rattle.forest_versions.specs.State.{after};
 ghost use Rattle.connection_core.specs.Trees.{InternsWithin};
 ghost use Rattle.shared_forest.specs.Store.{CountsAtMost};
-ghost use Rattle.lane_core.specs.Sight.{arrival_of};
+ghost use Rattle.lane_core.specs.Sight.{arrival_at, arrival_of};
 ghost use Rattle.lane_core.specs.Run.{Gave, Arrived, lane_run, ended_run, newest_of, packets_of};
 ghost use Rattle.lane_core.specs.Shown.{alterations};
 ghost use Rattle.lane_core.specs.Lane.{ForEvents, GoesOn, HadFailed, IsEnd, IsHeavyAt, IsHeavyBy, IsAfter, KeepsTooMuch, KeepsWithin, next_verdict, with_event};
@@ -76,13 +76,43 @@ pub trait Recorder {
         ensures interned { CountsAtMost (interns self.old) (interns self.new) }
         ensures interns_stay { OnErr result (interns self.new ≡ interns self.old) };
 
-    /// One more packet, of a number above all before. Answers what becomes of it. Where the open connection of its key was
-    /// silent for longer than the limit that is in force for it, that has ended before, with its callbacks for the event
-    /// `timer`. No packet of another key ends it, since moments needn't rise.
+    /// One more packet, of a number above all before, by its time and its captured bytes. Answers what becomes of it. Where the
+    /// open connection of its key was silent for longer than the limit that is in force for it, that has ended before, with
+    /// its callbacks for the event `timer`. No packet of another key ends it, since moments needn't rise.
     ///
     /// An error is want of memory; that the lane keeps entries and its callbacks weigh more than 134,217,728 with this
     /// packet; or that for which the lane failed before. Whatever is answered, the store interned at most once for each change
     /// that the packet makes of a connection's private list.
+    fn packet_at(
+        &mut self,
+        alloc: Global,
+        number: u64,
+        moment: Moment,
+        bytes: &[u8],
+        natives: &NativeBook,
+    ) -> Result<Verdict, LaneError>
+        requires rising { IsAfter (last self.old) number }
+        requires bound { number < 1048576 }
+        ensures stands { GoesOn failed stands self.old self.new (Arrived (arrival_at number moment bytes.now)) }
+        ensures failed_before { HadFailed (failed self.old) (λ e. (result ≡ Err e) × (self.new ≡ self.old)) }
+        ensures ok { OnOk result (failed self.new ≡ None) }
+        ensures fails { IfErr result (λ e. failed self.new ≡ Some e) }
+        ensures verdict { IfOk result (λ verdict. ForEvents (stands self.old) (λ events.
+            verdict ≡ next_verdict (app self.old) events (arrival_at number moment bytes.now))) }
+        ensures light { OnOk result (KeepsWithin keeps app stands self.old (IsHeavyAt (arrival_at number moment bytes.now))) }
+        ensures heavy { failed self.old ≡ None → result ≡ Err Error.Heavy
+            → KeepsTooMuch keeps app stands self.old (IsHeavyAt (arrival_at number moment bytes.now)) }
+        ensures interned { failed self.old ≡ None → ForEvents (stands self.old) (λ events.
+            InternsWithin (interns self.old) (interns self.new)
+            (alterations (lane_run (app self.old) events))
+            (alterations (lane_run (app self.old) (with_event (Arrived (arrival_at number moment bytes.now)) events)))) }
+        ensures newest { failed self.old ≡ None → last self.new ≡ Some number }
+        ensures version { given self.new ≡ given self.old }
+        ensures control { control self.new ≡ control self.old }
+        ensures app { app self.new ≡ app self.old }
+        ensures keeps { keeps self.new ≡ keeps self.old };
+
+    /// One more packet, as `packet_at` takes it: that of a captured record.
     fn packet(
         &mut self,
         alloc: Global,

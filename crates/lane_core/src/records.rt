@@ -18,10 +18,10 @@ use app_api::{App, Reg, Verdict};
 use connection_core::Ledger;
 use connection_core::laws::trees_stay;
 use flow_table::{FlowTable, seed_of};
+use flow_timers::Moment;
 use forest_versions::{Command, Master};
 use ip6_views::{Sight, SightTcp, key_between, sight_of};
 use packet_views::Class;
-use pcap_source::Frame;
 use shared_forest::Forests;
 use std::alloc::{AllocError, Global};
 
@@ -105,13 +105,13 @@ impl<F: Forests + Drop> Records<F> {
 
     // Draws the table's seed before the first record: who sends packets from afar doesn't know the first frame and its time,
     // and so can't choose endpoints that collide.
-    fn prepare(&mut self, alloc: Global, frame: &Frame)
+    fn prepare(&mut self, alloc: Global, moment: Moment, bytes: &[u8])
         ensures { AreAlike self.old self.new }
     {
         if !self.list.is_empty() {
             return;
         }
-        let seed = seed_of(frame.seconds, frame.fraction, frame.bytes.as_slice());
+        let seed = seed_of(moment.seconds, moment.fraction, bytes);
         self.connections = FlowTable::with_seed(alloc, seed);
     }
 
@@ -172,21 +172,21 @@ impl<F: Forests + Drop> Records<F> {
         }
     }
 
-    /// One more packet, of this frame.
+    /// One more packet, of these captured bytes.
     pub(crate) fn take<A: App>(
         &mut self,
         terms: &PacketTerms<'_, A>,
-        frame: &Frame,
+        bytes: &[u8],
     ) -> Result<Verdict, AllocError>
         requires rising { self.old.next ≤ terms.now.number }
         requires bound { terms.now.number < 1048576 }
         ensures stands { IfOk result
-            (AddsCounted (taking A.meaning terms.now) self.old self.new (sight_of frame.now.bytes)) }
+            (AddsCounted (taking A.meaning terms.now) self.old self.new (sight_of bytes.now)) }
         ensures failed { OnErr result
-            (CostsToAdd (taking A.meaning terms.now) self.old self.new (sight_of frame.now.bytes)) }
+            (CostsToAdd (taking A.meaning terms.now) self.old self.new (sight_of bytes.now)) }
     {
-        self.prepare(terms.alloc, frame);
-        let sight = sight_of(frame.bytes.as_slice());
+        self.prepare(terms.alloc, terms.moment, bytes);
+        let sight = sight_of(bytes);
         let verdict = self.arrive(terms, &sight)?;
         self.dropped = counted(self.dropped, verdict);
         Ok(verdict)

@@ -1,5 +1,6 @@
 pub mod Captured
 pub mod Capture
+pub mod InPlace
 pub mod Laws
 pub mod Order
 pub mod Reading

@@ -8,6 +8,7 @@ ghost use Rattle.mos_bytes.specs.Reads.{Fills, FillsPart};
 ghost use Rattle.pcap_source.specs.Captured.{record_bytes};
 ghost use Rattle.pcap_source.specs.Capture.{is_whole, captured_by};
 ghost use Rattle.pcap_source.specs.Order.{number_in};
+ghost use Rattle.pcap_source.specs.InPlace.{Tells};
 ghost use Rattle.pcap_source.specs.Reading.{CaptureState, IsRecord, IsTold, NextGives, RefusesAt, reading};
 
 use crate::header::{HEADER, judge_header};
@@ -34,6 +35,17 @@ pub enum Step {
     Tail(u32),
     /// Nothing: the capture ends with a whole record, or has none.
     End,
+}
+
+/// A record that stands whole at the front of some bytes.
+#[derive(Clone, Copy, Debug, PartialEq, Eq)]
+pub struct WholeRecord {
+    /// Seconds of the packet's time.
+    pub seconds: u32,
+    /// The rest of the time, in the capture's unit: microseconds or nanoseconds.
+    pub fraction: u32,
+    /// How many bytes the record has: its header of 16, and those that were captured.
+    pub len: usize,
 }
 
 /// A capture whose global header was read and accepted.
@@ -95,6 +107,31 @@ fn whole_data(order: Order, front: &[u8]) -> Option<usize>
         return None;
     }
     Some(captured as usize)
+}
+
+// What a head says of the time and the length of its record.
+#[inline(always)]
+fn read_head(order: Order, head: &[u8]) -> WholeRecord
+    requires { length head.now ≡ 16 }
+    ensures { Tells order head.now result }
+{
+    WholeRecord {
+        seconds: order.u32_at(head, 0),
+        fraction: order.u32_at(head, 4),
+        len: HEAD + order.u32_at(head, 8) as usize,
+    }
+}
+
+// The same. It looks at the order once, and not at each number.
+#[inline(always)]
+fn judge_head(order: Order, head: &[u8]) -> WholeRecord
+    requires { length head.now ≡ 16 }
+    ensures { Tells order head.now result }
+{
+    match order {
+        Order::Big => read_head(Order::Big, head),
+        Order::Little => read_head(Order::Little, head),
+    }
 }
 
 // Reads the numbers in the frame's head.
@@ -223,6 +260,8 @@ fn read_record<S: Source>(
 }
 
 impl Capture {
+    ghost use Rattle.std.specs.Prelude.{None};
+    ghost use Rattle.pcap_source.specs.InPlace.{IsPassed, StopsWithin, TakesInPlace};
     ghost use Rattle.pcap_source.specs.Reading.{Moves, OnNoFrame, OpenGives, Opened};
 
     /// Reads the global header: at most 24 bytes. It takes no memory.
@@ -296,6 +335,47 @@ impl Capture {
             self.is_live = true;
         }
         Ok(step)
+    }
+
+    /// Takes the record at the front of these bytes where it stands, if it stands there whole and may be read: then the
+    /// capture stands behind it, as `next` leaves it. Nothing is copied, and the caller passes over these bytes of the
+    /// source. `None` leaves the capture as it was, and says nothing of the bytes.
+    #[inline(always)]
+    pub fn next_in(&mut self, front: &[u8]) -> Option<WholeRecord>
+        ensures taken { IfSome result (TakesInPlace self.old self.new front.now) }
+        ensures stays { result ≡ None → self.new ≡ self.old }
+    {
+        if !self.is_live || self.count == RECORD_LIMIT || front.len() < HEAD {
+            return None;
+        }
+        let record = judge_head(self.order, &front[..HEAD]);
+        if record.len > HEAD + CAPTURED_LIMIT as usize || record.len > front.len() {
+            return None;
+        }
+        self.count += 1;
+        self.offset += record.len as u64;
+        Some(record)
+    }
+
+    /// Passes over so many bytes of a source whose records `next_in` took: as the source does where it lends them, else by a
+    /// read into the frame, which then holds nothing that counts.
+    pub fn pass_over<S: Source>(
+        source: &mut S,
+        count: usize,
+        frame: &mut Frame,
+    ) -> Result<(), NextError>
+        ensures passed { OnOk result (IsPassed (S.left source.old) (S.left source.new) count) }
+        ensures cut { result ≡ Err NextError.ReadFault
+            → StopsWithin (S.left source.old) (S.left source.new) count }
+        ensures cause { HasCauseOf (S.faults source.old) (S.faults source.new) (IsErrOf result NextError.ReadFault) }
+        ensures lasts { S.lasting source.new ≡ S.lasting source.old }
+        ensures only { IfErr result (λ e. (e ≡ NextError.ReadFault) ⊎ (e ≡ NextError.NoMemory)) }
+    {
+        if source.pass(count) {
+            return Ok(());
+        }
+        read_bytes(source, &mut frame.bytes, count)?;
+        Ok(())
     }
 
     // The global header as it was read.

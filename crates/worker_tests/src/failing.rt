@@ -43,6 +43,25 @@ impl<L: Recorder + Drop> Recorder for Failing<L> {
         self.inner.command(alloc, c)
     }
 
+    fn packet_at(
+        &mut self,
+        alloc: Global,
+        number: u64,
+        moment: Moment,
+        bytes: &[u8],
+        natives: &NativeBook,
+    ) -> Result<Verdict, LaneError> {
+        if self.has_failed {
+            return Err(LaneError::NoMemory);
+        }
+        if number == self.at && !self.inner.has_failed() {
+            let _taken = self.inner.packet_at(alloc, number, moment, bytes, natives);
+            self.has_failed = true;
+            return Err(LaneError::NoMemory);
+        }
+        self.inner.packet_at(alloc, number, moment, bytes, natives)
+    }
+
     fn packet(
         &mut self,
         alloc: Global,
@@ -50,15 +69,11 @@ impl<L: Recorder + Drop> Recorder for Failing<L> {
         frame: &Frame,
         natives: &NativeBook,
     ) -> Result<Verdict, LaneError> {
-        if self.has_failed {
-            return Err(LaneError::NoMemory);
-        }
-        if number == self.at && !self.inner.has_failed() {
-            let _taken = self.inner.packet(alloc, number, frame, natives);
-            self.has_failed = true;
-            return Err(LaneError::NoMemory);
-        }
-        self.inner.packet(alloc, number, frame, natives)
+        let moment = Moment {
+            seconds: frame.seconds,
+            fraction: frame.fraction,
+        };
+        self.packet_at(alloc, number, moment, frame.bytes.as_slice(), natives)
     }
 
     fn version(&self) -> u32 {

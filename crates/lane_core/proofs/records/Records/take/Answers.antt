@@ -1,5 +1,4 @@
-use Rattle.std.proofs.Common.{◌≡◌, ◌+◌, length, ap, subst, ◌∙◌}
-use Rattle.pcap_source.specs.Captured.{Captured}
+use Rattle.std.proofs.Common.{◌+◌, length, ap, subst, ◌∙◌}
 use Rattle.connection_core.specs.History.{drops_of}
 use Rattle.connection_core.proofs.Errors.{on_err_always}
 use Rattle.lane_core.specs.Sight.{sight_of}
@@ -14,9 +13,8 @@ returns-clause-stands g c =
     let old = c.args.self.now in
     let mid = c.prepare.new.self in
     let new = c.arrive.new.self in
-    let bytes = c.args.frame.now.bytes in
-    let same : c.as_slice.result.now ≡ bytes = c.as_slice.ensures.value ∙ ap (λ (f : Captured). f.bytes) c.frame.view_is in
-    let sight = c.sight_of-sight.ensures.sight ∙ ap sight_of same in
+    let bytes = c.args.bytes.now in
+    let sight = c.sight_of-sight.ensures.sight in
     let alike = c.prepare.ensures in
     let adds = subst (λ s. Adds t mid new s c.in_ok-verdict.verdict) sight c.in_ok-verdict.ensures.stands in
     record {
@@ -33,7 +31,6 @@ returns-in_err-verdict-clause-failed g c =
     let t = taking g.A.App.meaning c.args.terms.now in
     let mid = c.prepare.new.self in
     let new = c.arrive.new.self in
-    let bytes = c.args.frame.now.bytes in
-    let same : c.as_slice.result.now ≡ bytes = c.as_slice.ensures.value ∙ ap (λ (f : Captured). f.bytes) c.frame.view_is in
-    let sight = c.sight_of-sight.ensures.sight ∙ ap sight_of same in
+    let bytes = c.args.bytes.now in
+    let sight = c.sight_of-sight.ensures.sight in
     on_err_always c.from_residual.result (alike_costs t c.args.self.now mid new c.prepare.ensures (sight_of bytes) (subst (λ s. CostsToAdd t mid new s) sight c.in_err-verdict.ensures.failed))
