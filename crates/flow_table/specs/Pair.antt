@@ -1,4 +1,4 @@
--- Not of the headline. Keys whose two endpoints are of IPv4, and how a table keeps them apart from the others.
+-- Only for proofs. Keys whose two endpoints are of IPv4, and how a table keeps them apart from the others.
 use Rattle.std.proofs.Common.{◌≡◌, ◌==◌, ◌/◌, ◌%◌, ◌&&◌, ◌++◌, ℕ, Bool, true, false, List, None, sym, ap, ap₂, ◌∙◌}
 use Rattle.std.proofs.lemmas.Bool.{and_parts, eqb-true, false≢true}
 use Rattle.std.specs.Cmp.{IsEquivalence, decided, nat_eq_equiv}
