@@ -13,6 +13,7 @@
 mod advance;
 mod chosen;
 mod close;
+mod in_place;
 pub mod laws;
 mod output;
 mod plan;
@@ -22,6 +23,7 @@ pub mod reports;
 mod several;
 mod single;
 mod summary;
+mod taking;
 mod task;
 pub mod verdicts;
 
