@@ -88,7 +88,16 @@ fn walk<L: Recorder, O: Sink>(
             fraction: record.fraction,
         };
         let whole = &rest[..record.len];
-        take_at(alloc, plan, lane, *packets, moment, &whole[..HEAD], &whole[HEAD..], out)?;
+        take_at(
+            alloc,
+            plan,
+            lane,
+            *packets,
+            moment,
+            &whole[..HEAD],
+            &whole[HEAD..],
+            out,
+        )?;
         *last = Some(later_of(*last, moment));
         *packets += 1;
         at += record.len;
@@ -96,6 +105,7 @@ fn walk<L: Recorder, O: Sink>(
 }
 
 /// Hands the records that the source lends whole to a lane, where they stand, and passes over them.
+#[inline(always)]
 pub(crate) fn run_lent<L: Recorder, S: Source, O: Sink>(
     alloc: Global,
     plan: &Plan<'_>,
@@ -130,7 +140,11 @@ pub(crate) fn run_lent<L: Recorder, S: Source, O: Sink>(
     ensures from { Reads S.Source source.old source.new (IsErrOf result ReplayError.ReadFault) }
     ensures to { Writes O.Sink out.old out.new (IsErrOf result ReplayError.WriteFault) }
 {
-    let count = walk(alloc, plan, capture, lane, packets, last, source.lend(), out)?;
+    let front = source.lend();
+    if front.is_empty() {
+        return Ok(());
+    }
+    let count = walk(alloc, plan, capture, lane, packets, last, front, out)?;
     if count == 0 {
         return Ok(());
     }

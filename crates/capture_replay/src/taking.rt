@@ -94,7 +94,15 @@ pub(crate) fn take_at<L: Recorder, O: Sink>(
     if lane.has_failed() {
         return Ok(());
     }
-    match advance(alloc, plan.natives, plan.script, lane, number, moment, bytes) {
+    match advance(
+        alloc,
+        plan.natives,
+        plan.script,
+        lane,
+        number,
+        moment,
+        bytes,
+    ) {
         Ok(verdict) => write_passed(plan.output, verdict, head, bytes, out)?,
         Err(LaneError::Heavy) => {}
         Err(LaneError::NoMemory) => return Err(ReplayError::NoMemory),
@@ -134,5 +142,14 @@ pub(crate) fn take<L: Recorder, O: Sink>(
         seconds: frame.seconds,
         fraction: frame.fraction,
     };
-    take_at(alloc, plan, lane, number, moment, &frame.head, frame.bytes.as_slice(), out)
+    take_at(
+        alloc,
+        plan,
+        lane,
+        number,
+        moment,
+        &frame.head,
+        frame.bytes.as_slice(),
+        out,
+    )
 }

@@ -1,8 +1,11 @@
 use Rattle.std.proofs.Common.{◌∙◌, ◌++◌, ◌∷◌, [], Err, sym, ap, subst}
+use Rattle.std.proofs.lemmas.Result.{err_from_is_err_and}
+use Rattle.std.specs.Io.KnownBytes.{Appends}
+use Rattle.mos_bytes.specs.Writes.{AppendsFront}
 use Rattle.capture_replay.specs.Records.{packets_of}
 use Rattle.capture_replay.proofs.Following.{ready_still}
 use Rattle.capture_replay.specs.Reading.{Follows, IsOver, packet_at}
-use Rattle.capture_replay.proofs.Reading.{not_failed, read_still, read_more, read_heavy, seen_arrival}
+use Rattle.capture_replay.proofs.Reading.{not_failed, read_still, read_more, read_heavy, gained_is, seen_arrival}
 use Rattle.capture_replay.proofs.taking.take_at.Goals as goal
 
 pub returns-then-has_failed-clause-ready : goal.returns-then-has_failed-clause-ready
@@ -48,3 +51,25 @@ returns-in-Err-Heavy-clause-reads g c = λ ok frame frames seen count read.
     (read_heavy (g.L.Recorder.app old) plan.script.now plan.output frames frame c.args.number count (g.L.Recorder.given new) (g.L.Recorder.failed new) (g.L.Recorder.stands new)
     (c.advance.ensures.failed is) (sym c.requires.keeps ∙ heavy.0) (subst (λ a. IsOver (g.L.Recorder.app old) plan_script (packets_of plan_script frames ++ packet_at plan_script c.args.number a ∷ [])) same
     (heavy.1 (packets_of plan.script.now frames) (read.follows good))))
+
+pub returns-in_ok-write_passed-in-Ok-clause-writes : goal.returns-in_ok-write_passed-in-Ok-clause-writes
+returns-in_ok-write_passed-in-Ok-clause-writes g c = λ frame frames seen count read.
+    let old = c.args.lane.now in
+    let plan = c.args.plan.now in
+    let good = not_failed (g.L.Recorder.failed old) c.has_failed.result c.if-has_failed.false c.has_failed.ensures.1 in
+    subst (Appends (g.O.Sink.taken c.args.out.now) (g.O.Sink.taken c.write_passed.new.out))
+    (gained_is (g.L.Recorder.app old) plan.script.now plan.output frames frame c.args.number c.args.moment c.args.head.now c.args.bytes.now seen count c.in-Ok.verdict
+    (c.in-Ok.ensures.verdict (packets_of plan.script.now frames) (read.follows good)))
+    (c.in_ok-write_passed-in-Ok.ensures.text frame seen.head_is seen.bytes_is)
+
+pub returns-in_err-write_passed-in-Ok-clause-writes : goal.returns-in_err-write_passed-in-Ok-clause-writes
+returns-in_err-write_passed-in-Ok-clause-writes g c = λ frame frames seen count read.
+    let old = c.args.lane.now in
+    let plan = c.args.plan.now in
+    let good = not_failed (g.L.Recorder.failed old) c.has_failed.result c.if-has_failed.false c.has_failed.ensures.1 in
+    let error = err_from_is_err_and c.from_residual.result c.from_residual.ensures.1 in
+    rw (error.1)
+    (subst (AppendsFront (g.O.Sink.taken c.args.out.now) (g.O.Sink.taken c.write_passed.new.out))
+    (gained_is (g.L.Recorder.app old) plan.script.now plan.output frames frame c.args.number c.args.moment c.args.head.now c.args.bytes.now seen count c.in-Ok.verdict
+    (c.in-Ok.ensures.verdict (packets_of plan.script.now frames) (read.follows good)))
+    (c.in_err-write_passed-in-Ok.ensures.text frame seen.head_is seen.bytes_is))
