@@ -15,14 +15,14 @@ use Rattle.control_script.specs.Order.{commands_of}
 use Rattle.control_script.specs.Versions.{ceil, is_barred}
 use Rattle.forest_versions.specs.declared.command.Stamp.{Stamp}
 use Rattle.forest_versions.specs.declared.command.Stamp.TheVariants.{At, Live}
-use Rattle.lane_core.specs.Sight.{Moment, Arrival, arrival_of}
+use Rattle.lane_core.specs.Sight.{Moment, Arrival}
 use Rattle.lane_core.specs.Records.{VersionedPacket, records, verdict_on, ended_at}
 use Rattle.lane_core.specs.Run.{LaneEvent, Gave, Arrived, versioned_from, lane_run, ended_run, commands_of as given_in}
 use Rattle.lane_core.specs.Lane.{IsHeavy, IsAfter, next_verdict, with_event}
 use Rattle.lane_core.specs.Laws.{OneEventMore, LaterCommandsChangeNone}
 use Rattle.lane_core.specs.Shown.{weight}
 use Rattle.capture_replay.specs.Records.{control_at}
-use Rattle.capture_replay.specs.Reading.{IsUnder, IsReady, Follows, IsOver, packet_of}
+use Rattle.capture_replay.specs.Reading.{IsUnder, IsReady, Follows, IsOver, packet_at}
 
 -- ---- a command of the script
 
@@ -146,19 +146,16 @@ over_is app script v stands ps law f =
     let same = records_are app script v stands ps f law in
     (subst (λ rs. 134217728 < weight rs) same, subst (λ rs. 134217728 < weight rs) (sym same))
 
-module _ (app : Meaning) (script : List Stamped) (v n : ℕ) (frame : Captured) (stands : List LaneEvent
+module _ (app : Meaning) (script : List Stamped) (v n : ℕ) (here : Arrival) (stands : List LaneEvent
     → Type 0) (ps : List VersionedPacket) (within : v ≤ length script) (at : v ≡ ceil script n) (f : Follows script v stands ps) where
-  abbrev here : Arrival
-  here = arrival_of n frame
-
   pub packet_verdict : LaterCommandsChangeNone → (verdict : Verdict) → ((events : List LaneEvent) → stands events → verdict ≡ next_verdict app events here)
-      → verdict ≡ verdict_on app (control_at app script) (packet_of script n frame) (records app (control_at app script) ps)
+      → verdict ≡ verdict_on app (control_at app script) (packet_at script n here) (records app (control_at app script) ps)
   packet_verdict law verdict is =
       is f.events f.stands_for ∙ verdict_is app script v stands ps within f law here
       ∙ ap (λ m. verdict_on app (control_at app script) (record { version = m; arrival = here }) (records app (control_at app script) ps)) at
 
   pub packet_follows : OneEventMore → (new : List LaneEvent → Type 0) → ((events : List LaneEvent) → stands events → new (with_event (Arrived here) events))
-      → Follows script v new (ps ++ packet_of script n frame ∷ [])
+      → Follows script v new (ps ++ packet_at script n here ∷ [])
   packet_follows law new goes = record {
     events = with_event (Arrived here) f.events;
     stands_for = goes f.events f.stands_for;
@@ -167,10 +164,10 @@ module _ (app : Meaning) (script : List Stamped) (v n : ℕ) (frame : Captured) 
   }
 
   pub packet_over : OneEventMore → LaterCommandsChangeNone
-      → (IsHeavy app (with_event (Arrived here) f.events) → IsOver app script (ps ++ packet_of script n frame ∷ []))
-      × (IsOver app script (ps ++ packet_of script n frame ∷ []) → IsHeavy app (with_event (Arrived here) f.events))
+      → (IsHeavy app (with_event (Arrived here) f.events) → IsOver app script (ps ++ packet_at script n here ∷ []))
+      × (IsOver app script (ps ++ packet_at script n here ∷ []) → IsHeavy app (with_event (Arrived here) f.events))
   packet_over law later =
-      over_is app script v (λ events. Unit {0}) (ps ++ packet_of script n frame ∷ []) later (record {
+      over_is app script v (λ events. Unit {0}) (ps ++ packet_at script n here ∷ []) later (record {
         events = with_event (Arrived here) f.events;
         stands_for = tt;
         commands = commands_more app script v stands ps within f law here;

@@ -9,3 +9,4 @@ pub mod Joined
 pub mod Forwarding
 mod Passed
 mod ReadBack
+pub mod InPlace

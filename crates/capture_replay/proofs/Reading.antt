@@ -10,7 +10,7 @@ use Rattle.control_script.specs.declared.stamped.Stamped.{Stamped}
 use Rattle.control_script.specs.Order.{commands_of}
 use Rattle.control_script.specs.Versions.{ceil}
 use Rattle.lane_core.specs.declared.errors.LaneError.{LaneError}
-use Rattle.lane_core.specs.Sight.{arrival_of, arrivals}
+use Rattle.lane_core.specs.Sight.{Moment, arrival_at, arrival_of, arrivals}
 use Rattle.lane_core.specs.Records.{added, records, records_from, verdict_on, versioned}
 use Rattle.lane_core.specs.Run.{LaneEvent}
 use Rattle.lane_core.specs.Laws.{LastPacketIsAdded, WeightNeverFalls}
@@ -20,10 +20,26 @@ use Rattle.run_outcome.specs.Greatest.{greatest, greatest_from}
 use Rattle.capture_replay.specs.Records.{control_at, packets_of, records_of, records_so_far}
 use Rattle.run_outcome.specs.Forwarded.{bytes_under as left_by}
 use Rattle.capture_replay.specs.Outcome.{is_forward, is_heavy}
-use Rattle.capture_replay.specs.Reading.{Follows, IsOver, IsRead, gained, is_heavy_so_far, packet_of}
+use Rattle.capture_replay.specs.Reading.{Follows, IsOver, IsRead, IsSeen, gained, is_heavy_so_far, packet_at, packet_of}
 use Rattle.capture_replay.proofs.Following.{both}
 
 -- ---- one frame more
+
+-- what is seen of a captured record is the packet that it is
+pub seen_arrival : (number : ℕ) (frame : Captured) (moment : Moment) (head bytes : List ℕ) → IsSeen frame moment head bytes
+    → arrival_at number moment bytes ≡ arrival_of number frame
+seen_arrival number frame moment head bytes seen =
+    ap (λ m. arrival_at number m bytes) seen.moment_is ∙ ap (arrival_at number (record { seconds = frame.seconds; fraction = frame.fraction })) seen.bytes_is
+
+-- what a packet leaves is what one frame more adds
+pub gained_is : (app : Meaning) (script : List Stamped) (output : Output) (frames : List Captured) (frame : Captured) (number : ℕ) (moment : Moment) (head bytes : List ℕ)
+    → IsSeen frame moment head bytes → length frames ≡ number → (verdict : Verdict)
+    → verdict ≡ verdict_on app (control_at app script) (packet_at script number (arrival_at number moment bytes)) (records_so_far app script (packets_of script) frames)
+    → (if is_forward output then left_by verdict frame else []) ≡ gained app script output frames frame
+gained_is app script output frames frame number moment head bytes seen count verdict is =
+    ap (λ v. if is_forward output then left_by v frame else [])
+    (is ∙ ap (λ a. verdict_on app (control_at app script) (packet_at script number a) (records_so_far app script (packets_of script) frames)) (seen_arrival number frame moment head bytes seen)
+    ∙ ap (λ n. verdict_on app (control_at app script) (packet_of script n frame) (records_so_far app script (packets_of script) frames)) (sym count))
 
 arrivals-last : (n : ℕ) (frames : List Captured) (frame : Captured) → arrivals n (frames ++ frame ∷ []) ≡ arrivals n frames ++ arrival_of (n + length frames) frame ∷ []
 arrivals-last n [] frame = ap (λ k. arrival_of k frame ∷ []) (sym (add-zero n))

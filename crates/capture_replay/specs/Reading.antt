@@ -1,5 +1,8 @@
 -- Only for proofs. What a run has come to after the frames of a capture, under a script.
-use Rattle.std.specs.Prelude.{◌≡◌, ◌≢◌, ℕ, ◌<◌, ◌≤◌, Bool, true, false, not, ◌&&◌, List, [], ◌++◌, length, take, nat_lt, if◌then◌else◌, Option, None, Some, Ok}
+use Rattle.std.specs.Prelude.{◌≡◌, ◌≢◌, ℕ, ◌<◌, ◌≤◌, Bool, true, false, not, ◌&&◌, List, [], ◌++◌, length, take, drop, nat_lt, if◌then◌else◌, Option, None, Some, Ok}
+use Rattle.std.specs.Io.KnownBytes.{Appends}
+use Rattle.mos_bytes.specs.declared.source.Source.{Ghosts as Source}
+use Rattle.mos_bytes.specs.declared.sink.Sink.{Ghosts as Sink}
 use Rattle.app_api.specs.App.{Meaning}
 use Rattle.pcap_source.specs.Captured.{Captured}
 use Rattle.pcap_source.specs.Capture.{Frames, capture_of}
@@ -8,7 +11,7 @@ use Rattle.forest_versions.specs.State.{ControlState, control as control_after}
 use Rattle.control_script.specs.declared.stamped.Stamped.{Stamped}
 use Rattle.control_script.specs.Order.{commands_of}
 use Rattle.control_script.specs.Versions.{ceil}
-use Rattle.lane_core.specs.Sight.{arrival_of}
+use Rattle.lane_core.specs.Sight.{Arrival, Moment, arrival_of, arrivals}
 use Rattle.lane_core.specs.declared.errors.LaneError.{LaneError}
 use Rattle.lane_core.specs.Records.{VersionedPacket, records, verdict_on}
 use Rattle.lane_core.specs.Run.{LaneEvent, versioned_from, commands_of as given_in}
@@ -18,11 +21,22 @@ use Rattle.lane_core.specs.declared.recorder.Recorder.{Ghosts as Recorder}
 use Rattle.capture_replay.specs.declared.output.Output.{Output}
 use Rattle.capture_replay.specs.Records.{control_at, packets_of, records_so_far}
 use Rattle.run_outcome.specs.Forwarded.{bytes_under as left_by}
-use Rattle.capture_replay.specs.Outcome.{is_forward}
+use Rattle.run_outcome.specs.Greatest.{greatest}
+use Rattle.capture_replay.specs.Outcome.{is_forward, streamed}
 
 -- the packet of a number, under the commands up to its ceiling
+abbrev pub packet_at : List Stamped → ℕ → Arrival → VersionedPacket
+packet_at script number arrival = record { version = ceil script number; arrival = arrival }
+
+-- the same of a captured record
 abbrev pub packet_of : List Stamped → ℕ → Captured → VersionedPacket
-packet_of script number frame = record { version = ceil script number; arrival = arrival_of number frame }
+packet_of script number frame = packet_at script number (arrival_of number frame)
+
+-- a captured record has this time, this head and these captured bytes
+pub record IsSeen (frame : Captured) (moment : Moment) (head bytes : List ℕ) : Type 0 where
+  pub moment_is : moment ≡ record { seconds = frame.seconds; fraction = frame.fraction }
+  pub head_is : head ≡ frame.head
+  pub bytes_is : bytes ≡ frame.bytes
 
 -- so many commands of the script were given, and this is in force
 pub record IsUnder (app : Meaning) (script : List Stamped) (given : ℕ) (control : ControlState) : Type 0 where
@@ -88,3 +102,40 @@ pub record Replaying (bytes : List ℕ) (left : Option (List ℕ)) (capture : Ca
   pub told : left ≡ Some rest
   pub holds : capture_of bytes ≡ Ok (behind frames (frames_at capture rest))
   pub header : capture.header ≡ take 24 bytes
+
+-- what bytes are left behind so many, where they are told
+abbrev pub left_behind : ℕ → Option (List ℕ) → Option (List ℕ)
+left_behind n None = None
+left_behind n (Some left) = Some (drop n left)
+
+-- a lane has come so far in a capture: these frames were read, so many, with this greatest moment
+pub record HasCome {L : Type 0} (g : Recorder L) (script : List Stamped) (output : Output) (lane : L) (packets : ℕ) (newest : Option Moment) (frames : List Captured) : Type 0 where
+  pub counted : length frames ≡ packets
+  pub latest : newest ≡ greatest (arrivals 0 frames)
+  pub read : LaneHasRead g script output lane frames
+
+-- where these frames had been read, more have been: what they leave was written, and they and what is left are the capture
+pub record ReadsOn (app : Meaning) (script : List Stamped) (output : Output) (old new : CaptureState) (taken_old taken_new left_old left_new : Option (List ℕ)) (frames all : List Captured) : Type 0 where
+  pub written : (before : Option (List ℕ)) → Appends before taken_old (streamed app script (packets_of script) output old.header frames)
+      → Appends before taken_new (streamed app script (packets_of script) output new.header all)
+  pub replays : (bytes : List ℕ) → Replaying bytes left_old old frames → Replaying bytes left_new new all
+
+-- a run went on in a capture: it may read on, and whatever frames had been read, more have been
+pub record RunsOn {L S O : Type 0} (lanes : Recorder L) (sources : Source S) (sinks : Sink O) (script : List Stamped) (output : Output)
+    (lane : L) (capture : CaptureState) (packets : ℕ) (newest : Option Moment) (s : S) (o : O)
+    (lane_now : L) (capture_now : CaptureState) (packets_now : ℕ) (newest_now : Option Moment) (t : S) (p : O) : Type 0 where
+  pub live : capture_now.is_live ≡ true
+  pub count : capture_now.count ≡ packets_now
+  pub few : packets_now ≤ 1048576
+  pub header : capture_now.header ≡ capture.header
+  pub app : lanes.app lane_now ≡ lanes.app lane
+  pub ready : LaneIsReady lanes script lane_now packets_now
+  pub keeps : lanes.keeps lane_now ≡ lanes.keeps lane
+  pub silent : is_forward output ≡ false → p ≡ o
+  pub source_faults : sources.faults s ≤ sources.faults t
+  pub out_faults : sinks.faults o ≤ sinks.faults p
+  pub source_lasts : sources.lasting t ≡ sources.lasting s
+  pub out_lasts : sinks.lasting p ≡ sinks.lasting o
+  pub come : (frames : List Captured) → HasCome lanes script output lane packets newest frames → (all : List Captured)
+      × HasCome lanes script output lane_now packets_now newest_now all
+      × ReadsOn (lanes.app lane) script output capture capture_now (sinks.taken o) (sinks.taken p) (sources.left s) (sources.left t) frames all

@@ -2,17 +2,18 @@
 
 ghost use Rattle.std.specs.Prelude.{◌≡◌, ◌≢◌, ◌+◌, ◌<◌, ◌≤◌, [], ◌∷◌, ◌++◌, List, length, true, None, Err, IsOk, OnOk, IfOk};
 ghost use Rattle.lane_core.specs.Records.{VersionedPacket, records, verdict_on};
+ghost use Rattle.lane_core.specs.Sight.{arrival_at};
 ghost use Rattle.control_script.specs.Versions.{ceil};
 ghost use Rattle.capture_replay.specs.Records.{control_at};
-ghost use Rattle.capture_replay.specs.Reading.{LaneIsUnder, LaneIsReady, LaneFollows, IsOver, packet_of};
+ghost use Rattle.capture_replay.specs.Reading.{LaneIsUnder, LaneIsReady, LaneFollows, IsOver, packet_at};
 ghost use Rattle.capture_replay.specs.Runs.{MayRun};
 
 use app_api::Verdict;
 use control_script::Script;
+use flow_timers::Moment;
 use lane_core::laws::{last_packet_is_added, later_commands_change_none, one_event_more};
 use lane_core::{LaneError, Recorder};
 use native_filters::NativeBook;
-use pcap_source::Frame;
 use std::alloc::{AllocError, Global};
 
 // Gives the lane the commands of the script up to a version.
@@ -75,16 +76,18 @@ fn catch_up<L: Recorder>(
     give(alloc, script, lane, script.ceil(number))
 }
 
-/// One packet more, behind the commands up to its ceiling.
+/// One packet more, by its time and its captured bytes, behind the commands up to its ceiling.
 ///
 /// An error is want of memory, or that the lane keeps entries and they weigh too much with this packet.
+#[inline(always)]
 pub(crate) fn advance<L: Recorder>(
     alloc: Global,
     natives: &NativeBook,
     script: &Script,
     lane: &mut L,
     number: u64,
-    frame: &Frame,
+    moment: Moment,
+    bytes: &[u8],
 ) -> Result<Verdict, LaneError>
     requires good { L.failed lane.old ≡ None }
     requires lawful { MayRun (L.app lane.old) script.now }
@@ -93,18 +96,18 @@ pub(crate) fn advance<L: Recorder>(
     ensures ok { OnOk result (L.failed lane.new ≡ None) }
     ensures failed { result ≡ Err LaneError.Heavy → L.failed lane.new ≢ None }
     ensures follows { OnOk result ((ps : List VersionedPacket) → LaneFollows L.Recorder script.now lane.old ps
-        → LaneFollows L.Recorder script.now lane.new (ps ++ packet_of script.now number frame.now ∷ [])) }
+        → LaneFollows L.Recorder script.now lane.new (ps ++ packet_at script.now number (arrival_at number moment bytes.now) ∷ [])) }
     ensures verdict { IfOk result (λ verdict. (ps : List VersionedPacket)
         → LaneFollows L.Recorder script.now lane.old ps
         → verdict ≡ verdict_on (L.app lane.old) (control_at (L.app lane.old) script.now)
-        (packet_of script.now number frame.now)
+        (packet_at script.now number (arrival_at number moment bytes.now))
         (records (L.app lane.old) (control_at (L.app lane.old) script.now) ps)) }
     ensures light { OnOk result (L.keeps lane.old ≡ true → (ps : List VersionedPacket)
         → LaneFollows L.Recorder script.now lane.old ps
-        → IsOver (L.app lane.old) script.now (ps ++ packet_of script.now number frame.now ∷ []) → ⊥) }
+        → IsOver (L.app lane.old) script.now (ps ++ packet_at script.now number (arrival_at number moment bytes.now) ∷ []) → ⊥) }
     ensures heavy { result ≡ Err LaneError.Heavy → (L.keeps lane.old ≡ true) × ((ps : List VersionedPacket)
         → LaneFollows L.Recorder script.now lane.old ps
-        → IsOver (L.app lane.old) script.now (ps ++ packet_of script.now number frame.now ∷ [])) }
+        → IsOver (L.app lane.old) script.now (ps ++ packet_at script.now number (arrival_at number moment bytes.now) ∷ [])) }
     ensures ready { result ≢ Err LaneError.NoMemory → LaneIsReady L.Recorder script.now lane.new (number + 1) }
     ensures app { L.app lane.new ≡ L.app lane.old }
     ensures keeps { L.keeps lane.new ≡ L.keeps lane.old }
@@ -115,5 +118,5 @@ pub(crate) fn advance<L: Recorder>(
     if catch_up(alloc, script, lane, number).is_err() {
         return Err(LaneError::NoMemory);
     }
-    lane.packet(alloc, number, frame, natives)
+    lane.packet_at(alloc, number, moment, bytes, natives)
 }

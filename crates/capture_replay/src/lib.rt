@@ -12,6 +12,7 @@
 
 mod advance;
 mod close;
+mod in_place;
 pub mod laws;
 mod output;
 mod plan;
@@ -21,6 +22,7 @@ pub mod reports;
 mod several;
 mod single;
 mod summary;
+mod taking;
 mod task;
 pub mod verdicts;
 

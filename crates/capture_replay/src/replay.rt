@@ -14,13 +14,13 @@ ghost use Rattle.mos_bytes.specs.Outside.{Reads, Writes};
 ghost use Rattle.capture_replay.specs.Reading.{LaneIsReady, LaneHasRead, Replaying, gained};
 ghost use Rattle.capture_replay.specs.Runs.{IsIdle, MayRun, ReadsFile, Runs, RunsAlone};
 
-use crate::advance::advance;
 use crate::close::close;
+use crate::in_place::run_lent;
 use crate::plan::Plan;
+use crate::taking::take;
 use crate::{Output, ReplayError, VersionList};
-use app_api::{App, Verdict};
-use lane_core::laws::{last_packet_is_added, weight_never_falls};
-use lane_core::{Lane, LaneError, Recorder, Reporter};
+use app_api::App;
+use lane_core::{Lane, Reporter};
 use lane_join::greatest_with;
 use mos_bytes::{Failed, Sink, Source};
 use pcap_source::{Capture, Frame, Step};
@@ -41,29 +41,6 @@ fn write_front<O: Sink>(output: Output, capture: &Capture, out: &mut O) -> Resul
     capture.write_header(out)
 }
 
-// Hands a packet on that passes, where packets are.
-fn write_passed<O: Sink>(
-    output: Output,
-    capture: &Capture,
-    verdict: Verdict,
-    frame: &Frame,
-    out: &mut O,
-) -> Result<(), Failed>
-    ensures text { WriteAdds (O.taken out.old) (O.taken out.new) result
-        (if is_forward output then left_by verdict frame.now else []) }
-    ensures silent { is_forward output ≡ false → IsOk result × (out.new ≡ out.old) }
-    ensures cause { HasCause (O.faults out.old) (O.faults out.new) result }
-    ensures lasts { O.lasting out.new ≡ O.lasting out.old }
-{
-    if !output.is_forward() {
-        return Ok(());
-    }
-    match verdict {
-        Verdict::Pass => capture.write_record(out, frame),
-        Verdict::Drop(_) => Ok(()),
-    }
-}
-
 // Hands on what the output gathers, where packets are written while the capture is read, before the source asks the outside
 // for the next one: who waits for them waits no longer than for more of the capture.
 fn hand_on<S: Source, O: Sink>(
@@ -81,48 +58,6 @@ fn hand_on<S: Source, O: Sink>(
         return Ok(());
     }
     out.flush()
-}
-
-// One more packet. A lane whose records weigh too much takes none, and the capture is read on, since it may be refused.
-fn take<L: Recorder, O: Sink>(
-    alloc: Global,
-    plan: &Plan<'_>,
-    capture: &Capture,
-    lane: &mut L,
-    number: u64,
-    frame: &Frame,
-    out: &mut O,
-) -> Result<(), ReplayError>
-    requires lawful { MayRun (L.app lane.old) plan.now.script.now }
-    requires ready { LaneIsReady L.Recorder plan.now.script.now lane.old number }
-    requires bound { number < 1048576 }
-    requires keeps { L.keeps lane.old ≡ not (is_forward plan.now.output) }
-    ensures ready { IsOk result → LaneIsReady L.Recorder plan.now.script.now lane.new (number + 1) }
-    ensures reads { IsOk result → (frames : List Captured) → length frames ≡ number
-        → LaneHasRead L.Recorder plan.now.script.now plan.now.output lane.old frames
-        → LaneHasRead L.Recorder plan.now.script.now plan.now.output lane.new (frames ++ frame.now ∷ []) }
-    ensures writes { (frames : List Captured) → length frames ≡ number
-        → LaneHasRead L.Recorder plan.now.script.now plan.now.output lane.old frames
-        → WriteAdds (O.taken out.old) (O.taken out.new) result
-        (gained (L.app lane.old) plan.now.script.now plan.now.output frames frame.now) }
-    ensures silent { is_forward plan.now.output ≡ false → out.new ≡ out.old }
-    ensures only { IfErr result
-        (λ e. ((e ≡ ReplayError.WriteFault) × (is_forward plan.now.output ≡ true)) ⊎ (e ≡ ReplayError.NoMemory)) }
-    ensures to { Writes O.Sink out.old out.new (IsErrOf result ReplayError.WriteFault) }
-    ensures app { L.app lane.new ≡ L.app lane.old }
-    ensures keeps { L.keeps lane.new ≡ L.keeps lane.old }
-{
-    last_packet_is_added();
-    weight_never_falls();
-    if lane.has_failed() {
-        return Ok(());
-    }
-    match advance(alloc, plan.natives, plan.script, lane, number, frame) {
-        Ok(verdict) => write_passed(plan.output, capture, verdict, frame, out)?,
-        Err(LaneError::Heavy) => {}
-        Err(LaneError::NoMemory) => return Err(ReplayError::NoMemory),
-    }
-    Ok(())
 }
 
 // Reads an opened capture to its end or its tail, and hands its packets to a lane.
@@ -158,11 +93,22 @@ fn read_on<L: Reporter + Drop, S: Source, O: Sink>(
     let mut packets = 0;
     let mut last = None;
     loop {
+        run_lent(
+            alloc,
+            plan,
+            &mut capture,
+            &mut lane,
+            &mut packets,
+            &mut last,
+            source,
+            &mut frame,
+            out,
+        )?;
         hand_on(plan.output, &capture, source, out)?;
         match capture.next(source, &mut frame)? {
             Step::Frame => {
                 last = greatest_with(last, &frame);
-                take(alloc, plan, &capture, &mut lane, packets, &frame, out)?;
+                take(alloc, plan, &mut lane, packets, &frame, out)?;
                 packets += 1;
             }
             Step::Tail(bytes) => return close(alloc, plan, lane, packets, last, bytes, out),
