@@ -2,9 +2,9 @@
 
 ghost use Rattle.capture_replay.specs.ReadBack.{ReportIsReadBack};
 
+use lane_composition::packets::packets_of_a_capture_rise;
 use lane_core::laws::records_are_tidy;
 use report_text::laws::gained_is_read;
-use lane_composition::packets::packets_of_a_capture_rise;
 
 /// What a report run adds to its output where it ends well, read back, is the run's records and totals, unless memory is refused.
 /// That the numbers and bytes of these records are in the ranges of their types is a premise.

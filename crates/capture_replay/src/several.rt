@@ -20,17 +20,17 @@ use app_api::App;
 use capture_maker::Maker;
 use control_script::Script;
 use forward_run::forward_lanes;
+use lane_composition::runs::a_run_has_its_versions;
 use lane_core::RecordUnderWay;
 use mos_bytes::{Sink, Source};
 use native_filters::NativeBook;
+use parallel_report::write_report_by;
 use pcap_source::Capture;
 use report_text::Totals;
-use parallel_report::write_report_by;
 use std::alloc::Global;
 use std::sync::Wait;
 use std::thread::Threads;
 use words::Settings;
-use lane_composition::runs::a_run_has_its_versions;
 use worker_pool::{Gate, Job, run_lanes_kept};
 
 // Writes what is written at the end. As many threads as there were workers share the making of a report's text.

@@ -19,6 +19,7 @@ ghost use Rattle.forward_dispatch.specs.Turns.{HasSent, LeavesSo, WentOn, SendsO
 use crate::exit::{hand_on, write_ready};
 use crate::lane_answers::{LaneAnswers, count_sent, have_answered, take_all, take_answers};
 use flow_timers::Moment;
+use lane_composition::forward::{later_lanes_change_nothing, sending_stays_right};
 use lane_core::Recorder;
 use lane_join::greatest_with;
 use lane_rings::Resequencer;
@@ -29,7 +30,6 @@ use std::alloc::{AllocError, Global};
 use std::mem;
 use std::sync::Wait;
 use std::sync::atomic::Ordering;
-use lane_composition::forward::{later_lanes_change_nothing, sending_stays_right};
 use worker_pool::PoolError;
 use worker_pool::team::dispatch::{Whole, send_frame};
 use worker_pool::team::lane_input::{LaneInput, take_turns};

@@ -10,10 +10,10 @@ ghost use Rattle.forward_dispatch.specs.Streamed.{IsCutShort, LeavesOn};
 ghost use Rattle.forward_dispatch.specs.Drained.{held};
 
 use app_api::Verdict;
+use lane_composition::forward::writing_stays_right;
 use lane_rings::{Answer, Resequencer};
 use mos_bytes::{Failed, Sink, Source};
 use pcap_source::{Capture, Frame};
-use lane_composition::forward::writing_stays_right;
 
 // Writes what a packet leaves.
 fn write_answer<O: Sink>(answer: &Answer, capture: &Capture, out: &mut O) -> Result<(), Failed>

@@ -6,8 +6,8 @@ ghost use Rattle.forward_dispatch.specs.declared.lane_answers.LaneAnswers.{LaneA
 ghost use Rattle.forward_dispatch.specs.Drained.{Offers, OfferAll};
 ghost use Rattle.forward_dispatch.specs.TakenAnswers.{IsCounted, AreCounted, HasTaken, HaveTaken, counted_on};
 
-use lane_rings::{Answer, AnswerRx, Resequencer};
 use lane_composition::forward::taking_stays_right;
+use lane_rings::{Answer, AnswerRx, Resequencer};
 
 /// What a lane of a forward run answers: where its answers are taken, and how many.
 #[derive(Drop)]

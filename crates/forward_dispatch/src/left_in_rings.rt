@@ -5,10 +5,10 @@ ghost use Rattle.lane_rings.specs.Ring.{sent, taken, AreEnds};
 ghost use Rattle.forward_dispatch.specs.Drained.{sent_in, AreAnswerEnds, Drains, Offers, AreBeside, AreDrained, OfferAll};
 
 use crate::lane_answers::{LaneAnswers, offer};
+use lane_composition::forward::taking_stays_right;
 use lane_core::Recorder;
 use lane_rings::{AnswerTx, Resequencer};
 use lane_worker::Worker;
-use lane_composition::forward::taking_stays_right;
 
 // Takes what is left in an answer ring, at most one answer for each packet that was sent to the lane, and offers it.
 fn take_left(lane_answers: &mut LaneAnswers, tx: &mut AnswerTx, waiting: &mut Resequencer)

@@ -15,14 +15,14 @@ ghost use Rattle.forward_dispatch.specs.Streamed.{AreLaneAnswers};
 ghost use Rattle.forward_run.specs.Explained.{AreGood, LeavesFront, LeavesAll};
 
 use control_script::Script;
-use lane_core::Recorder;
-use lane_worker::Worker;
 use lane_composition::forward::{
     a_front_was_written, all_was_written, later_lanes_change_nothing, taken_are_right,
 };
 use lane_composition::packets::{packets_go_to_lanes, packets_of_a_capture_rise};
 use lane_composition::runs::{fronts_are_of_one_run, lanes_are_one_run, verdicts_of_a_run};
 use lane_composition::streaming::{a_lane_answers_its_part, lanes_answer_as_the_run};
+use lane_core::Recorder;
+use lane_worker::Worker;
 use worker_pool::team::ends::lanes_have_come;
 
 /// What leaves by the answers of workers that have served the packets of a capture is what their verdicts leave, under

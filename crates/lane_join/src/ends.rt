@@ -14,9 +14,9 @@ ghost use Rattle.lane_composition.specs.Taken.{AreOneRun};
 ghost use Rattle.lane_composition.specs.Ends.{AreEnds, IsJoined, sum_of};
 
 use crate::merging::merge;
+use lane_composition::ends::ends_of_lanes_are_one_end;
 use lane_core::{KeptEnd, KeptRecords};
 use std::alloc::{AllocError, Global};
-use lane_composition::ends::ends_of_lanes_are_one_end;
 
 /// What all lanes end with, as one.
 #[derive(Drop)]

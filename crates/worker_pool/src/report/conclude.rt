@@ -20,6 +20,10 @@ use crate::team::Ran;
 use crate::team::ends::{ends_of, lanes_have_come};
 use crate::versions::versions_of;
 use flow_timers::Moment;
+use lane_composition::packets::packets_of_a_capture_rise;
+use lane_composition::runs::{
+    a_heavy_lane_makes_a_heavy_run, a_run_has_its_versions, counts_of_a_run_fit, lanes_are_one_run,
+};
 use lane_core::Reporter;
 use lane_core::limits::WEIGHT as WEIGHT_LIMIT;
 use lane_join::{Joined, join};
@@ -27,10 +31,6 @@ use lane_worker::{Worker, WorkerContext};
 use report_text::Totals;
 use std::alloc::Global;
 use std::thread::Threads;
-use lane_composition::packets::packets_of_a_capture_rise;
-use lane_composition::runs::{
-    a_heavy_lane_makes_a_heavy_run, a_run_has_its_versions, counts_of_a_run_fit, lanes_are_one_run,
-};
 
 // What all lanes end with, as one.
 fn joined_of<R: Threads + Sync, L: Reporter + Drop + Send, G>(

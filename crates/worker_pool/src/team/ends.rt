@@ -15,14 +15,14 @@ ghost use Rattle.worker_pool.specs.Answered.{HaveAnswered};
 use crate::job::PoolError;
 use control_script::Script;
 use flow_timers::Moment;
+use lane_composition::packets::packets_go_to_lanes;
+use lane_composition::versions::a_script_gives_floors_and_ceilings;
 use lane_core::{KeptEnd, Recorder, Reporter};
 use lane_worker::Worker;
 use native_filters::NativeBook;
 use std::alloc::{AllocError, Global};
 use std::thread;
 use std::thread::Threads;
-use lane_composition::packets::packets_go_to_lanes;
-use lane_composition::versions::a_script_gives_floors_and_ceilings;
 
 /// The lanes of workers that have served a capture share its packets, under the commands of the script, and have
 /// answered them. This function does nothing: who ends the lanes calls it for what it says.
