@@ -21,7 +21,7 @@ use crate::team::worker_place::{WorkerPlace, Works, start_work};
 use control_script::Script;
 use lane_core::Recorder;
 use lane_rings::{CommandTx, PacketTx};
-use lane_worker::{Gate, Worker, WorkerContext};
+use lane_worker::{Gate, Worker, WorkerContext, keep_at_hand};
 use native_filters::NativeBook;
 use std::alloc::{AllocError, Global};
 use std::collections::VecDeque;
@@ -313,6 +313,7 @@ pub fn run_team<
     ensures unchanged { IfErr result (λ _. feed.new ≡ feed.old) }
 {
     let alloc = context.alloc;
+    keep_at_hand(alloc);
     let count = team.workers.len();
     let inputs = Vec::with_capacity(alloc, count)?;
     let back = Vec::with_capacity(alloc, count)?;
