@@ -4,7 +4,7 @@
 //! `work` takes a packet out of its ring, takes the places in the script that it needs (`src/places.rt`), hands it to the lane
 //! (`src/turn.rt`) and sends it on with the verdict, or back for its memory (`src/ends.rt`). `work_off` does the same in place
 //! with what is left in a ring once its thread has ended. A thread that waits spins at first, and then sleeps for longer and
-//! longer (`src/backoff.rt`).
+//! longer (`src/backoff.rt`). One that works keeps memory at hand (`src/at_hand.rt`).
 //! Contract: one relation between the worker handed in and the one handed back, which composes: what two calls did is what one
 //! longer call does.
 //! Begin with `specs/Steps.antt` and `specs/Worked.antt`, then `work` in `src/worker.rt`; `proofs/Composed.antt` shows that the
@@ -12,6 +12,7 @@
 //! Tests: `worker_tests` (workers).
 #![tactic(auto)]
 
+mod at_hand;
 mod backoff;
 mod context;
 mod ends;
@@ -21,6 +22,7 @@ mod places;
 mod turn;
 mod worker;
 
+pub use at_hand::keep_at_hand;
 pub use backoff::Backoff;
 pub use context::WorkerContext;
 pub use gate::{Gate, OpenGate};

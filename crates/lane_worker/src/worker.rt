@@ -9,6 +9,7 @@ ghost use Rattle.lane_worker.specs.Steps.{fits};
 ghost use Rattle.lane_worker.specs.Worked.{MayWork, IsReady, Worked};
 ghost use Rattle.lane_worker.specs.Turning.{TookUp};
 
+use crate::at_hand::keep_at_hand;
 use crate::backoff::Backoff;
 use crate::context::WorkerContext;
 use crate::ends::{send_answer, take_from};
@@ -21,6 +22,9 @@ use native_filters::NativeBook;
 use std::alloc::Global;
 use std::sync::Wait;
 use std::sync::atomic::{AtomicBool, Ordering};
+
+/// After so many turns a worker keeps memory at hand anew: what it had may be used up.
+const TURNS: u32 = 1024;
 
 /// What one thread owns: a lane, and its ends of the rings.
 #[derive(Drop)]
@@ -90,7 +94,12 @@ pub fn work_in<R: Wait, L: Recorder + Drop, G: Gate>(
 {
     let mut w = w;
     let mut backoff = backoff_of(&w);
+    let mut turns: u32 = 0;
     for _ in context.rt.forever() {
+        if turns % TURNS == 0 {
+            keep_at_hand(context.alloc);
+        }
+        turns = turns.wrapping_add(1);
         let stopped = stop.load(Ordering::SeqCst);
         let found = take_turn(context, &mut w);
         if stopped && !found {

@@ -1,6 +1,6 @@
 //! Workers that share a run: a thread for each lane, one for the script's commands, and the dispatcher in this one.
 
-ghost use Rattle.std.specs.Prelude.{◌≡◌, ◌≤◌, ◌∷◌, None, length, IfOk, IfErr, IsTrue};
+ghost use Rattle.std.specs.Prelude.{◌≡◌, ◌≤◌, [], ◌∷◌, None, length, IfOk, IfErr, IsTrue};
 ghost use Rattle.std.specs.Vec.{vec_capacity};
 ghost use Rattle.std.specs.Thread.{IsSync};
 ghost use Rattle.forest_versions.specs.Lawful.{are_lawful};
@@ -8,7 +8,7 @@ ghost use Rattle.forest_versions.specs.State.{start};
 ghost use Rattle.control_script.specs.Order.{commands_of};
 ghost use Rattle.lane_worker.specs.Worked.{MayWork, WorkedOn};
 ghost use Rattle.worker_pool.specs.AtWork.{CanRun, HasRoom, MayStart, Served};
-ghost use Rattle.worker_pool.specs.Inputs.{IsPlaced};
+ghost use Rattle.worker_pool.specs.Inputs.{IsPlaced, AreInputs};
 
 use crate::job::PoolError;
 use crate::team::context::WorkerRunner;
@@ -21,7 +21,8 @@ use crate::team::worker_place::{WorkerPlace, Works, start_work};
 use control_script::Script;
 use lane_core::Recorder;
 use lane_rings::{CommandTx, PacketTx};
-use lane_worker::{Gate, Worker, WorkerContext};
+use lane_worker::{Gate, Worker, WorkerContext, keep_at_hand};
+use native_filters::NativeBook;
 use std::alloc::{AllocError, Global};
 use std::collections::VecDeque;
 use std::snapshot::Snapshot;
@@ -133,6 +134,58 @@ fn take_on<'s, E: 's, L: Recorder + Drop + Send + 's, D: WorkerRunner<L> + Sync>
     start_work(scope, promise, stop, w, f)
 }
 
+// Starts the thread of each worker, and answers their inputs, in `room`: that is empty, and has a place for each.
+fn start_all<'s, E: 's, L: Recorder + Drop + Send + 's, D: WorkerRunner<L> + Sync>(
+    scope: &Scope<'s, E>,
+    context: &'s D,
+    script: &Script,
+    stops: &'s [AtomicBool],
+    workers: Vec<Worker<L>>,
+    packets: Vec<PacketTx>,
+    room: Vec<LaneInput<L>>,
+) -> Vec<LaneInput<L>>
+    requires shared { IsSync D.row }
+    requires commands { D.commands context.now ≡ commands_of script.now }
+    requires team { CanRun L.Recorder script.now workers.items packets.items }
+    requires empty { room.items ≡ [] }
+    requires places { length workers.items ≤ vec_capacity room }
+    requires flags { length stops.now ≡ length workers.items }
+    ensures inputs { AreInputs L.Recorder script.now workers.items [] result.items }
+{
+    let mut workers = VecDeque::from(workers);
+    let mut packets = VecDeque::from(packets);
+    let mut inputs = room;
+    for stop in stops {
+        let w = take_first(&mut workers);
+        let packets = take_first(&mut packets);
+        let place = take_on(scope, context, script, stop, w);
+        inputs.push_reserved(LaneInput { packets, place });
+    }
+    inputs
+}
+
+// Makes a context again of its parts. A closure for a scope holds them one by one: what it needs to be handed to a thread is
+// then shown part by part.
+fn context_of<'a, R, G>(
+    rt: &'a R,
+    alloc: Global,
+    script: &'a Script,
+    natives: &'a NativeBook,
+    gate: &'a G,
+    failed: &'a AtomicBool,
+) -> WorkerContext<'a, R, G>
+    ensures script { result.script.now ≡ script.now }
+{
+    WorkerContext {
+        rt,
+        alloc,
+        script,
+        natives,
+        gate,
+        failed,
+    }
+}
+
 // Starts the threads, has the feed send the packets of the capture, and waits for the threads. The feed is handed back.
 fn run_threads<
     'c,
@@ -159,14 +212,8 @@ fn run_threads<
         (λ frames. E.did feed.old result.2.now team.workers.items frames result.0) }
     ensures same { result.2.ghost_name ≡ feed.entry.ghost_name }
 {
-    let WorkerContext {
-        rt,
-        alloc,
-        script,
-        natives,
-        gate,
-        failed,
-    } = *context;
+    let (rt, alloc, script) = (context.rt, context.alloc, context.script);
+    let (natives, gate, failed) = (context.natives, context.gate, context.failed);
     let Team {
         workers,
         packets,
@@ -189,26 +236,11 @@ fn run_threads<
             ensures same { result.2.ghost_name ≡ feed.entry.ghost_name }
         {
             let control = start_control(scope, move || publish(commands, count, gate));
-            let mut workers = VecDeque::from(workers);
-            let mut packets = VecDeque::from(packets);
-            let mut inputs = inputs;
-            for stop in stops {
-                let w = take_first(&mut workers);
-                let packets = take_first(&mut packets);
-                let place = take_on(scope, runner, script, stop, w);
-                inputs.push_reserved(LaneInput { packets, place });
-            }
+            let mut inputs = start_all(scope, runner, script, stops, workers, packets, inputs);
             let read = feed.send_packets(&mut inputs);
             raise_all(stops);
             join_control(rt, control);
-            let context = WorkerContext {
-                rt,
-                alloc,
-                script,
-                natives,
-                gate,
-                failed,
-            };
+            let context = context_of(rt, alloc, script, natives, gate, failed);
             let workers = finish_all(&context, inputs, back);
             (read, workers, feed)
         },
@@ -281,6 +313,7 @@ pub fn run_team<
     ensures unchanged { IfErr result (λ _. feed.new ≡ feed.old) }
 {
     let alloc = context.alloc;
+    keep_at_hand(alloc);
     let count = team.workers.len();
     let inputs = Vec::with_capacity(alloc, count)?;
     let back = Vec::with_capacity(alloc, count)?;

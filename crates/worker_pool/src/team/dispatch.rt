@@ -9,9 +9,7 @@ ghost use Rattle.worker_pool.specs.Inputs.{AreInputs, Dealt, ReadsAs};
 ghost use Rattle.worker_pool.specs.Source.{ReadsOn};
 
 use crate::team::lane_input::{LaneInput, send_to};
-use flow_table::lane_of;
 use flow_timers::Moment;
-use ip6_views::{Sight, key_between, sight_of};
 use lane_core::Recorder;
 use lane_join::greatest_with;
 use lane_rings::{Packet, PacketRx};
@@ -38,10 +36,7 @@ fn lane_of_frame(frame: &Frame, lanes: usize) -> usize
     ensures lane { result ≡ lane_of_sight (sight_of frame.now.bytes) lanes }
     ensures within { result < lanes }
 {
-    match sight_of(&frame.bytes) {
-        Sight::Tcp(segment) => lane_of(&key_between(segment.from, segment.to), lanes),
-        Sight::Other(_) => 0,
-    }
+    ip6_views::lane_of_frame(&frame.bytes, lanes)
 }
 
 /// Sends the next frame of a capture, of which so many were sent, to the input of its lane, and answers the lane. It waits

@@ -16,8 +16,54 @@ use shared_forest::{ForestStore, StoreUser};
 use std::alloc::{AllocError, Global};
 use std::sync::{Arc, Wait};
 
-/// How many packets may wait for a lane.
+/// How many packets may wait for a lane, where no more are to be on their way.
 const WAITING_PACKETS: usize = 256;
+
+/// How many packets may wait for all lanes of a run that is reported.
+const WAITING_IN_ALL: usize = 4096;
+
+// How many packets may wait for each of so many lanes of a run that is reported. The more, the seldomer the thread that reads
+// and a worker wait for each other.
+fn waiting_for_each(lanes: usize) -> usize
+    requires some { 1 ≤ lanes }
+    ensures some { 1 ≤ result }
+{
+    (WAITING_IN_ALL / lanes).max(WAITING_PACKETS)
+}
+
+// Adds a worker of a lane to a team, as `enlist` does; so many packets may wait for it.
+fn enlist_with<L: Recorder + Drop>(
+    alloc: Global,
+    team: &mut Team<L>,
+    lane: L,
+    waiting: usize,
+    places: usize,
+    answers: Option<AnswerTx>,
+    used: Option<PacketTx>,
+) -> Result<(), AllocError>
+    requires waiting { 1 ≤ waiting }
+    requires places { 1 ≤ places }
+    ensures begun { OnOk result ((app : Meaning) (keep : Bool) → IsFresh L.Recorder app keep lane
+        → AreBegun L.Recorder app keep team.old.workers.items team.old.packets.items
+        → AreBegun L.Recorder app keep team.new.workers.items team.new.packets.items) }
+    ensures added { OnOk result ((w : Begun L) × (w.answers ≡ answers)
+        × (team.new.workers.items ≡ team.old.workers.items ++ w ∷ [])) }
+    ensures count { OnOk result (length team.new.workers.items ≡ length team.old.workers.items + 1) }
+{
+    let (packets_tx, packets) = packet_ring(alloc, waiting)?;
+    let (commands_tx, commands) = command_ring(alloc, places)?;
+    team.workers.push(Worker {
+        number: team.workers.len(),
+        lane,
+        packets,
+        commands,
+        answers,
+        used,
+    })?;
+    team.packets.push(packets_tx)?;
+    team.commands.push(commands_tx)?;
+    Ok(())
+}
 
 /// Adds a worker of a lane to a team, with rings of its own; its command ring has so many places. `answers` is where it
 /// answers, `used` where it gives packets back. An error is want of memory; the team is then of no more use.
@@ -37,19 +83,7 @@ pub fn enlist<L: Recorder + Drop>(
         × (team.new.workers.items ≡ team.old.workers.items ++ w ∷ [])) }
     ensures count { OnOk result (length team.new.workers.items ≡ length team.old.workers.items + 1) }
 {
-    let (packets_tx, packets) = packet_ring(alloc, WAITING_PACKETS)?;
-    let (commands_tx, commands) = command_ring(alloc, places)?;
-    team.workers.push(Worker {
-        number: team.workers.len(),
-        lane,
-        packets,
-        commands,
-        answers,
-        used,
-    })?;
-    team.packets.push(packets_tx)?;
-    team.commands.push(commands_tx)?;
-    Ok(())
+    enlist_with(alloc, team, lane, WAITING_PACKETS, places, answers, used)
 }
 
 // The same, with a ring through which the worker gives packets back; its other end goes into `used`. It has as many
@@ -59,16 +93,18 @@ fn enlist_giving_back<L: Recorder + Drop>(
     team: &mut Team<L>,
     used: &mut Vec<PacketRx>,
     lane: L,
+    waiting: usize,
     places: usize,
 ) -> Result<(), AllocError>
+    requires waiting { 1 ≤ waiting }
     requires places { 1 ≤ places }
     ensures begun { OnOk result ((app : Meaning) (keep : Bool) → IsFresh L.Recorder app keep lane
         → AreBegun L.Recorder app keep team.old.workers.items team.old.packets.items
         → AreBegun L.Recorder app keep team.new.workers.items team.new.packets.items) }
     ensures count { OnOk result (length team.new.workers.items ≡ length team.old.workers.items + 1) }
 {
-    let (used_tx, used_rx) = packet_ring(alloc, WAITING_PACKETS)?;
-    enlist(alloc, team, lane, places, None, Some(used_tx))?;
+    let (used_tx, used_rx) = packet_ring(alloc, waiting)?;
+    enlist_with(alloc, team, lane, waiting, places, None, Some(used_tx))?;
     used.push(used_rx)?;
     Ok(())
 }
@@ -78,9 +114,11 @@ fn enlist_giving_back<L: Recorder + Drop>(
 fn team_of<L: Recorder + Drop, F: Fn() -> Result<L, AllocError>>(
     alloc: Global,
     count: usize,
+    waiting: usize,
     places: usize,
     make: F,
 ) -> Result<(Team<L>, Vec<PacketRx>), AllocError>
+    requires waiting { 1 ≤ waiting }
     requires places { 1 ≤ places }
     requires callable { F.IsAlwaysCallable make }
     ensures begun { IfOk result (λ r. (app : Meaning) (keep : Bool)
@@ -95,7 +133,7 @@ fn team_of<L: Recorder + Drop, F: Fn() -> Result<L, AllocError>>(
     };
     let mut used = Vec::new(alloc);
     for _ in 0..count {
-        enlist_giving_back(alloc, &mut team, &mut used, make()?, places)?;
+        enlist_giving_back(alloc, &mut team, &mut used, make()?, waiting, places)?;
     }
     Ok((team, used))
 }
@@ -129,7 +167,8 @@ pub(crate) fn make_team<R: Wait + Copy + Drop, A: App + Copy + Drop>(
 {
     let places = (job.script.len() as usize).max(1);
     let store = Arc::new(alloc, ForestStore::new(alloc)?)?;
-    team_of(alloc, job.workers, places, || {
+    let waiting = waiting_for_each(job.workers);
+    team_of(alloc, job.workers, waiting, places, || {
         lane_over(rt, alloc, &job.app, &store, true)
     })
 }

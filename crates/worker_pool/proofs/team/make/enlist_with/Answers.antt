@@ -1,5 +1,5 @@
 use Rattle.worker_pool.proofs.Making.{begun_more}
-use Rattle.worker_pool.proofs.team.make.enlist.Goals as goal
+use Rattle.worker_pool.proofs.team.make.enlist_with.Goals as goal
 
 pub returns-clause-begun : goal.returns-clause-begun
 returns-clause-begun g c = λ app keep fresh begun.

@@ -4,7 +4,7 @@ use Rattle.std.specs.Vec.{vec_capacity}
 use Rattle.control_script.specs.Order.{commands_of}
 use Rattle.lane_worker.specs.declared.worker.Worker.{Worker}
 use Rattle.worker_pool.specs.AtWork.{MayBegin, IsFresh}
-use Rattle.worker_pool.proofs.team.fn.run_threads.scope.Given as goal
+use Rattle.worker_pool.proofs.team.start_all.Given as goal
 
 -- the first workers are at their inputs, the others may begin, and for each of these a flag and a place are left
 abbrev pub invariant-loop-stop : goal.invariant-loop-stop
