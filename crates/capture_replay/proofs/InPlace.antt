@@ -1,11 +1,11 @@
 -- What a run comes to by the records that it reads where they stand.
-use Rattle.std.proofs.Common.{◌≡◌, ℕ, zero, suc, ◌+◌, ◌≤◌, Option, Some, None, List, [], ◌∷◌, ◌++◌, length, take, drop, Ok, refl, sym, ap, subst, ◌∙◌, ◌≢◌, inl, inr, arith, append_assoc, length-append, length-take-le}
+use Rattle.std.proofs.Common.{◌≡◌, ℕ, zero, suc, ◌+◌, ◌-◌, ◌≤◌, Option, Some, None, List, [], ◌∷◌, ◌++◌, length, take, drop, Ok, refl, sym, ap, subst, ◌∙◌, ◌≢◌, inl, inr, arith, append_assoc, length-append, length-take-le}
 use Rattle.std.specs.Prelude.{◌⊎◌}
 use Rattle.std.specs.Io.{StartsWith}
 use Rattle.std.specs.Io.KnownBytes.{Appends}
 use Rattle.std.proofs.KnownBytes.{Appends-trans, starts_with_rest}
 use Rattle.std.proofs.Math.Seq.{drop-nil, take-append_seam, drop-append_seam}
-use Rattle.std.proofs.lemmas.List.{take-append-drop}
+use Rattle.std.proofs.lemmas.List.{take-append-drop, take_all, length-drop}
 use Rattle.mos_bytes.specs.Reads.{BeginsWith}
 use Rattle.mos_bytes.specs.declared.source.Source.{Ghosts as Source}
 use Rattle.mos_bytes.specs.declared.sink.Sink.{Ghosts as Sink}
@@ -84,8 +84,17 @@ whole_headed old new front whole taken =
     let size = length-take-le whole.len front taken.within in
     omega (arith, all, parts, head, size)
 
+-- bytes from a place on, as a slice has them
+from_place : (at : ℕ) (l : List ℕ) → take (length l - at) (drop at l) ≡ drop at l
+from_place at l = take_all (length l - at) (drop at l) (omega (arith, length-drop at l))
+
+-- a record that was taken in the bytes from a place on
+pub taken_behind : (old new : CaptureState) (front : List ℕ) (at : ℕ) (whole : WholeRecord)
+    → TakesInPlace old new (take (length front - at) (drop at front)) whole → TakesInPlace old new (drop at front) whole
+taken_behind old new front at whole taken = subst (λ f. TakesInPlace old new f whole) (from_place at front) taken
+
 -- its time, its head and its captured bytes are what it says
-pub seen_here : (old new : CaptureState) (front : List ℕ) (whole : WholeRecord) → TakesInPlace old new front whole
+seen_here : (old new : CaptureState) (front : List ℕ) (whole : WholeRecord) → TakesInPlace old new front whole
     → IsSeen (record_at old.order front) (record { seconds = whole.seconds; fraction = whole.fraction }) (take 16 (take whole.len front)) (drop 16 (take whole.len front))
 seen_here old new front whole taken =
     let frame = record_at old.order front in record {
@@ -93,6 +102,17 @@ seen_here old new front whole taken =
       head_is = ap (take 16) (sym taken.bytes) ∙ ap (λ k. take k (frame.head ++ frame.bytes)) (sym taken.is_record.head) ∙ take-append_seam frame.head frame.bytes;
       bytes_is = sym taken.captured;
     }
+
+-- and so are its slices
+pub seen_behind : (old new : CaptureState) (front : List ℕ) (at : ℕ) (whole : WholeRecord)
+    → TakesInPlace old new (take (length front - at) (drop at front)) whole
+    → let there = take whole.len (take (length front - at) (drop at front)) in
+    IsSeen (record_at old.order (drop at front)) (record { seconds = whole.seconds; fraction = whole.fraction }) (take 16 there) (take (length there - 16) (drop 16 there))
+seen_behind old new front at whole taken =
+    let there = take whole.len (take (length front - at) (drop at front)) in
+    subst (λ bytes. IsSeen (record_at old.order (drop at front)) (record { seconds = whole.seconds; fraction = whole.fraction }) (take 16 there) bytes) (sym (from_place 16 there))
+    (subst (λ f. IsSeen (record_at old.order f) (record { seconds = whole.seconds; fraction = whole.fraction }) (take 16 there) (drop 16 there)) (from_place at front)
+    (seen_here old new (take (length front - at) (drop at front)) whole taken))
 
 module _ (app : Meaning) (script : List Stamped) (output : Output) where
   pub reads_none : (capture : CaptureState) (taken left : Option (List ℕ)) (frames : List Captured)

@@ -1,4 +1,4 @@
-use Rattle.std.proofs.Common.{◌≡◌, ◌≤◌, ◌+◌, ◌++◌, ◌∷◌, [], length, take, drop, Some, Ok, Err, refl, sym, ap, subst, ◌∙◌, arith, le_refl, rules}
+use Rattle.std.proofs.Common.{◌≡◌, ◌≤◌, ◌+◌, ◌++◌, ◌∷◌, [], length, take, drop, Some, Ok, Err, refl, sym, ap, subst, ◌∙◌, arith, le_refl, rules, length-drop}
 use Rattle.std.proofs.lemmas.List.{length-append}
 use Rattle.std.proofs.lemmas.Result.{err_from_is_err_and}
 use Rattle.std.specs.Io.KnownBytes.{Appends}
@@ -10,11 +10,11 @@ use Rattle.capture_replay.specs.Reading.{IsSeen, gained, left_behind}
 use Rattle.capture_replay.specs.Runs.{RunsAs}
 use Rattle.capture_replay.proofs.Refusals.{same_error, rose_since}
 use Rattle.capture_replay.proofs.Replaying.{front_of_frame, stopped_by}
-use Rattle.capture_replay.proofs.InPlace.{latest_with, reads_none, reads_one_more, seen_here, told_in, whole_headed}
+use Rattle.capture_replay.proofs.InPlace.{latest_with, reads_none, reads_one_more, seen_behind, taken_behind, told_in}
 use Rattle.capture_replay.proofs.in_place.walk.Goals as goal
 
-pub loop-rest-init : goal.loop-rest-init
-loop-rest-init g c = record {
+pub loop-record-init : goal.loop-record-init
+loop-record-init g c = record {
   within = omega arith;
   live = c.requires.live;
   count = c.requires.count;
@@ -31,17 +31,17 @@ loop-rest-init g c = record {
       (frames, here, reads_none (g.L.Recorder.app c.args.lane.now) plan.script.now plan.output c.args.capture.now (g.O.Sink.taken c.args.out.now) left frames);
 }
 
-pub loop-rest-preserved : goal.loop-rest-preserved
-loop-rest-preserved g c =
-    let at = c.loop-rest in
+pub loop-record-preserved : goal.loop-record-preserved
+loop-record-preserved g c =
+    let at = c.loop-record in
     let inv = at.invariant in
     let plan = c.args.plan.now in
     let app = g.L.Recorder.app c.args.lane.now in
-    let taken = c.in-Some.ensures.taken in
     let new = c.next_in.new.self in
     let front = c.args.front.now in
+    let taken = taken_behind at.capture new front at.at c.in-Some.record c.in-Some.ensures.taken in
     let frame = record_at at.capture.order (drop at.at front) in
-    let seen : IsSeen frame c.take_at.args.moment c.take_at.args.head.now c.take_at.args.bytes.now = seen_here at.capture new (drop at.at front) c.in-Some.record taken in
+    let seen = seen_behind at.capture new front at.at c.in-Some.record c.in-Some.ensures.taken in
     let more = c.in_ok-take_at.ensures in
     record {
       within = let inside = taken.within in let was = inv.within in omega (arith, inside, was, length-drop at.at front);
@@ -73,15 +73,15 @@ loop-rest-preserved g c =
 
 pub returns-in_err-take_at-clause-stops : goal.returns-in_err-take_at-clause-stops
 returns-in_err-take_at-clause-stops g c =
-    let at = c.loop-rest in
+    let at = c.loop-record in
     let inv = at.invariant in
     let plan = c.args.plan.now in
     let app = g.L.Recorder.app at.lane in
-    let taken = c.in-Some.ensures.taken in
     let new = c.next_in.new.self in
     let front = c.args.front.now in
+    let taken = taken_behind at.capture new front at.at c.in-Some.record c.in-Some.ensures.taken in
     let frame = record_at at.capture.order (drop at.at front) in
-    let seen : IsSeen frame c.take_at.args.moment c.take_at.args.head.now c.take_at.args.bytes.now = seen_here at.capture new (drop at.at front) c.in-Some.record taken in
+    let seen = seen_behind at.capture new front at.at c.in-Some.record c.in-Some.ensures.taken in
     let e = c.in_err-take_at.field-0.0 in
     let p = err_from_is_err_and c.from_residual.result c.from_residual.ensures.1 in
     rw (p.1, p.2)

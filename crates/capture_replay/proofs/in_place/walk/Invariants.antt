@@ -6,8 +6,8 @@ use Rattle.capture_replay.specs.Reading.{HasCome, IsReady, ReadsOn, left_behind}
 use Rattle.capture_replay.proofs.in_place.walk.Given as goal
 
 -- so many bytes were walked over, and whatever frames the lane had read, it read those of these bytes too
-abbrev pub invariant-loop-rest : goal.invariant-loop-rest
-invariant-loop-rest g l = record {
+abbrev pub invariant-loop-record : goal.invariant-loop-record
+invariant-loop-record g l = record {
   within : l.at ≤ length l.front;
   live : l.capture.is_live ≡ true;
   count : l.capture.count ≡ l.packets;
@@ -26,5 +26,5 @@ invariant-loop-rest g l = record {
       left (left_behind l.at left) frames all;
 }
 
-abbrev pub decreases-loop-rest : goal.decreases-loop-rest
-decreases-loop-rest g l = 1048576 - l.packets
+abbrev pub decreases-loop-record : goal.decreases-loop-record
+decreases-loop-record g l = 1048576 - l.packets
