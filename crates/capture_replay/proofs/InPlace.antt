@@ -157,6 +157,7 @@ module _ {L S O : Type 0} (lanes : Recorder L) (sources : Source S) (sinks : Sin
     live = next.live;
     count = next.count;
     few = next.few;
+    rises = let a = first.rises in let b = next.rises in omega (arith, a, b);
     header = next.header ∙ first.header;
     app = next.app ∙ first.app;
     ready = next.ready;

@@ -127,6 +127,7 @@ pub record RunsOn {L S O : Type 0} (lanes : Recorder L) (sources : Source S) (si
   pub live : capture_now.is_live ≡ true
   pub count : capture_now.count ≡ packets_now
   pub few : packets_now ≤ 1048576
+  pub rises : packets ≤ packets_now
   pub header : capture_now.header ≡ capture.header
   pub app : lanes.app lane_now ≡ lanes.app lane
   pub ready : LaneIsReady lanes script lane_now packets_now

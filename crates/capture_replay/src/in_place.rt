@@ -56,6 +56,7 @@ fn walk<L: Recorder, O: Sink>(
     ensures ready { IsOk result → LaneIsReady L.Recorder plan.now.script.now lane.new packets.new }
     ensures count { IsOk result → capture.new.count ≡ packets.new }
     ensures few { IsOk result → packets.new ≤ 1048576 }
+    ensures rises { packets.old ≤ packets.new }
     ensures live { IsOk result → IsTrue capture.new.is_live }
     ensures header { capture.new.header ≡ capture.old.header }
     ensures goes_on { IfOk result (λ at. (left : Option (List ℕ)) (frames : List Captured) → BeginsWith left front.now

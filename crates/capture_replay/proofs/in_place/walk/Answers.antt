@@ -19,6 +19,7 @@ loop-record-init g c = record {
   live = c.requires.live;
   count = c.requires.count;
   few = c.requires.few;
+  rises = le_refl _;
   header = refl;
   app = refl;
   ready = c.requires.ready;
@@ -48,6 +49,7 @@ loop-record-preserved g c =
       live = taken.live;
       count = taken.moves.count ∙ ap (λ n. n + 1) inv.count;
       few = let within = taken.moves.within in let count = taken.moves.count in let was = inv.count in omega (arith, within, count, was);
+      rises = let before = inv.rises in omega (arith, before);
       header = taken.moves.header ∙ inv.header;
       app = c.take_at.ensures.app ∙ inv.app;
       ready = more.ready refl;

@@ -12,6 +12,7 @@ invariant-loop-record g l = record {
   live : l.capture.is_live ≡ true;
   count : l.capture.count ≡ l.packets;
   few : l.packets ≤ 1048576;
+  rises : l.fn.packets ≤ l.packets;
   header : l.capture.header ≡ l.fn.capture.header;
   app : g.L.Recorder.app l.lane ≡ g.L.Recorder.app l.fn.lane;
   ready : IsReady (g.L.Recorder.app l.lane) l.plan.script.now (g.L.Recorder.given l.lane) (g.L.Recorder.control l.lane) (g.L.Recorder.last l.lane) l.packets;

@@ -23,6 +23,7 @@ loop-frame-init g c = record {
   live = c.requires.opened.live;
   count = c.requires.opened.count;
   few = omega arith;
+  rises = omega arith;
   header = refl;
   app = refl;
   ready = c.requires.ready;
@@ -279,6 +280,7 @@ loop-frame-preserved g c =
       live = c.next.ensures.live.1 is_frame;
       count = moved.count ∙ ap (λ n. n + 1) run.count;
       few = let within = moved.within in let count = moved.count in let was = run.count in omega (arith, within, count, was);
+      rises = omega arith;
       header = moved.header ∙ run.header;
       app = c.take.ensures.app ∙ run.app;
       ready = more.ready refl;
@@ -312,6 +314,15 @@ loop-frame-preserved g c =
             },
           );
     }
+
+pub loop-frame-smaller : goal.loop-frame-smaller
+loop-frame-smaller g c =
+    let on = c.in_ok-run_lent.ensures.on refl in
+    let moved = c.next.ensures.moved (c.in_ok-next.was ∙ ap (λ s. Ok s) c.in-Frame.is) in
+    let rises = on.rises in
+    let count = on.count in
+    let within = moved.within in
+    omega (arith, rises, count, within)
 
 pub close-requires-clause-read : goal.close-requires-clause-read
 close-requires-clause-read g c = let run = on_and_on g.L.Recorder g.S.Source g.O.Sink c.args.plan.now.script.now c.args.plan.now.output _ _ _ _ _ _ _ _ _ _ _ _ _ _ _ _ _ _ c.loop-frame.invariant (c.in_ok-run_lent.ensures.on refl) in let come = run.come [] (record { counted = refl; latest = none_greatest; read = c.requires.read }) in (come.0, come.1.counted, come.1.latest, come.1.read)
