@@ -6,7 +6,7 @@ use Rattle.std.specs.Io.KnownBytes.{Consumes}
 use Rattle.mos_bytes.specs.declared.failed.Failed.{Failed}
 use Rattle.mos_bytes.specs.Causes.{HasCause, Rose, risen}
 use Rattle.mos_bytes.proofs.Causes.{Rose-earlier}
-use Rattle.pcapng_source.specs.Given.{Given, after}
+use Rattle.pcapng_source.specs.Given.{Given, prepended}
 use Rattle.mos_bytes.specs.declared.source.Source.{Ghosts}
 use Rattle.pcapng_source.specs.Reading.{IsSteady, met_at, rest_of}
 use Rattle.pcapng_source.specs.Outlooks.{Gives, StepFits, StepGives, faults_with, outlook}
@@ -22,7 +22,7 @@ Gives-same r s (Some left) (Some new) front same given = sym (same left) ∙ giv
 
 -- bytes that were read are given as they are
 pub Gives-read : (r s : Reader) (left now : Option (List ℕ)) (front : List ℕ) → Consumes left now front
-    → ((l : List ℕ) → rest_of r (front ++ l) ≡ after front (rest_of s l)) → Gives (outlook r left) (outlook s now) front
+    → ((l : List ℕ) → rest_of r (front ++ l) ≡ prepended front (rest_of s l)) → Gives (outlook r left) (outlook s now) front
 Gives-read r s None now front consumed same = tt
 Gives-read r s (Some left) None front consumed same = absurd consumed
 Gives-read r s (Some left) (Some now) front consumed same = ap (rest_of r) consumed ∙ same now
