@@ -93,7 +93,8 @@ pub(crate) fn write_piece<R: Threads, A: App, O: Sink>(
     piece: Piece<'_, A>,
 ) -> Result<usize, TextError>
     requires piece { IsPieceOf A.App (A.meaning app.now) piece }
-    ensures text { Adds O.Sink out.old out.new result (records_text (shown_as (A.meaning app.now) piece.entry.records.now)) }
+    ensures text { Adds O.Sink out.old out.new result
+        (records_text (shown_as (A.meaning app.now) piece.entry.records.now)) }
     ensures cause { HasCauseOf (O.faults out.old) (O.faults out.new) (IsErrOf result TextError.WriteFault) }
     ensures lasts { O.lasting out.new ≡ O.lasting out.old }
     ensures some { IfOk result (λ share. 0 < share) }
