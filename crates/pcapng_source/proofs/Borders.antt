@@ -61,11 +61,7 @@ pub crosses : (r : Reader) (bytes head left : List ℕ) → IsBehindData r → I
 crosses r bytes head left it fits long same is =
     let told : number_in r.section.order 4 (take 4 (drop r.skip bytes)) ≡ r.block.total = sym (read r bytes long) ∙ same in
     ap (λ l. prepended r.made (blocks_from r.section r.place.allowed r.place.offset (l ++ left))) (is ∙ sym (drop-drop 4 r.skip bytes))
-<<<<<<< HEAD
-    ∙ (closes (held r bytes) refl (whole r bytes long) (eq-eqb _ _ told)).same (drop 4 (drop r.skip bytes) ++ left)
-=======
     ∙ (closes (held r bytes) refl (whole r bytes long) (eq-eqb _ _ told)).goes.same (drop 4 (drop r.skip bytes) ++ left)
->>>>>>> 31008d069e5ed5834c36aec90c1d7238b026e4a0
     ∙ holds r bytes left it fits long
 
 pub crosses-badly : (r : Reader) (bytes left : List ℕ) → IsBehindData r → IsFitting r → r.skip + 4 ≤ length bytes

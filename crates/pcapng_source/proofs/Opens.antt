@@ -59,37 +59,6 @@ pub opens : (r : Reader) (kind : Kind) (s section : SectionState) (made : List �
       made = made;
     })
 opens r kind s section made total owed skip words it is_section_is sized most parts orders records sections = record {
-<<<<<<< HEAD
-  same = λ left.
-      let u = it.unrefused in
-      let bytes = drop (owed + skip) left in
-      let others = blocks_from (section_of_words section words bytes) (r.place.allowed - 1) (r.place.offset + total) (drop (4 * words + 4) bytes) in
-      sym (rest-at r Head left u.stage
-      ∙ ap (λ l. prepended l (blocks_from r.section r.place.allowed r.place.offset (r.head ++ left))) u.made
-      ∙ head-opens r.section r.place.allowed r.place.offset r.head left kind (owed + skip) (4 * words) total u.accepted it.named it.whole u.allowed
-      (ap (λ t. total_of t.order r.head) is_section_is ∙ sized) parts
-      ∙ ap (λ t. prepended (block_record kind t (r.head ++ left)) (closed t.order total r.place.offset (4 * words) bytes
-      (blocks_from (section_by kind t (r.head ++ left)) (r.place.allowed - 1) (r.place.offset + total) (drop (4 * words + 4) bytes)))) is_section_is
-      ∙ ap (prepended (block_record kind s (r.head ++ left))) (closed-there s.order total r.place.offset (4 * words) bytes _ others
-      (λ there. ap (λ t. blocks_from t (r.place.allowed - 1) (r.place.offset + total) (drop (4 * words + 4) bytes)) (sections left there))
-      ∙ ap (λ o. closed o total r.place.offset (4 * words) bytes others) orders)
-      ∙ ap (λ l. prepended l (closed section.order total r.place.offset (4 * words) bytes others)) (records left)
-      ∙ after-after made (take owed left) _
-      ∙ ap (λ g. prepended made (prepended (take owed left) g)) (sym (words-closed (record r {
-        stage = Body;
-        section = section;
-        place = record { offset = r.place.offset + total; allowed = r.place.allowed - 1 };
-        block = record { offset = r.place.offset; total = total };
-        owed = owed;
-        skip = skip;
-        options = words;
-        head = [];
-        made = made;
-      }) words bytes)));
-  fits = omega arith;
-  lighter = let u = it.unrefused in let some = u.allowed in omega (arith, weight-at r Head u.stage, some);
-  met = sym (ap met_at it.unrefused.stage);
-=======
   goes = record {
     same = λ left.
         let u = it.unrefused in
@@ -122,7 +91,6 @@ opens r kind s section made total owed skip words it is_section_is sized most pa
     met = sym (ap met_at it.unrefused.stage);
   };
   ready = tt;
->>>>>>> 31008d069e5ed5834c36aec90c1d7238b026e4a0
 }
 
 -- ---- each kind of block

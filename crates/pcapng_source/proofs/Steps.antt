@@ -37,14 +37,6 @@ goes-trans a b c first second =
 
 -- a block is refused
 pub refuses : (r : Reader) (stage : Stage) (fault : NgFault) → r.stage ≡ stage → met_at stage ≡ 0 → IsFitting r → ((left : List ℕ) → rest_at stage r left ≡ refused_with fault)
-<<<<<<< HEAD
-    → Goes r (record r { stage = Refused fault 0 })
-refuses r stage fault is none fits refusal = record {
-  same = λ left. ap (prepended r.made) (sym (refusal left)) ∙ sym (rest-at r stage left is);
-  fits = fits;
-  lighter = omega arith;
-  met = sym (ap met_at is ∙ none);
-=======
     → Judges r (record r { stage = Refused fault 0 })
 refuses r stage fault is none fits refusal = record {
   goes = record {
@@ -54,7 +46,6 @@ refuses r stage fault is none fits refusal = record {
     met = sym (ap met_at is ∙ none);
   };
   ready = tt;
->>>>>>> 31008d069e5ed5834c36aec90c1d7238b026e4a0
 }
 
 pub refuses-many : (r : Reader) → r.stage ≡ Head → IsFitting r → 8 ≤ length r.head → r.place.allowed ≡ 0
@@ -79,14 +70,6 @@ waits-short r is fits short = record {
 }
 
 -- a head that isn't refused so far
-<<<<<<< HEAD
-pub waits : (r : Reader) → IsUnrefused r → length r.head < head_length (block_kind r.section.order r.head) → ready_at r.stage r
-waits r it short =
-    subst (λ s. ready_at s r) (sym it.stage) (
-      rw (has-there 8 r.head it.long) short,
-      ap (λ s. rest_at s r []) it.stage ∙ head-waits r.section r.place.allowed r.place.offset r.head it.allowed it.accepted short,
-    )
-=======
 pub waits : (r : Reader) → IsUnrefused r → length r.head < head_length (block_kind r.section.order r.head) → Judges r r
 waits r it short = record {
   goes = goes-same r it.fits;
@@ -95,7 +78,6 @@ waits r it short = record {
     ap (λ s. rest_at s r []) it.stage ∙ head-waits r.section r.place.allowed r.place.offset r.head it.allowed it.accepted short,
   );
 }
->>>>>>> 31008d069e5ed5834c36aec90c1d7238b026e4a0
 
 -- nothing comes any more behind n bytes of a body
 behind-nil : (section : SectionState) (r : Reader) (n : ℕ) → behind section r n [] ≡ nothing

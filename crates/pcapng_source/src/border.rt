@@ -21,11 +21,7 @@ const PACKET_HEAD: usize = 28;
 
 impl Reader {
     ghost use Rattle.pcapng_source.specs.Fields.{block_kind};
-<<<<<<< HEAD
-    ghost use Rattle.pcapng_source.specs.Reading.{EndsInHead, Goes, IsBehindData, IsBorder, IsFitting, met_at, rest_of, stop_of};
-=======
     ghost use Rattle.pcapng_source.specs.Reading.{EndsInHead, HoldsHead, IsBare, IsBehindData, IsBorder, IsFitting, IsUnmet, Judges, rest_of, stop_of};
->>>>>>> 31008d069e5ed5834c36aec90c1d7238b026e4a0
     ghost use Rattle.pcapng_source.specs.declared.kind.Kind.TheVariants.{EnhancedPacket};
     ghost use Rattle.pcapng_source.specs.declared.reader.Stage.TheVariants.{Head};
 

@@ -15,11 +15,7 @@ pub(crate) const MICROSECONDS: u8 = 6;
 
 impl Reader {
     ghost use Rattle.pcapng_source.specs.Fields.{block_kind};
-<<<<<<< HEAD
-    ghost use Rattle.pcapng_source.specs.Reading.{Goes, IsFitting, IsUnrefused, IsWhole, ready_at};
-=======
     ghost use Rattle.pcapng_source.specs.Reading.{IsUnrefused, IsWhole, Judges};
->>>>>>> 31008d069e5ed5834c36aec90c1d7238b026e4a0
     ghost use Rattle.pcapng_source.specs.declared.kind.Kind.TheVariants.{SectionHeader, InterfaceBlock, SimplePacket, EnhancedPacket, OtherBlock};
     ghost use Rattle.pcapng_source.specs.declared.reader.Stage.TheVariants.{Body};
 

@@ -144,12 +144,7 @@ impl Reader {
         ensures count { result ≡ min (length self.old.made) (length buf.old) }
         ensures rest { (left : List ℕ)
             → rest_of self.old left ≡ prepended (take result buf.new) (rest_of self.new left) }
-<<<<<<< HEAD
-        ensures fits { IsFitting self.new }
-        ensures stage { self.new.stage ≡ self.old.stage }
-=======
         ensures stays { Stays self.old self.new }
->>>>>>> 31008d069e5ed5834c36aec90c1d7238b026e4a0
     {
         self.made.give(buf)
     }
@@ -200,12 +195,7 @@ impl Reader {
         requires bare { IsBare self.old }
         ensures rest { (front left : List ℕ) → length front ≡ count
             → rest_of self.old (front ++ left) ≡ prepended front (rest_of self.new left) }
-<<<<<<< HEAD
-        ensures fits { IsFitting self.new }
-        ensures stage { self.new.stage ≡ self.old.stage }
-=======
         ensures stays { Stays self.old self.new }
->>>>>>> 31008d069e5ed5834c36aec90c1d7238b026e4a0
     {
         if let Stage::Body = self.stage {
             self.owed = (self.owed as usize - count) as u32;

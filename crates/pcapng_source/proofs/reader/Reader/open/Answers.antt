@@ -8,8 +8,4 @@ pub returns-then-head-head_length : goal.returns-then-head-head_length
 returns-then-head-head_length c =
     let r = c.args.self.now in
     let stop : c.head_length.result ≡ head_length (block_kind r.section.order r.head) = cc in
-<<<<<<< HEAD
-    waits r c.requires.head (omega (arith, stop, ap length c.as_slice-head.ensures.bytes))
-=======
     waits r c.requires (omega (arith, stop, ap length c.as_slice-head.ensures.bytes))
->>>>>>> 31008d069e5ed5834c36aec90c1d7238b026e4a0
