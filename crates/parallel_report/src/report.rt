@@ -1,8 +1,9 @@
 //! The whole report.
 
-ghost use Rattle.std.specs.Prelude.{◌≡◌, ◌<◌, ◌≤◌, IsErrOf};
+ghost use Rattle.std.specs.Prelude.{◌≡◌, ◌<◌, ◌≤◌, IsErrOf, IsOk};
 ghost use Rattle.mos_bytes.specs.Causes.{HasCauseOf};
 ghost use Rattle.lane_core.specs.KeptEnd.{shown_as};
+ghost use Rattle.report_text.specs.Ranges.{HaveTypes};
 ghost use Rattle.report_text.specs.Report.{report_text};
 ghost use Rattle.report_text.specs.Written.{Adds};
 
@@ -30,8 +31,8 @@ fn share_of(left: usize, threads: usize) -> usize
 /// line by one call. Its text is made by up to `threads` threads at a time, each of which has up to 1,024 records, and all of
 /// them up to a fourth of those that are left: what it takes beside the records is the text of so many, or of one for each thread.
 ///
-/// It asks at least one thread. Where no thread can be started, this one makes the text. At an `Err` the sink holds a front of
-/// the report.
+/// It asks at least one thread. Where no thread can be started, this one makes the text. What is written whole has numbers and
+/// bytes in the ranges of their types. At an `Err` the sink holds a front of the report.
 pub fn write_report_by<R: Threads + Sync, A: App + Sync, O: Sink>(
     rt: &R,
     alloc: Global,
@@ -46,6 +47,7 @@ pub fn write_report_by<R: Threads + Sync, A: App + Sync, O: Sink>(
         (report_text (shown_as (A.meaning app.now) records.now) totals.now) }
     ensures cause { HasCauseOf (O.faults out.old) (O.faults out.new) (IsErrOf result TextError.WriteFault) }
     ensures lasts { O.lasting out.new ≡ O.lasting out.old }
+    ensures typed { IsOk result → HaveTypes (shown_as (A.meaning app.now) records.now) totals.now }
 {
     let mut left = records;
     while !left.is_empty() {

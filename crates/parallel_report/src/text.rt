@@ -1,7 +1,9 @@
 //! A text that is made in memory.
 
-ghost use Rattle.std.specs.Prelude.{◌≡◌, [], map, IfOk};
+ghost use Rattle.std.specs.Prelude.{◌≡◌, [], map, IfOk, IsOk, IsTrue};
+ghost use Rattle.std.specs.List.{list_all};
 ghost use Rattle.lane_core.specs.KeptEnd.{shown_as};
+ghost use Rattle.report_text.specs.Ranges.{record_fits};
 ghost use Rattle.report_text.specs.Report.{records_text};
 
 use app_api::App;
@@ -42,6 +44,7 @@ pub(crate) fn text_of<A: App>(
     records: &[RecordUnderWay],
 ) -> Result<Vec<u8>, TextError>
     ensures text { IfOk result (λ text. text.items ≡ records_text (shown_as (A.meaning app.now) records.now)) }
+    ensures fits { IsOk result → IsTrue (list_all record_fits (shown_as (A.meaning app.now) records.now)) }
 {
     let mut sink = TextSink {
         text: Vec::new(alloc),
