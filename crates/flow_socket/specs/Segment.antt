@@ -1,5 +1,5 @@
 -- A segment at a receiver: its payload first, then its FIN (RFC 9293, section 3.10.7.4). The segment begins at a signed distance from next.
-use Rattle.std.specs.Prelude.{ℕ, ◌+◌, ℤ, pos, ◌+ℤ◌, Bool, true, false, ◌&&◌, List, length, if◌then◌else◌}
+use Rattle.std.specs.Prelude.{ℕ, ◌+◌, ◌≤◌, ◌^◌, ℤ, pos, ◌+ℤ◌, ◌-ℤ◌, ◌≤ℤ◌, ◌<ℤ◌, Bool, true, false, ◌&&◌, List, length, if◌then◌else◌}
 use Rattle.reassembly.specs.declared.answers.Policy.{Policy}
 use Rattle.reassembly.specs.declared.answers.Placed.{Placed}
 use Rattle.reassembly.specs.declared.answers.FinNote.{FinNote}
@@ -7,6 +7,7 @@ use Rattle.reassembly.specs.declared.answers.FinNote.TheVariants.{Noted, Same, R
 use Rattle.reassembly.specs.Receiver.{Receiver, next_of, wide_of}
 use Rattle.reassembly.specs.Segment.{accept, counts}
 use Rattle.reassembly.specs.Fin.{note_of, noted}
+use Rattle.reassembly.specs.View.{StreamView}
 
 -- the position of the first payload byte
 abbrev pub start_at : ℤ → Receiver → ℤ
@@ -52,3 +53,11 @@ with_fin rbuf policy distance payload r =
 abbrev pub with_segment : ℕ → Policy → Bool → ℤ → List ℕ → Receiver → Receiver
 with_segment rbuf policy has_fin distance payload r =
     if has_fin then with_fin rbuf policy distance payload r else with_payload rbuf policy distance payload r
+
+-- what a stream asks of a segment and of the window that it has
+pub record CanTake (s : StreamView) (distance : ℤ) (payload : List ℕ) (wide : ℕ) : Type 0 where
+  pub low : (pos 0 -ℤ pos (2 ^ 31)) ≤ℤ distance
+  pub high : distance <ℤ pos (2 ^ 31)
+  pub bytes : length payload ≤ 65535
+  pub next : s.next ≤ 2 ^ 62
+  pub within : wide ≤ s.rbuf

@@ -1,8 +1,9 @@
 -- Not of the headline. What contracts see of a socket, and which emulated connections it stands for.
-use Rattle.std.specs.Prelude.{◌≡◌, ℕ, Option}
+use Rattle.std.specs.Prelude.{◌≡◌, ℕ, ◌+◌, ◌≤◌, Option, Result, OnOk, OnErr}
 use Rattle.packet_views.specs.declared.packet.Head.{Head}
 use Rattle.tcp_emulation.specs.declared.segment.Side.{Side}
 use Rattle.tcp_emulation.specs.declared.segment.Side.TheVariants.{Client, Server}
+use Rattle.tcp_emulation.specs.States.{other}
 use Rattle.tcp_emulation.specs.declared.ends.Ends.{Ends}
 use Rattle.reassembly.specs.declared.answers.Policy.{Policy}
 use Rattle.reassembly.specs.View.{StreamView, StandsFor}
@@ -76,3 +77,22 @@ SocketTells s value told = ForEmulation s (λ e. value ≡ told e)
 -- whatever connection the socket stood for, it then stands for what the step makes of it
 abbrev pub SocketStandsAfter : SocketView → SocketView → (Emulation → Emulation) → Type 0
 SocketStandsAfter old new step = ForEmulation old (λ e. SocketStandsFor new (step e))
+
+-- a step that leaves both streams
+pub record KeepsStreams (old new : SocketView) : Type 0 where
+  pub client : new.client.stream ≡ old.client.stream
+  pub server : new.server.stream ≡ old.server.stream
+  pub rbuf : new.rbuf ≡ old.rbuf
+
+-- a step that leaves both directions as a whole
+pub record KeepsDirections (old new : SocketView) : Type 0 where
+  pub client : new.client ≡ old.client
+  pub server : new.server ≡ old.server
+  pub rbuf : new.rbuf ≡ old.rbuf
+
+-- a step in one sender's direction, which leaves the other one and rises by a buffer at most
+pub record ComesFrom {T E : Type 0} (from : Side) (old new : SocketView) (result : Result T E) : Type 0 where
+  pub err : OnErr result (new ≡ old)
+  pub rise : OnOk result (next_at from new ≤ next_at from old + old.rbuf)
+  pub peer : OnOk result (view_at (other from) new ≡ view_at (other from) old)
+  pub rbuf : new.rbuf ≡ old.rbuf

@@ -3,7 +3,7 @@
 ghost use Rattle.std.specs.Prelude.{◌≡◌, ◌+◌, ◌-◌, ◌^◌, ◌≤◌, ◌≤ℤ◌, ◌<ℤ◌, ◌-ℤ◌, ◌+ℤ◌, pos, length, OnOk, OnErr, IfOk, false, if◌then◌else◌};
 ghost use Rattle.packet_views.specs.Flags.{has_fin, has_rst};
 ghost use Rattle.reassembly.specs.View.{ForWide, StandsAfterWide};
-ghost use Rattle.flow_socket.specs.Segment.{with_segment, placed_at, nothing_placed, is_refused, is_refusal};
+ghost use Rattle.flow_socket.specs.Segment.{CanTake, with_segment, placed_at, nothing_placed, is_refused, is_refusal};
 
 use packet_views::Head;
 use reassembly::{FinNote, Placed, Policy, Stream};
@@ -28,11 +28,7 @@ pub(crate) fn take_segment(
     wide: u32,
     policy: Policy,
 ) -> Result<Judged, AllocError>
-    requires low { (pos 0 -ℤ pos (2 ^ 31)) ≤ℤ distance }
-    requires high { distance <ℤ pos (2 ^ 31) }
-    requires bytes { length payload.now ≤ 65535 }
-    requires next { stream.old.next ≤ 2 ^ 62 }
-    requires wide { wide ≤ stream.old.rbuf }
+    requires { CanTake stream.old distance payload.now wide }
     ensures err { OnErr result (stream.new ≡ stream.old) }
     ensures rbuf { stream.new.rbuf ≡ stream.old.rbuf }
     ensures rise { OnOk result (stream.new.next ≤ stream.old.next + stream.old.rbuf) }
@@ -69,11 +65,7 @@ pub(crate) fn take_unless_reset(
     wide: u32,
     policy: Policy,
 ) -> Result<Judged, AllocError>
-    requires low { (pos 0 -ℤ pos (2 ^ 31)) ≤ℤ distance }
-    requires high { distance <ℤ pos (2 ^ 31) }
-    requires bytes { length payload.now ≤ 65535 }
-    requires next { stream.old.next ≤ 2 ^ 62 }
-    requires wide { wide ≤ stream.old.rbuf }
+    requires { CanTake stream.old distance payload.now wide }
     ensures err { OnErr result (stream.new ≡ stream.old) }
     ensures rbuf { stream.new.rbuf ≡ stream.old.rbuf }
     ensures rise { OnOk result (stream.new.next ≤ stream.old.next + stream.old.rbuf) }

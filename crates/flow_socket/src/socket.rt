@@ -64,7 +64,7 @@ impl FlowSocket {
     ghost use Rattle.reassembly.specs.Kept.{positions_in, AreWhole};
     ghost use Rattle.reassembly.specs.View.{StandsFor};
     ghost use Rattle.flow_socket.specs.Quiet.{IsQuiet};
-    ghost use Rattle.flow_socket.specs.View.{SocketStandsFor, ForEmulation, SocketTells, SocketStandsAfter, view_at, next_at};
+    ghost use Rattle.flow_socket.specs.View.{SocketStandsFor, ForEmulation, SocketTells, SocketStandsAfter, KeepsStreams, KeepsDirections, ComesFrom, view_at, next_at};
 
     /// The socket of a connection before its first packet. Each receiver's buffer has `rbuf` bytes,
     /// from 1 to 1,048,576; `policy` says which byte of an overlap stays.
@@ -113,9 +113,7 @@ impl FlowSocket {
         ensures stands { SocketStandsAfter self.old self.new (stepped from h.now scale) }
         ensures change { SocketTells self.old result
             (λ e. change_of (end_at from e.ends) (end_at from (stepped from h.now scale e).ends)) }
-        ensures client { self.new.client ≡ self.old.client }
-        ensures server { self.new.server ≡ self.old.server }
-        ensures rbuf { self.new.rbuf ≡ self.old.rbuf }
+        ensures directions { KeepsDirections self.old self.new }
     {
         self.last = Some(*h);
         if is_plain(h) {
@@ -133,9 +131,7 @@ impl FlowSocket {
     #[inline(always)]
     fn offer(&mut self, from: Side, h: &Head)
         ensures stands { SocketStandsAfter self.old self.new (with_offer from h.now) }
-        ensures client { self.new.client.stream ≡ self.old.client.stream }
-        ensures server { self.new.server.stream ≡ self.old.server.stream }
-        ensures rbuf { self.new.rbuf ≡ self.old.rbuf }
+        ensures streams { KeepsStreams self.old self.new }
     {
         if makes_offer(h, &self.ends) {
             let size = self.shifts.window(from, h);
@@ -147,9 +143,7 @@ impl FlowSocket {
     fn note_offer(&mut self, of: Side, ack: u32, size: u32)
         ensures stands { SocketStandsAfter self.old self.new
             (λ e. with_direction of (offered_in ack size (direction_of of e)) e) }
-        ensures client { self.new.client.stream ≡ self.old.client.stream }
-        ensures server { self.new.server.stream ≡ self.old.server.stream }
-        ensures rbuf { self.new.rbuf ≡ self.old.rbuf }
+        ensures streams { KeepsStreams self.old self.new }
     {
         match of {
             Side::Client => self.client.offer(ack, size),
@@ -210,12 +204,9 @@ impl FlowSocket {
         requires bytes { length payload.now ≤ 65535 }
         requires client { next_at Side.Client self.old ≤ 2 ^ 62 }
         requires server { next_at Side.Server self.old ≤ 2 ^ 62 }
-        ensures err { OnErr result (self.new ≡ self.old) }
+        ensures sent { ComesFrom from self.old self.new result }
         ensures stands { OnOk result (SocketStandsAfter self.old self.new (received from h.now payload.now)) }
         ensures answer { IfOk result (λ got. SocketTells self.old got (got_of from h.now payload.now)) }
-        ensures rise { OnOk result (next_at from self.new ≤ next_at from self.old + self.old.rbuf) }
-        ensures peer { OnOk result (view_at (other from) self.new ≡ view_at (other from) self.old) }
-        ensures rbuf { self.new.rbuf ≡ self.old.rbuf }
     {
         let before = self.stream(from).next();
         let taken = self.take(from, h, payload)?;
@@ -240,9 +231,7 @@ impl FlowSocket {
             (λ e. record e { ends = ends_after_receive of facts.now e.ends }) }
         ensures change { SocketTells self.old result
             (λ e. change_of (end_at of e.ends) (end_at of (ends_after_receive of facts.now e.ends))) }
-        ensures client { self.new.client ≡ self.old.client }
-        ensures server { self.new.server ≡ self.old.server }
-        ensures rbuf { self.new.rbuf ≡ self.old.rbuf }
+        ensures directions { KeepsDirections self.old self.new }
     {
         tcp_emulation::recv_step(&mut self.ends, of, facts)
     }
@@ -275,7 +264,7 @@ impl FlowSocket {
     fn take(&mut self, from: Side, h: &Head, payload: &[u8]) -> Result<Taken, AllocError>
         requires bytes { length payload.now ≤ 65535 }
         requires next { next_at from self.old ≤ 2 ^ 62 }
-        ensures err { OnErr result (self.new ≡ self.old) }
+        ensures sent { ComesFrom from self.old self.new result }
         ensures stands { OnOk result (SocketStandsAfter self.old self.new
             (λ e. with_direction from (taken_by from h.now payload.now e) e)) }
         ensures placed { IfOk result (λ taken. SocketTells self.old taken.placed
@@ -284,9 +273,6 @@ impl FlowSocket {
             (λ e. is_fin_refused e.rbuf e.policy h.now payload.now (direction_of from e))) }
         ensures window { IfOk result (λ taken. SocketTells self.old taken.in_window
             (λ e. is_in_window e.rbuf h.now (direction_of from e))) }
-        ensures rise { OnOk result (next_at from self.new ≤ next_at from self.old + self.old.rbuf) }
-        ensures peer { OnOk result (view_at (other from) self.new ≡ view_at (other from) self.old) }
-        ensures rbuf { self.new.rbuf ≡ self.old.rbuf }
     {
         match from {
             Side::Client => self.client.take(h, payload, self.rbuf, self.policy),

@@ -1,7 +1,8 @@
 -- Records under way, as they are shown at the end.
 use Rattle.std.proofs.Common.{◌≡◌, ℕ, ◌+◌, ◌<◌, Bool, true, false, List, [], ◌∷◌, ◌++◌, length, drop, get_or, map, refl, sym, ap, ◌∙◌}
 use Rattle.std.proofs.lemmas.List.{at_drop_more}
-use Rattle.std.specs.Prelude.{if◌then◌else◌}
+use Rattle.std.specs.Prelude.{if◌then◌else◌, ◌&&◌}
+use Rattle.std.specs.List.{list_all}
 use Rattle.app_api.specs.App.{Meaning}
 use Rattle.report_text.specs.declared.record.RecordKind.TheVariants.{Conn, Orphan}
 use Rattle.packet_views.specs.declared.packet.Class.TheVariants as Class
@@ -11,6 +12,7 @@ use Rattle.lane_core.specs.Shown.{kind_of}
 use Rattle.lane_core.specs.declared.under_way.RecordUnderWay.{RecordUnderWay}
 use Rattle.lane_core.specs.Kept.{slot_of}
 use Rattle.report_text.specs.Kept.{is_conn}
+use Rattle.report_text.specs.Ranges.{record_fits}
 use Rattle.report_text.specs.Report.{record_text, records_text}
 use Rattle.lane_core.specs.End.{ended}
 use Rattle.lane_core.specs.Lane.{shown}
@@ -48,3 +50,11 @@ pub slots_text-drop : (app : Meaning) (ss : List RecordUnderWay) (i : ℕ) (s : 
 slots_text-drop app ss i s within is =
     at_drop_more (λ rest. records_text (map (ended app) rest)) ss i s within
     ∙ ap (λ x. record_text (ended app x) ++ records_text (map (ended app) (drop (i + 1) ss))) (sym is)
+
+-- that they fit, from a place on, one record at a time
+pub slots_fit-drop : (app : Meaning) (ss : List RecordUnderWay) (i : ℕ) (s : RecordUnderWay) → i < length ss → s ≡ get_or ss i s → record_fits (ended app s) ≡ true
+    → list_all record_fits (map (ended app) (drop i ss)) ≡ list_all record_fits (map (ended app) (drop (i + 1) ss))
+slots_fit-drop app ss i s within is fits =
+    at_drop_more (λ rest. list_all record_fits (map (ended app) rest)) ss i s within
+    ∙ ap (λ x. record_fits (ended app x) && list_all record_fits (map (ended app) (drop (i + 1) ss))) (sym is)
+    ∙ ap (λ b. b && list_all record_fits (map (ended app) (drop (i + 1) ss))) fits

@@ -1,5 +1,7 @@
 -- The text of a report, written from the records of a lane that goes on no more.
 use Rattle.std.proofs.Common.{◌≡◌, ℕ, Bool, List, ◌++◌, Option, length, map, ap, subst, ◌∙◌}
+use Rattle.std.specs.Prelude.{IsTrue}
+use Rattle.std.specs.List.{list_all}
 use Rattle.std.proofs.lemmas.List.{length-map}
 use Rattle.std.specs.Io.KnownBytes.{Appends}
 use Rattle.std.proofs.KnownBytes.{Appends-trans}
@@ -8,6 +10,7 @@ use Rattle.mos_bytes.proofs.Writes.{AppendsFront-more, AppendsFront-after}
 use Rattle.app_api.specs.App.{Meaning}
 use Rattle.report_text.specs.declared.record.Totals.{Totals}
 use Rattle.report_text.specs.Lines.{totals_line}
+use Rattle.report_text.specs.Ranges.{record_fits, totals_fit}
 use Rattle.report_text.specs.Report.{records_text, report_text}
 use Rattle.lane_core.specs.declared.under_way.RecordUnderWay.{RecordUnderWay}
 use Rattle.lane_core.specs.Closing.{IsClosed}
@@ -15,7 +18,7 @@ use Rattle.lane_core.specs.End.{ended}
 use Rattle.lane_core.specs.Kept.{slot_of}
 use Rattle.lane_core.specs.Lane.{shown}
 use Rattle.lane_core.specs.Records.{RecordSoFar}
-use Rattle.lane_core.specs.Report.{end_text, totals_of}
+use Rattle.lane_core.specs.Report.{EndIsTyped, end_text, totals_of}
 use Rattle.lane_core.specs.Shown.{callbacks_of}
 use Rattle.lane_core.proofs.Ending.{all_ended}
 
@@ -52,3 +55,10 @@ module _ (keep : Bool) (app : Meaning) (so_far : List RecordSoFar) (slots : List
   pub all_written : (a b c : Option (List ℕ)) (lines : List ℕ) → lines ≡ records_text (map (ended app) slots) → Appends a b lines → Appends b c (totals_line counted)
       → Appends a c (end_text keep app so_far packets tail)
   all_written a b c lines is whole last = subst (Appends a c) (text_is lines is) (Appends-trans a b c lines (totals_line counted) whole last)
+
+  -- what was written has its types
+  pub all_typed : IsTrue (list_all record_fits (map (ended app) slots)) → IsTrue (totals_fit counted) → EndIsTyped keep app so_far packets tail
+  all_typed records_fit counts_fit = record {
+    records_fit = subst (λ rs. IsTrue (list_all record_fits rs)) (ap (λ ss. map (ended app) ss) closed.slots_are ∙ all_ended keep app so_far) records_fit;
+    counts_fit = subst (λ t. IsTrue (totals_fit t)) totals_are counts_fit;
+  }

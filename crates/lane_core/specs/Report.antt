@@ -4,6 +4,7 @@ use Rattle.app_api.specs.App.{Meaning}
 use Rattle.report_text.specs.declared.record.Totals.{Totals}
 use Rattle.report_text.specs.declared.write.TextError.{TextError}
 use Rattle.report_text.specs.declared.write.TextError.TheVariants as Text
+use Rattle.report_text.specs.Ranges.{HaveTypes}
 use Rattle.report_text.specs.Report.{report_text}
 use Rattle.lane_core.specs.declared.errors.LaneError.{LaneError}
 use Rattle.lane_core.specs.declared.errors.LaneError.TheVariants as Lane
@@ -26,6 +27,10 @@ totals_of so_far packets rest = record {
 -- the text of their report
 abbrev pub end_text : Bool → Meaning → List RecordSoFar → ℕ → ℕ → List ℕ
 end_text keep app so_far packets rest = report_text (map (shown keep app) so_far) (totals_of so_far packets rest)
+
+-- its numbers and bytes are in the ranges of their types
+abbrev pub EndIsTyped : Bool → Meaning → List RecordSoFar → ℕ → ℕ → Type 0
+EndIsTyped keep app so_far packets rest = HaveTypes (map (shown keep app) so_far) (totals_of so_far packets rest)
 
 -- why a report isn't written, where this stopped the lane
 abbrev pub lane_fault : LaneError → ReportError

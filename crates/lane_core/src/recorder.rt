@@ -99,7 +99,8 @@ pub trait Recorder {
         ensures fails { IfErr result (λ e. failed self.new ≡ Some e) }
         ensures verdict { IfOk result (λ verdict. ForEvents (stands self.old) (λ events.
             verdict ≡ next_verdict (app self.old) events (arrival_at number moment bytes.now))) }
-        ensures light { OnOk result (KeepsWithin keeps app stands self.old (IsHeavyAt (arrival_at number moment bytes.now))) }
+        ensures light { OnOk result
+            (KeepsWithin keeps app stands self.old (IsHeavyAt (arrival_at number moment bytes.now))) }
         ensures heavy { failed self.old ≡ None → result ≡ Err Error.Heavy
             → KeepsTooMuch keeps app stands self.old (IsHeavyAt (arrival_at number moment bytes.now)) }
         ensures interned { failed self.old ≡ None → ForEvents (stands self.old) (λ events.

@@ -1,15 +1,17 @@
 //! The end of a lane that hands its records out as it kept them, or writes them.
 
-ghost use Rattle.std.specs.Prelude.{◌≡◌, ◌⊎◌, IfOk, OnOk, IsErrOf, Err, None, map, true};
+ghost use Rattle.std.specs.Prelude.{◌≡◌, ◌⊎◌, IfOk, IsOk, IsTrue, OnOk, IsErrOf, Err, None, map, true};
+ghost use Rattle.std.specs.List.{list_all};
 ghost use Rattle.mos_bytes.specs.Causes.{HasCauseOf};
 ghost use Rattle.mos_bytes.specs.Outside.{Writes};
 ghost use Rattle.mos_bytes.specs.Writes.{WriteAdds};
 ghost use Rattle.report_text.specs.declared.write.TextError.TheVariants.{WriteFault as TextFault};
+ghost use Rattle.report_text.specs.Ranges.{record_fits};
 ghost use Rattle.report_text.specs.Report.{records_text};
 ghost use Rattle.lane_core.specs.End.{ended};
 ghost use Rattle.lane_core.specs.Lane.{ForEvents, HadFailed, IsHeavyBy, KeepsTooMuch, KeepsWithin};
 ghost use Rattle.lane_core.specs.KeptEnd.{IsKeptEnd};
-ghost use Rattle.lane_core.specs.Report.{end_text, lane_fault};
+ghost use Rattle.lane_core.specs.Report.{EndIsTyped, end_text, lane_fault};
 ghost use Rattle.lane_core.specs.Run.{ended_run};
 
 use crate::end::KeptEnd;
@@ -92,8 +94,9 @@ pub trait Reporter: Recorder {
     /// Ends as `finish` does, but writes the report of the records, and answers the version of each in order of name. Nothing
     /// is written before the records are ready, the weight of their callbacks is judged, and there is memory for the versions.
     ///
-    /// The report counts `packets` whole records of the capture, and `tail` bytes behind them. At an error `out` has gained a
-    /// front of it: of nothing where the records weigh too much, or where the recorder failed before.
+    /// The report counts `packets` whole records of the capture, and `tail` bytes behind them. What is written whole has numbers
+    /// and bytes in the ranges of their types. At an error `out` has gained a front of it: of nothing where the records weigh too
+    /// much, or where the recorder failed before.
     fn report<O: Sink>(
         self,
         alloc: Global,
@@ -107,6 +110,8 @@ pub trait Reporter: Recorder {
         ensures text { Self.failed self ≡ None → ForEvents (Self.stands self) (λ events.
             WriteAdds (O.taken out.old) (O.taken out.new) result
             (end_text (Self.keeps self) (Self.app self) (ended_run (Self.app self) events greatest) packets tail)) }
+        ensures typed { Self.failed self ≡ None → IsOk result → ForEvents (Self.stands self) (λ events.
+            EndIsTyped (Self.keeps self) (Self.app self) (ended_run (Self.app self) events greatest) packets tail) }
         ensures versions { Self.failed self ≡ None → IfOk result (λ versions. ForEvents (Self.stands self)
             (λ events. versions.items ≡ map (λ r. r.version) (ended_run (Self.app self) events greatest))) }
         ensures too_heavy { Self.failed self ≡ None → Self.keeps self ≡ true → ForEvents (Self.stands self)
@@ -129,7 +134,8 @@ pub fn version_of_each(alloc: Global, records: &[RecordUnderWay]) -> Result<Vec<
     Ok(versions)
 }
 
-/// Writes the lines of records in order, each by one call. At an `Err` the sink holds a front of them.
+/// Writes the lines of records in order, each by one call. The records that were written have numbers and bytes in the ranges of
+/// their types. At an `Err` the sink holds a front of the lines.
 pub fn write_all_kept<A: App, O: Sink>(
     alloc: Global,
     app: &A,
@@ -140,6 +146,7 @@ pub fn write_all_kept<A: App, O: Sink>(
         (records_text (map (ended (A.meaning app.now)) records.now)) }
     ensures cause { HasCauseOf (O.faults out.old) (O.faults out.new) (IsErrOf result TextFault) }
     ensures lasts { O.lasting out.new ≡ O.lasting out.old }
+    ensures fits { IsOk result → IsTrue (list_all record_fits (map (ended (A.meaning app.now)) records.now)) }
 {
     let mut line = String::new(alloc);
     for of in records {

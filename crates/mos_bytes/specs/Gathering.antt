@@ -1,7 +1,7 @@
 -- Not of the headline. What a sink that gathers tells.
-use Rattle.std.specs.Prelude.{◌≡◌, ℕ, ◌+◌, List, [], Result, IsOk}
+use Rattle.std.specs.Prelude.{◌≡◌, ◌↔◌, ℕ, ◌+◌, List, [], Result, IsOk}
 use Rattle.std.specs.declared.option.Option.{Option}
-use Rattle.std.specs.Io.KnownBytes.{append_known}
+use Rattle.std.specs.Io.KnownBytes.{Keeps, append_known}
 use Rattle.mos_bytes.specs.Causes.{HasCause}
 use Rattle.mos_bytes.specs.declared.failed.Failed.{Failed}
 use Rattle.mos_bytes.specs.declared.sink.Sink.{Ghosts}
@@ -42,6 +42,18 @@ DoesNothing old new result = IsOk result × (new ≡ old)
 -- what no call changes: which sink was handed in, and what no call of that one changes
 abbrev pub gathering_lasting : {S : Type 0} {sink : Ghosts S} → GatheringSink S sink → S × sink.Lasting
 gathering_lasting {sink = sink} g = (g.start.value, sink.lasting g.inner)
+
+-- a call that asks the sink below: it fails where that one does, and leaves what lasts
+pub record TellsBelow {S T : Type 0} {sink : Ghosts S} (old new : GatheringSink S sink) (result : Result T Failed) : Type 0 where
+  pub sound : IsOk result ↔ (failures_of new ≡ 0)
+  pub cause : HasCause (gathering_faults old) (gathering_faults new) result
+  pub below : IsCausedBelow old new result
+  pub lasts : gathering_lasting new ≡ gathering_lasting old
+
+-- such a call, which was given nothing
+pub record HandsOn {S T : Type 0} {sink : Ghosts S} (old new : GatheringSink S sink) (result : Result T Failed) : Type 0 where
+  pub given : Keeps (given_to old) (given_to new)
+  pub told : TellsBelow old new result
 
 -- a sink over this one, to which nothing was given yet
 pub record IsNew {S : Type 0} {sink : Ghosts S} (g : GatheringSink S sink) (inner : S) : Type 0 where

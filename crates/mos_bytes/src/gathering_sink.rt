@@ -40,7 +40,7 @@ pub struct GatheringSink<S: Sink> {
 }
 
 impl<S: Sink> GatheringSink<S> {
-    ghost use Rattle.mos_bytes.specs.Gathering.{DoesNothing, IsCausedBelow, IsFinished, IsNew, inner_of, start_of, held_of, failures_of, given_to, gathering_faults, gathering_lasting};
+    ghost use Rattle.mos_bytes.specs.Gathering.{DoesNothing, HandsOn, IsCausedBelow, IsFinished, IsNew, TellsBelow, inner_of, start_of, held_of, failures_of, given_to, gathering_faults, gathering_lasting};
 
     /// A sink over this one. All of its memory is taken here; where that is refused, `inner` comes back.
     pub fn new(alloc: Global, inner: S) -> Result<Self, AllocFailed<S>>
@@ -64,12 +64,8 @@ impl<S: Sink> GatheringSink<S> {
     // Hands on what is held.
     fn hand_on(&mut self) -> Result<(), Failed>
         requires { failures_of self.old ≡ 0 }
-        ensures given { Keeps (given_to self.old) (given_to self.new) }
+        ensures handed { HandsOn self.old self.new result }
         ensures empty { OnOk result (held_of self.new ≡ []) }
-        ensures sound { IsOk result ↔ (failures_of self.new ≡ 0) }
-        ensures cause { HasCause (gathering_faults self.old) (gathering_faults self.new) result }
-        ensures below { IsCausedBelow self.old self.new result }
-        ensures lasts { gathering_lasting self.new ≡ gathering_lasting self.old }
     {
         if let Err(failed) = self.inner.write_all(&self.held) {
             self.failures = 1;
@@ -83,15 +79,11 @@ impl<S: Sink> GatheringSink<S> {
     // Makes room for so many bytes, or lets nothing be held where they are too many.
     fn make_room(&mut self, len: usize) -> Result<(), Failed>
         requires { failures_of self.old ≡ 0 }
-        ensures given { Keeps (given_to self.old) (given_to self.new) }
-        ensures sound { IsOk result ↔ (failures_of self.new ≡ 0) }
+        ensures handed { HandsOn self.old self.new result }
         ensures room { OnOk result (len < 65536 → length (held_of self.new) + len ≤ 65536) }
         ensures empty { OnOk result (65536 ≤ len → held_of self.new ≡ []) }
         ensures fits { len < 65536 → length (held_of self.old) + len ≤ 65536
             → DoesNothing self.old self.new result }
-        ensures cause { HasCause (gathering_faults self.old) (gathering_faults self.new) result }
-        ensures below { IsCausedBelow self.old self.new result }
-        ensures lasts { gathering_lasting self.new ≡ gathering_lasting self.old }
     {
         if len > BUFFER - self.held.len() {
             self.hand_on()?;
@@ -119,10 +111,7 @@ impl<S: Sink> GatheringSink<S> {
         requires sound { failures_of self.old ≡ 0 }
         requires empty { held_of self.old ≡ [] }
         ensures bytes { WriteAdds (given_to self.old) (given_to self.new) result bytes.now }
-        ensures sound { IsOk result ↔ (failures_of self.new ≡ 0) }
-        ensures cause { HasCause (gathering_faults self.old) (gathering_faults self.new) result }
-        ensures below { IsCausedBelow self.old self.new result }
-        ensures lasts { gathering_lasting self.new ≡ gathering_lasting self.old }
+        ensures told { TellsBelow self.old self.new result }
     {
         let passed = self.inner.write_all(bytes);
         self.before = Snapshot::of(&self.inner);

@@ -1,8 +1,10 @@
 //! The whole report.
 
-ghost use Rattle.std.specs.Prelude.{◌≡◌, ◌<◌, IsErrOf};
+ghost use Rattle.std.specs.Prelude.{◌≡◌, ◌<◌, IsErrOf, IsOk, IsTrue};
+ghost use Rattle.std.specs.List.{list_all};
 ghost use Rattle.mos_bytes.specs.Causes.{HasCauseOf};
 ghost use Rattle.lane_core.specs.KeptEnd.{shown_as};
+ghost use Rattle.report_text.specs.Ranges.{HaveTypes, record_fits};
 ghost use Rattle.report_text.specs.Report.{records_text, report_text};
 ghost use Rattle.report_text.specs.Written.{Adds};
 
@@ -36,6 +38,7 @@ fn write_pieces<'s, E: 's, R: Threads, A: App + Sync, O: Sink>(
     ensures text { Adds O.Sink out.old out.new result (records_text (shown_as (A.meaning app.now) records.now)) }
     ensures cause { HasCauseOf (O.faults out.old) (O.faults out.new) (IsErrOf result TextError.WriteFault) }
     ensures lasts { O.lasting out.new ≡ O.lasting out.old }
+    ensures fits { IsOk result → IsTrue (list_all record_fits (shown_as (A.meaning app.now) records.now)) }
 {
     let most = threads.saturating_add(SPARE);
     let mut ahead = VecDeque::with_capacity(alloc, most)?;
@@ -69,6 +72,7 @@ fn write_in_scope<'c, R: Threads + Wait, A: App + Sync, O: Sink>(
     ensures cause { HasCauseOf (O.faults out.old) (O.faults result.1.now) (IsErrOf result.0 TextError.WriteFault) }
     ensures lasts { O.lasting result.1.now ≡ O.lasting out.old }
     ensures same { result.1.ghost_name ≡ out.entry.ghost_name }
+    ensures fits { IsOk result.0 → IsTrue (list_all record_fits (shown_as (A.meaning app.now) records.now)) }
 {
     thread::scope(
         thread::scope_env(),
@@ -80,6 +84,8 @@ fn write_in_scope<'c, R: Threads + Wait, A: App + Sync, O: Sink>(
                 (IsErrOf result.0 TextError.WriteFault) }
             ensures lasts { O.lasting result.1.now ≡ O.lasting out.entry.now }
             ensures same { result.1.ghost_name ≡ out.entry.ghost_name }
+            ensures fits { IsOk result.0
+                → IsTrue (list_all record_fits (shown_as (A.meaning app.entry.now) records.entry.now)) }
         {
             let wrote = write_pieces(rt, scope, alloc, threads, app, out, records);
             (wrote, out)
@@ -99,6 +105,7 @@ fn write_records<R: Threads + Wait, A: App + Sync, O: Sink>(
     ensures text { Adds O.Sink out.old out.new result (records_text (shown_as (A.meaning app.now) records.now)) }
     ensures cause { HasCauseOf (O.faults out.old) (O.faults out.new) (IsErrOf result TextError.WriteFault) }
     ensures lasts { O.lasting out.new ≡ O.lasting out.old }
+    ensures fits { IsOk result → IsTrue (list_all record_fits (shown_as (A.meaning app.now) records.now)) }
 {
     let (wrote, _out) = write_in_scope(rt, alloc, threads, app, out, records);
     wrote
@@ -109,7 +116,8 @@ fn write_records<R: Threads + Wait, A: App + Sync, O: Sink>(
 /// than `threads` are on their way, and the text of each takes at most 1,048,576 bytes. Lines for which there is no thread, no
 /// room or no memory are written from the records themselves.
 ///
-/// It asks at least one thread, and waits for those that it starts. At an `Err` the sink holds a front of the report.
+/// It asks at least one thread, and waits for those that it starts. What is written whole has numbers and bytes in the ranges of
+/// their types. At an `Err` the sink holds a front of the report.
 pub fn write_report_by<R: Threads + Wait, A: App + Sync, O: Sink>(
     rt: &R,
     alloc: Global,
@@ -124,6 +132,7 @@ pub fn write_report_by<R: Threads + Wait, A: App + Sync, O: Sink>(
         (report_text (shown_as (A.meaning app.now) records.now) totals.now) }
     ensures cause { HasCauseOf (O.faults out.old) (O.faults out.new) (IsErrOf result TextError.WriteFault) }
     ensures lasts { O.lasting out.new ≡ O.lasting out.old }
+    ensures typed { IsOk result → HaveTypes (shown_as (A.meaning app.now) records.now) totals.now }
 {
     write_records(rt, alloc, threads, app, out, records)?;
     write_totals(alloc, out, totals)

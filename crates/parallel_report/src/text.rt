@@ -1,7 +1,8 @@
 //! The text of some records, made in memory.
 
-ghost use Rattle.std.specs.Prelude.{◌≡◌, ◌++◌, [], MatchBool};
+ghost use Rattle.std.specs.Prelude.{◌≡◌, ◌++◌, [], true, IsTrue, MatchBool};
 ghost use Rattle.lane_core.specs.End.{ended};
+ghost use Rattle.report_text.specs.Ranges.{record_fits};
 ghost use Rattle.report_text.specs.Report.{record_text};
 ghost use Rattle.parallel_report.specs.Texts.{IsMadeOf};
 
@@ -49,7 +50,8 @@ pub(crate) struct Made {
     pub(crate) text: Vec<u8>,
 }
 
-// Adds the lines of a record, or says that it can't: then the text is as before.
+// Adds the lines of a record, whose numbers and bytes have the ranges of their types, or says that it can't: then the text is as
+// before.
 fn add_record<A: App>(
     alloc: Global,
     app: &A,
@@ -57,9 +59,10 @@ fn add_record<A: App>(
     line: &mut String,
     of: &RecordUnderWay,
 ) -> bool
-    ensures { MatchBool result
+    ensures text { MatchBool result
         (sink.new.text.items ≡ sink.old.text.items ++ record_text (ended (A.meaning app.now) of.now))
         (sink.new.text.items ≡ sink.old.text.items) }
+    ensures fits { result ≡ true → IsTrue (record_fits (ended (A.meaning app.now) of.now)) }
 {
     let before = sink.text.len();
     if write_kept(alloc, app, sink, line, &of.kept()).is_err() {

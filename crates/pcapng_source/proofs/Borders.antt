@@ -61,7 +61,7 @@ pub crosses : (r : Reader) (bytes head left : List ℕ) → IsBehindData r → I
 crosses r bytes head left it fits long same is =
     let told : number_in r.section.order 4 (take 4 (drop r.skip bytes)) ≡ r.block.total = sym (read r bytes long) ∙ same in
     ap (λ l. prepended r.made (blocks_from r.section r.place.allowed r.place.offset (l ++ left))) (is ∙ sym (drop-drop 4 r.skip bytes))
-    ∙ (closes (held r bytes) refl (whole r bytes long) (eq-eqb _ _ told)).same (drop 4 (drop r.skip bytes) ++ left)
+    ∙ (closes (held r bytes) refl (whole r bytes long) (eq-eqb _ _ told)).goes.same (drop 4 (drop r.skip bytes) ++ left)
     ∙ holds r bytes left it fits long
 
 pub crosses-badly : (r : Reader) (bytes left : List ℕ) → IsBehindData r → IsFitting r → r.skip + 4 ≤ length bytes
@@ -69,7 +69,7 @@ pub crosses-badly : (r : Reader) (bytes left : List ℕ) → IsBehindData r → 
     → rest_of (record r { stage = Refused (BadBlock r.block.offset) 0 }) left ≡ rest_of r (bytes ++ left)
 crosses-badly r bytes left it fits long other =
     let differs = ne_eqb _ _ (λ same. other (read r bytes long ∙ same)) in
-    (closes-badly (held r bytes) refl (whole r bytes long) fits differs).same (drop 4 (drop r.skip bytes) ++ left)
+    (closes-badly (held r bytes) refl (whole r bytes long) fits differs).goes.same (drop 4 (drop r.skip bytes) ++ left)
     ∙ holds r bytes left it fits long
 
 -- ---- the head of the next block

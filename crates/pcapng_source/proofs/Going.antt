@@ -2,12 +2,15 @@
 use Rattle.std.proofs.Common.{◌≡◌, ℕ, ◌+◌, ◌^◌, ◌≤◌, List, [], ◌++◌, take, Option, Result, None, Some, Ok, Err, inl, inr, refl, sym, ap, subst, ◌∙◌, arith, ⊎_elim}
 use Rattle.std.proofs.lemmas.Bool.{cases_lt}
 use Rattle.std.proofs.lemmas.List.{take-append-le}
+use Rattle.std.specs.Io.KnownBytes.{Consumes}
 use Rattle.mos_bytes.specs.declared.failed.Failed.{Failed}
 use Rattle.mos_bytes.specs.Causes.{HasCause, Rose, risen}
 use Rattle.mos_bytes.proofs.Causes.{Rose-earlier}
-use Rattle.pcapng_source.specs.Given.{Given}
-use Rattle.pcapng_source.specs.Reading.{IsFitting, IsSpent, met_at, rest_of}
+use Rattle.pcapng_source.specs.Given.{Given, prepended}
+use Rattle.mos_bytes.specs.declared.source.Source.{Ghosts}
+use Rattle.pcapng_source.specs.Reading.{IsSteady, met_at, rest_of}
 use Rattle.pcapng_source.specs.Outlooks.{Gives, StepFits, StepGives, faults_with, outlook}
+use Rattle.pcapng_source.specs.Turns.{Going}
 use Rattle.pcapng_source.specs.declared.reader.Reader.{Reader}
 
 -- a reader that gives the same
@@ -16,6 +19,13 @@ Gives-same : (r s : Reader) (left : Option (List ℕ)) (new : Option Given) (fro
 Gives-same r s None new front same given = tt
 Gives-same r s (Some left) None front same given = absurd given
 Gives-same r s (Some left) (Some new) front same given = sym (same left) ∙ given
+
+-- bytes that were read are given as they are
+pub Gives-read : (r s : Reader) (left now : Option (List ℕ)) (front : List ℕ) → Consumes left now front
+    → ((l : List ℕ) → rest_of r (front ++ l) ≡ prepended front (rest_of s l)) → Gives (outlook r left) (outlook s now) front
+Gives-read r s None now front consumed same = tt
+Gives-read r s (Some left) None front consumed same = absurd consumed
+Gives-read r s (Some left) (Some now) front consumed same = ap (rest_of r) consumed ∙ same now
 
 -- a step into the front of a buffer
 pub step-front : (r s : Reader) (left : Option (List ℕ)) (new : Option Given) (result : Result (Option ℕ) Failed) (front rest : List ℕ)
@@ -61,18 +71,14 @@ Gives-nothing : (a : Option Given) → Gives a a []
 Gives-nothing None = tt
 Gives-nothing (Some a) = refl
 
--- the steps of a read so far: they gave nothing, and the faults have not fallen
-pub record Going {S L : Type 0} (left : S → Option (List ℕ)) (faults : S → ℕ) (lasting : S → L) (old now : S) (r s : Reader) : Type 0 where
-  pub gives : Gives (outlook r (left old)) (outlook s (left now)) []
-  pub later : faults_with r (faults old) ≤ faults_with s (faults now)
-  pub lasts : lasting now ≡ lasting old
-  pub fits : IsFitting s
-  pub spent : IsSpent s
-  pub source_faults : faults old ≤ faults now
-  pub met : met_at s.stage ≡ met_at r.stage
-
-pub going-none : {S L : Type 0} (left : S → Option (List ℕ)) (faults : S → ℕ) (lasting : S → L) (s : S) (r : Reader) → IsFitting r → IsSpent r → Going left faults lasting s s r r
-going-none left faults lasting s r fits spent = record { gives = Gives-nothing (outlook r (left s)); later = omega arith; lasts = refl; fits = fits; spent = spent; source_faults = omega arith; met = refl }
+-- no step yet
+pub going-none : {S : Type 0} (source : Ghosts S) (s : S) (r : Reader) → IsSteady r → Going source s s r r
+going-none source s r it = record {
+  gives = Gives-nothing (outlook r (source.left s));
+  later = omega arith;
+  met = refl;
+  leaves = record { lasts = refl; fits = it.fits; spent = it.spent; source_faults = omega arith };
+}
 
 -- a cause of the last step
 pub cause-going : {T : Type 0} (before middle now : ℕ) (result : Result T Failed) → before ≤ middle → HasCause middle now result → HasCause before now result

@@ -9,7 +9,7 @@ use Rattle.pcapng_source.specs.Fields.{SectionState, has, head_length, interface
 use Rattle.pcapng_source.specs.Packets.{captured_of, interface_of, record_by, record_head, block_record, record_on, within_snap}
 use Rattle.pcapng_source.specs.Refusals.{kind_refusal}
 use Rattle.pcapng_source.specs.Blocks.{blocks_from, closed}
-use Rattle.pcapng_source.specs.Reading.{Goes, IsWhole, met_at, behind_words}
+use Rattle.pcapng_source.specs.Reading.{IsWhole, Judges, met_at, behind_words}
 use Rattle.pcap_source.specs.declared.order.Order.{Order}
 use Rattle.pcapng_source.specs.declared.kind.Kind.{Kind}
 use Rattle.pcapng_source.specs.declared.kind.Kind.TheVariants.{SectionHeader, InterfaceBlock, SimplePacket, EnhancedPacket, OtherBlock}
@@ -47,7 +47,7 @@ pub opens : (r : Reader) (kind : Kind) (s section : SectionState) (made : List �
     → section_in r.section r.head ≡ s → total_of s.order r.head ≡ total → total ≤ 16777216 → head_length kind + (owed + skip + (4 * words + 4)) ≡ total
     → s.order ≡ section.order → ((left : List ℕ) → block_record kind s (r.head ++ left) ≡ made ++ take owed left)
     → ((left : List ℕ) → 4 * words + 4 ≤ length (drop (owed + skip) left) → section_by kind s (r.head ++ left) ≡ section_of_words section words (drop (owed + skip) left))
-    → Goes r (record r {
+    → Judges r (record r {
       stage = Body;
       section = section;
       place = record { offset = r.place.offset + total; allowed = r.place.allowed - 1 };
@@ -59,35 +59,38 @@ pub opens : (r : Reader) (kind : Kind) (s section : SectionState) (made : List �
       made = made;
     })
 opens r kind s section made total owed skip words it is_section_is sized most parts orders records sections = record {
-  same = λ left.
-      let u = it.unrefused in
-      let bytes = drop (owed + skip) left in
-      let others = blocks_from (section_of_words section words bytes) (r.place.allowed - 1) (r.place.offset + total) (drop (4 * words + 4) bytes) in
-      sym (rest-at r Head left u.stage
-      ∙ ap (λ l. prepended l (blocks_from r.section r.place.allowed r.place.offset (r.head ++ left))) u.made
-      ∙ head-opens r.section r.place.allowed r.place.offset r.head left kind (owed + skip) (4 * words) total u.accepted it.named it.whole u.allowed
-      (ap (λ t. total_of t.order r.head) is_section_is ∙ sized) parts
-      ∙ ap (λ t. prepended (block_record kind t (r.head ++ left)) (closed t.order total r.place.offset (4 * words) bytes
-      (blocks_from (section_by kind t (r.head ++ left)) (r.place.allowed - 1) (r.place.offset + total) (drop (4 * words + 4) bytes)))) is_section_is
-      ∙ ap (prepended (block_record kind s (r.head ++ left))) (closed-there s.order total r.place.offset (4 * words) bytes _ others
-      (λ there. ap (λ t. blocks_from t (r.place.allowed - 1) (r.place.offset + total) (drop (4 * words + 4) bytes)) (sections left there))
-      ∙ ap (λ o. closed o total r.place.offset (4 * words) bytes others) orders)
-      ∙ ap (λ l. prepended l (closed section.order total r.place.offset (4 * words) bytes others)) (records left)
-      ∙ after-after made (take owed left) _
-      ∙ ap (λ g. prepended made (prepended (take owed left) g)) (sym (words-closed (record r {
-        stage = Body;
-        section = section;
-        place = record { offset = r.place.offset + total; allowed = r.place.allowed - 1 };
-        block = record { offset = r.place.offset; total = total };
-        owed = owed;
-        skip = skip;
-        options = words;
-        head = [];
-        made = made;
-      }) words bytes)));
-  fits = omega arith;
-  lighter = let u = it.unrefused in let some = u.allowed in omega (arith, weight-at r Head u.stage, some);
-  met = sym (ap met_at it.unrefused.stage);
+  goes = record {
+    same = λ left.
+        let u = it.unrefused in
+        let bytes = drop (owed + skip) left in
+        let others = blocks_from (section_of_words section words bytes) (r.place.allowed - 1) (r.place.offset + total) (drop (4 * words + 4) bytes) in
+        sym (rest-at r Head left u.stage
+        ∙ ap (λ l. prepended l (blocks_from r.section r.place.allowed r.place.offset (r.head ++ left))) u.made
+        ∙ head-opens r.section r.place.allowed r.place.offset r.head left kind (owed + skip) (4 * words) total u.accepted it.named it.whole u.allowed
+        (ap (λ t. total_of t.order r.head) is_section_is ∙ sized) parts
+        ∙ ap (λ t. prepended (block_record kind t (r.head ++ left)) (closed t.order total r.place.offset (4 * words) bytes
+        (blocks_from (section_by kind t (r.head ++ left)) (r.place.allowed - 1) (r.place.offset + total) (drop (4 * words + 4) bytes)))) is_section_is
+        ∙ ap (prepended (block_record kind s (r.head ++ left))) (closed-there s.order total r.place.offset (4 * words) bytes _ others
+        (λ there. ap (λ t. blocks_from t (r.place.allowed - 1) (r.place.offset + total) (drop (4 * words + 4) bytes)) (sections left there))
+        ∙ ap (λ o. closed o total r.place.offset (4 * words) bytes others) orders)
+        ∙ ap (λ l. prepended l (closed section.order total r.place.offset (4 * words) bytes others)) (records left)
+        ∙ after-after made (take owed left) _
+        ∙ ap (λ g. prepended made (prepended (take owed left) g)) (sym (words-closed (record r {
+          stage = Body;
+          section = section;
+          place = record { offset = r.place.offset + total; allowed = r.place.allowed - 1 };
+          block = record { offset = r.place.offset; total = total };
+          owed = owed;
+          skip = skip;
+          options = words;
+          head = [];
+          made = made;
+        }) words bytes)));
+    fits = omega arith;
+    lighter = let u = it.unrefused in let some = u.allowed in omega (arith, weight-at r Head u.stage, some);
+    met = sym (ap met_at it.unrefused.stage);
+  };
+  ready = tt;
 }
 
 -- ---- each kind of block
@@ -102,7 +105,7 @@ whole-plain r kind it plain =
     (rw other refl, total_is kind (total_of r.section.order r.head) accepted.0, accepted.1)
 
 pub opens-other : (r : Reader) (total skip : ℕ) → IsWhole OtherBlock r → total_of r.section.order r.head ≡ total → skip ≡ total - 12
-    → Goes r (record r {
+    → Judges r (record r {
       stage = Body;
       place = record { offset = r.place.offset + total; allowed = r.place.allowed - 1 };
       block = record { offset = r.place.offset; total = total };
@@ -122,7 +125,7 @@ opens-other r total skip it sized parts =
 
 pub opens-section : (r : Reader) (order : Order) (total skip : ℕ) → IsWhole SectionHeader r → unwrap_or (order_told r.head) Big ≡ order
     → total_of order r.head ≡ total → skip ≡ total - 18
-    → Goes r (record r {
+    → Judges r (record r {
       stage = Body;
       section = record { order = order; interfaces = [] };
       place = record { offset = r.place.offset + total; allowed = r.place.allowed - 1 };
@@ -173,7 +176,7 @@ enhanced_record-front order interface head left long =
 
 pub opens-simple : (r : Reader) (interface : Interface) (total captured skip : ℕ) → IsWhole SimplePacket r → slice_get r.section.interfaces 0 ≡ Some interface
     → total_of r.section.order r.head ≡ total → captured_of SimplePacket r.section.order interface r.head ≡ captured → skip ≡ total - 16 - captured
-    → Goes r (record r {
+    → Judges r (record r {
       stage = Body;
       place = record { offset = r.place.offset + total; allowed = r.place.allowed - 1 };
       block = record { offset = r.place.offset; total = total };
@@ -202,7 +205,7 @@ opens-simple r interface total captured skip it found sized told parts =
 
 pub opens-enhanced : (r : Reader) (interface : Interface) (total captured skip : ℕ) → IsWhole EnhancedPacket r → interface_of EnhancedPacket r.section r.head ≡ Some interface
     → total_of r.section.order r.head ≡ total → captured_of EnhancedPacket r.section.order interface r.head ≡ captured → skip ≡ total - 32 - captured
-    → Goes r (record r {
+    → Judges r (record r {
       stage = Body;
       place = record { offset = r.place.offset + total; allowed = r.place.allowed - 1 };
       block = record { offset = r.place.offset; total = total };
@@ -266,7 +269,7 @@ interface-sections section head left total (suc n) size sized parts =
     }) (resolution_in section.order (4 * suc n) (take (4 * suc n) left)))
 
 pub opens-interface : (r : Reader) (total words : ℕ) → IsWhole InterfaceBlock r → total_of r.section.order r.head ≡ total → words ≡ (total - 20) / 4
-    → Goes r (record r {
+    → Judges r (record r {
       stage = Body;
       section = with_interface r.section (record { link = number_in r.section.order 2 (drop 8 r.head); snap = snap_told (number_in r.section.order 4 (drop 12 r.head)); resolution = resolution_told 6 });
       place = record { offset = r.place.offset + total; allowed = r.place.allowed - 1 };

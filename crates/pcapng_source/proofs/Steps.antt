@@ -7,7 +7,7 @@ use Rattle.pcapng_source.specs.Given.{prepended, nothing, refused_with}
 use Rattle.pcapng_source.specs.Fields.{SectionState, has, head_length, block_kind}
 use Rattle.pcapng_source.specs.Refusals.{refusal_of}
 use Rattle.pcapng_source.specs.Blocks.{blocks_from}
-use Rattle.pcapng_source.specs.Reading.{Goes, IsFitting, IsOpen, IsUnrefused, met_at, ready_at, behind, behind_words, rest_at, rest_of, stop_of, weight_at, weight_of}
+use Rattle.pcapng_source.specs.Reading.{Goes, IsFitting, IsOpen, IsUnrefused, Judges, met_at, ready_at, behind, behind_words, rest_at, rest_of, stop_of, weight_at, weight_of}
 use Rattle.pcap_source.specs.declared.order.Order.{Order}
 use Rattle.pcapng_source.specs.declared.fault.NgFault.{NgFault}
 use Rattle.pcapng_source.specs.declared.fault.NgFault.TheVariants.{TooManyBlocks}
@@ -37,40 +37,47 @@ goes-trans a b c first second =
 
 -- a block is refused
 pub refuses : (r : Reader) (stage : Stage) (fault : NgFault) → r.stage ≡ stage → met_at stage ≡ 0 → IsFitting r → ((left : List ℕ) → rest_at stage r left ≡ refused_with fault)
-    → Goes r (record r { stage = Refused fault 0 })
+    → Judges r (record r { stage = Refused fault 0 })
 refuses r stage fault is none fits refusal = record {
-  same = λ left. ap (prepended r.made) (sym (refusal left)) ∙ sym (rest-at r stage left is);
-  fits = fits;
-  lighter = omega arith;
-  met = sym (ap met_at is ∙ none);
+  goes = record {
+    same = λ left. ap (prepended r.made) (sym (refusal left)) ∙ sym (rest-at r stage left is);
+    fits = fits;
+    lighter = omega arith;
+    met = sym (ap met_at is ∙ none);
+  };
+  ready = tt;
 }
 
 pub refuses-many : (r : Reader) → r.stage ≡ Head → IsFitting r → 8 ≤ length r.head → r.place.allowed ≡ 0
-    → Goes r (record r { stage = Refused (TooManyBlocks r.place.offset) 0 })
+    → Judges r (record r { stage = Refused (TooManyBlocks r.place.offset) 0 })
 refuses-many r is fits long none = refuses r Head (TooManyBlocks r.place.offset) is refl fits (λ left.
     ap (λ n. blocks_from r.section n r.place.offset (r.head ++ left)) none
     ∙ blocks-many r.section r.place.offset (r.head ++ left) (has-front 8 r.head left long))
 
 pub refuses-head : (r : Reader) (fault : NgFault) → r.stage ≡ Head → IsFitting r → 8 ≤ length r.head → 0 < r.place.allowed
-    → refusal_of r.section r.place.offset r.head ≡ Some fault → Goes r (record r { stage = Refused fault 0 })
+    → refusal_of r.section r.place.offset r.head ≡ Some fault → Judges r (record r { stage = Refused fault 0 })
 refuses-head r fault is fits long some refusal = refuses r Head fault is refl fits (λ left.
     head-refused r.section r.place.allowed r.place.offset r.head left fault long some refusal)
 
 -- a head that is too short to be judged
-pub waits-short : (r : Reader) → r.stage ≡ Head → length r.head < 8 → ready_at r.stage r
-waits-short r is short =
-    subst (λ s. ready_at s r) (sym is) (
-      rw (has-short 8 r.head short) short,
-      ap (λ s. rest_at s r []) is ∙ blocks-short r.section r.place.allowed r.place.offset (r.head ++ []) (omega (arith, length-append r.head [])),
-    )
+pub waits-short : (r : Reader) → r.stage ≡ Head → IsFitting r → length r.head < 8 → Judges r r
+waits-short r is fits short = record {
+  goes = goes-same r fits;
+  ready = subst (λ s. ready_at s r) (sym is) (
+    rw (has-short 8 r.head short) short,
+    ap (λ s. rest_at s r []) is ∙ blocks-short r.section r.place.allowed r.place.offset (r.head ++ []) (omega (arith, length-append r.head [])),
+  );
+}
 
 -- a head that isn't refused so far
-pub waits : (r : Reader) → IsUnrefused r → length r.head < head_length (block_kind r.section.order r.head) → ready_at r.stage r
-waits r it short =
-    subst (λ s. ready_at s r) (sym it.stage) (
-      rw (has-there 8 r.head it.long) short,
-      ap (λ s. rest_at s r []) it.stage ∙ head-waits r.section r.place.allowed r.place.offset r.head it.allowed it.accepted short,
-    )
+pub waits : (r : Reader) → IsUnrefused r → length r.head < head_length (block_kind r.section.order r.head) → Judges r r
+waits r it short = record {
+  goes = goes-same r it.fits;
+  ready = subst (λ s. ready_at s r) (sym it.stage) (
+    rw (has-there 8 r.head it.long) short,
+    ap (λ s. rest_at s r []) it.stage ∙ head-waits r.section r.place.allowed r.place.offset r.head it.allowed it.accepted short,
+  );
+}
 
 -- nothing comes any more behind n bytes of a body
 behind-nil : (section : SectionState) (r : Reader) (n : ℕ) → behind section r n [] ≡ nothing

@@ -8,4 +8,5 @@ pub mod Blocks
 pub mod Laws
 pub mod Reading
 pub mod Outlooks
+pub mod Turns
 pub mod Sources

@@ -1,5 +1,5 @@
 -- The record that a packet block gives.
-use Rattle.std.specs.Prelude.{ℕ, ◌+◌, ◌-◌, ◌*◌, ◌/◌, ◌%◌, ◌^◌, List, [], ◌++◌, take, drop, min, ◌==◌, nat_lt, if◌then◌else◌, Option, None, Some}
+use Rattle.std.specs.Prelude.{ℕ, ◌+◌, ◌*◌, ◌/◌, ◌%◌, ◌^◌, List, [], ◌++◌, take, drop, min, Option, None, Some}
 use Rattle.std.specs.List.{slice_get}
 use Rattle.byteorder.specs.Endian.{big_bytes}
 use Rattle.pcap_source.specs.Order.{number_in}

@@ -189,6 +189,39 @@ IsRefused (Refused fault met) = ⊤
 abbrev pub IsSpent : Reader → Type 0
 IsSpent r = 0 < met_at r.stage → r.made ≡ []
 
+-- no byte waits to be given
+pub record IsBare (r : Reader) : Type 0 where
+  pub made : r.made ≡ []
+  pub fits : IsFitting r
+
+-- between two calls
+pub record IsSteady (r : Reader) : Type 0 where
+  pub fits : IsFitting r
+  pub spent : IsSpent r
+
+-- it holds a whole word in this stage, which isn't judged yet
+pub record HoldsWord (there : Stage) (r : Reader) : Type 0 where
+  pub stage : r.stage ≡ there
+  pub word : length r.word ≡ 4
+  pub made : r.made ≡ []
+  pub fits : IsFitting r
+
+-- it holds a head, or a front of one
+pub record HoldsHead (r : Reader) : Type 0 where
+  pub stage : r.stage ≡ Head
+  pub made : r.made ≡ []
+  pub fits : IsFitting r
+
+-- it goes on in the same stage
+pub record Stays (old new : Reader) : Type 0 where
+  pub fits : IsFitting new
+  pub stage : new.stage ≡ old.stage
+
+-- no read has met a refusal
+pub record IsUnmet (r : Reader) : Type 0 where
+  pub fits : IsFitting r
+  pub met : met_at r.stage ≡ 0
+
 -- a reader goes on by what it holds alone: it gives the same, and no later
 pub record Goes (old new : Reader) : Type 0 where
   pub same : (left : List ℕ) → rest_of new left ≡ rest_of old left
@@ -196,10 +229,16 @@ pub record Goes (old new : Reader) : Type 0 where
   pub lighter : weight_of new ≤ weight_of old
   pub met : met_at new.stage ≡ met_at old.stage
 
+-- the same, and what it holds then was judged
+pub record Judges (old new : Reader) : Type 0 where
+  pub goes : Goes old new
+  pub ready : ready_at new.stage new
+
 -- a block whose head isn't refused, as far as it is held
 pub record IsUnrefused (r : Reader) : Type 0 where
   pub stage : r.stage ≡ Head
   pub made : r.made ≡ []
+  pub fits : IsFitting r
   pub long : 8 ≤ length r.head
   pub allowed : 0 < r.place.allowed
   pub accepted : refusal_of r.section r.place.offset r.head ≡ None

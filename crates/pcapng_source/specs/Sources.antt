@@ -1,9 +1,12 @@
 -- Not of the headline. What a source over a file of either form tells.
-use Rattle.std.specs.Prelude.{◌≡◌, ℕ, ◌+◌, ◌≤◌, ⊤, List, [], Option, None, Some}
-use Rattle.std.specs.Io.KnownBytes.{IsAtEnd}
+use Rattle.std.specs.Prelude.{◌≡◌, ℕ, ◌+◌, ◌≤◌, ⊤, List, [], Option, None, Some, Result, IfOk, OnOk, OnErr}
+use Rattle.std.specs.Io.{ReadsAtMost}
+use Rattle.std.specs.Io.KnownBytes.{IsAtEnd, ReadConsumes}
+use Rattle.mos_bytes.specs.Causes.{HasCause}
+use Rattle.mos_bytes.specs.declared.failed.Failed.{Failed}
 use Rattle.mos_bytes.specs.declared.source.Source.{Ghosts}
 use Rattle.pcapng_source.specs.Blocks.{any}
-use Rattle.pcapng_source.specs.Outlooks.{IsOver, bytes_left, outlook}
+use Rattle.pcapng_source.specs.Outlooks.{IsOver, MeetsOrFails, bytes_left, outlook}
 use Rattle.pcapng_source.specs.Reading.{fault_at, met_at}
 use Rattle.pcapng_source.specs.declared.fault.NgFault.{NgFault}
 use Rattle.pcapng_source.specs.declared.any_source.AnySource.{AnySource}
@@ -63,3 +66,13 @@ pub record Stands {S : Type 0} {source : Ghosts S} (a : AnySource S source) : Ty
   -- where it has ended, so has the source below, and the file isn't refused
   pub ends : any_ended a → source.ended (any_source a) × IsReadWhole (source.left (any_start a)) (source.left (any_source a))
   pub later : source.faults (any_start a) ≤ source.faults (any_source a)
+
+-- a read of it into a buffer that has room
+pub record AnyReads {S : Type 0} {source : Ghosts S} (a b : AnySource S source) (result : Result ℕ Failed) (buf : List ℕ) : Type 0 where
+  pub bound : ReadsAtMost result buf
+  pub bytes : ReadConsumes (any_left a) (any_left b) result buf
+  pub ended : IfOk result (λ count. count ≡ 0 → any_ended b)
+  pub cause : HasCause (any_faults a) (any_faults b) result
+  pub met : OnOk result (refusals_met b ≡ refusals_met a)
+  pub failed : OnErr result (MeetsOrFails (refusals_met a) (refusals_met b) (faults_below a) (faults_below b))
+  pub lasts : any_lasting b ≡ any_lasting a

@@ -49,7 +49,7 @@ impl<'a, S: Source> Drop for AnySource<'a, S> {
 
 impl<'a, S: Source> AnySource<'a, S> {
     ghost use Rattle.pcapng_source.specs.Blocks.{any};
-    ghost use Rattle.pcapng_source.specs.Sources.{Stands, any_ended, any_faults, any_lasting, any_left, any_source, any_start, faults_below, met_fault, refusals_met};
+    ghost use Rattle.pcapng_source.specs.Sources.{AnyReads, Stands, any_faults, any_left, any_source, any_start, met_fault, refusals_met};
 
     /// A source over this one, from whose start the file is read. It takes no memory.
     pub fn new(source: &'a mut S) -> AnySource<'a, S>
@@ -81,14 +81,7 @@ impl<'a, S: Source> AnySource<'a, S> {
     // Gives what comes next, by steps of the reader where neither bytes that were made nor those of the file do.
     fn read_next(&mut self, buf: &mut [u8]) -> Result<usize, Failed>
         requires room { 0 < length buf.old }
-        ensures bound { ReadsAtMost result buf.new }
-        ensures bytes { ReadConsumes (any_left self.old) (any_left self.new) result buf.new }
-        ensures ended { IfOk result (λ count. count ≡ 0 → any_ended self.new) }
-        ensures cause { HasCause (any_faults self.old) (any_faults self.new) result }
-        ensures met { OnOk result (refusals_met self.new ≡ refusals_met self.old) }
-        ensures failed { OnErr result (MeetsOrFails (refusals_met self.old) (refusals_met self.new)
-            (faults_below self.old) (faults_below self.new)) }
-        ensures lasts { any_lasting self.new ≡ any_lasting self.old }
+        ensures { AnyReads self.old self.new result buf.new }
     {
         if self.reader.made() > 0 {
             return Ok(self.reader.give(buf));
@@ -104,14 +97,7 @@ impl<'a, S: Source> AnySource<'a, S> {
     #[inline(never)]
     fn read_on(&mut self, buf: &mut [u8]) -> Result<usize, Failed>
         requires room { 0 < length buf.old }
-        ensures bound { ReadsAtMost result buf.new }
-        ensures bytes { ReadConsumes (any_left self.old) (any_left self.new) result buf.new }
-        ensures ended { IfOk result (λ count. count ≡ 0 → any_ended self.new) }
-        ensures cause { HasCause (any_faults self.old) (any_faults self.new) result }
-        ensures met { OnOk result (refusals_met self.new ≡ refusals_met self.old) }
-        ensures failed { OnErr result (MeetsOrFails (refusals_met self.old) (refusals_met self.new)
-            (faults_below self.old) (faults_below self.new)) }
-        ensures lasts { any_lasting self.new ≡ any_lasting self.old }
+        ensures { AnyReads self.old self.new result buf.new }
     {
         let count = self.read_next(buf)?;
         if count > 0 && self.reader.made() == 0 && self.reader.direct(1) == 0 {

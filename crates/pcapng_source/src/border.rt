@@ -21,9 +21,9 @@ const PACKET_HEAD: usize = 28;
 
 impl Reader {
     ghost use Rattle.pcapng_source.specs.Fields.{block_kind};
-    ghost use Rattle.pcapng_source.specs.Reading.{EndsInHead, Goes, IsBehindData, IsBorder, IsFitting, met_at, rest_of, stop_of};
+    ghost use Rattle.pcapng_source.specs.Reading.{EndsInHead, HoldsHead, IsBare, IsBehindData, IsBorder, IsFitting, IsUnmet, Judges, rest_of, stop_of};
     ghost use Rattle.pcapng_source.specs.declared.kind.Kind.TheVariants.{EnhancedPacket};
-    ghost use Rattle.pcapng_source.specs.declared.reader.Stage.TheVariants.{Body, Head};
+    ghost use Rattle.pcapng_source.specs.declared.reader.Stage.TheVariants.{Head};
 
     // How many of these bytes, which come next, lead from the data of a packet into the next block, where they are all
     // there: what pads the data, the second total length and the head of that block.
@@ -47,12 +47,10 @@ impl Reader {
     pub(crate) fn cross(&mut self, bytes: &[u8])
         requires few { length bytes.now ≤ 35 }
         requires behind { IsBehindData self.old }
-        requires made { self.old.made ≡ [] }
-        requires fits { IsFitting self.old }
+        requires bare { IsBare self.old }
         ensures rest { EndsInHead self.old bytes.now
             → (left : List ℕ) → rest_of self.new left ≡ rest_of self.old (bytes.now ++ left) }
-        ensures fits { IsFitting self.new }
-        ensures met { met_at self.new.stage ≡ 0 }
+        ensures unmet { IsUnmet self.new }
     {
         let padding = self.skip as usize;
         if bytes.len() < padding + WORD {
@@ -71,8 +69,7 @@ impl Reader {
         requires made { self.old.made ≡ [] }
         ensures rest { length head.now ≤ stop_of self.old.section.order head.now → (left : List ℕ)
             → rest_of self.new left ≡ rest_of (record self.old { head = head.now; stage = Head }) left }
-        ensures fits { IsFitting self.new }
-        ensures met { met_at self.new.stage ≡ 0 }
+        ensures unmet { IsUnmet self.new }
     {
         self.head.clear();
         self.stage = Stage::Head;
@@ -99,13 +96,11 @@ impl Reader {
     // read once.
     #[inline(always)]
     fn take_packet(&mut self)
-        requires stage { self.old.stage ≡ Head }
-        requires made { self.old.made ≡ [] }
+        requires head { HoldsHead self.old }
         requires allowed { 0 < self.old.place.allowed }
         requires kind { block_kind self.old.section.order self.old.head ≡ EnhancedPacket }
         requires whole { length self.old.head ≡ 28 }
-        requires fits { IsFitting self.old }
-        ensures goes { Goes self.old self.new }
+        ensures { Judges self.old self.new }
     {
         let offset = self.place.offset();
         match judge_as(
@@ -121,14 +116,11 @@ impl Reader {
 
     // The same where the second total length isn't whole.
     fn begin_trailer(&mut self, bytes: &[u8])
-        requires stage { self.old.stage ≡ Body }
-        requires owed { self.old.owed ≡ 0 }
-        requires options { self.old.options ≡ 0 }
+        requires behind { IsBehindData self.old }
         requires few { length bytes.now < self.old.skip + 4 }
         requires fits { IsFitting self.old }
         ensures rest { (left : List ℕ) → rest_of self.new left ≡ rest_of self.old (bytes.now ++ left) }
-        ensures fits { IsFitting self.new }
-        ensures met { met_at self.new.stage ≡ 0 }
+        ensures unmet { IsUnmet self.new }
     {
         let padding = bytes.len().min(self.skip as usize);
         self.skip -= padding as u64;

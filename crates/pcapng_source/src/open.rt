@@ -15,16 +15,14 @@ pub(crate) const MICROSECONDS: u8 = 6;
 
 impl Reader {
     ghost use Rattle.pcapng_source.specs.Fields.{block_kind};
-    ghost use Rattle.pcapng_source.specs.Reading.{Goes, IsFitting, IsUnrefused, IsWhole, ready_at};
+    ghost use Rattle.pcapng_source.specs.Reading.{IsUnrefused, IsWhole, Judges};
     ghost use Rattle.pcapng_source.specs.declared.kind.Kind.TheVariants.{SectionHeader, InterfaceBlock, SimplePacket, EnhancedPacket, OtherBlock};
     ghost use Rattle.pcapng_source.specs.declared.reader.Stage.TheVariants.{Body};
 
     // Goes on behind a head that wasn't refused, where it is whole.
     pub(crate) fn open(&mut self)
-        requires head { IsUnrefused self.old }
-        requires fits { IsFitting self.old }
-        ensures goes { Goes self.old self.new }
-        ensures ready { ready_at self.new.stage self.new }
+        requires { IsUnrefused self.old }
+        ensures { Judges self.old self.new }
     {
         let head = self.head.as_slice();
         let kind = Kind::of(self.section.order(), head);
@@ -42,8 +40,7 @@ impl Reader {
 
     fn open_section(&mut self)
         requires { IsWhole SectionHeader self.old }
-        ensures goes { Goes self.old self.new }
-        ensures stage { self.new.stage ≡ Body }
+        ensures { Judges self.old self.new }
     {
         let head = self.head.as_slice();
         let order = told_order(head).unwrap_or(Order::Big);
@@ -54,8 +51,7 @@ impl Reader {
 
     fn open_interface(&mut self)
         requires { IsWhole InterfaceBlock self.old }
-        ensures goes { Goes self.old self.new }
-        ensures stage { self.new.stage ≡ Body }
+        ensures { Judges self.old self.new }
     {
         let head = self.head.as_slice();
         let order = self.section.order();
@@ -71,8 +67,7 @@ impl Reader {
 
     fn open_simple(&mut self)
         requires { IsWhole SimplePacket self.old }
-        ensures goes { Goes self.old self.new }
-        ensures stage { self.new.stage ≡ Body }
+        ensures { Judges self.old self.new }
     {
         let head = self.head.as_slice();
         let order = self.section.order();
@@ -88,8 +83,7 @@ impl Reader {
     #[inline(always)]
     pub(crate) fn open_enhanced(&mut self)
         requires { IsWhole EnhancedPacket self.old }
-        ensures goes { Goes self.old self.new }
-        ensures stage { self.new.stage ≡ Body }
+        ensures { Judges self.old self.new }
     {
         let head = self.head.as_slice();
         let order = self.section.order();
@@ -104,8 +98,7 @@ impl Reader {
 
     fn open_other(&mut self)
         requires { IsWhole OtherBlock self.old }
-        ensures goes { Goes self.old self.new }
-        ensures stage { self.new.stage ≡ Body }
+        ensures { Judges self.old self.new }
     {
         let total = self.section.order().u32_at(self.head.as_slice(), 4);
         self.enter(total, 0, u64::from(total - 12), 0);

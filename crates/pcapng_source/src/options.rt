@@ -55,17 +55,14 @@ fn judge_option(order: Order, word: &[u8], left: u32) -> Found
 }
 
 impl Reader {
-    ghost use Rattle.pcapng_source.specs.Reading.{Goes, IsFitting, ready_at};
+    ghost use Rattle.pcapng_source.specs.Reading.{HoldsWord, Judges};
     ghost use Rattle.pcapng_source.specs.declared.reader.Stage.TheVariants.{Body, OptionHead, Resolution};
 
     // Judges the head of an option.
     #[inline(never)]
     pub(crate) fn take_option(&mut self)
-        requires stage { self.old.stage ≡ OptionHead }
-        requires word { length self.old.word ≡ 4 }
-        requires fits { IsFitting self.old }
-        ensures goes { Goes self.old self.new }
-        ensures ready { ready_at self.new.stage self.new }
+        requires { HoldsWord OptionHead self.old }
+        ensures { Judges self.old self.new }
     {
         match judge_option(self.section.order(), self.word.as_slice(), self.options) {
             Found::Nothing => self.resolve(MICROSECONDS),
@@ -85,11 +82,8 @@ impl Reader {
 
     #[inline(never)]
     pub(crate) fn take_resolution(&mut self)
-        requires stage { self.old.stage ≡ Resolution }
-        requires word { length self.old.word ≡ 4 }
-        requires fits { IsFitting self.old }
-        ensures goes { Goes self.old self.new }
-        ensures ready { ready_at self.new.stage self.new }
+        requires { HoldsWord Resolution self.old }
+        ensures { Judges self.old self.new }
     {
         let word = self.word.as_slice();
         let byte = word[0];

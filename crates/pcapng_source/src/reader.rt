@@ -77,14 +77,13 @@ impl Reader {
     ghost use Rattle.std.specs.Bool.{OnTrue, OnFalse};
     ghost use Rattle.pcapng_source.specs.Given.{prepended};
     ghost use Rattle.pcapng_source.specs.Blocks.{any};
-    ghost use Rattle.pcapng_source.specs.Reading.{IsFitting, IsOpen, IsRefused, NextIs, direct_at, fault_at, is_plain_at, met_at, rest_of, settled_at, skipped_at, stop_of, wanted_at, weight_of};
+    ghost use Rattle.pcapng_source.specs.Reading.{IsBare, IsFitting, IsOpen, IsRefused, IsUnmet, NextIs, Stays, direct_at, fault_at, is_plain_at, met_at, rest_of, settled_at, skipped_at, stop_of, wanted_at, weight_of};
 
     // In front of a file.
     #[tactic(auto, unfolding(crate::specs::Blocks::any))]
     pub(crate) fn new() -> Self
         ensures rest { (left : List ℕ) → rest_of result left ≡ any left }
-        ensures fits { IsFitting result }
-        ensures met { met_at result.stage ≡ 0 }
+        ensures unmet { IsUnmet result }
     {
         Reader {
             stage: Stage::Start,
@@ -145,8 +144,7 @@ impl Reader {
         ensures count { result ≡ min (length self.old.made) (length buf.old) }
         ensures rest { (left : List ℕ)
             → rest_of self.old left ≡ prepended (take result buf.new) (rest_of self.new left) }
-        ensures fits { IsFitting self.new }
-        ensures stage { self.new.stage ≡ self.old.stage }
+        ensures stays { Stays self.old self.new }
     {
         self.made.give(buf)
     }
@@ -194,12 +192,10 @@ impl Reader {
     // So many of the next bytes were given as they are.
     pub(crate) fn gave(&mut self, count: usize)
         requires few { count ≤ direct_at self.old.stage self.old count }
-        requires made { self.old.made ≡ [] }
-        requires fits { IsFitting self.old }
+        requires bare { IsBare self.old }
         ensures rest { (front left : List ℕ) → length front ≡ count
             → rest_of self.old (front ++ left) ≡ prepended front (rest_of self.new left) }
-        ensures fits { IsFitting self.new }
-        ensures stage { self.new.stage ≡ self.old.stage }
+        ensures stays { Stays self.old self.new }
     {
         if let Stage::Body = self.stage {
             self.owed = (self.owed as usize - count) as u32;
@@ -212,9 +208,8 @@ impl Reader {
         requires fits { IsFitting self.old }
         ensures rest { (front left : List ℕ) → length front ≡ count
             → rest_of self.new left ≡ rest_of self.old (front ++ left) }
-        ensures fits { IsFitting self.new }
         ensures lighter { 0 < count → weight_of self.new < weight_of self.old }
-        ensures stage { self.new.stage ≡ self.old.stage }
+        ensures stays { Stays self.old self.new }
     {
         if let Stage::Body = self.stage {
             self.skip -= count as u64;
@@ -227,9 +222,8 @@ impl Reader {
         requires few { length bytes.now ≤ wanted_at self.old.stage self.old }
         requires fits { IsFitting self.old }
         ensures rest { (left : List ℕ) → rest_of self.new left ≡ rest_of self.old (bytes.now ++ left) }
-        ensures fits { IsFitting self.new }
         ensures lighter { 0 < length bytes.now → weight_of self.new < weight_of self.old }
-        ensures stage { self.new.stage ≡ self.old.stage }
+        ensures stays { Stays self.old self.new }
     {
         match self.stage {
             Stage::Start | Stage::OptionHead | Stage::Resolution | Stage::Trailer => {
@@ -244,8 +238,7 @@ impl Reader {
     pub(crate) fn end(&mut self) -> bool
         requires some { 0 < wanted_at self.old.stage self.old }
         requires settled { settled_at self.old.stage self.old }
-        requires made { self.old.made ≡ [] }
-        requires fits { IsFitting self.old }
+        requires bare { IsBare self.old }
         ensures start { OnTrue result ((rest_of self.new [] ≡ rest_of self.old [])
             × (weight_of self.new < weight_of self.old)) }
         ensures over { OnFalse result ((self.new ≡ self.old) × IsOpen self.new) }

@@ -14,9 +14,9 @@ const CLASSIC_HEADER: [u8; 24] = [
 ];
 
 impl Reader {
-    ghost use Rattle.pcapng_source.specs.Reading.{Goes, IsFitting, IsRefused, ready_at, settled_at};
+    ghost use Rattle.pcapng_source.specs.Reading.{Goes, HoldsHead, HoldsWord, IsBare, IsFitting, IsRefused, Judges, ready_at, settled_at};
     ghost use Rattle.pcapng_source.specs.Refusals.{refusal_of};
-    ghost use Rattle.pcapng_source.specs.declared.reader.Stage.TheVariants.{Start, Head, Body, Trailer};
+    ghost use Rattle.pcapng_source.specs.declared.reader.Stage.TheVariants.{Start, Trailer};
 
     // Judges what is held, and goes on where that is enough.
     #[inline(always)]
@@ -34,10 +34,8 @@ impl Reader {
 
     #[inline(never)]
     fn take_held(&mut self)
-        requires made { self.old.made ≡ [] }
-        requires fits { IsFitting self.old }
-        ensures goes { Goes self.old self.new }
-        ensures ready { ready_at self.new.stage self.new }
+        requires bare { IsBare self.old }
+        ensures judges { Judges self.old self.new }
         ensures stays { IsRefused self.old.stage → self.new ≡ self.old }
     {
         match self.stage {
@@ -53,11 +51,8 @@ impl Reader {
     // Tells by the first four bytes whether the file is a pcapng file.
     #[inline(never)]
     fn begin(&mut self)
-        requires stage { self.old.stage ≡ Start }
-        requires word { length self.old.word ≡ 4 }
-        requires made { self.old.made ≡ [] }
-        ensures goes { Goes self.old self.new }
-        ensures ready { ready_at self.new.stage self.new }
+        requires { HoldsWord Start self.old }
+        ensures { Judges self.old self.new }
     {
         let word = self.word.as_slice();
         self.head.clear();
@@ -73,11 +68,8 @@ impl Reader {
 
     #[inline(never)]
     fn take_head(&mut self)
-        requires stage { self.old.stage ≡ Head }
-        requires made { self.old.made ≡ [] }
-        requires fits { IsFitting self.old }
-        ensures goes { Goes self.old self.new }
-        ensures ready { ready_at self.new.stage self.new }
+        requires { HoldsHead self.old }
+        ensures { Judges self.old self.new }
     {
         if self.head.as_slice().len() < FIRST_FIELDS {
             return;
@@ -116,11 +108,8 @@ impl Reader {
 
     // Judges the second total length.
     fn close(&mut self)
-        requires stage { self.old.stage ≡ Trailer }
-        requires word { length self.old.word ≡ 4 }
-        requires fits { IsFitting self.old }
-        ensures goes { Goes self.old self.new }
-        ensures ready { ready_at self.new.stage self.new }
+        requires { HoldsWord Trailer self.old }
+        ensures { Judges self.old self.new }
     {
         if self.section.order().u32_in(self.word.as_slice()) == self.block.total {
             self.head.clear();

@@ -1,12 +1,11 @@
 //! Reading on: what comes from a source goes through a reader.
 
-ghost use Rattle.std.specs.Prelude.{◌≡◌, ◌+◌, ◌<◌, ◌≤◌, ℕ, List, [], length, min, IfOk, OnOk, OnErr};
+ghost use Rattle.std.specs.Prelude.{◌≡◌, ◌+◌, ◌<◌, ◌≤◌, ℕ, List, [], length, min, OnOk, OnErr};
 ghost use Rattle.std.specs.Bool.{OnTrue};
-ghost use Rattle.std.specs.Io.{ReadsAtMost};
-ghost use Rattle.std.specs.Io.KnownBytes.{IsAtEnd};
-ghost use Rattle.mos_bytes.specs.Causes.{HasCause, Rose};
-ghost use Rattle.pcapng_source.specs.Outlooks.{Gives, IsOver, MeetsOrFails, ReadGives, StepEnds, StepFalls, StepFits, StepGives, faults_with, outlook};
-ghost use Rattle.pcapng_source.specs.Reading.{IsFitting, IsOpen, IsSpent, direct_at, met_at, settled_at, skipped_at, wanted_at, weight_of};
+ghost use Rattle.mos_bytes.specs.Causes.{HasCause};
+ghost use Rattle.pcapng_source.specs.Outlooks.{Gives, MeetsOrFails, StepEnds, StepFalls, StepFits, StepGives, faults_with, outlook};
+ghost use Rattle.pcapng_source.specs.Reading.{IsBare, IsOpen, IsSteady, direct_at, met_at, settled_at, skipped_at, wanted_at, weight_of};
+ghost use Rattle.pcapng_source.specs.Turns.{Going, Leaves, Passes, Reads};
 
 use crate::border::BORDER;
 use crate::reader::{Next, Reader};
@@ -26,22 +25,9 @@ pub(crate) fn give<S: Source>(
 ) -> Result<usize, Failed>
     requires some { 0 < length buf.old }
     requires few { length buf.old ≤ direct_at reader.old.stage reader.old (length buf.old) }
-    requires made { reader.old.made ≡ [] }
+    requires bare { IsBare reader.old }
     requires open { IsOpen reader.old }
-    requires fits { IsFitting reader.old }
-    ensures bound { ReadsAtMost result buf.new }
-    ensures gives { ReadGives (outlook reader.old (S.left source.old))
-        (outlook reader.new (S.left source.new)) result buf.new }
-    ensures ends { IfOk result (λ count. count ≡ 0
-        → IsAtEnd (S.left source.new) × S.ended source.new × IsOver reader.new) }
-    ensures cause { HasCause (faults_with reader.old (S.faults source.old))
-        (faults_with reader.new (S.faults source.new)) result }
-    ensures met { met_at reader.new.stage ≡ met_at reader.old.stage }
-    ensures failed { OnErr result (Rose (S.faults source.old) (S.faults source.new)) }
-    ensures lasts { S.lasting source.new ≡ S.lasting source.old }
-    ensures fits { IsFitting reader.new }
-    ensures spent { IsSpent reader.new }
-    ensures source_faults { S.faults source.old ≤ S.faults source.new }
+    ensures { Reads S.Source source.old source.new reader.old reader.new result buf.new }
 {
     let count = source.read(buf)?;
     reader.gave(count);
@@ -56,22 +42,9 @@ fn skip<S: Source>(
 ) -> Result<Option<usize>, Failed>
     requires some { 0 < most }
     requires few { most ≤ skipped_at reader.old.stage reader.old }
-    requires made { reader.old.made ≡ [] }
+    requires bare { IsBare reader.old }
     requires open { IsOpen reader.old }
-    requires fits { IsFitting reader.old }
-    ensures gives { StepGives (outlook reader.old (S.left source.old))
-        (outlook reader.new (S.left source.new)) result [] }
-    ensures room { StepFits result [] }
-    ensures ends { StepEnds reader.new (S.left source.new) result (S.ended source.new) }
-    ensures falls { StepFalls reader.old reader.new result }
-    ensures cause { HasCause (faults_with reader.old (S.faults source.old))
-        (faults_with reader.new (S.faults source.new)) result }
-    ensures met { met_at reader.new.stage ≡ met_at reader.old.stage }
-    ensures failed { OnErr result (Rose (S.faults source.old) (S.faults source.new)) }
-    ensures lasts { S.lasting source.new ≡ S.lasting source.old }
-    ensures fits { IsFitting reader.new }
-    ensures spent { IsSpent reader.new }
-    ensures source_faults { S.faults source.old ≤ S.faults source.new }
+    ensures { Passes S.Source source.old source.new reader.old reader.new result }
 {
     let mut bytes = [0; SKIPPED];
     let count = source.read(&mut bytes[..SKIPPED.min(most)])?;
@@ -90,22 +63,9 @@ fn hold<S: Source>(
 ) -> Result<Option<usize>, Failed>
     requires some { 0 < most }
     requires wanted { most ≡ wanted_at reader.old.stage reader.old }
-    requires made { reader.old.made ≡ [] }
+    requires bare { IsBare reader.old }
     requires settled { settled_at reader.old.stage reader.old }
-    requires fits { IsFitting reader.old }
-    ensures gives { StepGives (outlook reader.old (S.left source.old))
-        (outlook reader.new (S.left source.new)) result [] }
-    ensures room { StepFits result [] }
-    ensures ends { StepEnds reader.new (S.left source.new) result (S.ended source.new) }
-    ensures falls { StepFalls reader.old reader.new result }
-    ensures cause { HasCause (faults_with reader.old (S.faults source.old))
-        (faults_with reader.new (S.faults source.new)) result }
-    ensures met { met_at reader.new.stage ≡ met_at reader.old.stage }
-    ensures failed { OnErr result (Rose (S.faults source.old) (S.faults source.new)) }
-    ensures lasts { S.lasting source.new ≡ S.lasting source.old }
-    ensures fits { IsFitting reader.new }
-    ensures spent { IsSpent reader.new }
-    ensures source_faults { S.faults source.old ≤ S.faults source.new }
+    ensures { Passes S.Source source.old source.new reader.old reader.new result }
 {
     let mut bytes = [0; HELD];
     let most = most.min(HELD);
@@ -125,8 +85,7 @@ fn step<S: Source>(
     buf: &mut [u8],
 ) -> Result<Option<usize>, Failed>
     requires room { 0 < length buf.old }
-    requires fits { IsFitting reader.old }
-    requires spent { IsSpent reader.old }
+    requires steady { IsSteady reader.old }
     ensures gives { StepGives (outlook reader.old (S.left source.old))
         (outlook reader.new (S.left source.new)) result buf.new }
     ensures room { StepFits result buf.new }
@@ -137,10 +96,7 @@ fn step<S: Source>(
     ensures met { OnOk result (met_at reader.new.stage ≡ met_at reader.old.stage) }
     ensures failed { OnErr result (MeetsOrFails (met_at reader.old.stage) (met_at reader.new.stage)
         (S.faults source.old) (S.faults source.new)) }
-    ensures lasts { S.lasting source.new ≡ S.lasting source.old }
-    ensures fits { IsFitting reader.new }
-    ensures spent { IsSpent reader.new }
-    ensures source_faults { S.faults source.old ≤ S.faults source.new }
+    ensures leaves { Leaves S.Source source.old source.new reader.new }
 {
     reader.take();
     if reader.made() > 0 {
@@ -165,22 +121,8 @@ pub(crate) fn read_on<S: Source>(
     buf: &mut [u8],
 ) -> Result<usize, Failed>
     requires room { 0 < length buf.old }
-    requires fits { IsFitting reader.old }
-    requires spent { IsSpent reader.old }
-    ensures bound { ReadsAtMost result buf.new }
-    ensures gives { ReadGives (outlook reader.old (S.left source.old))
-        (outlook reader.new (S.left source.new)) result buf.new }
-    ensures ends { IfOk result (λ count. count ≡ 0
-        → IsAtEnd (S.left source.new) × S.ended source.new × IsOver reader.new) }
-    ensures cause { HasCause (faults_with reader.old (S.faults source.old))
-        (faults_with reader.new (S.faults source.new)) result }
-    ensures met { OnOk result (met_at reader.new.stage ≡ met_at reader.old.stage) }
-    ensures failed { OnErr result (MeetsOrFails (met_at reader.old.stage) (met_at reader.new.stage)
-        (S.faults source.old) (S.faults source.new)) }
-    ensures lasts { S.lasting source.new ≡ S.lasting source.old }
-    ensures fits { IsFitting reader.new }
-    ensures spent { IsSpent reader.new }
-    ensures source_faults { S.faults source.old ≤ S.faults source.new }
+    requires steady { IsSteady reader.old }
+    ensures { Reads S.Source source.old source.new reader.old reader.new result buf.new }
 {
     loop {
         if let Some(count) = step(source, reader, buf)? {
@@ -192,16 +134,9 @@ pub(crate) fn read_on<S: Source>(
 // Goes on by bytes that are at hand alone, and answers whether there may be more to do. A fault that is met here is
 // counted and not told: the next read asks again.
 fn step_ahead<S: Source>(source: &mut S, reader: &mut Reader) -> bool
-    requires fits { IsFitting reader.old }
-    requires spent { IsSpent reader.old }
-    ensures gives { Gives (outlook reader.old (S.left source.old)) (outlook reader.new (S.left source.new)) [] }
-    ensures later { faults_with reader.old (S.faults source.old) ≤ faults_with reader.new (S.faults source.new) }
+    requires steady { IsSteady reader.old }
+    ensures going { Going S.Source source.old source.new reader.old reader.new }
     ensures falls { OnTrue result (weight_of reader.new < weight_of reader.old) }
-    ensures met { met_at reader.new.stage ≡ met_at reader.old.stage }
-    ensures lasts { S.lasting source.new ≡ S.lasting source.old }
-    ensures fits { IsFitting reader.new }
-    ensures spent { IsSpent reader.new }
-    ensures source_faults { S.faults source.old ≤ S.faults source.new }
 {
     reader.take();
     if reader.made() > 0 || source.count_at_hand() == 0 {
@@ -216,16 +151,11 @@ fn step_ahead<S: Source>(source: &mut S, reader: &mut Reader) -> bool
 
 // Goes from the data of a packet into the next block at once, where its head is at hand.
 fn cross<S: Source>(source: &mut S, reader: &mut Reader)
-    requires made { reader.old.made ≡ [] }
-    requires fits { IsFitting reader.old }
-    requires spent { IsSpent reader.old }
+    requires { IsBare reader.old }
     ensures gives { Gives (outlook reader.old (S.left source.old)) (outlook reader.new (S.left source.new)) [] }
     ensures later { faults_with reader.old (S.faults source.old) ≤ faults_with reader.new (S.faults source.new) }
     ensures met { met_at reader.new.stage ≡ met_at reader.old.stage }
-    ensures lasts { S.lasting source.new ≡ S.lasting source.old }
-    ensures fits { IsFitting reader.new }
-    ensures spent { IsSpent reader.new }
-    ensures source_faults { S.faults source.old ≤ S.faults source.new }
+    ensures leaves { Leaves S.Source source.old source.new reader.new }
 {
     let Some(border) = reader.border(source.at_hand()) else {
         return;
@@ -240,16 +170,8 @@ fn cross<S: Source>(source: &mut S, reader: &mut Reader)
 // Goes on by bytes that are at hand, until bytes are made or stand next in the file: so that these can be shown.
 #[inline(never)]
 pub(crate) fn look_ahead<S: Source>(source: &mut S, reader: &mut Reader)
-    requires made { reader.old.made ≡ [] }
-    requires fits { IsFitting reader.old }
-    requires spent { IsSpent reader.old }
-    ensures gives { Gives (outlook reader.old (S.left source.old)) (outlook reader.new (S.left source.new)) [] }
-    ensures later { faults_with reader.old (S.faults source.old) ≤ faults_with reader.new (S.faults source.new) }
-    ensures met { met_at reader.new.stage ≡ met_at reader.old.stage }
-    ensures lasts { S.lasting source.new ≡ S.lasting source.old }
-    ensures fits { IsFitting reader.new }
-    ensures spent { IsSpent reader.new }
-    ensures source_faults { S.faults source.old ≤ S.faults source.new }
+    requires { IsBare reader.old }
+    ensures { Going S.Source source.old source.new reader.old reader.new }
 {
     cross(source, reader);
     while step_ahead(source, reader) {}

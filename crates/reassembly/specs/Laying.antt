@@ -15,6 +15,11 @@ HasBytes bytes n byte = (i : ℕ) → i < n → slice_index bytes i ≡ byte i
 abbrev pub HasSameBytes : List ℕ → List ℕ → Type 0
 HasSameBytes old new = (i : ℕ) → slice_index new i ≡ slice_index old i
 
+-- each byte of a segment has its cell
+pub record AreBeside (cells segment : List ℕ) : Type 0 where
+  pub long : length cells ≡ length segment
+  pub short : length segment ≤ 65535
+
 -- how many of the first n bytes of two texts differ
 abbrev pub differing_of : List ℕ → List ℕ → ℕ → ℕ
 differing_of kept segment n = count_below (λ i. not (nat_eq (slice_index kept i) (slice_index segment i))) n

@@ -1,5 +1,5 @@
 -- Only for proofs. The pages of a stream and the bytes in them.
-use Rattle.std.specs.Prelude.{◌≡◌, ℕ, ◌+◌, ◌-◌, ◌/◌, ◌%◌, ◌<◌, ◌≤◌, not, ◌&&◌, nat_le, nat_lt, nat_eq, List, [], length, Option, Some, None, slice_index, if◌then◌else◌}
+use Rattle.std.specs.Prelude.{◌≡◌, ℕ, ◌+◌, ◌-◌, ◌/◌, ◌%◌, ◌<◌, ◌≤◌, ◌^◌, not, ◌&&◌, nat_le, nat_lt, nat_eq, List, [], length, vec_len, Option, Some, None, slice_index, if◌then◌else◌}
 use Rattle.std.specs.declared.vec.Vec.{Vec}
 use Rattle.slab.specs.Slab.{get, ContainsKey}
 use Rattle.reassembly.specs.declared.answers.Policy.{Policy}
@@ -7,7 +7,7 @@ use Rattle.reassembly.specs.declared.laying.Judged.{Judged}
 use Rattle.reassembly.specs.declared.runs.Run.{Run}
 use Rattle.reassembly.specs.declared.pages.Pages.{Pages}
 use Rattle.reassembly.specs.Segment.{is_last, count_below}
-use Rattle.reassembly.specs.Runs.{is_covered}
+use Rattle.reassembly.specs.Runs.{is_covered, AreOrdered}
 
 -- the bytes of a page, none where there is no page
 abbrev pub bytes_of : {A : Type 0} → Option (Vec ℕ A) → List ℕ
@@ -33,6 +33,40 @@ IsReady s low high = (p : ℕ) → low ≤ p → p < high → IsHeld s p
 pub record IsKeyed (s : Pages) : Type 0 where
   pub present : (k : ℕ) → k < length s.keys.items → ContainsKey s.slab (slice_index s.keys.items k)
   pub apart : (j k : ℕ) → j < length s.keys.items → k < length s.keys.items → slice_index s.keys.items j ≡ slice_index s.keys.items k → j ≡ k
+
+-- there is no page
+pub record HasNoPages (s : Pages) : Type 0 where
+  pub keyed : IsKeyed s
+  pub none : vec_len s.keys ≡ 0
+
+-- there is a k-th page
+pub record HasPage (s : Pages) (k : ℕ) : Type 0 where
+  pub keyed : IsKeyed s
+  pub within : k < vec_len s.keys
+
+-- low lies in the pages, or where they end
+pub record ReachTo (s : Pages) (low : ℕ) : Type 0 where
+  pub keyed : IsKeyed s
+  pub from : s.base ≤ low
+  pub within : (low - s.base) / 2048 ≤ vec_len s.keys
+
+-- the n positions from low on are held
+pub record HasPlaces (s : Pages) (low n : ℕ) : Type 0 where
+  pub keyed : IsKeyed s
+  pub from : s.base ≤ low
+  pub ready : IsReady s low (low + n)
+  pub reach : low + n < 2 ^ 64
+
+-- they lie in one page
+pub record AreInPage (s : Pages) (low n : ℕ) : Type 0 where
+  pub some : 1 ≤ n
+  pub within : (low - s.base) % 2048 + n ≤ 2048
+
+-- empty pages were added
+pub record IsExtended (old new : Pages) : Type 0 where
+  pub keyed : IsKeyed new
+  pub base : new.base ≡ old.base
+  pub pages : (k : ℕ) → page_at new k ≡ page_at old k
 
 -- the k-th page alone may have changed
 pub record IsChangedAt (old new : Pages) (k : ℕ) : Type 0 where
@@ -76,6 +110,18 @@ tally_in s runs low bytes n = record {
   old = count_below (λ i. is_covered runs (low + i)) n;
   differ = count_below (λ i. is_covered runs (low + i) && not (nat_eq (byte_of s (low + i)) (slice_index bytes i))) n;
 }
+
+-- bytes may be laid from low on
+pub record CanLay (s : Pages) (runs : List Run) (low : ℕ) (bytes : List ℕ) : Type 0 where
+  pub places : HasPlaces s low (length bytes)
+  pub ordered : AreOrdered runs
+  pub short : length bytes ≤ 65535
+
+-- they were laid and judged
+pub record IsLaidOver (old new : Pages) (runs : List Run) (low : ℕ) (policy : Policy) (bytes : List ℕ) (tally : Judged) : Type 0 where
+  pub place : IsSamePlace old new
+  pub laid : AreLaid old new runs low policy bytes
+  pub judged : tally ≡ tally_in old runs low bytes (length bytes)
 
 -- how many of the first n bytes differ from those that are held
 abbrev pub differing_in : Pages → ℕ → List ℕ → ℕ → ℕ

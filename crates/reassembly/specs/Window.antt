@@ -1,5 +1,5 @@
 -- Only for proofs. The buffer of a stream and what it holds.
-use Rattle.std.specs.Prelude.{◌≡◌, ℕ, ◌+◌, ◌-◌, ◌<◌, ◌≤◌, Bool, max, not, ◌&&◌, nat_le, nat_eq, true, List, [], ◌∷◌, length, map, Option, Some, None, is_some, slice_index, if◌then◌else◌}
+use Rattle.std.specs.Prelude.{◌≡◌, ℕ, ◌+◌, ◌-◌, ◌<◌, ◌≤◌, ◌^◌, Bool, max, not, ◌&&◌, nat_le, nat_eq, true, List, [], ◌∷◌, length, map, Option, Some, None, is_some, slice_index, if◌then◌else◌}
 use Rattle.std.specs.List.{range_with_len}
 use Rattle.reassembly.specs.declared.answers.Policy.{Policy}
 use Rattle.reassembly.specs.declared.laying.Judged.{Judged}
@@ -51,6 +51,27 @@ pub record IsSized (w : Window) (rbuf : ℕ) : Type 0 where
   pub kept : w.bytes.base ≤ w.next - rbuf
   pub stale : w.next - rbuf < w.bytes.base + 2048
   pub span : AreWithin (runs_of w.runs) (w.next + rbuf)
+
+-- what is kept of it can be found
+pub record IsKept (w : Window) (rbuf : ℕ) : Type 0 where
+  pub laid : IsLaid w
+  pub least : 1 ≤ rbuf
+
+-- it has all of the n positions from p on
+pub record CanCopy (w : Window) (p n : ℕ) : Type 0 where
+  pub laid : IsLaid w
+  pub from : w.bytes.base ≤ p
+  pub some : 0 < n
+  pub accepted : (q : ℕ) → p ≤ q → q < p + n → accepts w q ≡ true
+  pub reach : p + n < 2 ^ 64
+
+-- a segment from q on can be placed
+pub record IsReadyFor (w : Window) (q : ℕ) (segment : List ℕ) (rbuf : ℕ) : Type 0 where
+  pub laid : IsLaid w
+  pub sized : IsSized w rbuf
+  pub short : length segment ≤ 65535
+  pub start : q + 65535 < 2 ^ 63
+  pub end : w.next + rbuf < 2 ^ 63
 
 -- nothing is accepted at the limit or past it
 pub record IsBounded (w : Window) (limit : ℕ) : Type 0 where

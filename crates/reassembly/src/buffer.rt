@@ -4,7 +4,7 @@ ghost use Rattle.std.specs.Prelude.{◌≡◌, ℕ, ◌+◌, ◌-◌, ◌<◌, �
 ghost use Rattle.reassembly.specs.Runs.{KeepsBounds};
 ghost use Rattle.reassembly.specs.Laying.{HasBytes};
 ghost use Rattle.reassembly.specs.Steps.{StepsTo, counts_viewed};
-ghost use Rattle.reassembly.specs.Window.{view_of, byte_at, accepts, IsLaid, IsSized, IsBounded, IsSameWindow};
+ghost use Rattle.reassembly.specs.Window.{view_of, byte_at, accepts, IsLaid, IsKept, CanCopy, IsReadyFor, IsSized, IsBounded, IsSameWindow};
 ghost use Rattle.reassembly.specs.Buffer.{in_order, holed, differing_from, TakesAll};
 
 use crate::holed::Holed;
@@ -97,11 +97,9 @@ fn append(
     limit: u64,
     rbuf: u32,
 ) -> Result<Placed, AllocError>
-    requires laid { IsLaid (in_order bytes.old) }
-    requires sized { IsSized (in_order bytes.old) rbuf }
+    requires ready { IsReadyFor (in_order bytes.old) start segment.now rbuf }
     requires order { length bytes.old.items ≤ limit }
     requires window { limit ≤ length bytes.old.items + rbuf }
-    requires short { length segment.now ≤ 65535 }
     requires from { start ≤ length bytes.old.items }
     requires page { start + min (limit - start) (length segment.now) ≤ 2048 }
     ensures err { OnErr result (bytes.new.items ≡ bytes.old.items) }
@@ -208,12 +206,9 @@ impl Buffer {
         limit: u64,
         rbuf: u32,
     ) -> Result<Placed, AllocError>
-        requires laid { IsLaid (window_of self.old) }
-        requires sized { IsSized (window_of self.old) rbuf }
+        requires ready { IsReadyFor (window_of self.old) start segment.now rbuf }
         requires order { (window_of self.old).next ≤ limit }
         requires window { limit ≤ (window_of self.old).next + rbuf }
-        requires short { length segment.now ≤ 65535 }
-        requires reach { (start + 65535 < 2 ^ 63) × ((window_of self.old).next + rbuf < 2 ^ 63) }
         ensures err { OnErr result (IsSameWindow (window_of self.old) (window_of self.new)) }
         ensures laid { OnOk result (IsLaid (window_of self.new)) }
         ensures sized { OnOk result (IsSized (window_of self.new) rbuf) }
@@ -289,8 +284,7 @@ impl Buffer {
 
     /// The first kept position at or above `position`, if there is one.
     pub fn first_kept(&self, position: u64, rbuf: u32) -> Option<u64>
-        requires laid { IsLaid (window_of self.now) }
-        requires least { 1 ≤ rbuf }
+        requires { IsKept (window_of self.now) rbuf }
         ensures { IsFirstKept (kept_at (window_of self.now) rbuf) position result }
     {
         match self {
@@ -308,12 +302,7 @@ impl Buffer {
 
     /// Copies the bytes from `position` on, which are accepted and which the buffer still has, and fills `buf`.
     pub fn copy(&self, position: u64, buf: &mut [u8])
-        requires laid { IsLaid (window_of self.now) }
-        requires from { (window_of self.now).bytes.base ≤ position }
-        requires some { 0 < length buf.old }
-        requires accepted { (p : ℕ) → position ≤ p → p < position + length buf.old
-            → accepts (window_of self.now) p ≡ true }
-        requires reach { position + length buf.old < 2 ^ 64 }
+        requires { CanCopy (window_of self.now) position (length buf.old) }
         ensures { HasBytes buf.new (length buf.old) (λ i. byte_at (window_of self.now) (position + i)) }
     {
         match self {

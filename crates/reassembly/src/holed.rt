@@ -3,7 +3,7 @@
 ghost use Rattle.std.specs.Prelude.{◌≡◌, ℕ, ◌+◌, ◌<◌, ◌≤◌, ◌^◌, length, true, Option, OnErr, IfOk, IsTrue, IsFalse, ◌↔◌};
 ghost use Rattle.reassembly.specs.Kept.{IsRunEnd, IsFirstKept};
 ghost use Rattle.reassembly.specs.Laying.{HasBytes};
-ghost use Rattle.reassembly.specs.Window.{byte_at, kept_at, accepts, IsLaid, IsBounded, IsSameWindow};
+ghost use Rattle.reassembly.specs.Window.{byte_at, kept_at, accepts, IsLaid, IsKept, CanCopy, IsBounded, IsSameWindow};
 ghost use Rattle.reassembly.specs.Buffer.{in_order, holed, FillsHole, TakesAll};
 
 use crate::window::Window;
@@ -86,8 +86,7 @@ impl Holed {
 
     /// The first kept position at or above `position`, if there is one.
     pub fn first_kept(&self, position: u64, rbuf: u32) -> Option<u64>
-        requires laid { IsLaid (holed self.now) }
-        requires least { 1 ≤ rbuf }
+        requires { IsKept (holed self.now) rbuf }
         ensures { IsFirstKept (kept_at (holed self.now) rbuf) position result }
     {
         let next = u64::from(self.next);
@@ -102,11 +101,7 @@ impl Holed {
 
     /// Copies the bytes from `position` on, which are accepted, and fills `buf`.
     pub fn copy(&self, position: u64, buf: &mut [u8])
-        requires laid { IsLaid (holed self.now) }
-        requires some { 0 < length buf.old }
-        requires accepted { (p : ℕ) → position ≤ p → p < position + length buf.old
-            → accepts (holed self.now) p ≡ true }
-        requires reach { position + length buf.old < 2 ^ 64 }
+        requires { CanCopy (holed self.now) position (length buf.old) }
         ensures { HasBytes buf.new (length buf.old) (λ i. byte_at (holed self.now) (position + i)) }
     {
         let from = position as usize;

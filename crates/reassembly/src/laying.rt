@@ -3,7 +3,7 @@
 ghost use Rattle.std.specs.Prelude.{◌≡◌, ◌+◌, ◌<◌, ◌≤◌, ◌&&◌, ◌^◌, not, length, if◌then◌else◌};
 ghost use Rattle.reassembly.specs.Segment.{is_last};
 ghost use Rattle.reassembly.specs.Runs.{AreOrdered, IsCursor};
-ghost use Rattle.reassembly.specs.Laying.{HasBytes, differing_of, laid_byte, tally_of, tally_of_stretch, tally_sum, IsStretch};
+ghost use Rattle.reassembly.specs.Laying.{AreBeside, HasBytes, differing_of, laid_byte, tally_of, tally_of_stretch, tally_sum, IsStretch};
 
 use crate::Policy;
 use crate::runs::{Run, ended_by};
@@ -26,8 +26,7 @@ pub struct Stretch {
 
 /// How many bytes of the segment differ from the kept ones.
 pub fn differing(kept: &[u8], segment: &[u8]) -> u32
-    requires length { length kept.now ≡ length segment.now }
-    requires short { length segment.now ≤ 65535 }
+    requires { AreBeside kept.now segment.now }
     ensures value { result ≡ differing_of kept.now segment.now (length segment.now) }
     ensures bound { result ≤ length segment.now }
 {
@@ -79,8 +78,7 @@ fn next_stretch(runs: &[Run], cursor: usize, from: u64, stop: u64) -> Stretch
 
 // Lays one stretch: bytes at empty cells are copied, and others compared, and replaced where the last byte stays.
 fn lay_stretch(cells: &mut [u8], segment: &[u8], policy: Policy, is_old: bool) -> Judged
-    requires length { length cells.old ≡ length segment.now }
-    requires short { length segment.now ≤ 65535 }
+    requires { AreBeside cells.old segment.now }
     ensures cells { cells.new ≡ (if is_old && not (is_last policy) then cells.old else segment.now) }
     ensures tally { result ≡ tally_of_stretch is_old cells.old segment.now }
 {
@@ -121,8 +119,7 @@ pub fn added(a: Judged, b: Judged) -> Judged
 /// Lays the segment over the cells from position `start` on: one search among the runs, and then one step a stretch.
 pub fn lay(cells: &mut [u8], runs: &[Run], start: u64, segment: &[u8], policy: Policy) -> Judged
     requires ordered { AreOrdered runs.now }
-    requires length { length cells.old ≡ length segment.now }
-    requires short { length segment.now ≤ 65535 }
+    requires beside { AreBeside cells.old segment.now }
     requires reach { start + length segment.now < 2 ^ 64 }
     ensures cells { HasBytes cells.new (length segment.now) (laid_byte runs.now start policy cells.old segment.now) }
     ensures tally { result ≡ tally_of runs.now start cells.old segment.now (length segment.now) }

@@ -2,7 +2,6 @@
 //! and the last of these becomes the next page.
 
 ghost use Rattle.std.specs.Prelude.{◌≡◌, ℕ, ◌+◌, ◌-◌, ◌*◌, ◌/◌, ◌%◌, ◌<◌, ◌≤◌, ◌^◌, ◌⊎◌, ◌++◌, [], length, min, vec_len, OnOk, OnErr, IsTrue, is_ok, if◌then◌else◌};
-ghost use Rattle.reassembly.specs.Runs.{AreOrdered};
 ghost use Rattle.reassembly.specs.Laying.{HasBytes, HasSameBytes};
 
 use crate::Policy;
@@ -65,13 +64,12 @@ fn add_behind(page: &mut Vec<u8>, bytes: &[u8]) -> Result<(), AllocError>
 }
 
 impl Pages {
-    ghost use Rattle.reassembly.specs.Pages.{page_at, byte_of, IsHeld, IsReady, IsKeyed, IsGrown, IsChangedAt, IsSamePlace, AreLaid, AreAppended, tally_in, differing_in};
+    ghost use Rattle.reassembly.specs.Pages.{page_at, byte_of, IsHeld, IsReady, IsKeyed, HasNoPages, HasPage, ReachTo, HasPlaces, AreInPage, IsExtended, IsGrown, IsChangedAt, IsSamePlace, CanLay, IsLaidOver, AreAppended, differing_in};
 
     /// No pages. It takes no memory.
     pub fn new(alloc: Global) -> Self
-        ensures keyed { IsKeyed result }
         ensures base { result.base ≡ 0 }
-        ensures empty { vec_len result.keys ≡ 0 }
+        ensures none { HasNoPages result }
     {
         Pages {
             base: 0,
@@ -85,9 +83,7 @@ impl Pages {
     // Adds an empty page behind the others. The first one asks room for itself alone: most streams have no other.
     fn add(&mut self) -> Result<(), AllocError>
         requires { IsKeyed self.old }
-        ensures keyed { IsKeyed self.new }
-        ensures base { self.new.base ≡ self.old.base }
-        ensures pages { (k : ℕ) → page_at self.new k ≡ page_at self.old k }
+        ensures extended { IsExtended self.old self.new }
         ensures rises { vec_len self.old.keys ≤ vec_len self.new.keys }
         ensures count { OnOk result (vec_len self.new.keys ≡ vec_len self.old.keys + 1) }
     {
@@ -105,8 +101,7 @@ impl Pages {
 
     /// Makes the bytes its first page, and leaves none. Where memory is refused, they stay.
     pub fn begin(&mut self, bytes: &mut Vec<u8>) -> Result<(), AllocError>
-        requires keyed { IsKeyed self.old }
-        requires none { vec_len self.old.keys ≡ 0 }
+        requires { HasNoPages self.old }
         ensures err { OnErr result (bytes.new ≡ bytes.old) }
         ensures base { OnOk result (self.new.base ≡ self.old.base) }
         ensures keyed { OnOk result (IsKeyed self.new) }
@@ -122,9 +117,7 @@ impl Pages {
     // Adds empty pages until there are `count`.
     fn extend(&mut self, count: usize) -> Result<(), AllocError>
         requires { IsKeyed self.old }
-        ensures keyed { IsKeyed self.new }
-        ensures base { self.new.base ≡ self.old.base }
-        ensures pages { (k : ℕ) → page_at self.new k ≡ page_at self.old k }
+        ensures extended { IsExtended self.old self.new }
         ensures count { OnOk result (count ≤ vec_len self.new.keys) }
     {
         while self.keys.len() < count {
@@ -136,8 +129,7 @@ impl Pages {
     // Makes the page at a place at least `len` bytes long. The first page of a stream grows with what it carries, since
     // most streams have no other. The later ones are whole at once, so that none of their bytes is moved.
     fn stretch(&mut self, place: usize, len: usize) -> Result<(), AllocError>
-        requires keyed { IsKeyed self.old }
-        requires within { place < vec_len self.old.keys }
+        requires there { HasPage self.old place }
         requires page { len ≤ 2048 }
         ensures changed { IsChangedAt self.old self.new place }
         ensures bytes { HasSameBytes (page_at self.old place) (page_at self.new place) }
@@ -170,12 +162,8 @@ impl Pages {
 
     // The `len` bytes from `low` on, which lie in one page.
     fn part(&self, low: u64, len: usize) -> &[u8]
-        requires keyed { IsKeyed self.now }
-        requires from { self.now.base ≤ low }
-        requires some { 1 ≤ len }
-        requires within { (low - self.now.base) % 2048 + len ≤ 2048 }
-        requires ready { IsReady self.now low (low + len) }
-        requires reach { low + len < 2 ^ 64 }
+        requires places { HasPlaces self.now low len }
+        requires page { AreInPage self.now low len }
         ensures len { length result.now ≡ len }
         ensures bytes { HasBytes result.now len (λ i. byte_of self.now (low + i)) }
     {
@@ -187,16 +175,9 @@ impl Pages {
 
     // Lays bytes from `low` on, which lie in one page.
     fn lay_part(&mut self, runs: &[Run], low: u64, bytes: &[u8], policy: Policy) -> Judged
-        requires keyed { IsKeyed self.old }
-        requires ordered { AreOrdered runs.now }
-        requires from { self.old.base ≤ low }
-        requires some { 1 ≤ length bytes.now }
-        requires within { (low - self.old.base) % 2048 + length bytes.now ≤ 2048 }
-        requires ready { IsReady self.old low (low + length bytes.now) }
-        requires reach { low + length bytes.now < 2 ^ 63 }
-        ensures place { IsSamePlace self.old self.new }
-        ensures bytes { AreLaid self.old self.new runs.now low policy bytes.now }
-        ensures tally { result ≡ tally_in self.old runs.now low bytes.now (length bytes.now) }
+        requires places { CanLay self.old runs.now low bytes.now }
+        requires page { AreInPage self.old low (length bytes.now) }
+        ensures { IsLaidOver self.old self.new runs.now low policy bytes.now result }
     {
         let offset = (low - self.base) as usize;
         let from = offset % PAGE;
@@ -213,15 +194,8 @@ impl Pages {
 
     /// Lays bytes from `low` on, whose memory is there, page by page.
     pub fn lay(&mut self, runs: &[Run], low: u64, bytes: &[u8], policy: Policy) -> Judged
-        requires keyed { IsKeyed self.old }
-        requires ordered { AreOrdered runs.now }
-        requires from { self.old.base ≤ low }
-        requires ready { IsReady self.old low (low + length bytes.now) }
-        requires short { length bytes.now ≤ 65535 }
-        requires reach { low + length bytes.now < 2 ^ 63 }
-        ensures place { IsSamePlace self.old self.new }
-        ensures bytes { AreLaid self.old self.new runs.now low policy bytes.now }
-        ensures tally { result ≡ tally_in self.old runs.now low bytes.now (length bytes.now) }
+        requires { CanLay self.old runs.now low bytes.now }
+        ensures { IsLaidOver self.old self.new runs.now low policy bytes.now result }
     {
         let mut tally = Judged {
             new: 0,
@@ -257,8 +231,7 @@ impl Pages {
 
     // Adds bytes behind those of a page, which is made whole where it lacks room.
     fn lengthen_by(&mut self, place: usize, bytes: &[u8]) -> Result<(), AllocError>
-        requires keyed { IsKeyed self.old }
-        requires within { place < vec_len self.old.keys }
+        requires there { HasPage self.old place }
         requires fits { length (page_at self.old place) + length bytes.now ≤ 2048 }
         ensures changed { IsChangedAt self.old self.new place }
         ensures page { page_at self.new place
@@ -292,11 +265,8 @@ impl Pages {
 
     /// How many of the bytes from `low` on, whose positions are held, differ from those that are held.
     pub fn differing(&self, low: u64, bytes: &[u8]) -> u32
-        requires keyed { IsKeyed self.now }
-        requires from { self.now.base ≤ low }
-        requires ready { IsReady self.now low (low + length bytes.now) }
+        requires places { HasPlaces self.now low (length bytes.now) }
         requires short { length bytes.now ≤ 65535 }
-        requires reach { low + length bytes.now < 2 ^ 64 }
         ensures value { result ≡ differing_in self.now low bytes.now (length bytes.now) }
         ensures bound { result ≤ length bytes.now }
     {
@@ -314,10 +284,7 @@ impl Pages {
 
     /// Copies the bytes from `low` on, which are held, and fills `buf`.
     pub fn copy(&self, low: u64, buf: &mut [u8])
-        requires keyed { IsKeyed self.now }
-        requires from { self.now.base ≤ low }
-        requires ready { IsReady self.now low (low + length buf.old) }
-        requires reach { low + length buf.old < 2 ^ 64 }
+        requires { HasPlaces self.now low (length buf.old) }
         ensures { HasBytes buf.new (length buf.old) (λ i. byte_of self.now (low + i)) }
     {
         let mut done = 0;
@@ -331,8 +298,7 @@ impl Pages {
 
     // Gives the first page back.
     fn give_back(&mut self)
-        requires keyed { IsKeyed self.old }
-        requires some { 1 ≤ vec_len self.old.keys }
+        requires there { HasPage self.old 0 }
         requires reach { self.old.base < 2 ^ 63 }
         ensures keyed { IsKeyed self.new }
         ensures base { self.new.base ≡ self.old.base + 2048 }
@@ -346,9 +312,7 @@ impl Pages {
 
     /// Gives each page back that lies below `low`.
     pub fn forget(&mut self, low: u64)
-        requires keyed { IsKeyed self.old }
-        requires from { self.old.base ≤ low }
-        requires within { (low - self.old.base) / 2048 ≤ vec_len self.old.keys }
+        requires reaches { ReachTo self.old low }
         requires reach { low < 2 ^ 63 }
         ensures keyed { IsKeyed self.new }
         ensures low { (self.old.base ≤ self.new.base) × (self.new.base ≤ low) × (low < self.new.base + 2048) }

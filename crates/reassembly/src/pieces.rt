@@ -1,6 +1,6 @@
 //! The longest runs of kept positions in a range, in order.
 
-ghost use Rattle.std.specs.Prelude.{◌≡◌, ◌≤◌};
+ghost use Rattle.std.specs.Prelude.{◌≡◌};
 ghost use Rattle.std.specs.Iterator.{YieldsFirst, item_count};
 
 use crate::buffer::Buffer;
@@ -17,27 +17,26 @@ pub struct Pieces<'a> {
 }
 
 impl<'a> Model for Pieces<'a> {
-    ghost use Rattle.std.specs.Prelude.{ℕ, ◌≤◌, List};
+    ghost use Rattle.std.specs.Prelude.{ℕ, List};
     ghost use Rattle.reassembly.specs.Kept.{runs_from};
     ghost use Rattle.reassembly.specs.Buffer.{window_of};
-    ghost use Rattle.reassembly.specs.Window.{kept_at, IsLaid};
+    ghost use Rattle.reassembly.specs.Window.{kept_at, IsKept};
 
     ghost Value = { List (ℕ × ℕ) };
 
     ghost view = { λ p. runs_from (kept_at (window_of p.buffer.now) p.rbuf) p.place p.left };
 
-    ghost invariant = { λ p. IsLaid (window_of p.buffer.now) × (1 ≤ p.rbuf) };
+    ghost invariant = { λ p. IsKept (window_of p.buffer.now) p.rbuf };
 }
 
 impl<'a> Pieces<'a> {
     ghost use Rattle.reassembly.specs.Kept.{runs_from};
     ghost use Rattle.reassembly.specs.Buffer.{window_of};
-    ghost use Rattle.reassembly.specs.Window.{kept_at, IsLaid};
+    ghost use Rattle.reassembly.specs.Window.{kept_at, IsKept};
 
     /// The runs among the `len` positions from `position` on.
     pub(crate) fn new(buffer: &'a Buffer, rbuf: u32, position: u64, len: u32) -> Self
-        requires laid { IsLaid (window_of buffer.now) }
-        requires least { 1 ≤ rbuf }
+        requires { IsKept (window_of buffer.now) rbuf }
         ensures { result ≡ runs_from (kept_at (window_of buffer.now) rbuf) position len }
     {
         Pieces {

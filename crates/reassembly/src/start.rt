@@ -1,6 +1,7 @@
 //! Where a segment begins, and where what is accepted ends.
 
-ghost use Rattle.std.specs.Prelude.{◌≡◌, ◌+◌, ◌<◌, ◌≤◌, ◌^◌, pos, ◌+ℤ◌, neg_ℤ, ◌≤ℤ◌, ◌<ℤ◌};
+ghost use Rattle.std.specs.Prelude.{◌≡◌, ◌+◌, ◌<◌, ◌≤◌, ◌^◌, pos, ◌+ℤ◌};
+ghost use Rattle.reassembly.specs.Position.{IsNear};
 ghost use Rattle.reassembly.specs.Receiver.{limit_of};
 ghost use Rattle.reassembly.specs.Segment.{from_zero, below_zero};
 
@@ -14,8 +15,7 @@ pub struct Start {
 /// The start of a segment whose first byte stands `d` above `next`.
 pub fn start_of(next: u64, d: i64) -> Start
     requires next { next ≤ 2 ^ 62 }
-    requires from { neg_ℤ (pos (2 ^ 31)) ≤ℤ d }
-    requires to { d <ℤ pos (2 ^ 31) }
+    requires near { IsNear d }
     ensures position { result.position ≡ from_zero (pos next +ℤ d) }
     ensures below { result.below ≡ below_zero (pos next +ℤ d) }
     ensures reach { result.position < 2 ^ 62 + 2 ^ 31 }

@@ -1,9 +1,9 @@
 //! A window: the bytes of a stream in pages, of which those below `next` and those in a run are accepted.
 
-ghost use Rattle.std.specs.Prelude.{◌≡◌, ℕ, ◌+◌, ◌-◌, ◌<◌, ◌≤◌, ◌^◌, ◌⊎◌, [], length, min, vec_len, true, OnOk, OnErr, IfOk, Option, IsTrue, IsFalse};
+ghost use Rattle.std.specs.Prelude.{◌≡◌, ℕ, ◌+◌, ◌-◌, ◌<◌, ◌≤◌, ◌^◌, ◌⊎◌, [], length, min, true, OnOk, OnErr, IfOk, Option, IsTrue, IsFalse};
 ghost use Rattle.reassembly.specs.Runs.{AreOrdered, AreAbove, Gains, KeepsBounds};
 ghost use Rattle.reassembly.specs.Laying.{HasBytes};
-ghost use Rattle.reassembly.specs.Pages.{IsHeld, IsReady, IsGrown, tally_in};
+ghost use Rattle.reassembly.specs.Pages.{HasNoPages, IsHeld, IsReady, IsGrown, tally_in};
 ghost use Rattle.reassembly.specs.Waiting.{runs_of, IsMet};
 
 use crate::laying::Judged;
@@ -30,13 +30,13 @@ pub fn count_under(position: u64, start: u64, len: usize) -> usize
 impl Window {
     ghost use Rattle.reassembly.specs.Steps.{StepsTo, counts_viewed};
     ghost use Rattle.reassembly.specs.Kept.{IsRunEnd, IsFirstKept};
-    ghost use Rattle.reassembly.specs.Window.{view_of, kept_at, byte_at, accepts, IsLaid, IsSized, IsBounded, IsSameWindow, taken_tally, AreTaken, AreAgain, HaveAccepted, differing_below};
+    ghost use Rattle.reassembly.specs.Window.{view_of, kept_at, byte_at, accepts, IsLaid, IsKept, CanCopy, IsReadyFor, IsSized, IsBounded, IsSameWindow, taken_tally, AreTaken, AreAgain, HaveAccepted, differing_below};
 
     /// A window with nothing in it. It takes no memory.
     pub fn new(alloc: Global) -> Self
         ensures laid { IsLaid result }
         ensures empty { (result.bytes.base ≡ 0) × (result.next ≡ 0) × (runs_of result.runs ≡ []) }
-        ensures pages { vec_len result.bytes.keys ≡ 0 }
+        ensures pages { HasNoPages result.bytes }
     {
         Window {
             next: 0,
@@ -225,12 +225,9 @@ impl Window {
         limit: u64,
         rbuf: u32,
     ) -> Result<Placed, AllocError>
-        requires laid { IsLaid self.old }
-        requires sized { IsSized self.old rbuf }
+        requires ready { IsReadyFor self.old start segment.now rbuf }
         requires order { self.old.next ≤ limit }
         requires window { limit ≤ self.old.next + rbuf }
-        requires short { length segment.now ≤ 65535 }
-        requires reach { (start + 65535 < 2 ^ 63) × (self.old.next + rbuf < 2 ^ 63) }
         ensures err { OnErr result (IsSameWindow self.old self.new) }
         ensures laid { OnOk result (IsLaid self.new) }
         ensures sized { OnOk result (IsSized self.new rbuf) }
@@ -286,8 +283,7 @@ impl Window {
 
     /// The first kept position at or above `position`, if there is one.
     pub fn first_kept(&self, position: u64, rbuf: u32) -> Option<u64>
-        requires laid { IsLaid self.now }
-        requires least { 1 ≤ rbuf }
+        requires { IsKept self.now rbuf }
         ensures { IsFirstKept (kept_at self.now rbuf) position result }
     {
         let low = self.next.saturating_sub(u64::from(rbuf));
@@ -305,11 +301,7 @@ impl Window {
 
     /// Copies the bytes from `position` on, which are accepted and which the window still has, and fills `buf`.
     pub fn copy(&self, position: u64, buf: &mut [u8])
-        requires laid { IsLaid self.now }
-        requires from { self.now.bytes.base ≤ position }
-        requires accepted { (p : ℕ) → position ≤ p → p < position + length buf.old
-            → accepts self.now p ≡ true }
-        requires reach { position + length buf.old < 2 ^ 64 }
+        requires { CanCopy self.now position (length buf.old) }
         ensures { HasBytes buf.new (length buf.old) (λ i. byte_at self.now (position + i)) }
     {
         self.bytes.copy(position, buf);

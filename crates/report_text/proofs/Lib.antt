@@ -15,3 +15,4 @@ pub mod ReadFault
 pub mod ReadLaws
 pub mod ShortLines
 pub mod FirstPlace
+pub mod Fitting

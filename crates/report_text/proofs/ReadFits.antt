@@ -90,7 +90,7 @@ v6-fits t =
 endpoint-fits : (t : List ℕ) → endpoint_fits (endpoint_of t) ≡ true
 endpoint-fits t = of_if (λ e. endpoint_fits e ≡ true) (is_v6 t) (v6_of t) (v4_of t) (v6-fits t) (v4-fits t)
 
-bytes-test : (bs : List ℕ) → IsBytes bs → are_bytes bs ≡ true
+pub bytes-test : (bs : List ℕ) → IsBytes bs → are_bytes bs ≡ true
 bytes-test [] h = refl
 bytes-test (b ∷ bs) h = both (is_u8 b) (are_bytes bs) (within b (2 ^ 8) (h 0)) (bytes-test bs (λ i. h (suc i)))
 

@@ -1,5 +1,5 @@
 -- Not of the headline. Which numbers and bytes values of the records' types have. A definition on numbers speaks of records that no value is.
-use Rattle.std.specs.Prelude.{ℕ, ◌^◌, ◌&&◌, Bool, true, List, nat_lt}
+use Rattle.std.specs.Prelude.{ℕ, ◌^◌, ◌&&◌, Bool, true, List, nat_lt, IsTrue}
 use Rattle.std.specs.List.{list_all}
 use Rattle.flow_table.specs.declared.endpoint.Endpoint.{Endpoint}
 use Rattle.flow_table.specs.declared.endpoint.Endpoint.TheVariants.{V4, V6}
@@ -37,10 +37,13 @@ abbrev pub kind_fits : RecordKind → Bool
 kind_fits (Conn client server) = endpoint_fits client && endpoint_fits server
 kind_fits (Orphan class) = true
 
+abbrev pub piece_fits : ℕ × List ℕ → Bool
+piece_fits piece = is_u64 piece.0 && are_bytes piece.1
+
 abbrev pub seen_fits : Seen → Bool
 seen_fits Nothing = true
 seen_fits (Next at missed bytes) = is_u64 at && is_u64 missed && are_bytes bytes
-seen_fits (At off pieces) = is_u64 off && list_all (λ piece. is_u64 piece.0 && are_bytes piece.1) pieces
+seen_fits (At off pieces) = is_u64 off && list_all piece_fits pieces
 
 abbrev pub entry_fits : Entry → Bool
 entry_fits e = is_u64 e.index && is_u16 e.event && is_u8 e.reg && seen_fits e.seen
@@ -62,3 +65,8 @@ record_fits r =
 
 abbrev pub totals_fit : Totals → Bool
 totals_fit t = is_u64 t.packets && is_u64 t.records && is_u64 t.callbacks && is_u64 t.drops && is_u32 t.tail
+
+-- these records and totals are such as the types of their numbers and bytes have
+pub record HaveTypes (records : List Record) (totals : Totals) : Type 0 where
+  pub records_fit : IsTrue (list_all record_fits records)
+  pub counts_fit : IsTrue (totals_fit totals)

@@ -15,6 +15,7 @@ mod kept;
 pub mod laws;
 mod lines;
 mod newline;
+mod ranges;
 mod read;
 mod record;
 mod short;

@@ -4,6 +4,7 @@ ghost use Rattle.std.specs.Prelude.{◌≡◌, IsErrOf, IsTrue, flat_map};
 ghost use Rattle.mos_bytes.specs.Causes.{HasCauseOf};
 ghost use Rattle.callback_log.specs.Walk.{entry_lent};
 ghost use Rattle.report_text.specs.Lines.{head_line, callback_line, drop_line, field_line, totals_line};
+ghost use Rattle.report_text.specs.Ranges.{totals_fit};
 ghost use Rattle.report_text.specs.Report.{rest_text, record_text, records_text, report_text};
 ghost use Rattle.report_text.specs.Tidy.{are_named, is_tidy_record, tidy};
 ghost use Rattle.report_text.specs.Written.{Adds};
@@ -12,6 +13,7 @@ ghost use Rattle.app_api.specs.App.{is_field_name};
 
 use crate::backward::BackwardLine;
 use crate::lines::{push_callback, push_field, push_totals};
+use crate::ranges::totals_fit;
 use crate::record::{Record, RecordKind, Totals};
 use crate::short::ShortLine;
 use app_api::{Bytes, Entry, Reason};
@@ -262,7 +264,9 @@ pub fn write_totals<O: Sink>(alloc: Global, out: &mut O, totals: &Totals) -> Res
     ensures text { Adds O.Sink out.old out.new result (totals_line totals.now) }
     ensures cause { HasCauseOf (O.faults out.old) (O.faults out.new) (IsErrOf result TextError.WriteFault) }
     ensures lasts { O.lasting out.new ≡ O.lasting out.old }
+    ensures fits { IsTrue (totals_fit totals.now) }
 {
+    totals_fit(totals);
     let mut line = String::new(alloc);
     push_totals(&mut line, totals)?;
     out.write_all(line.as_bytes())?;

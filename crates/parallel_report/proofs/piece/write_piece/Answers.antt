@@ -4,6 +4,7 @@ use Rattle.std.proofs.KnownBytes.{Appends-trans}
 use Rattle.mos_bytes.specs.Writes.{AppendsFront}
 use Rattle.mos_bytes.proofs.Writes.{AppendsFront-after, AppendsFront-more}
 use Rattle.mos_bytes.proofs.Writing.{WriteAdds-err}
+use Rattle.parallel_report.proofs.Fitting.{fit-cut}
 use Rattle.parallel_report.proofs.Lines.{lines-made}
 use Rattle.parallel_report.proofs.piece.write_piece.Goals as goal
 
@@ -35,3 +36,10 @@ returns-clause-text g c =
     let next = lines-made app records c.made_by-made.result c.deref.result.now _ made c.deref.ensures.value c.split_at.ensures.back in
     subst (Appends (g.O.Sink.taken c.args.out.now) (g.O.Sink.taken c.write_all_kept.new.out)) (sym next)
     (Appends-trans _ _ _ _ _ c.in_ok-write_lines.ensures.text c.in_ok-write_all_kept.ensures.text)
+
+pub returns-clause-fits : goal.returns-clause-fits
+returns-clause-fits g c done =
+    let app = g.A.App.meaning c.args.app.now in
+    let records = c.args.piece.records.now in
+    let made = c.made_by-made.ensures app records c.requires.piece in
+    fit-cut app c.made_by-made.result.done records _ c.split_at.ensures.back made.fit (c.in_ok-write_all_kept.ensures.fits refl)

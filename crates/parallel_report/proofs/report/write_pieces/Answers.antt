@@ -1,8 +1,9 @@
-use Rattle.std.proofs.Common.{◌≡◌, ◌++◌, ap, arith, length, subst, sym, ◌∙◌}
+use Rattle.std.proofs.Common.{◌≡◌, ◌++◌, ap, arith, length, refl, subst, sym, ◌∙◌}
 use Rattle.std.proofs.lemmas.List.{nil_from_length}
 use Rattle.mos_bytes.proofs.Writes.{AppendsFront-nil}
 use Rattle.mos_bytes.proofs.Writing.{Writing, Writing-done, Writing-failed, Writing-more, WriteAdds-err}
 use Rattle.parallel_report.specs.Pieces.{ArePieces, records_of}
+use Rattle.parallel_report.proofs.Fitting.{fit, fit-first}
 use Rattle.parallel_report.proofs.Lines.{lines}
 use Rattle.parallel_report.proofs.Pieces.{one-more, first-and-others, records-started, lines-first}
 use Rattle.parallel_report.proofs.report.write_pieces.Goals as goal
@@ -26,6 +27,7 @@ loop-left-preserved-then-not-is_empty g c =
       written = subst (λ rs. Writing g.O.Sink.taken g.O.Sink.faults c.args.out.now c.loop-left.out (lines app c.args.records.now) (lines app rs)) (sym same) i.written;
       lasts = i.lasts;
       some = i.some;
+      fit = i.fit ∙ ap (fit app) (sym same);
     }
 
 pub returns-in-None-clause-text : goal.returns-in-None-clause-text
@@ -39,6 +41,17 @@ returns-in-None-clause-text g c =
     Writing-done g.O.Sink.taken g.O.Sink.faults _ _ _ _ c.loop-left.invariant.written
     (ap (λ ps. lines app (records_of ps ++ c.loop-left.left.now)) (nil_from_length c.loop-left.ahead.items none)
     ∙ ap (lines app) (nil_from_length c.loop-left.left.now empty))
+
+pub returns-in-None-clause-fits : goal.returns-in-None-clause-fits
+returns-in-None-clause-fits g c done =
+    let app = g.A.App.meaning c.args.app.now in
+    let none : length c.loop-left.ahead.items ≡ 0 = grind arith in
+    let empty : length c.loop-left.left.now ≡ 0 = elim c.else-len-most.branch [
+      | else-len-most-via-then-len-most+else-not-is_empty w ↦ grind arith
+      | else-len-most-via-else-len-most w ↦ grind arith
+    ] in
+    c.loop-left.invariant.fit ∙ ap (λ ps. fit app (records_of ps ++ c.loop-left.left.now)) (nil_from_length c.loop-left.ahead.items none)
+    ∙ ap (fit app) (nil_from_length c.loop-left.left.now empty)
 
 pub returns-in_err-share-in-Some-clause-text : goal.returns-in_err-share-in-Some-clause-text
 returns-in_err-share-in-Some-clause-text g c =
@@ -57,4 +70,6 @@ loop-left-preserved g c =
       written = Writing-more g.O.Sink.taken g.O.Sink.faults _ _ _ _ _ _ _ i.written next c.in_ok-share-in-Some.ensures.text c.write_piece.ensures.cause.later;
       lasts = c.write_piece.ensures.lasts ∙ i.lasts;
       some = c.in_ok-share-in-Some.ensures.some;
+      fit = fit-first app (fit app c.args.records.now) c.loop-left.ahead.items c.in-Some.piece c.pop_front.new.self.items c.loop-left.left.now
+          c.in-Some.ensures.items i.fit (c.in_ok-share-in-Some.ensures.fits refl);
     }

@@ -2,6 +2,7 @@ use Rattle.std.proofs.Common.{◌≡◌, ◌<◌, ◌≤◌, ◌+◌, ◌*◌, �
 use Rattle.std.specs.VecDeque.{deque_capacity}
 use Rattle.mos_bytes.proofs.Writing.{Writing}
 use Rattle.parallel_report.specs.Pieces.{ArePieces, records_of}
+use Rattle.parallel_report.proofs.Fitting.{fit}
 use Rattle.parallel_report.proofs.Lines.{lines}
 use Rattle.parallel_report.proofs.report.write_pieces.Given as goal
 
@@ -14,6 +15,7 @@ invariant-loop-left g l = record {
       (lines (g.A.App.meaning l.app) (records_of l.ahead.items ++ l.left));
   lasts : g.O.Sink.lasting l.out ≡ g.O.Sink.lasting l.initial.out;
   some : 0 < l.share;
+  fit : fit (g.A.App.meaning l.app) l.records ≡ fit (g.A.App.meaning l.app) (records_of l.ahead.items ++ l.left);
 }
 
 abbrev pub decreases-loop-left : goal.decreases-loop-left

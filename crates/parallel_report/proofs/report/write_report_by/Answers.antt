@@ -1,3 +1,4 @@
+use Rattle.std.proofs.Common.{refl}
 use Rattle.mos_bytes.proofs.Writes.{AppendsFront-more}
 use Rattle.mos_bytes.proofs.Writing.{WriteAdds-after, WriteAdds-err}
 use Rattle.report_text.specs.Report.{report_text}
@@ -11,3 +12,6 @@ returns-in_err-write_records-clause-text g c =
 pub returns-clause-text : goal.returns-clause-text
 unfolding report_text
 returns-clause-text g c = WriteAdds-after _ _ _ _ _ _ c.in_ok-write_records.ensures.text c.write_totals.ensures.text
+
+pub returns-clause-typed : goal.returns-clause-typed
+returns-clause-typed g c done = record { records_fit = c.in_ok-write_records.ensures.fits refl; counts_fit = c.write_totals.ensures.fits }

@@ -8,7 +8,7 @@ use Rattle.pcapng_source.proofs.turns.step.Goals as goal
 pub returns-then-made-gt0-clause-cause : goal.returns-then-made-gt0-clause-cause
 returns-then-made-gt0-clause-cause g c =
     let goes = c.take.ensures.goes in
-    let same : met_at c.give.new.self.stage ≡ met_at c.args.reader.now.stage = ap met_at c.give.ensures.stage ∙ goes.met in
+    let same : met_at c.give.new.self.stage ≡ met_at c.args.reader.now.stage = ap met_at c.give.ensures.stays.stage ∙ goes.met in
     record { later = omega (arith, same); failed = search rules }
 
 pub returns-in_ok-give-in-Give-clause-gives : goal.returns-in_ok-give-in-Give-clause-gives

@@ -6,7 +6,7 @@ appended : (c : goal.In_ok-extend_from_slice)
     → c.extend_from_slice.new.self.items ≡ c.args.bytes.now.items ++ take (c.count_under-within.result - c.count_under-below.result) (drop c.count_under-below.result c.args.segment.now)
     → IsAppended c.args.bytes.now c.extend_from_slice.new.self c.args.limit c.args.start c.args.segment.now c.count_under-below.result c.count_under-within.result
 appended c items = record {
-  old_laid = c.requires.laid;
+  old_laid = c.requires.ready.laid;
   from = c.requires.from;
   order = c.requires.order;
   below = omega arith;

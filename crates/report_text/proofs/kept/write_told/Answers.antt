@@ -3,6 +3,8 @@ use Rattle.app_api.specs.App.{field_shown, is_field_name}
 use Rattle.std.proofs.lemmas.Option.{slice_get_within, get_or_from_slice_get}
 use Rattle.report_text.specs.Lines.{field_line}
 use Rattle.report_text.proofs.Each.{passes-at}
+use Rattle.report_text.specs.Ranges.{field_fits}
+use Rattle.report_text.proofs.Fitting.{all-later, all-none, asked-later, asked-past}
 use Rattle.report_text.proofs.Pieces.{fields-asked, fields-past}
 use Rattle.mos_bytes.proofs.Writing.{Writing-more, Writing-failed, Writing-done, WriteAdds-err}
 use Rattle.report_text.proofs.kept.write_told.Goals as goal
@@ -24,6 +26,8 @@ loop-place-preserved g c =
     (sym c.as_bytes.ensures.value) next in (
       Writing-more g.O.Sink.taken g.O.Sink.faults _ _ _ _ _ _ _ c.loop-place.invariant.0 read c.in_ok-write_field.ensures.text c.write_field.ensures.cause.later,
       c.write_field.ensures.lasts ∙ c.loop-place.invariant.1,
+      all-later field_fits _ _ _ _ c.loop-place.invariant.2
+          (asked-later fields c.loop-place.place (c.in-Some.name.now, c.in-Some.value) (sym c.field.ensures ∙ ap field_shown c.in-Some.is)) c.field_fits.ensures,
     )
 
 pub returns-in_err-write_field-clause-text : goal.returns-in_err-write_field-clause-text
@@ -40,3 +44,8 @@ returns-in_default-clause-text g c =
     let fields = (g.A.App.meaning c.args.app.now).fields c.args.tally.now in
     Writing-done g.O.Sink.taken g.O.Sink.faults _ _ _ _ c.loop-place.invariant.0
     (fields-past fields c.loop-place.place (sym c.field.ensures ∙ ap field_shown c.in_default.is))
+
+pub returns-in_default-clause-fits : goal.returns-in_default-clause-fits
+returns-in_default-clause-fits g c done =
+    let fields = (g.A.App.meaning c.args.app.now).fields c.args.tally.now in
+    all-none field_fits _ _ c.loop-place.invariant.2 (asked-past fields c.loop-place.place (sym c.field.ensures ∙ ap field_shown c.in_default.is))

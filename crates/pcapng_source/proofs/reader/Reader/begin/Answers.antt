@@ -1,30 +1,21 @@
 -- By the first four bytes.
-use Rattle.std.proofs.Common.{◌≡◌, ◌++◌, [], true, false, ap, ◌∙◌, arith, length-append}
+use Rattle.std.proofs.Common.{◌≡◌, ◌++◌, true, false, ap, ◌∙◌}
 use Rattle.pcapng_source.specs.Fields.{is_section}
 use Rattle.pcapng_source.specs.Blocks.{classic_header}
-use Rattle.pcapng_source.proofs.Blocks.{has-short}
 use Rattle.pcapng_source.proofs.Bodies.{begins, begins-plain}
-use Rattle.pcapng_source.proofs.Enters.{blocks-short}
 use Rattle.pcapng_source.proofs.reader.Reader.begin.Goals as goal
 
-pub returns-then-begins_section-clause-goes : goal.returns-then-begins_section-clause-goes
+pub returns-then-begins_section : goal.returns-then-begins_section
 unfolding classic_header
-returns-then-begins_section-clause-goes c =
+returns-then-begins_section c =
     let r = c.args.self.now in
     let head : c.put.new.self ≡ r.word = c.put.ensures ∙ ap (λ l. l ++ c.as_slice-word.result.now) c.clear.ensures ∙ c.as_slice-word.ensures.bytes in
     let made : c.of-self.result ≡ classic_header = c.of-self.ensures in
     let section : is_section r.word ≡ true = cc in
     rw (head, made) (begins r c.requires.stage c.requires.made c.requires.word section)
 
-pub returns-then-begins_section-clause-ready : goal.returns-then-begins_section-clause-ready
-returns-then-begins_section-clause-ready c =
-    let r = c.args.self.now in
-    let head : c.put.new.self ≡ r.word = c.put.ensures ∙ ap (λ l. l ++ c.as_slice-word.result.now) c.clear.ensures ∙ c.as_slice-word.ensures.bytes in
-    let size = c.requires.word in
-    rw head (rw (has-short 8 r.word (omega arith)) (omega arith), blocks-short _ _ _ (r.word ++ []) (omega (arith, length-append r.word [])))
-
-pub returns-else-begins_section-clause-goes : goal.returns-else-begins_section-clause-goes
-returns-else-begins_section-clause-goes c =
+pub returns-else-begins_section : goal.returns-else-begins_section
+returns-else-begins_section c =
     let r = c.args.self.now in
     let made : c.of-self-else-begins_section.result ≡ r.word = c.of-self-else-begins_section.ensures ∙ c.as_slice-word.ensures.bytes in
     let section : is_section r.word ≡ false = cc in

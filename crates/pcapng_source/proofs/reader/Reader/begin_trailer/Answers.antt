@@ -5,4 +5,4 @@ use Rattle.pcapng_source.proofs.reader.Reader.begin_trailer.Goals as goal
 
 pub returns-else-self-eq0-clause-rest : goal.returns-else-self-eq0-clause-rest
 returns-else-self-eq0-clause-rest c = λ left.
-    skips-body c.args.self.now c.min-padding.result c.args.bytes.now left c.requires.stage c.requires.owed (omega arith) (omega arith)
+    skips-body c.args.self.now c.min-padding.result c.args.bytes.now left c.requires.behind.stage c.requires.behind.owed (omega arith) (omega arith)

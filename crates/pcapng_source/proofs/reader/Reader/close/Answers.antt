@@ -1,23 +1,18 @@
 -- Behind the second total length.
-use Rattle.std.proofs.Common.{◌≡◌, arith}
+use Rattle.std.proofs.Common.{◌≡◌}
 use Rattle.std.proofs.lemmas.Bool.{eq-eqb, ne_eqb}
 use Rattle.pcap_source.specs.Order.{number_in}
 use Rattle.pcapng_source.proofs.Bodies.{closes, closes-badly}
-use Rattle.pcapng_source.proofs.Enters.{blocks-short}
 use Rattle.pcapng_source.proofs.reader.Reader.close.Goals as goal
 
-pub returns-then-u32_in-self-clause-goes : goal.returns-then-u32_in-self-clause-goes
-returns-then-u32_in-self-clause-goes c =
+pub returns-then-u32_in-self : goal.returns-then-u32_in-self
+returns-then-u32_in-self c =
     let r = c.args.self.now in
     let same : number_in r.section.order 4 r.word ≡ r.block.total = cc in
     rw c.clear.ensures (closes r c.requires.stage c.requires.word (eq-eqb _ _ same))
 
-pub returns-then-u32_in-self-clause-ready : goal.returns-then-u32_in-self-clause-ready
-returns-then-u32_in-self-clause-ready c =
-    rw c.clear.ensures (omega arith, blocks-short _ _ _ _ (omega arith))
-
-pub returns-else-u32_in-self-clause-goes : goal.returns-else-u32_in-self-clause-goes
-returns-else-u32_in-self-clause-goes c =
+pub returns-else-u32_in-self : goal.returns-else-u32_in-self
+returns-else-u32_in-self c =
     let r = c.args.self.now in
     let read : c.u32_in.result ≡ number_in r.section.order 4 r.word = cc in
     closes-badly r c.requires.stage c.requires.word c.requires.fits (ne_eqb _ _ (λ same. c.if-u32_in-self.false (cc (read, same))))

@@ -12,4 +12,4 @@ overflow_sub-self c =
 pub returns-in-Body-clause-rest : goal.returns-in-Body-clause-rest
 returns-in-Body-clause-rest c = λ front left sized.
     let few : c.args.count ≤ min c.args.count c.args.self.now.owed = subst (λ s. c.args.count ≤ direct_at s c.args.self.now c.args.count) c.in-Body.is c.requires.few in
-    gives-body c.args.self.now c.args.count front left c.in-Body.is c.requires.made (omega arith) sized
+    gives-body c.args.self.now c.args.count front left c.in-Body.is c.requires.bare.made (omega arith) sized

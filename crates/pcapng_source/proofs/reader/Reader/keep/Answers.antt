@@ -1,5 +1,5 @@
 -- In a stage that holds a word, and in a head.
-use Rattle.std.proofs.Common.{◌≤◌, length, subst, ⊎_elim}
+use Rattle.std.proofs.Common.{◌≤◌, length, refl, subst, ⊎_elim}
 use Rattle.pcapng_source.specs.Reading.{wanted_at}
 use Rattle.pcapng_source.proofs.Steps.{keeps-head}
 use Rattle.pcapng_source.proofs.reader.Reader.keep.Goals as goal
@@ -17,8 +17,11 @@ put-requires c =
     (λ is. subst (λ s. length c.args.bytes.now ≤ wanted_at s r) is few)))
     c.in-Start.is
 
-pub returns-in-Head-clause-fits : goal.returns-in-Head-clause-fits
-returns-in-Head-clause-fits c =
+pub returns-in-Head-clause-stays : goal.returns-in-Head-clause-stays
+returns-in-Head-clause-stays c =
     let r = c.args.self.now in
-    rw c.put-in-Head.ensures (keeps-head r.section.order r.head c.args.bytes.now c.requires.fits
-    (subst (λ s. length c.args.bytes.now ≤ wanted_at s r) c.in-Head.is c.requires.few))
+    record {
+      fits = rw c.put-in-Head.ensures (keeps-head r.section.order r.head c.args.bytes.now c.requires.fits
+          (subst (λ s. length c.args.bytes.now ≤ wanted_at s r) c.in-Head.is c.requires.few));
+      stage = refl;
+    }

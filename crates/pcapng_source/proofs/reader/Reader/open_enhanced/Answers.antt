@@ -6,8 +6,8 @@ use Rattle.pcapng_source.specs.declared.kind.Kind.TheVariants.{EnhancedPacket}
 use Rattle.pcapng_source.proofs.Opens.{opens-enhanced}
 use Rattle.pcapng_source.proofs.reader.Reader.open_enhanced.Goals as goal
 
-pub returns-clause-goes : goal.returns-clause-goes
-returns-clause-goes c =
+pub returns : goal.returns
+returns c =
     let r = c.args.self.now in
     let interface = c.in-Some.interface in
     let found : interface_of EnhancedPacket r.section r.head ≡ Some interface = cc in

@@ -5,8 +5,8 @@ use Rattle.pcapng_source.specs.Fields.{snap_told, total_of}
 use Rattle.pcapng_source.proofs.Opens.{opens-interface}
 use Rattle.pcapng_source.proofs.reader.Reader.open_interface.Goals as goal
 
-pub returns-clause-goes : goal.returns-clause-goes
-returns-clause-goes c =
+pub returns : goal.returns
+returns c =
     let r = c.args.self.now in
     let sized : total_of r.section.order r.head ≡ c.u32_at-total.result = cc in
     let link : c.u16_at.result ≡ number_in r.section.order 2 (drop 8 r.head) = cc in

@@ -5,8 +5,8 @@ use Rattle.pcap_source.specs.declared.order.Order.TheVariants.{Big}
 use Rattle.pcapng_source.proofs.Opens.{opens-section}
 use Rattle.pcapng_source.proofs.reader.Reader.open_section.Goals as goal
 
-pub returns-clause-goes : goal.returns-clause-goes
-returns-clause-goes c =
+pub returns : goal.returns
+returns c =
     let r = c.args.self.now in
     let order = c.unwrap_or-order.result in
     let told : unwrap_or (order_told r.head) Big ≡ order = cc in

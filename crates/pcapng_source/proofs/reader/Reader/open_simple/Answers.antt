@@ -7,8 +7,8 @@ use Rattle.pcapng_source.specs.declared.kind.Kind.TheVariants.{SimplePacket}
 use Rattle.pcapng_source.proofs.Opens.{opens-simple}
 use Rattle.pcapng_source.proofs.reader.Reader.open_simple.Goals as goal
 
-pub returns-clause-goes : goal.returns-clause-goes
-returns-clause-goes c =
+pub returns : goal.returns
+returns c =
     let r = c.args.self.now in
     let interface = c.in-Some.interface in
     let found : slice_get r.section.interfaces 0 ≡ Some interface = cc in

@@ -10,7 +10,5 @@ pub returns-in-Some : goal.returns-in-Some
 returns-in-Some c =
     let r = c.args.self.now in
     let told : block_by EnhancedPacket r.section r.place.offset r.head ≡ Some c.in-Some.fault = cc in
-    record {
-      goes = refuses-head r c.in-Some.fault c.requires.stage c.requires.fits (omega arith) c.requires.allowed
-          (refusal-plain r.section r.place.offset r.head EnhancedPacket (plain_section r.section.order r.head EnhancedPacket c.requires.kind tt) (omega arith) c.requires.kind ∙ told);
-    }
+    refuses-head r c.in-Some.fault c.requires.head.stage c.requires.head.fits (omega arith) c.requires.allowed
+    (refusal-plain r.section r.place.offset r.head EnhancedPacket (plain_section r.section.order r.head EnhancedPacket c.requires.kind tt) (omega arith) c.requires.kind ∙ told)

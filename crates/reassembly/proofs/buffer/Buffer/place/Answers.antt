@@ -16,7 +16,7 @@ use Rattle.reassembly.proofs.buffer.Buffer.place.Goals as goal
 
 pub returns-then-len-eq0-clause-steps : goal.returns-then-len-eq0-clause-steps
 returns-then-len-eq0-clause-steps c fin =
-    nothing_changes (window_of c.args.self.now) fin c.args.rbuf c.args.limit c.args.start c.args.segment.now c.args.policy c.requires.laid (omega arith)
+    nothing_changes (window_of c.args.self.now) fin c.args.rbuf c.args.limit c.args.start c.args.segment.now c.args.policy c.requires.ready.laid (omega arith)
 
 pub returns-in-InOrder-clause-steps : goal.returns-in-InOrder-clause-steps
 returns-in-InOrder-clause-steps c = rw c.in-InOrder.is (on_ok_weaker c.append.result (λ step fin. step c.args.policy fin) c.append.ensures.steps)
@@ -47,7 +47,7 @@ pub returns-in-Holed-clause-laid : goal.returns-in-Holed-clause-laid
 returns-in-Holed-clause-laid c = (filled c).laid
 
 pub returns-in-Holed-clause-sized : goal.returns-in-Holed-clause-sized
-returns-in-Holed-clause-sized c = (filled c).sized (rw c.in-Holed.is at c.requires.sized)
+returns-in-Holed-clause-sized c = (filled c).sized (rw c.in-Holed.is at c.requires.ready.sized)
 
 pub returns-in-Holed-clause-bounded : goal.returns-in-Holed-clause-bounded
 returns-in-Holed-clause-bounded c = rw c.in-Holed.is (filled c).bounded

@@ -26,10 +26,10 @@ found c =
     let n = length c.args.bytes.now in
     let k = (c.args.low - s.base) / 2048 in
     let from = (c.args.low - s.base) % 2048 in
-    let part : IsPart s c.args.low k from = record { base = c.requires.from; place = refl; offset = refl } in
-    let there : k < length s.keys.items = held_within s c.args.low (c.requires.ready c.args.low (omega arith) (omega arith)) in
+    let part : IsPart s c.args.low k from = record { base = c.requires.places.places.from; place = refl; offset = refl } in
+    let there : k < length s.keys.items = held_within s c.args.low (c.requires.places.places.ready c.args.low (omega arith) (omega arith)) in
     let key : c.index-key.result.now ≡ slice_index s.keys.items k = get_or_read s.keys.items k c.index-key.result.now there c.index-key.ensures 0 in
-    let last = held_in_page s c.args.low k from (n - 1) part (omega arith) (c.requires.ready (c.args.low + (n - 1)) (omega arith) (omega arith)) in
+    let last = held_in_page s c.args.low k from (n - 1) part (omega arith) (c.requires.places.places.ready (c.args.low + (n - 1)) (omega arith) (omega arith)) in
     record {
       part = part;
       there = there;
@@ -69,11 +69,11 @@ laid c =
     let long : length xs ≡ length page.items = ap length c.deref_mut.ensures.value in
     let new_page = with_items page (put_mid from (from + n - from) xs cells) in
     let write : IsWritten s (after c) k new_page = record {
-      keyed = c.requires.keyed;
+      keyed = c.requires.places.places.keyed;
       within = f.there;
       base = refl;
       keys = refl;
-      updates = rw f.key (Updates-with_value s.slab _ new_page (c.requires.keyed.present k f.there));
+      updates = rw f.key (Updates-with_value s.slab _ new_page (c.requires.places.places.keyed.present k f.there));
     } in
     record {
       part = f.part;
@@ -81,33 +81,26 @@ laid c =
       page = written_page s (after c) k new_page write
           ∙ with_items_is page (put_mid from (from + n - from) xs cells) (ap (λ m. length (put_mid from m xs cells)) f.span ∙ whole ∙ c.deref_mut.ensures.len)
           ∙ ap₂ (λ m (ys : List ℕ). put_mid from m ys cells) f.span (sym f.page);
-      some = c.requires.some;
-      fits = c.requires.within;
+      some = c.requires.page.some;
+      fits = c.requires.page.within;
       within = fits;
       len = len;
     }
 
-pub returns-clause-place : goal.returns-clause-place
-returns-clause-place c = laid_place c.args.self.now (after c) _ _ _ _ _ (laid c)
-
-pub returns-clause-bytes : goal.returns-clause-bytes
-returns-clause-bytes c p l =
+pub returns : goal.returns
+returns c =
     let f = found c in
     let s = c.args.self.now in
     let n = length c.args.bytes.now in
     let k = (c.args.low - s.base) / 2048 in
     let from = (c.args.low - s.base) % 2048 in
-    laid_page s (after c) c.args.runs.now c.args.low k from c.args.policy c.args.bytes.now c.lay.new.cells (laid c)
-    (λ i b. c.lay.ensures.cells i b ∙ ap₂ (λ m (ys : List ℕ). laid_byte c.args.runs.now c.args.low c.args.policy (take m (drop from ys)) c.args.bytes.now i) f.span (sym f.page))
-    p l
-
-pub returns-clause-tally : goal.returns-clause-tally
-returns-clause-tally c =
-    let f = found c in
-    let s = c.args.self.now in
-    let n = length c.args.bytes.now in
-    let k = (c.args.low - s.base) / 2048 in
-    let from = (c.args.low - s.base) % 2048 in
-    c.lay.ensures.tally
-    ∙ ap₂ (λ m (ys : List ℕ). tally_of c.args.runs.now c.args.low (take m (drop from ys)) c.args.bytes.now n) f.span (sym f.page)
-    ∙ judged_page s c.args.runs.now c.args.low k from c.args.bytes.now f.part c.requires.within
+    record {
+      place = laid_place s (after c) _ _ _ _ _ (laid c);
+      laid = λ p l.
+          laid_page s (after c) c.args.runs.now c.args.low k from c.args.policy c.args.bytes.now c.lay.new.cells (laid c)
+          (λ i b. c.lay.ensures.cells i b ∙ ap₂ (λ m (ys : List ℕ). laid_byte c.args.runs.now c.args.low c.args.policy (take m (drop from ys)) c.args.bytes.now i) f.span (sym f.page))
+          p l;
+      judged = c.lay.ensures.tally
+          ∙ ap₂ (λ m (ys : List ℕ). tally_of c.args.runs.now c.args.low (take m (drop from ys)) c.args.bytes.now n) f.span (sym f.page)
+          ∙ judged_page s c.args.runs.now c.args.low k from c.args.bytes.now f.part c.requires.page.within;
+    }

@@ -10,9 +10,9 @@ returns-clause-changed c =
     let within : c.args.place < length s.keys.items = omega arith in
     let key = get_or_read s.keys.items c.args.place c.index-key.result.now within c.index-key.ensures 0 in
     written s _ c.args.place c.add_behind.new.page (record {
-      keyed = c.requires.keyed;
+      keyed = c.requires.there.keyed;
       within = within;
       base = refl;
       keys = refl;
-      updates = rw key (Updates-with_value s.slab _ c.add_behind.new.page (c.requires.keyed.present c.args.place within));
+      updates = rw key (Updates-with_value s.slab _ c.add_behind.new.page (c.requires.there.keyed.present c.args.place within));
     })

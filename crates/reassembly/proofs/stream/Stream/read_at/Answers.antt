@@ -18,22 +18,15 @@ returns-then-len-eq0-clause-len c r h = ap length (nothing c r h)
 pub returns-then-len-eq0-clause-bytes : goal.returns-then-len-eq0-clause-bytes
 returns-then-len-eq0-clause-bytes c r h = ap (λ xs. xs ++ c.args.buf.now) (nothing c r h)
 
-pub copy-requires-clause-from : goal.copy-requires-clause-from
-copy-requires-clause-from c =
+pub copy-requires : goal.copy-requires
+copy-requires c =
     let s = c.self.inside in
     let can : IsReadable (window_of s.buffer) s.rbuf c.args.position c.min-len.result = readable (window_of s.buffer) s.rbuf c.args.position c.run_end-end.result
     c.min-len.result c.run_end-end.ensures (omega arith) (omega arith) in
     let base : (window_of s.buffer).bytes.base ≤ (window_of s.buffer).next - s.rbuf = c.self.invariant.0.sized.kept in
     let from : (window_of s.buffer).next - s.rbuf ≤ c.args.position = can.from in
-    omega arith
-
-pub copy-requires-clause-accepted : goal.copy-requires-clause-accepted
-copy-requires-clause-accepted c p from below =
-    let s = c.self.inside in
-    let can : IsReadable (window_of s.buffer) s.rbuf c.args.position c.min-len.result = readable (window_of s.buffer) s.rbuf c.args.position c.run_end-end.result
-    c.min-len.result c.run_end-end.ensures (omega arith) (omega arith) in
     let len : length (take c.min-len.result c.args.buf.now) ≡ min c.min-len.result (length c.args.buf.now) = length-take c.min-len.result c.args.buf.now in
-    can.accepted p from (omega arith)
+    record { laid = c.self.invariant.0.laid; from = omega arith; some = omega arith; accepted = λ p low below. can.accepted p low (omega arith); reach = omega arith }
 
 read : (c : goal.After-slice_known-2-1) (r : Receiver) → StandsFor c.args.self.now r → c.copy.new.buf ≡ bytes_from (kept r.cells c.args.self.now.rbuf) c.args.position (length c.args.buf.now)
 read c r h =

@@ -20,12 +20,12 @@ kept_below_next base next rbuf l = omega arith
 
 again : (c : goal.After-repeat-arg-2-1) → IsAgain c.args.self.now c.take.new.self c.in_ok-met.met.items (c.args.start + c.count_under-within.result) (c.args.start + c.max-reach.result)
 again c = again_from c.args.self.now c.meet.new.self c.take.new.self c.in_ok-met.met.items c.args.limit c.end.result c.args.start _ _ _ _ c.args.policy c.args.segment.now (cut c) (omega arith)
-    (kept_below_next _ _ _ c.requires.sized.kept) c.meet.ensures.place.0 c.meet.ensures.place.1 c.meet.ensures.grown c.in_ok-met.ensures.met c.in_ok-tally.ensures.cells
+    (kept_below_next _ _ _ c.requires.ready.sized.kept) c.meet.ensures.place.0 c.meet.ensures.place.1 c.meet.ensures.grown c.in_ok-met.ensures.met c.in_ok-tally.ensures.cells
 
 again_after : (c : goal.After-drop-met-2) → IsAgain c.args.self.now c.take.new.self c.in_ok-met.met.items (c.args.start + c.count_under-within.result) (c.args.start + c.max-reach.result)
 again_after c = again_from c.args.self.now c.meet.new.self c.take.new.self c.in_ok-met.met.items c.args.limit c.end.result c.args.start _ _ _ _
     c.args.policy c.args.segment.now (cut_after c) (omega arith)
-    (kept_below_next _ _ _ c.requires.sized.kept) c.meet.ensures.place.0 c.meet.ensures.place.1 c.meet.ensures.grown c.in_ok-met.ensures.met c.in_ok-tally.ensures.cells
+    (kept_below_next _ _ _ c.requires.ready.sized.kept) c.meet.ensures.place.0 c.meet.ensures.place.1 c.meet.ensures.grown c.in_ok-met.ensures.met c.in_ok-tally.ensures.cells
 
 pub repeat-again-requires-clause-met : goal.repeat-again-requires-clause-met
 repeat-again-requires-clause-met c p from below =
@@ -53,7 +53,7 @@ rises c =
 pub returns-clause-sized : goal.returns-clause-sized
 returns-clause-sized c =
     let edge = c.args.self.now.next + c.args.rbuf in
-    let old : IsBounded c.args.self.now edge = record { next = omega arith; runs = c.requires.sized.span } in
+    let old : IsBounded c.args.self.now edge = record { next = omega arith; runs = c.requires.ready.sized.span } in
     let new = bounded c edge c.requires.window old in
     let up = rises c in
     let next : c.forget.new.self.next ≡ c.repeat-again.new.self.next = c.forget.ensures.place.0 in
@@ -75,8 +75,8 @@ returns-clause-steps c fin =
     steps_placed c.args.self.now c.repeat-again.new.self c.forget.new.self fin c.args.rbuf c.args.limit c.end.result c.args.start
     c.count_under-below.result c.count_under-within.result c.max-reach.result c.args.policy c.args.segment.now
     (record {
-      old_laid = c.requires.laid;
-      old_kept = c.requires.sized.kept;
+      old_laid = c.requires.ready.laid;
+      old_kept = c.requires.ready.sized.kept;
       mid_laid = c.repeat-again.ensures.laid;
       rises = rises c;
       placed = placed c;
@@ -99,7 +99,7 @@ returns-clause-counts c fin =
     = (rw c.deref.ensures.value at c.repeat-again.ensures.tally)
     ∙ tally_again c.args.self.now c.take.new.self c.in_ok-met.met.items (c.args.start + within) (c.args.start + reach) rest
     (rest_end _ _ _ c.args.start _ _ _ segment (cut_after c)) (again_after c) in
-    counts_placed c.args.self.now fin c.args.rbuf c.args.limit c.end.result c.args.start below within reach segment c.requires.laid c.end.ensures.bounded (cut_after c)
+    counts_placed c.args.self.now fin c.args.rbuf c.args.limit c.end.result c.args.start below within reach segment c.requires.ready.laid c.end.ensures.bounded (cut_after c)
     c.in_ok-tally.tally c.repeat-again.result c.compare-differ.result _ (omega arith)
     (c.in_ok-tally.ensures.tally ∙ tally_met c.args.self.now c.meet.new.self _ (take (within - below) (drop below segment)) c.meet.ensures.place.1 c.meet.ensures.grown)
     told c.compare-differ.ensures.value

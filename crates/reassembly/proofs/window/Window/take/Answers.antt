@@ -25,7 +25,7 @@ taken c =
       grown = c.meet.ensures.grown;
       place = rw same at c.lay.ensures.place;
       touching = met c;
-      laid = rw (c.deref-2.ensures.value, same) at c.lay.ensures.bytes;
+      laid = rw (c.deref-2.ensures.value, same) at c.lay.ensures.laid;
       accepted = rw (c.meet.ensures.place.0, c.meet.ensures.place.1) at c.in_ok-accept.ensures.accepted;
     }
 
@@ -42,7 +42,7 @@ returns-clause-cells c p l =
     cells_taken c.args.self.now c.meet.new.self.bytes c.in_ok-met.met.items (after c) c.args.low c.args.bytes.now c.args.policy c.requires.laid (from_next c) (taken c) p l
 
 judged : (c : goal.After-drop-met-2) → c.lay.result ≡ taken_tally c.args.self.now c.args.low c.args.bytes.now
-judged c = (rw (c.deref-2.ensures.value, c.accept.ensures.bytes) at c.lay.ensures.tally)
+judged c = (rw (c.deref-2.ensures.value, c.accept.ensures.bytes) at c.lay.ensures.judged)
     ∙ tally_taken c.args.self.now c.meet.new.self.bytes c.in_ok-met.met.items c.args.low c.args.bytes.now c.meet.ensures.grown (met c)
 
 pub returns-clause-tally : goal.returns-clause-tally
