@@ -6,7 +6,6 @@ use Rattle.std.proofs.lemmas.Grind.{common_steps}
 use Rattle.std.specs.List.{fold}
 use Rattle.app_api.specs.App.{Meaning}
 use Rattle.app_api.specs.declared.reaction.Verdict.{Verdict}
-use Rattle.pcap_source.specs.Captured.{Captured}
 use Rattle.forest_versions.specs.declared.command.Command.{Command}
 use Rattle.forest_versions.specs.Lawful.{are_lawful, is_lawful}
 use Rattle.forest_versions.specs.State.{ControlState, start, after, control, master}

@@ -1,17 +1,15 @@
 //! Reads a capture front to back, and hands its packets to a lane.
 
-ghost use Rattle.std.specs.Prelude.{◌≡◌, ◌≢◌, ◌⊎◌, ◌+◌, ◌<◌, ◌∷◌, ◌++◌, [], ℕ, List, Option, length, not, true, false, if◌then◌else◌};
+ghost use Rattle.std.specs.Prelude.{◌≡◌, ◌≢◌, ◌+◌, [], ℕ, List, Option, not, false, if◌then◌else◌};
 ghost use Rattle.std.specs.Prelude.{Some, IsOk, IfErr, IsErrOf};
 ghost use Rattle.std.specs.Io.KnownBytes.{Appends, Keeps};
 ghost use Rattle.mos_bytes.specs.Causes.{HasCause};
 ghost use Rattle.mos_bytes.specs.Writes.{WriteAdds};
-ghost use Rattle.pcap_source.specs.Captured.{Captured};
 ghost use Rattle.pcap_source.specs.Reading.{Opened};
-ghost use Rattle.run_outcome.specs.Forwarded.{bytes_under as left_by};
 ghost use Rattle.capture_replay.specs.Records.{packets_of};
 ghost use Rattle.capture_replay.specs.Outcome.{is_forward, streamed};
 ghost use Rattle.mos_bytes.specs.Outside.{Reads, Writes};
-ghost use Rattle.capture_replay.specs.Reading.{LaneIsReady, LaneHasRead, Replaying, gained};
+ghost use Rattle.capture_replay.specs.Reading.{LaneIsReady, LaneHasRead, Replaying};
 ghost use Rattle.capture_replay.specs.Runs.{IsIdle, MayRun, ReadsFile, Runs, RunsAlone};
 
 use crate::close::close;

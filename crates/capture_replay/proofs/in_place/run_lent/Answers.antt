@@ -1,11 +1,9 @@
-use Rattle.std.proofs.Common.{◌≡◌, ◌≤◌, [], length, Some, Ok, Err, refl, sym, ap, subst, ◌∙◌, arith, rules}
+use Rattle.std.proofs.Common.{◌≡◌, Err, refl, ap, subst, ◌∙◌, arith, rules}
 use Rattle.std.proofs.lemmas.Result.{err_from_is_err_and}
-use Rattle.capture_replay.specs.declared.refusal.ReplayError.TheVariants as Replay
-use Rattle.capture_replay.specs.Refusal.{record_refusal}
 use Rattle.capture_replay.specs.Records.{packets_of}
 use Rattle.capture_replay.specs.Outcome.{is_forward, outcome_over}
 use Rattle.capture_replay.specs.Reading.{ReadsOn, left_behind}
-use Rattle.capture_replay.proofs.Refusals.{is_read_fault, no_read_fault, no_write_fault, same_error, rose_since}
+use Rattle.capture_replay.proofs.Refusals.{is_read_fault, no_read_fault, no_write_fault}
 use Rattle.capture_replay.proofs.Ends.{no_heavy_packet, no_write_packet}
 use Rattle.capture_replay.proofs.Replaying.{front_so_far}
 use Rattle.capture_replay.proofs.InPlace.{behind_none, front_within, light_passing, passed_replays, stopped_passing}

@@ -1,14 +1,12 @@
-use Rattle.std.proofs.Common.{◌≡◌, ◌≤◌, ◌+◌, ◌++◌, ◌∷◌, [], length, take, drop, Some, Ok, Err, refl, sym, ap, subst, ◌∙◌, arith, le_refl, rules, length-drop}
+use Rattle.std.proofs.Common.{◌+◌, ◌++◌, ◌∷◌, [], length, drop, Some, Err, refl, sym, ap, subst, ◌∙◌, arith, le_refl, length-drop}
 use Rattle.std.proofs.lemmas.List.{length-append}
 use Rattle.std.proofs.lemmas.Result.{err_from_is_err_and}
 use Rattle.std.specs.Io.KnownBytes.{Appends}
 use Rattle.pcap_source.specs.Capture.{record_at}
-use Rattle.capture_replay.specs.declared.refusal.ReplayError.TheVariants as Replay
 use Rattle.capture_replay.specs.Records.{packets_of}
-use Rattle.capture_replay.specs.Outcome.{is_forward, streamed, outcome_over}
-use Rattle.capture_replay.specs.Reading.{IsSeen, gained, left_behind}
+use Rattle.capture_replay.specs.Outcome.{streamed, outcome_over}
+use Rattle.capture_replay.specs.Reading.{gained}
 use Rattle.capture_replay.specs.Runs.{RunsAs}
-use Rattle.capture_replay.proofs.Refusals.{same_error, rose_since}
 use Rattle.capture_replay.proofs.Replaying.{front_of_frame, stopped_by}
 use Rattle.capture_replay.proofs.InPlace.{latest_with, reads_none, reads_one_more, seen_behind, taken_behind, told_in}
 use Rattle.capture_replay.proofs.in_place.walk.Goals as goal

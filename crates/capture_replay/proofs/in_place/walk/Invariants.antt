@@ -1,4 +1,4 @@
-use Rattle.std.proofs.Common.{◌≡◌, ℕ, ◌-◌, ◌≤◌, List, Option, true, false, not, length}
+use Rattle.std.proofs.Common.{◌≡◌, ℕ, ◌-◌, ◌≤◌, List, Option, true, false, length}
 use Rattle.mos_bytes.specs.Reads.{BeginsWith}
 use Rattle.pcap_source.specs.Captured.{Captured}
 use Rattle.capture_replay.specs.Outcome.{is_forward}

@@ -1,4 +1,4 @@
-use Rattle.std.proofs.Common.{ℕ, ◌-◌, None}
+use Rattle.std.proofs.Common.{◌-◌, None}
 use Rattle.capture_replay.specs.Reading.{RunsOn}
 use Rattle.capture_replay.proofs.replay.read_on.Given as goal
 
