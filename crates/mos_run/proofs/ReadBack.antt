@@ -13,7 +13,7 @@ use Rattle.lane_core.specs.Records.{VersionedPacket}
 use Rattle.capture_replay.specs.declared.output.Output.{Output}
 use Rattle.capture_replay.specs.declared.output.Output.TheVariants.{Report}
 use Rattle.capture_replay.specs.declared.refusal.ReplayError.TheVariants as Replay
-use Rattle.capture_replay.specs.Records.{packets_with}
+use Rattle.capture_replay.specs.Records.{packets_with, records_of, versions_of}
 use Rattle.capture_replay.specs.Outcome.{ended, followed, is_heavy, outcome_by, outcome_over, refused}
 use Rattle.capture_replay.specs.ReadBack.{ReportIsReadBack}
 use Rattle.capture_replay.specs.Runs.{Finishes}
@@ -27,9 +27,9 @@ module _ (app : Meaning) (script : List Stamped) (given : List Captured → List
   weighed-ends : (frames : List Captured) (n : ℕ) (heavy : Bool) → told (if heavy then refused Replay.Heavy else ended app script given output header frames n).ends ≡ Ok versions
       → (if heavy then refused Replay.Heavy else ended app script given output header frames n).ends ≡ Ok versions
   weighed-ends frames n true ends = absurd (cc)
-  weighed-ends frames n false ends = cc
+  weighed-ends frames n false ends = let same : versions_of (records_of app script given frames) ≡ versions = cc in ap (λ vs. Ok vs) same
 
-  EndsInTail : List Captured → Ending → Type 0
+  abbrev EndsInTail : List Captured → Ending → Type 0
   EndsInTail frames ending = (n : ℕ) × (ending ≡ tail n) × ((followed app script given output header frames ending).ends ≡ Ok versions)
 
   told-ending : (frames : List Captured) (ending : Ending) → told (followed app script given output header frames ending).ends ≡ Ok versions → EndsInTail frames ending
@@ -43,7 +43,7 @@ module _ (app : Meaning) (script : List Stamped) (given : List Captured → List
   refused-ending frames (too_many offset) fault ends = cc
 
   -- and it is no run over a file that is refused
-  IsToEnd : Result Frames OpenError → Option NgFault → Type 0
+  abbrev IsToEnd : Result Frames OpenError → Option NgFault → Type 0
   IsToEnd capture refusal = (f : Frames) × (n : ℕ) × (capture ≡ Ok f) × (f.ending ≡ tail n) × ((outcome_by app script given output header capture).ends ≡ Ok versions)
   × ((outcome_in_file app script given output header capture refusal).text ≡ (outcome_by app script given output header capture).text)
 
