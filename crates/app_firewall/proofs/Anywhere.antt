@@ -7,7 +7,7 @@ use Rattle.app_api.specs.declared.app.Tally.{Tally}
 use Rattle.app_api.specs.declared.reaction.Reaction.{Reaction}
 use Rattle.app_api.specs.Reaction.{asks_nothing}
 use Rattle.app_firewall.specs.Decision.{decided_by, decision, is_in, matches}
-use Rattle.app_firewall.specs.Firewall.{is_packet, is_refused_orphan, asked}
+use Rattle.app_firewall.specs.Firewall.{is_packet, is_refused_orphan, firewall_asked}
 use Rattle.app_firewall.specs.Laws.{allow_any, has_tcp_ports}
 
 -- the rule matches where the server's port is as wide as it should be
@@ -30,6 +30,6 @@ allowed number facts wide =
 
 -- what is allowed asks no drop, but for an orphan's
 pub passes : (t : Tally) (call : Call) (decided : Bool × ℕ) → decided.0 ≡ true → is_refused_orphan call ≡ false
-    → (asked call decided).drop ≡ None
+    → (firewall_asked call decided).drop ≡ None
 passes t call decided allow orphan =
     rw allow (rw orphan (elim (is_packet call) as (λ b. (cond {A = Reaction} b asks_nothing asks_nothing).drop ≡ None) [ true ↦ refl | false ↦ refl ]))

@@ -47,15 +47,15 @@ abbrev pub judged : Tally → Call → Bool × ℕ → Tally
 judged t call decided = if is_packet call then counted t decided else t
 
 -- what a call asks, under what the rules decide on its packet
-abbrev pub asked : Call → Bool × ℕ → Reaction
-asked call decided =
+abbrev pub firewall_asked : Call → Bool × ℕ → Reaction
+firewall_asked call decided =
     if is_packet call then carried_out decided else
     if is_refused_orphan call then drops_by 0 else
     asks_nothing
 
 -- the tally and what is asked
 abbrev pub reaction_to : Tally → Call → Bool × ℕ → Tally × Reaction
-reaction_to t call decided = (judged t call decided, asked call decided)
+reaction_to t call decided = (judged t call decided, firewall_asked call decided)
 
 -- the firewall as an application
 unfoldable pub firewall : Meaning
@@ -66,9 +66,9 @@ firewall = record {
   fields = λ t. (codes "passed", t.t0) ∷ (codes "dropped", t.t1) ∷ (codes "rule", t.t2) ∷ [];
 }
 
-asked-no_drop : (call : Call) (decided : Bool × ℕ) → IsTrue (is_rcv call.hook) → (asked call decided).drop ≡ None
+asked-no_drop : (call : Call) (decided : Bool × ℕ) → IsTrue (is_rcv call.hook) → (firewall_asked call decided).drop ≡ None
 asked-no_drop call decided rcv =
-    elim call.hook as (λ h. IsTrue (is_rcv h) → (asked (record call { hook = h }) decided).drop ≡ None) [
+    elim call.hook as (λ h. IsTrue (is_rcv h) → (firewall_asked (record call { hook = h }) decided).drop ≡ None) [
       | Snd ↦ λ rcv. absurd (false≢true rcv)
       | Rcv ↦ λ _. refl
     ] rcv

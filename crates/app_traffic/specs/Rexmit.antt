@@ -31,15 +31,15 @@ abbrev pub switches_on : ℕ → Reaction
 switches_on number = record { drop = None; changes = record { reg = number; on = true } ∷ [] }
 
 -- each retransmission switches the count of later packets on
-abbrev pub asked : Call → Reaction
-asked call = if is_rcv_call 1 call then switches_on 2 else asks_nothing
+abbrev pub rexmit_asked : Call → Reaction
+rexmit_asked call = if is_rcv_call 1 call then switches_on 2 else asks_nothing
 
 -- retransmissions as an application
 unfoldable pub rexmit : Meaning
 rexmit = record {
   presets = rexmit_presets;
   fresh = zeros;
-  react = λ t call rules. (recounted t call, asked call);
+  react = λ t call rules. (recounted t call, rexmit_asked call);
   fields = λ t.
       (codes "rex_pkts", t.t0)
       ∷ (codes "rex_bytes", t.t1)
@@ -48,7 +48,7 @@ rexmit = record {
       ∷ [];
 }
 
-asked-no_drop : (call : Call) → (asked call).drop ≡ None
+asked-no_drop : (call : Call) → (rexmit_asked call).drop ≡ None
 asked-no_drop call = by (is_rcv_call 1 call)
   where
     by : (b : Bool) → (if b then switches_on 2 else asks_nothing).drop ≡ None

@@ -3,7 +3,7 @@ use Rattle.std.proofs.Common.{◌≡◌, ℕ, ◌+◌, ◌≤◌, List, [], ◌+
 use Rattle.std.proofs.lemmas.List.{drop_all, take-append-drop}
 use Rattle.std.proofs.Math.Seq.{take-append_seam}
 use lib.Seq.{drop-drop}
-use Rattle.capture_maker.specs.Made.{records_from}
+use Rattle.capture_maker.specs.Made.{packet_records}
 use Rattle.capture_maker.specs.declared.turns.Turn.{Turn}
 
 -- n bytes of the piece were copied to the front of a buffer
@@ -22,5 +22,5 @@ pub moved_on : (place : ℕ) (piece next old new : List ℕ) → place ≡ lengt
 moved_on place piece next old new whole parts = ap (λ l. l ++ old) (drop_all place piece (omega arith)) ∙ parts
 
 -- the piece was given whole, and no turn is left
-pub ended : (place index : ℕ) (piece : List ℕ) (turns : List Turn) → length piece ≤ place → turns ≡ [] → drop place piece ++ records_from index turns ≡ []
-ended place index piece turns whole none = ap (λ l. l ++ records_from index turns) (drop_all place piece whole) ∙ ap (records_from index) none
+pub ended : (place index : ℕ) (piece : List ℕ) (turns : List Turn) → length piece ≤ place → turns ≡ [] → drop place piece ++ packet_records index turns ≡ []
+ended place index piece turns whole none = ap (λ l. l ++ packet_records index turns) (drop_all place piece whole) ∙ ap (packet_records index) none

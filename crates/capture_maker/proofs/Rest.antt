@@ -4,7 +4,7 @@ use Rattle.std.proofs.lemmas.Bool.{cases_lt}
 use Rattle.std.proofs.lemmas.List.{drop_all}
 use Rattle.std.proofs.Math.Seq.{drop-cons}
 use Rattle.std.specs.List.{range_with_len}
-use Rattle.capture_maker.specs.Turns.{group_turns, groups_from, step_turns, steps, turns_from, turns_of}
+use Rattle.capture_maker.specs.Turns.{group_turns, groups_from, step_turns, all_steps, turns_from, turns_of}
 use Rattle.capture_maker.specs.declared.step.Step.{Step}
 use Rattle.capture_maker.specs.declared.step.Step.TheVariants.{Syn}
 use Rattle.capture_maker.specs.declared.turns.Turn.{Turn}
@@ -39,32 +39,32 @@ next_step n g (step ∷ further) =
     ap (λ k. step_turns (16 * g) k step ++ flat_map (step_turns (16 * g) size) further ++ groups_from n (g + 1)) all
 
 -- a group begins with all steps of its first connection
-group_begins : (n g : ℕ) → 16 * g < n → turns_from n g steps (16 * g) ≡ groups_from n g
+group_begins : (n g : ℕ) → 16 * g < n → turns_from n g all_steps (16 * g) ≡ groups_from n g
 group_begins n g some =
     let more : (n + 15) / 16 - g ≡ suc ((n + 15) / 16 - (g + 1)) = omega arith in
-    next_step n g steps
+    next_step n g all_steps
     ∙ sym (ap (λ k. flat_map (λ h. group_turns (16 * h) (min 16 (n - 16 * h))) (range_with_len g k)) more)
 
-pub group_turns_begin : (n g : ℕ) → turns_from n g steps (16 * g) ≡ groups_from n g
+pub group_turns_begin : (n g : ℕ) → turns_from n g all_steps (16 * g) ≡ groups_from n g
 group_turns_begin n g = elim (cases_lt (16 * g) n) [
   | inl some ↦ group_begins n g some
-  | inr none ↦ none_left n g steps (16 * g) none refl ∙ sym (no_groups n g none)
+  | inr none ↦ none_left n g all_steps (16 * g) none refl ∙ sym (no_groups n g none)
 ]
 
-pub all_turns : (n : ℕ) → turns_from n 0 steps 0 ≡ turns_of n
+pub all_turns : (n : ℕ) → turns_from n 0 all_steps 0 ≡ turns_of n
 unfolding turns_of
 all_turns n = group_turns_begin n 0
 
 -- the steps from a place on
-steps_from : (place : ℕ) → place < 10 → drop place steps ≡ get_or steps place Syn ∷ drop (place + 1) steps
-steps_from place few = drop-cons steps place Syn few ∙ ap (λ k. get_or steps place Syn ∷ drop k steps) (sym (add-one place))
+steps_from : (place : ℕ) → place < 10 → drop place all_steps ≡ get_or all_steps place Syn ∷ drop (place + 1) all_steps
+steps_from place few = drop-cons all_steps place Syn few ∙ ap (λ k. get_or all_steps place Syn ∷ drop k all_steps) (sym (add-one place))
 
 -- the next turn is gone: another connection of the group takes the step
 pub same_step : (n g place c : ℕ) → place < 10 → c + 1 < 16 * g + min 16 (n - 16 * g)
-    → turns_from n g (drop place steps) c ≡ record { step = get_or steps place Syn; connection = c } ∷ turns_from n g (drop place steps) (c + 1)
+    → turns_from n g (drop place all_steps) c ≡ record { step = get_or all_steps place Syn; connection = c } ∷ turns_from n g (drop place all_steps) (c + 1)
 same_step n g place c few within =
-    let step = get_or steps place Syn in
-    let further = drop (place + 1) steps in
+    let step = get_or all_steps place Syn in
+    let further = drop (place + 1) all_steps in
     let more : 16 * g + min 16 (n - 16 * g) - c ≡ suc (16 * g + min 16 (n - 16 * g) - (c + 1)) = omega arith in
     ap (λ l. turns_from n g l c) (steps_from place few)
     ∙ ap (λ k. step_turns c k step ++ flat_map (step_turns (16 * g) (min 16 (n - 16 * g))) further ++ groups_from n (g + 1)) more
@@ -72,10 +72,10 @@ same_step n g place c few within =
 
 -- the last connection of the group has taken the step: the group goes on with its other steps
 pub next_of_group : (n g place c : ℕ) → place < 10 → c < 16 * g + min 16 (n - 16 * g) → 16 * g + min 16 (n - 16 * g) ≤ c + 1
-    → turns_from n g (drop place steps) c ≡ record { step = get_or steps place Syn; connection = c } ∷ turns_from n g (drop (place + 1) steps) (16 * g)
+    → turns_from n g (drop place all_steps) c ≡ record { step = get_or all_steps place Syn; connection = c } ∷ turns_from n g (drop (place + 1) all_steps) (16 * g)
 next_of_group n g place c few within last =
-    let step = get_or steps place Syn in
-    let further = drop (place + 1) steps in
+    let step = get_or all_steps place Syn in
+    let further = drop (place + 1) all_steps in
     let one : 16 * g + min 16 (n - 16 * g) - c ≡ 1 = omega arith in
     ap (λ l. turns_from n g l c) (steps_from place few)
     ∙ ap (λ k. step_turns c k step ++ flat_map (step_turns (16 * g) (min 16 (n - 16 * g))) further ++ groups_from n (g + 1)) one
@@ -83,10 +83,10 @@ next_of_group n g place c few within last =
 
 -- it was the group's last step: the next group begins
 pub next_group : (n g place c first : ℕ) → place < 10 → 10 ≤ place + 1 → c < 16 * g + min 16 (n - 16 * g) → 16 * g + min 16 (n - 16 * g) ≤ c + 1 → first ≡ 16 * (g + 1)
-    → turns_from n g (drop place steps) c ≡ record { step = get_or steps place Syn; connection = c } ∷ turns_from n (g + 1) steps first
+    → turns_from n g (drop place all_steps) c ≡ record { step = get_or all_steps place Syn; connection = c } ∷ turns_from n (g + 1) all_steps first
 next_group n g place c first few all within last is =
-    let turn : Turn = record { step = get_or steps place Syn; connection = c } in
+    let turn : Turn = record { step = get_or all_steps place Syn; connection = c } in
     next_of_group n g place c few within last
-    ∙ ap (λ l. turn ∷ turns_from n g l (16 * g)) (drop_all (place + 1) steps all)
+    ∙ ap (λ l. turn ∷ turns_from n g l (16 * g)) (drop_all (place + 1) all_steps all)
     ∙ ap (λ l. turn ∷ l) (sym (group_turns_begin n (g + 1)))
-    ∙ ap (λ k. turn ∷ turns_from n (g + 1) steps k) (sym is)
+    ∙ ap (λ k. turn ∷ turns_from n (g + 1) all_steps k) (sym is)

@@ -3,10 +3,10 @@ use Rattle.std.proofs.Common.{◌≡◌, ℕ, zero, suc, ◌+◌, ◌-◌, ◌*�
 use Rattle.std.proofs.Math.Nat.{add-mul}
 use Rattle.std.proofs.lemmas.List.FromFn.{length-map-range_with_len}
 use Rattle.std.specs.List.{range_with_len}
-use Rattle.capture_maker.specs.Frames.{ethernet_header, four_bytes, frame_of, head_of, record_of, two_bytes}
-use Rattle.capture_maker.specs.Made.{global_header, made, records_from}
-use Rattle.capture_maker.specs.Table.{byte_of, segment_of}
-use Rattle.capture_maker.specs.Turns.{group_turns, step_turns, steps, turns_of}
+use Rattle.capture_maker.specs.Frames.{ethernet_header, four_bytes, frame_of, record_head, packet_record, two_bytes}
+use Rattle.capture_maker.specs.Made.{global_header, made, packet_records}
+use Rattle.capture_maker.specs.Table.{byte_of, step_segment}
+use Rattle.capture_maker.specs.Turns.{group_turns, step_turns, all_steps, turns_of}
 use Rattle.capture_maker.specs.declared.step.Sender.{Sender}
 use Rattle.capture_maker.specs.declared.step.Sender.TheVariants.{Client, Server}
 use Rattle.capture_maker.specs.declared.step.Segment.{Segment}
@@ -41,24 +41,24 @@ weighed_steps w first count (x ∷ xs) =
     ∙ omega arith
 
 weighed_groups : (w : Step → ℕ) (n g k : ℕ) → k ≡ (n + 15) / 16 - g
-    → weighed w (flat_map (λ h. group_turns (16 * h) (min 16 (n - 16 * h))) (range_with_len g k)) ≡ (n - 16 * g) * summed w steps
+    → weighed w (flat_map (λ h. group_turns (16 * h) (min 16 (n - 16 * h))) (range_with_len g k)) ≡ (n - 16 * g) * summed w all_steps
 weighed_groups w n g zero none =
     let behind : n - 16 * g ≡ 0 = omega arith in
-    let nothing : 0 ≡ 0 * summed w steps = omega arith in
-    nothing ∙ ap (λ m. m * summed w steps) (sym behind)
+    let nothing : 0 ≡ 0 * summed w all_steps = omega arith in
+    nothing ∙ ap (λ m. m * summed w all_steps) (sym behind)
 weighed_groups w n g (suc k) some =
     let size = min 16 (n - 16 * g) in
     let others = flat_map (λ h. group_turns (16 * h) (min 16 (n - 16 * h))) (range_with_len (g + 1) k) in
     let all : size + (n - 16 * (g + 1)) ≡ n - 16 * g = omega arith in
     weighed-append w (group_turns (16 * g) size) others
-    ∙ ap (λ m. m + weighed w others) (weighed_steps w (16 * g) size steps)
-    ∙ ap (λ m. size * summed w steps + m) (weighed_groups w n (g + 1) k (omega arith))
-    ∙ sym (add-mul size (n - 16 * (g + 1)) (summed w steps))
-    ∙ ap (λ m. m * summed w steps) all
+    ∙ ap (λ m. m + weighed w others) (weighed_steps w (16 * g) size all_steps)
+    ∙ ap (λ m. size * summed w all_steps + m) (weighed_groups w n (g + 1) k (omega arith))
+    ∙ sym (add-mul size (n - 16 * (g + 1)) (summed w all_steps))
+    ∙ ap (λ m. m * summed w all_steps) all
 
-pub weighed_turns : (w : Step → ℕ) (n : ℕ) → weighed w (turns_of n) ≡ n * summed w steps
+pub weighed_turns : (w : Step → ℕ) (n : ℕ) → weighed w (turns_of n) ≡ n * summed w all_steps
 unfolding turns_of
-weighed_turns w n = weighed_groups w n 0 ((n + 15) / 16 - 0) refl ∙ ap (λ m. m * summed w steps) (omega arith)
+weighed_turns w n = weighed_groups w n 0 ((n + 15) / 16 - 0) refl ∙ ap (λ m. m * summed w all_steps) (omega arith)
 
 -- ---- how many turns
 
@@ -79,8 +79,8 @@ length-two_bytes : (n : ℕ) → length (two_bytes n) ≡ 2
 unfolding two_bytes
 length-two_bytes n = refl
 
-pub length-head_of : (index : ℕ) (s : Segment) → length (head_of index s) ≡ 16
-unfolding head_of four_bytes
+pub length-head_of : (index : ℕ) (s : Segment) → length (record_head index s) ≡ 16
+unfolding record_head four_bytes
 length-head_of index s = refl
 
 length-ethernet : (sender : Sender) → length (ethernet_header sender) ≡ 14
@@ -131,8 +131,8 @@ some_bytes ClientFin = lit≤ tt
 some_bytes ServerFin = lit≤ tt
 some_bytes LastAck = lit≤ tt
 
-step_size : (step : Step) (c : ℕ) → 70 + (segment_of step c).count ≡ size_of step
-unfolding segment_of
+step_size : (step : Step) (c : ℕ) → 70 + (step_segment step c).count ≡ size_of step
+unfolding step_segment
 step_size Syn c = refl
 step_size SynAck c = refl
 step_size Opened c = refl
@@ -144,19 +144,19 @@ step_size ClientFin c = refl
 step_size ServerFin c = refl
 step_size LastAck c = refl
 
-pub few_payload : (step : Step) (c : ℕ) → (segment_of step c).count ≤ 100
+pub few_payload : (step : Step) (c : ℕ) → (step_segment step c).count ≤ 100
 few_payload step c = let size = step_size step c in let few = few_bytes step in omega (arith, size, few)
 
-pub length-record_of : (index : ℕ) (t : Turn) → length (record_of index t) ≡ size_of t.step
+pub length-record_of : (index : ℕ) (t : Turn) → length (packet_record index t) ≡ size_of t.step
 length-record_of index t =
-    let s = segment_of t.step t.connection in
-    omega (arith, length-append (head_of index s) (frame_of t.connection s), length-head_of index s, length-frame_of t.connection s, step_size t.step t.connection)
+    let s = step_segment t.step t.connection in
+    omega (arith, length-append (record_head index s) (frame_of t.connection s), length-head_of index s, length-frame_of t.connection s, step_size t.step t.connection)
 
-length-records : (index : ℕ) (ts : List Turn) → length (records_from index ts) ≡ weighed size_of ts
+length-records : (index : ℕ) (ts : List Turn) → length (packet_records index ts) ≡ weighed size_of ts
 length-records index [] = refl
 length-records index (t ∷ ts) =
-    length-append (record_of index t) (records_from (index + 1) ts)
-    ∙ ap (λ m. m + length (records_from (index + 1) ts)) (length-record_of index t)
+    length-append (packet_record index t) (packet_records (index + 1) ts)
+    ∙ ap (λ m. m + length (packet_records (index + 1) ts)) (length-record_of index t)
     ∙ ap (λ m. size_of t.step + m) (length-records (index + 1) ts)
 
 pub length-made : (n : ℕ) → length (made n) ≡ 24 + 1064 * n

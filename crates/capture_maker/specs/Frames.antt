@@ -2,7 +2,7 @@
 use Rattle.std.specs.Prelude.{ℕ, ◌+◌, ◌*◌, ◌/◌, ◌%◌, List, [], ◌∷◌, ◌++◌, map}
 use Rattle.std.specs.Int.{w16, w32, to_be_bytes}
 use Rattle.std.specs.List.{range_with_len}
-use Rattle.capture_maker.specs.Table.{byte_of, segment_of}
+use Rattle.capture_maker.specs.Table.{byte_of, step_segment}
 use Rattle.capture_maker.specs.declared.step.Sender.{Sender}
 use Rattle.capture_maker.specs.declared.step.Sender.TheVariants.{Client, Server}
 use Rattle.capture_maker.specs.declared.step.Segment.{Segment}
@@ -16,13 +16,13 @@ unfoldable pub four_bytes : ℕ → List ℕ
 four_bytes n = to_be_bytes w32 n
 
 -- the client has the address 10.0.0.1 + c, the server 192.0.2.1
-abbrev pub source_address : Sender → ℕ → ℕ
-source_address Client c = 0x0a000001 + c
-source_address Server c = 0xc0000201
+abbrev pub sender_address : Sender → ℕ → ℕ
+sender_address Client c = 0x0a000001 + c
+sender_address Server c = 0xc0000201
 
-abbrev pub target_address : Sender → ℕ → ℕ
-target_address Client c = source_address Server c
-target_address Server c = source_address Client c
+abbrev pub receiver_address : Sender → ℕ → ℕ
+receiver_address Client c = sender_address Server c
+receiver_address Server c = sender_address Client c
 
 -- ports
 abbrev pub source_port : Sender → ℕ → ℕ
@@ -41,7 +41,7 @@ ethernet_header Server = 2 ∷ 0 ∷ 0 ∷ 0 ∷ 0 ∷ 1 ∷ 2 ∷ 0 ∷ 0 ∷ 0
 -- the IPv4 header: version 4, 20 bytes, service 0; total length; identification 0, don't fragment, TTL 64, protocol TCP,
 -- checksum 0; source and destination
 abbrev pub ipv4_header : ℕ → Segment → List ℕ
-ipv4_header c s = 0x45 ∷ 0 ∷ two_bytes (40 + s.count) ++ 0 ∷ 0 ∷ 0x40 ∷ 0 ∷ 64 ∷ 6 ∷ 0 ∷ 0 ∷ four_bytes (source_address s.sender c) ++ four_bytes (target_address s.sender c)
+ipv4_header c s = 0x45 ∷ 0 ∷ two_bytes (40 + s.count) ++ 0 ∷ 0 ∷ 0x40 ∷ 0 ∷ 64 ∷ 6 ∷ 0 ∷ 0 ∷ four_bytes (sender_address s.sender c) ++ four_bytes (receiver_address s.sender c)
 
 -- the TCP header: ports, numbers, 20 bytes, flags, window ffff, checksum 0, urgent 0
 abbrev pub tcp_header : ℕ → Segment → List ℕ
@@ -55,9 +55,9 @@ unfoldable pub frame_of : ℕ → Segment → List ℕ
 frame_of c s = ethernet_header s.sender ++ ipv4_header c s ++ tcp_header c s ++ payload c s
 
 -- the head of the record of a packet: a thousand packets a second, one a millisecond; length of the frame, twice
-unfoldable pub head_of : ℕ → Segment → List ℕ
-head_of index s = four_bytes (index / 1000) ++ four_bytes (index % 1000 * 1000) ++ four_bytes (54 + s.count) ++ four_bytes (54 + s.count)
+unfoldable pub record_head : ℕ → Segment → List ℕ
+record_head index s = four_bytes (index / 1000) ++ four_bytes (index % 1000 * 1000) ++ four_bytes (54 + s.count) ++ four_bytes (54 + s.count)
 
 -- the record of a packet
-abbrev pub record_of : ℕ → Turn → List ℕ
-record_of index t = head_of index (segment_of t.step t.connection) ++ frame_of t.connection (segment_of t.step t.connection)
+abbrev pub packet_record : ℕ → Turn → List ℕ
+packet_record index t = record_head index (step_segment t.step t.connection) ++ frame_of t.connection (step_segment t.step t.connection)

@@ -1,6 +1,6 @@
 -- The generated capture of n connections.
 use Rattle.std.specs.Prelude.{ℕ, ◌+◌, List, [], ◌∷◌, ◌++◌}
-use Rattle.capture_maker.specs.Frames.{record_of}
+use Rattle.capture_maker.specs.Frames.{packet_record}
 use Rattle.capture_maker.specs.Turns.{turns_of}
 use Rattle.capture_maker.specs.declared.turns.Turn.{Turn}
 
@@ -9,13 +9,13 @@ unfoldable pub global_header : List ℕ
 global_header = 0xa1 ∷ 0xb2 ∷ 0xc3 ∷ 0xd4 ∷ 0 ∷ 2 ∷ 0 ∷ 4 ∷ 0 ∷ 0 ∷ 0 ∷ 0 ∷ 0 ∷ 0 ∷ 0 ∷ 0 ∷ 0 ∷ 0 ∷ 0xff ∷ 0xff ∷ 0 ∷ 0 ∷ 0 ∷ 1 ∷ []
 
 -- the records of these turns, which are packets from this index on
-abbrev pub records_from : ℕ → List Turn → List ℕ
-records_from index [] = []
-records_from index (t ∷ ts) = record_of index t ++ records_from (index + 1) ts
+abbrev pub packet_records : ℕ → List Turn → List ℕ
+packet_records index [] = []
+packet_records index (t ∷ ts) = packet_record index t ++ packet_records (index + 1) ts
 
 -- the bytes of the capture
 unfoldable pub made : ℕ → List ℕ
-made n = global_header ++ records_from 0 (turns_of n)
+made n = global_header ++ packet_records 0 (turns_of n)
 
 -- a maker: how many connections it makes, and the bytes that are left
 pub record MakerState : Type 0 where

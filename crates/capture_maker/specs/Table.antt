@@ -28,17 +28,17 @@ abbrev pub pushed : Sender → ℕ → ℕ → ℕ → ℕ → Segment
 pushed sender seq ack first count = record { sender = sender; flags = 0x18; seq = seq; ack = ack; first = first; count = count }
 
 -- what a connection sends in a step: flags 02 SYN, 10 ACK, 12 SYN and ACK, 11 FIN and ACK
-unfoldable pub segment_of : Step → ℕ → Segment
-segment_of Syn c = bare Client 0x02 (client_number c) 0
-segment_of SynAck c = bare Server 0x12 (server_number c) (in_client c 1)
-segment_of Opened c = bare Client 0x10 (in_client c 1) (in_server c 1)
-segment_of Request c = pushed Client (in_client c 1) (in_server c 1) 0 64
-segment_of LateHalf c = pushed Server (in_server c 101) (in_client c 65) 100 100
-segment_of FirstHalf c = pushed Server (in_server c 1) (in_client c 65) 0 100
-segment_of Repeated c = pushed Server (in_server c 1) (in_client c 65) 0 100
-segment_of ClientFin c = bare Client 0x11 (in_client c 65) (in_server c 201)
-segment_of ServerFin c = bare Server 0x11 (in_server c 201) (in_client c 66)
-segment_of LastAck c = bare Client 0x10 (in_client c 66) (in_server c 202)
+unfoldable pub step_segment : Step → ℕ → Segment
+step_segment Syn c = bare Client 0x02 (client_number c) 0
+step_segment SynAck c = bare Server 0x12 (server_number c) (in_client c 1)
+step_segment Opened c = bare Client 0x10 (in_client c 1) (in_server c 1)
+step_segment Request c = pushed Client (in_client c 1) (in_server c 1) 0 64
+step_segment LateHalf c = pushed Server (in_server c 101) (in_client c 65) 100 100
+step_segment FirstHalf c = pushed Server (in_server c 1) (in_client c 65) 0 100
+step_segment Repeated c = pushed Server (in_server c 1) (in_client c 65) 0 100
+step_segment ClientFin c = bare Client 0x11 (in_client c 65) (in_server c 201)
+step_segment ServerFin c = bare Server 0x11 (in_server c 201) (in_client c 66)
+step_segment LastAck c = bare Client 0x10 (in_client c 66) (in_server c 202)
 
 -- the byte at a position of what a connection's client or server sends
 abbrev pub byte_of : Sender → ℕ → ℕ → ℕ

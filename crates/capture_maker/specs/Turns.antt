@@ -6,8 +6,8 @@ use Rattle.capture_maker.specs.declared.step.Step.TheVariants.{Syn, SynAck, Open
 use Rattle.capture_maker.specs.declared.turns.Turn.{Turn}
 
 -- the steps of a connection, in order
-abbrev pub steps : List Step
-steps = Syn ∷ SynAck ∷ Opened ∷ Request ∷ LateHalf ∷ FirstHalf ∷ Repeated ∷ ClientFin ∷ ServerFin ∷ LastAck ∷ []
+abbrev pub all_steps : List Step
+all_steps = Syn ∷ SynAck ∷ Opened ∷ Request ∷ LateHalf ∷ FirstHalf ∷ Repeated ∷ ClientFin ∷ ServerFin ∷ LastAck ∷ []
 
 -- a step of each of so many connections from this one on
 abbrev pub step_turns : ℕ → ℕ → Step → List Turn
@@ -15,7 +15,7 @@ step_turns first count step = map (λ c. record { step = step; connection = c })
 
 -- a group of connections: each step in order, and in it each connection in order
 abbrev pub group_turns : ℕ → ℕ → List Turn
-group_turns first count = flat_map (step_turns first count) steps
+group_turns first count = flat_map (step_turns first count) all_steps
 
 -- groups of 16 of n connections, from this group on; the last may be smaller
 abbrev pub groups_from : ℕ → ℕ → List Turn

@@ -4,7 +4,7 @@ ghost use Rattle.std.specs.Prelude.{◌≡◌, ◌+◌, ◌*◌, ◌<◌, ◌≤
 ghost use Rattle.std.specs.Io.{ReadsAtMost};
 ghost use Rattle.std.specs.Io.KnownBytes.{ReadConsumes};
 ghost use Rattle.mos_bytes.specs.Causes.{HasCause};
-ghost use Rattle.capture_maker.specs.Made.{MakerState, made, records_from};
+ghost use Rattle.capture_maker.specs.Made.{MakerState, made, packet_records};
 
 use crate::piece::Piece;
 use crate::record::put_record;
@@ -32,7 +32,7 @@ pub struct Maker {
 impl Model for Maker {
     ghost Value = { MakerState };
 
-    ghost view = { λ m. record { count = m.count; left = drop m.place m.piece ++ records_from m.index m.turns } };
+    ghost view = { λ m. record { count = m.count; left = drop m.place m.piece ++ packet_records m.index m.turns } };
 
     ghost invariant = { λ m. record { few : m.count ≤ 100000; within : m.place ≤ length m.piece; rest : m.index + length m.turns ≤ 1000000 } };
 }
@@ -67,7 +67,7 @@ impl Maker {
 // the piece is empty.
 fn make_next(piece: &mut Piece, turns: &mut Turns, index: u32) -> u32
     requires { index + length turns.old ≤ 1000000 }
-    ensures bytes { records_from index turns.old ≡ piece.new ++ records_from result turns.new }
+    ensures bytes { packet_records index turns.old ≡ piece.new ++ packet_records result turns.new }
     ensures end { length piece.new ≡ 0 → turns.new ≡ [] }
     ensures rest { result + length turns.new ≤ 1000000 }
 {

@@ -2,7 +2,7 @@
 
 ghost use Rattle.std.specs.Prelude.{◌≡◌, ◌+◌, ◌<◌, ◌≤◌, [], ◌++◌, ℕ, length, map};
 ghost use Rattle.std.specs.List.{range_with_len};
-ghost use Rattle.capture_maker.specs.Frames.{ethernet_header, head_of, ipv4_header, payload, record_of, source_address, source_port, target_address, target_port, tcp_header};
+ghost use Rattle.capture_maker.specs.Frames.{ethernet_header, record_head, ipv4_header, payload, packet_record, sender_address, source_port, receiver_address, target_port, tcp_header};
 ghost use Rattle.capture_maker.specs.Table.{byte_of};
 
 use crate::piece::Piece;
@@ -32,7 +32,7 @@ fn sent_byte(sender: Sender, connection: u32, position: u32) -> u8
 
 fn source_of(sender: Sender, connection: u32) -> u32
     requires { connection < 100000 }
-    ensures { result ≡ source_address sender connection }
+    ensures { result ≡ sender_address sender connection }
 {
     match sender {
         Sender::Client => FIRST_CLIENT + connection,
@@ -42,7 +42,7 @@ fn source_of(sender: Sender, connection: u32) -> u32
 
 fn target_of(sender: Sender, connection: u32) -> u32
     requires { connection < 100000 }
-    ensures { result ≡ target_address sender connection }
+    ensures { result ≡ receiver_address sender connection }
 {
     match sender {
         Sender::Client => source_of(Sender::Server, connection),
@@ -69,11 +69,11 @@ fn target_port_of(sender: Sender, connection: u32) -> u16
 }
 
 // Puts the head of the record.
-#[tactic(auto, unfolding(crate::specs::Frames::head_of))]
+#[tactic(auto, unfolding(crate::specs::Frames::record_head))]
 fn put_head(piece: &mut Piece, index: u32, segment: &Segment)
     requires count { segment.now.count ≤ 100 }
     requires room { length piece.old + 16 ≤ 170 }
-    ensures bytes { piece.new ≡ piece.old ++ head_of index segment.now }
+    ensures bytes { piece.new ≡ piece.old ++ record_head index segment.now }
     ensures len { length piece.new ≡ length piece.old + 16 }
 {
     let len = 54 + segment.count;
@@ -138,7 +138,7 @@ fn put_payload(piece: &mut Piece, connection: u32, segment: &Segment)
 pub(crate) fn put_record(piece: &mut Piece, index: u32, turn: Turn)
     requires connection { turn.connection < 100000 }
     requires empty { piece.old ≡ [] }
-    ensures { piece.new ≡ record_of index turn }
+    ensures { piece.new ≡ packet_record index turn }
 {
     let sent = segment_in(turn.step, turn.connection);
     put_head(piece, index, &sent);

@@ -1,7 +1,7 @@
 //! The steps of a connection: who sends what.
 
 ghost use Rattle.std.specs.Prelude.{◌≡◌, ℕ, ◌≤◌};
-ghost use Rattle.capture_maker.specs.Table.{client_number, segment_of, server_number};
+ghost use Rattle.capture_maker.specs.Table.{client_number, step_segment, server_number};
 
 // Flags of the TCP header.
 const SYN: u8 = 0x02;
@@ -117,9 +117,9 @@ fn pushed(sender: Sender, seq: u32, ack: u32, first: u32, count: u32) -> Segment
 }
 
 // What a connection sends in this step.
-#[tactic(auto, unfolding(crate::specs::Table::segment_of))]
+#[tactic(auto, unfolding(crate::specs::Table::step_segment))]
 pub(crate) fn segment_in(step: Step, connection: u32) -> Segment
-    ensures segment { result ≡ segment_of step connection }
+    ensures segment { result ≡ step_segment step connection }
     ensures first { result.first ≤ 100 }
     ensures count { result.count ≤ 100 }
 {

@@ -1,7 +1,7 @@
 //! Whose turn it is: the packets of all connections in the order of the capture.
 
 ghost use Rattle.std.specs.Prelude.{◌≡◌, ◌+◌, ◌-◌, ◌*◌, ◌<◌, ◌≤◌, ◌⊎◌, min, List, [], ◌∷◌, drop, IfSome, MatchOption};
-ghost use Rattle.capture_maker.specs.Turns.{steps, turns_from, turns_of};
+ghost use Rattle.capture_maker.specs.Turns.{all_steps, turns_from, turns_of};
 ghost use Rattle.capture_maker.specs.declared.turns.Turn.{Turn};
 
 use crate::step::{STEPS, Step};
@@ -31,7 +31,7 @@ pub(crate) struct Turns {
 impl Model for Turns {
     ghost Value = { List Turn };
 
-    ghost view = { λ t. turns_from t.count t.group (drop t.step steps) t.connection };
+    ghost view = { λ t. turns_from t.count t.group (drop t.step all_steps) t.connection };
 
     ghost invariant = { λ t. (t.count ≤ 100000) × (16 * t.group ≤ t.connection) × (t.group ≤ 6250) × (t.step < 10)
         × ((t.connection < 16 * t.group + min 16 (t.count - 16 * t.group)) ⊎ ((t.count ≤ 16 * t.group) × (t.connection ≡ 16 * t.group))) };

@@ -5,7 +5,7 @@ use Rattle.tcp_emulation.specs.declared.segment.Side.{Side}
 use Rattle.flow_socket.specs.View.{SocketView, SocketStandsFor}
 use Rattle.reassembly.specs.declared.answers.Policy.{Policy}
 use Rattle.tcp_emulation.specs.declared.segment.Side.TheVariants.{Client}
-use Rattle.flow_socket.specs.Emulation.{Emulation, fresh as unheard, sent, sent_answer, received, got_of}
+use Rattle.flow_socket.specs.Emulation.{Emulation, fresh_emulation as unheard, sent, sent_answer, received, got_of}
 use Rattle.flow_socket.specs.declared.answers.Sent.{Sent}
 use Rattle.flow_socket.specs.declared.answers.Got.{Got}
 use Rattle.app_api.specs.declared.reaction.Reason.{Reason}

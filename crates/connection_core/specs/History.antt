@@ -3,8 +3,8 @@ use Rattle.std.specs.Prelude.{ℕ, ◌+◌, ◌==◌, Bool, Option, Some, None, 
 use Rattle.packet_views.specs.declared.packet.Head.{Head}
 use Rattle.tcp_emulation.specs.declared.segment.Side.{Side}
 use Rattle.tcp_emulation.specs.declared.segment.Side.TheVariants.{Client}
-use Rattle.tcp_emulation.specs.Ends.{is_over as are_over}
-use Rattle.flow_socket.specs.Emulation.{Emulation, fresh as unheard, sent, sent_answer, received, got_of}
+use Rattle.tcp_emulation.specs.Ends.{are_over as are_over}
+use Rattle.flow_socket.specs.Emulation.{Emulation, fresh_emulation as unheard, sent, sent_answer, received, got_of}
 use Rattle.app_api.specs.declared.app.Tally.{Tally}
 use Rattle.app_api.specs.declared.entry.Entry.{Entry}
 use Rattle.app_api.specs.declared.reaction.Reason.{Reason}

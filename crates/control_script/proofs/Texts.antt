@@ -6,7 +6,7 @@ use Rattle.std.specs.Prelude.{◌==◌}
 use Rattle.std.specs.List.{prefix_len, list_all}
 use Rattle.control_script.specs.Reader.{behind}
 use Rattle.control_script.specs.Lines.{lines, without_return, is_text}
-use Rattle.control_script.specs.Cuts.{place_of}
+use Rattle.control_script.specs.Cuts.{position_of}
 use Rattle.filter_lang.specs.Tokens.{is_blank}
 use Rattle.control_script.specs.Words.{Word, is_in_word, words_behind, words}
 
@@ -42,8 +42,8 @@ front-word [] zero (suc m) e f = absurd (omega arith)
 front-word [] (suc n) m e f = absurd (omega arith)
 front-word (b ∷ bs) n m e f = front-step (is_blank b) b bs n m refl e f (front-word bs)
 
-line-step : (t : Bool) (b : ℕ) (bs : List ℕ) (n : ℕ) → (b == 10) ≡ t → n ≡ cond (not t) (1 + place_of 10 bs) 0
-    → ((k : ℕ) → 0 < length bs → k ≡ place_of 10 bs → lines bs ≡ take k bs ∷ lines (drop (suc k) bs)) → lines (b ∷ bs) ≡ take n (b ∷ bs) ∷ lines (drop n bs)
+line-step : (t : Bool) (b : ℕ) (bs : List ℕ) (n : ℕ) → (b == 10) ≡ t → n ≡ cond (not t) (1 + position_of 10 bs) 0
+    → ((k : ℕ) → 0 < length bs → k ≡ position_of 10 bs → lines bs ≡ take k bs ∷ lines (drop (suc k) bs)) → lines (b ∷ bs) ≡ take n (b ∷ bs) ∷ lines (drop n bs)
 line-step true b bs zero same e more = rw same refl
 line-step true b bs (suc n) same e more = absurd (omega arith)
 line-step false b bs zero other e more = absurd (omega arith)
@@ -52,7 +52,7 @@ line-step false b [] (suc (suc n)) other e more = absurd (omega arith)
 line-step false b (c ∷ bs) (suc n) other e more = rw (other, more n (omega arith) (omega arith)) refl
 
 -- the first line of a text
-pub front-line : (text : List ℕ) (n : ℕ) → 0 < length text → n ≡ place_of 10 text → lines text ≡ take n text ∷ lines (drop (suc n) text)
+pub front-line : (text : List ℕ) (n : ℕ) → 0 < length text → n ≡ position_of 10 text → lines text ≡ take n text ∷ lines (drop (suc n) text)
 front-line [] n some e = absurd (omega arith)
 front-line (b ∷ bs) n some e = line-step (b == 10) b bs n refl e (front-line bs)
 
@@ -93,7 +93,7 @@ cut-word text begun rest n m e f g h =
     rw (same, e) (sym (front-word text n m g size))
 
 -- the text behind the first line as the code cuts it off
-pub cut-line : (text : List ℕ) (n m : ℕ) → 0 < length text → n ≡ place_of 10 text → drop m text ≡ drop (suc n) text → lines text ≡ take n text ∷ lines (take (length text - m) (drop m text))
+pub cut-line : (text : List ℕ) (n m : ℕ) → 0 < length text → n ≡ position_of 10 text → drop m text ≡ drop (suc n) text → lines text ≡ take n text ∷ lines (take (length text - m) (drop m text))
 cut-line text n m some e f = front-line text n some e ∙ ap (λ bs. take n text ∷ lines bs) (sym f ∙ sym (from_offset text m))
 
 pub behind-end : (text : List ℕ) (n m : ℕ) → m ≡ n → length text ≤ n → drop m text ≡ drop (suc n) text

@@ -7,12 +7,12 @@
 --     hook    = "snd" | "rcv"      peek = "peek" number | "peekat" number number
 --     action  = "drop" | "on" number | "off" number
 --
--- For each place and word, `next` says what stands next, or why the word can't stand there. The filter of an event is
+-- For each place and word, `after_word` says what stands next, or why the word can't stand there. The filter of an event is
 -- the text behind the event's word.
 use Rattle.std.specs.Prelude.{ℕ, ◌==◌, ◌++◌, Bool, true, false, if◌then◌else◌, nat_lt, List, [], ◌∷◌, length, slice_index, codes, Option, Some, None, Result, Ok, Err}
 use Rattle.std.specs.Str.{bytes_eq}
 use Rattle.std.specs.Char.{is_ascii_alphabetic}
-use Rattle.number_text.specs.Numbers.{number_in}
+use Rattle.number_text.specs.Numbers.{number_between}
 use Rattle.native_filters.specs.declared.facts.Hook.{Hook}
 use Rattle.native_filters.specs.declared.facts.Hook.TheVariants.{Snd, Rcv}
 use Rattle.reassembly.specs.declared.answers.Policy.TheVariants.{First, Last}
@@ -74,47 +74,47 @@ rule st number allow src dst ports = stamped st (AddRule (record {
   high = ports.high;
 }))
 
-pub data Place : Type 0 where
-  line_place : Place
-  command_place : Stamp → Place
+pub data WordPlace : Type 0 where
+  line_place : WordPlace
+  command_place : Stamp → WordPlace
   -- a number in a range, and what stands behind it
-  number_place : ℕ → ℕ → (ℕ → Place) → Place
+  number_place : ℕ → ℕ → (ℕ → WordPlace) → WordPlace
   -- the event of a definition, with the number of the new one
-  under_place : Stamp → ℕ → Place
-  parent_place : Stamp → ℕ → Place
+  under_place : Stamp → ℕ → WordPlace
+  parent_place : Stamp → ℕ → WordPlace
   -- the event and the hook of a registration, with its number
-  event_place : Stamp → ℕ → Place
-  hook_place : Stamp → ℕ → ℕ → Place
+  event_place : Stamp → ℕ → WordPlace
+  hook_place : Stamp → ℕ → ℕ → WordPlace
   -- behind a registration's hook, its `off`, its peek, its `do` and each action
-  hooked_place : Stamp → Reg → Place
-  switched_place : Stamp → Reg → Place
-  peeked_place : Stamp → Reg → Place
-  action_place : Stamp → Reg → Place
-  acting_place : Stamp → Reg → Place
-  policy_place : Stamp → Place
+  hooked_place : Stamp → Reg → WordPlace
+  switched_place : Stamp → Reg → WordPlace
+  peeked_place : Stamp → Reg → WordPlace
+  action_place : Stamp → Reg → WordPlace
+  acting_place : Stamp → Reg → WordPlace
+  policy_place : Stamp → WordPlace
   -- `allow` or `deny`, with the number of a rule
-  verb_place : Stamp → ℕ → Place
-  net_place : (Net → Place) → Place
-  ports_place : (Ports → Place) → Place
-  end_place : Stamped → Place
+  verb_place : Stamp → ℕ → WordPlace
+  net_place : (Net → WordPlace) → WordPlace
+  ports_place : (Ports → WordPlace) → WordPlace
+  end_place : Stamped → WordPlace
 
 -- what follows a word: a place, the text behind it as a filter, the end of the line, or a refusal
-pub data Next : Type 0 where
-  go : Place → Next
-  rest : (Shape → Stamped) → Next
-  done : Stamped → Next
-  stop : (ℕ → ScriptError) → Next
+pub data AfterWord : Type 0 where
+  go : WordPlace → AfterWord
+  rest : (Shape → Stamped) → AfterWord
+  done : Stamped → AfterWord
+  stop : (ℕ → ScriptError) → AfterWord
 
 -- a word of a table, each with what follows it; else what another form says
-abbrev pub word_or : List (List ℕ × Next) → Next → List ℕ → Next
+abbrev pub word_or : List (List ℕ × AfterWord) → AfterWord → List ℕ → AfterWord
 word_or [] other w = other
 word_or (row ∷ rows) other w = if bytes_eq w row.0 then row.1 else word_or rows other w
 
-abbrev pub word_of : List (List ℕ × Next) → List ℕ → Next
+abbrev pub word_of : List (List ℕ × AfterWord) → List ℕ → AfterWord
 word_of rows w = word_or rows (stop Syntax) w
 
 -- goes on with what a word is, where it is that
-abbrev pub go_with : {A : Type 0} → (A → Place) → Option A → Next
+abbrev pub go_with : {A : Type 0} → (A → WordPlace) → Option A → AfterWord
 go_with k None = stop Syntax
 go_with k (Some a) = go (k a)
 
@@ -122,83 +122,83 @@ abbrev pub begins_with_letter : List ℕ → Bool
 begins_with_letter name = is_ascii_alphabetic (slice_index name 0)
 
 -- a word that names no built-in event: a number, or a name that isn't known
-abbrev pub defined_next : (ℕ → Next) → List ℕ → Option ℕ → Next
+abbrev pub defined_next : (ℕ → AfterWord) → List ℕ → Option ℕ → AfterWord
 defined_next k w None = if begins_with_letter w then stop UnknownName else stop Syntax
 defined_next k w (Some n) = k n
 
-abbrev pub event_next : (ℕ → Next) → List ℕ → Option ℕ → Next
-event_next k w None = defined_next k w (number_in 1 255 w)
+abbrev pub event_next : (ℕ → AfterWord) → List ℕ → Option ℕ → AfterWord
+event_next k w None = defined_next k w (number_between 1 255 w)
 event_next k w (Some e) = k e
 
-abbrev pub next_event : (ℕ → Next) → List ℕ → Next
+abbrev pub next_event : (ℕ → AfterWord) → List ℕ → AfterWord
 next_event k w = event_next k w (event_named w)
 
-abbrev pub next_end : Stamped → List ℕ → Next
+abbrev pub next_end : Stamped → List ℕ → AfterWord
 next_end s w = if length w == 0 then done s else stop Syntax
 
 -- behind `on` or `off`: four changes at most
-abbrev pub next_change : Stamp → Reg → Bool → Next
+abbrev pub next_change : Stamp → Reg → Bool → AfterWord
 next_change st r on = if nat_lt (length r.action.changes) 4 then go (number_place 1 255 (λ n. acting_place st (changing r n on))) else stop Syntax
 
 -- an action of a registration: one drop at most, or a change
-abbrev pub next_action : Stamp → Reg → List ℕ → Next
+abbrev pub next_action : Stamp → Reg → List ℕ → AfterWord
 next_action st r =
     word_of ((codes "drop", if r.action.drop then stop Syntax else go (acting_place st (dropping r)))
     ∷ (codes "on", next_change st r true) ∷ (codes "off", next_change st r false) ∷ [])
 
-abbrev pub next_peeked : Stamp → Reg → List ℕ → Next
+abbrev pub next_peeked : Stamp → Reg → List ℕ → AfterWord
 next_peeked st r w = word_or ((codes "do", go (action_place st r)) ∷ []) (next_end (stamped st (Register r)) w) w
 
-abbrev pub next_switched : Stamp → Reg → List ℕ → Next
+abbrev pub next_switched : Stamp → Reg → List ℕ → AfterWord
 next_switched st r w =
     word_or ((codes "peek", go (number_place 1 256 (λ n. peeked_place st (peeking r (NextBytes n)))))
     ∷ (codes "peekat", go (number_place 0 1099511627775 (λ off. number_place 1 256 (λ n. peeked_place st (peeking r (BytesAt off n))))))
     ∷ []) (next_peeked st r w) w
 
-abbrev pub rule_place : Stamp → ℕ → Bool → Place
+abbrev pub rule_place : Stamp → ℕ → Bool → WordPlace
 rule_place st number allow = net_place (λ src. net_place (λ dst. ports_place (λ ports. end_place (rule st number allow src dst ports))))
 
 -- a command of one number in a range
-abbrev pub of_number : Stamp → ℕ → ℕ → (ℕ → Command) → Next
+abbrev pub of_number : Stamp → ℕ → ℕ → (ℕ → Command) → AfterWord
 of_number st low high make = go (number_place low high (λ n. end_place (stamped st (make n))))
 
 -- the commands of one number, and `policy`
-abbrev pub settings : Stamp → List (List ℕ × Next)
+abbrev pub settings : Stamp → List (List ℕ × AfterWord)
 settings st =
     (codes "unreg", of_number st 1 255 Unregister) ∷ (codes "rbuf", of_number st 1 1048576 Buffer)
     ∷ (codes "unrule", of_number st 1 255 RemoveRule) ∷ (codes "idle", of_number st 1 4294967295 Idle)
     ∷ (codes "policy", go (policy_place st)) ∷ []
 
 -- all commands
-abbrev pub commands : Stamp → List (List ℕ × Next)
+abbrev pub commands : Stamp → List (List ℕ × AfterWord)
 commands st =
     (codes "event", go (number_place 1 255 (under_place st))) ∷ (codes "reg", go (number_place 16 255 (event_place st)))
     ∷ (codes "rule", go (number_place 1 255 (verb_place st))) ∷ settings st
 
-abbrev pub next : Place → List ℕ → Next
+abbrev pub after_word : WordPlace → List ℕ → AfterWord
 -- a line without a stamp is `at 0`
-next line_place w =
+after_word line_place w =
     word_or ((codes "at", go (number_place 0 4294967295 (λ k. command_place (At k)))) ∷ (codes "live", go (command_place Live)) ∷ [])
     (word_of (commands (At 0)) w) w
-next (command_place st) w = word_of (commands st) w
-next (number_place low high k) w = go_with k (number_in low high w)
-next (under_place st number) w = word_of ((codes "under", go (parent_place st number)) ∷ []) w
-next (parent_place st number) w = next_event (λ e. rest (λ f. stamped st (Event (record { number = number; parent = e; filter = f })))) w
-next (event_place st number) w = next_event (λ e. go (hook_place st number e)) w
-next (hook_place st number event) w =
+after_word (command_place st) w = word_of (commands st) w
+after_word (number_place low high k) w = go_with k (number_between low high w)
+after_word (under_place st number) w = word_of ((codes "under", go (parent_place st number)) ∷ []) w
+after_word (parent_place st number) w = next_event (λ e. rest (λ f. stamped st (Event (record { number = number; parent = e; filter = f })))) w
+after_word (event_place st number) w = next_event (λ e. go (hook_place st number e)) w
+after_word (hook_place st number event) w =
     word_of ((codes "snd", go (hooked_place st (plain_reg number event Snd))) ∷ (codes "rcv", go (hooked_place st (plain_reg number event Rcv))) ∷ []) w
-next (hooked_place st r) w = word_or ((codes "off", go (switched_place st (switched_off r))) ∷ []) (next_switched st r w) w
-next (switched_place st r) w = next_switched st r w
-next (peeked_place st r) w = next_peeked st r w
-next (action_place st r) w = next_action st r w
-next (acting_place st r) w = if length w == 0 then done (stamped st (Register r)) else next_action st r w
-next (policy_place st) w =
+after_word (hooked_place st r) w = word_or ((codes "off", go (switched_place st (switched_off r))) ∷ []) (next_switched st r w) w
+after_word (switched_place st r) w = next_switched st r w
+after_word (peeked_place st r) w = next_peeked st r w
+after_word (action_place st r) w = next_action st r w
+after_word (acting_place st r) w = if length w == 0 then done (stamped st (Register r)) else next_action st r w
+after_word (policy_place st) w =
     word_of ((codes "first", go (end_place (stamped st (Overlap First)))) ∷ (codes "last", go (end_place (stamped st (Overlap Last)))) ∷ []) w
-next (verb_place st number) w =
+after_word (verb_place st number) w =
     word_of ((codes "allow", go (rule_place st number true)) ∷ (codes "deny", go (rule_place st number false)) ∷ []) w
-next (net_place k) w = go_with k (net_of w)
-next (ports_place k) w = go_with k (ports_of w)
-next (end_place s) w = next_end s w
+after_word (net_place k) w = go_with k (net_of w)
+after_word (ports_place k) w = go_with k (ports_of w)
+after_word (end_place s) w = next_end s w
 
 -- a filter's refusal as the line's
 abbrev pub filter_fault : FilterError → ℕ → ScriptError
@@ -213,13 +213,13 @@ with_filter n make (Ok f) = Ok (make f)
 with_filter n make (Err e) = Err (filter_fault e n)
 
 -- goes on at a place, or ends; a refusal is told with the line's number
-abbrev pub steps : (Place → Result Stamped ScriptError) → ℕ → List ℕ → Next → Result Stamped ScriptError
-steps k n behind (go p) = k p
-steps k n behind (rest make) = with_filter n make (filter behind)
-steps k n behind (done s) = Ok s
-steps k n behind (stop refusal) = Err (refusal n)
+abbrev pub continued : (WordPlace → Result Stamped ScriptError) → ℕ → List ℕ → AfterWord → Result Stamped ScriptError
+continued k n behind (go p) = k p
+continued k n behind (rest make) = with_filter n make (filter behind)
+continued k n behind (done s) = Ok s
+continued k n behind (stop refusal) = Err (refusal n)
 
 -- what the words of line n are from a place on
-abbrev pub read : ℕ → List Word → Place → Result Stamped ScriptError
-read n [] p = Err (Syntax n)
-read n (w ∷ ws) p = steps (read n ws) n w.behind (next p w.text)
+abbrev pub line_from : ℕ → List Word → WordPlace → Result Stamped ScriptError
+line_from n [] p = Err (Syntax n)
+line_from n (w ∷ ws) p = continued (line_from n ws) n w.behind (after_word p w.text)

@@ -4,7 +4,7 @@ use Rattle.std.specs.Str.{bytes_eq}
 use Rattle.control_script.specs.declared.nets.Net.{Net}
 use Rattle.control_script.specs.declared.nets.Ports.{Ports}
 use Rattle.control_script.specs.Cuts.{cut_at}
-use Rattle.number_text.specs.Numbers.{number_in, octet}
+use Rattle.number_text.specs.Numbers.{number_between, octet}
 
 -- goes on with what was found
 abbrev pub with : {A B : Type 0} → Option A → (A → Option B) → Option B
@@ -22,15 +22,15 @@ address_of text =
 abbrev pub net_of : List ℕ → Option Net
 net_of word =
     if bytes_eq word (codes "any") then Some (record { address = 0; len = 0 }) else
-    with (cut_at 47 word) (λ c. with (address_of c.0) (λ a. with (number_in 0 32 c.1) (λ n. Some (record { address = a; len = n }))))
+    with (cut_at 47 word) (λ c. with (address_of c.0) (λ a. with (number_between 0 32 c.1) (λ n. Some (record { address = a; len = n }))))
 
 -- ports from one to another that isn't less
 abbrev pub span_of : List ℕ × List ℕ → Option Ports
 span_of c =
-    with (number_in 0 65535 c.0) (λ l. with (number_in 0 65535 c.1) (λ h. if nat_le l h then Some (record { low = l; high = h }) else None))
+    with (number_between 0 65535 c.0) (λ l. with (number_between 0 65535 c.1) (λ h. if nat_le l h then Some (record { low = l; high = h }) else None))
 
 abbrev pub one_port : List ℕ → Option Ports
-one_port word = with (number_in 0 65535 word) (λ n. Some (record { low = n; high = n }))
+one_port word = with (number_between 0 65535 word) (λ n. Some (record { low = n; high = n }))
 
 abbrev pub ports_in : List ℕ → Option (List ℕ × List ℕ) → Option Ports
 ports_in word None = one_port word

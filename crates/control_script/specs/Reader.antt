@@ -11,7 +11,7 @@ use Rattle.control_script.specs.declared.nets.Net.{Net}
 use Rattle.control_script.specs.declared.nets.Ports.{Ports}
 use Rattle.control_script.specs.declared.stamped.Stamped.{Stamped}
 use Rattle.control_script.specs.declared.words.Words.{Words}
-use Rattle.control_script.specs.Grammar.{Place, Next, number_place, net_place, ports_place, parent_place, event_place, hook_place, hooked_place, switched_place, peeked_place, acting_place, action_place, policy_place, verb_place, rule_place, end_place, plain_reg, stamped, next_change, next_event, steps, read}
+use Rattle.control_script.specs.Grammar.{WordPlace, AfterWord, number_place, net_place, ports_place, parent_place, event_place, hook_place, hooked_place, switched_place, peeked_place, acting_place, action_place, policy_place, verb_place, rule_place, end_place, plain_reg, stamped, next_change, next_event, continued, line_from}
 use Rattle.control_script.specs.Words.{Word, words}
 
 -- nothing comes behind the end
@@ -32,33 +32,33 @@ abbrev pub left : Words → ℕ
 left w = length w.word.now + length w.rest.now
 
 -- what the words from the one that is looked at on are at a place
-abbrev pub reads : Words → Place → Result Stamped ScriptError
-reads w p = read w.line (ahead w) p
+abbrev pub reads : Words → WordPlace → Result Stamped ScriptError
+reads w p = line_from w.line (ahead w) p
 
 -- what the words behind the one that is looked at are after a step
-abbrev pub takes : Words → Next → Result Stamped ScriptError
-takes w n = steps (read w.line (later w)) w.line w.rest.now n
+abbrev pub takes : Words → AfterWord → Result Stamped ScriptError
+takes w n = continued (line_from w.line (later w)) w.line w.rest.now n
 
 pub record ReadsNumber (low high : ℕ) (old new : Words) (n : ℕ) : Type 0 where
-  pub same : (k : ℕ → Place) → reads old (number_place low high k) ≡ reads new (k n)
+  pub same : (k : ℕ → WordPlace) → reads old (number_place low high k) ≡ reads new (k n)
 
 pub record RefusesNumber (low high : ℕ) (old : Words) (e : ScriptError) : Type 0 where
-  pub same : (k : ℕ → Place) → reads old (number_place low high k) ≡ Err e
+  pub same : (k : ℕ → WordPlace) → reads old (number_place low high k) ≡ Err e
 
 pub record ReadsNet (old new : Words) (net : Net) : Type 0 where
-  pub same : (k : Net → Place) → reads old (net_place k) ≡ reads new (k net)
+  pub same : (k : Net → WordPlace) → reads old (net_place k) ≡ reads new (k net)
 
 pub record RefusesNet (old : Words) (e : ScriptError) : Type 0 where
-  pub same : (k : Net → Place) → reads old (net_place k) ≡ Err e
+  pub same : (k : Net → WordPlace) → reads old (net_place k) ≡ Err e
 
 pub record ReadsPorts (old new : Words) (ports : Ports) : Type 0 where
-  pub same : (k : Ports → Place) → reads old (ports_place k) ≡ reads new (k ports)
+  pub same : (k : Ports → WordPlace) → reads old (ports_place k) ≡ reads new (k ports)
 
 pub record RefusesPorts (old : Words) (e : ScriptError) : Type 0 where
-  pub same : (k : Ports → Place) → reads old (ports_place k) ≡ Err e
+  pub same : (k : Ports → WordPlace) → reads old (ports_place k) ≡ Err e
 
 pub record ReadsEvent (old : Words) (event : ℕ) : Type 0 where
-  pub same : (k : ℕ → Next) → next_event k old.word.now ≡ k event
+  pub same : (k : ℕ → AfterWord) → next_event k old.word.now ≡ k event
 
 pub record RefusesEvent (old : Words) (e : ScriptError) : Type 0 where
   pub parent : (st : Stamp) (number : ℕ) → reads old (parent_place st number) ≡ Err e

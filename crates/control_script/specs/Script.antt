@@ -9,25 +9,25 @@ use Rattle.forest_versions.specs.State.{control}
 use Rattle.control_script.specs.declared.error.ScriptError.{ScriptError}
 use Rattle.control_script.specs.declared.error.ScriptError.TheVariants.{Syntax, Duplicate, NoSuchNumber, TooDeep, TooMany, StampOrder, NoMemory}
 use Rattle.control_script.specs.declared.stamped.Stamped.{Stamped}
-use Rattle.control_script.specs.Grammar.{line_place, read}
+use Rattle.control_script.specs.Grammar.{line_place, line_from}
 use Rattle.control_script.specs.Order.{commands_of, is_later}
 use Rattle.control_script.specs.Lines.{lines, without_return, is_skipped, is_text, next_line}
 use Rattle.control_script.specs.Words.{words}
 
 -- the command of line n, or why it is none
 abbrev pub said : ℕ → List ℕ → Result Stamped ScriptError
-said n line = if list_all is_text line then read n (words line) line_place else Err (Syntax n)
+said n line = if list_all is_text line then line_from n (words line) line_place else Err (Syntax n)
 
 -- why a command can't be given where it stands, as the line's refusal
-abbrev pub fault_of : Refusal → ℕ → ScriptError
-fault_of IsThere n = Duplicate n
-fault_of IsMissing n = NoSuchNumber n
-fault_of IsTooDeep n = TooDeep n
-fault_of WrongHook n = Syntax n
+abbrev pub error_of : Refusal → ℕ → ScriptError
+error_of IsThere n = Duplicate n
+error_of IsMissing n = NoSuchNumber n
+error_of IsTooDeep n = TooDeep n
+error_of WrongHook n = Syntax n
 
 abbrev pub joined : ℕ → List Stamped → Stamped → Option Refusal → Result (List Stamped) ScriptError
 joined n before s None = Ok (before ++ s ∷ [])
-joined n before s (Some r) = Err (fault_of r n)
+joined n before s (Some r) = Err (error_of r n)
 
 -- the command of line n behind those before it, in the state that these leave
 abbrev pub admitted : List Reg → ℕ → List Stamped → Stamped → Result (List Stamped) ScriptError

@@ -1,7 +1,7 @@
 //! A text cut at its first byte of a kind.
 
 ghost use Rattle.std.specs.Prelude.{◌≡◌, ◌≤◌, length, MatchOption, None, Some};
-ghost use Rattle.control_script.specs.Cuts.{place_of, cut_at};
+ghost use Rattle.control_script.specs.Cuts.{position_of, cut_at};
 
 /// What stands before the first byte that is this one, and what stands behind it.
 pub(crate) fn cut_at(mark: u8, text: &[u8]) -> Option<(&[u8], &[u8])>
@@ -18,7 +18,7 @@ pub(crate) fn cut_at(mark: u8, text: &[u8]) -> Option<(&[u8], &[u8])>
 
 /// How many bytes stand before the first that is this one.
 pub(crate) fn place_of(mark: u8, text: &[u8]) -> usize
-    ensures value { result ≡ place_of mark text.now }
+    ensures value { result ≡ position_of mark text.now }
     ensures within { result ≤ length text.now }
 {
     text.iter().take_while(|b| **b != mark).count()

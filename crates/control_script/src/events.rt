@@ -5,7 +5,7 @@ ghost use Rattle.filter_lang.specs.Grammar.{filter};
 ghost use Rattle.filter_lang.specs.Shape.{Shape};
 ghost use Rattle.forest_versions.specs.Lawful.{may_be_event, is_within};
 ghost use Rattle.control_script.specs.declared.stamped.Stamped.{Stamped as StampedOf};
-ghost use Rattle.control_script.specs.Grammar.{Next, number_place, under_place, begins_with_letter, defined_next, with_filter};
+ghost use Rattle.control_script.specs.Grammar.{AfterWord, number_place, under_place, begins_with_letter, defined_next, with_filter};
 ghost use Rattle.control_script.specs.Reader.{reads, takes, ReadsEvent, RefusesEvent};
 ghost use Rattle.control_script.specs.Script.{IfRefused};
 
@@ -46,7 +46,7 @@ pub(crate) fn event(words: &Words<'_>) -> Result<u16, ScriptError>
 
 // Why a word is no event.
 fn unknown(words: &Words<'_>) -> ScriptError
-    ensures { (k : ℕ → Next) → takes words.now (defined_next k words.now.word.now None) ≡ Err result }
+    ensures { (k : ℕ → AfterWord) → takes words.now (defined_next k words.now.word.now None) ≡ Err result }
 {
     if begins_with_letter(words.word) {
         ScriptError::UnknownName(words.line)

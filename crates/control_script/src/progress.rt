@@ -2,7 +2,7 @@
 
 ghost use Rattle.std.specs.Prelude.{◌≡◌, [], IfOk, IsTrue};
 ghost use Rattle.app_api.specs.Reg.{are_presets};
-ghost use Rattle.control_script.specs.Script.{fault_of};
+ghost use Rattle.control_script.specs.Script.{error_of};
 
 use crate::error::ScriptError;
 use crate::lines::{is_skipped, said};
@@ -84,7 +84,7 @@ impl Progress {
 
 // Why a command can't be given, as a refusal of its line.
 fn fault_of(refusal: Refusal, n: u32) -> ScriptError
-    ensures { result ≡ fault_of refusal n }
+    ensures { result ≡ error_of refusal n }
 {
     match refusal {
         Refusal::Duplicate => ScriptError::Duplicate(n),

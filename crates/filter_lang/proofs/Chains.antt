@@ -5,7 +5,7 @@ use Rattle.filter_lang.specs.declared.lexer.Lexer.{Lexer}
 use Rattle.filter_lang.specs.declared.term.Term.{Term}
 use Rattle.filter_lang.specs.declared.token.Token.{Token}
 use Rattle.filter_lang.specs.declared.token.Token.TheVariants.{Bang, Open, Both, Either, TrueWord, FalseWord, NativeWord}
-use Rattle.filter_lang.specs.Grammar.{Level, left, alone, next_unit, next_atom, chain, all_of, any_of, unit_place, behind_unit, behind_conjs, opened, with_conj, next_behind, behind_conj, behind_expr, steps, read}
+use Rattle.filter_lang.specs.Grammar.{Level, left, alone, next_unit, next_atom, shapes_of, all_of, any_of, unit_place, behind_unit, behind_conjs, opened, with_conj, next_behind, behind_conj, behind_expr, steps, read}
 use Rattle.filter_lang.specs.Lexer.{ahead, later}
 use Rattle.filter_lang.specs.Parser.{reads, takes, ReadsUnit, RefusesUnit, ReadsComparison, RefusesComparison, ReadsConjunction}
 use Rattle.filter_lang.specs.Shape.{Shape, shape, shapes, more, AllOf, AnyOf, IsWithin, AreWithin, HasTwo}
@@ -14,7 +14,7 @@ abbrev pub shape_list : List Term → List Shape
 shape_list [] = []
 shape_list (t ∷ ts) = shape t ∷ shape_list ts
 
-chain-shape_list : (ts : List Term) → chain (shape_list ts) ≡ shapes ts
+chain-shape_list : (ts : List Term) → shapes_of (shape_list ts) ≡ shapes ts
 chain-shape_list [] = refl
 chain-shape_list (t ∷ ts) = ap (more (shape t)) (chain-shape_list ts)
 

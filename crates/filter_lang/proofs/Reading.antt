@@ -6,7 +6,7 @@ use Rattle.filter_lang.specs.declared.term.Op.TheVariants.{Eq, Ne, Lt, Le, Gt, G
 use Rattle.filter_lang.specs.declared.term.Sum.{Sum}
 use Rattle.filter_lang.specs.declared.token.Token.{Token}
 use Rattle.filter_lang.specs.declared.token.Token.TheVariants.{Close, Both, Either, End}
-use Rattle.filter_lang.specs.Grammar.{Level, left, right, Place, unit_place, native_place, behind_atom, behind_unit, Next, go, chain, all_of, any_of, opened, opening, fresh, behind_conjs, with_bang, with_unit, behind_conj, behind_expr, next, filter}
+use Rattle.filter_lang.specs.Grammar.{Level, left, right, Place, unit_place, native_place, behind_atom, behind_unit, Next, go, shapes_of, all_of, any_of, opened, opening, empty_level, behind_conjs, with_bang, with_unit, behind_conj, behind_expr, next, filter}
 use Rattle.filter_lang.specs.Printed.{printed, and_texts, or_texts, behind_text, wrap, is_or, is_chain, nesting, wrapped_nesting, and_nesting, or_nesting, sum_text, op_text}
 use Rattle.filter_lang.specs.Shape.{Shape, Always, Never, Ask, Compare, Negate, AllOf, AnyOf, Shapes, none, more, HasTwo, IsWithin, AreWithin, SumIsWithin}
 use Rattle.filter_lang.specs.Tokens.{tokens}
@@ -76,7 +76,7 @@ pub record ReadsAsConj (text : List ℕ) (depth : ℕ) (s : Shape) : Type 0 wher
 
 pub record ReadsAsExpr (text : List ℕ) (depth : ℕ) (s : Shape) : Type 0 where
   pub same : (f : Follow) (os : List Level) → EndsUnits f → EndsConjs f → opened os + depth ≤ 32
-      → run (kinds 0 (text ++ follow_text f)) (unit_place fresh os) ≡ taken f (behind_expr s os (follow_token f))
+      → run (kinds 0 (text ++ follow_text f)) (unit_place empty_level os) ≡ taken f (behind_expr s os (follow_token f))
 
 conj_of_unit : (text : List ℕ) (depth : ℕ) (s : Shape) → ReadsAsUnit text depth s → ReadsAsConj text depth s
 conj_of_unit text depth s unit = record {
@@ -109,7 +109,7 @@ unit_of_expr text depth s expr = record {
       let small : l.bangs + opened os < 32 = omega arith in
       ap (λ xs. run (kinds 0 (codes "(" ++ xs)) (unit_place l os)) (append_assoc text (codes ")") rest)
       ∙ ap (λ ts. run ts (unit_place l os)) (open_read (text ++ follow_text inner))
-      ∙ ap (on (run (kinds 0 (text ++ follow_text inner)))) (opening-go (l.bangs + opened os) (unit_place fresh (l ∷ os)) small)
+      ∙ ap (on (run (kinds 0 (text ++ follow_text inner)))) (opening-go (l.bangs + opened os) (unit_place empty_level (l ∷ os)) small)
       ∙ expr.same inner (l ∷ os) (closed_ends_units rest) (closed_ends_conjs rest) (omega arith);
 }
 
@@ -127,7 +127,7 @@ abbrev list : Shapes → List Shape
 list none = []
 list (more s ss) = s ∷ list ss
 
-chain-list : (ss : Shapes) → chain (list ss) ≡ ss
+chain-list : (ss : Shapes) → shapes_of (list ss) ≡ ss
 chain-list none = refl
 chain-list (more s ss) = ap (more s) (chain-list ss)
 
@@ -210,7 +210,7 @@ expr_of_or (more s ss) two all = record {
   same = λ f os units conjs deep.
       let text = wrap (is_or s) (printed s) in
       let behind = behind_text (codes " || ") (or_texts ss) in
-      ap (λ xs. run (kinds 0 xs) (unit_place fresh os)) (append_assoc text behind (follow_text f) ∙ ap (λ xs. text ++ xs) (sym (or_follow-text ss f)))
+      ap (λ xs. run (kinds 0 xs) (unit_place empty_level os)) (append_assoc text behind (follow_text f) ∙ ap (λ xs. text ++ xs) (sym (or_follow-text ss f)))
       ∙ all.0.conj.same (or_follow ss f) [] os (or_follow-ends ss f units) (omega arith)
       ∙ conjs_read ss all.1 f (s ∷ []) os units (omega arith)
       ∙ ap (taken f) (behind_conj-other (follow_token f) (s ∷ list ss) os conjs ∙ ap (λ x. behind_expr x os (follow_token f)) (any_of-list (more s ss) two));
@@ -321,7 +321,7 @@ ended_ends_conjs e = cc
 
 pub filter-printed : (s : Shape) → IsWithin s → nesting s ≤ 32 → filter (printed s) ≡ Ok s
 filter-printed s within deep =
-    let p = unit_place fresh [] in
+    let p = unit_place empty_level [] in
     let whole : run (kinds 0 (printed s)) p ≡ Some s =
     ap (λ xs. run (kinds 0 xs) p) (sym (append-nil (printed s))) ∙ (reads_printed s within).expr.same ended [] ended_ends_units ended_ends_conjs (omega arith) in
     read-run (tokens (printed s)) p s (ap (λ ts. run ts p) (map-tokens_behind 0 0 (printed s)) ∙ whole)

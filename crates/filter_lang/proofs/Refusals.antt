@@ -6,7 +6,7 @@ use Rattle.filter_lang.specs.declared.term.Op.TheVariants.{Eq}
 use Rattle.filter_lang.specs.declared.term.Sum.{Sum}
 use Rattle.filter_lang.specs.declared.token.Token.{Token}
 use Rattle.filter_lang.specs.declared.token.Token.TheVariants.{Close, Compares, TrueWord, Numeral, End}
-use Rattle.filter_lang.specs.Grammar.{Level, Side, left, right, Place, unit_place, native_place, atom_place, behind_atom, behind_unit, Next, go, done, stop, next, steps, read, going, place_behind, any_of, with_conj, with_unit, alone, start, filter, IsRefused}
+use Rattle.filter_lang.specs.Grammar.{Level, Side, left, right, Place, unit_place, native_place, atom_place, behind_atom, behind_unit, Next, go, done, stop, next, steps, read, going, place_behind, any_of, with_conj, with_unit, alone, filter_begin, filter, IsRefused}
 use Rattle.filter_lang.specs.Shape.{Shape, Always, Ask, Compare}
 use Rattle.filter_lang.specs.Tokens.{Placed, is_blank, token_at, tokens_behind, tokens}
 
@@ -135,5 +135,5 @@ refused : (ts : List Placed) (q : Place) (e : FilterError) → IsEnded ts → re
 refused [] q e end r = absurd end
 refused (t ∷ ts) q e end r = refused_step (next q t.token) t ts q e refl end (λ p h. refused ts p e h) r
 
-pub filter-refused : (text : List ℕ) (e : FilterError) → filter text ≡ Err e → IsRefused (tokens text) start e
-filter-refused text e r = refused (tokens text) start e (tokens_behind-ended 0 0 text) r
+pub filter-refused : (text : List ℕ) (e : FilterError) → filter text ≡ Err e → IsRefused (tokens text) filter_begin e
+filter-refused text e r = refused (tokens text) filter_begin e (tokens_behind-ended 0 0 text) r

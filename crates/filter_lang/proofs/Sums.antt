@@ -6,7 +6,7 @@ use Rattle.filter_lang.specs.declared.term.Atom.TheVariants.{Fact, Number}
 use Rattle.filter_lang.specs.declared.term.Join.{Join}
 use Rattle.filter_lang.specs.declared.term.Join.TheVariants.{Plus, Minus, Rem}
 use Rattle.filter_lang.specs.declared.term.Sum.{Sum}
-use Rattle.filter_lang.specs.Grammar.{Level, Side, left, unit_place, atom_place, behind_atom, go, next_atom, next_unit, alone, joined}
+use Rattle.filter_lang.specs.Grammar.{Level, Side, left, unit_place, atom_place, behind_atom, go, next_atom, next_unit, alone, sum_with}
 use Rattle.filter_lang.specs.Printed.{atom_text, join_text, steps_text, sum_text}
 use Rattle.filter_lang.specs.Shape.{AtomIsWithin, SumIsWithin}
 use Rattle.filter_lang.proofs.Pieces.{IsStop, atom_token, atom_read, join_read}
@@ -37,13 +37,13 @@ steps_read [] within acc side l os rest stop =
     ap (λ ys. run (kinds 0 rest) (behind_atom side (record { first = acc.first; rest = ys }) l os)) (sym (append-nil acc.rest))
 steps_read (s ∷ ss) within acc side l os rest stop =
     let later = steps_text ss ++ rest in
-    let more : Sum = joined acc s.0 s.1 in
+    let more : Sum = sum_with acc s.0 s.1 in
     let text : (join_text s.0 ++ (atom_text s.1 ++ steps_text ss)) ++ rest ≡ join_text s.0 ++ (atom_text s.1 ++ later) = simp append_assoc in
     let one = All-head (λ x. AtomIsWithin x.1) s ss within in
     ap (λ xs. run (kinds 0 xs) (behind_atom side acc l os)) text
     ∙ ap (λ ts. run ts (behind_atom side acc l os)) (join_read s.0 (atom_text s.1 ++ later))
-    ∙ ap (λ ts. run ts (atom_place side (joined acc s.0) l os)) (atom_read s.1 later one (stop_before_steps ss rest stop))
-    ∙ ap (on (run (kinds 0 later))) (next_atom-token s.1 side (joined acc s.0) l os)
+    ∙ ap (λ ts. run ts (atom_place side (sum_with acc s.0) l os)) (atom_read s.1 later one (stop_before_steps ss rest stop))
+    ∙ ap (on (run (kinds 0 later))) (next_atom-token s.1 side (sum_with acc s.0) l os)
     ∙ steps_read ss (All-tail (λ x. AtomIsWithin x.1) s ss within) more side l os rest stop
     ∙ ap (λ ys. run (kinds 0 rest) (behind_atom side (record { first = acc.first; rest = ys }) l os)) (append_assoc acc.rest (s ∷ []) ss)
 

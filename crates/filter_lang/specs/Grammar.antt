@@ -20,18 +20,18 @@ use Rattle.filter_lang.specs.declared.token.Token.TheVariants.{Bang, Open, Close
 use Rattle.filter_lang.specs.Shape.{Shape, Always, Never, Ask, Compare, Negate, AllOf, AnyOf, Shapes, none, more}
 use Rattle.filter_lang.specs.Tokens.{Placed, tokens}
 
-abbrev pub chain : List Shape → Shapes
-chain [] = none
-chain (s ∷ ss) = more s (chain ss)
+abbrev pub shapes_of : List Shape → Shapes
+shapes_of [] = none
+shapes_of (s ∷ ss) = more s (shapes_of ss)
 
 -- a chain is one node with all its members, and a single member is no chain
 abbrev pub all_of : List Shape → Shape
 all_of (s ∷ []) = s
-all_of ss = AllOf (chain ss)
+all_of ss = AllOf (shapes_of ss)
 
 abbrev pub any_of : List Shape → Shape
 any_of (s ∷ []) = s
-any_of ss = AnyOf (chain ss)
+any_of ss = AnyOf (shapes_of ss)
 
 abbrev pub negated : ℕ → Shape → Shape
 negated zero s = s
@@ -47,8 +47,8 @@ pub record Level : Type 0 where
 abbrev pub behind_conjs : List Shape → Level
 behind_conjs cs = record { conjs = cs; units = []; bangs = 0 }
 
-abbrev pub fresh : Level
-fresh = behind_conjs []
+abbrev pub empty_level : Level
+empty_level = behind_conjs []
 
 abbrev pub with_bang : Level → Level
 with_bang l = record { conjs = l.conjs; units = l.units; bangs = suc l.bangs }
@@ -92,8 +92,8 @@ pub data Next : Type 0 where
 abbrev pub alone : Atom → Sum
 alone a = record { first = a; rest = [] }
 
-abbrev pub joined : Sum → Join → Atom → Sum
-joined s j a = record { first = s.first; rest = s.rest ++ (j, a) ∷ [] }
+abbrev pub sum_with : Sum → Join → Atom → Sum
+sum_with s j a = record { first = s.first; rest = s.rest ++ (j, a) ∷ [] }
 
 -- at most 32 constructs are open at a place
 abbrev pub opening : ℕ → Place → Next
@@ -111,7 +111,7 @@ next_atom side f l os _ = stop Syntax
 -- where a unit may stand
 abbrev pub next_unit : Level → List Level → Token → Next
 next_unit l os Bang = opening (l.bangs + opened os) (unit_place (with_bang l) os)
-next_unit l os Open = opening (l.bangs + opened os) (unit_place fresh (l ∷ os))
+next_unit l os Open = opening (l.bangs + opened os) (unit_place empty_level (l ∷ os))
 next_unit l os TrueWord = go (behind_unit (with_unit Always l) os)
 next_unit l os FalseWord = go (behind_unit (with_unit Never l) os)
 next_unit l os NativeWord = go (native_place l os)
@@ -147,7 +147,7 @@ behind_sum (right r op) s l os t = next_behind (with_unit (Compare r op s) l) os
 
 -- behind an atom
 abbrev pub next_in_sum : Side → Sum → Level → List Level → Token → Next
-next_in_sum side s l os (Joins j) = go (atom_place side (joined s j) l os)
+next_in_sum side s l os (Joins j) = go (atom_place side (sum_with s j) l os)
 next_in_sum side s l os t = behind_sum side s l os t
 
 abbrev pub next : Place → Token → Next
@@ -169,12 +169,12 @@ read [] p = Err (Syntax 0)
 read (t ∷ ts) p = steps (read ts) t.at (next p t.token)
 
 -- where a filter begins
-abbrev pub start : Place
-start = unit_place fresh []
+abbrev pub filter_begin : Place
+filter_begin = unit_place empty_level []
 
 -- the filter that a text is, or why it is none
 abbrev pub filter : List ℕ → Result Shape FilterError
-filter text = read (tokens text) start
+filter text = read (tokens text) filter_begin
 
 -- the place behind tokens with which a filter goes on
 abbrev pub going : (Place → Option Place) → Next → Option Place

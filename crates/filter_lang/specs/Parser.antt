@@ -7,7 +7,7 @@ use Rattle.filter_lang.specs.declared.lexer.Lexer.{Lexer}
 use Rattle.filter_lang.specs.declared.term.Atom.{Atom}
 use Rattle.filter_lang.specs.declared.term.Op.{Op}
 use Rattle.filter_lang.specs.declared.term.Sum.{Sum}
-use Rattle.filter_lang.specs.Grammar.{Level, Side, left, right, Place, unit_place, native_place, atom_place, behind_atom, behind_unit, Next, fresh, behind_conjs, with_unit, opened, alone, behind_sum, behind_conj, behind_expr, steps, read}
+use Rattle.filter_lang.specs.Grammar.{Level, Side, left, right, Place, unit_place, native_place, atom_place, behind_atom, behind_unit, Next, empty_level, behind_conjs, with_unit, opened, alone, behind_sum, behind_conj, behind_expr, steps, read}
 use Rattle.filter_lang.specs.Lexer.{ahead, later}
 use Rattle.filter_lang.specs.Shape.{Shape}
 
@@ -70,7 +70,7 @@ pub record RefusesConjunction (depth : ℕ) (old : Lexer) (e : FilterError) : Ty
   pub same : (cs : List Shape) (os : List Level) → opened os ≡ depth → e ≢ NoMemory → reads old (unit_place (behind_conjs cs) os) ≡ Err e
 
 pub record ReadsExpr (depth : ℕ) (old new : Lexer) (s : Shape) : Type 0 where
-  pub same : (os : List Level) → opened os ≡ depth → reads old (unit_place fresh os) ≡ takes new (behind_expr s os new.token)
+  pub same : (os : List Level) → opened os ≡ depth → reads old (unit_place empty_level os) ≡ takes new (behind_expr s os new.token)
 
 pub record RefusesExpr (depth : ℕ) (old : Lexer) (e : FilterError) : Type 0 where
-  pub same : (os : List Level) → opened os ≡ depth → e ≢ NoMemory → reads old (unit_place fresh os) ≡ Err e
+  pub same : (os : List Level) → opened os ≡ depth → e ≢ NoMemory → reads old (unit_place empty_level os) ≡ Err e

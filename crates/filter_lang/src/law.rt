@@ -1,7 +1,7 @@
 //! What the refusals of the grammar mean.
 
 ghost use Rattle.std.specs.Prelude.{◌≡◌, ℕ, List, ◌∷◌, ◌++◌, Some, Ok, Err};
-ghost use Rattle.filter_lang.specs.Grammar.{Place, Next, stop, next, read, start, filter, place_behind, IsRefused};
+ghost use Rattle.filter_lang.specs.Grammar.{Place, Next, stop, next, read, filter_begin, filter, place_behind, IsRefused};
 ghost use Rattle.filter_lang.specs.Shape.{Shape};
 ghost use Rattle.filter_lang.specs.Tokens.{Placed, tokens};
 ghost use Rattle.filter_lang.specs.declared.error.FilterError.{FilterError};
@@ -10,11 +10,11 @@ ghost use Rattle.filter_lang.specs.declared.error.FilterError.{FilterError};
 /// which no filter goes on: some filter goes on with the tokens before it, and none with these and
 /// the token, which is refused at its offset whatever follows.
 pub fn first_refusal()
-    ensures goes_on { (before : List Placed) (p : Place) → place_behind before start ≡ Some p
-        → (after : List Placed) × (s : Shape) × (read (before ++ after) start ≡ Ok s) }
+    ensures goes_on { (before : List Placed) (p : Place) → place_behind before filter_begin ≡ Some p
+        → (after : List Placed) × (s : Shape) × (read (before ++ after) filter_begin ≡ Ok s) }
     ensures none_goes_on { (before : List Placed) (p : Place) (t : Placed) (refusal : ℕ → FilterError)
-        → place_behind before start ≡ Some p → next p t.token ≡ stop refusal
-        → (after : List Placed) → read (before ++ t ∷ after) start ≡ Err (refusal t.at) }
+        → place_behind before filter_begin ≡ Some p → next p t.token ≡ stop refusal
+        → (after : List Placed) → read (before ++ t ∷ after) filter_begin ≡ Err (refusal t.at) }
     ensures refused { (text : List ℕ) (e : FilterError) → filter text ≡ Err e
-        → IsRefused (tokens text) start e }
+        → IsRefused (tokens text) filter_begin e }
 {}

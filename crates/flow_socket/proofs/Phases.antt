@@ -12,7 +12,7 @@ use Rattle.flow_socket.specs.declared.answers.Got.{Got}
 use Rattle.packet_views.specs.Flags.{has_rst}
 use Rattle.flow_socket.specs.View.{SocketView, SocketStandsFor, next_at}
 use Rattle.flow_socket.specs.Direction.{Direction, next_in, acks_syn, acks_fin, is_in_window, is_finished}
-use Rattle.flow_socket.specs.Emulation.{Emulation, fault_of, received, facts_of, received_facts, ends_received, direction_of, with_direction, taken_by}
+use Rattle.flow_socket.specs.Emulation.{Emulation, fault_bits, received, facts_of, received_facts, ends_received, direction_of, with_direction, taken_by}
 use Rattle.flow_socket.proofs.Sides.{direction_of-with_direction}
 
 -- the connection after the packet's direction took it
@@ -89,8 +89,8 @@ got_is got change placed fault rose next over same_change same_placed same_fault
 
 pub fault_is : (h : Head) (placed placed' : Placed) (window window' refused refused' : Bool) →
     placed ≡ placed' → window ≡ window' → refused ≡ refused' →
-    fault_of (nat_lt 0 placed.over) (has_rst h && not window) refused ≡ fault_of (nat_lt 0 placed'.over) (has_rst h && not window') refused'
+    fault_bits (nat_lt 0 placed.over) (has_rst h && not window) refused ≡ fault_bits (nat_lt 0 placed'.over) (has_rst h && not window') refused'
 fault_is h placed placed' window window' refused refused' same_placed same_window same_refused =
-    ap (λ p. fault_of (nat_lt 0 p.over) (has_rst h && not window) refused) same_placed
-    ∙ (ap (λ w. fault_of (nat_lt 0 placed'.over) (has_rst h && not w) refused) same_window
-    ∙ ap (λ r. fault_of (nat_lt 0 placed'.over) (has_rst h && not window') r) same_refused)
+    ap (λ p. fault_bits (nat_lt 0 p.over) (has_rst h && not window) refused) same_placed
+    ∙ (ap (λ w. fault_bits (nat_lt 0 placed'.over) (has_rst h && not w) refused) same_window
+    ∙ ap (λ r. fault_bits (nat_lt 0 placed'.over) (has_rst h && not window') r) same_refused)

@@ -10,14 +10,14 @@ use Rattle.tcp_emulation.specs.declared.state.State.TheVariants.{Established}
 use Rattle.tcp_emulation.specs.declared.ends.End.{End}
 use Rattle.tcp_emulation.specs.declared.ends.Ends.{Ends}
 use Rattle.tcp_emulation.specs.States.{other, is_done, syn_acknowledged, fin_acknowledged}
-use Rattle.tcp_emulation.specs.Ends.{after_rule, end_at, received_state, received as received_end, ends_after_receive, change_of, is_over}
+use Rattle.tcp_emulation.specs.Ends.{after_rule, end_at, received_state, end_received as received_end, ends_after_receive, change_of, are_over}
 use Rattle.reassembly.specs.declared.answers.Policy.{Policy}
 use Rattle.reassembly.specs.Fin.{is_fin_reached}
 use Rattle.reassembly.specs.Segment.{accept}
 use Rattle.flow_socket.specs.Segment.{with_payload}
 use Rattle.flow_socket.specs.View.{SocketView, SocketStandsFor}
 use Rattle.flow_socket.specs.Direction.{Direction, next_in, receiver_after, is_finished, is_in_window, is_fin_refused}
-use Rattle.flow_socket.specs.Emulation.{Emulation, fault_of, received, received_facts, ends_received, direction_of, taken_by}
+use Rattle.flow_socket.specs.Emulation.{Emulation, fault_bits, received, received_facts, ends_received, direction_of, taken_by}
 use Rattle.flow_socket.specs.Quiet.{IsQuiet}
 use Rattle.flow_socket.proofs.Phases.{with_taken, ends-with_direction}
 
@@ -69,7 +69,7 @@ quiet_change from h payload e quiet =
     ∙ ap (λ (ends : Ends). change_of (end_at (other from) e.ends) (end_at (other from) ends)) (sym (quiet_ends from h payload e quiet))
 
 -- an ESTABLISHED end isn't done
-still_open : (of : Side) (ends : Ends) → (end_at of ends).state ≡ Established → is_over ends ≡ false
+still_open : (of : Side) (ends : Ends) → (end_at of ends).state ≡ Established → are_over ends ≡ false
 still_open Client ends up = ap (λ (s : State). is_done s && is_done ends.server.state) up
 still_open Server ends up = ap (λ (s : State). is_done ends.client.state && is_done s) up ∙ none (is_done ends.client.state)
   where
@@ -77,12 +77,12 @@ still_open Server ends up = ap (λ (s : State). is_done ends.client.state && is_
     none true = refl
     none false = refl
 
-pub quiet_over : (from : Side) (h : Head) (payload : List ℕ) (e : Emulation) → IsQuiet from h e → false ≡ is_over (ends_received from h payload e)
-quiet_over from h payload e quiet = sym (ap is_over (quiet_ends from h payload e quiet) ∙ still_open (other from) e.ends quiet.established)
+pub quiet_over : (from : Side) (h : Head) (payload : List ℕ) (e : Emulation) → IsQuiet from h e → false ≡ are_over (ends_received from h payload e)
+quiet_over from h payload e quiet = sym (ap are_over (quiet_ends from h payload e quiet) ∙ still_open (other from) e.ends quiet.established)
 
 pub quiet_fault : (from : Side) (h : Head) (payload : List ℕ) (e : Emulation) (over over' : ℕ) → IsQuiet from h e → over ≡ over'
-    → fault_of (nat_lt 0 over) false false
-    ≡ fault_of (nat_lt 0 over') (has_rst h && not (is_in_window e.rbuf h (direction_of from e))) (is_fin_refused e.rbuf e.policy h payload (direction_of from e))
+    → fault_bits (nat_lt 0 over) false false
+    ≡ fault_bits (nat_lt 0 over') (has_rst h && not (is_in_window e.rbuf h (direction_of from e))) (is_fin_refused e.rbuf e.policy h payload (direction_of from e))
 quiet_fault from h payload e over over' quiet same =
     let out : (has_rst h && not (is_in_window e.rbuf h (direction_of from e))) ≡ false = ap (λ (b : Bool). b && not (is_in_window e.rbuf h (direction_of from e))) quiet.rst in
     let taken : is_fin_refused e.rbuf e.policy h payload (direction_of from e) ≡ false = rw (quiet.rst, quiet.fin) refl in

@@ -7,7 +7,7 @@ use Rattle.tcp_emulation.specs.declared.segment.Side.TheVariants.{Client, Server
 use Rattle.tcp_emulation.specs.declared.segment.SegFacts.{SegFacts}
 use Rattle.tcp_emulation.specs.declared.ends.Ends.{Ends}
 use Rattle.tcp_emulation.specs.States.{other}
-use Rattle.tcp_emulation.specs.Ends.{fresh_ends, end_at, ends_after_send, ends_after_receive, change_of, is_over}
+use Rattle.tcp_emulation.specs.Ends.{fresh_ends, end_at, ends_after_send, ends_after_receive, change_of, are_over}
 use Rattle.reassembly.specs.declared.answers.Policy.{Policy}
 use Rattle.flow_socket.specs.declared.answers.Sent.{Sent}
 use Rattle.flow_socket.specs.declared.answers.Got.{Got}
@@ -27,8 +27,8 @@ pub record Emulation : Type 0 where
   pub policy : Policy
 
 -- the connection before its first packet
-abbrev pub fresh : ℕ → Policy → Emulation
-fresh rbuf policy = record {
+abbrev pub fresh_emulation : ℕ → Policy → Emulation
+fresh_emulation rbuf policy = record {
   ends = fresh_ends;
   shifts = no_shifts;
   client = untouched;
@@ -108,9 +108,9 @@ received from h payload e =
     record (with_direction from (taken_by from h payload e) e) { ends = ends_received from h payload e }
 
 -- 1: bytes beyond the window or at or past the FIN; 2: an RST out of the window; 4: a refused FIN
-abbrev pub fault_of : Bool → Bool → Bool → ℕ
-fault_of is_over is_reset_out is_fin_refused =
-    (if is_over then 1 else 0) + (if is_reset_out then 2 else 0) + (if is_fin_refused then 4 else 0)
+abbrev pub fault_bits : Bool → Bool → Bool → ℕ
+fault_bits are_over is_reset_out is_fin_refused =
+    (if are_over then 1 else 0) + (if is_reset_out then 2 else 0) + (if is_fin_refused then 4 else 0)
 
 -- what phase R answers: the receiver's change, how the bytes were judged, the faults, next of the packet's direction after it and
 -- whether it rose, and whether the connection is over
@@ -120,8 +120,8 @@ got_of from h payload e =
     let placed = placed_in e.rbuf h payload d in record {
       change = change_of (end_at (other from) e.ends) (end_at (other from) (ends_received from h payload e));
       placed = placed;
-      fault = fault_of (nat_lt 0 placed.over) (has_rst h && not (is_in_window e.rbuf h d)) (is_fin_refused e.rbuf e.policy h payload d);
+      fault = fault_bits (nat_lt 0 placed.over) (has_rst h && not (is_in_window e.rbuf h d)) (is_fin_refused e.rbuf e.policy h payload d);
       rose = nat_lt (next_in d) (next_in (taken_by from h payload e));
       next = next_in (taken_by from h payload e);
-      over = is_over (ends_received from h payload e);
+      over = are_over (ends_received from h payload e);
     }

@@ -3,7 +3,7 @@
 ghost use Rattle.std.specs.Prelude.{ℕ, ◌≡◌, ◌+◌, ◌^◌, ◌≤◌, ◌&&◌, not, nat_lt, length, OnOk, OnErr, IfOk, IsTrue, false};
 ghost use Rattle.packet_views.specs.Flags.{has_syn, has_fin, has_rst};
 ghost use Rattle.std.specs.Option.{ForSome};
-ghost use Rattle.flow_socket.specs.Emulation.{facts_of, sent_facts, fault_of};
+ghost use Rattle.flow_socket.specs.Emulation.{facts_of, sent_facts, fault_bits};
 
 use crate::answers::{Got, Peeked, Sent};
 use crate::direction::{KeptDirection, Taken};
@@ -55,9 +55,9 @@ impl FlowSocket {
     ghost use Rattle.std.specs.Prelude.{drop, ◌++◌};
     ghost use Rattle.tcp_emulation.specs.declared.segment.Side.{Side};
     ghost use Rattle.tcp_emulation.specs.States.{other};
-    ghost use Rattle.tcp_emulation.specs.Ends.{end_at, ends_after_receive, change_of, is_over};
+    ghost use Rattle.tcp_emulation.specs.Ends.{end_at, ends_after_receive, change_of, are_over};
     ghost use Rattle.flow_socket.specs.Direction.{acks_syn, acks_fin, is_finished, placed_in, is_fin_refused, is_in_window, offered_in};
-    ghost use Rattle.flow_socket.specs.Emulation.{fresh, stepped, with_offer, sent, sent_answer, received, got_of, direction_of, with_direction, taken_by};
+    ghost use Rattle.flow_socket.specs.Emulation.{fresh_emulation, stepped, with_offer, sent, sent_answer, received, got_of, direction_of, with_direction, taken_by};
     ghost use Rattle.std.specs.Prelude.{map};
     ghost use Rattle.flow_socket.specs.Peek.{peeked, bytes_peeked, after_peek, runs_at, pieces_at};
     ghost use Rattle.reassembly.specs.Receiver.{kept};
@@ -71,7 +71,7 @@ impl FlowSocket {
     pub fn new(alloc: Global, rbuf: u32, policy: Policy) -> FlowSocket
         requires low { 1 ≤ rbuf }
         requires high { rbuf ≤ 1048576 }
-        ensures { SocketStandsFor result (fresh rbuf policy) }
+        ensures { SocketStandsFor result (fresh_emulation rbuf policy) }
     {
         FlowSocket {
             ends: Ends::new(),
@@ -342,7 +342,7 @@ impl FlowSocket {
 
     /// Whether the connection is over: each end is in CLOSED or TIME_WAIT.
     pub fn is_over(&self) -> bool
-        ensures { SocketTells self.now result (λ e. is_over e.ends) }
+        ensures { SocketTells self.now result (λ e. are_over e.ends) }
     {
         tcp_emulation::is_over(&self.ends)
     }
@@ -369,7 +369,7 @@ fn is_plain(h: &Head) -> bool
 // FIN that was refused.
 fn fault_of(h: &Head, taken: &Taken) -> u8
     ensures { result
-        ≡ fault_of (nat_lt 0 taken.now.placed.over) (has_rst h.now && not taken.now.in_window) taken.now.fin_refused }
+        ≡ fault_bits (nat_lt 0 taken.now.placed.over) (has_rst h.now && not taken.now.in_window) taken.now.fin_refused }
 {
     let is_reset_out = h.has_rst() && !taken.in_window;
     u8::from(taken.placed.over > 0) + 2 * u8::from(is_reset_out) + 4 * u8::from(taken.fin_refused)
@@ -378,7 +378,7 @@ fn fault_of(h: &Head, taken: &Taken) -> u8
 // The fault of bytes that weren't accepted, alone.
 #[inline(always)]
 fn fault_over(taken: &Taken) -> u8
-    ensures { result ≡ fault_of (nat_lt 0 taken.now.placed.over) false false }
+    ensures { result ≡ fault_bits (nat_lt 0 taken.now.placed.over) false false }
 {
     u8::from(taken.placed.over > 0)
 }

@@ -6,9 +6,9 @@ use Rattle.flow_table.specs.declared.endpoint.Endpoint.TheVariants.{V4, V6}
 use Rattle.flow_table.specs.Key.{EndpointPair, key_of_head}
 
 -- an endpoint as one number
-abbrev pub number_of : Endpoint → ℕ
-number_of (V4 addr port) = addr * 65536 + port
-number_of (V6 addr port) = bit_xor (bit_xor (addr / 2 ^ 64) (addr % 2 ^ 64)) port
+abbrev pub endpoint_number : Endpoint → ℕ
+endpoint_number (V4 addr port) = addr * 65536 + port
+endpoint_number (V6 addr port) = bit_xor (bit_xor (addr / 2 ^ 64) (addr % 2 ^ 64)) port
 
 -- a product of 64 bits, its upper half folded into its lower one
 abbrev pub folded : ℕ → ℕ
@@ -16,7 +16,7 @@ folded product = bit_xor product (product / 2 ^ 32)
 
 -- the multiplier is 2 ^ 64 over the golden ratio, odd
 unfoldable pub mix_of : Endpoint → ℕ
-mix_of endpoint = folded (number_of endpoint * 0x9e37_79b9_7f4a_7c15 % 2 ^ 64)
+mix_of endpoint = folded (endpoint_number endpoint * 0x9e37_79b9_7f4a_7c15 % 2 ^ 64)
 
 -- the lane of a key, among so many lanes
 unfoldable pub lane_of_key : EndpointPair → ℕ → ℕ

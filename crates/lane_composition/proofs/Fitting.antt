@@ -14,7 +14,7 @@ use Rattle.connection_core.specs.Silence.{silenced}
 use Rattle.connection_core.specs.History.{History, fresh, followed, received_unless, orphan_history, verdict_of, orphan_under_way, drops_of as drops_by, weight_of}
 use Rattle.lane_core.specs.Sight.{Sight, Tcp, Other, Moment, Arrival}
 use Rattle.lane_core.specs.Records.{VersionedPacket, RecordSoFar, belongs_to, side_in, history_after, opens, orphan_raises_of, timer_raise_of, is_shut, is_silent, ended_by_silence, ended_before, ended_at, continued_by, placed, added, records_from}
-use Rattle.lane_core.specs.Shown.{total, weight, callbacks_of, drops_of}
+use Rattle.lane_core.specs.Shown.{total, weight, callbacks_of, drop_count}
 use Rattle.forest_versions.specs.declared.command.Command.{Command}
 use Rattle.run_outcome.specs.Greatest.{greatest}
 use Rattle.lane_composition.specs.Histories.{over_under}
@@ -63,8 +63,8 @@ first_drop : (app : Meaning) (control : ControlState) (a : Arrival) (b : Bool)
 first_drop app control a true = one_drop app control a.sight a (fresh app control)
 first_drop app control a false = drops_alone app control a.number (orphan_raises_of a.sight)
 
-drops_here : (b : Bool) (r next : RecordSoFar) (rs after : List RecordSoFar) → length next.history.drops ≤ length r.history.drops + 1 → drops_of after ≤ drops_of rs + 1
-    → drops_of (if b then next ∷ rs else r ∷ after) ≤ drops_of (r ∷ rs) + 1
+drops_here : (b : Bool) (r next : RecordSoFar) (rs after : List RecordSoFar) → length next.history.drops ≤ length r.history.drops + 1 → drop_count after ≤ drop_count rs + 1
+    → drop_count (if b then next ∷ rs else r ∷ after) ≤ drop_count (r ∷ rs) + 1
 unfolding total
 drops_here true r next rs after here later = omega arith
 drops_here false r next rs after here later = omega arith
@@ -79,7 +79,7 @@ module _ (app : Meaning) (control_at : ℕ → ControlState) where
   drops_by_silence true r = ap length (silent_drops app (control_at r.version) r.last.number (timer_raise_of r.first.sight r.history.count) r.history)
   drops_by_silence false r = refl
 
-  drops_before : (p : VersionedPacket) (rs : List RecordSoFar) → drops_of (map (ended_before app control_at p) rs) ≡ drops_of rs
+  drops_before : (p : VersionedPacket) (rs : List RecordSoFar) → drop_count (map (ended_before app control_at p) rs) ≡ drop_count rs
   unfolding total
   drops_before p [] = refl
   drops_before p (r ∷ rs) =
@@ -90,31 +90,31 @@ module _ (app : Meaning) (control_at : ℕ → ControlState) where
   drops_of_end None r = refl
   drops_of_end (Some now) r = drops_by_silence (opens r.first.sight && not (is_shut r) && is_silent app control_at now r) r
 
-  drops_at_end : (last : Option Moment) (rs : List RecordSoFar) → drops_of (map (ended_at app control_at last) rs) ≡ drops_of rs
+  drops_at_end : (last : Option Moment) (rs : List RecordSoFar) → drop_count (map (ended_at app control_at last) rs) ≡ drop_count rs
   unfolding total
   drops_at_end last [] = refl
   drops_at_end last (r ∷ rs) = let here = drops_of_end last r in let rest = drops_at_end last rs in omega arith
 
-  drops_placed : (p : VersionedPacket) (rs : List RecordSoFar) → drops_of (placed app control_at p rs) ≤ drops_of rs + 1
+  drops_placed : (p : VersionedPacket) (rs : List RecordSoFar) → drop_count (placed app control_at p rs) ≤ drop_count rs + 1
   unfolding placed total
   drops_placed p [] = let here = first_drop app (control_at p.version) p.arrival (opens p.arrival.sight) in omega arith
   drops_placed p (r ∷ rs) =
       drops_here (belongs_to p.arrival.sight r) r (continued_by app control_at p.arrival r) rs (placed app control_at p rs)
       (one_drop app (control_at r.version) r.first.sight p.arrival r.history) (drops_placed p rs)
 
-  drops_added : (p : VersionedPacket) (rs : List RecordSoFar) → drops_of (added app control_at p rs) ≤ drops_of rs + 1
+  drops_added : (p : VersionedPacket) (rs : List RecordSoFar) → drop_count (added app control_at p rs) ≤ drop_count rs + 1
   drops_added p rs = let same = drops_before p rs in let more = drops_placed p (map (ended_before app control_at p) rs) in omega arith
 
-  drops_from : (rs : List RecordSoFar) (ps : List VersionedPacket) → drops_of (records_from app control_at rs ps) ≤ drops_of rs + length ps
+  drops_from : (rs : List RecordSoFar) (ps : List VersionedPacket) → drop_count (records_from app control_at rs ps) ≤ drop_count rs + length ps
   unfolding records_from
   drops_from rs [] = omega arith
   drops_from rs (p ∷ ps) = let step = drops_added p rs in let rest = drops_from (added app control_at p rs) ps in omega arith
 
-  pub drops_few : (last : Option Moment) (ps : List VersionedPacket) → drops_of (map (ended_at app control_at last) (records_from app control_at [] ps)) ≤ length ps
+  pub drops_few : (last : Option Moment) (ps : List VersionedPacket) → drop_count (map (ended_at app control_at last) (records_from app control_at [] ps)) ≤ length ps
   unfolding total
   drops_few last ps = let all = drops_from [] ps in let same = drops_at_end last (records_from app control_at [] ps) in omega arith
 
-pub run_drops_few : (app : Meaning) (commands : List Command) (packets : List Arrival) (vs : List ℕ) → drops_of (run_under app commands vs packets) ≤ length packets
+pub run_drops_few : (app : Meaning) (commands : List Command) (packets : List Arrival) (vs : List ℕ) → drop_count (run_under app commands vs packets) ≤ length packets
 run_drops_few app commands packets vs =
     let few = drops_few app (in_force app commands) (greatest packets) (packets_under app commands vs packets) in
     let long = length-map (packets_under app commands vs packets) (λ p. p.arrival) in

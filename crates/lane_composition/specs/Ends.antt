@@ -7,7 +7,7 @@ use Rattle.lane_core.specs.KeptEnd.{IsKeptEnd}
 use Rattle.lane_core.specs.Records.{RecordSoFar}
 use Rattle.lane_core.specs.Sight.{Moment}
 use Rattle.lane_core.specs.Run.{LaneEvent, ended_run}
-use Rattle.lane_core.specs.Shown.{callbacks_of, drops_of, weight}
+use Rattle.lane_core.specs.Shown.{callbacks_of, drop_count, weight}
 use Rattle.lane_core.specs.Lane.{shown}
 use Rattle.lane_composition.specs.Taken.{events_at}
 
@@ -26,4 +26,4 @@ pub record IsJoined (keep : Bool) (app : Meaning) (run : List RecordSoFar) (reco
   pub records_are : records ≡ map (shown keep app) run
   pub callbacks_are : callbacks ≡ min (callbacks_of run) (2 ^ 64 - 1)
   pub weight_is : weighs ≡ min (weight run) (2 ^ 64 - 1)
-  pub drops_are : drops ≡ min (drops_of run) (2 ^ 64 - 1)
+  pub drops_are : drops ≡ min (drop_count run) (2 ^ 64 - 1)

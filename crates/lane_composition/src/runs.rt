@@ -10,7 +10,7 @@ ghost use Rattle.forest_versions.specs.declared.command.Command.{Command};
 ghost use Rattle.lane_core.specs.Sight.{Arrival, arrivals};
 ghost use Rattle.lane_core.specs.Records.{RecordSoFar, VersionedPacket, records, versioned, ended_at};
 ghost use Rattle.lane_core.specs.Run.{LaneEvent, commands_of, versioned_from};
-ghost use Rattle.lane_core.specs.Shown.{weight, callbacks_of, drops_of};
+ghost use Rattle.lane_core.specs.Shown.{weight, callbacks_of, drop_count};
 ghost use Rattle.lane_core.specs.Lane.{IsHeavy, IsHeavyAtEnd};
 ghost use Rattle.run_outcome.specs.Rising.{Rises};
 ghost use Rattle.run_outcome.specs.Greatest.{greatest};
@@ -150,5 +150,5 @@ pub fn counts_of_a_run_fit()
         → min (callbacks_of run) (2 ^ 64 - 1) ≡ callbacks_of run }
     ensures drops { (app : Meaning) (commands : List Command) (packets : List Arrival) (vs : List ℕ)
         → length packets < 2 ^ 64
-        → min (drops_of (run_under app commands vs packets)) (2 ^ 64 - 1) ≡ drops_of (run_under app commands vs packets) }
+        → min (drop_count (run_under app commands vs packets)) (2 ^ 64 - 1) ≡ drop_count (run_under app commands vs packets) }
 {}

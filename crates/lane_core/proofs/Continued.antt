@@ -23,7 +23,7 @@ use Rattle.lane_core.specs.declared.records.Records.{Records}
 use Rattle.lane_core.specs.declared.under_way.RecordUnderWay.{RecordUnderWay}
 use Rattle.lane_core.specs.Sight.{Segment, Tcp, key_of_segment}
 use Rattle.lane_core.specs.Records.{RecordSoFar, VersionedPacket, is_open_at, side_of, side_in, history_after, verdict_after, verdict_among, started_by, continued_by, placed}
-use Rattle.lane_core.specs.Shown.{alterations, drops_of as drops_in}
+use Rattle.lane_core.specs.Shown.{alterations, drop_count as drops_in}
 use Rattle.lane_core.specs.Places.{place_of, IsSingle}
 use Rattle.lane_core.specs.Steps.{Taking, stepped}
 use Rattle.lane_core.specs.Kept.{IsOpen, IsOpenAt, AreKept, slot_of}

@@ -13,7 +13,7 @@ use Rattle.connection_core.specs.History.{History, begin}
 use Rattle.connection_core.specs.Silence.{silenced}
 use Rattle.lane_core.specs.Sight.{Sight, Tcp, Other, Moment, key_of_segment}
 use Rattle.lane_core.specs.Records.{VersionedPacket, RecordSoFar, opens, is_between, is_shut, is_open_at, belongs_to, timer_raise_of, is_silent, ended_by_silence, ended_before, ended_at}
-use Rattle.lane_core.specs.Shown.{total, drops_of, alterations}
+use Rattle.lane_core.specs.Shown.{total, drop_count, alterations}
 use Rattle.lane_core.specs.Places.{further, place_by, IsSingle}
 use Rattle.lane_core.proofs.Holding.{and_false}
 use Rattle.lane_core.proofs.Places.{none_here, IsSingle-none}
@@ -68,7 +68,7 @@ module _ (app : Meaning) (control_at : ℕ → ControlState) where
       ap (λ n. n + total of (map step pasts)) (either (λ q. of q ≡ of past) step ends past (same past) refl)
       ∙ ap (λ n. of past + n) (total-kept of same step ends pasts)
 
-  pub drops-kept : (step : RecordSoFar → RecordSoFar) → Ends step → (pasts : List RecordSoFar) → drops_of (map step pasts) ≡ drops_of pasts
+  pub drops-kept : (step : RecordSoFar → RecordSoFar) → Ends step → (pasts : List RecordSoFar) → drop_count (map step pasts) ≡ drop_count pasts
   drops-kept step ends pasts =
       total-kept (λ r. length r.history.drops)
       (λ past. ap length (silenced-drops app (control_at past.version) past.last.number (timer_raise_of past.first.sight past.history.count) past.history)) step ends pasts

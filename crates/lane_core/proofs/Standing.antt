@@ -19,7 +19,7 @@ use Rattle.lane_core.specs.declared.records.Records.{Records}
 use Rattle.lane_core.specs.Sight.{Sight, Arrival}
 use Rattle.lane_core.specs.Records.{RecordSoFar, added, verdict_on}
 use Rattle.lane_core.specs.Run.{LaneEvent, Gave, Arrived, commands_of, control_of, lane_run}
-use Rattle.lane_core.specs.Shown.{alterations, weight, drops_of as drops_in}
+use Rattle.lane_core.specs.Shown.{alterations, weight, drop_count as drops_in}
 use Rattle.lane_core.specs.Live.{TakesCommand}
 use Rattle.lane_core.specs.Steps.{Taking}
 use Rattle.lane_core.specs.Packets.{KeepsSoFar, Makes, AddsCounted, CostsToAdd, Gives}

@@ -32,7 +32,7 @@ use Rattle.lane_core.specs.declared.records.Records.{Records}
 use Rattle.lane_core.specs.declared.under_way.RecordUnderWay.{RecordUnderWay}
 use Rattle.lane_core.specs.Sight.{Segment, Sight, Tcp, key_of_segment}
 use Rattle.lane_core.specs.Records.{RecordSoFar, VersionedPacket, opens, is_between, is_open_at, belongs_to, side_of, history_after, verdict_after, orphan_raises_of, started_by, placed}
-use Rattle.lane_core.specs.Shown.{kind_of, alterations, drops_of as drops_in}
+use Rattle.lane_core.specs.Shown.{kind_of, alterations, drop_count as drops_in}
 use Rattle.lane_core.specs.End.{new_slot}
 use Rattle.lane_core.specs.Places.{place_by, place_of}
 use Rattle.lane_core.specs.Steps.{Taking, stage_in, stepped, IsOrphanNoted, Opens, opened_by}

@@ -6,7 +6,7 @@ use Rattle.lane_core.specs.declared.records.Records.{Records}
 use Rattle.lane_core.specs.declared.under_way.RecordUnderWay.{RecordUnderWay}
 use Rattle.lane_core.specs.Sight.{Moment}
 use Rattle.lane_core.specs.Records.{RecordSoFar, ended_at}
-use Rattle.lane_core.specs.Shown.{callbacks_of, drops_of, weight}
+use Rattle.lane_core.specs.Shown.{callbacks_of, drop_count, weight}
 use Rattle.lane_core.specs.Steps.{Taking}
 use Rattle.lane_core.specs.Kept.{slot_of}
 use Rattle.lane_core.specs.Packets.{KeepsSoFar, ForSoFar}
@@ -30,4 +30,4 @@ module _ {F : Type 0} {store : Ghosts F} where
 pub record IsClosed (keep : Bool) (so_far : List RecordSoFar) (slots : List RecordUnderWay) (callbacks drops : ℕ) : Type 0 where
   pub slots_are : slots ≡ map (slot_of keep) so_far
   pub callbacks_are : callbacks ≡ callbacks_of so_far
-  pub drops_are : drops ≡ drops_of so_far
+  pub drops_are : drops ≡ drop_count so_far

@@ -7,7 +7,7 @@ use Rattle.lane_core.specs.declared.under_way.RecordUnderWay.{RecordUnderWay}
 use Rattle.lane_core.specs.End.{ended}
 use Rattle.lane_core.specs.Lane.{shown}
 use Rattle.lane_core.specs.Records.{RecordSoFar}
-use Rattle.lane_core.specs.Shown.{callbacks_of, drops_of, weight}
+use Rattle.lane_core.specs.Shown.{callbacks_of, drop_count, weight}
 
 -- records that were kept, as the report shows them
 abbrev pub shown_as : Meaning → List RecordUnderWay → List Record
@@ -19,4 +19,4 @@ pub record IsKeptEnd (keep : Bool) (app : Meaning) (so_far : List RecordSoFar) (
   pub versions_are : map (λ r. r.version) end.records ≡ map (λ r. r.version) so_far
   pub callbacks_are : end.callbacks ≡ callbacks_of so_far
   pub weight_is : end.weight ≡ weight so_far
-  pub drops_are : end.drops ≡ drops_of so_far
+  pub drops_are : end.drops ≡ drop_count so_far

@@ -15,7 +15,7 @@ use Rattle.lane_core.specs.declared.records.Records.{Records}
 use Rattle.lane_core.specs.Sight.{Moment, Arrival}
 use Rattle.lane_core.specs.Records.{RecordSoFar, verdict_on}
 use Rattle.lane_core.specs.Run.{LaneEvent, Arrived, commands_of, control_of, lane_run, ended_run, newest_of}
-use Rattle.lane_core.specs.Shown.{record_of, callbacks_of, drops_of, weight}
+use Rattle.lane_core.specs.Shown.{record_of, callbacks_of, drop_count, weight}
 use Rattle.lane_core.specs.Packets.{KeepsSoFar}
 
 -- one more packet, or one more command
@@ -82,7 +82,7 @@ pub record IsRun {F : Type 0} {store : Ghosts F} (app : Meaning) (keep : Bool) (
   pub newest : newest_of events ≡ newest_by lane.next
   pub commands : failed ≡ None → StandsFor lane.master app.presets (commands_of events)
   pub records : failed ≡ None → KeepsSoFar keep lane (lane_run app events)
-  pub dropped : failed ≡ None → lane.dropped ≡ drops_of (lane_run app events)
+  pub dropped : failed ≡ None → lane.dropped ≡ drop_count (lane_run app events)
   pub heavy : failed ≡ Some Heavy → IsHeavy app events
 
 -- a packet comes after these: its number is above that of the last
@@ -99,4 +99,4 @@ pub record IsEnd (keep : Bool) (app : Meaning) (so_far : List RecordSoFar) (reco
   pub records_are : records ≡ map (shown keep app) so_far
   pub versions_are : versions ≡ map (λ r. (r.first.number, r.version)) so_far
   pub callbacks_are : callbacks ≡ callbacks_of so_far
-  pub drops_are : drops ≡ drops_of so_far
+  pub drops_are : drops ≡ drop_count so_far

@@ -21,7 +21,7 @@ use Rattle.lane_core.specs.declared.records.Records.{Records}
 use Rattle.lane_core.specs.declared.under_way.RecordUnderWay.{RecordUnderWay}
 use Rattle.lane_core.specs.Sight.{Segment, Sight, key_of_segment}
 use Rattle.lane_core.specs.Records.{RecordSoFar, VersionedPacket, ended_by_silence, placed, verdict_among, added, verdict_on}
-use Rattle.lane_core.specs.Shown.{alterations, drops_of as drops_in}
+use Rattle.lane_core.specs.Shown.{alterations, drop_count as drops_in}
 use Rattle.lane_core.specs.Places.{place_of}
 use Rattle.lane_core.specs.Live.{TakesCommand}
 use Rattle.lane_core.specs.Idle.{IsIdle}

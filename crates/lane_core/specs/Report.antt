@@ -11,7 +11,7 @@ use Rattle.lane_core.specs.declared.errors.LaneError.TheVariants as Lane
 use Rattle.lane_core.specs.declared.report.ReportError.{ReportError}
 use Rattle.lane_core.specs.declared.report.ReportError.TheVariants.{WriteFault, NoMemory, Heavy}
 use Rattle.lane_core.specs.Records.{RecordSoFar}
-use Rattle.lane_core.specs.Shown.{callbacks_of, drops_of}
+use Rattle.lane_core.specs.Shown.{callbacks_of, drop_count}
 use Rattle.lane_core.specs.Lane.{shown}
 
 -- what is counted over these records of so many packets, behind which the capture has so many bytes
@@ -20,7 +20,7 @@ totals_of so_far packets rest = record {
   packets = packets;
   records = length so_far;
   callbacks = callbacks_of so_far;
-  drops = drops_of so_far;
+  drops = drop_count so_far;
   tail = rest;
 }
 

@@ -36,8 +36,8 @@ total of (so_far ∷ others) = of so_far + total of others
 abbrev pub callbacks_of : List RecordSoFar → ℕ
 callbacks_of so_far = total (λ r. length r.history.entries) so_far
 
-abbrev pub drops_of : List RecordSoFar → ℕ
-drops_of so_far = total (λ r. length r.history.drops) so_far
+abbrev pub drop_count : List RecordSoFar → ℕ
+drop_count so_far = total (λ r. length r.history.drops) so_far
 
 -- each callback weighs 32 and the bytes that it saw
 abbrev pub weight : List RecordSoFar → ℕ

@@ -43,19 +43,19 @@ fault_text Fault.BadLink = codes "bad link type"
 fault_text Fault.ShortHeader = codes "short header"
 fault_text Fault.TooLong = codes "record too long"
 
-abbrev pub kind_text : ScriptFault → List ℕ
-kind_text Line.Syntax = codes "Syntax"
-kind_text Line.UnknownName = codes "UnknownName"
-kind_text Line.Duplicate = codes "Duplicate"
-kind_text Line.NoSuchNumber = codes "NoSuchNumber"
-kind_text Line.TooDeep = codes "TooDeep"
-kind_text Line.TooMany = codes "TooMany"
-kind_text Line.StampOrder = codes "StampOrder"
+abbrev pub error_text : ScriptFault → List ℕ
+error_text Line.Syntax = codes "Syntax"
+error_text Line.UnknownName = codes "UnknownName"
+error_text Line.Duplicate = codes "Duplicate"
+error_text Line.NoSuchNumber = codes "NoSuchNumber"
+error_text Line.TooDeep = codes "TooDeep"
+error_text Line.TooMany = codes "TooMany"
+error_text Line.StampOrder = codes "StampOrder"
 
 unfoldable pub refusal_text : RunError → List ℕ
 refusal_text Usage = usage_text
 refusal_text ScriptTooLong = codes "mos: script: too long\n"
-refusal_text (Script fault line) = codes "mos: script: line " ++ (decimal line ++ (codes ": " ++ (kind_text fault ++ codes "\n")))
+refusal_text (Script fault line) = codes "mos: script: line " ++ (decimal line ++ (codes ": " ++ (error_text fault ++ codes "\n")))
 refusal_text (Capture fault offset) = codes "mos: capture: " ++ (fault_text fault ++ (codes " at " ++ (decimal offset ++ codes "\n")))
 refusal_text (BadBlock offset) = codes "mos: capture: bad block at " ++ (decimal offset ++ codes "\n")
 refusal_text (TooMany offset) = codes "mos: too many packets at " ++ (decimal offset ++ codes "\n")

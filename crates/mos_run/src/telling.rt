@@ -2,7 +2,7 @@
 
 ghost use Rattle.std.specs.Prelude.{◌≡◌, ◌⊎◌, IfOk, string_bytes};
 ghost use Rattle.std.specs.Result.{ForOk};
-ghost use Rattle.mos_run.specs.Refusal.{refusal_text, fault_text, kind_text, WritesText};
+ghost use Rattle.mos_run.specs.Refusal.{refusal_text, fault_text, error_text, WritesText};
 
 use crate::refusal::{RunError, ScriptFault};
 use mos_bytes::Sink;
@@ -63,7 +63,7 @@ fn too_many_interfaces_line(alloc: Global, offset: u64) -> Result<String, AllocE
 }
 
 fn kind_name(fault: ScriptFault) -> &'static str
-    ensures { result.now ≡ kind_text fault }
+    ensures { result.now ≡ error_text fault }
 {
     match fault {
         ScriptFault::Syntax => "Syntax",

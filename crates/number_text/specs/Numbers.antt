@@ -13,8 +13,8 @@ abbrev pub is_number : List ℕ → Bool
 is_number text = are_digits text && not (nat_lt 1 (length text) && slice_index text 0 == 48)
 
 -- the number that a text writes, where it is in a range
-abbrev pub number_in : ℕ → ℕ → List ℕ → Option ℕ
-number_in low high text =
+abbrev pub number_between : ℕ → ℕ → List ℕ → Option ℕ
+number_between low high text =
     let n = digits_value 10 text in if is_number text && nat_le low n && nat_le n high then Some n else None
 
 -- one to three digits of at most 255: a part of a dotted address

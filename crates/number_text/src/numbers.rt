@@ -4,13 +4,13 @@ ghost use Rattle.std.specs.Prelude.{◌≡◌, ◌≤◌, ◌<◌, ◌^◌, leng
 ghost use Rattle.std.specs.Char.{is_ascii_digit};
 ghost use Rattle.std.specs.List.{list_all};
 ghost use Rattle.std.specs.Str.Parse.{digits_value};
-ghost use Rattle.number_text.specs.Numbers.{are_digits, is_number, number_in, octet};
+ghost use Rattle.number_text.specs.Numbers.{are_digits, is_number, number_between, octet};
 
 use std::str::from_utf8;
 
 /// The number that a text writes, where it is from `low` to `high`: decimal digits, the first of several not 0.
 pub fn number_in(low: u64, high: u64, text: &[u8]) -> Option<u64>
-    ensures number { result ≡ number_in low high text.now }
+    ensures number { result ≡ number_between low high text.now }
     ensures low { IfSome result (λ n. low ≤ n) }
     ensures high { IfSome result (λ n. n ≤ high) }
     ensures some { IfSome result (λ n. 0 < length text.now) }

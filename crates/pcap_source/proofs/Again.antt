@@ -5,7 +5,7 @@ use Rattle.std.proofs.Math.Seq.{take-append_seam, drop-append_seam}
 use Rattle.std.specs.Prelude.{if◌then◌else◌, Result}
 use Rattle.pcap_source.specs.Captured.{Captured}
 use Rattle.pcap_source.specs.Order.{number_in}
-use Rattle.pcap_source.specs.Capture.{Frames, tail, ended, with_frame, record_of, record_at, record_length, captured_length, frames_from, frames_by, header_of, header_by, order_of, capture_of}
+use Rattle.pcap_source.specs.Capture.{Frames, tail, ended, with_frame, captured_by, record_at, record_length, captured_length, frames_from, frames_by, header_of, header_by, order_of, capture_of}
 use Rattle.pcap_source.specs.Laws.{written, marked}
 use Rattle.pcap_source.specs.Reading.{IsRecord}
 use Rattle.pcap_source.specs.declared.order.Order.{Order}
@@ -33,8 +33,8 @@ module _ (order : Order) (frame : Captured) (rest : List ℕ) (is : IsRecord ord
 
   read_again : record_at order all ≡ frame
   read_again =
-      ap (λ h. record_of order h (take (captured_length order all) (drop 16 all))) head_told
-      ∙ ap (λ b. record_of order frame.head b) bytes_told ∙ sym is.whole
+      ap (λ h. captured_by order h (take (captured_length order all) (drop 16 all))) head_told
+      ∙ ap (λ b. captured_by order frame.head b) bytes_told ∙ sym is.whole
 
   behind : drop (record_length order all) all ≡ rest
   behind =

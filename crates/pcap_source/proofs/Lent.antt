@@ -6,14 +6,14 @@ use Rattle.std.specs.Io.KnownBytes.{Consumes}
 use Rattle.std.proofs.lemmas.List.{take-append-drop, take-take}
 use Rattle.mos_bytes.specs.Reads.{BeginsWith, PassesOver}
 use Rattle.pcap_source.specs.Captured.{Captured}
-use Rattle.pcap_source.specs.Capture.{record_of}
+use Rattle.pcap_source.specs.Capture.{captured_by}
 use Rattle.pcap_source.specs.Order.{number_in}
 use Rattle.pcap_source.specs.Reading.{IsRecord}
 use Rattle.pcap_source.specs.declared.order.Order.{Order}
 
 -- head and data were copied, and the numbers of the head were read
 module _ (order : Order) (n : ℕ) (lent : List ℕ) (copied frame : Captured) (head : copied.head ≡ take 16 lent)
-    (bytes : copied.bytes ≡ take n (drop 16 lent)) (is : frame ≡ record_of order copied.head copied.bytes) where
+    (bytes : copied.bytes ≡ take n (drop 16 lent)) (is : frame ≡ captured_by order copied.head copied.bytes) where
   pub is_record : 16 + n ≤ length lent → n ≤ 262144 → n ≡ number_in order 4 (drop 8 (take 16 lent)) → IsRecord order frame
   is_record within bounded told =
       let len : length copied.bytes ≡ n = ap length bytes ∙ length-take-le n (drop 16 lent) (omega (arith, length-drop 16 lent)) in

@@ -7,7 +7,7 @@ use Rattle.std.proofs.KnownBytes.{Consumes-trans}
 use Rattle.mos_bytes.specs.Reads.{Fills, FillsPart}
 use Rattle.pcap_source.specs.Captured.{Captured}
 use Rattle.pcap_source.specs.Order.{number_in}
-use Rattle.pcap_source.specs.Capture.{tail, ended, with_frame, record_at, record_of, record_length, captured_length, frames_from}
+use Rattle.pcap_source.specs.Capture.{tail, ended, with_frame, record_at, captured_by, record_length, captured_length, frames_from}
 use Rattle.pcap_source.specs.Reading.{IsRecord, IsTold, NextGives, reading}
 use Rattle.pcap_source.specs.declared.order.Order.{Order}
 use Rattle.pcap_source.specs.declared.capture.Step.TheVariants.{Frame, Tail, End}
@@ -131,14 +131,14 @@ module _ (order : Order) (count offset behind : ℕ) (frame : Captured) where
 
 -- the record at the front, where others follow
 record_at-whole : (order : Order) (head body rest : List ℕ) → length head ≡ 16 → length body ≡ number_in order 4 (drop 8 head)
-    → record_at order (head ++ (body ++ rest)) ≡ record_of order head body
+    → record_at order (head ++ (body ++ rest)) ≡ captured_by order head body
 record_at-whole order head body rest is body_is =
     rw (take-head head (body ++ rest) is, drop-head head (body ++ rest) is, ← body_is, take-append_seam body rest) refl
 
 pub gives-Frame : (order : Order) (count offset n m : ℕ) (a b d : Option (List ℕ)) (head body : List ℕ) → Fills a b n head → length head ≡ 16 → 16 ≤ n → count < 1048576
     → length body ≡ number_in order 4 (drop 8 head) → length body ≤ 262144 → Fills b d m body → length body ≤ m
     → NextGives (reading order count offset) (reading order (count + 1) (offset + 16 + length body)) a d
-    (record_of order head body)
+    (captured_by order head body)
     (Ok Frame)
 gives-Frame order count offset n m None b d head body fills is full few body_is within rest all = tt
 gives-Frame order count offset n m (Some before) None d head body fills is full few body_is within rest all = absurd fills.consumed
@@ -150,7 +150,7 @@ gives-Frame order count offset n m (Some before) (Some mid) (Some after) head bo
     let size : length before ≡ 16 + (length body + length after) = omega (arith, ap length parts, length-append head (body ++ after), length-append body after) in
     let more : 1048576 - count ≡ suc (1048576 - (count + 1)) = omega arith in
     let rest_of = 1048576 - (count + 1) in
-    let frame = record_of order head body in
+    let frame = captured_by order head body in
     let sized : record_length order before ≡ length head + length body = omega (arith, length_is) in
     let behind : drop (record_length order before) before ≡ after =
     ap (λ k. drop k before) sized ∙ ap (drop (length head + length body)) parts ∙ drop-append-add head (body ++ after) (length body) ∙ drop-append_seam body after in

@@ -45,8 +45,8 @@ abbrev pub record_length : Order → List ℕ → ℕ
 record_length order bytes = 16 + captured_length order bytes
 
 -- what a head and the captured bytes behind it say
-abbrev pub record_of : Order → List ℕ → List ℕ → Captured
-record_of order head bytes = record {
+abbrev pub captured_by : Order → List ℕ → List ℕ → Captured
+captured_by order head bytes = record {
   seconds = number_in order 4 head;
   fraction = number_in order 4 (drop 4 head);
   original = number_in order 4 (drop 12 head);
@@ -56,7 +56,7 @@ record_of order head bytes = record {
 
 -- the record at the front
 abbrev pub record_at : Order → List ℕ → Captured
-record_at order bytes = record_of order (take 16 bytes) (take (captured_length order bytes) (drop 16 bytes))
+record_at order bytes = captured_by order (take 16 bytes) (take (captured_length order bytes) (drop 16 bytes))
 
 -- a whole record of an allowed length stands at the front
 abbrev pub is_whole : Order → List ℕ → Bool

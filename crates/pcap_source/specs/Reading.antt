@@ -1,7 +1,7 @@
 -- Not of the headline. What a capture that is read front to back gives, where its source tells the bytes that are left.
 use Rattle.std.specs.Prelude.{◌≡◌, ℕ, ◌+◌, ◌-◌, ◌<◌, ◌≤◌, Bool, true, List, [], length, take, drop, ⊤, IsTrue, Option, Some, None, Result, Ok, Err}
 use Rattle.pcap_source.specs.Captured.{Captured}
-use Rattle.pcap_source.specs.Capture.{Frames, ended, with_frame, frames_from, header_of, record_of, tail, too_long, too_many}
+use Rattle.pcap_source.specs.Capture.{Frames, ended, with_frame, frames_from, header_of, captured_by, tail, too_long, too_many}
 use Rattle.pcap_source.specs.Order.{number_in}
 use Rattle.pcap_source.specs.declared.order.Order.{Order}
 use Rattle.pcap_source.specs.declared.capture.Step.{Step}
@@ -35,7 +35,7 @@ pub record Moves (old new : CaptureState) (frame : Captured) : Type 0 where
 -- the frame is what its head and its bytes say, and has as many bytes as its head tells
 pub record IsRecord (order : Order) (frame : Captured) : Type 0 where
   pub head : length frame.head ≡ 16
-  pub whole : frame ≡ record_of order frame.head frame.bytes
+  pub whole : frame ≡ captured_by order frame.head frame.bytes
   pub told : length frame.bytes ≡ number_in order 4 (drop 8 frame.head)
   pub bounded : length frame.bytes ≤ 262144
 

@@ -6,7 +6,7 @@ ghost use Rattle.std.specs.Io.KnownBytes.{Consumes};
 ghost use Rattle.mos_bytes.specs.Causes.{HasCauseOf};
 ghost use Rattle.mos_bytes.specs.Reads.{Fills, FillsPart};
 ghost use Rattle.pcap_source.specs.Captured.{record_bytes};
-ghost use Rattle.pcap_source.specs.Capture.{is_whole, record_of};
+ghost use Rattle.pcap_source.specs.Capture.{is_whole, captured_by};
 ghost use Rattle.pcap_source.specs.Order.{number_in};
 ghost use Rattle.pcap_source.specs.Reading.{CaptureState, IsRecord, IsTold, NextGives, RefusesAt, reading};
 
@@ -99,7 +99,7 @@ fn whole_data(order: Order, front: &[u8]) -> Option<usize>
 
 // Reads the numbers in the frame's head.
 fn read_numbers(order: Order, frame: &mut Frame)
-    ensures { frame.new ≡ record_of order frame.old.head frame.old.bytes }
+    ensures { frame.new ≡ captured_by order frame.old.head frame.old.bytes }
 {
     frame.seconds = order.u32_at(&frame.head, 0);
     frame.fraction = order.u32_at(&frame.head, 4);

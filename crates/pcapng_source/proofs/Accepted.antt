@@ -2,9 +2,9 @@
 use Rattle.std.proofs.Common.{◌≡◌, ℕ, ◌+◌, ◌%◌, ◌≤◌, List, length, Bool, true, false, nat_le, nat_lt, ◌&&◌, ◌==◌, not, cond, Option, None, Some, refl, sym, ap, subst, ◌∙◌, arith}
 use Rattle.std.proofs.lemmas.Bool.{cond-false, cond-true, leb-true, ltb-false, eqb-true, and_parts, not-false}
 use Rattle.pcap_source.specs.Order.{number_in}
-use Rattle.pcapng_source.specs.Fields.{SectionState, has, head_length, is_section, is_total, kind_by, kind_of, least_total, order_told, section_in, total_of}
+use Rattle.pcapng_source.specs.Fields.{SectionState, has, head_length, is_section, is_total, kind_by, block_kind, least_total, order_told, section_in, total_of}
 use Rattle.pcapng_source.specs.Packets.{captured_of}
-use Rattle.pcapng_source.specs.Refusals.{block_by, header_by, kind_refusal, length_by, packet_by, refusal_of}
+use Rattle.pcapng_source.specs.Refusals.{block_by, section_fault, kind_refusal, length_by, packet_by, refusal_of}
 use Rattle.pcap_source.specs.declared.order.Order.{Order}
 use Rattle.pcapng_source.specs.declared.kind.Kind.{Kind}
 use Rattle.pcapng_source.specs.declared.kind.Kind.TheVariants.{SectionHeader, InterfaceBlock, SimplePacket, EnhancedPacket, OtherBlock}
@@ -35,25 +35,25 @@ none_else false x fault is = (refl, is)
 
 -- the kind of a block doesn't depend on the section that it begins
 pub kind_in : (before : SectionState) (bytes : List ℕ) (section : Bool) → is_section bytes ≡ section
-    → kind_of (section_in before bytes).order bytes ≡ kind_of before.order bytes
+    → block_kind (section_in before bytes).order bytes ≡ block_kind before.order bytes
 kind_in before bytes true is = rw is refl
 kind_in before bytes false is = rw is refl
 
 -- the refusal of a block of this kind that is no section header
 pub refusal-plain : (before : SectionState) (offset : ℕ) (head : List ℕ) (kind : Kind) → is_section head ≡ false → 8 ≤ length head
-    → kind_of before.order head ≡ kind → refusal_of before offset head ≡ block_by kind before offset head
+    → block_kind before.order head ≡ kind → refusal_of before offset head ≡ block_by kind before offset head
 refusal-plain before offset head kind other long is =
     cond-true (has 8 head) _ None (has-there 8 head long) ∙ cond-false (is_section head) _ _ other ∙ ap (λ k. block_by k before offset head) is
 
 -- a block that is no section header
 pub block_accepted : (before : SectionState) (offset : ℕ) (head : List ℕ) (kind : Kind) → is_section head ≡ false → 8 ≤ length head
-    → kind_of before.order head ≡ kind → refusal_of before offset head ≡ None
+    → block_kind before.order head ≡ kind → refusal_of before offset head ≡ None
     → (is_total kind (total_of before.order head) ≡ true) × (kind_refusal kind before offset head ≡ None)
 block_accepted before offset head kind other long is accepted =
     none_then _ _ (BadBlock offset) (sym (refusal-plain before offset head kind other long is) ∙ accepted)
 
 -- a section header: its magic number tells an order
-header_accepted : (order : Option Order) (offset : ℕ) (head : List ℕ) → header_by order offset head ≡ None
+header_accepted : (order : Option Order) (offset : ℕ) (head : List ℕ) → section_fault order offset head ≡ None
     → (it : Order) × (order ≡ Some it) × (is_total SectionHeader (total_of it head) ≡ true)
 header_accepted None offset head accepted = cc
 header_accepted (Some it) offset head accepted =
@@ -68,11 +68,11 @@ IsPlain SimplePacket = Unit {0}
 IsPlain EnhancedPacket = Unit {0}
 IsPlain OtherBlock = Unit {0}
 
-plain-by : (order : Order) (head : List ℕ) (kind : Kind) (section : Bool) → is_section head ≡ section → kind_of order head ≡ kind → IsPlain kind → section ≡ false
-plain-by order head kind true is named plain = absurd (subst IsPlain (sym named ∙ (let it : kind_of order head ≡ SectionHeader = rw is refl in it)) plain)
+plain-by : (order : Order) (head : List ℕ) (kind : Kind) (section : Bool) → is_section head ≡ section → block_kind order head ≡ kind → IsPlain kind → section ≡ false
+plain-by order head kind true is named plain = absurd (subst IsPlain (sym named ∙ (let it : block_kind order head ≡ SectionHeader = rw is refl in it)) plain)
 plain-by order head kind false is named plain = refl
 
-pub plain_section : (order : Order) (head : List ℕ) (kind : Kind) → kind_of order head ≡ kind → IsPlain kind → is_section head ≡ false
+pub plain_section : (order : Order) (head : List ℕ) (kind : Kind) → block_kind order head ≡ kind → IsPlain kind → is_section head ≡ false
 plain_section order head kind named plain = plain-by order head kind (is_section head) refl named plain
 
 by_kind : (order : Order) (number : ℕ) (a b c : Bool) → IsPlain (cond a InterfaceBlock (cond b SimplePacket (cond c EnhancedPacket OtherBlock)))
@@ -81,20 +81,20 @@ by_kind order number false true c = tt
 by_kind order number false false true = tt
 by_kind order number false false false = tt
 
-section-by : (order : Order) (head : List ℕ) (section : Bool) → is_section head ≡ section → kind_of order head ≡ SectionHeader → section ≡ true
+section-by : (order : Order) (head : List ℕ) (section : Bool) → is_section head ≡ section → block_kind order head ≡ SectionHeader → section ≡ true
 section-by order head true is named = refl
 section-by order head false is named =
-    let other : kind_by (number_in order 4 head) ≡ SectionHeader = (let it : kind_by (number_in order 4 head) ≡ kind_of order head = rw is refl in it) ∙ named in
+    let other : kind_by (number_in order 4 head) ≡ SectionHeader = (let it : kind_by (number_in order 4 head) ≡ block_kind order head = rw is refl in it) ∙ named in
     absurd (subst IsPlain other (by_kind order 0 (number_in order 4 head == 1) (number_in order 4 head == 3) (number_in order 4 head == 6)))
 
-pub is_section_header : (order : Order) (head : List ℕ) → kind_of order head ≡ SectionHeader → is_section head ≡ true
+pub is_section_header : (order : Order) (head : List ℕ) → block_kind order head ≡ SectionHeader → is_section head ≡ true
 is_section_header order head named = section-by order head (is_section head) refl named
 
 -- a section header that isn't refused
 pub section-accepted : (before : SectionState) (offset : ℕ) (head : List ℕ) → is_section head ≡ true → 12 ≤ length head → refusal_of before offset head ≡ None
     → (it : Order) × (order_told head ≡ Some it) × (is_total SectionHeader (total_of it head) ≡ true)
 section-accepted before offset head is long accepted =
-    let body : refusal_of before offset head ≡ header_by (order_told head) offset head =
+    let body : refusal_of before offset head ≡ section_fault (order_told head) offset head =
     cond-true (has 8 head) _ None (has-there 8 head (omega arith)) ∙ cond-true (is_section head) _ _ is ∙ cond-true (has 12 head) _ None (has-there 12 head long) in
     header_accepted (order_told head) offset head (sym body ∙ accepted)
 

@@ -4,7 +4,7 @@ use Rattle.std.proofs.lemmas.Bool.{cases_Bool, cond-false, leb-true}
 use Rattle.std.proofs.lemmas.List.{drop-drop, drop_at, drop-take, get_or-take, get_or_append_left}
 use Rattle.std.proofs.Math.Seq.{take-append-add, drop-append-add}
 use Rattle.std.specs.Prelude.{slice_index}
-use Rattle.pcapng_source.specs.Given.{after, nothing, refused, whole}
+use Rattle.pcapng_source.specs.Given.{prepended, nothing, refused_with, whole}
 use Rattle.pcap_source.specs.Order.{number_in}
 use Rattle.pcapng_source.specs.Fields.{SectionState, has, is_resolution, is_section, option_size, resolution_in, with_resolution}
 use Rattle.pcapng_source.specs.Blocks.{blocks_from, classic_header, closed}
@@ -37,7 +37,7 @@ behind-there one other r n bytes same = ⊎_elim
 -- nothing is owed or skipped any more
 body-at : (r : Reader) (left : List ℕ) → r.owed ≡ 0 → r.skip ≡ 0 → rest_at Body r left ≡ behind_words r r.options left
 body-at r left owed skip =
-    ap (λ k. after (take k left) (behind_words r r.options (drop (r.owed + r.skip) left))) owed
+    ap (λ k. prepended (take k left) (behind_words r r.options (drop (r.owed + r.skip) left))) owed
     ∙ ap (λ k. behind_words r r.options (drop k left)) (let it : r.owed + r.skip ≡ 0 = omega arith in it)
 
 words-at : (r : Reader) (n : ℕ) (left : List ℕ) → 0 < n → behind_words r n left ≡ behind_options r (4 * (n - 1) + 4) left
@@ -47,7 +47,7 @@ words-at r (suc n) left some = ap (λ k. behind_options r k left) (let it : 4 * 
 pub leaves-option : (r : Reader) → r.stage ≡ Body → IsFitting r → r.owed ≡ 0 → r.skip ≡ 0 → 0 < r.options
     → Goes r (record r { word = []; options = r.options - 1; stage = OptionHead })
 leaves-option r is fits owed skip some = record {
-  same = λ left. sym (rest-at r Body left is ∙ ap (after r.made) (body-at r left owed skip ∙ words-at r r.options left some));
+  same = λ left. sym (rest-at r Body left is ∙ ap (prepended r.made) (body-at r left owed skip ∙ words-at r r.options left some));
   fits = fits;
   lighter = omega (arith, weight-at r Body is);
   met = sym (ap met_at is);
@@ -56,7 +56,7 @@ leaves-option r is fits owed skip some = record {
 pub leaves-body : (r : Reader) → r.stage ≡ Body → IsFitting r → r.owed ≡ 0 → r.skip ≡ 0 → r.options ≡ 0
     → Goes r (record r { word = []; stage = Trailer })
 leaves-body r is fits owed skip none = record {
-  same = λ left. sym (rest-at r Body left is ∙ ap (after r.made) (body-at r left owed skip ∙ ap (λ n. behind_words r n left) none));
+  same = λ left. sym (rest-at r Body left is ∙ ap (prepended r.made) (body-at r left owed skip ∙ ap (λ n. behind_words r n left) none));
   fits = fits;
   lighter = omega (arith, weight-at r Body is);
   met = sym (ap met_at is);
@@ -65,14 +65,14 @@ leaves-body r is fits owed skip none = record {
 -- ---- the second total length
 
 trailer-at : (r : Reader) (left : List ℕ) (same : Bool) → length r.word ≡ 4 → (number_in r.section.order 4 r.word == r.block.total) ≡ same
-    → rest_at Trailer r left ≡ cond same (blocks_from r.section r.place.allowed r.place.offset left) (refused (BadBlock r.block.offset))
+    → rest_at Trailer r left ≡ cond same (blocks_from r.section r.place.allowed r.place.offset left) (refused_with (BadBlock r.block.offset))
 trailer-at r left same whole is =
     rw (has-front 4 r.word left (omega arith), number_in-front r.section.order 4 r.word left (omega arith), is, drop_at r.word left 4 whole) refl
 
 pub closes : (r : Reader) → r.stage ≡ Trailer → length r.word ≡ 4 → (number_in r.section.order 4 r.word == r.block.total) ≡ true
     → Goes r (record r { head = []; stage = Head })
 closes r is whole same = record {
-  same = λ left. sym (rest-at r Trailer left is ∙ ap (after r.made) (trailer-at r left true whole same));
+  same = λ left. sym (rest-at r Trailer left is ∙ ap (prepended r.made) (trailer-at r left true whole same));
   fits = omega arith;
   lighter = omega (arith, weight-at r Trailer is);
   met = sym (ap met_at is);
@@ -85,14 +85,14 @@ closes-badly r is whole fits same = refuses r Trailer (BadBlock r.block.offset) 
 -- ---- the first four bytes
 
 begun-at : (r : Reader) (left : List ℕ) (section : Bool) → length r.word ≡ 4 → is_section r.word ≡ section
-    → rest_at Start r left ≡ cond section (after classic_header (blocks_from r.section r.place.allowed r.place.offset (r.word ++ left))) (whole (r.word ++ left))
+    → rest_at Start r left ≡ cond section (prepended classic_header (blocks_from r.section r.place.allowed r.place.offset (r.word ++ left))) (whole (r.word ++ left))
 begun-at r left section long is =
     rw (has-front 4 r.word left (omega arith), is_section-front r.word left (omega arith), is) refl
 
 pub begins : (r : Reader) → r.stage ≡ Start → r.made ≡ [] → length r.word ≡ 4 → is_section r.word ≡ true
     → Goes r (record r { head = r.word; made = classic_header; stage = Head })
 begins r is none long section = record {
-  same = λ left. sym (rest-at r Start left is ∙ ap (λ l. after l (rest_at Start r left)) none ∙ begun-at r left true long section);
+  same = λ left. sym (rest-at r Start left is ∙ ap (λ l. prepended l (rest_at Start r left)) none ∙ begun-at r left true long section);
   fits = rw (has-short 8 r.word (omega arith)) (omega arith);
   lighter = omega (arith, weight-at r Start is);
   met = sym (ap met_at is);
@@ -101,7 +101,7 @@ begins r is none long section = record {
 pub begins-plain : (r : Reader) → r.stage ≡ Start → r.made ≡ [] → length r.word ≡ 4 → is_section r.word ≡ false
     → Goes r (record r { head = []; made = r.word; stage = Plain })
 begins-plain r is none long section = record {
-  same = λ left. sym (rest-at r Start left is ∙ ap (λ l. after l (rest_at Start r left)) none ∙ begun-at r left false long section);
+  same = λ left. sym (rest-at r Start left is ∙ ap (λ l. prepended l (rest_at Start r left)) none ∙ begun-at r left false long section);
   fits = omega arith;
   lighter = omega arith;
   met = sym (ap met_at is);
@@ -128,7 +128,7 @@ resolved-at r resolution left whole =
 pub resolves : (r : Reader) (resolution : ℕ) → r.stage ≡ Resolution → length r.word ≡ 4 → IsFitting r → slice_index r.word 0 ≡ resolution
     → Goes r (record r { stage = Body; section = with_resolution r.section resolution; owed = 0; skip = 4 * r.options; options = 0 })
 resolves r resolution is whole fits read = record {
-  same = λ left. sym (rest-at r Resolution left is ∙ ap (after r.made)
+  same = λ left. sym (rest-at r Resolution left is ∙ ap (prepended r.made)
       (ap (λ n. behind (with_resolution r.section n) r (4 * r.options + 4) (r.word ++ left)) (get_or_append_left r.word left 0 0 (omega arith) ∙ read)
       ∙ resolved-at r resolution left whole));
   fits = fits;
@@ -141,7 +141,7 @@ pub ends-options : (r : Reader) → r.stage ≡ OptionHead → length r.word ≡
     → ((area : List ℕ) → length area ≡ 4 * r.options → resolution_in r.section.order (4 * r.options + 4) (r.word ++ area) ≡ 6)
     → Goes r (record r { stage = Body; section = with_resolution r.section 6; owed = 0; skip = 4 * r.options; options = 0 })
 ends-options r is whole fits none = record {
-  same = λ left. sym (rest-at r OptionHead left is ∙ ap (after r.made)
+  same = λ left. sym (rest-at r OptionHead left is ∙ ap (prepended r.made)
       (behind-there (with_resolution r.section (resolution_in r.section.order (4 * r.options + 4) (take (4 * r.options + 4) (r.word ++ left))))
       (with_resolution r.section 6) r (4 * r.options + 4) (r.word ++ left)
       (λ there. ap (with_resolution r.section) (ap (resolution_in r.section.order (4 * r.options + 4)) (options-at r.word left r.options whole)
@@ -157,7 +157,7 @@ pub tells : (r : Reader) → r.stage ≡ OptionHead → length r.word ≡ 4 → 
     → option_size r.section.order r.word ≡ 8 → is_resolution r.section.order r.word ≡ true
     → Goes r (record r { options = r.options - 1; word = []; stage = Resolution })
 tells r is whole fits more some size told = record {
-  same = λ left. sym (rest-at r OptionHead left is ∙ ap (after r.made)
+  same = λ left. sym (rest-at r OptionHead left is ∙ ap (prepended r.made)
       (behind-there (with_resolution r.section (resolution_in r.section.order (4 * r.options + 4) (take (4 * r.options + 4) (r.word ++ left))))
       (with_resolution r.section (slice_index left 0)) r (4 * r.options + 4) (r.word ++ left)
       (λ there.
@@ -186,7 +186,7 @@ passes r words is whole fits more some size told = record {
       let rest = r.options - words in
       let bytes = drop (4 * words) left in
       let behind_it = take (4 * (rest - 1) + 4) bytes in
-      sym (rest-at r OptionHead left is ∙ ap (after r.made)
+      sym (rest-at r OptionHead left is ∙ ap (prepended r.made)
       (behind-there (with_resolution r.section (resolution_in order (4 * r.options + 4) (take (4 * r.options + 4) (r.word ++ left))))
       (with_resolution r.section (resolution_in order (4 * (rest - 1) + 4) behind_it)) r (4 * r.options + 4) (r.word ++ left)
       (λ there.

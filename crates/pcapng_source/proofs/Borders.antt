@@ -6,9 +6,9 @@ use Rattle.std.proofs.Math.Seq.{take-append_seam}
 use Rattle.std.specs.Io.{StartsWith}
 use Rattle.std.specs.Io.KnownBytes.{Consumes}
 use Rattle.mos_bytes.specs.Reads.{BeginsWith}
-use Rattle.pcapng_source.specs.Given.{after}
+use Rattle.pcapng_source.specs.Given.{prepended}
 use Rattle.pcap_source.specs.Order.{number_in}
-use Rattle.pcapng_source.specs.Fields.{has, head_length, kind_of}
+use Rattle.pcapng_source.specs.Fields.{has, head_length, block_kind}
 use Rattle.pcapng_source.specs.Blocks.{blocks_from}
 use Rattle.pcapng_source.specs.Outlooks.{Gives, outlook}
 use Rattle.pcapng_source.specs.Reading.{EndsInHead, IsBehindData, IsBorder, IsFitting, rest_of, stop_of}
@@ -60,7 +60,7 @@ pub crosses : (r : Reader) (bytes head left : List ℕ) → IsBehindData r → I
     → rest_of (record r { head = head; stage = Head }) left ≡ rest_of r (bytes ++ left)
 crosses r bytes head left it fits long same is =
     let told : number_in r.section.order 4 (take 4 (drop r.skip bytes)) ≡ r.block.total = sym (read r bytes long) ∙ same in
-    ap (λ l. after r.made (blocks_from r.section r.place.allowed r.place.offset (l ++ left))) (is ∙ sym (drop-drop 4 r.skip bytes))
+    ap (λ l. prepended r.made (blocks_from r.section r.place.allowed r.place.offset (l ++ left))) (is ∙ sym (drop-drop 4 r.skip bytes))
     ∙ (closes (held r bytes) refl (whole r bytes long) (eq-eqb _ _ told)).same (drop 4 (drop r.skip bytes) ++ left)
     ∙ holds r bytes left it fits long
 
@@ -84,10 +84,10 @@ stop-front order n bytes few there =
     let stop : stop_of order front ≡ 8 = cond-false (has 8 front) _ 8 (has-short 8 front (omega (arith, sized))) in
     omega (arith, stop))
     (λ long.
-    let one : stop_of order bytes ≡ head_length (kind_of order bytes) = cond-true (has 8 bytes) _ 8 (has-there 8 bytes (omega arith)) in
-    let two : stop_of order front ≡ head_length (kind_of order front) = cond-true (has 8 front) _ 8 (has-there 8 front (omega (arith, sized))) in
-    let same : kind_of order bytes ≡ kind_of order front =
-    ap (kind_of order) (sym (take-append-drop n bytes)) ∙ kind_of-front order front (drop n bytes) (omega (arith, sized)) in
+    let one : stop_of order bytes ≡ head_length (block_kind order bytes) = cond-true (has 8 bytes) _ 8 (has-there 8 bytes (omega arith)) in
+    let two : stop_of order front ≡ head_length (block_kind order front) = cond-true (has 8 front) _ 8 (has-there 8 front (omega (arith, sized))) in
+    let same : block_kind order bytes ≡ block_kind order front =
+    ap (block_kind order) (sym (take-append-drop n bytes)) ∙ kind_of-front order front (drop n bytes) (omega (arith, sized)) in
     omega (arith, one, two, ap head_length same))
     (cases_lt n 8)
 

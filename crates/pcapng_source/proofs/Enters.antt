@@ -2,10 +2,10 @@
 use Rattle.std.proofs.Common.{◌≡◌, ℕ, zero, suc, ◌+◌, ◌-◌, ◌<◌, ◌≤◌, List, [], ◌++◌, length, drop, Bool, true, false, cond, None, Some, refl, sym, ap, subst, ◌∙◌, arith, length-append}
 use Rattle.std.proofs.lemmas.List.{drop-drop, append-nil}
 use Rattle.std.proofs.Math.Seq.{drop-append-add}
-use Rattle.pcapng_source.specs.Given.{after, nothing, refused}
+use Rattle.pcapng_source.specs.Given.{prepended, nothing, refused_with}
 use Rattle.pcap_source.specs.Order.{number_in}
-use Rattle.pcapng_source.specs.Fields.{SectionState, head_length, is_section, kind_by, kind_of, section_by, section_in, total_of}
-use Rattle.pcapng_source.specs.Packets.{record_of}
+use Rattle.pcapng_source.specs.Fields.{SectionState, head_length, is_section, kind_by, block_kind, section_by, section_in, total_of}
+use Rattle.pcapng_source.specs.Packets.{block_record}
 use Rattle.pcapng_source.specs.Refusals.{refusal_of}
 use Rattle.pcapng_source.specs.Blocks.{blocks_from, closed}
 use Rattle.pcap_source.specs.declared.order.Order.{Order}
@@ -22,12 +22,12 @@ unfolding blocks_from
 blocks-short before zero offset bytes short = rw (has-short 8 bytes short) refl
 blocks-short before (suc n) offset bytes short =
     let none : refusal_of before offset bytes ≡ None = rw (has-short 8 bytes short) refl in
-    let least = head_length-least (kind_of (section_in before bytes).order bytes) in
+    let least = head_length-least (block_kind (section_in before bytes).order bytes) in
     blocks-wait before n offset bytes none (omega arith)
 
 -- a head that is refused as far as it is there
 pub head-refused : (before : SectionState) (n offset : ℕ) (head left : List ℕ) (fault : NgFault) → 8 ≤ length head → 0 < n
-    → refusal_of before offset head ≡ Some fault → blocks_from before n offset (head ++ left) ≡ refused fault
+    → refusal_of before offset head ≡ Some fault → blocks_from before n offset (head ++ left) ≡ refused_with fault
 head-refused before n offset head left fault long some is =
     let more : suc (n - 1) ≡ n = omega arith in
     ap (λ k. blocks_from before k offset (head ++ left)) (sym more)
@@ -35,7 +35,7 @@ head-refused before n offset head left fault long some is =
 
 -- a head that waits for more bytes
 pub head-waits : (before : SectionState) (n offset : ℕ) (head : List ℕ) → 0 < n → refusal_of before offset head ≡ None
-    → length head < head_length (kind_of before.order head) → blocks_from before n offset (head ++ []) ≡ nothing
+    → length head < head_length (block_kind before.order head) → blocks_from before n offset (head ++ []) ≡ nothing
 head-waits before n offset head some is short =
     let more : suc (n - 1) ≡ n = omega arith in
     ap (blocks_from before n offset) (append-nil head) ∙ ap (λ k. blocks_from before k offset head) (sym more)
@@ -49,11 +49,11 @@ section_in-by before head left true is long told =
     rw (is_section-front head left (omega arith), is, order_told-front head left (told refl)) refl
 section_in-by before head left false is long told = rw (is_section-front head left (omega arith), is) refl
 
-whole_is_told : (order : Order) (head : List ℕ) (section : Bool) → is_section head ≡ section → length head ≡ head_length (kind_of order head) → section ≡ true → 12 ≤ length head
+whole_is_told : (order : Order) (head : List ℕ) (section : Bool) → is_section head ≡ section → length head ≡ head_length (block_kind order head) → section ≡ true → 12 ≤ length head
 whole_is_told order head true is whole told = let size : length head ≡ 14 = whole ∙ ap (λ b. head_length (cond b SectionHeader (kind_by (number_in order 4 head)))) is in omega arith
 whole_is_told order head false is whole told = cc
 
-pub section_in-front : (before : SectionState) (head left : List ℕ) (kind : Kind) → kind_of before.order head ≡ kind → length head ≡ head_length kind
+pub section_in-front : (before : SectionState) (head left : List ℕ) (kind : Kind) → block_kind before.order head ≡ kind → length head ≡ head_length kind
     → section_in before (head ++ left) ≡ section_in before head
 section_in-front before head left kind is whole =
     let least = head_length-least kind in
@@ -62,10 +62,10 @@ section_in-front before head left kind is whole =
 
 -- a whole head that isn't refused: its record, and the body behind it, of which k bytes are no options
 pub head-opens : (before : SectionState) (n offset : ℕ) (head left : List ℕ) (kind : Kind) (k size total : ℕ)
-    → refusal_of before offset head ≡ None → kind_of before.order head ≡ kind → length head ≡ head_length kind → 0 < n
+    → refusal_of before offset head ≡ None → block_kind before.order head ≡ kind → length head ≡ head_length kind → 0 < n
     → total_of (section_in before head).order head ≡ total → head_length kind + (k + (size + 4)) ≡ total
     → blocks_from before n offset (head ++ left)
-    ≡ after (record_of kind (section_in before head) (head ++ left))
+    ≡ prepended (block_record kind (section_in before head) (head ++ left))
     (closed (section_in before head).order total offset size (drop k left)
     (blocks_from (section_by kind (section_in before head) (head ++ left)) (n - 1) (offset + total) (drop (size + 4) (drop k left))))
 head-opens before n offset head left kind k size total accepted is whole some total_is parts =
@@ -74,9 +74,9 @@ head-opens before n offset head left kind k size total accepted is whole some to
     let s = section_in before head in
     let same : section_in before bytes ≡ s = section_in-front before head left kind is whole in
     let firm = refusal_firm before offset head left (omega arith) in
-    let there : head_length (kind_of before.order head) ≡ length head = ap head_length is ∙ sym whole in
+    let there : head_length (block_kind before.order head) ≡ length head = ap head_length is ∙ sym whole in
     let done : refusal_of before offset bytes ≡ None = firm.decided (omega arith) ∙ accepted in
-    let named : kind_of (section_in before bytes).order bytes ≡ kind = kind_in before bytes (is_section bytes) refl ∙ kind_of-front before.order head left (omega arith) ∙ is in
+    let named : block_kind (section_in before bytes).order bytes ≡ kind = kind_in before bytes (is_section bytes) refl ∙ kind_of-front before.order head left (omega arith) ∙ is in
     let fits : head_length kind ≤ length bytes = omega (arith, length-append head left) in
     let sized : total_of s.order bytes ≡ total = total_of-front s.order head left (omega arith) ∙ total_is in
     let more : suc (n - 1) ≡ n = omega arith in
@@ -87,13 +87,13 @@ head-opens before n offset head left kind k size total accepted is whole some to
     ∙ sym (drop-drop (size + 4) (head_length kind + k) bytes) ∙ ap (drop (size + 4)) front in
     let others = blocks_from (section_by kind s bytes) (n - 1) (offset + total) (drop (size + 4) (drop k left)) in
     let opened : blocks_from before (suc (n - 1)) offset bytes
-    ≡ after (record_of kind s bytes) (closed s.order total offset (total - 4) bytes (blocks_from (section_by kind s bytes) (n - 1) (offset + total) (drop total bytes))) =
+    ≡ prepended (block_record kind s bytes) (closed s.order total offset (total - 4) bytes (blocks_from (section_by kind s bytes) (n - 1) (offset + total) (drop total bytes))) =
     blocks-open before (n - 1) offset bytes kind done named fits
-    ∙ ap (λ t. after (record_of kind t bytes) (closed t.order (total_of t.order bytes) offset (total_of t.order bytes - 4) bytes
+    ∙ ap (λ t. prepended (block_record kind t bytes) (closed t.order (total_of t.order bytes) offset (total_of t.order bytes - 4) bytes
     (blocks_from (section_by kind t bytes) (n - 1) (offset + total_of t.order bytes) (drop (total_of t.order bytes) bytes)))) same
-    ∙ ap (λ t. after (record_of kind s bytes) (closed s.order t offset (t - 4) bytes (blocks_from (section_by kind s bytes) (n - 1) (offset + t) (drop t bytes)))) sized in
+    ∙ ap (λ t. prepended (block_record kind s bytes) (closed s.order t offset (t - 4) bytes (blocks_from (section_by kind s bytes) (n - 1) (offset + t) (drop t bytes)))) sized in
     ap (λ m. blocks_from before m offset bytes) (sym more) ∙ opened
-    ∙ ap (λ l. after (record_of kind s bytes) (closed s.order total offset (total - 4) bytes (blocks_from (section_by kind s bytes) (n - 1) (offset + total) l))) rest
-    ∙ ap (λ m. after (record_of kind s bytes) (closed s.order total offset m bytes others)) (let it : total - 4 ≡ head_length kind + k + size = omega arith in it)
-    ∙ ap (after (record_of kind s bytes)) (closed-drop s.order total offset (head_length kind + k) size bytes others
+    ∙ ap (λ l. prepended (block_record kind s bytes) (closed s.order total offset (total - 4) bytes (blocks_from (section_by kind s bytes) (n - 1) (offset + total) l))) rest
+    ∙ ap (λ m. prepended (block_record kind s bytes) (closed s.order total offset m bytes others)) (let it : total - 4 ≡ head_length kind + k + size = omega arith in it)
+    ∙ ap (prepended (block_record kind s bytes)) (closed-drop s.order total offset (head_length kind + k) size bytes others
     ∙ ap (λ l. closed s.order total offset size l others) front)

@@ -3,9 +3,9 @@ use Rattle.std.proofs.Common.{◌≡◌, ℕ, ◌<◌, ◌≤◌, List, ◌++◌
 use Rattle.std.proofs.lemmas.Bool.{cases_Bool, cond-true, leb-true, leb-false}
 use Rattle.std.specs.List.{slice_get}
 use Rattle.pcap_source.specs.Order.{number_in}
-use Rattle.pcapng_source.specs.Fields.{SectionState, has, head_length, is_section, is_total, kind_by, kind_of, order_told, total_of}
+use Rattle.pcapng_source.specs.Fields.{SectionState, has, head_length, is_section, is_total, kind_by, block_kind, order_told, total_of}
 use Rattle.pcapng_source.specs.Packets.{captured_of, interface_of, within_snap}
-use Rattle.pcapng_source.specs.Refusals.{block_by, header_by, kind_refusal, packet_by, refusal_of}
+use Rattle.pcapng_source.specs.Refusals.{block_by, section_fault, kind_refusal, packet_by, refusal_of}
 use Rattle.pcap_source.specs.declared.order.Order.{Order}
 use Rattle.pcap_source.specs.declared.order.Order.TheVariants.{Big, Little}
 use Rattle.pcapng_source.specs.declared.kind.Kind.{Kind}
@@ -51,7 +51,7 @@ total_of-front order front left long = number_at-front order 4 4 front left (ome
 pub is_section-front : (front left : List ℕ) → 4 ≤ length front → is_section (front ++ left) ≡ is_section front
 is_section-front front left long = ap (λ n. n == 0x0a0d0d0a) (number_in-front Big 4 front left long)
 
-pub kind_of-front : (order : Order) (front left : List ℕ) → 4 ≤ length front → kind_of order (front ++ left) ≡ kind_of order front
+pub kind_of-front : (order : Order) (front left : List ℕ) → 4 ≤ length front → block_kind order (front ++ left) ≡ block_kind order front
 kind_of-front order front left long = rw (is_section-front front left long, number_in-front order 4 front left long) refl
 
 pub order_told-front : (front left : List ℕ) → 12 ≤ length front → order_told (front ++ left) ≡ order_told front
@@ -103,10 +103,10 @@ block_firm kind section offset front left long = subst
     (firm_then _ (is_total kind (total_of section.order front)) _ _ (Some (BadBlock offset)) (kind_firm kind section offset front left long))
 
 header_firm : (order : Option Order) (offset : ℕ) (front left : List ℕ) → 12 ≤ length front
-    → Firm (14 ≤ length front) (header_by order offset front) (header_by order offset (front ++ left))
+    → Firm (14 ≤ length front) (section_fault order offset front) (section_fault order offset (front ++ left))
 header_firm None offset front left long = firm_same _ _ _ refl
 header_firm (Some order) offset front left long = subst
-    (λ total. Firm (14 ≤ length front) (header_by (Some order) offset front) (cond (not (is_total SectionHeader total)) (Some (BadBlock offset))
+    (λ total. Firm (14 ≤ length front) (section_fault (Some order) offset front) (cond (not (is_total SectionHeader total)) (Some (BadBlock offset))
     (cond (has 14 (front ++ left)) (cond (number_in order 2 (drop 12 (front ++ left)) == 1) None (Some (BadVersion offset))) None)))
     (sym (total_of-front order front left (omega arith)))
     (firm_else _ (not (is_total SectionHeader (total_of order front))) _ _ (Some (BadBlock offset))
@@ -115,31 +115,31 @@ header_firm (Some order) offset front left long = subst
 -- by whether a section header stands at the front
 firm_by : (before : SectionState) (offset : ℕ) (front left : List ℕ) (section : Bool) → is_section front ≡ section → 8 ≤ length front
     → Firm (head_length (cond section SectionHeader (kind_by (number_in before.order 4 front))) ≤ length front)
-    (cond section (cond (has 12 front) (header_by (order_told front) offset front) None) (block_by (kind_of before.order front) before offset front))
-    (cond section (cond (has 12 (front ++ left)) (header_by (order_told (front ++ left)) offset (front ++ left)) None) (block_by (kind_of before.order (front ++ left)) before offset (front ++ left)))
+    (cond section (cond (has 12 front) (section_fault (order_told front) offset front) None) (block_by (block_kind before.order front) before offset front))
+    (cond section (cond (has 12 (front ++ left)) (section_fault (order_told (front ++ left)) offset (front ++ left)) None) (block_by (block_kind before.order (front ++ left)) before offset (front ++ left)))
 firm_by before offset front left true is long =
     firm_has _ 12 front left _ _ (λ whole. omega arith) (λ fits. subst
-    (λ order. Firm (14 ≤ length front) (header_by (order_told front) offset front) (header_by order offset (front ++ left)))
+    (λ order. Firm (14 ≤ length front) (section_fault (order_told front) offset front) (section_fault order offset (front ++ left)))
     (sym (order_told-front front left fits))
     (header_firm (order_told front) offset front left fits))
 firm_by before offset front left false is long = subst
-    (λ kind. Firm (head_length (kind_by (number_in before.order 4 front)) ≤ length front) (block_by (kind_of before.order front) before offset front) (block_by kind before offset (front ++ left)))
+    (λ kind. Firm (head_length (kind_by (number_in before.order 4 front)) ≤ length front) (block_by (block_kind before.order front) before offset front) (block_by kind before offset (front ++ left)))
     (sym (kind_of-front before.order front left (omega arith)))
     (subst (λ kind. Firm (head_length (kind_by (number_in before.order 4 front)) ≤ length front) (block_by kind before offset front) (block_by kind before offset (front ++ left)))
-    (let plain : kind_by (number_in before.order 4 front) ≡ kind_of before.order front = rw is refl in plain)
+    (let plain : kind_by (number_in before.order 4 front) ≡ block_kind before.order front = rw is refl in plain)
     (block_firm (kind_by (number_in before.order 4 front)) before offset front left long))
 
 pub refusal_firm : (before : SectionState) (offset : ℕ) (front left : List ℕ) → 8 ≤ length front
-    → Firm (head_length (kind_of before.order front) ≤ length front) (refusal_of before offset front) (refusal_of before offset (front ++ left))
+    → Firm (head_length (block_kind before.order front) ≤ length front) (refusal_of before offset front) (refusal_of before offset (front ++ left))
 refusal_firm before offset front left long =
-    let one : refusal_of before offset front ≡ cond (is_section front) (cond (has 12 front) (header_by (order_told front) offset front) None)
-    (block_by (kind_of before.order front) before offset front) =
+    let one : refusal_of before offset front ≡ cond (is_section front) (cond (has 12 front) (section_fault (order_told front) offset front) None)
+    (block_by (block_kind before.order front) before offset front) =
     cond-true (has 8 front) _ None (has-there 8 front long) in
     let two : refusal_of before offset (front ++ left) ≡ cond (is_section front)
-    (cond (has 12 (front ++ left)) (header_by (order_told (front ++ left)) offset (front ++ left)) None)
-    (block_by (kind_of before.order (front ++ left)) before offset (front ++ left)) =
+    (cond (has 12 (front ++ left)) (section_fault (order_told (front ++ left)) offset (front ++ left)) None)
+    (block_by (block_kind before.order (front ++ left)) before offset (front ++ left)) =
     cond-true (has 8 (front ++ left)) _ None (has-front 8 front left long)
-    ∙ ap (λ b. cond b (cond (has 12 (front ++ left)) (header_by (order_told (front ++ left)) offset (front ++ left)) None)
-    (block_by (kind_of before.order (front ++ left)) before offset (front ++ left))) (is_section-front front left (omega arith)) in
+    ∙ ap (λ b. cond b (cond (has 12 (front ++ left)) (section_fault (order_told (front ++ left)) offset (front ++ left)) None)
+    (block_by (block_kind before.order (front ++ left)) before offset (front ++ left))) (is_section-front front left (omega arith)) in
     let it = firm_by before offset front left (is_section front) refl long in
     record { decided = λ w. two ∙ it.decided w ∙ sym one; refused = λ fault is. two ∙ it.refused fault (sym one ∙ is) }

@@ -3,10 +3,10 @@ use Rattle.std.proofs.Common.{◌≡◌, ℕ, zero, suc, ◌+◌, ◌-◌, ◌*�
 use Rattle.std.proofs.lemmas.Bool.{cases_Bool, cond-false, cond-true, leb-true}
 use Rattle.std.proofs.lemmas.List.{drop_at}
 use Rattle.std.specs.List.{slice_get}
-use Rattle.pcapng_source.specs.Given.{Given, after, nothing}
+use Rattle.pcapng_source.specs.Given.{Given, prepended, nothing}
 use Rattle.pcap_source.specs.Order.{number_in}
 use Rattle.pcapng_source.specs.Fields.{SectionState, has, head_length, interface_by, order_told, resolution_in, resolution_told, section_by, section_in, snap_told, total_of, with_interface, with_resolution}
-use Rattle.pcapng_source.specs.Packets.{captured_of, interface_of, record_by, record_head, record_of, record_on, within_snap}
+use Rattle.pcapng_source.specs.Packets.{captured_of, interface_of, record_by, record_head, block_record, record_on, within_snap}
 use Rattle.pcapng_source.specs.Refusals.{kind_refusal}
 use Rattle.pcapng_source.specs.Blocks.{blocks_from, closed}
 use Rattle.pcapng_source.specs.Reading.{Goes, IsWhole, met_at, behind_words}
@@ -45,7 +45,7 @@ closed-there order total offset n bytes one other same = ⊎_elim
 
 pub opens : (r : Reader) (kind : Kind) (s section : SectionState) (made : List ℕ) (total owed skip words : ℕ) → IsWhole kind r
     → section_in r.section r.head ≡ s → total_of s.order r.head ≡ total → total ≤ 16777216 → head_length kind + (owed + skip + (4 * words + 4)) ≡ total
-    → s.order ≡ section.order → ((left : List ℕ) → record_of kind s (r.head ++ left) ≡ made ++ take owed left)
+    → s.order ≡ section.order → ((left : List ℕ) → block_record kind s (r.head ++ left) ≡ made ++ take owed left)
     → ((left : List ℕ) → 4 * words + 4 ≤ length (drop (owed + skip) left) → section_by kind s (r.head ++ left) ≡ section_of_words section words (drop (owed + skip) left))
     → Goes r (record r {
       stage = Body;
@@ -64,17 +64,17 @@ opens r kind s section made total owed skip words it is_section_is sized most pa
       let bytes = drop (owed + skip) left in
       let others = blocks_from (section_of_words section words bytes) (r.place.allowed - 1) (r.place.offset + total) (drop (4 * words + 4) bytes) in
       sym (rest-at r Head left u.stage
-      ∙ ap (λ l. after l (blocks_from r.section r.place.allowed r.place.offset (r.head ++ left))) u.made
+      ∙ ap (λ l. prepended l (blocks_from r.section r.place.allowed r.place.offset (r.head ++ left))) u.made
       ∙ head-opens r.section r.place.allowed r.place.offset r.head left kind (owed + skip) (4 * words) total u.accepted it.named it.whole u.allowed
       (ap (λ t. total_of t.order r.head) is_section_is ∙ sized) parts
-      ∙ ap (λ t. after (record_of kind t (r.head ++ left)) (closed t.order total r.place.offset (4 * words) bytes
+      ∙ ap (λ t. prepended (block_record kind t (r.head ++ left)) (closed t.order total r.place.offset (4 * words) bytes
       (blocks_from (section_by kind t (r.head ++ left)) (r.place.allowed - 1) (r.place.offset + total) (drop (4 * words + 4) bytes)))) is_section_is
-      ∙ ap (after (record_of kind s (r.head ++ left))) (closed-there s.order total r.place.offset (4 * words) bytes _ others
+      ∙ ap (prepended (block_record kind s (r.head ++ left))) (closed-there s.order total r.place.offset (4 * words) bytes _ others
       (λ there. ap (λ t. blocks_from t (r.place.allowed - 1) (r.place.offset + total) (drop (4 * words + 4) bytes)) (sections left there))
       ∙ ap (λ o. closed o total r.place.offset (4 * words) bytes others) orders)
-      ∙ ap (λ l. after l (closed section.order total r.place.offset (4 * words) bytes others)) (records left)
+      ∙ ap (λ l. prepended l (closed section.order total r.place.offset (4 * words) bytes others)) (records left)
       ∙ after-after made (take owed left) _
-      ∙ ap (λ g. after made (after (take owed left) g)) (sym (words-closed (record r {
+      ∙ ap (λ g. prepended made (prepended (take owed left) g)) (sym (words-closed (record r {
         stage = Body;
         section = section;
         place = record { offset = r.place.offset + total; allowed = r.place.allowed - 1 };

@@ -3,8 +3,8 @@ use Rattle.std.proofs.Common.{◌≡◌, ℕ, zero, suc, ◌+◌, ◌-◌, ◌*�
 use Rattle.std.proofs.lemmas.Bool.{cases_Bool, cases_lt, cond-false, cond-true, eqb-true}
 use Rattle.std.proofs.lemmas.List.{nil_from_length}
 use Rattle.std.proofs.Math.Seq.{take-nil, drop-nil, take-append-add, drop-append-add}
-use Rattle.pcapng_source.specs.Given.{after, nothing, refused}
-use Rattle.pcapng_source.specs.Fields.{SectionState, has, head_length, kind_of}
+use Rattle.pcapng_source.specs.Given.{prepended, nothing, refused_with}
+use Rattle.pcapng_source.specs.Fields.{SectionState, has, head_length, block_kind}
 use Rattle.pcapng_source.specs.Refusals.{refusal_of}
 use Rattle.pcapng_source.specs.Blocks.{blocks_from}
 use Rattle.pcapng_source.specs.Reading.{Goes, IsFitting, IsOpen, IsUnrefused, met_at, ready_at, behind, behind_words, rest_at, rest_of, stop_of, weight_at, weight_of}
@@ -19,8 +19,8 @@ use Rattle.pcapng_source.proofs.Firm.{kind_of-front}
 use Rattle.pcapng_source.proofs.Blocks.{after-after, blocks-many, closed-short, has-short, head_length-least}
 use Rattle.pcapng_source.proofs.Enters.{blocks-short, head-refused, head-waits}
 
-pub rest-at : (r : Reader) (stage : Stage) (left : List ℕ) → r.stage ≡ stage → rest_of r left ≡ after r.made (rest_at stage r left)
-rest-at r stage left is = ap (λ s. after r.made (rest_at s r left)) is
+pub rest-at : (r : Reader) (stage : Stage) (left : List ℕ) → r.stage ≡ stage → rest_of r left ≡ prepended r.made (rest_at stage r left)
+rest-at r stage left is = ap (λ s. prepended r.made (rest_at s r left)) is
 
 pub weight-at : (r : Reader) (stage : Stage) → r.stage ≡ stage → weight_of r ≡ weight_at stage r
 weight-at r stage is = ap (λ s. weight_at s r) is
@@ -36,10 +36,10 @@ goes-trans a b c first second =
     record { same = λ left. second.same left ∙ first.same left; fits = second.fits; lighter = omega (arith, one, two); met = second.met ∙ first.met }
 
 -- a block is refused
-pub refuses : (r : Reader) (stage : Stage) (fault : NgFault) → r.stage ≡ stage → met_at stage ≡ 0 → IsFitting r → ((left : List ℕ) → rest_at stage r left ≡ refused fault)
+pub refuses : (r : Reader) (stage : Stage) (fault : NgFault) → r.stage ≡ stage → met_at stage ≡ 0 → IsFitting r → ((left : List ℕ) → rest_at stage r left ≡ refused_with fault)
     → Goes r (record r { stage = Refused fault 0 })
 refuses r stage fault is none fits refusal = record {
-  same = λ left. ap (after r.made) (sym (refusal left)) ∙ sym (rest-at r stage left is);
+  same = λ left. ap (prepended r.made) (sym (refusal left)) ∙ sym (rest-at r stage left is);
   fits = fits;
   lighter = omega arith;
   met = sym (ap met_at is ∙ none);
@@ -65,7 +65,7 @@ waits-short r is short =
     )
 
 -- a head that isn't refused so far
-pub waits : (r : Reader) → IsUnrefused r → length r.head < head_length (kind_of r.section.order r.head) → ready_at r.stage r
+pub waits : (r : Reader) → IsUnrefused r → length r.head < head_length (block_kind r.section.order r.head) → ready_at r.stage r
 waits r it short =
     subst (λ s. ready_at s r) (sym it.stage) (
       rw (has-there 8 r.head it.long) short,
@@ -83,7 +83,7 @@ words-nil r (suc n) = behind-nil _ r (4 * suc n)
 pub body-open : (r : Reader) → r.stage ≡ Body → IsOpen r
 body-open r is =
     ap (λ s. rest_at s r []) is
-    ∙ ap (λ l. after l (behind_words r r.options (drop (r.owed + r.skip) []))) (take-nil r.owed)
+    ∙ ap (λ l. prepended l (behind_words r r.options (drop (r.owed + r.skip) []))) (take-nil r.owed)
     ∙ ap (behind_words r r.options) (drop-nil (r.owed + r.skip)) ∙ words-nil r r.options
 
 -- in a stage that holds a word
@@ -95,7 +95,7 @@ word-open section r n word short =
 
 -- they are given as they are
 pub gives-body : (r : Reader) (count : ℕ) (front left : List ℕ) → r.stage ≡ Body → r.made ≡ [] → count ≤ r.owed → length front ≡ count
-    → rest_of r (front ++ left) ≡ after front (rest_of (record r { owed = r.owed - count }) left)
+    → rest_of r (front ++ left) ≡ prepended front (rest_of (record r { owed = r.owed - count }) left)
 gives-body r count front left is none few sized =
     let new : Reader = record r { owed = r.owed - count } in
     let bytes = drop (r.owed - count + r.skip) left in
@@ -104,11 +104,11 @@ gives-body r count front left is none few sized =
     let behind_it : drop (r.owed + r.skip) (front ++ left) ≡ bytes =
     ap (λ k. drop k (front ++ left)) (let it : r.owed + r.skip ≡ length front + (r.owed - count + r.skip) = omega arith in it) ∙ drop-append-add front left (r.owed - count + r.skip) in
     rest-at r Body (front ++ left) is
-    ∙ ap (λ l. after l (rest_at Body r (front ++ left))) none
-    ∙ ap (λ l. after l (behind_words r r.options (drop (r.owed + r.skip) (front ++ left)))) taken
-    ∙ ap (λ l. after (front ++ take (r.owed - count) left) (behind_words r r.options l)) behind_it
+    ∙ ap (λ l. prepended l (rest_at Body r (front ++ left))) none
+    ∙ ap (λ l. prepended l (behind_words r r.options (drop (r.owed + r.skip) (front ++ left)))) taken
+    ∙ ap (λ l. prepended (front ++ take (r.owed - count) left) (behind_words r r.options l)) behind_it
     ∙ after-after front (take (r.owed - count) left) (behind_words r r.options bytes)
-    ∙ ap (after front) (sym (rest-at new Body left is ∙ ap (λ l. after l (rest_at Body new left)) none))
+    ∙ ap (prepended front) (sym (rest-at new Body left is ∙ ap (λ l. prepended l (rest_at Body new left)) none))
 
 -- they are skipped
 pub skips-body : (r : Reader) (count : ℕ) (front left : List ℕ) → r.stage ≡ Body → r.owed ≡ 0 → count ≤ r.skip → length front ≡ count
@@ -120,9 +120,9 @@ skips-body r count front left is owed few sized =
     ∙ drop-append-add front left (r.owed + (r.skip - count)) in
     let none : (bytes : List ℕ) → take r.owed bytes ≡ [] = λ bytes. ap (λ k. take k bytes) owed in
     rest-at new Body left is
-    ∙ ap (λ l. after r.made (after l (behind_words r r.options (drop (r.owed + (r.skip - count)) left)))) (none left ∙ sym (none (front ++ left)))
+    ∙ ap (λ l. prepended r.made (prepended l (behind_words r r.options (drop (r.owed + (r.skip - count)) left)))) (none left ∙ sym (none (front ++ left)))
     ∙ sym (rest-at r Body (front ++ left) is
-    ∙ ap (λ l. after r.made (after (take r.owed (front ++ left)) (behind_words r r.options l))) behind_it)
+    ∙ ap (λ l. prepended r.made (prepended (take r.owed (front ++ left)) (behind_words r r.options l))) behind_it)
 
 pub skips : (r : Reader) (count : ℕ) (front left : List ℕ) → r.stage ≡ Body → count ≤ cond (r.owed == 0) r.skip 0 → length front ≡ count
     → rest_of (record r { skip = r.skip - count }) left ≡ rest_of r (front ++ left)
@@ -137,8 +137,8 @@ skips r count front left is few sized = ⊎_elim
 
 -- ---- bytes that are held
 
-stop-least : (order : Order) (head : List ℕ) (there : Bool) → 8 ≤ cond there (head_length (kind_of order head)) 8
-stop-least order head true = head_length-least (kind_of order head)
+stop-least : (order : Order) (head : List ℕ) (there : Bool) → 8 ≤ cond there (head_length (block_kind order head)) 8
+stop-least order head true = head_length-least (block_kind order head)
 stop-least order head false = omega arith
 
 -- no more of a head is held than is judged next
@@ -150,8 +150,8 @@ keeps-head order head bytes fits few = ⊎_elim
     let least = stop-least order (head ++ bytes) (has 8 (head ++ bytes)) in
     omega (arith, stop, least, length-append head bytes))
     (λ long.
-    let stop : stop_of order head ≡ head_length (kind_of order head) = cond-true (has 8 head) _ 8 (has-there 8 head long) in
-    let next : stop_of order (head ++ bytes) ≡ head_length (kind_of order head) =
+    let stop : stop_of order head ≡ head_length (block_kind order head) = cond-true (has 8 head) _ 8 (has-there 8 head long) in
+    let next : stop_of order (head ++ bytes) ≡ head_length (block_kind order head) =
     cond-true (has 8 (head ++ bytes)) _ 8 (has-front 8 head bytes long) ∙ ap head_length (kind_of-front order head bytes (omega arith)) in
     omega (arith, stop, next, length-append head bytes))
     (cases_lt (length head) 8)

@@ -42,8 +42,8 @@ abbrev pub kind_by : ℕ → Kind
 kind_by number = if number == 1 then InterfaceBlock else if number == 3 then SimplePacket else if number == 6 then EnhancedPacket else OtherBlock
 
 -- the kind of the block at the front
-abbrev pub kind_of : Order → List ℕ → Kind
-kind_of order bytes = if is_section bytes then SectionHeader else kind_by (number_in order 4 bytes)
+abbrev pub block_kind : Order → List ℕ → Kind
+block_kind order bytes = if is_section bytes then SectionHeader else kind_by (number_in order 4 bytes)
 
 -- how many bytes of a block are read before the rest of it is given or skipped
 abbrev pub head_length : Kind → ℕ
@@ -130,4 +130,4 @@ section_by _ section bytes = section
 
 -- the section behind the block at the front, which is in this section
 abbrev pub section_behind : SectionState → List ℕ → SectionState
-section_behind section bytes = section_by (kind_of section.order bytes) section bytes
+section_behind section bytes = section_by (block_kind section.order bytes) section bytes

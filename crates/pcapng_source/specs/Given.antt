@@ -15,9 +15,9 @@ abbrev pub nothing : Given
 nothing = whole []
 
 -- no byte, and then a refusal
-abbrev pub refused : NgFault → Given
-refused fault = record { bytes = []; refusal = Some fault }
+abbrev pub refused_with : NgFault → Given
+refused_with fault = record { bytes = []; refusal = Some fault }
 
 -- these bytes in front
-abbrev pub after : List ℕ → Given → Given
-after front given = record { bytes = front ++ given.bytes; refusal = given.refusal }
+abbrev pub prepended : List ℕ → Given → Given
+prepended front given = record { bytes = front ++ given.bytes; refusal = given.refusal }

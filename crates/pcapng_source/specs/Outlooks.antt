@@ -4,7 +4,7 @@ use Rattle.std.specs.Io.KnownBytes.{IsAtEnd}
 use Rattle.std.specs.Coded.{Coded, Coded-set, code_by, coded×, coded_option, coded_ℕ, Unit-prop}
 use Rattle.mos_bytes.specs.Causes.{Rose, risen}
 use Rattle.mos_bytes.specs.declared.failed.Failed.{Failed}
-use Rattle.pcapng_source.specs.Given.{Given, after, nothing}
+use Rattle.pcapng_source.specs.Given.{Given, prepended, nothing}
 use Rattle.pcapng_source.specs.Blocks.{any}
 use Rattle.pcapng_source.specs.Reading.{met_at, rest_of, weight_of}
 use Rattle.pcapng_source.specs.declared.fault.NgFault.{NgFault}
@@ -26,7 +26,7 @@ refusal_left given = option_map (λ g. g.refusal) given
 abbrev pub Gives : Option Given → Option Given → List ℕ → Type 0
 Gives None new front = ⊤
 Gives (Some old) None front = ⊥
-Gives (Some old) (Some new) front = old ≡ after front new
+Gives (Some old) (Some new) front = old ≡ prepended front new
 
 -- nothing more is given, and nothing is refused, where no further byte comes
 abbrev pub IsOver : Reader → Type 0

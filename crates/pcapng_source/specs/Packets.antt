@@ -61,5 +61,5 @@ record_on kind order (Some interface) bytes =
     record_by kind order interface bytes ++ take (captured_of kind order interface bytes) (drop (head_length kind) bytes)
 
 -- the record that the block at the front gives: none where it holds no packet
-abbrev pub record_of : Kind → SectionState → List ℕ → List ℕ
-record_of kind section bytes = record_on kind section.order (interface_of kind section bytes) bytes
+abbrev pub block_record : Kind → SectionState → List ℕ → List ℕ
+block_record kind section bytes = record_on kind section.order (interface_of kind section bytes) bytes

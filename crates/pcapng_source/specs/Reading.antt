@@ -1,9 +1,9 @@
 -- Not of the headline. What a reader stands for, between the bytes that it has read and those that come next.
 use Rattle.std.specs.Prelude.{◌≡◌, ℕ, zero, suc, ◌+◌, ◌-◌, ◌*◌, ◌<◌, ◌≤◌, ⊤, List, [], ◌++◌, length, take, drop, Bool, false, ◌==◌, min, slice_index, if◌then◌else◌, Option, None, Some}
-use Rattle.pcapng_source.specs.Given.{Given, after, nothing, refused, whole}
-use Rattle.pcapng_source.specs.Fields.{SectionState, has, head_length, kind_of, resolution_in, with_resolution}
+use Rattle.pcapng_source.specs.Given.{Given, prepended, nothing, refused_with, whole}
+use Rattle.pcapng_source.specs.Fields.{SectionState, has, head_length, block_kind, resolution_in, with_resolution}
 use Rattle.pcapng_source.specs.Refusals.{refusal_of}
-use Rattle.pcapng_source.specs.Blocks.{begun, blocks_from, closed}
+use Rattle.pcapng_source.specs.Blocks.{file_from, blocks_from, closed}
 use Rattle.pcap_source.specs.declared.order.Order.{Order}
 use Rattle.pcapng_source.specs.declared.kind.Kind.{Kind}
 use Rattle.pcapng_source.specs.declared.fault.NgFault.{NgFault}
@@ -29,22 +29,22 @@ behind_words r (suc n) bytes = behind_options r (4 * suc n) bytes
 
 -- what is given in a stage, where these bytes come next
 abbrev pub rest_at : Stage → Reader → List ℕ → Given
-rest_at Start r left = begun r.section r.place.allowed r.place.offset (r.word ++ left)
+rest_at Start r left = file_from r.section r.place.allowed r.place.offset (r.word ++ left)
 rest_at Plain r left = whole left
 rest_at Head r left = blocks_from r.section r.place.allowed r.place.offset (r.head ++ left)
-rest_at Body r left = after (take r.owed left) (behind_words r r.options (drop (r.owed + r.skip) left))
+rest_at Body r left = prepended (take r.owed left) (behind_words r r.options (drop (r.owed + r.skip) left))
 rest_at OptionHead r left = behind_options r (4 * r.options + 4) (r.word ++ left)
 rest_at Resolution r left = behind (with_resolution r.section (slice_index (r.word ++ left) 0)) r (4 * r.options + 4) (r.word ++ left)
 rest_at Trailer r left = behind r.section r 0 (r.word ++ left)
-rest_at (Refused fault met) r left = refused fault
+rest_at (Refused fault met) r left = refused_with fault
 
 -- what a reader gives, where these bytes come next
 abbrev pub rest_of : Reader → List ℕ → Given
-rest_of r left = after r.made (rest_at r.stage r left)
+rest_of r left = prepended r.made (rest_at r.stage r left)
 
 -- how many bytes of a head are held before the next step
 abbrev pub stop_of : Order → List ℕ → ℕ
-stop_of order head = if has 8 head then head_length (kind_of order head) else 8
+stop_of order head = if has 8 head then head_length (block_kind order head) else 8
 
 -- no more of a head is held than that
 abbrev pub IsFitting : Reader → Type 0
@@ -207,7 +207,7 @@ pub record IsUnrefused (r : Reader) : Type 0 where
 -- a block of this kind whose head is held whole and isn't refused
 pub record IsWhole (kind : Kind) (r : Reader) : Type 0 where
   pub unrefused : IsUnrefused r
-  pub named : kind_of r.section.order r.head ≡ kind
+  pub named : block_kind r.section.order r.head ≡ kind
   pub whole : length r.head ≡ head_length kind
 
 -- what a reader does with the bytes that come next, where there is so much room for them: some of them in any case

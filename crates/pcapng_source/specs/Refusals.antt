@@ -1,7 +1,7 @@
 -- Which blocks are refused, and why: each as soon as the bytes are there that the refusal reads.
 use Rattle.std.specs.Prelude.{ℕ, ◌+◌, List, length, drop, ◌==◌, not, nat_lt, nat_le, if◌then◌else◌, Option, None, Some}
 use Rattle.pcap_source.specs.Order.{number_in}
-use Rattle.pcapng_source.specs.Fields.{SectionState, has, head_length, is_section, is_total, kind_of, order_told, total_of}
+use Rattle.pcapng_source.specs.Fields.{SectionState, has, head_length, is_section, is_total, block_kind, order_told, total_of}
 use Rattle.pcapng_source.specs.Packets.{captured_of, interface_of}
 use Rattle.pcap_source.specs.declared.order.Order.{Order}
 use Rattle.pcapng_source.specs.declared.kind.Kind.{Kind}
@@ -12,9 +12,9 @@ use Rattle.pcapng_source.specs.declared.fault.NgFault.TheVariants.{BadBlock, Bad
 
 -- a section header of which 12 bytes are there, in the order that its magic number tells: its total length, and then its
 -- major version, which stands behind the magic number and is 1
-abbrev pub header_by : Option Order → ℕ → List ℕ → Option NgFault
-header_by None offset bytes = Some (BadBlock offset)
-header_by (Some order) offset bytes = if not (is_total SectionHeader (total_of order bytes)) then Some (BadBlock offset)
+abbrev pub section_fault : Option Order → ℕ → List ℕ → Option NgFault
+section_fault None offset bytes = Some (BadBlock offset)
+section_fault (Some order) offset bytes = if not (is_total SectionHeader (total_of order bytes)) then Some (BadBlock offset)
     else if has 14 bytes then (if number_in order 2 (drop 12 bytes) == 1 then None else Some (BadVersion offset)) else None
 
 -- a captured length: at most 262,144 bytes, and those stand before the second total length
@@ -46,5 +46,5 @@ block_by kind section offset bytes = if is_total kind (total_of section.order by
 -- total length. Nothing of it is refused before 8 bytes are there.
 abbrev pub refusal_of : SectionState → ℕ → List ℕ → Option NgFault
 refusal_of before offset bytes = if has 8 bytes
-    then (if is_section bytes then (if has 12 bytes then header_by (order_told bytes) offset bytes else None)
-    else block_by (kind_of before.order bytes) before offset bytes) else None
+    then (if is_section bytes then (if has 12 bytes then section_fault (order_told bytes) offset bytes else None)
+    else block_by (block_kind before.order bytes) before offset bytes) else None

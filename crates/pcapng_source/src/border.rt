@@ -20,7 +20,7 @@ pub(crate) const BORDER: usize = 35;
 const PACKET_HEAD: usize = 28;
 
 impl Reader {
-    ghost use Rattle.pcapng_source.specs.Fields.{kind_of};
+    ghost use Rattle.pcapng_source.specs.Fields.{block_kind};
     ghost use Rattle.pcapng_source.specs.Reading.{EndsInHead, Goes, IsBehindData, IsBorder, IsFitting, met_at, rest_of, stop_of};
     ghost use Rattle.pcapng_source.specs.declared.kind.Kind.TheVariants.{EnhancedPacket};
     ghost use Rattle.pcapng_source.specs.declared.reader.Stage.TheVariants.{Body, Head};
@@ -89,7 +89,7 @@ impl Reader {
     #[inline]
     fn is_packet(&self, head: &[u8]) -> bool
         ensures whole { OnTrue result (length head.now ≡ 28) }
-        ensures kind { OnTrue result (kind_of self.now.section.order head.now ≡ EnhancedPacket) }
+        ensures kind { OnTrue result (block_kind self.now.section.order head.now ≡ EnhancedPacket) }
     {
         head.len() == PACKET_HEAD
             && matches!(Kind::of(self.section.order(), head), Kind::EnhancedPacket)
@@ -102,7 +102,7 @@ impl Reader {
         requires stage { self.old.stage ≡ Head }
         requires made { self.old.made ≡ [] }
         requires allowed { 0 < self.old.place.allowed }
-        requires kind { kind_of self.old.section.order self.old.head ≡ EnhancedPacket }
+        requires kind { block_kind self.old.section.order self.old.head ≡ EnhancedPacket }
         requires whole { length self.old.head ≡ 28 }
         requires fits { IsFitting self.old }
         ensures goes { Goes self.old self.new }

@@ -1,8 +1,8 @@
 //! Judging the head of a block, as far as it is there.
 
 ghost use Rattle.std.specs.Prelude.{◌≡◌, ◌+◌, ◌≤◌, length};
-ghost use Rattle.pcapng_source.specs.Fields.{SectionState, kind_of, order_told};
-ghost use Rattle.pcapng_source.specs.Refusals.{block_by, header_by, kind_refusal, length_by, refusal_of};
+ghost use Rattle.pcapng_source.specs.Fields.{SectionState, block_kind, order_told};
+ghost use Rattle.pcapng_source.specs.Refusals.{block_by, section_fault, kind_refusal, length_by, refusal_of};
 ghost use Rattle.pcapng_source.specs.declared.kind.Kind.TheVariants.{SimplePacket, EnhancedPacket};
 
 use crate::NgFault;
@@ -32,7 +32,7 @@ pub(crate) fn told_order(head: &[u8]) -> Option<Order>
 
 fn judge_header(offset: u64, head: &[u8]) -> Option<NgFault>
     requires { 12 ≤ length head.now }
-    ensures { result ≡ header_by (order_told head.now) offset head.now }
+    ensures { result ≡ section_fault (order_told head.now) offset head.now }
 {
     let Some(order) = told_order(head) else {
         return Some(NgFault::BadBlock(offset));

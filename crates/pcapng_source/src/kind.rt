@@ -1,7 +1,7 @@
 //! The kinds of blocks.
 
 ghost use Rattle.std.specs.Prelude.{◌≡◌, ◌≤◌, length};
-ghost use Rattle.pcapng_source.specs.Fields.{head_length, is_section, is_total, kind_by, kind_of, least_total};
+ghost use Rattle.pcapng_source.specs.Fields.{head_length, is_section, is_total, kind_by, block_kind, least_total};
 
 use pcap_source::Order;
 
@@ -44,7 +44,7 @@ impl Kind {
     // The kind of the block that begins here.
     pub(crate) fn of(order: Order, bytes: &[u8]) -> Kind
         requires { 4 ≤ length bytes.now }
-        ensures { result ≡ kind_of order bytes.now }
+        ensures { result ≡ block_kind order bytes.now }
     {
         if begins_section(bytes) {
             Kind::SectionHeader

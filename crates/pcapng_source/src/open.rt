@@ -14,7 +14,7 @@ use pcap_source::Order;
 pub(crate) const MICROSECONDS: u8 = 6;
 
 impl Reader {
-    ghost use Rattle.pcapng_source.specs.Fields.{kind_of};
+    ghost use Rattle.pcapng_source.specs.Fields.{block_kind};
     ghost use Rattle.pcapng_source.specs.Reading.{Goes, IsFitting, IsUnrefused, IsWhole, ready_at};
     ghost use Rattle.pcapng_source.specs.declared.kind.Kind.TheVariants.{SectionHeader, InterfaceBlock, SimplePacket, EnhancedPacket, OtherBlock};
     ghost use Rattle.pcapng_source.specs.declared.reader.Stage.TheVariants.{Body};

@@ -75,7 +75,7 @@ pub(crate) struct Reader {
 impl Reader {
     ghost use Rattle.mos_bytes.specs.Causes.{risen};
     ghost use Rattle.std.specs.Bool.{OnTrue, OnFalse};
-    ghost use Rattle.pcapng_source.specs.Given.{after};
+    ghost use Rattle.pcapng_source.specs.Given.{prepended};
     ghost use Rattle.pcapng_source.specs.Blocks.{any};
     ghost use Rattle.pcapng_source.specs.Reading.{IsFitting, IsOpen, IsRefused, NextIs, direct_at, fault_at, is_plain_at, met_at, rest_of, settled_at, skipped_at, stop_of, wanted_at, weight_of};
 
@@ -144,7 +144,7 @@ impl Reader {
         requires { IsFitting self.old }
         ensures count { result ≡ min (length self.old.made) (length buf.old) }
         ensures rest { (left : List ℕ)
-            → rest_of self.old left ≡ after (take result buf.new) (rest_of self.new left) }
+            → rest_of self.old left ≡ prepended (take result buf.new) (rest_of self.new left) }
         ensures fits { IsFitting self.new }
         ensures stage { self.new.stage ≡ self.old.stage }
     {
@@ -197,7 +197,7 @@ impl Reader {
         requires made { self.old.made ≡ [] }
         requires fits { IsFitting self.old }
         ensures rest { (front left : List ℕ) → length front ≡ count
-            → rest_of self.old (front ++ left) ≡ after front (rest_of self.new left) }
+            → rest_of self.old (front ++ left) ≡ prepended front (rest_of self.new left) }
         ensures fits { IsFitting self.new }
         ensures stage { self.new.stage ≡ self.old.stage }
     {

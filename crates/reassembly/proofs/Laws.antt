@@ -5,7 +5,7 @@ use Rattle.std.specs.Prelude.{slice_index}
 use Rattle.reassembly.specs.declared.answers.Policy.{Policy}
 use Rattle.reassembly.specs.declared.answers.Placed.{Placed}
 use Rattle.reassembly.specs.Receiver.{Receiver, held, next_of, limit_at}
-use Rattle.reassembly.specs.Segment.{is_old, is_new, is_over, is_differing, is_last, cell_after, has_byte, held_after, accept_at, count_below, counts_at}
+use Rattle.reassembly.specs.Segment.{is_old, is_new, is_beyond, is_differing, is_last, cell_after, has_byte, held_after, accept_at, count_below, counts_at}
 use Rattle.reassembly.specs.View.{StreamView, StandsFor}
 use Rattle.reassembly.specs.Steps.{StepsTo, counts_viewed}
 use Rattle.reassembly.proofs.Cells.{held_made, held_made_past, held_past, below_next, next_is}
@@ -106,7 +106,7 @@ counts_stand limit q bytes s r h is_limit =
       new = count_below (λ i. is_new s.next limit (q + i) (held r.cells (q + i))) (length bytes);
       old = count_below (λ i. is_old s.next (q + i) (held r.cells (q + i))) (length bytes);
       differ = count_below (λ i. is_differing s.next s.rbuf (q + i) (held r.cells (q + i)) (slice_index bytes i)) (length bytes);
-      over = count_below (λ i. is_over s.next limit (q + i) (held r.cells (q + i))) (length bytes);
+      over = count_below (λ i. is_beyond s.next limit (q + i) (held r.cells (q + i))) (length bytes);
     } in
     let same : counts_viewed s limit q bytes ≡ told = placed_is (counts_viewed s limit q bytes) told
     (count_below-same (λ i. is_new s.next limit (q + i) (held s.kept (q + i))) (λ i. is_new s.next limit (q + i) (held r.cells (q + i)))
@@ -114,6 +114,6 @@ counts_stand limit q bytes s r h is_limit =
     (count_below-same (λ i. is_old s.next (q + i) (held s.kept (q + i))) (λ i. is_old s.next (q + i) (held r.cells (q + i))) (length bytes) (λ i l. old_same s r h (q + i)))
     (count_below-same (λ i. is_differing s.next s.rbuf (q + i) (held s.kept (q + i)) (slice_index bytes i))
     (λ i. is_differing s.next s.rbuf (q + i) (held r.cells (q + i)) (slice_index bytes i)) (length bytes) (λ i l. differing_same s r h (q + i) (slice_index bytes i)))
-    (count_below-same (λ i. is_over s.next limit (q + i) (held s.kept (q + i))) (λ i. is_over s.next limit (q + i) (held r.cells (q + i)))
+    (count_below-same (λ i. is_beyond s.next limit (q + i) (held s.kept (q + i))) (λ i. is_beyond s.next limit (q + i) (held r.cells (q + i)))
     (length bytes) (λ i l. ap (λ b. not b && leb limit (q + i)) (old_same s r h (q + i)))) in
     rw (limit_is, ← same_next) same

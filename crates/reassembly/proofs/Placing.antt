@@ -7,7 +7,7 @@ use Rattle.reassembly.specs.declared.laying.Judged.{Judged}
 use Rattle.reassembly.specs.declared.runs.Run.{Run}
 use Rattle.reassembly.specs.declared.window.Window.{Window}
 use Rattle.reassembly.specs.Receiver.{held}
-use Rattle.reassembly.specs.Segment.{is_old, is_new, is_over, is_differing, is_last, has_byte, held_after, count_below}
+use Rattle.reassembly.specs.Segment.{is_old, is_new, is_beyond, is_differing, is_last, has_byte, held_after, count_below}
 use Rattle.reassembly.specs.Runs.{run_at, is_accepted, is_covered, AreAbove}
 use Rattle.reassembly.specs.Window.{end_of, byte_at, cell_at, kept_at, view_of, IsLaid, IsBounded, taken_cell, again_cell, taken_tally, differing_below}
 use Rattle.reassembly.proofs.Cells.{held_made, held_made_past}
@@ -241,7 +241,7 @@ old_below next p c l = rw (lt-ltb p next l) refl
 new_below : (next limit p : ℕ) (c : Option ℕ) → p < next → is_new next limit p c ≡ false
 new_below next limit p c l = rw (lt-ltb p next l) refl
 
-over_below : (next limit p : ℕ) (c : Option ℕ) → p < next → is_over next limit p c ≡ false
+over_below : (next limit p : ℕ) (c : Option ℕ) → p < next → is_beyond next limit p c ≡ false
 over_below next limit p c l = rw (lt-ltb p next l) refl
 
 old_above : (next p : ℕ) (c : Option ℕ) → next ≤ p → is_old next p c ≡ is_some c
@@ -257,10 +257,10 @@ new_between next limit p c a b = rw (le-ltb p next a, lt-ltb p limit b) (and_tru
 new_past : (next limit p : ℕ) (c : Option ℕ) → limit ≤ p → is_new next limit p c ≡ false
 new_past next limit p c b = rw (le-ltb p limit b) (and_right (not (is_old next p c)) false refl)
 
-over_between : (next limit p : ℕ) (c : Option ℕ) → p < limit → is_over next limit p c ≡ false
+over_between : (next limit p : ℕ) (c : Option ℕ) → p < limit → is_beyond next limit p c ≡ false
 over_between next limit p c b = rw (lt-leb limit p b) (and_right (not (is_old next p c)) false refl)
 
-over_past : (next limit p : ℕ) (c : Option ℕ) → next ≤ p → limit ≤ p → is_over next limit p c ≡ not (is_some c)
+over_past : (next limit p : ℕ) (c : Option ℕ) → next ≤ p → limit ≤ p → is_beyond next limit p c ≡ not (is_some c)
 over_past next limit p c a b = rw (le-ltb p next a, le-leb limit p b) (and_true (not (is_some c)))
 
 differs_above : (next rbuf p byte b : ℕ) (covered : Bool) → next ≤ p → is_differing next rbuf p (cond covered (Some byte) None) b ≡ (covered && not (eqb byte b))
@@ -305,7 +305,7 @@ counts_placed w fin rbuf limit end start m k j segment laid bounded cut tally ag
     ∙ ap (λ b. cond b (Some (byte_at w (start + (j + i)))) None) (bounded_cell w end (start + (j + i)) bounded (omega arith)) in
     let new_ : ℕ → Bool = λ i. is_new next limit (start + i) (cell (start + i)) in
     let old_ : ℕ → Bool = λ i. is_old next (start + i) (cell (start + i)) in
-    let over_ : ℕ → Bool = λ i. is_over next limit (start + i) (cell (start + i)) in
+    let over_ : ℕ → Bool = λ i. is_beyond next limit (start + i) (cell (start + i)) in
     let differ_ : ℕ → Bool = λ i. is_differing next rbuf (start + i) (cell (start + i)) (slice_index segment i) in
     let here : ℕ → Bool = λ i. leb (next - rbuf) (start + i) && not (eqb (byte_at w (start + i)) (slice_index segment i)) in
     let there : ℕ → Bool = λ i. covered i && not (eqb (byte_at w (low + i)) (slice_index middle i)) in

@@ -6,7 +6,7 @@ use Rattle.reassembly.specs.declared.answers.Policy.{Policy}
 use Rattle.reassembly.specs.declared.answers.Placed.{Placed}
 use Rattle.reassembly.specs.declared.plain.Before.{Before}
 use Rattle.reassembly.specs.Receiver.{Receiver, held, next_of, limit_at}
-use Rattle.reassembly.specs.Segment.{is_old, is_new, is_over, is_differing, cell_after, has_byte, held_after, accept, accept_at, counts, counts_at, from_zero, below_zero}
+use Rattle.reassembly.specs.Segment.{is_old, is_new, is_beyond, is_differing, cell_after, has_byte, held_after, accept, accept_at, counts, counts_at, from_zero, below_zero}
 use Rattle.reassembly.specs.Plain.{judged_below, counted_more}
 use Rattle.reassembly.proofs.Counts.{count_below-same, count_below-le}
 use Rattle.reassembly.proofs.Cells.{held_past}
@@ -24,7 +24,7 @@ judged_few before q bytes cells n p e = rw e (record {
   new = count_below-le (λ i. is_new before.next before.limit (q + i) (held cells (q + i))) n;
   old = count_below-le (λ i. is_old before.next (q + i) (held cells (q + i))) n;
   differ = count_below-le (λ i. is_differing before.next before.rbuf (q + i) (held cells (q + i)) (slice_index bytes i)) n;
-  over = count_below-le (λ i. is_over before.next before.limit (q + i) (held cells (q + i))) n;
+  over = count_below-le (λ i. is_beyond before.next before.limit (q + i) (held cells (q + i))) n;
 })
 
 pub judged_more : (before : Before) (q : ℕ) (bytes : List ℕ) (cells : List (Option ℕ)) (n : ℕ)
@@ -72,8 +72,8 @@ plain_counts r q rbuf bytes mid before e start =
     (count_below-same (λ i. is_differing next rbuf (q + i) (held mid (q + i)) (slice_index bytes i))
     (λ i. is_differing next rbuf (q + i) (held r.cells (q + i)) (slice_index bytes i)) (length bytes)
     (λ i l. ap (λ c. is_differing next rbuf (q + i) c (slice_index bytes i)) (start (q + i))))
-    (count_below-same (λ i. is_over next limit (q + i) (held mid (q + i))) (λ i. is_over next limit (q + i) (held r.cells (q + i))) (length bytes)
-    (λ i l. ap (is_over next limit (q + i)) (start (q + i))))
+    (count_below-same (λ i. is_beyond next limit (q + i) (held mid (q + i))) (λ i. is_beyond next limit (q + i) (held r.cells (q + i))) (length bytes)
+    (λ i l. ap (is_beyond next limit (q + i)) (start (q + i))))
 
 -- empty cells at the end hold what no cell holds
 pub resized : (old mid : List (Option ℕ)) (end : ℕ) → length mid ≡ end → length old ≤ end

@@ -16,8 +16,8 @@ abbrev pub is_new : ℕ → ℕ → ℕ → Option ℕ → Bool
 is_new next limit p c = not (is_old next p c) && nat_lt p limit
 
 -- beyond the window, or at or past the FIN
-abbrev pub is_over : ℕ → ℕ → ℕ → Option ℕ → Bool
-is_over next limit p c = not (is_old next p c) && nat_le limit p
+abbrev pub is_beyond : ℕ → ℕ → ℕ → Option ℕ → Bool
+is_beyond next limit p c = not (is_old next p c) && nat_le limit p
 
 -- kept, with another byte than the segment's
 abbrev pub is_differing : ℕ → ℕ → ℕ → Option ℕ → ℕ → Bool
@@ -60,7 +60,7 @@ counts_at r q bytes rbuf = record {
   new = count_below (λ i. is_new (next_of r.cells) (limit_at r rbuf) (q + i) (held r.cells (q + i))) (length bytes);
   old = count_below (λ i. is_old (next_of r.cells) (q + i) (held r.cells (q + i))) (length bytes);
   differ = count_below (λ i. is_differing (next_of r.cells) rbuf (q + i) (held r.cells (q + i)) (slice_index bytes i)) (length bytes);
-  over = count_below (λ i. is_over (next_of r.cells) (limit_at r rbuf) (q + i) (held r.cells (q + i))) (length bytes);
+  over = count_below (λ i. is_beyond (next_of r.cells) (limit_at r rbuf) (q + i) (held r.cells (q + i))) (length bytes);
 }
 
 -- A segment may begin below position 0. Its bytes there are old, and never kept.

@@ -3,7 +3,7 @@ use Rattle.std.specs.Prelude.{◌≡◌, ℕ, ◌+◌, ◌-◌, ◌<◌, ◌≤�
 use Rattle.reassembly.specs.declared.answers.Policy.{Policy}
 use Rattle.reassembly.specs.declared.answers.Placed.{Placed}
 use Rattle.reassembly.specs.Receiver.{held}
-use Rattle.reassembly.specs.Segment.{is_old, is_new, is_over, is_differing, held_after, count_below}
+use Rattle.reassembly.specs.Segment.{is_old, is_new, is_beyond, is_differing, held_after, count_below}
 use Rattle.reassembly.specs.View.{StreamView}
 
 -- what a stream knows after a segment of bytes from q on, of which none is accepted anew from the limit on, told from
@@ -24,5 +24,5 @@ counts_viewed s limit q bytes = record {
   new = count_below (λ i. is_new s.next limit (q + i) (held s.kept (q + i))) (length bytes);
   old = count_below (λ i. is_old s.next (q + i) (held s.kept (q + i))) (length bytes);
   differ = count_below (λ i. is_differing s.next s.rbuf (q + i) (held s.kept (q + i)) (slice_index bytes i)) (length bytes);
-  over = count_below (λ i. is_over s.next limit (q + i) (held s.kept (q + i))) (length bytes);
+  over = count_below (λ i. is_beyond s.next limit (q + i) (held s.kept (q + i))) (length bytes);
 }

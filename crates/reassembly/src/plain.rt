@@ -3,7 +3,7 @@
 ghost use Rattle.std.specs.Prelude.{◌≡◌, ℕ, ◌+◌, ◌<◌, ◌≤◌, ◌^◌, ℤ, pos, neg_ℤ, ◌≤ℤ◌, ◌<ℤ◌, max, length, drop, OnOk, OnErr, IfOk, Option, is_some, slice_index, slice_index_or, None};
 ghost use Rattle.std.specs.List.{prefix_len};
 ghost use Rattle.reassembly.specs.Receiver.{no_bytes, held, next_of, kept, wide_of, limit_of};
-ghost use Rattle.reassembly.specs.Segment.{is_old, is_new, is_over, is_differing, cell_after, held_after, accept_above, counts_above};
+ghost use Rattle.reassembly.specs.Segment.{is_old, is_new, is_beyond, is_differing, cell_after, held_after, accept_above, counts_above};
 ghost use Rattle.reassembly.specs.Fin.{is_free_from, note_of, noted};
 ghost use Rattle.reassembly.specs.Offer.{offered};
 ghost use Rattle.reassembly.specs.Plain.{judged_below, counted_more};

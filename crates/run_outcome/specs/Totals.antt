@@ -2,7 +2,7 @@
 use Rattle.std.specs.Prelude.{ℕ, List, length}
 use Rattle.report_text.specs.declared.record.Totals.{Totals}
 use Rattle.lane_core.specs.Records.{RecordSoFar}
-use Rattle.lane_core.specs.Shown.{callbacks_of, drops_of}
+use Rattle.lane_core.specs.Shown.{callbacks_of, drop_count}
 
 -- what is counted over so many packets
 abbrev pub totals_of : List RecordSoFar → ℕ → ℕ → Totals
@@ -10,6 +10,6 @@ totals_of records packets rest = record {
   packets = packets;
   records = length records;
   callbacks = callbacks_of records;
-  drops = drops_of records;
+  drops = drop_count records;
   tail = rest;
 }

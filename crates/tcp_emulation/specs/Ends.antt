@@ -33,12 +33,12 @@ received_state f s =
     after_rule f.fin_reached fin_reached closed)
 
 -- an end after it sent the segment: each SYN counts as sent, also one with RST
-abbrev pub sent : SegFacts → End → End
-sent f e = record { state = sent_state f e.has_sent_syn e.state; has_sent_syn = e.has_sent_syn || f.syn }
+abbrev pub end_sent : SegFacts → End → End
+end_sent f e = record { state = sent_state f e.has_sent_syn e.state; has_sent_syn = e.has_sent_syn || f.syn }
 
 -- an end after it received the segment
-abbrev pub received : SegFacts → End → End
-received f e = record { state = received_state f e.state; has_sent_syn = e.has_sent_syn }
+abbrev pub end_received : SegFacts → End → End
+end_received f e = record { state = received_state f e.state; has_sent_syn = e.has_sent_syn }
 
 abbrev pub end_at : Side → Ends → End
 end_at Client ends = ends.client
@@ -58,15 +58,15 @@ fresh_ends = record {
 
 -- the pair after the end on this side sent, or received, the segment; its peer stays
 abbrev pub ends_after_send : Side → SegFacts → Ends → Ends
-ends_after_send side f ends = with_end side (sent f (end_at side ends)) ends
+ends_after_send side f ends = with_end side (end_sent f (end_at side ends)) ends
 
 abbrev pub ends_after_receive : Side → SegFacts → Ends → Ends
-ends_after_receive side f ends = with_end side (received f (end_at side ends)) ends
+ends_after_receive side f ends = with_end side (end_received f (end_at side ends)) ends
 
 -- what a step answers
 abbrev pub change_of : End → End → Change
 change_of old new = record { old = old.state; new = new.state }
 
 -- both ends are CLOSED or TIME_WAIT
-abbrev pub is_over : Ends → Bool
-is_over ends = is_done ends.client.state && is_done ends.server.state
+abbrev pub are_over : Ends → Bool
+are_over ends = is_done ends.client.state && is_done ends.server.state

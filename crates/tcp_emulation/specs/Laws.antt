@@ -6,7 +6,7 @@ use Rattle.tcp_emulation.specs.declared.segment.Side.{Side}
 use Rattle.tcp_emulation.specs.declared.segment.SegFacts.{SegFacts}
 use Rattle.tcp_emulation.specs.declared.ends.Ends.{Ends}
 use Rattle.tcp_emulation.specs.States.{other}
-use Rattle.tcp_emulation.specs.Ends.{sent_state, received_state, end_at, ends_after_send, ends_after_receive, is_over}
+use Rattle.tcp_emulation.specs.Ends.{sent_state, received_state, end_at, ends_after_send, ends_after_receive, are_over}
 
 -- the segment opens an end: a SYN without ACK and RST, the first SYN that this end sends
 abbrev pub is_opening : SegFacts → Bool → Bool
@@ -40,13 +40,13 @@ IgnoresResetOutsideWindow = (side : Side) (f : SegFacts) (ends : Ends) →
 
 -- a pair that is over is opened again by exactly the opening SYN of an end that is CLOSED
 abbrev pub OverUntilOpening : Type 0
-OverUntilOpening = (side : Side) (f : SegFacts) (ends : Ends) → is_over ends ≡ true →
-    is_over (ends_after_send side f ends) ≡
+OverUntilOpening = (side : Side) (f : SegFacts) (ends : Ends) → are_over ends ≡ true →
+    are_over (ends_after_send side f ends) ≡
     not (is_closed (end_at side ends).state && is_opening f (end_at side ends).has_sent_syn)
 
 abbrev pub OverAfterReceive : Type 0
-OverAfterReceive = (side : Side) (f : SegFacts) (ends : Ends) → is_over ends ≡ true →
-    is_over (ends_after_receive side f ends) ≡ true
+OverAfterReceive = (side : Side) (f : SegFacts) (ends : Ends) → are_over ends ≡ true →
+    are_over (ends_after_receive side f ends) ≡ true
 
 -- the segment is sent by one end and received by its peer, with nothing in between
 abbrev pub ends_after_carry : Side → SegFacts → Ends → Ends
@@ -114,7 +114,7 @@ ends_after_crossing_close first ends =
 
 -- the connection is over, the end on this side is left in TIME_WAIT, and its peer in `last`
 pub record IsClosedBy (side : Side) (last : State) (ends : Ends) : Type 0 where
-  pub over : is_over ends ≡ true
+  pub over : are_over ends ≡ true
   pub closer : (end_at side ends).state ≡ TimeWait
   pub peer : (end_at (other side) ends).state ≡ last
 

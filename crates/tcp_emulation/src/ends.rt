@@ -2,7 +2,7 @@
 
 ghost use Rattle.std.specs.Prelude.{◌≡◌};
 ghost use Rattle.tcp_emulation.specs.States.{other};
-ghost use Rattle.tcp_emulation.specs.Ends.{fresh_ends, end_at, sent, received, ends_after_send, ends_after_receive, sent_state, received_state, is_over, change_of};
+ghost use Rattle.tcp_emulation.specs.Ends.{fresh_ends, end_at, end_sent, end_received, ends_after_send, ends_after_receive, sent_state, received_state, are_over, change_of};
 
 use crate::segment::{Change, SegFacts, Side};
 use crate::state::State;
@@ -101,7 +101,7 @@ impl End {
     }
 
     fn send(&mut self, f: &SegFacts) -> Change
-        ensures end { self.new ≡ sent f.now self.old }
+        ensures end { self.new ≡ end_sent f.now self.old }
         ensures change { result ≡ change_of self.old self.new }
     {
         let old = self.state;
@@ -114,7 +114,7 @@ impl End {
     }
 
     fn receive(&mut self, f: &SegFacts) -> Change
-        ensures end { self.new ≡ received f.now self.old }
+        ensures end { self.new ≡ end_received f.now self.old }
         ensures change { result ≡ change_of self.old self.new }
     {
         let old = self.state;
@@ -130,7 +130,7 @@ impl End {
 /// segment is dropped later on. The four facts about the streams aren't read.
 pub fn send_step(ends: &mut Ends, side: Side, f: &SegFacts) -> Change
     ensures ends { ends.new ≡ ends_after_send side f.now ends.old }
-    ensures stepped { end_at side ends.new ≡ sent f.now (end_at side ends.old) }
+    ensures stepped { end_at side ends.new ≡ end_sent f.now (end_at side ends.old) }
     ensures peer { end_at (other side) ends.new ≡ end_at (other side) ends.old }
     ensures change { result ≡ change_of (end_at side ends.old) (end_at side ends.new) }
 {
@@ -143,7 +143,7 @@ pub fn send_step(ends: &mut Ends, side: Side, f: &SegFacts) -> Change
 /// Steps the receiver of a segment; `side` is the receiver.
 pub fn recv_step(ends: &mut Ends, side: Side, f: &SegFacts) -> Change
     ensures ends { ends.new ≡ ends_after_receive side f.now ends.old }
-    ensures stepped { end_at side ends.new ≡ received f.now (end_at side ends.old) }
+    ensures stepped { end_at side ends.new ≡ end_received f.now (end_at side ends.old) }
     ensures peer { end_at (other side) ends.new ≡ end_at (other side) ends.old }
     ensures change { result ≡ change_of (end_at side ends.old) (end_at side ends.new) }
 {
@@ -155,7 +155,7 @@ pub fn recv_step(ends: &mut Ends, side: Side, f: &SegFacts) -> Change
 
 /// Whether the connection is over: each end is in CLOSED or TIME_WAIT.
 pub fn is_over(ends: &Ends) -> bool
-    ensures { result ≡ is_over ends.now }
+    ensures { result ≡ are_over ends.now }
 {
     ends.client.state.is_done() && ends.server.state.is_done()
 }

@@ -3,7 +3,7 @@ use Rattle.std.specs.Prelude.{◌≡◌, ℕ, Bool, true, false, not, ◌&&◌, 
 use Rattle.std.specs.List.{list_all, list_any, before_first, after_first}
 use Rattle.std.specs.Borrow.{Bor}
 use Rattle.std.specs.Str.{bytes_eq}
-use Rattle.number_text.specs.Numbers.{number_in}
+use Rattle.number_text.specs.Numbers.{number_between}
 use Rattle.words.specs.Offers.{apps, emits, most_workers, most_made}
 use Rattle.words.specs.declared.settings.AppKind.{AppKind}
 use Rattle.words.specs.declared.settings.AppKind.TheVariants.{Log}
@@ -100,7 +100,7 @@ abbrev pub app_of : Option (List ℕ) → Option AppKind
 app_of = read_or Log (named_in apps)
 
 abbrev pub workers_of : Option (List ℕ) → Option ℕ
-workers_of = read_or 1 (number_in 1 most_workers)
+workers_of = read_or 1 (number_between 1 most_workers)
 
 -- a script's name has at most 255 bytes
 abbrev pub script_of : Option (List ℕ) → Option (Option (List ℕ))
@@ -113,7 +113,7 @@ emit_of None (Some made) = Some Summary
 emit_of (Some emit) (Some made) = None
 
 abbrev pub make_of : Option (List ℕ) → Option (Option ℕ)
-make_of = read_or None (λ text. option_map (λ n. Some n) (number_in 1 most_made text))
+make_of = read_or None (λ text. option_map (λ n. Some n) (number_between 1 most_made text))
 
 -- the settings, where each value makes a choice
 abbrev pub settings_of : (List ℕ → Option (List ℕ)) → Option Settings

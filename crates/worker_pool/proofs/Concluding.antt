@@ -13,7 +13,7 @@ use Rattle.lane_core.specs.declared.recorder.Recorder.{Ghosts}
 use Rattle.lane_core.specs.Sight.{Moment, arrivals}
 use Rattle.lane_core.specs.Records.{RecordSoFar}
 use Rattle.lane_core.specs.Run.{LaneEvent, ended_run}
-use Rattle.lane_core.specs.Shown.{record_of, weight, callbacks_of, drops_of}
+use Rattle.lane_core.specs.Shown.{record_of, weight, callbacks_of, drop_count}
 use Rattle.lane_core.specs.End.{ended}
 use Rattle.lane_core.specs.KeptEnd.{IsKeptEnd, shown_as}
 use Rattle.lane_core.specs.Lane.{IsHeavy, IsHeavyAtEnd}
@@ -151,7 +151,7 @@ module _ (app : Meaning) (script : List Stamped) (lanes : ℕ) (frames : List Ca
   -- `seen` are the records as the program looks at them
   module _ (seen : List RecordUnderWay) (same : seen ≡ kept) (named : map (λ r. r.version) run ≡ vs)
       (callbacks_fit : weight run ≤ 134217728 → min (callbacks_of run) (2 ^ 64 - 1) ≡ callbacks_of run)
-      (drops_fit : min (drops_of run) (2 ^ 64 - 1) ≡ drops_of run) (packets bytes : ℕ) (of_frames : length frames ≡ packets) (light_is : nat_lt 134217728 weighs ≡ false) where
+      (drops_fit : min (drop_count run) (2 ^ 64 - 1) ≡ drop_count run) (packets bytes : ℕ) (of_frames : length frames ≡ packets) (light_is : nat_lt 134217728 weighs ≡ false) where
     abbrev pub end_of : List ℕ → KeptLanes
     end_of versions = record {
       records = kept;
@@ -171,7 +171,7 @@ module _ (app : Meaning) (script : List Stamped) (lanes : ℕ) (frames : List Ca
           let a : packets ≡ length frames = sym of_frames in
           let b : length seen ≡ length run = ap length same ∙ sym (length-map kept (ended app)) ∙ ap length records_shown ∙ length-map run (record_of app) in
           let c : callbacks ≡ callbacks_of run = joined.callbacks_are ∙ callbacks_fit (light light_is) in
-          let d : drops ≡ drops_of run = joined.drops_are ∙ drops_fit in
+          let d : drops ≡ drop_count run = joined.drops_are ∙ drops_fit in
           cc;
     }
 

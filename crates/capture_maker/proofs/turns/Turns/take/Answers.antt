@@ -1,6 +1,6 @@
 -- The turn that is taken stood in front of the others.
 use Rattle.std.proofs.Common.{◌+◌, ◌*◌, ◌-◌, ◌<◌, ◌≤◌, min, drop, arith, sym, ◌∙◌}
-use Rattle.capture_maker.specs.Turns.{steps}
+use Rattle.capture_maker.specs.Turns.{all_steps}
 use Rattle.capture_maker.proofs.Rest.{next_group, none_left, same_step}
 use Rattle.capture_maker.proofs.turns.Turns.take.Goals as goal
 
@@ -9,7 +9,7 @@ returns-then-first-self-clause-turn c =
     let t = c.self.inside in
     let none = c.if-first-self.true in
     let bounds = c.self.invariant in
-    let empty = sym c.self.view_is ∙ none_left t.count t.group (drop t.step steps) t.connection (omega (arith, none)) (omega (arith, none, bounds)) in
+    let empty = sym c.self.view_is ∙ none_left t.count t.group (drop t.step all_steps) t.connection (omega (arith, none)) (omega (arith, none, bounds)) in
     (empty, empty)
 
 pub returns-then-self-first-clause-turn : goal.returns-then-self-first-clause-turn
