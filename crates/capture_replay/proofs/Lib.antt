@@ -8,4 +8,5 @@ pub mod Ceilings
 pub mod Joined
 pub mod Forwarding
 mod Passed
+pub mod Typed
 mod ReadBack

@@ -10,10 +10,12 @@ use Rattle.capture_replay.specs.Refusal.{record_refusal}
 use Rattle.capture_replay.specs.Records.{packets_of}
 use Rattle.capture_replay.specs.Outcome.{is_forward, streamed, outcome_over}
 use Rattle.capture_replay.specs.Runs.{RunsAs}
+use Rattle.capture_replay.specs.Typed.{ReportIsTyped}
 use Rattle.capture_replay.proofs.Refusals.{is_read_fault, no_write_fault, same_error, rose_since, no_read_fault}
 use Rattle.capture_replay.proofs.Reading.{fails_forward, none_greatest}
 use Rattle.capture_replay.proofs.Ends.{cut_record, err_same, no_heavy_packet, no_heavy_record, no_read_end, no_write_packet, reads_refused, reads_whole}
 use Rattle.capture_replay.proofs.Replaying.{stopped_writing, step_told, replayed, streamed_last, refused_record, front_so_far, front_of_frame, stopped_by, ended_at}
+use Rattle.capture_replay.proofs.Typed.{typed_at}
 use Rattle.capture_replay.proofs.replay.read_on.Goals as goal
 
 pub loop-frame-init : goal.loop-frame-init
@@ -315,3 +317,31 @@ returns-in-End-clause-reads g c =
 pub returns-in-End-clause-silent : goal.returns-in-End-clause-silent
 returns-in-End-clause-silent g c = λ is. IfErr-weaker c.close-in-End.result _ _ (λ e same write memory. same write memory
     ∙ (c.hand_on.ensures.silent is).1 ∙ c.loop-frame.invariant.silent is) c.close-in-End.ensures.silent
+
+pub returns-in-Tail-clause-typed : goal.returns-in-Tail-clause-typed
+returns-in-Tail-clause-typed g c = λ report done bytes r.
+    let at = c.loop-frame in
+    let inv = at.invariant in
+    let read = inv.read in
+    let plan = c.args.plan.now in
+    let app = g.L.Recorder.app at.lane in
+    let rep = read.5 bytes r in
+    let gives = subst (λ s. NextGives at.capture c.next.new.self (g.S.Source.left at.source) (g.S.Source.left c.next.new.source) c.next.new.frame (Ok s)) c.in-Tail.is c.in_ok-next.ensures.gives in
+    let step = step_told at.capture c.next.new.self _ _ rep.rest c.next.new.frame _ gives rep.told in
+    subst (λ a. ReportIsTyped a plan.script.now (packets_of plan.script.now) bytes) inv.app
+    (typed_at app plan.script.now (packets_of plan.script.now) bytes _ at.capture read.0 c.in-Tail.bytes rep step.steps.0
+    (c.close.ensures.typed report done read.0 read.1 read.2 read.3))
+
+pub returns-in-End-clause-typed : goal.returns-in-End-clause-typed
+returns-in-End-clause-typed g c = λ report done bytes r.
+    let at = c.loop-frame in
+    let inv = at.invariant in
+    let read = inv.read in
+    let plan = c.args.plan.now in
+    let app = g.L.Recorder.app at.lane in
+    let rep = read.5 bytes r in
+    let gives = subst (λ s. NextGives at.capture c.next.new.self (g.S.Source.left at.source) (g.S.Source.left c.next.new.source) c.next.new.frame (Ok s)) c.in-End.is c.in_ok-next.ensures.gives in
+    let step = step_told at.capture c.next.new.self _ _ rep.rest c.next.new.frame _ gives rep.told in
+    subst (λ a. ReportIsTyped a plan.script.now (packets_of plan.script.now) bytes) inv.app
+    (typed_at app plan.script.now (packets_of plan.script.now) bytes _ at.capture read.0 0 rep step.steps.0
+    (c.close-in-End.ensures.typed report done read.0 read.1 read.2 read.3))
