@@ -65,8 +65,8 @@ pub alone_typed : CeilingsRecordTheSame → (app : Meaning) (script : List Stamp
     → ((bytes : List ℕ) → left ≡ Some bytes → RunsAlone app script output bytes old new result)
     → (output ≡ Report → IsOk result → (bytes : List ℕ) → left ≡ Some bytes → ReportIsTyped app script (packets_of script) bytes)
     → WritesTyped app script output left result
-alone_typed same app script output left old new (Err e) ran typed report = tt
-alone_typed same app script output left old new (Ok versions) ran typed report bytes told f rest opened ends =
+alone_typed same app script output left old new (Err e) ran typed = λ report. tt
+alone_typed same app script output left old new (Ok versions) ran typed = λ report bytes told f rest opened ends.
     let known = versions-are app script output bytes f rest versions opened ends (ran bytes told).answered in
     let ceilings = subst (λ fs. records_of app script (packets_with app script (versions_of (records_of app script (packets_of script) fs))) fs
     ≡ records_of app script (packets_of script) fs) (ap frames_in opened) (same app script bytes) in
