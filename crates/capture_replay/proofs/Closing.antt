@@ -10,6 +10,7 @@ use Rattle.app_api.specs.App.{Meaning}
 use Rattle.pcap_source.specs.Captured.{Captured}
 use Rattle.report_text.specs.declared.record.Record.{Record}
 use Rattle.report_text.specs.declared.record.Totals.{Totals}
+use Rattle.report_text.specs.Ranges.{HaveTypes}
 use Rattle.report_text.specs.Report.{report_text, records_text}
 use Rattle.report_text.specs.Lines.{totals_line}
 use Rattle.control_script.specs.declared.stamped.Stamped.{Stamped}
@@ -24,7 +25,7 @@ use Rattle.lane_core.specs.Shown.{record_of, callbacks_of, weight}
 use Rattle.lane_core.specs.declared.end.KeptEnd.{KeptEnd}
 use Rattle.lane_core.specs.KeptEnd.{IsKeptEnd}
 use Rattle.lane_core.specs.Lane.{IsHeavyAtEnd}
-use Rattle.lane_core.specs.Report.{end_text, lane_fault}
+use Rattle.lane_core.specs.Report.{EndIsTyped, end_text, lane_fault}
 use Rattle.lane_core.specs.Laws.{LaterCommandsChangeNone, WeightNeverFalls}
 use Rattle.run_outcome.specs.Greatest.{greatest}
 use Rattle.capture_replay.specs.declared.output.Output.{Output}
@@ -38,6 +39,7 @@ use Rattle.capture_replay.specs.Summary.{summary_text, made_line}
 use Rattle.capture_replay.specs.Reading.{Follows, IsRead}
 use Rattle.capture_replay.specs.Refusal.{lane_refusal, report_refusal}
 use Rattle.capture_replay.specs.Runs.{StopsAs, RunsAs}
+use Rattle.capture_replay.specs.Typed.{counted as counted_over, shown as shown_over}
 use Rattle.capture_replay.proofs.Following.{ended_are}
 use Rattle.capture_replay.proofs.Reading.{heavy_at_end, over_at_end, under_at_end, weighs_at_end}
 
@@ -163,6 +165,17 @@ pub was_good_report : {V : Type 0} (failed : Option LaneError) (result : Result 
     → ((e : LaneError) → failed ≡ Some e → result ≡ Err (lane_fault e)) → result ≡ Ok v → failed ≡ None
 was_good_report None result v before ok = refl
 was_good_report (Some e) result v before ok = absurd (let bad = before e refl in cc)
+
+-- what it wrote has its types
+pub reported_typed : (app : Meaning) (script : List Stamped) (output : Output) (frames : List Captured) (given : ℕ) (failed : Option LaneError) (stands : List LaneEvent → Type 0) (keep : Bool)
+    (last : Option Moment) → LaterCommandsChangeNone → last ≡ greatest (arrivals 0 frames) → IsRead app script output given failed stands frames → keep ≡ true → failed ≡ None
+    → (packets tail : ℕ) → length frames ≡ packets → ((events : List LaneEvent) → stands events → EndIsTyped keep app (ended_run app events last) packets tail)
+    → HaveTypes (shown_over app script (packets_of script) frames) (counted_over app script (packets_of script) frames tail)
+reported_typed app script output frames given failed stands keep last later is_last read kept good packets tail count typed =
+    let f = read.follows good in
+    let all = records_of app script (packets_of script) frames in
+    let here = subst (λ rs. EndIsTyped keep app rs packets tail) (at-end app script output frames given failed stands keep last later is_last read f) (typed f.events f.stands_for) in
+    subst (λ n. EndIsTyped true app all n tail) (sym count) (subst (λ b. EndIsTyped b app all packets tail) kept here)
 
 module _ (app : Meaning) (script : List Stamped) (output : Output) (frames : List Captured)
     (given : ℕ) (failed : Option LaneError) (stands : List LaneEvent → Type 0) (keep : Bool) (last : Option Moment) (later : LaterCommandsChangeNone) (is_last : last ≡ greatest (arrivals 0 frames))

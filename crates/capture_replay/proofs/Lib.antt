@@ -8,5 +8,6 @@ pub mod Ceilings
 pub mod Joined
 pub mod Forwarding
 mod Passed
+pub mod Typed
 mod ReadBack
 pub mod InPlace

@@ -32,7 +32,8 @@ use Rattle.capture_replay.specs.declared.output.Output.TheVariants.{Report}
 use Rattle.capture_replay.specs.declared.refusal.ReplayError.TheVariants.{Heavy}
 use Rattle.capture_replay.specs.Records.{control_at, packets_with}
 use Rattle.capture_replay.specs.Outcome.{ended, followed, is_heavy, outcome_by, outcome_over, refused, weighed}
-use Rattle.capture_replay.specs.ReadBack.{ReportIsReadBack, counted, shown}
+use Rattle.capture_replay.specs.ReadBack.{ReportIsReadBack}
+use Rattle.capture_replay.specs.Typed.{counted, shown}
 use Rattle.capture_replay.specs.Runs.{MayRun}
 
 -- ---- numbers of events
@@ -123,29 +124,30 @@ module _ (app : Meaning) (script : List Stamped) (vs : List ℕ) (frames : List 
   given = packets_with app script vs
 
   tidy_records : RecordsAreTidy → ((frames : List Captured) (vs : List ℕ) → IsTrue (rise 0 (packets_under app (commands_of script) vs (arrivals 0 frames)))) → IsLawful app → MayRun app script
-      → IsTrue (tidy (shown app script vs frames))
+      → IsTrue (tidy (shown app script (packets_with app script vs) frames))
   tidy_records law rising lawful may =
       law app (control_at app script) (greatest (arrivals 0 frames)) (packets_with app script vs frames) lawful (in-force app script lawful may) (rising frames vs)
 
   whole-by : (header : List ℕ) (rest : ℕ) (versions : List ℕ) (heavy : Bool) → (if heavy then refused Heavy else ended app script given Report header frames rest).ends ≡ Ok versions
-      → (if heavy then refused Heavy else ended app script given Report header frames rest).text ≡ report_text (shown app script vs frames) (counted app script vs frames rest)
+      → (if heavy then refused Heavy else ended app script given Report header frames rest).text ≡ report_text (shown app script (packets_with app script vs) frames) (counted app script (packets_with app script vs) frames rest)
   whole-by header rest versions true ends = absurd (cc)
   whole-by header rest versions false ends = refl
 
   -- all of it was written
   whole : (header : List ℕ) (rest : ℕ) (versions : List ℕ) → (weighed app script given Report header frames rest).ends ≡ Ok versions
-      → (weighed app script given Report header frames rest).text ≡ report_text (shown app script vs frames) (counted app script vs frames rest)
+      → (weighed app script given Report header frames rest).text ≡ report_text (shown app script (packets_with app script vs) frames) (counted app script (packets_with app script vs) frames rest)
   whole header rest versions ends = whole-by header rest versions (is_heavy app script given Report frames) ends
 
 pub report_read_back : GainedIsRead → RecordsAreTidy → ((app : Meaning) (commands : List Command) (frames : List Captured) (vs : List ℕ) → IsTrue (rise 0 (packets_under app commands vs (arrivals 0 frames))))
     → ReportIsReadBack
 unfolding outcome_over
-report_read_back gained law rising app script vs bytes f rest lawful may opened ends types versions before after done read back =
+report_read_back gained law rising app script vs bytes f rest lawful may opened ends typed versions before after done read back =
+    let types = typed f rest opened ends in
     let o = outcome_over app script (packets_with app script vs) Report bytes in
     let at : o ≡ weighed app script (packets_with app script vs) Report (take 24 bytes) f.frames rest =
     ap (λ r. outcome_by app script (packets_with app script vs) Report (take 24 bytes) r) opened
     ∙ ap (λ e. followed app script (packets_with app script vs) Report (take 24 bytes) f.frames e) ends in
     let text = ap (λ o. o.text) at ∙ whole app script vs f.frames (take 24 bytes) rest versions (sym (ap (λ o. o.ends) at) ∙ done.answered) in
-    gained before after (Ok tt) (shown app script vs f.frames) (counted app script vs f.frames rest)
+    gained before after (Ok tt) (shown app script (packets_with app script vs) f.frames) (counted app script (packets_with app script vs) f.frames rest)
     (tidy_records app script vs f.frames law (rising app (commands_of script)) lawful may) types.records_fit types.counts_fit
     (subst (λ l. after ≡ before ++ l) text done.written) refl read back

@@ -26,6 +26,12 @@ abbrev pub CeilingsAreOneWorkers : Type 0
 CeilingsAreOneWorkers = (app : Meaning) (script : List Stamped) (output : Output) (bytes : List ℕ)
     → outcome_over app script (packets_with app script (ceilings_of app script bytes)) output bytes ≡ outcome_over app script (packets_of script) output bytes
 
+-- its records are the same
+abbrev pub CeilingsRecordTheSame : Type 0
+CeilingsRecordTheSame = (app : Meaning) (script : List Stamped) (bytes : List ℕ)
+    → records_of app script (packets_with app script (ceilings_of app script bytes)) (frames_in (capture_of bytes))
+    ≡ records_of app script (packets_of script) (frames_in (capture_of bytes))
+
 -- and the same packets are forwarded
 abbrev pub CeilingsForwardTheSame : Type 0
 CeilingsForwardTheSame = (app : Meaning) (script : List Stamped) (bytes : List ℕ)

@@ -7,5 +7,6 @@ pub mod Reading
 pub mod Runs
 pub mod Lanes
 pub mod Laws
+pub mod Typed
 pub mod ReadBack
 pub mod Passed

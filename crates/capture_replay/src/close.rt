@@ -1,9 +1,10 @@
 //! The end of a run: its records, and what is written of them.
 
-ghost use Rattle.std.specs.Prelude.{◌≡◌, ◌≢◌, ◌⊎◌, ℕ, List, Option, length, not, true, false, IfErr, IsErrOf};
+ghost use Rattle.std.specs.Prelude.{◌≡◌, ◌≢◌, ◌⊎◌, ℕ, List, Option, length, not, true, false, IfErr, IsErrOf, IsOk};
 ghost use Rattle.std.specs.Io.KnownBytes.{Appends};
 ghost use Rattle.mos_bytes.specs.Writes.{WriteAdds};
 ghost use Rattle.report_text.specs.declared.record.Record.{Record};
+ghost use Rattle.report_text.specs.Ranges.{HaveTypes};
 ghost use Rattle.pcap_source.specs.Captured.{Captured};
 ghost use Rattle.lane_core.specs.Sight.{arrivals};
 ghost use Rattle.run_outcome.specs.Greatest.{greatest};
@@ -12,6 +13,7 @@ ghost use Rattle.capture_replay.specs.Outcome.{is_forward, streamed, closing};
 ghost use Rattle.mos_bytes.specs.Outside.{Writes};
 ghost use Rattle.capture_replay.specs.Reading.{LaneHasRead};
 ghost use Rattle.capture_replay.specs.Runs.{EndsAlone};
+ghost use Rattle.capture_replay.specs.Typed.{counted, shown};
 
 use crate::plan::Plan;
 use crate::summary::write_summary;
@@ -67,6 +69,11 @@ pub(crate) fn close<L: Reporter + Drop, O: Sink>(
         (streamed (L.app lane) plan.now.script.now (packets_of plan.now.script.now) plan.now.output header frames)
         → EndsAlone (L.app lane) plan.now.script.now plan.now.output header frames tail
         before (O.taken out.new) result }
+    ensures typed { plan.now.output ≡ Output.Report → IsOk result → (frames : List Captured)
+        → length frames ≡ packets → last ≡ greatest (arrivals 0 frames)
+        → LaneHasRead L.Recorder plan.now.script.now plan.now.output lane frames
+        → HaveTypes (shown (L.app lane) plan.now.script.now (packets_of plan.now.script.now) frames)
+        (counted (L.app lane) plan.now.script.now (packets_of plan.now.script.now) frames tail) }
     ensures silent { IfErr result
         (λ e. e ≢ ReplayError.WriteFault → e ≢ ReplayError.NoMemory → out.new ≡ out.old) }
     ensures only { IfErr result

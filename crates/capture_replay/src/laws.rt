@@ -1,6 +1,6 @@
 //! Laws on the versions of a run. These functions do nothing: who runs calls them for what they say.
 
-ghost use Rattle.capture_replay.specs.Laws.{CeilingsMayBeHad, CeilingsAreOneWorkers, CeilingsForwardTheSame, OneListIsAllowed};
+ghost use Rattle.capture_replay.specs.Laws.{CeilingsMayBeHad, CeilingsAreOneWorkers, CeilingsRecordTheSame, CeilingsForwardTheSame, OneListIsAllowed};
 
 use lane_composition::packets::packets_of_a_capture_rise;
 use lane_composition::runs::{
@@ -13,6 +13,7 @@ use lane_composition::versions::a_script_gives_floors_and_ceilings;
 pub fn what_one_worker_has_is_allowed()
     ensures allowed { CeilingsMayBeHad }
     ensures outcome { CeilingsAreOneWorkers }
+    ensures records { CeilingsRecordTheSame }
     ensures forwarded { CeilingsForwardTheSame }
 {
     packets_of_a_capture_rise();

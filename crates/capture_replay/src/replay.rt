@@ -11,9 +11,11 @@ ghost use Rattle.capture_replay.specs.Outcome.{is_forward, streamed};
 ghost use Rattle.mos_bytes.specs.Outside.{Reads, Writes};
 ghost use Rattle.capture_replay.specs.Reading.{LaneIsReady, LaneHasRead, Replaying};
 ghost use Rattle.capture_replay.specs.Runs.{IsIdle, MayRun, ReadsFile, Runs, RunsAlone};
+ghost use Rattle.capture_replay.specs.Typed.{ReportIsTyped, WritesTyped};
 
 use crate::close::close;
 use crate::in_place::run_lent;
+use crate::laws::what_one_worker_has_is_allowed;
 use crate::plan::Plan;
 use crate::taking::take;
 use crate::{Output, ReplayError, VersionList};
@@ -76,6 +78,9 @@ fn read_on<L: Reporter + Drop, S: Source, O: Sink>(
         → Appends before (O.taken out.old)
         (streamed (L.app lane) plan.now.script.now (packets_of plan.now.script.now) plan.now.output capture.header [])
         → RunsAlone (L.app lane) plan.now.script.now plan.now.output bytes before (O.taken out.new) result }
+    ensures typed { plan.now.output ≡ Output.Report → IsOk result → (bytes : List ℕ)
+        → Replaying bytes (S.left source.old) capture []
+        → ReportIsTyped (L.app lane) plan.now.script.now (packets_of plan.now.script.now) bytes }
     ensures read { IsOk result → (bytes : List ℕ) → Replaying bytes (S.left source.old) capture []
         → S.left source.new ≡ Some [] }
     ensures silent { is_forward plan.now.output ≡ false
@@ -127,7 +132,9 @@ pub(crate) fn replay<A: App + Drop, S: Source, O: Sink>(
     ensures ran { Runs S.Source O.Sink plan.now.output
         (RunsAlone (A.meaning app) plan.now.script.now plan.now.output)
         source.old source.new out.old out.new result }
+    ensures typed { WritesTyped (A.meaning app) plan.now.script.now plan.now.output (S.left source.old) result }
 {
+    what_one_worker_has_is_allowed();
     let capture = Capture::open(source)?;
     write_front(plan.output, &capture, out)?;
     let lane = Lane::new(alloc, app, Table::new(alloc), !plan.output.is_forward())?;

@@ -7,7 +7,7 @@ use lane_core::laws::records_are_tidy;
 use report_text::laws::gained_is_read;
 
 /// What a report run adds to its output where it ends well, read back, is the run's records and totals, unless memory is refused.
-/// That the numbers and bytes of these records are in the ranges of their types is a premise.
+/// That the numbers and bytes of its report are in the ranges of their types is what each run promises.
 pub fn a_report_is_read_back()
     ensures { ReportIsReadBack }
 {

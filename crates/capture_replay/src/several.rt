@@ -1,14 +1,16 @@
 //! The run of several workers.
 
-ghost use Rattle.std.specs.Prelude.{◌≡◌, ◌≤◌, ◌⊎◌, true, false, IfSome, IfErr, IsErrOf, IsTrue};
+ghost use Rattle.std.specs.Prelude.{◌≡◌, ◌≤◌, ◌⊎◌, true, false, IfSome, IfErr, IsErrOf, IsOk, IsTrue};
 ghost use Rattle.control_script.specs.Order.{are_in_order};
 ghost use Rattle.mos_bytes.specs.Outside.{Writes};
 ghost use Rattle.mos_bytes.specs.Writes.{WriteAdds};
+ghost use Rattle.report_text.specs.Ranges.{HaveTypes};
 ghost use Rattle.lane_core.specs.KeptEnd.{shown_as};
 ghost use Rattle.applications.specs.Apps.{meaning_of};
 ghost use Rattle.capture_replay.specs.Lanes.{RunsWith};
 ghost use Rattle.capture_replay.specs.Outcome.{closing, is_forward, made_for, output_of};
 ghost use Rattle.capture_replay.specs.Runs.{IsJob, Runs, RunsFor, RunsUnderSettings};
+ghost use Rattle.capture_replay.specs.Typed.{WritesTyped};
 
 use crate::laws::what_one_worker_has_is_allowed;
 use crate::plan::{Crew, Plan, Task};
@@ -45,6 +47,8 @@ fn write_end_by<R: Threads + Wait, A: App + Sync, G, O: Sink>(
     requires some { 1 ≤ plan.now.workers }
     ensures text { WriteAdds (O.taken out.old) (O.taken out.new) result
         (closing plan.now.output (shown_as (A.meaning app.now) records.now) totals.now) }
+    ensures typed { plan.now.output ≡ Output.Report → IsOk result
+        → HaveTypes (shown_as (A.meaning app.now) records.now) totals.now }
     ensures silent { is_forward plan.now.output ≡ true → out.new ≡ out.old }
     ensures only { IfErr result
         (λ e. ((e ≡ ReplayError.WriteFault) × (is_forward plan.now.output ≡ false)) ⊎ (e ≡ ReplayError.NoMemory)) }
@@ -81,6 +85,7 @@ fn report_on<
     ensures ran { Runs S.Source O.Sink plan.now.output
         (RunsWith (A.meaning app) plan.now.script.now plan.now.workers plan.now.output)
         source.old source.new out.old out.new result }
+    ensures typed { WritesTyped (A.meaning app) plan.now.script.now plan.now.output (S.left source.old) result }
 {
     a_run_has_its_versions();
     what_one_worker_has_is_allowed();
@@ -175,6 +180,7 @@ fn run_on<
     ensures ran { Runs S.Source O.Sink plan.now.output
         (RunsWith (A.meaning app) plan.now.script.now plan.now.workers plan.now.output)
         source.old source.new out.old out.new result }
+    ensures typed { WritesTyped (A.meaning app) plan.now.script.now plan.now.output (S.left source.old) result }
 {
     if plan.output.is_forward() {
         return forward_on(crew, alloc, app, plan, source, out);
@@ -187,7 +193,8 @@ fn run_on<
 ///
 /// It asks a script that is lawful with the presets of the task's application, and at most 100,000 connections to make. With a
 /// capture that is made, `capture` isn't read. At an `Err` `out` has gained a prefix of what was to be written; a report and a
-/// summary are written when the capture was read whole, a forwarded capture while it is read. It waits for its threads.
+/// summary are written when the capture was read whole, a forwarded capture while it is read. The numbers and bytes of a report
+/// that is written whole are in the ranges of their types. It waits for its threads.
 pub fn run_several_with<
     R: Threads + Wait + Sync + Send + Copy + Drop + 'static,
     A: App + Copy + Send + Sync + Drop,
@@ -207,6 +214,7 @@ pub fn run_several_with<
     ensures ran { RunsFor S.Source O.Sink (made_for task.now.output) task.now.output
         (RunsWith (A.meaning task.now.app) task.now.script.now task.now.workers task.now.output)
         capture.old capture.new out.old out.new result }
+    ensures typed { WritesTyped (A.meaning task.now.app) task.now.script.now task.now.output (S.left capture.old) result }
 {
     let plan = task.plan(natives);
     // With its length a script tells that its commands are in order.
@@ -237,6 +245,7 @@ pub fn run_several<
     ensures ran { RunsUnderSettings S.Source O.Sink settings.now
         (RunsWith (meaning_of settings.now.app) script.now settings.now.workers (output_of settings.now))
         capture.old capture.new out.old out.new result }
+    ensures typed { WritesTyped (meaning_of settings.now.app) script.now (output_of settings.now) (S.left capture.old) result }
 {
     let task = task_of(settings.app, settings, script);
     run_several_with(crew, alloc, &task, capture, out, natives)

@@ -4,6 +4,7 @@ ghost use Rattle.std.specs.Prelude.{◌≤◌, IfSome};
 ghost use Rattle.applications.specs.Apps.{meaning_of};
 ghost use Rattle.capture_replay.specs.Outcome.{made_for, output_of};
 ghost use Rattle.capture_replay.specs.Runs.{MayRun, RunsAlone, RunsFor, RunsUnderSettings};
+ghost use Rattle.capture_replay.specs.Typed.{WritesTyped};
 
 use crate::plan::Task;
 use crate::replay::replay;
@@ -23,7 +24,8 @@ use words::Settings;
 ///
 /// It asks a script that is lawful with the presets of the task's application, and at most 100,000 connections to make. With a
 /// capture that is made, `capture` isn't read. At an `Err` `out` has gained a prefix of what was to be written; a report and a
-/// summary are written when the capture was read whole, a forwarded capture while it is read.
+/// summary are written when the capture was read whole, a forwarded capture while it is read. The numbers and bytes of a report
+/// that is written whole are in the ranges of their types.
 pub fn run_one_with<A: App + Copy + Drop, S: Source, O: Sink>(
     alloc: Global,
     task: &Task<'_, A>,
@@ -36,6 +38,7 @@ pub fn run_one_with<A: App + Copy + Drop, S: Source, O: Sink>(
     ensures ran { RunsFor S.Source O.Sink (made_for task.now.output) task.now.output
         (RunsAlone (A.meaning task.now.app) task.now.script.now task.now.output)
         capture.old capture.new out.old out.new result }
+    ensures typed { WritesTyped (A.meaning task.now.app) task.now.script.now task.now.output (S.left capture.old) result }
 {
     let plan = task.plan(natives);
     match task.output {
@@ -58,6 +61,7 @@ pub fn run_one<S: Source, O: Sink>(
     ensures ran { RunsUnderSettings S.Source O.Sink settings.now
         (RunsAlone (meaning_of settings.now.app) script.now (output_of settings.now))
         capture.old capture.new out.old out.new result }
+    ensures typed { WritesTyped (meaning_of settings.now.app) script.now (output_of settings.now) (S.left capture.old) result }
 {
     let task = task_of(settings.app, settings, script);
     run_one_with(alloc, &task, capture, out, natives)

@@ -1,4 +1,4 @@
-use Rattle.std.proofs.Common.{◌≡◌, ◌∙◌, length, map, not, true, false, Err, sym, ap, subst}
+use Rattle.std.proofs.Common.{◌≡◌, ◌∙◌, length, map, not, true, false, Err, refl, sym, ap, subst}
 use Rattle.std.specs.Prelude.{◌⊎◌}
 use Rattle.std.proofs.lemmas.Result.{err_from_is_err_and}
 use Rattle.mos_bytes.specs.Writes.{AppendsFront}
@@ -8,7 +8,7 @@ use Rattle.lane_core.specs.Shown.{record_of}
 use Rattle.capture_replay.specs.Records.{packets_of, records_of}
 use Rattle.capture_replay.specs.Outcome.{is_forward}
 use Rattle.capture_replay.specs.declared.refusal.ReplayError.TheVariants as Replay
-use Rattle.capture_replay.proofs.Closing.{was_good, ended_with, end_is_heavy, end_is_light, closing_is, ends_well, ends_badly, ends_not, was_good_report, reported_well, reported_badly}
+use Rattle.capture_replay.proofs.Closing.{was_good, ended_with, end_is_heavy, end_is_light, closing_is, ends_well, ends_badly, ends_not, was_good_report, reported_well, reported_badly, reported_typed}
 use Rattle.capture_replay.proofs.Replaying.{front_at_end}
 use Rattle.capture_replay.proofs.close.close.Goals as goal
 
@@ -104,3 +104,13 @@ returns-clause-ends g c = λ header frames before count is_last read first.
     ends_well app plan.script.now (packets_of plan.script.now) plan.output frames header c.args.tail _ before (g.O.Sink.taken c.args.out.now)
     (g.O.Sink.taken c.write_counts.new.out) light
     (c.in_ok-versions.ensures ∙ ap (map (λ r. r.version)) c.as_slice-records.ensures ∙ is.versions_are) first last
+
+pub returns-in-Report-clause-typed : goal.returns-in-Report-clause-typed
+returns-in-Report-clause-typed g c = λ report done frames count is_last read.
+    let lane = c.args.lane in
+    let plan = c.args.plan.now in
+    let good = was_good_report (g.L.Recorder.failed lane) c.report.result c.in_ok-items.items (λ e is. (c.report.ensures.failed e is).0) c.in_ok-items.was in
+    let kept : g.L.Recorder.keeps lane ≡ true = c.requires.keeps ∙ ap (λ o. not (is_forward o)) c.in-Report.is in
+    reported_typed (g.L.Recorder.app lane) plan.script.now plan.output frames (g.L.Recorder.given lane) (g.L.Recorder.failed lane)
+    (g.L.Recorder.stands lane) (g.L.Recorder.keeps lane) c.args.last c.later_commands_change_none.ensures is_last read kept good
+    c.args.packets c.args.tail count (c.in_ok-items.ensures.typed good refl)

@@ -10,12 +10,14 @@ use Rattle.capture_replay.specs.Refusal.{record_refusal}
 use Rattle.capture_replay.specs.Records.{packets_of}
 use Rattle.capture_replay.specs.Outcome.{is_forward, streamed, outcome_over}
 use Rattle.capture_replay.specs.Runs.{RunsAs}
+use Rattle.capture_replay.specs.Typed.{ReportIsTyped}
 use Rattle.capture_replay.proofs.Refusals.{is_read_fault, no_write_fault, same_error, rose_since, no_read_fault}
 use Rattle.capture_replay.proofs.Reading.{fails_forward, none_greatest}
 use Rattle.capture_replay.proofs.Ends.{cut_record, err_same, no_heavy_packet, no_heavy_record, no_read_end, no_write_packet, reads_refused, reads_whole}
 use Rattle.capture_replay.specs.Reading.{gained}
 use Rattle.capture_replay.proofs.InPlace.{on_and_on}
 use Rattle.capture_replay.proofs.Replaying.{stopped_writing, step_told, replayed, streamed_last, refused_record, front_so_far, front_of_frame, stopped_by, ended_at}
+use Rattle.capture_replay.proofs.Typed.{typed_at}
 use Rattle.capture_replay.proofs.replay.read_on.Goals as goal
 
 pub loop-frame-init : goal.loop-frame-init
@@ -402,3 +404,31 @@ returns-in-End-clause-reads g c =
 pub returns-in-End-clause-silent : goal.returns-in-End-clause-silent
 returns-in-End-clause-silent g c = λ is. IfErr-weaker c.close-in-End.result _ _ (λ e same write memory. same write memory
     ∙ (c.hand_on.ensures.silent is).1 ∙ (on_and_on g.L.Recorder g.S.Source g.O.Sink c.args.plan.now.script.now c.args.plan.now.output _ _ _ _ _ _ _ _ _ _ _ _ _ _ _ _ _ _ c.loop-frame.invariant (c.in_ok-run_lent.ensures.on refl)).silent is) c.close-in-End.ensures.silent
+
+pub returns-in-Tail-clause-typed : goal.returns-in-Tail-clause-typed
+returns-in-Tail-clause-typed g c = λ report done bytes r.
+    let at = c.run_lent.new in
+    let run = on_and_on g.L.Recorder g.S.Source g.O.Sink c.args.plan.now.script.now c.args.plan.now.output _ _ _ _ _ _ _ _ _ _ _ _ _ _ _ _ _ _ c.loop-frame.invariant (c.in_ok-run_lent.ensures.on refl) in
+    let come = run.come [] (record { counted = refl; latest = none_greatest; read = c.requires.read }) in
+    let plan = c.args.plan.now in
+    let app = g.L.Recorder.app at.lane in
+    let rep = come.2.replays bytes r in
+    let gives = subst (λ s. NextGives at.capture c.next.new.self (g.S.Source.left at.source) (g.S.Source.left c.next.new.source) c.next.new.frame (Ok s)) c.in-Tail.is c.in_ok-next.ensures.gives in
+    let step = step_told at.capture c.next.new.self _ _ rep.rest c.next.new.frame _ gives rep.told in
+    subst (λ a. ReportIsTyped a plan.script.now (packets_of plan.script.now) bytes) run.app
+    (typed_at app plan.script.now (packets_of plan.script.now) bytes _ at.capture come.0 c.in-Tail.bytes rep step.steps.0
+    (c.close.ensures.typed report done come.0 come.1.counted come.1.latest come.1.read))
+
+pub returns-in-End-clause-typed : goal.returns-in-End-clause-typed
+returns-in-End-clause-typed g c = λ report done bytes r.
+    let at = c.run_lent.new in
+    let run = on_and_on g.L.Recorder g.S.Source g.O.Sink c.args.plan.now.script.now c.args.plan.now.output _ _ _ _ _ _ _ _ _ _ _ _ _ _ _ _ _ _ c.loop-frame.invariant (c.in_ok-run_lent.ensures.on refl) in
+    let come = run.come [] (record { counted = refl; latest = none_greatest; read = c.requires.read }) in
+    let plan = c.args.plan.now in
+    let app = g.L.Recorder.app at.lane in
+    let rep = come.2.replays bytes r in
+    let gives = subst (λ s. NextGives at.capture c.next.new.self (g.S.Source.left at.source) (g.S.Source.left c.next.new.source) c.next.new.frame (Ok s)) c.in-End.is c.in_ok-next.ensures.gives in
+    let step = step_told at.capture c.next.new.self _ _ rep.rest c.next.new.frame _ gives rep.told in
+    subst (λ a. ReportIsTyped a plan.script.now (packets_of plan.script.now) bytes) run.app
+    (typed_at app plan.script.now (packets_of plan.script.now) bytes _ at.capture come.0 0 rep step.steps.0
+    (c.close-in-End.ensures.typed report done come.0 come.1.counted come.1.latest come.1.read))
