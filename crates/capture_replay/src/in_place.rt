@@ -59,8 +59,8 @@ fn walk<L: Recorder, O: Sink>(
     ensures rises { packets.old ≤ packets.new }
     ensures live { IsOk result → IsTrue capture.new.is_live }
     ensures header { capture.new.header ≡ capture.old.header }
-    ensures goes_on { IfOk result (λ at. (left : Option (List ℕ)) (frames : List Captured) → BeginsWith left front.now
-        → HasCome L.Recorder plan.now.script.now plan.now.output lane.old packets.old last.old frames
+    ensures goes_on { IfOk result (λ at. (left : Option (List ℕ)) (frames : List Captured)
+        → BeginsWith left front.now → HasCome L.Recorder plan.now.script.now plan.now.output lane.old packets.old last.old frames
         → (all : List Captured) × HasCome L.Recorder plan.now.script.now plan.now.output lane.new packets.new last.new all
         × ReadsOn (L.app lane.old) plan.now.script.now plan.now.output capture.old capture.new
         (O.taken out.old) (O.taken out.new) left (left_behind at left) frames all) }

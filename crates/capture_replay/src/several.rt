@@ -214,7 +214,8 @@ pub fn run_several_with<
     ensures ran { RunsFor S.Source O.Sink (made_for task.now.output) task.now.output
         (RunsWith (A.meaning task.now.app) task.now.script.now task.now.workers task.now.output)
         capture.old capture.new out.old out.new result }
-    ensures typed { WritesTyped (A.meaning task.now.app) task.now.script.now task.now.output (S.left capture.old) result }
+    ensures typed { WritesTyped (A.meaning task.now.app) task.now.script.now task.now.output
+        (S.left capture.old) result }
 {
     let plan = task.plan(natives);
     // With its length a script tells that its commands are in order.
@@ -245,7 +246,8 @@ pub fn run_several<
     ensures ran { RunsUnderSettings S.Source O.Sink settings.now
         (RunsWith (meaning_of settings.now.app) script.now settings.now.workers (output_of settings.now))
         capture.old capture.new out.old out.new result }
-    ensures typed { WritesTyped (meaning_of settings.now.app) script.now (output_of settings.now) (S.left capture.old) result }
+    ensures typed { WritesTyped (meaning_of settings.now.app) script.now (output_of settings.now)
+        (S.left capture.old) result }
 {
     let task = task_of(settings.app, settings, script);
     run_several_with(crew, alloc, &task, capture, out, natives)

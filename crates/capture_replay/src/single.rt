@@ -38,7 +38,8 @@ pub fn run_one_with<A: App + Copy + Drop, S: Source, O: Sink>(
     ensures ran { RunsFor S.Source O.Sink (made_for task.now.output) task.now.output
         (RunsAlone (A.meaning task.now.app) task.now.script.now task.now.output)
         capture.old capture.new out.old out.new result }
-    ensures typed { WritesTyped (A.meaning task.now.app) task.now.script.now task.now.output (S.left capture.old) result }
+    ensures typed { WritesTyped (A.meaning task.now.app) task.now.script.now task.now.output
+        (S.left capture.old) result }
 {
     let plan = task.plan(natives);
     match task.output {
@@ -61,7 +62,8 @@ pub fn run_one<S: Source, O: Sink>(
     ensures ran { RunsUnderSettings S.Source O.Sink settings.now
         (RunsAlone (meaning_of settings.now.app) script.now (output_of settings.now))
         capture.old capture.new out.old out.new result }
-    ensures typed { WritesTyped (meaning_of settings.now.app) script.now (output_of settings.now) (S.left capture.old) result }
+    ensures typed { WritesTyped (meaning_of settings.now.app) script.now (output_of settings.now)
+        (S.left capture.old) result }
 {
     let task = task_of(settings.app, settings, script);
     run_one_with(alloc, &task, capture, out, natives)

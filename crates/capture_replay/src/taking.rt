@@ -75,8 +75,8 @@ pub(crate) fn take_at<L: Recorder, O: Sink>(
     requires bound { number < 1048576 }
     requires keeps { L.keeps lane.old ≡ not (is_forward plan.now.output) }
     ensures ready { IsOk result → LaneIsReady L.Recorder plan.now.script.now lane.new (number + 1) }
-    ensures reads { IsOk result → (frame : Captured) (frames : List Captured) → IsSeen frame moment head.now bytes.now
-        → length frames ≡ number → LaneHasRead L.Recorder plan.now.script.now plan.now.output lane.old frames
+    ensures reads { IsOk result → (frame : Captured) (frames : List Captured)
+        → IsSeen frame moment head.now bytes.now → length frames ≡ number → LaneHasRead L.Recorder plan.now.script.now plan.now.output lane.old frames
         → LaneHasRead L.Recorder plan.now.script.now plan.now.output lane.new (frames ++ frame ∷ []) }
     ensures writes { (frame : Captured) (frames : List Captured) → IsSeen frame moment head.now bytes.now
         → length frames ≡ number → LaneHasRead L.Recorder plan.now.script.now plan.now.output lane.old frames

@@ -4,4 +4,3 @@ pub mod Outcomes
 pub mod Below
 pub mod Gathering
 pub mod Chosen
-mod ReadBack

@@ -5,4 +5,3 @@ pub mod Request
 pub mod Explained
 pub mod Run
 pub mod Runs
-pub mod ReadBack
