@@ -88,7 +88,8 @@ fn work_plainly<R: Wait, L: Recorder + Drop>(
 ) -> Worker<L>
     requires ready { L.failed w.lane ≡ None → IsReady L.Recorder (commands_of script.now) w.lane w.commands }
     requires lawful { IsTrue (are_lawful (start (L.app w.lane).presets) (commands_of script.now)) }
-    ensures ready { L.failed result.lane ≡ None → IsReady L.Recorder (commands_of script.now) result.lane result.commands }
+    ensures ready { L.failed result.lane ≡ None
+        → IsReady L.Recorder (commands_of script.now) result.lane result.commands }
     ensures app { L.app result.lane ≡ L.app w.lane }
 {
     work(
@@ -195,7 +196,8 @@ fn work_beside<R: Threads + Wait + Sync, L: Recorder + Drop>(
         rt,
         move || feed(rt, alloc, ends, script, &flags.stop),
         move || -> Worker<L>
-            requires { IsReady L.Recorder (commands_of script.now) w.lane w.commands × IsTrue (are_lawful (start (L.app w.lane).presets) (commands_of script.now)) }
+            requires { IsReady L.Recorder (commands_of script.now) w.lane w.commands
+                × IsTrue (are_lawful (start (L.app w.lane).presets) (commands_of script.now)) }
         { work_plainly(rt, alloc, w, script, flags) },
     );
     Some((w.lane.version(), right))
