@@ -22,7 +22,7 @@ use Rattle.connection_core.specs.declared.ledger.Ledger.{Ledger}
 use Rattle.connection_core.specs.PacketUnderWay.{PacketUnderWay, raised, phase}
 use Rattle.connection_core.specs.History.{History, fresh, orphan_under_way, begin, go_on, done, sender_phase, receiver_phase, received_unless, followed, verdict_of, drops_of}
 use Rattle.connection_core.specs.Trees.{active_in, InternsWithin}
-use Rattle.connection_core.specs.Standing.{IsNoted, IsConnection, IsUnder, Steps, CostsUnder, Reached, Stepped}
+use Rattle.connection_core.specs.Standing.{IsNoted, IsConnection, IsUnder, state_of, IsBegun, Steps, CostsUnder, Reached, Stepped}
 use Rattle.connection_core.proofs.Changing.{within-same, within-up}
 use Rattle.connection_core.proofs.Settling.{phase_rises}
 
@@ -36,11 +36,11 @@ pub sender_makes : (app : Meaning) (s : ControlState) (keep : Bool) (others : Co
     → ((e : Emulation) → SocketStandsFor flow.socket e → SocketStandsFor socket (sent from head scale e))
     → ((e : Emulation) → SocketStandsFor flow.socket e → answer ≡ sent_answer from head e)
     → raises ≡ sender_raises head from flow.count (eqb flow.count 0) answer
-    → begun.changes.items ≡ [] → begun.drop ≡ None → begun.counts ≡ ledger.counts
+    → IsBegun ledger begun
     → ((c : PacketUnderWay) → IsUnder keep others (active_in at tree) socket notes begun c → R c (phase app s number from raises c))
     → R (begin (sent from head scale h.emulation) h) (sender_phase app s number from head scale h)
 unfolding sender_phase
-sender_makes app s keep others at tree number from head scale answer raises flow socket notes ledger begun h R is heard answers raised_are none no_drop counts makes =
+sender_makes app s keep others at tree number from head scale answer raises flow socket notes ledger begun h R is heard answers raised_are begins makes =
     let e = h.emulation in
     let all : raises ≡ sender_raises head from h.count (eqb h.count 0) (sent_answer from head e) =
     raised_are ∙ ap (λ n. sender_raises head from n (eqb n 0) answer) is.kept.count ∙ ap (λ a. sender_raises head from h.count (eqb h.count 0) a) (answers e is.kept.socket) in
@@ -48,9 +48,9 @@ sender_makes app s keep others at tree number from head scale answer raises flow
     let under : IsUnder keep others (active_in at tree) socket notes begun c = record {
       heard = heard e is.kept.socket;
       active = is.kept.active;
-      noted = subst (λ n. IsNoted keep others h.tally h.entries notes n) (sym counts) is.noted;
-      asked = none;
-      drop = no_drop;
+      noted = subst (λ n. IsNoted keep others h.tally h.entries notes n) (sym begins.counts) is.noted;
+      asked = begins.changes;
+      drop = begins.drop;
     } in
     subst (λ l. R c (phase app s number from l c)) all (makes c under)
 
@@ -87,7 +87,7 @@ receiver_rises app s number from head payload count c =
 
 -- one that failed before its phase
 pub receiver_costs_none : (app : Meaning) (s : ControlState) (keep : Bool) (list : List Reg) (i : Option ℕ) (number : ℕ) (from : Side) (head : Head) (payload : List ℕ) (count : ℕ)
-    (socket : SocketView) (notes : Notes) (ledger : Ledger) → CostsUnder keep list socket notes ledger i i (receiver_phase app s number from head payload count)
+    (socket : SocketView) (notes : Notes) (ledger : Ledger) → CostsUnder keep list (state_of socket notes ledger) i i (receiver_phase app s number from head payload count)
 receiver_costs_none app s keep list i number from head payload count socket notes ledger = record {
   interned = λ others c u.
       within-up i i c.altered c.altered (receiver_phase app s number from head payload count c).altered (receiver_rises app s number from head payload count c) (within-same i c.altered);
@@ -162,14 +162,14 @@ pub orphan_under : (app : Meaning) (s : ControlState) (keep : Bool) (others : Co
     (socket socket_after : SocketView) (notes notes_after : Notes) (ledger begun ledger_after : Ledger)
     → list ≡ first_active s → rbuf ≡ s.rbuf → policy ≡ s.policy → SocketStandsFor socket (unheard rbuf policy)
     → IsNoted keep others app.fresh [] notes ledger.counts
-    → begun.changes.items ≡ [] → begun.drop ≡ None → begun.counts ≡ ledger.counts
+    → IsBegun ledger begun
     → Steps keep list socket notes begun socket_after notes_after ledger_after (raised app s number Client raises)
     → IsUnder keep others list socket_after notes_after ledger_after (orphan_under_way app s number raises)
-orphan_under app s keep others list number raises rbuf policy socket socket_after notes notes_after ledger begun ledger_after first buffer overlap heard noted none no_drop counts steps =
+orphan_under app s keep others list number raises rbuf policy socket socket_after notes notes_after ledger begun ledger_after first buffer overlap heard noted begins steps =
     steps.stands others (begin (unheard s.rbuf s.policy) (fresh app s)) (record {
       heard = subst (λ p. SocketStandsFor socket (unheard s.rbuf p)) overlap (subst (λ n. SocketStandsFor socket (unheard n policy)) buffer heard);
       active = sym first;
-      noted = subst (λ n. IsNoted keep others app.fresh [] notes n) (sym counts) noted;
-      asked = none;
-      drop = no_drop;
+      noted = subst (λ n. IsNoted keep others app.fresh [] notes n) (sym begins.counts) noted;
+      asked = begins.changes;
+      drop = begins.drop;
     })

@@ -16,7 +16,7 @@ use Rattle.connection_core.specs.declared.ledger.Counts.{Counts}
 use Rattle.connection_core.specs.declared.ledger.Ledger.{Ledger}
 use Rattle.connection_core.specs.PacketUnderWay.{PacketUnderWay, is_on, is_so, altered_to, called, called_all, called_at, switched, changed, changed_all, settled, raise_done, phase}
 use Rattle.connection_core.specs.Trees.{InternsWithin}
-use Rattle.connection_core.specs.Standing.{IsNoted, IsUnder, Steps, Alters, Costs, CostsUnder, Reached, Makes}
+use Rattle.connection_core.specs.Standing.{IsNoted, IsUnder, state_of, HasSame, Steps, Alters, Costs, CostsUnder, Reached, Makes}
 use Rattle.connection_core.proofs.Changing.{within-same, within-on, within-up, changed_all_rises}
 
 -- ---- what callbacks and changes leave alone
@@ -77,14 +77,13 @@ altered-called_at app s number from raise c = altered-called_all app s number fr
 
 -- a ledger with the same content stands for the same
 pub under_room : (keep : Bool) (others : Counts) (list : List Reg) (socket : SocketView) (notes : Notes) (ledger roomy : Ledger) (c : PacketUnderWay)
-    → roomy.changes.items ≡ ledger.changes.items → roomy.drop ≡ ledger.drop → roomy.counts ≡ ledger.counts
-    → IsUnder keep others list socket notes ledger c → IsUnder keep others list socket notes roomy c
-under_room keep others list socket notes ledger roomy c changes drop counts u = record {
+    → HasSame ledger roomy → IsUnder keep others list socket notes ledger c → IsUnder keep others list socket notes roomy c
+under_room keep others list socket notes ledger roomy c same u = record {
   heard = u.heard;
   active = u.active;
-  noted = subst (λ n. IsNoted keep others c.tally c.entries notes n) (sym counts) u.noted;
-  asked = changes ∙ u.asked;
-  drop = drop ∙ u.drop;
+  noted = subst (λ n. IsNoted keep others c.tally c.entries notes n) (sym same.counts) u.noted;
+  asked = same.changes ∙ u.asked;
+  drop = same.drop ∙ u.drop;
 }
 
 settled_under : (s : ControlState) (keep : Bool) (others : Counts) (list after : List Reg) (i j : Option ℕ) (socket : SocketView) (notes : Notes) (ledger emptied : Ledger) (c : PacketUnderWay)
@@ -108,17 +107,16 @@ settled_under s keep others list after i j socket notes ledger emptied c u alter
     }
 
 pub raise_made : (app : Meaning) (s : ControlState) (keep : Bool) (list after : List Reg) (i j : Option ℕ) (number : ℕ) (from : Side) (raise : Raise)
-    (socket socket_after : SocketView) (notes notes_after : Notes) (ledger roomy called_for emptied : Ledger)
-    → roomy.changes.items ≡ ledger.changes.items → roomy.drop ≡ ledger.drop → roomy.counts ≡ ledger.counts
-    → Steps keep list socket notes roomy socket_after notes_after called_for (called_at app s number from raise)
+    (socket socket_after : SocketView) (notes notes_after : Notes) (ledger called_for emptied : Ledger)
+    → Steps keep list socket notes ledger socket_after notes_after called_for (called_at app s number from raise)
     → Alters list after i j (changed_all s called_for.changes.items)
     → emptied.changes.items ≡ [] → emptied.drop ≡ called_for.drop → emptied.counts ≡ called_for.counts
     → Makes keep list socket notes ledger i after socket_after notes_after emptied j (raise_done app s number from raise)
 unfolding raise_done
-raise_made app s keep list after i j number from raise socket socket_after notes notes_after ledger roomy called_for emptied changes drop counts steps alters none drop_after counts_after = record {
+raise_made app s keep list after i j number from raise socket socket_after notes notes_after ledger called_for emptied steps alters none drop_after counts_after = record {
   stands = λ others c u.
       let made = called_at app s number from raise c in
-      let under = steps.stands others c (under_room keep others list socket notes ledger roomy c changes drop counts u) in
+      let under = steps.stands others c u in
       let reached = settled_under s keep others list after i j socket_after notes_after called_for emptied made under alters none drop_after counts_after in
       subst (λ n. Reached keep others after socket_after notes_after emptied i j n (settled s made)) (altered-called_at app s number from raise c) reached;
 }
@@ -131,7 +129,7 @@ pub raise_made_unasked : (app : Meaning) (s : ControlState) (keep : Bool) (list 
     → Makes keep list socket notes ledger i list socket_after notes_after ledger_after i (raise_done app s number from raise)
 raise_made_unasked app s keep list i number from raise socket socket_after notes notes_after ledger ledger_after steps none =
     let nothing : Alters list list i i (changed_all s []) = record { made = λ c is. is; interned = λ c is. within-same i c.altered } in
-    raise_made app s keep list list i i number from raise socket socket_after notes notes_after ledger ledger ledger_after ledger_after refl refl refl steps
+    raise_made app s keep list list i i number from raise socket socket_after notes notes_after ledger ledger_after ledger_after steps
     (subst (λ l. Alters list list i i (changed_all s l)) (sym none) nothing) none refl refl
 
 raise_rises : (app : Meaning) (s : ControlState) (number : ℕ) (from : Side) (raise : Raise) (c : PacketUnderWay) → c.altered ≤ (raise_done app s number from raise c).altered
@@ -143,23 +141,22 @@ raise_rises app s number from raise c =
 -- a raise that failed before its changes
 pub raise_costs_none : (app : Meaning) (s : ControlState) (keep : Bool) (list : List Reg) (i : Option ℕ) (number : ℕ) (from : Side) (raise : Raise)
     (socket : SocketView) (notes : Notes) (ledger : Ledger)
-    → CostsUnder keep list socket notes ledger i i (raise_done app s number from raise)
+    → CostsUnder keep list (state_of socket notes ledger) i i (raise_done app s number from raise)
 raise_costs_none app s keep list i number from raise socket notes ledger = record {
   interned = λ others c u. within-up i i c.altered c.altered (raise_done app s number from raise c).altered (raise_rises app s number from raise c) (within-same i c.altered);
 }
 
 -- one that failed among them
 pub raise_costs : (app : Meaning) (s : ControlState) (keep : Bool) (list : List Reg) (i j : Option ℕ) (number : ℕ) (from : Side) (raise : Raise)
-    (socket socket_after : SocketView) (notes notes_after : Notes) (ledger roomy called_for : Ledger)
-    → roomy.changes.items ≡ ledger.changes.items → roomy.drop ≡ ledger.drop → roomy.counts ≡ ledger.counts
-    → Steps keep list socket notes roomy socket_after notes_after called_for (called_at app s number from raise)
+    (socket socket_after : SocketView) (notes notes_after : Notes) (ledger called_for : Ledger)
+    → Steps keep list socket notes ledger socket_after notes_after called_for (called_at app s number from raise)
     → Costs list i j (changed_all s called_for.changes.items)
-    → CostsUnder keep list socket notes ledger i j (raise_done app s number from raise)
+    → CostsUnder keep list (state_of socket notes ledger) i j (raise_done app s number from raise)
 unfolding raise_done settled
-raise_costs app s keep list i j number from raise socket socket_after notes notes_after ledger roomy called_for changes drop counts steps costs = record {
+raise_costs app s keep list i j number from raise socket socket_after notes notes_after ledger called_for steps costs = record {
   interned = λ others c u.
       let made = called_at app s number from raise c in
-      let under = steps.stands others c (under_room keep others list socket notes ledger roomy c changes drop counts u) in
+      let under = steps.stands others c u in
       let asked : InternsWithin i j made.altered (changed_all s made.asked made).altered =
       subst (λ l. InternsWithin i j made.altered (changed_all s l made).altered) under.asked (costs.interned made under.active) in
       subst (λ n. InternsWithin i j n (changed_all s made.asked made).altered) (altered-called_at app s number from raise c) asked;
@@ -226,8 +223,8 @@ pub phase_failed : (app : Meaning) (s : ControlState) (keep : Bool) (number : �
     (list list_now : List Reg) (socket socket_now : SocketView) (notes notes_now : Notes) (ledger ledger_now : Ledger) (i j k : Option ℕ)
     → n < length events
     → Makes keep list socket notes ledger i list_now socket_now notes_now ledger_now j (phase app s number from (map at (take n events)))
-    → CostsUnder keep list_now socket_now notes_now ledger_now j k (raise_done app s number from (at (get_or events n 0)))
-    → CostsUnder keep list socket notes ledger i k (phase app s number from (map at events))
+    → CostsUnder keep list_now (state_of socket_now notes_now ledger_now) j k (raise_done app s number from (at (get_or events n 0)))
+    → CostsUnder keep list (state_of socket notes ledger) i k (phase app s number from (map at events))
 phase_failed app s keep number from at events n list list_now socket socket_now notes notes_now ledger ledger_now i j k within so_far one = record {
   interned = λ others c u.
       let front = map at (take n events) in

@@ -1,6 +1,5 @@
 -- Not of the headline. What the calls of a connection do, each said of what it finds and of what it leaves, with whatever is in force.
-use Rattle.std.specs.Prelude.{◌≡◌, ◌+◌, ◌<◌, ◌≤◌, ◌++◌, ℕ, Bool, Option, List, []}
-use Rattle.flow_socket.specs.View.{SocketView}
+use Rattle.std.specs.Prelude.{◌≡◌, ◌+◌, ◌^◌, ◌<◌, ◌≤◌, ◌++◌, ℕ, Bool, Option, List, []}
 use Rattle.app_api.specs.declared.registration.Reg.{Reg}
 use Rattle.app_api.specs.App.{Meaning}
 use Rattle.shared_forest.specs.declared.store.ForestView.{Ghosts as Store}
@@ -18,7 +17,7 @@ use Rattle.connection_core.specs.declared.arrival.Arrived.{Arrived}
 use Rattle.connection_core.specs.InForce.{registered, IsInForce, ForControl}
 use Rattle.connection_core.specs.PacketUnderWay.{PacketUnderWay}
 use Rattle.connection_core.specs.History.{History, sender_phase, receiver_phase, received_unless, followed, verdict, drops_of, is_over}
-use Rattle.connection_core.specs.Standing.{IsNoted, IsConnection, IsUnder, Steps, Alters, Costs, CostsUnder, Makes, RiseBy}
+use Rattle.connection_core.specs.Standing.{IsNoted, IsConnection, IsUnder, CallbackState, state_of, Steps, Alters, Costs, CostsUnder, Makes, IsAsFar, RiseBy}
 use Rattle.connection_core.specs.Trees.{list_in_force, IsForestInForce, InternsWithin}
 
 -- ---- what an arrived packet makes of a connection
@@ -41,37 +40,50 @@ followed_by app s arrived h = followed app s arrived.number arrived.from arrived
 
 -- ---- changes of the tree at a place in a store
 
--- this step makes one private list of another
-abbrev pub AltersTree : {S : Type 0} → Store S → InForce → S → Shared → S → Shared → (ControlState → PacketUnderWay → PacketUnderWay) → Type 0
-AltersTree store lent old forest new forest_after step = ForControl lent (λ s.
-    Alters (list_in_force lent (store.content old forest)) (list_in_force lent (store.content new forest_after)) (store.interns old) (store.interns new) (step s))
+module _ {S : Type 0} (store : Store S) (lent : InForce) where
+  -- the store answered the tree of this place, and by it registrations are called
+  pub record IsHeld (forests : S) (place : Shared) : Type 0 where
+    pub answered : store.answered forests place
+    pub forest : IsForestInForce lent (store.content forests place)
 
--- this step may have failed on its way
-abbrev pub CostsTree : {S : Type 0} → Store S → InForce → S → Shared → S → (ControlState → PacketUnderWay → PacketUnderWay) → Type 0
-CostsTree store lent old forest new step = ForControl lent (λ s.
-    Costs (list_in_force lent (store.content old forest)) (store.interns old) (store.interns new) (step s))
+  -- that of its place after changes is held too, and what the store answered before stays
+  pub record StaysHeld (old new : S) (place : Shared) : Type 0 where
+    pub held : IsHeld new place
+    pub kept : Keeps store.answered store.content old new
+
+  -- this step makes one private list of another
+  abbrev pub AltersTree : S → Shared → S → Shared → (ControlState → PacketUnderWay → PacketUnderWay) → Type 0
+  AltersTree old forest new forest_after step = ForControl lent (λ s.
+      Alters (list_in_force lent (store.content old forest)) (list_in_force lent (store.content new forest_after)) (store.interns old) (store.interns new) (step s))
+
+  -- this step may have failed on its way
+  abbrev pub CostsTree : S → Shared → S → (ControlState → PacketUnderWay → PacketUnderWay) → Type 0
+  CostsTree old forest new step = ForControl lent (λ s.
+      Costs (list_in_force lent (store.content old forest)) (store.interns old) (store.interns new) (step s))
 
 -- ---- callbacks
 
--- they are this step of a packet under way, over this private list
-abbrev pub StepsInForce : Bool → InForce → List Reg → SocketView → Notes → Ledger → SocketView → Notes → Ledger → (ControlState → PacketUnderWay → PacketUnderWay) → Type 0
-StepsInForce keep lent list socket notes ledger socket_after notes_after ledger_after step = ForControl lent (λ s.
-    Steps keep list socket notes ledger socket_after notes_after ledger_after (step s))
+-- there is room for more callbacks
+pub record HasRoom (limit : ℕ) (counts : Counts) : Type 0 where
+  pub callbacks : counts.callbacks < limit
+  pub weight : counts.weight < limit
+
+-- callbacks may be made over this tree: by it registrations are called, and there is room
+pub record MayCall (lent : InForce) (limit : ℕ) (tree : TreeLists) (counts : Counts) : Type 0 where
+  pub forest : IsForestInForce lent tree
+  pub room : HasRoom limit counts
+
+-- at most so many were made, and they left how far the streams have come
+pub record CallsAtMost (most : ℕ) (old new : CallbackState) : Type 0 where
+  pub rise : RiseBy most old.ledger.counts new.ledger.counts
+  pub as_far : IsAsFar old.socket new.socket
 
 -- what is noted is what this history has come to
 abbrev pub IsNotedOf : Bool → Counts → History → Notes → Ledger → Type 0
 IsNotedOf keep others h notes ledger = IsNoted keep others h.tally h.entries notes ledger.counts
 
--- what holds of a packet of no connection, of which nothing is noted yet, where the tree names the registrations that are on
-abbrev pub ForOrphan : Meaning → Bool → InForce → TreeLists → Notes → Ledger → (ControlState → Counts → Type 0) → Type 0
-ForOrphan app keep lent tree notes ledger holds = (s : ControlState) (others : Counts) → IsInForce lent s
-    → list_in_force lent tree ≡ first_active s
-    → IsNoted keep others app.fresh [] notes ledger.counts → holds s others
-
--- ---- a connection
-
--- All that a call finds or leaves: what is kept of the connection, its tree and the interns so far, what is noted of its callbacks,
--- and what these ask.
+-- All that a call of a connection finds or leaves: what is kept of it, its tree and the interns so far, what is noted of its
+-- callbacks, and what these ask.
 pub record FlowState : Type 0 where
   pub flow : Flow
   pub tree : TreeLists
@@ -84,55 +96,75 @@ abbrev pub state_in : {S : Type 0} → Store S → S → Flow → Notes → Ledg
 state_in store at flow notes ledger =
     record { flow = flow; tree = store.content at flow.forest; interns = store.interns at; notes = notes; ledger = ledger }
 
--- what holds of a connection, whatever history this state stands for
-abbrev pub ForConnection : Bool → InForce → FlowState → (ControlState → Counts → History → Type 0) → Type 0
-ForConnection keep lent state holds = (s : ControlState) (others : Counts) (h : History) → IsInForce lent s
-    → IsConnection keep others (registered lent) state.tree state.flow state.notes state.ledger.counts h → holds s others h
+-- where entries are kept, or not, with what is in force
+module _ (keep : Bool) (lent : InForce) where
+  -- callbacks are this step of a packet under way, over this private list
+  abbrev pub StepsInForce : List Reg → CallbackState → CallbackState → (ControlState → PacketUnderWay → PacketUnderWay) → Type 0
+  StepsInForce list old new step = ForControl lent (λ s.
+      Steps keep list old.socket old.notes old.ledger new.socket new.notes new.ledger (step s))
 
--- what holds of a packet under way that follows a history, whatever this state stands for
-abbrev pub ForPacketUnderWay : Bool → InForce → FlowState → (ControlState → Counts → History → PacketUnderWay → Type 0) → Type 0
-ForPacketUnderWay keep lent state holds = (s : ControlState) (others : Counts) (h : History) (c : PacketUnderWay) → IsInForce lent s → state.flow.count ≡ h.count
-    → IsUnder keep others (list_in_force lent state.tree) state.flow.socket state.notes state.ledger c → holds s others h c
+  -- what holds of a packet of no connection, of which nothing is noted yet, where the tree names the registrations that are on
+  abbrev pub ForOrphan : Meaning → TreeLists → Notes → Ledger → (ControlState → Counts → Type 0) → Type 0
+  ForOrphan app tree notes ledger holds = (s : ControlState) (others : Counts) → IsInForce lent s
+      → list_in_force lent tree ≡ first_active s
+      → IsNoted keep others app.fresh [] notes ledger.counts → holds s others
 
--- a raise, or a phase, is this step of a packet under way
-abbrev pub MakesInForce : Bool → InForce → FlowState → FlowState → (ControlState → PacketUnderWay → PacketUnderWay) → Type 0
-MakesInForce keep lent old new step = ForControl lent (λ s.
-    Makes keep (list_in_force lent old.tree) old.flow.socket old.notes old.ledger old.interns
-    (list_in_force lent new.tree) new.flow.socket new.notes new.ledger new.interns (step s))
+  -- what holds of a connection, whatever history this state stands for
+  abbrev pub ForConnection : FlowState → (ControlState → Counts → History → Type 0) → Type 0
+  ForConnection state holds = (s : ControlState) (others : Counts) (h : History) → IsInForce lent s
+      → IsConnection keep others (registered lent) state.tree state.flow state.notes state.ledger.counts h → holds s others h
 
--- it may have failed on its way
-abbrev pub CostsInForce : Bool → InForce → FlowState → Option ℕ → (ControlState → PacketUnderWay → PacketUnderWay) → Type 0
-CostsInForce keep lent old interns_after step = ForControl lent (λ s.
-    CostsUnder keep (list_in_force lent old.tree) old.flow.socket old.notes old.ledger old.interns interns_after (step s))
+  -- what holds of a packet under way that follows a history, whatever this state stands for
+  abbrev pub ForPacketUnderWay : FlowState → (ControlState → Counts → History → PacketUnderWay → Type 0) → Type 0
+  ForPacketUnderWay state holds = (s : ControlState) (others : Counts) (h : History) (c : PacketUnderWay) → IsInForce lent s → state.flow.count ≡ h.count
+      → IsUnder keep others (list_in_force lent state.tree) state.flow.socket state.notes state.ledger c → holds s others h c
 
--- ---- what each call finds and leaves
+  -- a raise, or a phase, is this step of a packet under way, with the changes made that were asked
+  pub record MakesInForce (old new : FlowState) (step : ControlState → PacketUnderWay → PacketUnderWay) : Type 0 where
+    pub makes : ForControl lent (λ s.
+        Makes keep (list_in_force lent old.tree) old.flow.socket old.notes old.ledger old.interns
+        (list_in_force lent new.tree) new.flow.socket new.notes new.ledger new.interns (step s))
+    pub asked : new.ledger.changes.items ≡ []
 
--- there is room for more callbacks
-pub record HasRoom (limit : ℕ) (counts : Counts) : Type 0 where
-  pub callbacks : counts.callbacks < limit
-  pub weight : counts.weight < limit
+  -- it may have failed on its way
+  abbrev pub CostsInForce : FlowState → Option ℕ → (ControlState → PacketUnderWay → PacketUnderWay) → Type 0
+  CostsInForce old interns_after step = ForControl lent (λ s.
+      CostsUnder keep (list_in_force lent old.tree) (state_of old.flow.socket old.notes old.ledger) old.interns interns_after (step s))
 
--- a connection over a store, with the counts of all callbacks
+-- ---- what each call of a connection finds and leaves
+
+-- a connection over a store, with what callbacks ask and their counts
 pub record Holding (S : Type 0) : Type 0 where
   pub forests : S
   pub flow : Flow
-  pub counts : Counts
+  pub ledger : Ledger
 
 abbrev pub holding : {S : Type 0} → S → Flow → Ledger → Holding S
-holding forests flow ledger = record { forests = forests; flow = flow; counts = ledger.counts }
+holding forests flow ledger = record { forests = forests; flow = flow; ledger = ledger }
 
 module _ {S : Type 0} (store : Store S) (lent : InForce) where
-  -- the store answered the tree of its registrations, and by it these are called
-  pub record IsHeld (forests : S) (flow : Flow) : Type 0 where
-    pub answered : store.answered forests flow.forest
-    pub forest : IsForestInForce lent (store.content forests flow.forest)
+  -- its tree is held, and there is room for more callbacks
+  pub record IsReady (limit : ℕ) (state : Holding S) : Type 0 where
+    pub held : IsHeld store lent state.forests state.flow.forest
+    pub room : HasRoom limit state.ledger.counts
+
+  -- the same once a packet has been at its sender, with the changes made that were asked there
+  pub record HasSent (state : Holding S) : Type 0 where
+    pub ready : IsReady (2 ^ 61) state
+    pub quiet : state.ledger.changes.items ≡ []
+    pub count : state.flow.count < 2 ^ 30
 
   -- it went on, with at most so many callbacks and one packet more, and what the store answered before stays
   pub record Went (most : ℕ) (old new : Holding S) : Type 0 where
-    pub held : IsHeld new.forests new.flow
+    pub held : IsHeld store lent new.forests new.flow.forest
     pub kept : Keeps store.answered store.content old.forests new.forests
-    pub rise : RiseBy most old.counts new.counts
+    pub rise : RiseBy most old.ledger.counts new.ledger.counts
     pub count : new.flow.count ≤ old.flow.count + 1
+
+  -- the same of its callbacks alone, which are of one packet
+  pub record MadeCalls (most : ℕ) (old new : Holding S) : Type 0 where
+    pub went : Went most old new
+    pub count : new.flow.count ≡ old.flow.count
 
 -- A packet made its step: whatever history stood for the connection, the one after it does, with at most one intern for each
 -- alteration; and this is what the packet did.

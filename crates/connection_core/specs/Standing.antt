@@ -1,5 +1,5 @@
 -- Not of the headline. What is kept for a connection and noted of its callbacks, and which histories and packets under way it stands for.
-use Rattle.std.specs.Prelude.{◌≡◌, ℕ, ◌+◌, ◌*◌, ◌≤◌, Bool, Option, List, [], ◌∷◌, ◌++◌, length, if◌then◌else◌}
+use Rattle.std.specs.Prelude.{◌≡◌, ℕ, ◌+◌, ◌*◌, ◌≤◌, Bool, Option, None, List, [], ◌∷◌, ◌++◌, length, if◌then◌else◌}
 use Rattle.tcp_emulation.specs.declared.segment.Side.{Side}
 use Rattle.tcp_emulation.specs.declared.segment.Side.TheVariants.{Client, Server}
 use Rattle.flow_socket.specs.Emulation.{Emulation}
@@ -48,6 +48,27 @@ pub record IsUnder (keep : Bool) (others : Counts) (list : List Reg) (socket : S
   pub asked : ledger.changes.items ≡ c.asked
   pub drop : ledger.drop ≡ c.drop
 
+-- what callbacks find or leave: the streams, what is noted of them, and what they ask
+pub record CallbackState : Type 0 where
+  pub socket : SocketView
+  pub notes : Notes
+  pub ledger : Ledger
+
+abbrev pub state_of : SocketView → Notes → Ledger → CallbackState
+state_of socket notes ledger = record { socket = socket; notes = notes; ledger = ledger }
+
+-- a packet begins, for which nothing was asked yet
+pub record IsBegun (old new : Ledger) : Type 0 where
+  pub changes : new.changes.items ≡ []
+  pub drop : new.drop ≡ None
+  pub counts : new.counts ≡ old.counts
+
+-- a ledger with the same content
+pub record HasSame (old new : Ledger) : Type 0 where
+  pub changes : new.changes.items ≡ old.changes.items
+  pub drop : new.drop ≡ old.drop
+  pub counts : new.counts ≡ old.counts
+
 -- what stood for a packet under way stands for the one that this step makes of it
 pub record Steps (keep : Bool) (list : List Reg) (socket : SocketView) (notes : Notes) (ledger : Ledger) (socket_after : SocketView)
     (notes_after : Notes) (ledger_after : Ledger) (step : PacketUnderWay → PacketUnderWay) : Type 0 where
@@ -64,8 +85,8 @@ pub record Costs (list : List Reg) (interns interns_after : Option ℕ) (step : 
   pub interned : (c : PacketUnderWay) → c.active ≡ list → InternsWithin interns interns_after c.altered (step c).altered
 
 -- the same of a step of whatever a ledger stands for
-pub record CostsUnder (keep : Bool) (list : List Reg) (socket : SocketView) (notes : Notes) (ledger : Ledger) (interns interns_after : Option ℕ) (step : PacketUnderWay → PacketUnderWay) : Type 0 where
-  pub interned : (others : Counts) (c : PacketUnderWay) → IsUnder keep others list socket notes ledger c → InternsWithin interns interns_after c.altered (step c).altered
+pub record CostsUnder (keep : Bool) (list : List Reg) (state : CallbackState) (interns interns_after : Option ℕ) (step : PacketUnderWay → PacketUnderWay) : Type 0 where
+  pub interned : (others : Counts) (c : PacketUnderWay) → IsUnder keep others list state.socket state.notes state.ledger c → InternsWithin interns interns_after c.altered (step c).altered
 
 -- a packet has come to this, with at most one intern for each alteration since the list was altered so often
 pub record Reached (keep : Bool) (others : Counts) (list : List Reg) (socket : SocketView) (notes : Notes) (ledger : Ledger)
@@ -125,6 +146,7 @@ Sees socket from peek seen = (e : Emulation) → SocketStandsFor socket e → se
 abbrev pub SeesSoMany : SocketView → Side → PeekSpec → ℕ → Type 0
 SeesSoMany socket from peek got = (e : Emulation) → SocketStandsFor socket e → got ≡ bytes_seen (seen_by from peek e)
 
--- it moved the marks as this peek moves them
-abbrev pub PeeksOn : SocketView → Side → PeekSpec → SocketView → Type 0
-PeeksOn socket from peek socket_after = (e : Emulation) → SocketStandsFor socket e → SocketStandsFor socket_after (after_seen from peek e)
+-- it moved the marks as this peek moves them, and nothing else
+pub record PeeksOn (old : SocketView) (from : Side) (peek : PeekSpec) (new : SocketView) : Type 0 where
+  pub marks : (e : Emulation) → SocketStandsFor old e → SocketStandsFor new (after_seen from peek e)
+  pub as_far : IsAsFar old new

@@ -4,10 +4,10 @@ ghost use Rattle.std.specs.Prelude.{◌≡◌, ◌≤◌, ◌<◌, ◌+◌, ◌*
 ghost use Rattle.app_api.specs.Reg.{peek_fits, reg_of};
 ghost use Rattle.app_api.specs.declared.registration.Reg.{Reg as RegOf};
 ghost use Rattle.connection_core.specs.PacketUnderWay.{called, called_at, raised};
-ghost use Rattle.connection_core.specs.Trees.{list_in_force, IsForestInForce};
+ghost use Rattle.connection_core.specs.Trees.{list_in_force};
 ghost use Rattle.connection_core.specs.Numbers.{called_by};
-ghost use Rattle.connection_core.specs.Standing.{IsAsFar, RiseBy, raise_of, at_raise, in_phase};
-ghost use Rattle.connection_core.specs.Calls.{StepsInForce};
+ghost use Rattle.connection_core.specs.Standing.{state_of, raise_of, at_raise, in_phase};
+ghost use Rattle.connection_core.specs.Calls.{HasRoom, MayCall, CallsAtMost, StepsInForce};
 
 use crate::arrival::{Phase, RaiseAt};
 use crate::hearing::hearers;
@@ -18,7 +18,7 @@ use app_api::{App, Entry, Hearers, Reg, Seen};
 use event_trees::{Walk, later_events_change_nothing, slots_in_order};
 use flow_socket::FlowSocket;
 use shared_forest::Tree;
-use std::alloc::{AllocError, Global};
+use std::alloc::AllocError;
 
 /// The most changes that a raise asks: four at each of 255 registrations.
 const MOST: usize = 4 * 255;
@@ -27,7 +27,6 @@ impl<A: App> Terms<'_, A> {
     // One callback: it peeks, leaves an entry where these are kept, and reacts.
     fn call(
         &self,
-        alloc: Global,
         raise_at: &RaiseAt,
         reg: &Reg,
         socket: &mut FlowSocket,
@@ -35,15 +34,13 @@ impl<A: App> Terms<'_, A> {
         ledger: &mut Ledger,
     ) -> Result<(), AllocError>
         requires peek { IsTrue (peek_fits reg.now.peek) }
-        requires callbacks { ledger.old.counts.callbacks < 2 ^ 63 }
-        requires weight { ledger.old.counts.weight < 2 ^ 63 }
+        requires room { HasRoom (2 ^ 63) ledger.old.counts }
         ensures stands { OnOk result ((list : List RegOf) → StepsInForce self.now.keep self.now.in_force list
-            socket.old notes.old ledger.old socket.new notes.new ledger.new
+            (state_of socket.old notes.old ledger.old) (state_of socket.new notes.new ledger.new)
             (λ s c. at_raise (called (A.meaning self.now.app.now) s) raise_at.now c reg.now)) }
-        ensures rise { RiseBy 1 ledger.old.counts ledger.new.counts }
-        ensures as_far { IsAsFar socket.old socket.new }
+        ensures most { CallsAtMost 1 (state_of socket.old notes.old ledger.old) (state_of socket.new notes.new ledger.new) }
     {
-        let look = look(alloc, self.keep, socket, raise_at.from, &reg.peek)?;
+        let look = look(self.alloc, self.keep, socket, raise_at.from, &reg.peek)?;
         let reaction = self.react(raise_at, reg, look.got, &mut notes.tally);
         ledger.count(look.got);
         ledger.ask(&reaction)?;
@@ -53,23 +50,20 @@ impl<A: App> Terms<'_, A> {
     // The callback of the registration with a number.
     fn call_number(
         &self,
-        alloc: Global,
         raise_at: &RaiseAt,
         number: u8,
         socket: &mut FlowSocket,
         notes: &mut Notes,
         ledger: &mut Ledger,
     ) -> Result<(), AllocError>
-        requires callbacks { ledger.old.counts.callbacks < 2 ^ 63 }
-        requires weight { ledger.old.counts.weight < 2 ^ 63 }
+        requires room { HasRoom (2 ^ 63) ledger.old.counts }
         ensures stands { OnOk result ((list : List RegOf) → StepsInForce self.now.keep self.now.in_force list
-            socket.old notes.old ledger.old socket.new notes.new ledger.new
+            (state_of socket.old notes.old ledger.old) (state_of socket.new notes.new ledger.new)
             (λ s c. at_raise (called_by (A.meaning self.now.app.now) s) raise_at.now c (reg_of s.regs number))) }
-        ensures rise { RiseBy 1 ledger.old.counts ledger.new.counts }
-        ensures as_far { IsAsFar socket.old socket.new }
+        ensures most { CallsAtMost 1 (state_of socket.old notes.old ledger.old) (state_of socket.new notes.new ledger.new) }
     {
         match self.in_force.reg_at(number) {
-            Some(reg) => self.call(alloc, raise_at, reg, socket, notes, ledger),
+            Some(reg) => self.call(raise_at, reg, socket, notes, ledger),
             None => Ok(()),
         }
     }
@@ -78,21 +72,17 @@ impl<A: App> Terms<'_, A> {
     #[inline(never)]
     fn walk(
         &self,
-        alloc: Global,
         tree: &Tree,
         raise_at: RaiseAt,
         socket: &mut FlowSocket,
         notes: &mut Notes,
         ledger: &mut Ledger,
     ) -> Result<(), AllocError>
-        requires forest { IsForestInForce self.now.in_force tree.now }
-        requires callbacks { ledger.old.counts.callbacks < 2 ^ 62 }
-        requires weight { ledger.old.counts.weight < 2 ^ 62 }
-        ensures stands { OnOk result (StepsInForce self.now.keep self.now.in_force
-            (list_in_force self.now.in_force tree.now) socket.old notes.old ledger.old socket.new notes.new ledger.new
+        requires ready { MayCall self.now.in_force (2 ^ 62) tree.now ledger.old.counts }
+        ensures stands { OnOk result (StepsInForce self.now.keep self.now.in_force (list_in_force self.now.in_force tree.now)
+            (state_of socket.old notes.old ledger.old) (state_of socket.new notes.new ledger.new)
             (λ s. at_raise (called_at (A.meaning self.now.app.now) s) raise_at.entry)) }
-        ensures rise { RiseBy 255 ledger.old.counts ledger.new.counts }
-        ensures as_far { IsAsFar socket.old socket.new }
+        ensures most { CallsAtMost 255 (state_of socket.old notes.old ledger.old) (state_of socket.new notes.new ledger.new) }
     {
         let defs = self.in_force.defs();
         slots_in_order(tree);
@@ -100,7 +90,7 @@ impl<A: App> Terms<'_, A> {
         let facts = raise_at.source.facts();
         let mut walk = Walk::start(tree, raise_at.hook, raise_at.event, &facts);
         while let Some(number) = walk.next(defs, self.natives) {
-            self.call_number(alloc, &raise_at, number, socket, notes, ledger)?;
+            self.call_number(&raise_at, number, socket, notes, ledger)?;
         }
         Ok(())
     }
@@ -110,30 +100,24 @@ impl<A: App> Terms<'_, A> {
     /// changes that may be asked; it is still there at the next one.
     pub(crate) fn call_at(
         &self,
-        alloc: Global,
         tree: &Tree,
         raise_at: &RaiseAt,
         socket: &mut FlowSocket,
         notes: &mut Notes,
         ledger: &mut Ledger,
     ) -> Result<(), AllocError>
-        requires forest { IsForestInForce self.now.in_force tree.now }
-        requires callbacks { ledger.old.counts.callbacks < 2 ^ 62 }
-        requires weight { ledger.old.counts.weight < 2 ^ 62 }
-        ensures stands { OnOk result (StepsInForce self.now.keep self.now.in_force
-            (list_in_force self.now.in_force tree.now) socket.old notes.old ledger.old socket.new notes.new ledger.new
+        requires ready { MayCall self.now.in_force (2 ^ 62) tree.now ledger.old.counts }
+        ensures stands { OnOk result (StepsInForce self.now.keep self.now.in_force (list_in_force self.now.in_force tree.now)
+            (state_of socket.old notes.old ledger.old) (state_of socket.new notes.new ledger.new)
             (λ s. at_raise (called_at (A.meaning self.now.app.now) s) raise_at.now)) }
-        ensures rise { RiseBy 255 ledger.old.counts ledger.new.counts }
-        ensures as_far { IsAsFar socket.old socket.new }
+        ensures most { CallsAtMost 255 (state_of socket.old notes.old ledger.old) (state_of socket.new notes.new ledger.new) }
     {
         match hearers(&self.in_force, tree, raise_at.hook, raise_at.event) {
             Hearers::Nobody => Ok(()),
-            Hearers::One(number) => {
-                self.call_number(alloc, raise_at, number, socket, notes, ledger)
-            }
+            Hearers::One(number) => { self.call_number(raise_at, number, socket, notes, ledger) }
             Hearers::More => {
                 ledger.make_room(MOST)?;
-                self.walk(alloc, tree, *raise_at, socket, notes, ledger)
+                self.walk(tree, *raise_at, socket, notes, ledger)
             }
         }
     }
@@ -142,25 +126,21 @@ impl<A: App> Terms<'_, A> {
     /// aren't made.
     pub(crate) fn raise_all(
         &self,
-        alloc: Global,
         tree: &Tree,
         phase: &Phase,
         socket: &mut FlowSocket,
         notes: &mut Notes,
         ledger: &mut Ledger,
     ) -> Result<(), AllocError>
-        requires forest { IsForestInForce self.now.in_force tree.now }
-        requires callbacks { ledger.old.counts.callbacks < 2 ^ 61 }
-        requires weight { ledger.old.counts.weight < 2 ^ 61 }
-        ensures stands { OnOk result (StepsInForce self.now.keep self.now.in_force
-            (list_in_force self.now.in_force tree.now) socket.old notes.old ledger.old socket.new notes.new ledger.new
+        requires ready { MayCall self.now.in_force (2 ^ 61) tree.now ledger.old.counts }
+        ensures stands { OnOk result (StepsInForce self.now.keep self.now.in_force (list_in_force self.now.in_force tree.now)
+            (state_of socket.old notes.old ledger.old) (state_of socket.new notes.new ledger.new)
             (λ s. in_phase (raised (A.meaning self.now.app.now) s) phase.now)) }
-        ensures rise { RiseBy 1530 ledger.old.counts ledger.new.counts }
-        ensures as_far { IsAsFar socket.old socket.new }
+        ensures most { CallsAtMost 1530 (state_of socket.old notes.old ledger.old) (state_of socket.new notes.new ledger.new) }
     {
         for event in phase.raising.events.as_slice() {
             let raise_at = phase.raise_at(*event);
-            self.call_at(alloc, tree, &raise_at, socket, notes, ledger)?;
+            self.call_at(tree, &raise_at, socket, notes, ledger)?;
         }
         Ok(())
     }

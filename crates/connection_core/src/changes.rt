@@ -2,10 +2,8 @@
 
 ghost use Rattle.std.specs.Prelude.{◌≡◌, ◌==◌, OnOk, OnErr};
 ghost use Rattle.std.specs.List.{list_any};
-ghost use Rattle.shared_forest.specs.Store.{Keeps};
 ghost use Rattle.connection_core.specs.PacketUnderWay.{is_so, changed, changed_all};
-ghost use Rattle.connection_core.specs.Trees.{IsForestInForce};
-ghost use Rattle.connection_core.specs.Calls.{AltersTree, CostsTree};
+ghost use Rattle.connection_core.specs.Calls.{IsHeld, StaysHeld, AltersTree, CostsTree};
 
 use crate::in_force::InForce;
 use app_api::Change1;
@@ -39,11 +37,8 @@ fn change<F: Forests>(
     forest: &mut Shared,
     change: Change1,
 ) -> Result<(), AllocError>
-    requires answered { F.answered forests.old forest.old }
-    requires forest { IsForestInForce in_force.now (F.content forests.old forest.old) }
-    ensures answered { F.answered forests.new forest.new }
-    ensures forest { IsForestInForce in_force.now (F.content forests.new forest.new) }
-    ensures kept { Keeps F.answered F.content forests.old forests.new }
+    requires held { IsHeld F.ForestView in_force.now forests.old forest.old }
+    ensures stays { StaysHeld F.ForestView in_force.now forests.old forests.new forest.new }
     ensures made { OnOk result (AltersTree F.ForestView in_force.now forests.old forest.old
         forests.new forest.new (λ s. changed s change)) }
     ensures err { OnErr result (forests.new ≡ forests.old) }
@@ -72,11 +67,8 @@ pub(crate) fn change_all<F: Forests>(
     forest: &mut Shared,
     changes: &[Change1],
 ) -> Result<(), AllocError>
-    requires answered { F.answered forests.old forest.old }
-    requires forest { IsForestInForce in_force.now (F.content forests.old forest.old) }
-    ensures answered { F.answered forests.new forest.new }
-    ensures forest { IsForestInForce in_force.now (F.content forests.new forest.new) }
-    ensures kept { Keeps F.answered F.content forests.old forests.new }
+    requires held { IsHeld F.ForestView in_force.now forests.old forest.old }
+    ensures stays { StaysHeld F.ForestView in_force.now forests.old forests.new forest.new }
     ensures made { OnOk result (AltersTree F.ForestView in_force.now forests.old forest.old
         forests.new forest.new (λ s. changed_all s changes.now)) }
     ensures failed { OnErr result (CostsTree F.ForestView in_force.now forests.old forest.old

@@ -48,7 +48,7 @@ impl Flow {
     ghost use Rattle.connection_core.specs.Standing.{IsFlow, Reached, Stepped, at_raise, in_phase};
     ghost use Rattle.connection_core.specs.Calls.{phase_sending, phase_receiving, gone_on, followed_by};
     ghost use Rattle.connection_core.specs.Calls.{state_in, ForConnection, ForPacketUnderWay, MakesInForce, CostsInForce};
-    ghost use Rattle.connection_core.specs.Calls.{IsHeld, HasRoom, holding, Went, StepsTo};
+    ghost use Rattle.connection_core.specs.Calls.{holding, IsHeld, HasRoom, IsReady, HasSent, Went, MadeCalls, StepsTo};
 
     /// A connection before its first packet, with the tree of the registrations that are on at its start. It takes no memory.
     pub fn new(alloc: Global, in_force: &InForce, forest: Shared) -> Flow
@@ -70,16 +70,14 @@ impl Flow {
     #[inline(always)]
     fn raise<A: App, F: Forests>(
         &mut self,
-        alloc: Global,
         terms: &Terms<A>,
         forests: &mut F,
         raise_at: &RaiseAt,
         notes: &mut Notes,
         ledger: &mut Ledger,
     ) -> Result<(), AllocError>
-        requires held { IsHeld F.ForestView terms.now.in_force forests.old self.old }
-        requires room { HasRoom (2 ^ 62) ledger.old.counts }
-        ensures went { Went F.ForestView terms.now.in_force 255
+        requires ready { IsReady F.ForestView terms.now.in_force (2 ^ 62) (holding forests.old self.old ledger.old) }
+        ensures made_calls { MadeCalls F.ForestView terms.now.in_force 255
             (holding forests.old self.old ledger.old) (holding forests.new self.new ledger.new) }
         ensures made { OnOk result (MakesInForce terms.now.keep terms.now.in_force
             (state_in F.ForestView forests.old self.old notes.old ledger.old)
@@ -88,16 +86,14 @@ impl Flow {
         ensures failed { OnErr result (CostsInForce terms.now.keep terms.now.in_force
             (state_in F.ForestView forests.old self.old notes.old ledger.old) (F.interns forests.new)
             (λ s. at_raise (raise_done (A.meaning terms.now.app.now) s) raise_at.now)) }
-        ensures asked { OnOk result (ledger.new.changes.items ≡ []) }
-        ensures count { self.new.count ≡ self.old.count }
     {
         let tree = forests.tree_of(&self.forest);
-        terms.call_at(alloc, tree, raise_at, &mut self.socket, notes, ledger)?;
+        terms.call_at(tree, raise_at, &mut self.socket, notes, ledger)?;
         if ledger.asks_no_change() {
             return Ok(());
         }
         change_all(
-            alloc,
+            terms.alloc,
             &terms.in_force,
             forests,
             &mut self.forest,
@@ -111,17 +107,15 @@ impl Flow {
     #[inline(always)]
     fn make<A: App, F: Forests>(
         &mut self,
-        alloc: Global,
         terms: &Terms<A>,
         forests: &mut F,
         phase: &Phase,
         notes: &mut Notes,
         ledger: &mut Ledger,
     ) -> Result<(), AllocError>
-        requires held { IsHeld F.ForestView terms.now.in_force forests.old self.old }
-        requires room { HasRoom (2 ^ 61) ledger.old.counts }
+        requires ready { IsReady F.ForestView terms.now.in_force (2 ^ 61) (holding forests.old self.old ledger.old) }
         requires quiet { ledger.old.changes.items ≡ [] }
-        ensures went { Went F.ForestView terms.now.in_force 1530
+        ensures made_calls { MadeCalls F.ForestView terms.now.in_force 1530
             (holding forests.old self.old ledger.old) (holding forests.new self.new ledger.new) }
         ensures made { OnOk result (MakesInForce terms.now.keep terms.now.in_force
             (state_in F.ForestView forests.old self.old notes.old ledger.old)
@@ -130,12 +124,10 @@ impl Flow {
         ensures failed { OnErr result (CostsInForce terms.now.keep terms.now.in_force
             (state_in F.ForestView forests.old self.old notes.old ledger.old) (F.interns forests.new)
             (λ s. in_phase (made (A.meaning terms.now.app.now) s) phase.now)) }
-        ensures asked { OnOk result (ledger.new.changes.items ≡ []) }
-        ensures count { self.new.count ≡ self.old.count }
     {
         for event in phase.raising.events.as_slice() {
             let raise_at = phase.raise_at(*event);
-            self.raise(alloc, terms, forests, &raise_at, notes, ledger)?;
+            self.raise(terms, forests, &raise_at, notes, ledger)?;
         }
         Ok(())
     }
@@ -143,16 +135,14 @@ impl Flow {
     // The packet's phase at its sender.
     fn send<A: App, F: Forests>(
         &mut self,
-        alloc: Global,
         terms: &Terms<A>,
         forests: &mut F,
         arrived: &Arrived,
         notes: &mut Notes,
         ledger: &mut Ledger,
     ) -> Result<(), AllocError>
-        requires held { IsHeld F.ForestView terms.now.in_force forests.old self.old }
-        requires room { HasRoom (2 ^ 61) ledger.old.counts }
-        ensures went { Went F.ForestView terms.now.in_force 1530
+        requires ready { IsReady F.ForestView terms.now.in_force (2 ^ 61) (holding forests.old self.old ledger.old) }
+        ensures made_calls { MadeCalls F.ForestView terms.now.in_force 1530
             (holding forests.old self.old ledger.old) (holding forests.new self.new ledger.new) }
         ensures stands { OnOk result (ForConnection terms.now.keep terms.now.in_force
             (state_in F.ForestView forests.old self.old notes.old ledger.old)
@@ -164,7 +154,6 @@ impl Flow {
             (λ s others h. InternsWithin (F.interns forests.old) (F.interns forests.new)
             h.altered (phase_sending (A.meaning terms.now.app.now) s arrived.now h).altered)) }
         ensures asked { OnOk result (ledger.new.changes.items ≡ []) }
-        ensures count { self.new.count ≡ self.old.count }
     {
         ledger.begin();
         let sent = self.socket.send(arrived.from, arrived.head, arrived.scale);
@@ -178,23 +167,19 @@ impl Flow {
             from: arrived.from,
             raising,
         };
-        self.make(alloc, terms, forests, &phase, notes, ledger)
+        self.make(terms, forests, &phase, notes, ledger)
     }
 
     // Its phase at its receiver.
     fn receive<A: App, F: Forests>(
         &mut self,
-        alloc: Global,
         terms: &Terms<A>,
         forests: &mut F,
         arrived: &Arrived,
         notes: &mut Notes,
         ledger: &mut Ledger,
     ) -> Result<(), AllocError>
-        requires count { self.old.count < 2 ^ 30 }
-        requires held { IsHeld F.ForestView terms.now.in_force forests.old self.old }
-        requires room { HasRoom (2 ^ 61) ledger.old.counts }
-        requires quiet { ledger.old.changes.items ≡ [] }
+        requires sent { HasSent F.ForestView terms.now.in_force (holding forests.old self.old ledger.old) }
         ensures went { Went F.ForestView terms.now.in_force 1530
             (holding forests.old self.old ledger.old) (holding forests.new self.new ledger.new) }
         ensures stands { OnOk result (MakesInForce terms.now.keep terms.now.in_force
@@ -224,23 +209,19 @@ impl Flow {
             from: arrived.from,
             raising: raising_at_receiver(arrived.head, arrived.from, nth, &got),
         };
-        self.make(alloc, terms, forests, &phase, notes, ledger)
+        self.make(terms, forests, &phase, notes, ledger)
     }
 
     // What is left of a packet after its phase at its sender: where it was dropped it never comes to its receiver.
     fn go_on<A: App, F: Forests>(
         &mut self,
-        alloc: Global,
         terms: &Terms<A>,
         forests: &mut F,
         arrived: &Arrived,
         notes: &mut Notes,
         ledger: &mut Ledger,
     ) -> Result<(), AllocError>
-        requires count { self.old.count < 2 ^ 30 }
-        requires held { IsHeld F.ForestView terms.now.in_force forests.old self.old }
-        requires room { HasRoom (2 ^ 61) ledger.old.counts }
-        requires quiet { ledger.old.changes.items ≡ [] }
+        requires sent { HasSent F.ForestView terms.now.in_force (holding forests.old self.old ledger.old) }
         ensures went { Went F.ForestView terms.now.in_force 1530
             (holding forests.old self.old ledger.old) (holding forests.new self.new ledger.new) }
         ensures stands { OnOk result (ForPacketUnderWay terms.now.keep terms.now.in_force
@@ -255,7 +236,7 @@ impl Flow {
     {
         match ledger.drop {
             None => {
-                self.receive(alloc, terms, forests, arrived, notes, ledger)?;
+                self.receive(terms, forests, arrived, notes, ledger)?;
                 Ok(())
             }
             Some(_) => {
@@ -268,7 +249,6 @@ impl Flow {
     /// One more packet, and its callbacks.
     pub fn step<A: App, F: Forests>(
         &mut self,
-        alloc: Global,
         terms: &Terms<A>,
         forests: &mut F,
         arrived: &Arrived,
@@ -276,7 +256,7 @@ impl Flow {
         ledger: &mut Ledger,
     ) -> Result<Step, AllocError>
         requires count { self.old.count < 2 ^ 30 }
-        requires held { IsHeld F.ForestView terms.now.in_force forests.old self.old }
+        requires held { IsHeld F.ForestView terms.now.in_force forests.old self.old.forest }
         requires room { HasRoom (2 ^ 60) ledger.old.counts }
         ensures went { Went F.ForestView terms.now.in_force 3060
             (holding forests.old self.old ledger.old) (holding forests.new self.new ledger.new) }
@@ -290,9 +270,9 @@ impl Flow {
             (λ s others h. InternsWithin (F.interns forests.old) (F.interns forests.new)
             h.altered (followed_by (A.meaning terms.now.app.now) s arrived.now h).altered)) }
     {
-        self.send(alloc, terms, forests, arrived, notes, ledger)?;
+        self.send(terms, forests, arrived, notes, ledger)?;
         let verdict = verdict_of(ledger.drop);
-        self.go_on(alloc, terms, forests, arrived, notes, ledger)?;
+        self.go_on(terms, forests, arrived, notes, ledger)?;
         Ok(Step {
             over: self.socket.is_over(),
             verdict,

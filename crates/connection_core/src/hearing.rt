@@ -27,24 +27,18 @@ use native_filters::Hook;
 use packet_views::Head;
 use shared_forest::Tree;
 
-// What isn't heard over the tree of a private list calls nothing. It does nothing.
-fn unheard_calls_nothing(in_force: &InForce, tree: &Tree)
+// Over the tree of a private list, what isn't heard calls nothing, and where one registration alone hears a root's event, its
+// raise calls that one. It does nothing.
+fn raises_call_who_hears(in_force: &InForce, tree: &Tree)
     requires forest { IsForestInForce in_force.now tree.now }
-    ensures { (s : ControlState) (hook : HookOf) (event : ℕ) → IsInForce in_force.now s
+    ensures nobody { (s : ControlState) (hook : HookOf) (event : ℕ) → IsInForce in_force.now s
         → is_heard hook event (listing tree.now) ≡ false
         → (facts : Facts) → fires s.defs facts hook event (list_in_force in_force.now tree.now) ≡ [] }
-{
-    heard_where_registered(tree);
-    later_events_change_nothing(in_force.defs());
-}
-
-// Where one registration alone hears a root's event, its raise calls that one. It does nothing.
-fn one_hearer_is_named(in_force: &InForce, tree: &Tree)
-    requires forest { IsForestInForce in_force.now tree.now }
-    ensures { (s : ControlState) (hook : HookOf) (event : ℕ) (number : ℕ) → IsInForce in_force.now s
+    ensures one { (s : ControlState) (hook : HookOf) (event : ℕ) (number : ℕ) → IsInForce in_force.now s
         → IsTrue (is_root event) → hearers_of hook event (listing tree.now) ≡ Hearers.One number
         → (facts : Facts) → numbers_of (fires s.defs facts hook event (list_in_force in_force.now tree.now)) ≡ number ∷ [] }
 {
+    heard_where_registered(tree);
     one_hearer_is_called(tree);
     later_events_change_nothing(in_force.defs());
 }
@@ -58,8 +52,7 @@ pub(crate) fn hearers(in_force: &InForce, tree: &Tree, hook: Hook, event: u16) -
     ensures one { (number : ℕ) → result ≡ Hearers.One number → (s : ControlState) (facts : Facts) → IsInForce in_force.now s
         → CallsOne s (list_in_force in_force.now tree.now) (record { hook = hook; event = event; facts = facts }) number }
 {
-    unheard_calls_nothing(in_force, tree);
-    one_hearer_is_named(in_force, tree);
+    raises_call_who_hears(in_force, tree);
     if !is_built_in(event) {
         return Hearers::More;
     }
@@ -72,7 +65,7 @@ pub(crate) fn hears_sender(in_force: &InForce, tree: &Tree, first: bool, sent: &
     ensures { result ≡ false → (s : ControlState) (h : HeadOf) (from : Side) (nth : ℕ)
         → IsInForce in_force.now s → CallNothing s (list_in_force in_force.now tree.now) (sender_raises h from nth first sent.now) }
 {
-    unheard_calls_nothing(in_force, tree);
+    raises_call_who_hears(in_force, tree);
     is_heard_at_sender(tree.heard(Hook::Snd), first, sent)
 }
 
@@ -82,6 +75,6 @@ pub(crate) fn hears_receiver(in_force: &InForce, tree: &Tree, head: &Head, got: 
     ensures { result ≡ false → (s : ControlState) (from : Side) (nth : ℕ) → IsInForce in_force.now s
         → CallNothing s (list_in_force in_force.now tree.now) (receiver_raises head.now from nth got.now) }
 {
-    unheard_calls_nothing(in_force, tree);
+    raises_call_who_hears(in_force, tree);
     is_heard_at_receiver(tree.heard(Hook::Rcv), head, got)
 }

@@ -2,7 +2,7 @@
 
 ghost use Rattle.std.specs.Prelude.{◌≡◌, ◌+◌, ◌<◌, ◌≤◌, ◌^◌, ◌++◌, [], None, IsTrue, OnOk};
 ghost use Rattle.connection_core.specs.PacketUnderWay.{first_reason};
-ghost use Rattle.connection_core.specs.Standing.{kept_with};
+ghost use Rattle.connection_core.specs.Standing.{kept_with, IsBegun, HasSame};
 
 use app_api::{Change1, Entry, Reaction, Reason, Tally};
 use callback_log::CallbackLog;
@@ -85,9 +85,7 @@ impl Ledger {
     /// A packet begins, for which nothing was asked yet.
     #[inline(always)]
     pub(crate) fn begin(&mut self)
-        ensures changes { self.new.changes.items ≡ [] }
-        ensures drop { self.new.drop ≡ None }
-        ensures counts { self.new.counts ≡ self.old.counts }
+        ensures { IsBegun self.old self.new }
     {
         self.changes.clear();
         self.drop = None;
@@ -95,9 +93,7 @@ impl Ledger {
 
     /// Room for so many changes.
     pub(crate) fn make_room(&mut self, changes: usize) -> Result<(), AllocError>
-        ensures changes { self.new.changes.items ≡ self.old.changes.items }
-        ensures drop { self.new.drop ≡ self.old.drop }
-        ensures counts { self.new.counts ≡ self.old.counts }
+        ensures { HasSame self.old self.new }
     {
         self.changes.reserve(changes)
     }

@@ -6,7 +6,7 @@ ghost use Rattle.reassembly.specs.Kept.{bytes_from};
 ghost use Rattle.reassembly.specs.View.{StandsFor};
 ghost use Rattle.app_api.specs.Reg.{peek_fits};
 ghost use Rattle.app_api.specs.declared.registration.PeekSpec.TheVariants.{Next, At};
-ghost use Rattle.connection_core.specs.Standing.{IsAsFar, kept_with, Sees, SeesSoMany, PeeksOn};
+ghost use Rattle.connection_core.specs.Standing.{kept_with, Sees, SeesSoMany, PeeksOn};
 
 use app_api::{Bytes, PeekSpec, PieceList, Seen};
 use flow_socket::FlowSocket;
@@ -24,6 +24,7 @@ pub(crate) struct Looked {
     pub(crate) got: u32,
     /// Without its bytes where no entries are kept.
     pub(crate) seen: Seen,
+    ghost few: { got ≤ 256 },
 }
 
 /// Peeks. Bytes are copied only where they are to be kept.
@@ -38,9 +39,7 @@ pub(crate) fn look(
     requires { IsTrue (peek_fits peek.now) }
     ensures seen { IfOk result (λ look. keep ≡ true → Sees socket.old from peek.now look.seen) }
     ensures got { IfOk result (λ look. SeesSoMany socket.old from peek.now look.got) }
-    ensures few { IfOk result (λ look. look.got ≤ 256) }
     ensures stands { PeeksOn socket.old from peek.now socket.new }
-    ensures as_far { IsAsFar socket.old socket.new }
 {
     match *peek {
         PeekSpec::Nothing => Ok(Looked {
@@ -64,9 +63,7 @@ fn look_next(
     requires { len ≤ 256 }
     ensures seen { IfOk result (λ look. keep ≡ true → Sees socket.old from (Next len) look.seen) }
     ensures got { IfOk result (λ look. SeesSoMany socket.old from (Next len) look.got) }
-    ensures few { IfOk result (λ look. look.got ≤ 256) }
     ensures stands { PeeksOn socket.old from (Next len) socket.new }
-    ensures as_far { IsAsFar socket.old socket.new }
 {
     let mut room = [0; LONGEST];
     look_into(alloc, keep, socket, from, &mut room[..usize::from(len)])
@@ -83,9 +80,7 @@ fn look_into(
     requires { length buf.old ≤ 256 }
     ensures seen { IfOk result (λ look. keep ≡ true → Sees socket.old from (Next (length buf.old)) look.seen) }
     ensures got { IfOk result (λ look. SeesSoMany socket.old from (Next (length buf.old)) look.got) }
-    ensures few { IfOk result (λ look. look.got ≤ 256) }
     ensures stands { PeeksOn socket.old from (Next (length buf.old)) socket.new }
-    ensures as_far { IsAsFar socket.old socket.new }
 {
     let peeked = socket.peek(from, buf);
     let bytes = kept_bytes(alloc, keep, &buf[..peeked.len as usize])?;
@@ -126,7 +121,6 @@ fn look_at(
     requires { len ≤ 256 }
     ensures seen { IfOk result (λ look. keep ≡ true → Sees socket.now from (At off len) look.seen) }
     ensures got { IfOk result (λ look. SeesSoMany socket.now from (At off len) look.got) }
-    ensures few { IfOk result (λ look. look.got ≤ 256) }
 {
     let mut pieces = PieceList {
         items: Vec::new(alloc),

@@ -15,13 +15,12 @@ use app_api::{App, Verdict};
 use builtin_events::{FactSource, Raised, Raising};
 use flow_socket::FlowSocket;
 use shared_forest::{ForestView, Shared};
-use std::alloc::{AllocError, Global};
+use std::alloc::AllocError;
 use tcp_emulation::Side;
 
 /// The callbacks of a packet of no connection, over the tree of the registrations that are on. It is as if it belonged
 /// to a connection that heard nothing, and the changes that are asked come to nothing.
 pub fn orphan<A: App, F: ForestView>(
-    alloc: Global,
     terms: &Terms<A>,
     forests: &F,
     forest: &Shared,
@@ -34,14 +33,14 @@ pub fn orphan<A: App, F: ForestView>(
     requires forest { IsForestInForce terms.now.in_force (F.content forests.now forest.now) }
     requires callbacks { ledger.old.counts.callbacks < 2 ^ 60 }
     requires weight { ledger.old.counts.weight < 2 ^ 60 }
-    ensures stands { OnOk result (ForOrphan (A.meaning terms.now.app.now) terms.now.keep terms.now.in_force
+    ensures stands { OnOk result (ForOrphan terms.now.keep terms.now.in_force (A.meaning terms.now.app.now)
         (F.content forests.now forest.now) notes.old ledger.old
         (λ s others. IsNotedOf terms.now.keep others
         (orphan_history (A.meaning terms.now.app.now) s number (raises_of raised)) notes.new ledger.new)) }
-    ensures verdict { IfOk result (λ verdict. ForOrphan (A.meaning terms.now.app.now) terms.now.keep terms.now.in_force
+    ensures verdict { IfOk result (λ verdict. ForOrphan terms.now.keep terms.now.in_force (A.meaning terms.now.app.now)
         (F.content forests.now forest.now) notes.old ledger.old
         (λ s others. verdict ≡ orphan_verdict (A.meaning terms.now.app.now) s number (raises_of raised))) }
-    ensures drops { IfOk result (λ verdict. ForOrphan (A.meaning terms.now.app.now) terms.now.keep terms.now.in_force
+    ensures drops { IfOk result (λ verdict. ForOrphan terms.now.keep terms.now.in_force (A.meaning terms.now.app.now)
         (F.content forests.now forest.now) notes.old ledger.old
         (λ s others. (orphan_history (A.meaning terms.now.app.now) s number (raises_of raised)).drops ≡ drops_of verdict number)) }
     ensures rise { RiseBy 1530 ledger.old.counts ledger.new.counts }
@@ -61,8 +60,8 @@ pub fn orphan<A: App, F: ForestView>(
             events,
         },
     };
-    let mut socket = FlowSocket::new(alloc, terms.in_force.rbuf(), terms.in_force.policy());
+    let mut socket = FlowSocket::new(terms.alloc, terms.in_force.rbuf(), terms.in_force.policy());
     let tree = forests.tree_of(forest);
-    terms.raise_all(alloc, tree, &phase, &mut socket, notes, ledger)?;
+    terms.raise_all(tree, &phase, &mut socket, notes, ledger)?;
     Ok(verdict_of(ledger.drop))
 }

@@ -16,14 +16,13 @@ use app_api::{App, TIMER};
 use builtin_events::FactSource;
 use native_filters::{Facts, Hook};
 use shared_forest::ForestView;
-use std::alloc::{AllocError, Global};
+use std::alloc::AllocError;
 use tcp_emulation::Side;
 
 /// The callbacks of a connection that ended by idleness: those of one raise of `timer`, at the receiver's hook, with the
 /// number of the connection's last packet. They peek at the client's stream. The changes and drops that are asked come
 /// to nothing. Only what is noted of the record goes on.
 pub fn silence<A: App, F: ForestView>(
-    alloc: Global,
     terms: &Terms<A>,
     forests: &F,
     flow: Flow,
@@ -54,5 +53,5 @@ pub fn silence<A: App, F: ForestView>(
         source: FactSource::Made(facts),
     };
     let tree = forests.tree_of(&forest);
-    terms.call_at(alloc, tree, &raise_at, &mut socket, notes, ledger)
+    terms.call_at(tree, &raise_at, &mut socket, notes, ledger)
 }

@@ -9,10 +9,13 @@ use crate::arrival::RaiseAt;
 use crate::in_force::InForce;
 use app_api::{App, Call, Reaction, Reason, Reg, Tally};
 use native_filters::NativeBook;
+use std::alloc::Global;
 
 /// What callbacks run under.
 #[derive(Drop)]
 pub struct Terms<'a, A> {
+    /// Where memory is taken.
+    pub alloc: Global,
     pub app: &'a A,
     /// What is in force for the connection.
     pub in_force: InForce<'a>,

@@ -231,7 +231,6 @@ fn note(drops: &mut DropList, number: u64, verdict: Verdict) -> bool {
 
 // One packet more.
 fn follow(
-    alloc: Global,
     terms: &Terms<LogApp>,
     table: &mut Table,
     played: &mut Played,
@@ -272,7 +271,6 @@ fn follow(
         payload,
     };
     match played.flow.step(
-        alloc,
         terms,
         table,
         &arrived,
@@ -286,7 +284,6 @@ fn follow(
 
 // These packets more.
 fn follow_all(
-    alloc: Global,
     terms: &Terms<LogApp>,
     table: &mut Table,
     played: &mut Played,
@@ -298,7 +295,7 @@ fn follow_all(
     ensures forest { IsForestInForce terms.now.in_force (tree_at table.new played.new.flow.forest) }
 {
     for packet in packets {
-        if !follow(alloc, terms, table, played, packet) {
+        if !follow(terms, table, played, packet) {
             return false;
         }
     }
@@ -306,7 +303,7 @@ fn follow_all(
 }
 
 // The callbacks of a packet of no connection, number 0, over the tree of one that begins.
-fn follow_orphan(alloc: Global, terms: &Terms<LogApp>, table: &Table, played: &mut Played) -> bool
+fn follow_orphan(terms: &Terms<LogApp>, table: &Table, played: &mut Played) -> bool
     requires answered { HasRow table.now played.old.flow.forest }
     requires forest { IsForestInForce terms.now.in_force (tree_at table.now played.old.flow.forest) }
 {
@@ -316,7 +313,6 @@ fn follow_orphan(alloc: Global, terms: &Terms<LogApp>, table: &Table, played: &m
     }
     let flow = &played.flow;
     match orphan(
-        alloc,
         terms,
         table,
         &flow.forest,
@@ -409,8 +405,8 @@ fn plays(
     let version = terms.in_force.version;
     match traffic {
         Traffic::Connection(packets) => {
-            let has_followed = follow_all(alloc, terms, table, &mut played, &OPEN)
-                && follow_all(alloc, terms, table, &mut played, packets);
+            let has_followed = follow_all(terms, table, &mut played, &OPEN)
+                && follow_all(terms, table, &mut played, packets);
             let count = played.flow.count;
             has_followed && is_told(alloc, played, CONNECTION, version, count, report)
         }
@@ -418,7 +414,7 @@ fn plays(
             let kind = RecordKind::Orphan {
                 class: Class::Other,
             };
-            follow_orphan(alloc, terms, table, &mut played)
+            follow_orphan(terms, table, &mut played)
                 && is_told(alloc, played, kind, version, 1, report)
         }
     }
@@ -431,6 +427,7 @@ fn leaves(alloc: Global, presets: Presets, script: &str, traffic: Traffic, repor
         return false;
     };
     let terms = Terms {
+        alloc,
         app: &LogApp,
         in_force: InForce {
             master: &master,

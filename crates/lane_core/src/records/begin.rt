@@ -118,6 +118,7 @@ fn orphan_at<A: App, F: Forests>(
         (record { slot = slot.new; counts = ledger.new.counts }) (raises_of raised)) }
 {
     let called = Terms {
+        alloc: terms.alloc,
         app: terms.app,
         in_force: InForce {
             master,
@@ -131,7 +132,6 @@ fn orphan_at<A: App, F: Forests>(
     master.tells_the_present();
     let notes = &mut slot.notes;
     let verdict = orphan(
-        terms.alloc,
         &called,
         forests,
         forest,

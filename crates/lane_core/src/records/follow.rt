@@ -49,6 +49,7 @@ pub(crate) fn step_one<A: App, F: Forests>(
         (F.interns forests.new) (seen segment.now)) }
 {
     let called = Terms {
+        alloc: terms.alloc,
         app: terms.app,
         in_force: InForce {
             master,
@@ -65,7 +66,6 @@ pub(crate) fn step_one<A: App, F: Forests>(
         payload: segment.payload,
     };
     let step = conn.flow.step(
-        terms.alloc,
         &called,
         forests,
         &arrived,

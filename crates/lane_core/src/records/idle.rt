@@ -66,6 +66,7 @@ fn call_idle<A: App, F: Forests>(
     ensures rise { RiseBy 255 ledger.old.counts ledger.new.counts }
 {
     let called = Terms {
+        alloc: terms.alloc,
         app: terms.app,
         in_force: InForce {
             master,
@@ -77,7 +78,6 @@ fn call_idle<A: App, F: Forests>(
     let facts = facts_of(slot.kind, conn.flow.count);
     let Connection { last, flow, .. } = conn;
     silence(
-        terms.alloc,
         &called,
         forests,
         flow,

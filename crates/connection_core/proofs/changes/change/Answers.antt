@@ -24,7 +24,7 @@ returns-then-is_so-clause-made g c = λ s force.
     let list = active_in at (g.F.ForestView.content c.args.forests.now c.args.forest.now) in
     let forest : IsForestOf (defs_at c.args.in_force.now) list (listing tree) =
     subst (λ (t : TreeLists). IsForestOf (defs_at c.args.in_force.now) list (listing t)) (sym c.tree_of-tree.ensures)
-    (record { private = c.requires.forest.private; listed = c.requires.forest.listed }) in
+    (record { private = c.requires.held.forest.private; listed = c.requires.held.forest.listed }) in
     let r = c.in-Some.reg.now in
     alters_so s c.args.change r list (g.F.ForestView.interns c.args.forests.now)
     (sym (force.regs c.args.change.reg (omega arith)) ∙ sym c.reg_at.ensures.reg ∙ ap option_copied c.in-Some.is)
@@ -37,7 +37,7 @@ edit-requires-clause-forest g c =
     let tree = c.tree_of-tree.result.now in
     let content = g.F.ForestView.content c.args.forests.now c.args.forest.now in
     let list = active_in at content in
-    let there : IsTreeOf c.defs-defs.result.now at list content = subst (λ d. IsTreeOf d at list content) (sym c.defs-defs.ensures) c.requires.forest in
+    let there : IsTreeOf c.defs-defs.result.now at list content = subst (λ d. IsTreeOf d at list content) (sym c.defs-defs.ensures) c.requires.held.forest in
     let forest : IsForestOf c.defs-defs.result.now list (listing content) = record { private = there.private; listed = there.listed } in
     let shown : IsForestOf c.defs-defs.result.now list (listing tree) = subst (λ (t : TreeLists). IsForestOf c.defs-defs.result.now list (listing t)) (sym c.tree_of-tree.ensures) forest in
     let r = c.in-Some.reg.now in
@@ -46,13 +46,13 @@ edit-requires-clause-forest g c =
     (c.slots_in_order.ensures.slots c.defs-defs.result.now list shown) c.is_so.ensures ∙ c.if-is_so.false in
     (list, forest, switchable_by at r list c.args.change.on here there.known so)
 
-pub returns-clause-forest : goal.returns-clause-forest
-returns-clause-forest g c =
+pub returns-clause-stays : goal.returns-clause-stays
+returns-clause-stays g c =
     let at = registered c.args.in_force.now in
     let tree = c.tree_of-tree.result.now in
     let content = g.F.ForestView.content c.args.forests.now c.args.forest.now in
     let list = active_in at content in
-    let there : IsTreeOf c.defs-defs.result.now at list content = subst (λ d. IsTreeOf d at list content) (sym c.defs-defs.ensures) c.requires.forest in
+    let there : IsTreeOf c.defs-defs.result.now at list content = subst (λ d. IsTreeOf d at list content) (sym c.defs-defs.ensures) c.requires.held.forest in
     let forest : IsForestOf c.defs-defs.result.now list (listing content) = record { private = there.private; listed = there.listed } in
     let shown : IsForestOf c.defs-defs.result.now list (listing tree) = subst (λ (t : TreeLists). IsForestOf c.defs-defs.result.now list (listing t)) (sym c.tree_of-tree.ensures) forest in
     let r = c.in-Some.reg.now in
@@ -62,9 +62,15 @@ returns-clause-forest g c =
     let after = c.in_ok-edited.ensures.listing list forest (switchable_by at r list c.args.change.on here there.known so) in
     let new = g.F.ForestView.content c.edit.new.f c.in_ok-edited.edited in
     let same : c.tree_of.result.now ≡ new = c.tree_of.ensures in
-    subst (λ d. IsForestIn d at new) c.defs-defs.ensures
-    (edited_forest c.defs-defs.result.now at r list c.args.change.on new here there.known
-    (λ d l f. subst (λ (t : TreeLists). t.slots ≡ map slot_of l) same (c.slots_in_order-2.ensures.slots d l (subst (λ (t : TreeLists). IsForestOf d l (listing t)) (sym same) f))) after)
+    record {
+      held = record {
+        answered = c.in_ok-edited.ensures.answered;
+        forest = subst (λ d. IsForestIn d at new) c.defs-defs.ensures
+            (edited_forest c.defs-defs.result.now at r list c.args.change.on new here there.known
+            (λ d l f. subst (λ (t : TreeLists). t.slots ≡ map slot_of l) same (c.slots_in_order-2.ensures.slots d l (subst (λ (t : TreeLists). IsForestOf d l (listing t)) (sym same) f))) after);
+      };
+      kept = c.edit.ensures.kept;
+    }
 
 pub returns-clause-made : goal.returns-clause-made
 returns-clause-made g c = λ s force.
@@ -72,7 +78,7 @@ returns-clause-made g c = λ s force.
     let tree = c.tree_of-tree.result.now in
     let content = g.F.ForestView.content c.args.forests.now c.args.forest.now in
     let list = active_in at content in
-    let there : IsTreeOf c.defs-defs.result.now at list content = subst (λ d. IsTreeOf d at list content) (sym c.defs-defs.ensures) c.requires.forest in
+    let there : IsTreeOf c.defs-defs.result.now at list content = subst (λ d. IsTreeOf d at list content) (sym c.defs-defs.ensures) c.requires.held.forest in
     let forest : IsForestOf c.defs-defs.result.now list (listing content) = record { private = there.private; listed = there.listed } in
     let shown : IsForestOf c.defs-defs.result.now list (listing tree) = subst (λ (t : TreeLists). IsForestOf c.defs-defs.result.now list (listing t)) (sym c.tree_of-tree.ensures) forest in
     let r = c.in-Some.reg.now in

@@ -10,21 +10,21 @@ use Rattle.connection_core.proofs.changes.change_all.Goals as goal
 
 pub loop-asked-init : goal.loop-asked-init
 loop-asked-init g c = record {
-  answered = c.requires.answered;
-  forest = c.requires.forest;
-  kept = record { still_answered = λ s a. a; same_content = λ s a. refl };
+  stays = record { held = c.requires.held; kept = record { still_answered = λ s a. a; same_content = λ s a. refl } };
   made = λ s force. alters_nothing s (active_in (registered c.args.in_force.now) (g.F.ForestView.content c.args.forests.now c.args.forest.now)) (g.F.ForestView.interns c.args.forests.now);
 }
 
 pub loop-asked-preserved : goal.loop-asked-preserved
 loop-asked-preserved g c =
     let inv = c.loop-asked.invariant in
-    let kept = c.change.ensures.kept in record {
-      answered = c.change.ensures.answered;
-      forest = c.change.ensures.forest;
-      kept = record {
-        still_answered = λ s a. kept.still_answered s (inv.kept.still_answered s a);
-        same_content = λ s a. kept.same_content s (inv.kept.still_answered s a) ∙ inv.kept.same_content s a;
+    let before = inv.stays.kept in
+    let kept = c.change.ensures.stays.kept in record {
+      stays = record {
+        held = c.change.ensures.stays.held;
+        kept = record {
+          still_answered = λ s a. kept.still_answered s (before.still_answered s a);
+          same_content = λ s a. kept.same_content s (before.still_answered s a) ∙ before.same_content s a;
+        };
       };
       made = λ s force. alters_more s c.args.changes.now c.loop-asked.asked-index _
           (active_in (registered c.args.in_force.now) (g.F.ForestView.content c.args.forests.now c.args.forest.now))

@@ -9,4 +9,4 @@ use Rattle.connection_core.proofs.hearing.hears_receiver.Goals as goal
 pub returns : goal.returns
 returns c = λ is s from nth force.
     receiver_silent s (active_in (registered c.args.in_force.now) c.args.tree.now) c.heard.result.now (listing c.args.tree.now) c.args.head.now from nth c.args.got.now
-    c.heard.ensures (λ event unheard facts. c.unheard_calls_nothing.ensures s Rcv event force unheard facts) (sym (c.is_heard_at_receiver.ensures from nth) ∙ is)
+    c.heard.ensures (λ event unheard facts. c.raises_call_who_hears.ensures.nobody s Rcv event force unheard facts) (sym (c.is_heard_at_receiver.ensures from nth) ∙ is)

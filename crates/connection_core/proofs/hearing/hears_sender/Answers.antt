@@ -9,4 +9,4 @@ use Rattle.connection_core.proofs.hearing.hears_sender.Goals as goal
 pub returns : goal.returns
 returns c = λ is s h from nth force.
     sender_silent s (active_in (registered c.args.in_force.now) c.args.tree.now) c.heard.result.now (listing c.args.tree.now) h from nth c.args.first c.args.sent.now
-    c.heard.ensures (λ event unheard facts. c.unheard_calls_nothing.ensures s Snd event force unheard facts) (sym (c.is_heard_at_sender.ensures h from nth) ∙ is)
+    c.heard.ensures (λ event unheard facts. c.raises_call_who_hears.ensures.nobody s Snd event force unheard facts) (sym (c.is_heard_at_sender.ensures h from nth) ∙ is)

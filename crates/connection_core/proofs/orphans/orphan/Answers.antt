@@ -14,7 +14,7 @@ returns-clause-stands g c = λ s others force first noted.
     (orphan_under app s c.args.terms.now.keep others (active_in at c.tree_of-tree.result.now) c.args.number (raises_of c.args.raised) c.rbuf.result c.policy.result
     c.new-socket.result c.raise_all.new.socket c.args.notes.now c.raise_all.new.notes c.args.ledger.now c.begin.new.self c.raise_all.new.ledger
     (ap (active_in at) c.tree_of-tree.ensures ∙ first) (c.rbuf.ensures.rbuf s force) (c.policy.ensures s force) c.new-socket.ensures noted
-    c.begin.ensures.changes c.begin.ensures.drop c.begin.ensures.counts (c.in_ok-raise_all.ensures.stands s force)).noted
+    c.begin.ensures (c.in_ok-raise_all.ensures.stands s force)).noted
 
 pub returns-clause-verdict : goal.returns-clause-verdict
 unfolding orphan_verdict
@@ -25,7 +25,7 @@ returns-clause-verdict g c = λ s others force first noted.
     (orphan_under app s c.args.terms.now.keep others (active_in at c.tree_of-tree.result.now) c.args.number (raises_of c.args.raised) c.rbuf.result c.policy.result
     c.new-socket.result c.raise_all.new.socket c.args.notes.now c.raise_all.new.notes c.args.ledger.now c.begin.new.self c.raise_all.new.ledger
     (ap (active_in at) c.tree_of-tree.ensures ∙ first) (c.rbuf.ensures.rbuf s force) (c.policy.ensures s force) c.new-socket.ensures noted
-    c.begin.ensures.changes c.begin.ensures.drop c.begin.ensures.counts (c.in_ok-raise_all.ensures.stands s force)).drop
+    c.begin.ensures (c.in_ok-raise_all.ensures.stands s force)).drop
 
 pub returns-clause-drops : goal.returns-clause-drops
 unfolding orphan_history
@@ -36,4 +36,4 @@ returns-clause-drops g c = λ s others force first noted.
     (orphan_under app s c.args.terms.now.keep others (active_in at c.tree_of-tree.result.now) c.args.number (raises_of c.args.raised) c.rbuf.result c.policy.result
     c.new-socket.result c.raise_all.new.socket c.args.notes.now c.raise_all.new.notes c.args.ledger.now c.begin.new.self c.raise_all.new.ledger
     (ap (active_in at) c.tree_of-tree.ensures ∙ first) (c.rbuf.ensures.rbuf s force) (c.policy.ensures s force) c.new-socket.ensures noted
-    c.begin.ensures.changes c.begin.ensures.drop c.begin.ensures.counts (c.in_ok-raise_all.ensures.stands s force)).drop))
+    c.begin.ensures (c.in_ok-raise_all.ensures.stands s force)).drop))

@@ -11,5 +11,5 @@ returns-clause-stands g c =
     silenced_noted (g.A.App.meaning c.args.terms.now.app.now) s c.args.terms.now.keep others (registered c.args.terms.now.in_force)
     (g.F.ForestView.content c.args.forests.now c.args.flow.forest) c.tree_of-tree.result.now c.args.number (record { hook = Rcv; event = TIMER; facts = c.args.facts.now }) c.args.flow
     c.call_at.new.socket c.args.notes.now c.call_at.new.notes c.args.ledger.now c.begin.new.self c.call_at.new.ledger h
-    c.tree_of-tree.ensures is c.begin.ensures.changes c.begin.ensures.drop c.begin.ensures.counts (steps s force))
+    c.tree_of-tree.ensures is c.begin.ensures (steps s force))
     c.call_at.ensures.stands

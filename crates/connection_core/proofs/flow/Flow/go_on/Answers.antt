@@ -28,7 +28,7 @@ returns-in_ok-receive-in-None-clause-stands g c = λ s others h under_way force 
     (g.F.ForestView.content c.receive.new.forests c.receive.new.self.forest)) c.receive.new.self.socket c.receive.new.notes c.receive.new.ledger
     (g.F.ForestView.interns c.args.forests.now) (g.F.ForestView.interns c.receive.new.forests) under_way.altered
     (receiver_phase app s arrived.number arrived.from arrived.head.now arrived.payload.now n under_way)) count
-    ((c.in_ok-receive-in-None.ensures.stands s force).stands others under_way u))
+    ((c.in_ok-receive-in-None.ensures.stands.makes s force).stands others under_way u))
 
 pub returns-in_err-receive-in-None-clause-failed : goal.returns-in_err-receive-in-None-clause-failed
 returns-in_err-receive-in-None-clause-failed g c = on_err_always c.from_residual.result (λ s others h under_way force count u.

@@ -14,7 +14,7 @@ invariant-loop-event g l =
     let at = registered l.terms.in_force in
     let content = g.F.ForestView.content in
     let interns = g.F.ForestView.interns in record {
-      held : IsHeld g.F.ForestView l.terms.in_force l.forests l.self;
+      held : IsHeld g.F.ForestView l.terms.in_force l.forests l.self.forest;
       kept : Keeps g.F.ForestView.answered content l.fn.forests l.forests;
       made : (s : ControlState) → IsInForce l.terms.in_force s → Makes l.terms.keep
           (active_in at (content l.fn.forests l.fn.self.forest)) l.fn.self.socket l.fn.notes l.fn.ledger (interns l.fn.forests)

@@ -22,8 +22,7 @@ returns-clause-stands g c =
     c.send-sent.result (raises_in c.raising_at_sender-raising.result) c.args.self.now c.send-sent.new.self c.args.notes.now c.args.ledger.now c.begin.new.self h
     (λ before after. Reached keep others (active_in at (g.F.ForestView.content c.make.new.forests c.make.new.self.forest)) c.make.new.self.socket c.make.new.notes c.make.new.ledger
     (g.F.ForestView.interns c.args.forests.now) (g.F.ForestView.interns c.make.new.forests) before.altered after)
-    is c.send-sent.ensures.stands c.send-sent.ensures.answer c.raising_at_sender-raising.ensures c.begin.ensures.changes c.begin.ensures.drop
-    c.begin.ensures.counts ((makes s force).stands others))
+    is c.send-sent.ensures.stands c.send-sent.ensures.answer c.raising_at_sender-raising.ensures c.begin.ensures ((makes.makes s force).stands others))
     c.make.ensures.made
 
 pub returns-clause-failed : goal.returns-clause-failed
@@ -34,8 +33,7 @@ returns-clause-failed g c =
     c.args.arrived.now.number c.args.arrived.now.from c.args.arrived.now.head.now c.args.arrived.now.scale
     c.send-sent.result (raises_in c.raising_at_sender-raising.result) c.args.self.now c.send-sent.new.self c.args.notes.now c.args.ledger.now c.begin.new.self h
     (λ before after. InternsWithin (g.F.ForestView.interns c.args.forests.now) (g.F.ForestView.interns c.make.new.forests) before.altered after.altered)
-    is c.send-sent.ensures.stands c.send-sent.ensures.answer c.raising_at_sender-raising.ensures c.begin.ensures.changes c.begin.ensures.drop
-    c.begin.ensures.counts ((costs s force).interned others))
+    is c.send-sent.ensures.stands c.send-sent.ensures.answer c.raising_at_sender-raising.ensures c.begin.ensures ((costs s force).interned others))
     c.make.ensures.failed
 
 -- nobody hears anything of it
@@ -53,5 +51,5 @@ returns-then-not-hears_sender-clause-stands g c = λ s others h force is.
     sender_makes app s keep others at tree arrived.number arrived.from arrived.head.now arrived.scale
     c.send-sent.result raises c.args.self.now c.send-sent.new.self c.args.notes.now c.args.ledger.now c.begin.new.self h
     (λ before after. Reached keep others (active_in at tree) c.send-sent.new.self c.args.notes.now c.begin.new.self interns interns before.altered after)
-    is c.send-sent.ensures.stands c.send-sent.ensures.answer refl c.begin.ensures.changes c.begin.ensures.drop c.begin.ensures.counts
+    is c.send-sent.ensures.stands c.send-sent.ensures.answer refl c.begin.ensures
     (phase_silent app s keep others (active_in at tree) interns arrived.number arrived.from raises c.send-sent.new.self c.args.notes.now c.begin.new.self silent c.begin.ensures.changes)

@@ -10,14 +10,14 @@ unfolding followed is_over verdict
 returns-clause-stands g c = record {
   connection = λ s others h force is.
       let reached = c.in_ok-send.ensures.stands s others h force is in
-      (c.in_ok-go_on.ensures.stands s others h _ force (c.send.ensures.count ∙ is.kept.count) reached.under).stands;
+      (c.in_ok-go_on.ensures.stands s others h _ force (c.send.ensures.made_calls.count ∙ is.kept.count) reached.under).stands;
   interned = λ s others h force is.
       let reached = c.in_ok-send.ensures.stands s others h force is in
-      let stepped = c.in_ok-go_on.ensures.stands s others h _ force (c.send.ensures.count ∙ is.kept.count) reached.under in
+      let stepped = c.in_ok-go_on.ensures.stands s others h _ force (c.send.ensures.made_calls.count ∙ is.kept.count) reached.under in
       within-on _ _ _ _ _ _ reached.interned stepped.interned;
   over = λ s others h force is.
       let reached = c.in_ok-send.ensures.stands s others h force is in
-      let stepped = c.in_ok-go_on.ensures.stands s others h _ force (c.send.ensures.count ∙ is.kept.count) reached.under in
+      let stepped = c.in_ok-go_on.ensures.stands s others h _ force (c.send.ensures.made_calls.count ∙ is.kept.count) reached.under in
       c.is_over.ensures _ stepped.stands.kept.socket;
   verdict_is = λ s others h force is.
       let reached = c.in_ok-send.ensures.stands s others h force is in
@@ -43,4 +43,4 @@ pub returns-in_err-go_on-clause-failed : goal.returns-in_err-go_on-clause-failed
 unfolding followed
 returns-in_err-go_on-clause-failed g c = on_err_always c.from_residual-in_err-go_on.result (λ s others h force is.
     let reached = c.in_ok-send.ensures.stands s others h force is in
-    within-on _ _ _ _ _ _ reached.interned (c.in_err-go_on.ensures.failed s others h _ force (c.send.ensures.count ∙ is.kept.count) reached.under))
+    within-on _ _ _ _ _ _ reached.interned (c.in_err-go_on.ensures.failed s others h _ force (c.send.ensures.made_calls.count ∙ is.kept.count) reached.under))

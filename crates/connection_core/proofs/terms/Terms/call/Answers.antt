@@ -18,7 +18,7 @@ returns-clause-stands g c =
           called_under app s c.args.raise_at.now.number c.args.raise_at.now.from (raise_of c.args.raise_at.now) r c.args.self.now.keep others list
           c.args.socket.now c.look.new.socket c.args.notes.now c.keep_entry.new.self c.args.ledger.now c.ask.new.self c.in_ok-look.look.got c.in_ok-look.look.seen c.react-reaction.result under_way
           u
-          (c.look.ensures.stands e u.heard)
+          (c.look.ensures.stands.marks e u.heard)
           (λ k. c.in_ok-look.ensures.seen k e u.heard)
           (c.in_ok-look.ensures.got e u.heard)
           (c.keep_entry.ensures.tally ∙ c.react-reaction.ensures.tally s force)

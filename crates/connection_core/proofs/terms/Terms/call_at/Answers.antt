@@ -23,7 +23,7 @@ returns-in-One-clause-stands g c =
     let m = c.args.raise_at.now in
     let lent = c.args.self.now.in_force in
     let list = active_in (registered lent) c.args.tree.now in
-    let known = known_in (registered lent) s.regs list force.regs c.requires.forest.private.numbers c.requires.forest.known in
+    let known = known_in (registered lent) s.regs list force.regs c.requires.ready.forest.private.numbers c.requires.ready.forest.known in
     calls_one (g.A.App.meaning c.args.self.now.app.now) s c.args.self.now.keep list m.number m.from (raise_of m)
     c.args.socket.now c.call_number.new.socket c.args.notes.now c.call_number.new.notes c.args.ledger.now c.call_number.new.ledger c.in-One.number known
     (c.hearers.ensures.one c.in-One.number c.in-One.is s (facts_of m.source) force) (all list s force))
@@ -36,6 +36,6 @@ returns-in_ok-make_room-in-More-clause-stands g c =
       stands = λ others under_way u.
           (all s force).stands others under_way
           (under_room c.args.self.now.keep others (active_in (registered c.args.self.now.in_force) c.args.tree.now) c.args.socket.now c.args.notes.now c.args.ledger.now c.make_room.new.self under_way
-          c.make_room.ensures.changes c.make_room.ensures.drop c.make_room.ensures.counts u);
+          c.make_room.ensures u);
     })
     c.walk.ensures.stands

@@ -40,11 +40,11 @@ loop-event-preserved g c =
           (raised_more app s c.args.self.now.keep list c.args.phase.now.number c.args.phase.now.from at items c.loop-event.event-index event
           c.args.socket.now c.loop-event.socket c.call_at.new.socket c.args.notes.now c.loop-event.notes c.call_at.new.notes c.args.ledger.now c.loop-event.ledger c.call_at.new.ledger
           c.loop-event-test.true refl so_far step);
-      rise = record { callbacks = omega (arith, inv.rise.callbacks, c.call_at.ensures.rise.callbacks); weight = omega (arith, inv.rise.weight, c.call_at.ensures.rise.weight) };
+      rise = record { callbacks = omega (arith, inv.rise.callbacks, c.call_at.ensures.most.rise.callbacks); weight = omega (arith, inv.rise.weight, c.call_at.ensures.most.rise.weight) };
       as_far = record {
-        client = c.call_at.ensures.as_far.client ∙ inv.as_far.client;
-        server = c.call_at.ensures.as_far.server ∙ inv.as_far.server;
-        rbuf = c.call_at.ensures.as_far.rbuf ∙ inv.as_far.rbuf;
+        client = c.call_at.ensures.most.as_far.client ∙ inv.as_far.client;
+        server = c.call_at.ensures.most.as_far.server ∙ inv.as_far.server;
+        rbuf = c.call_at.ensures.most.as_far.rbuf ∙ inv.as_far.rbuf;
       };
     }
 
