@@ -28,18 +28,6 @@ pub record History : Type 0 where
   pub entries : List Entry
   pub drops : List (ℕ × Reason)
 
--- a connection of no packet, or a packet of no connection before its callbacks
-abbrev pub fresh : Meaning → ControlState → History
-fresh app control = record {
-  emulation = unheard control.rbuf control.policy;
-  count = 0;
-  active = first_active control;
-  altered = 0;
-  tally = app.fresh;
-  entries = [];
-  drops = [];
-}
-
 -- a packet's first phase begins where the connection stands, with nothing asked
 abbrev pub begin : Emulation → History → PacketUnderWay
 begin emulation h = record {
@@ -68,56 +56,71 @@ done count drops c = record {
   drops = drops;
 }
 
--- the packet's phase at its sender; `scale` is the window scale that it offers
-unfoldable pub sender_phase : Meaning → ControlState → ℕ → Side → Head → Option ℕ → History → PacketUnderWay
-sender_phase app control number from head scale h =
-    phase app control number from
-    (sender_raises head from h.count (h.count == 0) (sent_answer from head h.emulation))
-    (begin (sent from head scale h.emulation) h)
-
--- its phase at its receiver; `count` is its place in the connection
-unfoldable pub receiver_phase : Meaning → ControlState → ℕ → Side → Head → List ℕ → ℕ → PacketUnderWay → PacketUnderWay
-receiver_phase app control number from head payload count c =
-    phase app control number from
-    (receiver_raises head from count (got_of from head payload c.emulation))
-    (go_on (received from head payload c.emulation) c)
-
 -- a packet that was dropped at its sender never comes to its receiver
 abbrev pub received_unless : Option Reason → ℕ → PacketUnderWay → PacketUnderWay → History → History
 received_unless (Some reason) number sent received h = done (h.count + 1) (h.drops ++ (number, reason) ∷ []) sent
 received_unless None number sent received h = done (h.count + 1) h.drops received
 
--- one more packet of a connection
-unfoldable pub followed : Meaning → ControlState → ℕ → Side → Head → Option ℕ → List ℕ → History → History
-followed app control number from head scale payload h =
-    let sent = sender_phase app control number from head scale h in
-    received_unless sent.drop number sent (receiver_phase app control number from head payload h.count sent) h
-
 abbrev pub verdict_of : Option Reason → Verdict
 verdict_of None = Pass
 verdict_of (Some reason) = Drop reason
-
--- what becomes of this packet
-unfoldable pub verdict : Meaning → ControlState → ℕ → Side → Head → Option ℕ → History → Verdict
-verdict app control number from head scale h = verdict_of (sender_phase app control number from head scale h).drop
 
 -- what a verdict adds to the dropped packets
 abbrev pub drops_of : Verdict → ℕ → List (ℕ × Reason)
 drops_of Pass number = []
 drops_of (Drop reason) number = (number, reason) ∷ []
 
--- The callbacks of a packet of no connection. It is a connection that heard nothing, so its peeks find nothing, whichever side they
--- name; and the changes asked come to nothing, since it has no other packet.
-abbrev pub orphan_under_way : Meaning → ControlState → ℕ → List Raise → PacketUnderWay
-orphan_under_way app control number raises =
-    raised app control number Client raises (begin (unheard control.rbuf control.policy) (fresh app control))
+-- ---- under an application and a control state
 
-unfoldable pub orphan_history : Meaning → ControlState → ℕ → List Raise → History
-orphan_history app control number raises =
-    let c = orphan_under_way app control number raises in done 0 (drops_of (verdict_of c.drop) number) c
+module _ (app : Meaning) (control : ControlState) where
+  -- a connection of no packet, or a packet of no connection before its callbacks
+  abbrev pub fresh : History
+  fresh = record {
+    emulation = unheard control.rbuf control.policy;
+    count = 0;
+    active = first_active control;
+    altered = 0;
+    tally = app.fresh;
+    entries = [];
+    drops = [];
+  }
 
-unfoldable pub orphan_verdict : Meaning → ControlState → ℕ → List Raise → Verdict
-orphan_verdict app control number raises = verdict_of (orphan_under_way app control number raises).drop
+  -- the packet's phase at its sender; `scale` is the window scale that it offers
+  unfoldable pub sender_phase : ℕ → Side → Head → Option ℕ → History → PacketUnderWay
+  sender_phase number from head scale h =
+      phase app control number from
+      (sender_raises head from h.count (h.count == 0) (sent_answer from head h.emulation))
+      (begin (sent from head scale h.emulation) h)
+
+  -- its phase at its receiver; `count` is its place in the connection
+  unfoldable pub receiver_phase : ℕ → Side → Head → List ℕ → ℕ → PacketUnderWay → PacketUnderWay
+  receiver_phase number from head payload count c =
+      phase app control number from
+      (receiver_raises head from count (got_of from head payload c.emulation))
+      (go_on (received from head payload c.emulation) c)
+
+  -- one more packet of a connection
+  unfoldable pub followed : ℕ → Side → Head → Option ℕ → List ℕ → History → History
+  followed number from head scale payload h =
+      let sent = sender_phase number from head scale h in
+      received_unless sent.drop number sent (receiver_phase number from head payload h.count sent) h
+
+  -- what becomes of this packet
+  unfoldable pub verdict : ℕ → Side → Head → Option ℕ → History → Verdict
+  verdict number from head scale h = verdict_of (sender_phase number from head scale h).drop
+
+  -- The callbacks of a packet of no connection. It is a connection that heard nothing, so its peeks find nothing, whichever side they
+  -- name; and the changes asked come to nothing, since it has no other packet.
+  abbrev pub orphan_under_way : ℕ → List Raise → PacketUnderWay
+  orphan_under_way number raises =
+      raised app control number Client raises (begin (unheard control.rbuf control.policy) fresh)
+
+  unfoldable pub orphan_history : ℕ → List Raise → History
+  orphan_history number raises =
+      let c = orphan_under_way number raises in done 0 (drops_of (verdict_of c.drop) number) c
+
+  unfoldable pub orphan_verdict : ℕ → List Raise → Verdict
+  orphan_verdict number raises = verdict_of (orphan_under_way number raises).drop
 
 -- both ends are in CLOSED or TIME_WAIT
 unfoldable pub is_over : History → Bool

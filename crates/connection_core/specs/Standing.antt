@@ -23,30 +23,33 @@ use Rattle.connection_core.specs.PacketUnderWay.{PacketUnderWay, seen_by, after_
 use Rattle.connection_core.specs.History.{History, weight_of}
 use Rattle.connection_core.specs.Trees.{active_in, InternsWithin}
 
--- what is noted of a record's callbacks; `others` are the counts of all other records
-pub record IsNoted (keep : Bool) (others : Counts) (kept : Tally) (made : List Entry) (notes : Notes) (counts : Counts) : Type 0 where
-  pub tally : notes.tally ≡ kept
-  pub entries : notes.entries ≡ (if keep then made else [])
-  pub callbacks : counts.callbacks ≡ others.callbacks + length made
-  pub weight : counts.weight ≡ others.weight + weight_of made
-
 -- what is kept of a connection; its private list is what the tree of its registrations names
 pub record IsFlow (at : ℕ → Option Reg) (tree : TreeLists) (flow : Flow) (h : History) : Type 0 where
   pub socket : SocketStandsFor flow.socket h.emulation
   pub count : flow.count ≡ h.count
   pub active : h.active ≡ active_in at tree
 
-pub record IsConnection (keep : Bool) (others : Counts) (at : ℕ → Option Reg) (tree : TreeLists) (flow : Flow) (notes : Notes) (counts : Counts) (h : History) : Type 0 where
-  pub kept : IsFlow at tree flow h
-  pub noted : IsNoted keep others h.tally h.entries notes counts
+-- where entries are kept, or not; `others` are the counts of all other records
+module _ (keep : Bool) (others : Counts) where
+  -- what is noted of a record's callbacks
+  pub record IsNoted (kept : Tally) (made : List Entry) (notes : Notes) (counts : Counts) : Type 0 where
+    pub tally : notes.tally ≡ kept
+    pub entries : notes.entries ≡ (if keep then made else [])
+    pub callbacks : counts.callbacks ≡ others.callbacks + length made
+    pub weight : counts.weight ≡ others.weight + weight_of made
 
--- a packet under way, over this private list
-pub record IsUnder (keep : Bool) (others : Counts) (list : List Reg) (socket : SocketView) (notes : Notes) (ledger : Ledger) (c : PacketUnderWay) : Type 0 where
-  pub heard : SocketStandsFor socket c.emulation
-  pub active : c.active ≡ list
-  pub noted : IsNoted keep others c.tally c.entries notes ledger.counts
-  pub asked : ledger.changes.items ≡ c.asked
-  pub drop : ledger.drop ≡ c.drop
+  -- an open connection
+  pub record IsConnection (at : ℕ → Option Reg) (tree : TreeLists) (flow : Flow) (notes : Notes) (counts : Counts) (h : History) : Type 0 where
+    pub kept : IsFlow at tree flow h
+    pub noted : IsNoted h.tally h.entries notes counts
+
+  -- a packet under way, over this private list
+  pub record IsUnder (list : List Reg) (socket : SocketView) (notes : Notes) (ledger : Ledger) (c : PacketUnderWay) : Type 0 where
+    pub heard : SocketStandsFor socket c.emulation
+    pub active : c.active ≡ list
+    pub noted : IsNoted c.tally c.entries notes ledger.counts
+    pub asked : ledger.changes.items ≡ c.asked
+    pub drop : ledger.drop ≡ c.drop
 
 -- what callbacks find or leave: the streams, what is noted of them, and what they ask
 pub record CallbackState : Type 0 where
