@@ -16,7 +16,7 @@ use Rattle.connection_core.specs.declared.ledger.Notes.{Notes}
 use Rattle.connection_core.specs.declared.arrival.Arrived.{Arrived}
 use Rattle.connection_core.specs.InForce.{registered, IsInForce, ForControl}
 use Rattle.connection_core.specs.PacketUnderWay.{PacketUnderWay}
-use Rattle.connection_core.specs.History.{History, sender_phase, receiver_phase, received_unless, followed, verdict, drops_of, is_over}
+use Rattle.connection_core.specs.History.{History, sender_phase, receiver_phase, followed, verdict, drops_of, is_over}
 use Rattle.connection_core.specs.Standing.{IsNoted, IsConnection, IsUnder, CallbackState, state_of, Steps, Alters, Costs, CostsUnder, Makes, IsAsFar, RiseBy}
 use Rattle.connection_core.specs.Trees.{list_in_force, IsForestInForce, InternsWithin}
 
@@ -29,10 +29,6 @@ phase_sending app s arrived h = sender_phase app s arrived.number arrived.from a
 -- its phase at its receiver
 abbrev pub phase_receiving : Meaning → ControlState → Arrived → ℕ → PacketUnderWay → PacketUnderWay
 phase_receiving app s arrived count c = receiver_phase app s arrived.number arrived.from arrived.head.now arrived.payload.now count c
-
--- what is left of it after its phase at its sender, which came to this
-abbrev pub gone_on : Meaning → ControlState → Arrived → History → PacketUnderWay → History
-gone_on app s arrived h c = received_unless c.drop arrived.number c (phase_receiving app s arrived h.count c) h
 
 -- all of it
 abbrev pub followed_by : Meaning → ControlState → Arrived → History → History
@@ -113,11 +109,6 @@ module _ (keep : Bool) (lent : InForce) where
   abbrev pub ForConnection : FlowState → (ControlState → Counts → History → Type 0) → Type 0
   ForConnection state holds = (s : ControlState) (others : Counts) (h : History) → IsInForce lent s
       → IsConnection keep others (registered lent) state.tree state.flow state.notes state.ledger.counts h → holds s others h
-
-  -- what holds of a packet under way that follows a history, whatever this state stands for
-  abbrev pub ForPacketUnderWay : FlowState → (ControlState → Counts → History → PacketUnderWay → Type 0) → Type 0
-  ForPacketUnderWay state holds = (s : ControlState) (others : Counts) (h : History) (c : PacketUnderWay) → IsInForce lent s → state.flow.count ≡ h.count
-      → IsUnder keep others (list_in_force lent state.tree) state.flow.socket state.notes state.ledger c → holds s others h c
 
   -- a raise, or a phase, is this step of a packet under way, with the changes made that were asked
   pub record MakesInForce (old new : FlowState) (step : ControlState → PacketUnderWay → PacketUnderWay) : Type 0 where

@@ -45,9 +45,9 @@ impl Flow {
     ghost use Rattle.shared_forest.specs.Lists.{TreeLists};
     ghost use Rattle.connection_core.specs.PacketUnderWay.{raise_done, phase as made};
     ghost use Rattle.connection_core.specs.History.{fresh};
-    ghost use Rattle.connection_core.specs.Standing.{IsFlow, Reached, Stepped, at_raise, in_phase};
-    ghost use Rattle.connection_core.specs.Calls.{phase_sending, phase_receiving, gone_on, followed_by};
-    ghost use Rattle.connection_core.specs.Calls.{state_in, ForConnection, ForPacketUnderWay, MakesInForce, CostsInForce};
+    ghost use Rattle.connection_core.specs.Standing.{IsFlow, Reached, at_raise, in_phase};
+    ghost use Rattle.connection_core.specs.Calls.{phase_sending, phase_receiving, followed_by};
+    ghost use Rattle.connection_core.specs.Calls.{state_in, ForConnection, MakesInForce, CostsInForce};
     ghost use Rattle.connection_core.specs.Calls.{holding, IsHeld, HasRoom, IsReady, HasSent, Went, MadeCalls, StepsTo};
 
     /// A connection before its first packet, with the tree of the registrations that are on at its start. It takes no memory.
@@ -212,41 +212,7 @@ impl Flow {
         self.make(terms, forests, &phase, notes, ledger)
     }
 
-    // What is left of a packet after its phase at its sender: where it was dropped it never comes to its receiver.
-    fn go_on<A: App, F: Forests>(
-        &mut self,
-        terms: &Terms<A>,
-        forests: &mut F,
-        arrived: &Arrived,
-        notes: &mut Notes,
-        ledger: &mut Ledger,
-    ) -> Result<(), AllocError>
-        requires sent { HasSent F.ForestView terms.now.in_force (holding forests.old self.old ledger.old) }
-        ensures went { Went F.ForestView terms.now.in_force 1530
-            (holding forests.old self.old ledger.old) (holding forests.new self.new ledger.new) }
-        ensures stands { OnOk result (ForPacketUnderWay terms.now.keep terms.now.in_force
-            (state_in F.ForestView forests.old self.old notes.old ledger.old)
-            (λ s others h c. Stepped terms.now.keep others
-            (registered terms.now.in_force) (F.content forests.new self.new.forest) self.new notes.new ledger.new.counts
-            (F.interns forests.old) (F.interns forests.new) c.altered (gone_on (A.meaning terms.now.app.now) s arrived.now h c))) }
-        ensures failed { OnErr result (ForPacketUnderWay terms.now.keep terms.now.in_force
-            (state_in F.ForestView forests.old self.old notes.old ledger.old)
-            (λ s others h c. InternsWithin (F.interns forests.old) (F.interns forests.new)
-            c.altered (gone_on (A.meaning terms.now.app.now) s arrived.now h c).altered)) }
-    {
-        match ledger.drop {
-            None => {
-                self.receive(terms, forests, arrived, notes, ledger)?;
-                Ok(())
-            }
-            Some(_) => {
-                self.count += 1;
-                Ok(())
-            }
-        }
-    }
-
-    /// One more packet, and its callbacks.
+    /// One more packet, and its callbacks. Where it was dropped at its sender it never comes to its receiver.
     pub fn step<A: App, F: Forests>(
         &mut self,
         terms: &Terms<A>,
@@ -272,7 +238,14 @@ impl Flow {
     {
         self.send(terms, forests, arrived, notes, ledger)?;
         let verdict = verdict_of(ledger.drop);
-        self.go_on(terms, forests, arrived, notes, ledger)?;
+        if let Some(_) = ledger.drop {
+            self.count += 1;
+            return Ok(Step {
+                over: self.socket.is_over(),
+                verdict,
+            });
+        }
+        self.receive(terms, forests, arrived, notes, ledger)?;
         Ok(Step {
             over: self.socket.is_over(),
             verdict,
