@@ -19,7 +19,6 @@ use Rattle.forest_versions.specs.State.{ControlState, active as first_active}
 use Rattle.connection_core.specs.declared.arrival.Arrived.{Arrived}
 use Rattle.connection_core.specs.declared.flow.Flow.{Flow}
 use Rattle.connection_core.specs.declared.flow.Step.{Step}
-use Rattle.connection_core.specs.declared.in_force.InForce.{InForce}
 use Rattle.connection_core.specs.declared.ledger.Notes.{Notes}
 use Rattle.connection_core.specs.declared.ledger.Counts.{Counts}
 use Rattle.connection_core.specs.declared.ledger.Ledger.{Ledger}
@@ -27,7 +26,7 @@ use Rattle.connection_core.specs.PacketUnderWay.{PacketUnderWay, raised, phase}
 use Rattle.connection_core.specs.History.{History, fresh, orphan_under_way, begin, go_on, done, sender_phase, receiver_phase, received_unless, followed, verdict, verdict_of, drops_of, is_over}
 use Rattle.connection_core.specs.InForce.{registered}
 use Rattle.connection_core.specs.Trees.{active_in, InternsWithin}
-use Rattle.connection_core.specs.Calls.{phase_sending, phase_receiving, followed_by, FlowState, ForConnection, StepsTo}
+use Rattle.connection_core.specs.Calls.{Running, phase_sending, phase_receiving, followed_by, FlowState, ForConnection, StepsTo}
 use Rattle.connection_core.specs.Standing.{IsNoted, IsConnection, IsUnder, state_of, IsBegun, Steps, CostsUnder, Reached, Stepped}
 use Rattle.connection_core.proofs.Changing.{within-same, within-up}
 use Rattle.connection_core.proofs.Settling.{phase_rises}
@@ -163,21 +162,21 @@ drops_more None number c r h = sym (append-nil h.drops)
 drops_more (Some reason) number c r h = refl
 
 -- all that a packet's step comes to
-pub steps_to : (app : Meaning) (keep : Bool) (lent : InForce) (arrived : Arrived) (old new : FlowState) (step : Step)
-    → ForConnection keep lent old (λ s others h. Stepped keep others (registered lent) new.tree new.flow new.notes new.ledger.counts
+pub steps_to : (t : Running) (arrived : Arrived) (old new : FlowState) (step : Step)
+    → ForConnection t old (λ app s others h. Stepped t.keep others (registered t.lent) new.tree new.flow new.notes new.ledger.counts
     old.interns new.interns h.altered (followed_by app s arrived h))
     → ((e : Emulation) → SocketStandsFor new.flow.socket e → step.over ≡ are_over e.ends)
-    → ForConnection keep lent old (λ s others h. step.verdict ≡ verdict_of (phase_sending app s arrived h).drop)
-    → StepsTo app keep lent arrived old new step
+    → ForConnection t old (λ app s others h. step.verdict ≡ verdict_of (phase_sending app s arrived h).drop)
+    → StepsTo t arrived old new step
 unfolding followed is_over verdict
-steps_to app keep lent arrived old new step stepped over passes = record {
+steps_to t arrived old new step stepped over passes = record {
   connection = λ s others h force is. (stepped s others h force is).stands;
   interned = λ s others h force is. (stepped s others h force is).interned;
   over = λ s others h force is. over _ (stepped s others h force is).stands.kept.socket;
   verdict_is = passes;
   drops = λ s others h force is.
-      let sent = phase_sending app s arrived h in
-      drops_more sent.drop arrived.number sent (phase_receiving app s arrived h.count sent) h
+      let sent = phase_sending t.app s arrived h in
+      drops_more sent.drop arrived.number sent (phase_receiving t.app s arrived h.count sent) h
       ∙ ap (λ v. h.drops ++ drops_of v arrived.number) (sym (passes s others h force is));
 }
 

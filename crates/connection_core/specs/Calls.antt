@@ -13,12 +13,24 @@ use Rattle.connection_core.specs.declared.in_force.InForce.{InForce}
 use Rattle.connection_core.specs.declared.ledger.Counts.{Counts}
 use Rattle.connection_core.specs.declared.ledger.Ledger.{Ledger}
 use Rattle.connection_core.specs.declared.ledger.Notes.{Notes}
+use Rattle.connection_core.specs.declared.terms.Terms.{Terms}
 use Rattle.connection_core.specs.declared.arrival.Arrived.{Arrived}
 use Rattle.connection_core.specs.InForce.{registered, IsInForce, ForControl}
 use Rattle.connection_core.specs.PacketUnderWay.{PacketUnderWay}
 use Rattle.connection_core.specs.History.{History, sender_phase, receiver_phase, followed, verdict, drops_of, is_over}
 use Rattle.connection_core.specs.Standing.{IsNoted, IsConnection, IsUnder, CallbackState, state_of, Steps, Alters, Costs, CostsUnder, Makes, IsAsFar, RiseBy}
 use Rattle.connection_core.specs.Trees.{list_in_force, IsForestInForce, InternsWithin}
+
+-- ---- what callbacks run under
+
+-- the application as what it answers, whether entries are kept, and what is in force
+pub record Running : Type 0 where
+  pub app : Meaning
+  pub keep : Bool
+  pub lent : InForce
+
+abbrev pub running : {A X : Type 0} {g : _} → (A → Meaning) → Terms A X g → Running
+running meaning terms = record { app = meaning terms.app.now; keep = terms.keep; lent = terms.in_force }
 
 -- ---- what an arrived packet makes of a connection
 
@@ -92,35 +104,44 @@ abbrev pub state_in : {S : Type 0} → Store S → S → Flow → Notes → Ledg
 state_in store at flow notes ledger =
     record { flow = flow; tree = store.content at flow.forest; interns = store.interns at; notes = notes; ledger = ledger }
 
--- where entries are kept, or not, with what is in force
-module _ (keep : Bool) (lent : InForce) where
+module _ (t : Running) where
   -- callbacks are this step of a packet under way, over this private list
-  abbrev pub StepsInForce : List Reg → CallbackState → CallbackState → (ControlState → PacketUnderWay → PacketUnderWay) → Type 0
-  StepsInForce list old new step = ForControl lent (λ s.
-      Steps keep list old.socket old.notes old.ledger new.socket new.notes new.ledger (step s))
+  abbrev pub StepsInForce : List Reg → CallbackState → CallbackState → (Meaning → ControlState → PacketUnderWay → PacketUnderWay) → Type 0
+  StepsInForce list old new step = ForControl t.lent (λ s.
+      Steps t.keep list old.socket old.notes old.ledger new.socket new.notes new.ledger (step t.app s))
 
   -- what holds of a packet of no connection, of which nothing is noted yet, where the tree names the registrations that are on
-  abbrev pub ForOrphan : Meaning → TreeLists → Notes → Ledger → (ControlState → Counts → Type 0) → Type 0
-  ForOrphan app tree notes ledger holds = (s : ControlState) (others : Counts) → IsInForce lent s
-      → list_in_force lent tree ≡ first_active s
-      → IsNoted keep others app.fresh [] notes ledger.counts → holds s others
+  abbrev pub ForOrphan : TreeLists → Notes → Ledger → (Meaning → ControlState → Counts → Type 0) → Type 0
+  ForOrphan tree notes ledger holds = (s : ControlState) (others : Counts) → IsInForce t.lent s
+      → list_in_force t.lent tree ≡ first_active s
+      → IsNoted t.keep others t.app.fresh [] notes ledger.counts → holds t.app s others
 
   -- what holds of a connection, whatever history this state stands for
-  abbrev pub ForConnection : FlowState → (ControlState → Counts → History → Type 0) → Type 0
-  ForConnection state holds = (s : ControlState) (others : Counts) (h : History) → IsInForce lent s
-      → IsConnection keep others (registered lent) state.tree state.flow state.notes state.ledger.counts h → holds s others h
+  abbrev pub ForConnection : FlowState → (Meaning → ControlState → Counts → History → Type 0) → Type 0
+  ForConnection state holds = (s : ControlState) (others : Counts) (h : History) → IsInForce t.lent s
+      → IsConnection t.keep others (registered t.lent) state.tree state.flow state.notes state.ledger.counts h → holds t.app s others h
 
   -- a raise, or a phase, is this step of a packet under way, with the changes made that were asked
-  pub record MakesInForce (old new : FlowState) (step : ControlState → PacketUnderWay → PacketUnderWay) : Type 0 where
-    pub makes : ForControl lent (λ s.
-        Makes keep (list_in_force lent old.tree) old.flow.socket old.notes old.ledger old.interns
-        (list_in_force lent new.tree) new.flow.socket new.notes new.ledger new.interns (step s))
+  pub record MakesInForce (old new : FlowState) (step : Meaning → ControlState → PacketUnderWay → PacketUnderWay) : Type 0 where
+    pub makes : ForControl t.lent (λ s.
+        Makes t.keep (list_in_force t.lent old.tree) old.flow.socket old.notes old.ledger old.interns
+        (list_in_force t.lent new.tree) new.flow.socket new.notes new.ledger new.interns (step t.app s))
     pub asked : new.ledger.changes.items ≡ []
 
   -- it may have failed on its way
-  abbrev pub CostsInForce : FlowState → Option ℕ → (ControlState → PacketUnderWay → PacketUnderWay) → Type 0
-  CostsInForce old interns_after step = ForControl lent (λ s.
-      CostsUnder keep (list_in_force lent old.tree) (state_of old.flow.socket old.notes old.ledger) old.interns interns_after (step s))
+  abbrev pub CostsInForce : FlowState → Option ℕ → (Meaning → ControlState → PacketUnderWay → PacketUnderWay) → Type 0
+  CostsInForce old interns_after step = ForControl t.lent (λ s.
+      CostsUnder t.keep (list_in_force t.lent old.tree) (state_of old.flow.socket old.notes old.ledger) old.interns interns_after (step t.app s))
+
+  -- A packet made its step: whatever history stood for the connection, the one after it does, with at most one intern for each
+  -- alteration; and this is what the packet did.
+  pub record StepsTo (arrived : Arrived) (old new : FlowState) (step : Step) : Type 0 where
+    pub connection : ForConnection old (λ app s others h.
+        IsConnection t.keep others (registered t.lent) new.tree new.flow new.notes new.ledger.counts (followed_by app s arrived h))
+    pub interned : ForConnection old (λ app s others h. InternsWithin old.interns new.interns h.altered (followed_by app s arrived h).altered)
+    pub over : ForConnection old (λ app s others h. step.over ≡ is_over (followed_by app s arrived h))
+    pub verdict_is : ForConnection old (λ app s others h. step.verdict ≡ verdict app s arrived.number arrived.from arrived.head.now arrived.scale h)
+    pub drops : ForConnection old (λ app s others h. (followed_by app s arrived h).drops ≡ h.drops ++ drops_of step.verdict arrived.number)
 
 -- ---- what each call of a connection finds and leaves
 
@@ -156,13 +177,3 @@ module _ {S : Type 0} (store : Store S) (lent : InForce) where
   pub record MadeCalls (most : ℕ) (old new : Holding S) : Type 0 where
     pub went : Went most old new
     pub count : new.flow.count ≡ old.flow.count
-
--- A packet made its step: whatever history stood for the connection, the one after it does, with at most one intern for each
--- alteration; and this is what the packet did.
-pub record StepsTo (app : Meaning) (keep : Bool) (lent : InForce) (arrived : Arrived) (old new : FlowState) (step : Step) : Type 0 where
-  pub connection : ForConnection keep lent old (λ s others h.
-      IsConnection keep others (registered lent) new.tree new.flow new.notes new.ledger.counts (followed_by app s arrived h))
-  pub interned : ForConnection keep lent old (λ s others h. InternsWithin old.interns new.interns h.altered (followed_by app s arrived h).altered)
-  pub over : ForConnection keep lent old (λ s others h. step.over ≡ is_over (followed_by app s arrived h))
-  pub verdict_is : ForConnection keep lent old (λ s others h. step.verdict ≡ verdict app s arrived.number arrived.from arrived.head.now arrived.scale h)
-  pub drops : ForConnection keep lent old (λ s others h. (followed_by app s arrived h).drops ≡ h.drops ++ drops_of step.verdict arrived.number)

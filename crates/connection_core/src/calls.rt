@@ -7,7 +7,7 @@ ghost use Rattle.connection_core.specs.PacketUnderWay.{called, called_at, raised
 ghost use Rattle.connection_core.specs.Trees.{list_in_force};
 ghost use Rattle.connection_core.specs.Numbers.{called_by};
 ghost use Rattle.connection_core.specs.Standing.{state_of, raise_of, at_raise, in_phase};
-ghost use Rattle.connection_core.specs.Calls.{HasRoom, MayCall, CallsAtMost, StepsInForce};
+ghost use Rattle.connection_core.specs.Calls.{running, HasRoom, MayCall, CallsAtMost, StepsInForce};
 
 use crate::arrival::{Phase, RaiseAt};
 use crate::hearing::hearers;
@@ -35,9 +35,9 @@ impl<A: App> Terms<'_, A> {
     ) -> Result<(), AllocError>
         requires peek { IsTrue (peek_fits reg.now.peek) }
         requires room { HasRoom (2 ^ 63) ledger.old.counts }
-        ensures stands { OnOk result ((list : List RegOf) → StepsInForce self.now.keep self.now.in_force list
+        ensures stands { OnOk result ((list : List RegOf) → StepsInForce (running A.meaning self.now) list
             (state_of socket.old notes.old ledger.old) (state_of socket.new notes.new ledger.new)
-            (λ s c. at_raise (called (A.meaning self.now.app.now) s) raise_at.now c reg.now)) }
+            (λ app s c. at_raise (called app s) raise_at.now c reg.now)) }
         ensures most { CallsAtMost 1 (state_of socket.old notes.old ledger.old) (state_of socket.new notes.new ledger.new) }
     {
         let look = look(self.alloc, self.keep, socket, raise_at.from, &reg.peek)?;
@@ -57,9 +57,9 @@ impl<A: App> Terms<'_, A> {
         ledger: &mut Ledger,
     ) -> Result<(), AllocError>
         requires room { HasRoom (2 ^ 63) ledger.old.counts }
-        ensures stands { OnOk result ((list : List RegOf) → StepsInForce self.now.keep self.now.in_force list
+        ensures stands { OnOk result ((list : List RegOf) → StepsInForce (running A.meaning self.now) list
             (state_of socket.old notes.old ledger.old) (state_of socket.new notes.new ledger.new)
-            (λ s c. at_raise (called_by (A.meaning self.now.app.now) s) raise_at.now c (reg_of s.regs number))) }
+            (λ app s c. at_raise (called_by app s) raise_at.now c (reg_of s.regs number))) }
         ensures most { CallsAtMost 1 (state_of socket.old notes.old ledger.old) (state_of socket.new notes.new ledger.new) }
     {
         match self.in_force.reg_at(number) {
@@ -79,9 +79,9 @@ impl<A: App> Terms<'_, A> {
         ledger: &mut Ledger,
     ) -> Result<(), AllocError>
         requires ready { MayCall self.now.in_force (2 ^ 62) tree.now ledger.old.counts }
-        ensures stands { OnOk result (StepsInForce self.now.keep self.now.in_force (list_in_force self.now.in_force tree.now)
+        ensures stands { OnOk result (StepsInForce (running A.meaning self.now) (list_in_force self.now.in_force tree.now)
             (state_of socket.old notes.old ledger.old) (state_of socket.new notes.new ledger.new)
-            (λ s. at_raise (called_at (A.meaning self.now.app.now) s) raise_at.entry)) }
+            (λ app s. at_raise (called_at app s) raise_at.entry)) }
         ensures most { CallsAtMost 255 (state_of socket.old notes.old ledger.old) (state_of socket.new notes.new ledger.new) }
     {
         let defs = self.in_force.defs();
@@ -107,9 +107,9 @@ impl<A: App> Terms<'_, A> {
         ledger: &mut Ledger,
     ) -> Result<(), AllocError>
         requires ready { MayCall self.now.in_force (2 ^ 62) tree.now ledger.old.counts }
-        ensures stands { OnOk result (StepsInForce self.now.keep self.now.in_force (list_in_force self.now.in_force tree.now)
+        ensures stands { OnOk result (StepsInForce (running A.meaning self.now) (list_in_force self.now.in_force tree.now)
             (state_of socket.old notes.old ledger.old) (state_of socket.new notes.new ledger.new)
-            (λ s. at_raise (called_at (A.meaning self.now.app.now) s) raise_at.now)) }
+            (λ app s. at_raise (called_at app s) raise_at.now)) }
         ensures most { CallsAtMost 255 (state_of socket.old notes.old ledger.old) (state_of socket.new notes.new ledger.new) }
     {
         match hearers(&self.in_force, tree, raise_at.hook, raise_at.event) {
@@ -133,9 +133,9 @@ impl<A: App> Terms<'_, A> {
         ledger: &mut Ledger,
     ) -> Result<(), AllocError>
         requires ready { MayCall self.now.in_force (2 ^ 61) tree.now ledger.old.counts }
-        ensures stands { OnOk result (StepsInForce self.now.keep self.now.in_force (list_in_force self.now.in_force tree.now)
+        ensures stands { OnOk result (StepsInForce (running A.meaning self.now) (list_in_force self.now.in_force tree.now)
             (state_of socket.old notes.old ledger.old) (state_of socket.new notes.new ledger.new)
-            (λ s. in_phase (raised (A.meaning self.now.app.now) s) phase.now)) }
+            (λ app s. in_phase (raised app s) phase.now)) }
         ensures most { CallsAtMost 1530 (state_of socket.old notes.old ledger.old) (state_of socket.new notes.new ledger.new) }
     {
         for event in phase.raising.events.as_slice() {

@@ -47,7 +47,7 @@ impl Flow {
     ghost use Rattle.connection_core.specs.History.{fresh};
     ghost use Rattle.connection_core.specs.Standing.{IsFlow, Reached, at_raise, in_phase};
     ghost use Rattle.connection_core.specs.Calls.{phase_sending, phase_receiving, followed_by};
-    ghost use Rattle.connection_core.specs.Calls.{state_in, ForConnection, MakesInForce, CostsInForce};
+    ghost use Rattle.connection_core.specs.Calls.{running, state_in, ForConnection, MakesInForce, CostsInForce};
     ghost use Rattle.connection_core.specs.Calls.{holding, IsHeld, HasRoom, IsReady, HasSent, Went, MadeCalls, StepsTo};
 
     /// A connection before its first packet, with the tree of the registrations that are on at its start. It takes no memory.
@@ -79,13 +79,13 @@ impl Flow {
         requires ready { IsReady F.ForestView terms.now.in_force (2 ^ 62) (holding forests.old self.old ledger.old) }
         ensures made_calls { MadeCalls F.ForestView terms.now.in_force 255
             (holding forests.old self.old ledger.old) (holding forests.new self.new ledger.new) }
-        ensures made { OnOk result (MakesInForce terms.now.keep terms.now.in_force
+        ensures made { OnOk result (MakesInForce (running A.meaning terms.now)
             (state_in F.ForestView forests.old self.old notes.old ledger.old)
             (state_in F.ForestView forests.new self.new notes.new ledger.new)
-            (λ s. at_raise (raise_done (A.meaning terms.now.app.now) s) raise_at.now)) }
-        ensures failed { OnErr result (CostsInForce terms.now.keep terms.now.in_force
+            (λ app s. at_raise (raise_done app s) raise_at.now)) }
+        ensures failed { OnErr result (CostsInForce (running A.meaning terms.now)
             (state_in F.ForestView forests.old self.old notes.old ledger.old) (F.interns forests.new)
-            (λ s. at_raise (raise_done (A.meaning terms.now.app.now) s) raise_at.now)) }
+            (λ app s. at_raise (raise_done app s) raise_at.now)) }
     {
         let tree = forests.tree_of(&self.forest);
         terms.call_at(tree, raise_at, &mut self.socket, notes, ledger)?;
@@ -117,13 +117,13 @@ impl Flow {
         requires quiet { ledger.old.changes.items ≡ [] }
         ensures made_calls { MadeCalls F.ForestView terms.now.in_force 1530
             (holding forests.old self.old ledger.old) (holding forests.new self.new ledger.new) }
-        ensures made { OnOk result (MakesInForce terms.now.keep terms.now.in_force
+        ensures made { OnOk result (MakesInForce (running A.meaning terms.now)
             (state_in F.ForestView forests.old self.old notes.old ledger.old)
             (state_in F.ForestView forests.new self.new notes.new ledger.new)
-            (λ s. in_phase (made (A.meaning terms.now.app.now) s) phase.now)) }
-        ensures failed { OnErr result (CostsInForce terms.now.keep terms.now.in_force
+            (λ app s. in_phase (made app s) phase.now)) }
+        ensures failed { OnErr result (CostsInForce (running A.meaning terms.now)
             (state_in F.ForestView forests.old self.old notes.old ledger.old) (F.interns forests.new)
-            (λ s. in_phase (made (A.meaning terms.now.app.now) s) phase.now)) }
+            (λ app s. in_phase (made app s) phase.now)) }
     {
         for event in phase.raising.events.as_slice() {
             let raise_at = phase.raise_at(*event);
@@ -144,15 +144,15 @@ impl Flow {
         requires ready { IsReady F.ForestView terms.now.in_force (2 ^ 61) (holding forests.old self.old ledger.old) }
         ensures made_calls { MadeCalls F.ForestView terms.now.in_force 1530
             (holding forests.old self.old ledger.old) (holding forests.new self.new ledger.new) }
-        ensures stands { OnOk result (ForConnection terms.now.keep terms.now.in_force
+        ensures stands { OnOk result (ForConnection (running A.meaning terms.now)
             (state_in F.ForestView forests.old self.old notes.old ledger.old)
-            (λ s others h. Reached terms.now.keep others
+            (λ app s others h. Reached terms.now.keep others
             (list_in_force terms.now.in_force (F.content forests.new self.new.forest)) self.new.socket notes.new ledger.new
-            (F.interns forests.old) (F.interns forests.new) h.altered (phase_sending (A.meaning terms.now.app.now) s arrived.now h))) }
-        ensures failed { OnErr result (ForConnection terms.now.keep terms.now.in_force
+            (F.interns forests.old) (F.interns forests.new) h.altered (phase_sending app s arrived.now h))) }
+        ensures failed { OnErr result (ForConnection (running A.meaning terms.now)
             (state_in F.ForestView forests.old self.old notes.old ledger.old)
-            (λ s others h. InternsWithin (F.interns forests.old) (F.interns forests.new)
-            h.altered (phase_sending (A.meaning terms.now.app.now) s arrived.now h).altered)) }
+            (λ app s others h. InternsWithin (F.interns forests.old) (F.interns forests.new)
+            h.altered (phase_sending app s arrived.now h).altered)) }
         ensures asked { OnOk result (ledger.new.changes.items ≡ []) }
     {
         ledger.begin();
@@ -182,13 +182,13 @@ impl Flow {
         requires sent { HasSent F.ForestView terms.now.in_force (holding forests.old self.old ledger.old) }
         ensures went { Went F.ForestView terms.now.in_force 1530
             (holding forests.old self.old ledger.old) (holding forests.new self.new ledger.new) }
-        ensures stands { OnOk result (MakesInForce terms.now.keep terms.now.in_force
+        ensures stands { OnOk result (MakesInForce (running A.meaning terms.now)
             (state_in F.ForestView forests.old self.old notes.old ledger.old)
             (state_in F.ForestView forests.new self.new notes.new ledger.new)
-            (λ s. phase_receiving (A.meaning terms.now.app.now) s arrived.now self.old.count)) }
-        ensures failed { OnErr result (CostsInForce terms.now.keep terms.now.in_force
+            (λ app s. phase_receiving app s arrived.now self.old.count)) }
+        ensures failed { OnErr result (CostsInForce (running A.meaning terms.now)
             (state_in F.ForestView forests.old self.old notes.old ledger.old) (F.interns forests.new)
-            (λ s. phase_receiving (A.meaning terms.now.app.now) s arrived.now self.old.count)) }
+            (λ app s. phase_receiving app s arrived.now self.old.count)) }
         ensures counted { OnOk result (self.new.count ≡ self.old.count + 1) }
     {
         let nth = self.count;
@@ -226,15 +226,15 @@ impl Flow {
         requires room { HasRoom (2 ^ 60) ledger.old.counts }
         ensures went { Went F.ForestView terms.now.in_force 3060
             (holding forests.old self.old ledger.old) (holding forests.new self.new ledger.new) }
-        ensures stands { IfOk result (λ step. StepsTo (A.meaning terms.now.app.now) terms.now.keep terms.now.in_force arrived.now
+        ensures stands { IfOk result (λ step. StepsTo (running A.meaning terms.now) arrived.now
             (state_in F.ForestView forests.old self.old notes.old ledger.old)
             (state_in F.ForestView forests.new self.new notes.new ledger.new) step) }
 
         // Where memory is refused on the way, too, it costs at most one intern for each change that alters the private list.
-        ensures failed { OnErr result (ForConnection terms.now.keep terms.now.in_force
+        ensures failed { OnErr result (ForConnection (running A.meaning terms.now)
             (state_in F.ForestView forests.old self.old notes.old ledger.old)
-            (λ s others h. InternsWithin (F.interns forests.old) (F.interns forests.new)
-            h.altered (followed_by (A.meaning terms.now.app.now) s arrived.now h).altered)) }
+            (λ app s others h. InternsWithin (F.interns forests.old) (F.interns forests.new)
+            h.altered (followed_by app s arrived.now h).altered)) }
     {
         self.send(terms, forests, arrived, notes, ledger)?;
         let verdict = verdict_of(ledger.drop);

@@ -5,7 +5,7 @@ ghost use Rattle.builtin_events.specs.Raised.{raises_of};
 ghost use Rattle.connection_core.specs.Trees.{IsForestInForce};
 ghost use Rattle.connection_core.specs.History.{orphan_history, orphan_verdict, drops_of};
 ghost use Rattle.connection_core.specs.Standing.{RiseBy};
-ghost use Rattle.connection_core.specs.Calls.{ForOrphan, IsNotedOf};
+ghost use Rattle.connection_core.specs.Calls.{running, ForOrphan, IsNotedOf};
 
 use crate::arrival::Phase;
 use crate::flow::verdict_of;
@@ -33,16 +33,16 @@ pub fn orphan<A: App, F: ForestView>(
     requires forest { IsForestInForce terms.now.in_force (F.content forests.now forest.now) }
     requires callbacks { ledger.old.counts.callbacks < 2 ^ 60 }
     requires weight { ledger.old.counts.weight < 2 ^ 60 }
-    ensures stands { OnOk result (ForOrphan terms.now.keep terms.now.in_force (A.meaning terms.now.app.now)
+    ensures stands { OnOk result (ForOrphan (running A.meaning terms.now)
         (F.content forests.now forest.now) notes.old ledger.old
-        (λ s others. IsNotedOf terms.now.keep others
-        (orphan_history (A.meaning terms.now.app.now) s number (raises_of raised)) notes.new ledger.new)) }
-    ensures verdict { IfOk result (λ verdict. ForOrphan terms.now.keep terms.now.in_force (A.meaning terms.now.app.now)
+        (λ app s others. IsNotedOf terms.now.keep others
+        (orphan_history app s number (raises_of raised)) notes.new ledger.new)) }
+    ensures verdict { IfOk result (λ verdict. ForOrphan (running A.meaning terms.now)
         (F.content forests.now forest.now) notes.old ledger.old
-        (λ s others. verdict ≡ orphan_verdict (A.meaning terms.now.app.now) s number (raises_of raised))) }
-    ensures drops { IfOk result (λ verdict. ForOrphan terms.now.keep terms.now.in_force (A.meaning terms.now.app.now)
+        (λ app s others. verdict ≡ orphan_verdict app s number (raises_of raised))) }
+    ensures drops { IfOk result (λ verdict. ForOrphan (running A.meaning terms.now)
         (F.content forests.now forest.now) notes.old ledger.old
-        (λ s others. (orphan_history (A.meaning terms.now.app.now) s number (raises_of raised)).drops ≡ drops_of verdict number)) }
+        (λ app s others. (orphan_history app s number (raises_of raised)).drops ≡ drops_of verdict number)) }
     ensures rise { RiseBy 1530 ledger.old.counts ledger.new.counts }
 {
     ledger.begin();

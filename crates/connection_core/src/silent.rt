@@ -6,7 +6,7 @@ ghost use Rattle.native_filters.specs.declared.facts.Hook.TheVariants.{Rcv};
 ghost use Rattle.connection_core.specs.Trees.{IsForestInForce};
 ghost use Rattle.connection_core.specs.Silence.{silenced};
 ghost use Rattle.connection_core.specs.Standing.{RiseBy};
-ghost use Rattle.connection_core.specs.Calls.{state_in, ForConnection, IsNotedOf};
+ghost use Rattle.connection_core.specs.Calls.{running, state_in, ForConnection, IsNotedOf};
 
 use crate::arrival::RaiseAt;
 use crate::flow::Flow;
@@ -35,10 +35,10 @@ pub fn silence<A: App, F: ForestView>(
     requires forest { IsForestInForce terms.now.in_force (F.content forests.now flow.forest) }
     requires callbacks { ledger.old.counts.callbacks < 2 ^ 60 }
     requires weight { ledger.old.counts.weight < 2 ^ 60 }
-    ensures stands { OnOk result (ForConnection terms.now.keep terms.now.in_force
+    ensures stands { OnOk result (ForConnection (running A.meaning terms.now)
         (state_in F.ForestView forests.now flow notes.old ledger.old)
-        (λ s others h. IsNotedOf terms.now.keep others
-        (silenced (A.meaning terms.now.app.now) s number (record { hook = Rcv; event = EVENT; facts = facts.now }) h)
+        (λ app s others h. IsNotedOf terms.now.keep others
+        (silenced app s number (record { hook = Rcv; event = EVENT; facts = facts.now }) h)
         notes.new ledger.new)) }
     ensures rise { RiseBy 255 ledger.old.counts ledger.new.counts }
 {

@@ -2,6 +2,7 @@ use Rattle.std.proofs.Common.{ℕ, ap, refl, subst, ◌∙◌}
 use Rattle.connection_core.specs.InForce.{registered}
 use Rattle.connection_core.specs.Trees.{active_in, InternsWithin}
 use Rattle.connection_core.specs.Standing.{Reached}
+use Rattle.connection_core.specs.Calls.{running}
 use Rattle.connection_core.specs.History.{receiver_phase, sender_phase, followed, verdict_of}
 use Rattle.connection_core.proofs.Changing.{within-on}
 use Rattle.connection_core.proofs.Errors.{on_err_always}
@@ -14,7 +15,7 @@ unfolding followed
 returns-in-Some-clause-stands g c =
     let app = g.A.App.meaning c.args.terms.now.app.now in
     let arrived = c.args.arrived.now in
-    steps_to app c.args.terms.now.keep c.args.terms.now.in_force arrived _ _ _
+    steps_to (running g.A.App.meaning c.args.terms.now) arrived _ _ _
     (λ s others h force is.
     let reached = c.in_ok-send.ensures.stands s others h force is in
     let sent = sender_phase app s arrived.number arrived.from arrived.head.now arrived.scale h in
@@ -32,7 +33,7 @@ unfolding followed
 returns-clause-stands g c =
     let app = g.A.App.meaning c.args.terms.now.app.now in
     let arrived = c.args.arrived.now in
-    steps_to app c.args.terms.now.keep c.args.terms.now.in_force arrived _ _ _
+    steps_to (running g.A.App.meaning c.args.terms.now) arrived _ _ _
     (λ s others h force is.
     let reached = c.in_ok-send.ensures.stands s others h force is in
     let counted = c.send.ensures.made_calls.count ∙ is.kept.count in
