@@ -15,10 +15,11 @@ use Rattle.connection_core.specs.declared.ledger.Ledger.{Ledger}
 use Rattle.connection_core.specs.declared.ledger.Notes.{Notes}
 use Rattle.connection_core.specs.declared.terms.Terms.{Terms}
 use Rattle.connection_core.specs.declared.arrival.Arrived.{Arrived}
+use Rattle.connection_core.specs.declared.arrival.RaiseAt.{RaiseAt}
 use Rattle.connection_core.specs.InForce.{registered, IsInForce, ForControl}
-use Rattle.connection_core.specs.PacketUnderWay.{PacketUnderWay}
+use Rattle.connection_core.specs.PacketUnderWay.{PacketUnderWay, called_at}
 use Rattle.connection_core.specs.History.{History, sender_phase, receiver_phase, followed, verdict, drops_of, is_over}
-use Rattle.connection_core.specs.Standing.{IsNoted, IsConnection, IsUnder, CallbackState, state_of, Steps, Alters, Costs, CostsUnder, Makes, IsAsFar, RiseBy}
+use Rattle.connection_core.specs.Standing.{IsNoted, IsConnection, CallbackState, state_of, Steps, Alters, Costs, CostsUnder, Makes, IsAsFar, RiseBy, at_raise}
 use Rattle.connection_core.specs.Trees.{list_in_force, IsForestInForce, InternsWithin}
 
 -- ---- what callbacks run under
@@ -109,6 +110,10 @@ module _ (t : Running) where
   abbrev pub StepsInForce : List Reg → CallbackState → CallbackState → (Meaning → ControlState → PacketUnderWay → PacketUnderWay) → Type 0
   StepsInForce list old new step = ForControl t.lent (λ s.
       Steps t.keep list old.socket old.notes old.ledger new.socket new.notes new.ledger (step t.app s))
+
+  -- they are those of this raise, over this tree
+  abbrev pub CallsAt : TreeLists → RaiseAt → CallbackState → CallbackState → Type 0
+  CallsAt tree raise_at old new = StepsInForce (list_in_force t.lent tree) old new (λ app s. at_raise (called_at app s) raise_at)
 
   -- what holds of a packet of no connection, of which nothing is noted yet, where the tree names the registrations that are on
   abbrev pub ForOrphan : TreeLists → Notes → Ledger → (Meaning → ControlState → Counts → Type 0) → Type 0

@@ -3,11 +3,11 @@
 ghost use Rattle.std.specs.Prelude.{◌≡◌, ◌≤◌, ◌<◌, ◌+◌, ◌*◌, ◌^◌, IsTrue, OnOk, List, ℕ, length};
 ghost use Rattle.app_api.specs.Reg.{peek_fits, reg_of};
 ghost use Rattle.app_api.specs.declared.registration.Reg.{Reg as RegOf};
-ghost use Rattle.connection_core.specs.PacketUnderWay.{called, called_at, raised};
+ghost use Rattle.connection_core.specs.PacketUnderWay.{called, raised};
 ghost use Rattle.connection_core.specs.Trees.{list_in_force};
 ghost use Rattle.connection_core.specs.Numbers.{called_by};
 ghost use Rattle.connection_core.specs.Standing.{state_of, raise_of, at_raise, in_phase};
-ghost use Rattle.connection_core.specs.Calls.{running, HasRoom, MayCall, CallsAtMost, StepsInForce};
+ghost use Rattle.connection_core.specs.Calls.{running, HasRoom, MayCall, CallsAtMost, StepsInForce, CallsAt};
 
 use crate::arrival::{Phase, RaiseAt};
 use crate::hearing::hearers;
@@ -38,7 +38,8 @@ impl<A: App> Terms<'_, A> {
         ensures stands { OnOk result ((list : List RegOf) → StepsInForce (running A.meaning self.now) list
             (state_of socket.old notes.old ledger.old) (state_of socket.new notes.new ledger.new)
             (λ app s c. at_raise (called app s) raise_at.now c reg.now)) }
-        ensures most { CallsAtMost 1 (state_of socket.old notes.old ledger.old) (state_of socket.new notes.new ledger.new) }
+        ensures most { CallsAtMost 1
+            (state_of socket.old notes.old ledger.old) (state_of socket.new notes.new ledger.new) }
     {
         let look = look(self.alloc, self.keep, socket, raise_at.from, &reg.peek)?;
         let reaction = self.react(raise_at, reg, look.got, &mut notes.tally);
@@ -60,7 +61,8 @@ impl<A: App> Terms<'_, A> {
         ensures stands { OnOk result ((list : List RegOf) → StepsInForce (running A.meaning self.now) list
             (state_of socket.old notes.old ledger.old) (state_of socket.new notes.new ledger.new)
             (λ app s c. at_raise (called_by app s) raise_at.now c (reg_of s.regs number))) }
-        ensures most { CallsAtMost 1 (state_of socket.old notes.old ledger.old) (state_of socket.new notes.new ledger.new) }
+        ensures most { CallsAtMost 1
+            (state_of socket.old notes.old ledger.old) (state_of socket.new notes.new ledger.new) }
     {
         match self.in_force.reg_at(number) {
             Some(reg) => self.call(raise_at, reg, socket, notes, ledger),
@@ -79,10 +81,10 @@ impl<A: App> Terms<'_, A> {
         ledger: &mut Ledger,
     ) -> Result<(), AllocError>
         requires ready { MayCall self.now.in_force (2 ^ 62) tree.now ledger.old.counts }
-        ensures stands { OnOk result (StepsInForce (running A.meaning self.now) (list_in_force self.now.in_force tree.now)
-            (state_of socket.old notes.old ledger.old) (state_of socket.new notes.new ledger.new)
-            (λ app s. at_raise (called_at app s) raise_at.entry)) }
-        ensures most { CallsAtMost 255 (state_of socket.old notes.old ledger.old) (state_of socket.new notes.new ledger.new) }
+        ensures stands { OnOk result (CallsAt (running A.meaning self.now) tree.now raise_at.entry
+            (state_of socket.old notes.old ledger.old) (state_of socket.new notes.new ledger.new)) }
+        ensures most { CallsAtMost 255
+            (state_of socket.old notes.old ledger.old) (state_of socket.new notes.new ledger.new) }
     {
         let defs = self.in_force.defs();
         slots_in_order(tree);
@@ -107,10 +109,10 @@ impl<A: App> Terms<'_, A> {
         ledger: &mut Ledger,
     ) -> Result<(), AllocError>
         requires ready { MayCall self.now.in_force (2 ^ 62) tree.now ledger.old.counts }
-        ensures stands { OnOk result (StepsInForce (running A.meaning self.now) (list_in_force self.now.in_force tree.now)
-            (state_of socket.old notes.old ledger.old) (state_of socket.new notes.new ledger.new)
-            (λ app s. at_raise (called_at app s) raise_at.now)) }
-        ensures most { CallsAtMost 255 (state_of socket.old notes.old ledger.old) (state_of socket.new notes.new ledger.new) }
+        ensures stands { OnOk result (CallsAt (running A.meaning self.now) tree.now raise_at.now
+            (state_of socket.old notes.old ledger.old) (state_of socket.new notes.new ledger.new)) }
+        ensures most { CallsAtMost 255
+            (state_of socket.old notes.old ledger.old) (state_of socket.new notes.new ledger.new) }
     {
         match hearers(&self.in_force, tree, raise_at.hook, raise_at.event) {
             Hearers::Nobody => Ok(()),
@@ -133,10 +135,12 @@ impl<A: App> Terms<'_, A> {
         ledger: &mut Ledger,
     ) -> Result<(), AllocError>
         requires ready { MayCall self.now.in_force (2 ^ 61) tree.now ledger.old.counts }
-        ensures stands { OnOk result (StepsInForce (running A.meaning self.now) (list_in_force self.now.in_force tree.now)
+        ensures stands { OnOk result (StepsInForce (running A.meaning self.now)
+            (list_in_force self.now.in_force tree.now)
             (state_of socket.old notes.old ledger.old) (state_of socket.new notes.new ledger.new)
             (λ app s. in_phase (raised app s) phase.now)) }
-        ensures most { CallsAtMost 1530 (state_of socket.old notes.old ledger.old) (state_of socket.new notes.new ledger.new) }
+        ensures most { CallsAtMost 1530
+            (state_of socket.old notes.old ledger.old) (state_of socket.new notes.new ledger.new) }
     {
         for event in phase.raising.events.as_slice() {
             let raise_at = phase.raise_at(*event);

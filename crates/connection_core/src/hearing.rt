@@ -49,8 +49,8 @@ pub(crate) fn hearers(in_force: &InForce, tree: &Tree, hook: Hook, event: u16) -
     requires forest { IsForestInForce in_force.now tree.now }
     ensures nobody { result ≡ Hearers.Nobody → (s : ControlState) (facts : Facts) → IsInForce in_force.now s
         → CallsNothing s (list_in_force in_force.now tree.now) (record { hook = hook; event = event; facts = facts }) }
-    ensures one { (number : ℕ) → result ≡ Hearers.One number → (s : ControlState) (facts : Facts) → IsInForce in_force.now s
-        → CallsOne s (list_in_force in_force.now tree.now) (record { hook = hook; event = event; facts = facts }) number }
+    ensures one { (number : ℕ) → result ≡ Hearers.One number → (s : ControlState) (facts : Facts)
+        → IsInForce in_force.now s → CallsOne s (list_in_force in_force.now tree.now) (record { hook = hook; event = event; facts = facts }) number }
 {
     raises_call_who_hears(in_force, tree);
     if !is_built_in(event) {
