@@ -230,12 +230,7 @@ fn note(drops: &mut DropList, number: u64, verdict: Verdict) -> bool {
 }
 
 // One packet more.
-fn follow(
-    terms: &Terms<LogApp>,
-    table: &mut Table,
-    played: &mut Played,
-    packet: &Packet,
-) -> bool
+fn follow(terms: &Terms<LogApp>, table: &mut Table, played: &mut Played, packet: &Packet) -> bool
     requires answered { HasRow table.old played.old.flow.forest }
     requires forest { IsForestInForce terms.now.in_force (tree_at table.old played.old.flow.forest) }
     ensures answered { HasRow table.new played.new.flow.forest }

@@ -65,13 +65,9 @@ pub(crate) fn step_one<A: App, F: Forests>(
         scale: segment.scale,
         payload: segment.payload,
     };
-    let step = conn.flow.step(
-        &called,
-        forests,
-        &arrived,
-        &mut slot.notes,
-        ledger,
-    )?;
+    let step = conn
+        .flow
+        .step(&called, forests, &arrived, &mut slot.notes, ledger)?;
     slot.note(terms.number, step.verdict)?;
     conn.last = terms.number;
     conn.moment = terms.moment;
