@@ -10,9 +10,12 @@ use Rattle.words.specs.declared.settings.Settings.{Settings}
 use Rattle.mos_run.specs.declared.ended.Ended.{Ended}
 use Rattle.mos_run.specs.declared.refusal.RunError.{RunError}
 use Rattle.mos_run.specs.declared.refusal.RunError.TheVariants.{NoMemory}
+use Rattle.capture_replay.specs.declared.output.Output.TheVariants.{Report}
+use Rattle.capture_replay.specs.Records.{packets_with}
 use Rattle.capture_replay.specs.Outcome.{Outcome, is_forward, output_of}
 use Rattle.mos_run.specs.Refusal.{WritesText, status_of, refusal_text}
 use Rattle.capture_replay.specs.Runs.{Finishes}
+use Rattle.capture_replay.specs.Typed.{ReportIsTyped}
 use Rattle.mos_run.specs.Outcome.{StopsAs}
 use Rattle.app_api.specs.App.{Meaning}
 use Rattle.mos_run.specs.Request.{Request, Refused, Asked, Allows, HasNoLive, app_in, outcome_alone, outcome_under, requested}
@@ -27,10 +30,16 @@ pub record UnderSome (request : Request) (P : Outcome RunError → Type 0) : Typ
   pub allowed : Allows request versions
   pub holds : P (outcome_under versions request)
 
+-- where a run is asked for a report, the numbers and bytes of its records and totals under these versions have their types
+abbrev pub HasTypes : Request → List ℕ → Type 0
+HasTypes (Refused e) versions = ⊤
+HasTypes (Asked w file) versions = w.output ≡ Report → ReportIsTyped w.app w.commands (packets_with w.app w.commands versions) file.bytes
+
 -- the run ends well under these versions, which it may have
 pub record FinishesUnder (request : Request) (versions : List ℕ) (old new : Option (List ℕ)) : Type 0 where
   pub allowed : Allows request versions
   pub finishes : Finishes (outcome_under versions request) versions old new
+  pub typed : HasTypes request versions
 
 -- where no command is stamped live, the run ends well as that of one worker does
 abbrev pub FinishesAlone : Request → List ℕ → Option (List ℕ) → Option (List ℕ) → Type 0
