@@ -45,7 +45,7 @@ module _ (app : Meaning) (script : List Stamped) (given : List Captured → List
   -- and it is no run over a file that is refused
   abbrev IsToEnd : Result Frames OpenError → Option NgFault → Type 0
   IsToEnd capture refusal = (f : Frames) × (n : ℕ) × (capture ≡ Ok f) × (f.ending ≡ tail n) × ((outcome_by app script given output header capture).ends ≡ Ok versions)
-  × ((outcome_in_file app script given output header capture refusal).text ≡ (outcome_by app script given output header capture).text)
+      × ((outcome_in_file app script given output header capture refusal).text ≡ (outcome_by app script given output header capture).text)
 
   to-end : (capture : Result Frames OpenError) (refusal : Option NgFault) → (outcome_in_file app script given output header capture refusal).ends ≡ Ok versions → IsToEnd capture refusal
   to-end (Ok f) None ends = let at = told-ending f.frames f.ending ends in (f, at.0, refl, at.1, at.2, refl)

@@ -15,17 +15,17 @@ either-six : (status : ℕ) → (status ≡ 6) ⊎ (status ≡ 6) → status ≡
 either-six status (inl six) = six
 either-six status (inr six) = six
 
-pub returns-in-Err-clause-ran : goal.returns-in-Err-clause-ran
-returns-in-Err-clause-ran g c =
+pub returns-in-Err : goal.returns-in-Err
+returns-in-Err g c =
     let refused = c.refuse-ended.ensures in
     let rest = ran_without_memory g.S.Source g.H.Shelf g.O.Sink g.E.Sink (g.A.App.meaning c.args.app) (Some c.args.settings.now) c.args.capture.now c.args.shelf.now c.args.out _
     c.args.err.now c.refuse-ended.new.err c.refuse-ended.result
     (λ x is. has_some c.what_one_worker_has_is_allowed.ensures.allowed _ _ _ _ x is) c.in-Err.ensures.err (either-six _ refused.status) refused.versions refused.told refused.lasts in
     let six = either-six _ refused.status in
-    record { done = λ zero. absurd (omega (arith, six, zero)); alone = λ zero. absurd (omega (arith, six, zero)); rest = rest }
+    record { ran = record { done = λ zero. absurd (omega (arith, six, zero)); alone = λ zero. absurd (omega (arith, six, zero)); rest = rest } }
 
-pub returns-clause-ran : goal.returns-clause-ran
-returns-clause-ran g c =
+pub returns : goal.returns
+returns g c =
     let settings = Some c.args.settings.now in
     let app = g.A.App.meaning c.args.app in
     let out = c.args.out in
@@ -58,7 +58,7 @@ returns-clause-ran g c =
       front = λ text part. front_below g.O.Sink.taken out (start_of handed) (given_to a) (given_to b) (given_to handed) (g.O.Sink.taken got) text start new.given part finish.given inner.between;
       lasts = ap g.O.Sink.lasting inner.inner ∙ ap (λ p. p.1) finish.lasts ∙ ap (λ p. p.1) ran.out_lasts ∙ ap g.O.Sink.lasting new.over;
     }) ran in
-    record {
+    record { ran = record {
       done = done;
       alone = λ zero t is.
           finishes_alone c.what_one_worker_has_is_allowed.ensures.outcome c.what_one_worker_has_is_allowed.ensures.forwarded c.without_live_commands_all_versions_are_known.ensures app settings
@@ -72,4 +72,4 @@ returns-clause-ran g c =
           (rose_below g.O.Sink.faults out (start_of handed) (gathering_faults a) (gathering_faults handed) (gathering_faults handed) (g.O.Sink.faults got) start first (le_refl _) inner.cause
           (rose_since (gathering_faults a) (gathering_faults b) (gathering_faults handed) ran.write_fault.later (finish.cause.failed failed)))
           (after.status failed zero) (after.told failed zero).0 (after.told failed zero).1 after.lasts);
-    }
+    } }
