@@ -11,7 +11,7 @@ ghost use Rattle.std.specs.Prelude.{◌≡◌, ◌⊎◌, map, Some, IfOk, IsErr
 ghost use Rattle.std.specs.Process.{exit_status};
 ghost use Rattle.words.specs.Own.{own_settings};
 ghost use Rattle.mos_run.specs.Request.{Request, request_for, request_of};
-ghost use Rattle.mos_run.specs.Run.{FinishesAlone, FinishesUnder, MosRun, RanUnder, TellsOf};
+ghost use Rattle.mos_run.specs.Run.{FinishesUnder, MosRun, Promised, TellsOf, outside};
 
 use app_api::App;
 use mos_bytes::{FolderShelf, ReadSource, Shelf, Sink, Source, WriteSink};
@@ -101,11 +101,8 @@ pub fn run_program<
     ensures done { IfOk words (λ words. result.ended.status ≡ 0
         → (t : Request) → request_of (map string_bytes words.items) (H.content shelf.old) (S.left capture.old) ≡ Some t
         → FinishesUnder t result.ended.versions (O.taken out) (O.taken result.out)) }
-    ensures alone { IfOk words (λ words. result.ended.status ≡ 0
-        → (t : Request) → request_of (map string_bytes words.items) (H.content shelf.old) (S.left capture.old) ≡ Some t
-        → FinishesAlone t result.ended.versions (O.taken out) (O.taken result.out)) }
     ensures ran { IfOk words (λ words. MosRun S.Source H.Shelf O.Sink E.Sink (map string_bytes words.items)
-        capture.old capture.new shelf.old shelf.new out result.out err.old err.new result.ended) }
+        (outside capture.old shelf.old out err.old) (outside capture.new shelf.new result.out err.new) result.ended) }
     // Else nothing but `err` is touched.
     ensures unread { IsErr words → ((result.ended.status ≡ 1) ⊎ (result.ended.status ≡ 6))
         × (capture.new ≡ capture.old) × (shelf.new ≡ shelf.old) × (result.out ≡ out) }
@@ -156,12 +153,9 @@ pub fn run_own_program<
     ensures done { IfOk words (λ words. result.ended.status ≡ 0 → (t : Request)
         → request_for (A.meaning app) (map string_bytes words.items) (H.content shelf.old) (S.left capture.old) ≡ Some t
         → FinishesUnder t result.ended.versions (O.taken out) (O.taken result.out)) }
-    ensures alone { IfOk words (λ words. result.ended.status ≡ 0 → (t : Request)
-        → request_for (A.meaning app) (map string_bytes words.items) (H.content shelf.old) (S.left capture.old) ≡ Some t
-        → FinishesAlone t result.ended.versions (O.taken out) (O.taken result.out)) }
-    ensures ran { IfOk words (λ words. RanUnder S.Source H.Shelf O.Sink E.Sink (A.meaning app)
+    ensures ran { IfOk words (λ words. Promised S.Source H.Shelf O.Sink E.Sink (A.meaning app)
         (own_settings (map string_bytes words.items))
-        capture.old capture.new shelf.old shelf.new out result.out err.old err.new result.ended) }
+        (outside capture.old shelf.old out err.old) (outside capture.new shelf.new result.out err.new) result.ended) }
     // Else nothing but `err` is touched.
     ensures unread { IsErr words → ((result.ended.status ≡ 1) ⊎ (result.ended.status ≡ 6))
         × (capture.new ≡ capture.old) × (shelf.new ≡ shelf.old) × (result.out ≡ out) }

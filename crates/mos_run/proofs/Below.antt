@@ -130,6 +130,7 @@ done_below t versions start first given handed now none done kept same = record 
     written = subst (λ x. Appends start x (outcome_under versions t).text) (sym same)
         (Appends-kept start given handed _ (subst (λ a. Appends a given (outcome_under versions t).text) none done.finishes.written) kept);
   };
+  typed = done.typed;
 }
 
 -- ---- its faults

@@ -20,7 +20,7 @@ use Rattle.mos_run.specs.declared.refusal.RunError.TheVariants as Run
 use Rattle.mos_run.specs.Outcome.{StopsAs}
 use Rattle.mos_run.specs.Refusal.{status_of, words_refusal}
 use Rattle.mos_run.specs.Request.{Refused, Request, Wanted, requested, wanted}
-use Rattle.mos_run.specs.Run.{ComesBefore, EndsAs, RanUnder, RunsUnder, TellsOf}
+use Rattle.mos_run.specs.Run.{ComesBefore, EndsAs, Promised, RanUnder, RunsUnder, TellsOf, outside}
 use Rattle.mos_run.specs.Runs.{RunsOverFile, RunsUnderSettings, wanted_by}
 use Rattle.mos_run.proofs.Outcomes.{ends_as, ends_well, ends_whole, refused_words, stops_or_memory, under_more, whole_front}
 
@@ -271,7 +271,7 @@ module _ {S H O E : Type 0} (source : Source S) (shelf : Shelf H) (sink : Sink O
   -- it answered versions
   pub ran_well : (versions : List ℕ) → RunsUnderSettings source shelf sink app settings s t h i o p (Ok versions)
       → ((x : Request) → asked_as x → RunsUnder x (sink.taken o) (sink.taken p) (Ok versions)) → ended.status ≡ 0 → f ≡ e
-      → RanUnder source shelf sink err app settings s t h i o p e f ended
+      → RanUnder source shelf sink err app settings (outside s h o e) (outside t i p f) ended
   ran_well versions ran runs zero same = record {
     read = λ is. ran.read refl;
     ends = λ x is. ends_well x versions _ _ ended.status zero (runs x is);
@@ -303,7 +303,7 @@ module _ {S H O E : Type 0} (source : Source S) (shelf : Shelf H) (sink : Sink O
       → ((x : Request) → asked_as x → RunsUnder x (sink.taken o) (sink.taken p) (Err error))
       → (ended.status ≡ status_of error) ⊎ (ended.status ≡ 6) → (error ≡ Run.Usage → ended.status ≡ 1) → ended.versions ≡ []
       → TellsOf error ended.status (err.taken e) (err.taken f) (err.faults e) (err.faults f) → err.lasting f ≡ err.lasting e
-      → RanUnder source shelf sink err app settings s t h i o p e f ended
+      → RanUnder source shelf sink err app settings (outside s h o e) (outside t i p f) ended
   ran_badly error ran runs status usage none tells lasts =
       let some = told-some error ended.status status in
       record {
@@ -359,14 +359,26 @@ module _ {S H O E : Type 0} (source : Source S) (shelf : Shelf H) (sink : Sink O
       not-at before (inl own) n is which = not-before ended.status n before (own ∙ is) which
       not-at before (inr memory) n is which = not-before ended.status 6 before memory (inr (inr refl))
 
+  -- so it promised nothing of status 0
+  pub badly : (error : RunError) → RunsUnderSettings source shelf sink app settings s t h i o p (Err error)
+      → ((x : Request) → asked_as x → RunsUnder x (sink.taken o) (sink.taken p) (Err error))
+      → (ended.status ≡ status_of error) ⊎ (ended.status ≡ 6) → (error ≡ Run.Usage → ended.status ≡ 1) → ended.versions ≡ []
+      → TellsOf error ended.status (err.taken e) (err.taken f) (err.faults e) (err.faults f) → err.lasting f ≡ err.lasting e
+      → Promised source shelf sink err app settings (outside s h o e) (outside t i p f) ended
+  badly error ran runs status usage none tells lasts = record {
+    done = λ zero. absurd (told-some error ended.status status zero);
+    alone = λ zero. absurd (told-some error ended.status status zero);
+    rest = ran_badly error ran runs status usage none tells lasts;
+  }
+
 -- refused words, as they were told
 pub ran_refused : {S H O E : Type 0} (source : Source S) (shelf : Shelf H) (sink : Sink O) (err : Sink E) (app : Meaning) (settings : Option Settings) (s : S) (h : H) (o : O) (e f : E) (ended : Ended)
     (error : WordsError) (refusal : RunError) → refusal ≡ words_refusal error → CeilingsMayBeHad → (error ≡ Words.Usage → settings ≡ None)
     → (ended.status ≡ status_of refusal) ⊎ (ended.status ≡ 6) → (refusal ≡ Run.Usage → ended.status ≡ 1) → ended.versions ≡ []
     → TellsOf refusal ended.status (err.taken e) (err.taken f) (err.faults e) (err.faults f) → err.lasting f ≡ err.lasting e
-    → RanUnder source shelf sink err app settings s s h h o o e f ended
+    → Promised source shelf sink err app settings (outside s h o e) (outside s h o f) ended
 ran_refused source shelf sink err app settings s h o e f ended error refusal same law usage status one none tells lasts =
-    ran_badly source shelf sink err app settings s s h h o o e f ended refusal
+    badly source shelf sink err app settings s s h h o o e f ended refusal
     (subst (λ r. RunsUnderSettings source shelf sink app settings s s h h o o (Err r)) (sym same) (words-ran source shelf sink app settings s h o error usage))
     (λ x is. subst (λ r. RunsUnder x (sink.taken o) (sink.taken o) (Err r)) (sym same) (refused_words law app settings (shelf.content h) (source.left s) (sink.taken o) x error usage is))
     status one none tells lasts

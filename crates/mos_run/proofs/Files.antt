@@ -147,7 +147,7 @@ module _ (w : Wanted) (bytes : List ℕ) (old new : Option (List ℕ)) where
       → Replays w bytes old new result
       → RunsUnder (Asked w (record { bytes = bytes; refusal = refusal })) old new (explained fault result)
   unfolding outcome outcome_over
-  over_given None None (Ok versions) met long all begun cut runs = record { allowed = runs.allowed; finishes = told-done _ versions old new runs.finishes }
+  over_given None None (Ok versions) met long all begun cut runs = record { allowed = runs.allowed; finishes = told-done _ versions old new runs.finishes; typed = runs.typed }
   over_given None None (Err e) met long all begun cut runs = record {
     versions = runs.versions;
     allowed = runs.allowed;

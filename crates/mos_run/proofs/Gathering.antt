@@ -13,7 +13,7 @@ use Rattle.mos_run.specs.declared.ended.Ended.{Ended}
 use Rattle.mos_run.specs.declared.refusal.RunError.TheVariants as Run
 use Rattle.mos_run.specs.Refusal.{refusal_text, WritesText}
 use Rattle.mos_run.specs.Request.{Request, Refused, requested, outcome_under}
-use Rattle.mos_run.specs.Run.{EndsAs, FinishesUnder, RanUnder, TellsOf}
+use Rattle.mos_run.specs.Run.{EndsAs, FinishesUnder, RanUnder, TellsOf, outside}
 use Rattle.mos_run.specs.Outcome.{StopsAs}
 use Rattle.mos_run.proofs.Below.{may_fail}
 use Rattle.mos_run.proofs.Outcomes.{HasSome, ends_as, stops_or_memory, under_more}
@@ -34,8 +34,8 @@ handed_by (Err e) (suc n) good bad = good (inr (λ none. cc))
 
 module _ {S H O E : Type 0} (source : Source S) (shelf : Shelf H) (sink : Sink O) (err : Sink E) (app : Meaning) (settings : Option Settings) (s t : S) (h i : H) (o p : O) where
   -- over the sink below
-  pub ran_below : {G : Type 0} (gathers : Sink G) (a b : G) (e f : E) (ended : Ended) → IsBelow gathers sink a b o p → RanUnder source shelf gathers err app settings s t h i a b e f ended
-      → RanUnder source shelf sink err app settings s t h i o p e f ended
+  pub ran_below : {G : Type 0} (gathers : Sink G) (a b : G) (e f : E) (ended : Ended) → IsBelow gathers sink a b o p → RanUnder source shelf gathers err app settings (outside s h a e) (outside t i b f) ended
+      → RanUnder source shelf sink err app settings (outside s h o e) (outside t i p f) ended
   ran_below gathers a b e f ended below ran = record {
     read = ran.read;
     ends = ran.ends;
@@ -84,10 +84,10 @@ module _ {S H O E : Type 0} (source : Source S) (shelf : Shelf H) (sink : Sink O
   neither status least (inr is) = omega (arith, least, is)
 
   -- what had ended well, where its last bytes couldn't be handed on
-  pub ran_failed : (e f g : E) (ended after : Ended) (given handed : Option (List ℕ)) → RanUnder source shelf sink err app settings s t h i o p e f ended → ended.status ≡ 0
+  pub ran_failed : (e f g : E) (ended after : Ended) (given handed : Option (List ℕ)) → RanUnder source shelf sink err app settings (outside s h o e) (outside t i p f) ended → ended.status ≡ 0
       → ((x : Request) → requested app settings (shelf.content h) (source.left s) ≡ Some x → FinishesUnder x ended.versions given handed) → Rose (sink.faults o) (sink.faults p)
       → (after.status ≡ 5) ⊎ (after.status ≡ 6) → after.versions ≡ [] → TellsOf Run.WriteFault after.status (err.taken f) (err.taken g) (err.faults f) (err.faults g) → err.lasting g ≡ err.lasting f
-      → RanUnder source shelf sink err app settings s t h i o p e g after
+      → RanUnder source shelf sink err app settings (outside s h o e) (outside t i p g) after
   ran_failed e f g ended after given handed ran whole done rose which none tells lasts =
       let least = late after.status which in
       let greatest = most after.status which in
@@ -130,7 +130,7 @@ module _ {S H O E : Type 0} (source : Source S) (shelf : Shelf H) (sink : Sink O
 -- a run for which there was no memory before it began
 module _ {S H O E : Type 0} (source : Source S) (shelf : Shelf H) (sink : Sink O) (err : Sink E) (app : Meaning) (settings : Option Settings) (s : S) (h : H) (o p : O) where
   pub ran_without_memory : (e f : E) (ended : Ended) → ((x : Request) → requested app settings (shelf.content h) (source.left s) ≡ Some x → HasSome x) → p ≡ o → ended.status ≡ 6 → ended.versions ≡ []
-      → TellsOf Run.NoMemory ended.status (err.taken e) (err.taken f) (err.faults e) (err.faults f) → err.lasting f ≡ err.lasting e → RanUnder source shelf sink err app settings s s h h o p e f ended
+      → TellsOf Run.NoMemory ended.status (err.taken e) (err.taken f) (err.faults e) (err.faults f) → err.lasting f ≡ err.lasting e → RanUnder source shelf sink err app settings (outside s h o e) (outside s h p f) ended
   ran_without_memory e f ended some same six none tells lasts = record {
     read = λ is. absurd (omega (arith, six, is));
     ends = λ x is. record {

@@ -4,3 +4,4 @@ pub mod Outcomes
 pub mod Below
 pub mod Gathering
 pub mod Chosen
+mod ReadBack

@@ -1,6 +1,6 @@
 -- What a run comes to, where the words, the shelf and the capture are told.
 use Rattle.std.proofs.Common.{◌≡◌, ◌≢◌, ℕ, Bool, true, false, List, [], take, Option, Some, None, Result, Ok, Err, refl, sym, ap, subst, ◌∙◌, append-nil, inl, inr}
-use Rattle.std.specs.Prelude.{◌⊎◌, if◌then◌else◌, ◌++◌, option_map, option_and_then, is_ok}
+use Rattle.std.specs.Prelude.{◌⊎◌, if◌then◌else◌, ◌++◌, option_map, option_and_then, is_ok, ⊤}
 use Rattle.mos_bytes.specs.Writes.{AppendsFront}
 use Rattle.mos_bytes.proofs.Writes.{AppendsFront-nil, AppendsFront-whole}
 use Rattle.app_api.specs.App.{Meaning}
@@ -17,6 +17,7 @@ use Rattle.words.specs.declared.settings.WordsError.{WordsError}
 use Rattle.words.specs.declared.settings.WordsError.TheVariants as Words
 use Rattle.lane_core.specs.Records.{VersionedPacket}
 use Rattle.capture_replay.specs.declared.output.Output.{Output}
+use Rattle.capture_replay.specs.declared.output.Output.TheVariants.{Report}
 use Rattle.capture_replay.specs.declared.refusal.ReplayError.{ReplayError}
 use Rattle.capture_replay.specs.declared.refusal.ReplayError.TheVariants as Replay
 use Rattle.mos_run.specs.declared.refusal.RunError.{RunError}
@@ -28,7 +29,8 @@ use Rattle.mos_run.specs.Outcome.{StopsAs, followed_in_file, outcome, outcome_in
 use Rattle.mos_run.specs.Request.{Request, Refused, Asked, Allows, AreAllowed, Wanted, asked, given_under, outcome_under, requested, wanted}
 use Rattle.mos_run.specs.Script.{commands_in, text_under}
 use Rattle.mos_run.specs.Refusal.{file_refusal, status_of, words_refusal}
-use Rattle.capture_replay.specs.Runs.{Finishes, RunsAs, StopsAs as ReplayStopsAs}
+use Rattle.capture_replay.specs.Runs.{Finishes, RunsAs, StopsAs as ReplayStopsAs, bytes_under}
+use Rattle.capture_replay.specs.Typed.{ReportIsTyped, WritesTyped}
 use Rattle.mos_run.specs.Runs.{ReplayFinishes, Replays}
 use Rattle.mos_run.specs.Run.{FinishesAlone, FinishesUnder, RunsUnder, EndsAs, EndsWell, UnderSome}
 use Rattle.capture_replay.specs.Lanes.{RunsWith}
@@ -173,19 +175,31 @@ module _ (app : Meaning) (script : List Stamped) (given : List Captured → List
   unfolding outcome_over
   answers_its_own bytes ends = versions-by (take 24 bytes) (capture_of bytes) ends
 
+-- its report has its types
+abbrev pub AnswersTyped : Wanted → List ℕ → Result (List ℕ) ReplayError → Type 0
+AnswersTyped w bytes (Ok versions) = w.output ≡ Report → ReportIsTyped w.app w.commands (packets_with w.app w.commands versions) bytes
+AnswersTyped w bytes (Err e) = ⊤
+
+-- a report isn't of a capture that is made
+pub answers_typed : (w : Wanted) (left : Option (List ℕ)) (bytes : List ℕ) (result : Result (List ℕ) ReplayError) → WritesTyped w.app w.commands w.output left result
+    → bytes_under (made_for w.output) left ≡ Some bytes → AnswersTyped w bytes result
+answers_typed w left bytes (Ok versions) typed told = λ report. typed report bytes (ap (λ o. bytes_under (made_for o) left) (sym report) ∙ told)
+answers_typed w left bytes (Err e) typed told = tt
+
 module _ (w : Wanted) (bytes : List ℕ) (old new : Option (List ℕ)) where
   pub under_one : CeilingsMayBeHad → CeilingsAreOneWorkers → are_in_order w.commands ≡ true → (result : Result (List ℕ) ReplayError)
-      → RunsAs (outcome_over w.app w.commands (packets_of w.commands) w.output bytes) old new result → Replays w bytes old new result
-  under_one law same ordered (Ok versions) done =
+      → RunsAs (outcome_over w.app w.commands (packets_of w.commands) w.output bytes) old new result → AnswersTyped w bytes result → Replays w bytes old new result
+  under_one law same ordered (Ok versions) done typed =
       let vs = ceilings_of w.app w.commands bytes in
       let is : versions ≡ vs = answers_its_own w.app w.commands (packets_of w.commands) w.output versions bytes done.answered in
       let all : ReplayFinishes w bytes vs old new = record {
         allowed = ceilings_are_allowed law w bytes ordered;
         finishes = subst (λ o. Finishes o vs old new) (sym (same w.app w.commands w.output bytes))
             (subst (λ l. Finishes (outcome_over w.app w.commands (packets_of w.commands) w.output bytes) l old new) is done);
+        typed = subst (λ l. w.output ≡ Report → ReportIsTyped w.app w.commands (packets_with w.app w.commands l) bytes) is typed;
       } in
       subst (λ l. ReplayFinishes w bytes l old new) (sym is) all
-  under_one law same ordered (Err e) stops =
+  under_one law same ordered (Err e) stops typed =
       let is = sym (same w.app w.commands w.output bytes) in
       record {
         versions = ceilings_of w.app w.commands bytes;
@@ -195,12 +209,13 @@ module _ (w : Wanted) (bytes : List ℕ) (old new : Option (List ℕ)) where
       }
 
   pub under_several : w.workers ≢ 1 → (result : Result (List ℕ) ReplayError)
-      → RunsWith w.app w.commands w.workers w.output bytes old new result → Replays w bytes old new result
-  under_several many (Ok versions) done = record {
+      → RunsWith w.app w.commands w.workers w.output bytes old new result → AnswersTyped w bytes result → Replays w bytes old new result
+  under_several many (Ok versions) done typed = record {
     allowed = record { may_have = done.may_have; with_one = λ one. absurd (many one) };
     finishes = done.finishes;
+    typed = typed;
   }
-  under_several many (Err e) stops = record {
+  under_several many (Err e) stops typed = record {
     versions = stops.versions;
     allowed = record { may_have = stops.may_have; with_one = λ one. absurd (many one) };
     stops = stops.stops;

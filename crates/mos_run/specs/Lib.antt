@@ -5,3 +5,4 @@ pub mod Request
 pub mod Explained
 pub mod Run
 pub mod Runs
+pub mod ReadBack

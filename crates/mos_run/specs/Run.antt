@@ -10,9 +10,12 @@ use Rattle.words.specs.declared.settings.Settings.{Settings}
 use Rattle.mos_run.specs.declared.ended.Ended.{Ended}
 use Rattle.mos_run.specs.declared.refusal.RunError.{RunError}
 use Rattle.mos_run.specs.declared.refusal.RunError.TheVariants.{NoMemory}
+use Rattle.capture_replay.specs.declared.output.Output.TheVariants.{Report}
+use Rattle.capture_replay.specs.Records.{packets_with}
 use Rattle.capture_replay.specs.Outcome.{Outcome, is_forward, output_of}
 use Rattle.mos_run.specs.Refusal.{WritesText, status_of, refusal_text}
 use Rattle.capture_replay.specs.Runs.{Finishes}
+use Rattle.capture_replay.specs.Typed.{ReportIsTyped}
 use Rattle.mos_run.specs.Outcome.{StopsAs}
 use Rattle.app_api.specs.App.{Meaning}
 use Rattle.mos_run.specs.Request.{Request, Refused, Asked, Allows, HasNoLive, app_in, outcome_alone, outcome_under, requested}
@@ -27,10 +30,16 @@ pub record UnderSome (request : Request) (P : Outcome RunError → Type 0) : Typ
   pub allowed : Allows request versions
   pub holds : P (outcome_under versions request)
 
+-- where a run is asked for a report, the numbers and bytes of its records and totals under these versions have their types
+abbrev pub HasTypes : Request → List ℕ → Type 0
+HasTypes (Refused e) versions = ⊤
+HasTypes (Asked w file) versions = w.output ≡ Report → ReportIsTyped w.app w.commands (packets_with w.app w.commands versions) file.bytes
+
 -- the run ends well under these versions, which it may have
 pub record FinishesUnder (request : Request) (versions : List ℕ) (old new : Option (List ℕ)) : Type 0 where
   pub allowed : Allows request versions
   pub finishes : Finishes (outcome_under versions request) versions old new
+  pub typed : HasTypes request versions
 
 -- where no command is stamped live, the run ends well as that of one worker does
 abbrev pub FinishesAlone : Request → List ℕ → Option (List ℕ) → Option (List ℕ) → Type 0
@@ -81,46 +90,68 @@ Makes settings = (s : Settings) × (settings ≡ Some s) × (s.make ≢ None)
 abbrev pub ReadsCapture : Option Settings → Option (List ℕ) → Option (List ℕ) → Type 0
 ReadsCapture settings old new = (s : Settings) → settings ≡ Some s → s.make ≡ None → (bytes : List ℕ) → old ≡ Some bytes → new ≡ Some []
 
--- How a run of an application under settings, or of refused words, ended, and what it did: it found the capture as s and left it as t,
--- the shelf as h and i, the output as o and p, and err as e and f.
+-- what a run works on: the capture, the shelf of scripts, the output, and where a refusal is told
+pub record Outside (S H O E : Type 0) : Type 0 where
+  pub capture : S
+  pub shelf : H
+  pub out : O
+  pub err : E
+
+abbrev pub outside : {S H O E : Type 0} → S → H → O → E → Outside S H O E
+outside capture shelf out err = record { capture = capture; shelf = shelf; out = out; err = err }
+
+-- How a run of an application under settings, or of refused words, ended, and what it did to the outside.
 module _ {S H O E : Type 0} (source : Source S) (shelf : Shelf H) (sink : Sink O) (err : Sink E) where
-  pub record RanUnder (app : Meaning) (settings : Option Settings) (s t : S) (h i : H) (o p : O) (e f : E) (ended : Ended) : Type 0 where
+  -- what is asked of it, where all is told
+  abbrev pub IsAsked : Meaning → Option Settings → Outside S H O E → Request → Type 0
+  IsAsked app settings old x = requested app settings (shelf.content old.shelf) (source.left old.capture) ≡ Some x
+
+  pub record RanUnder (app : Meaning) (settings : Option Settings) (old new : Outside S H O E) (ended : Ended) : Type 0 where
     -- where all was written, the capture was read whole
-    pub read : ended.status ≡ 0 → ReadsCapture settings (source.left s) (source.left t)
+    pub read : ended.status ≡ 0 → ReadsCapture settings (source.left old.capture) (source.left new.capture)
     -- every other status has its cause; only want of memory has none
-    pub ends : (x : Request) → requested app settings (shelf.content h) (source.left s) ≡ Some x → UnderSome x (λ outcome. EndsAs outcome ended.status)
-    pub usage : settings ≡ None → ((ended.status ≡ 1) ⊎ (ended.status ≡ 6)) × (t ≡ s) × (i ≡ h) × (p ≡ o)
+    pub ends : (x : Request) → IsAsked app settings old x → UnderSome x (λ outcome. EndsAs outcome ended.status)
+    pub usage : settings ≡ None → ((ended.status ≡ 1) ⊎ (ended.status ≡ 6)) × (new.capture ≡ old.capture) × (new.shelf ≡ old.shelf) × (new.out ≡ old.out)
     pub only_usage : ended.status ≡ 1 → settings ≡ None
-    pub read_fault : ended.status ≡ 4 → Rose (source.faults s) (source.faults t) ⊎ Rose (shelf.faults h) (shelf.faults i)
-    pub write_fault : HasCauseOf (sink.faults o) (sink.faults p) (ended.status ≡ 5)
+    pub read_fault : ended.status ≡ 4 → Rose (source.faults old.capture) (source.faults new.capture) ⊎ Rose (shelf.faults old.shelf) (shelf.faults new.shelf)
+    pub write_fault : HasCauseOf (sink.faults old.out) (sink.faults new.out) (ended.status ≡ 5)
     -- where all was written, the shelf failed in no call
-    pub shelf_faultless : ended.status ≡ 0 → shelf.faults i ≡ shelf.faults h
-    pub capture_counts : source.faults s ≤ source.faults t
-    pub shelf_counts : shelf.faults h ≤ shelf.faults i
+    pub shelf_faultless : ended.status ≡ 0 → shelf.faults new.shelf ≡ shelf.faults old.shelf
+    pub capture_counts : source.faults old.capture ≤ source.faults new.capture
+    pub shelf_counts : shelf.faults old.shelf ≤ shelf.faults new.shelf
     -- what isn't touched
-    pub unread : (ended.status ≡ 1) ⊎ (ended.status ≡ 2) → t ≡ s
+    pub unread : (ended.status ≡ 1) ⊎ (ended.status ≡ 2) → new.capture ≡ old.capture
     -- refused words and a refused script, whatever the status that tells it
-    pub refused : (e : RunError) → requested app settings (shelf.content h) (source.left s) ≡ Some (Refused e) → (t ≡ s) × (p ≡ o)
-    pub made : Makes settings → t ≡ s
-    pub unasked : NamesNone settings → (i ≡ h) × (ended.status ≢ 2)
+    pub refused : (e : RunError) → IsAsked app settings old (Refused e) → (new.capture ≡ old.capture) × (new.out ≡ old.out)
+    pub made : Makes settings → new.capture ≡ old.capture
+    pub unasked : NamesNone settings → (new.shelf ≡ old.shelf) × (ended.status ≢ 2)
     -- what is written where the output isn't whole
-    pub silent : forwards settings ≡ false → ComesBefore ended.status → p ≡ o
-    pub front : (x : Request) → requested app settings (shelf.content h) (source.left s) ≡ Some x
-        → UnderSome x (λ outcome. AppendsFront (sink.taken o) (sink.taken p) outcome.text)
+    pub silent : forwards settings ≡ false → ComesBefore ended.status → new.out ≡ old.out
+    pub front : (x : Request) → IsAsked app settings old x
+        → UnderSome x (λ outcome. AppendsFront (sink.taken old.out) (sink.taken new.out) outcome.text)
     pub no_versions : ended.status ≢ 0 → ended.versions ≡ []
     -- what is told on err
-    pub told_nothing : ended.status ≡ 0 → f ≡ e
-    pub told : ended.status ≢ 0 → Tells (requested app settings (shelf.content h) (source.left s)) ended.status (err.taken e) (err.taken f) (err.faults e) (err.faults f)
+    pub told_nothing : ended.status ≡ 0 → new.err ≡ old.err
+    pub told : ended.status ≢ 0 → Tells (requested app settings (shelf.content old.shelf) (source.left old.capture)) ended.status
+        (err.taken old.err) (err.taken new.err) (err.faults old.err) (err.faults new.err)
     -- what ends well under all versions that it may have is written whole, or memory is refused, unless the outside fails
-    pub complete : (x : Request) → requested app settings (shelf.content h) (source.left s) ≡ Some x → EndsWell x
-        → ¬ Rose (source.faults s) (source.faults t) → ¬ Rose (shelf.faults h) (shelf.faults i) → ¬ Rose (sink.faults o) (sink.faults p)
+    pub complete : (x : Request) → IsAsked app settings old x → EndsWell x
+        → ¬ Rose (source.faults old.capture) (source.faults new.capture) → ¬ Rose (shelf.faults old.shelf) (shelf.faults new.shelf) → ¬ Rose (sink.faults old.out) (sink.faults new.out)
         → (ended.status ≡ 0) ⊎ (ended.status ≡ 6)
     -- what no call of the outside changes stays
-    pub capture_lasts : source.lasting t ≡ source.lasting s
-    pub shelf_lasts : shelf.lasting i ≡ shelf.lasting h
-    pub out_lasts : sink.lasting p ≡ sink.lasting o
-    pub err_lasts : err.lasting f ≡ err.lasting e
+    pub capture_lasts : source.lasting new.capture ≡ source.lasting old.capture
+    pub shelf_lasts : shelf.lasting new.shelf ≡ shelf.lasting old.shelf
+    pub out_lasts : sink.lasting new.out ≡ sink.lasting old.out
+    pub err_lasts : err.lasting new.err ≡ err.lasting old.err
 
-  -- how a run of mos under these words ended: they choose the application, too
-  abbrev pub MosRun : List (List ℕ) → S → S → H → H → O → O → E → E → Ended → Type 0
-  MosRun words = RanUnder (app_in (words_settings words)) (words_settings words)
+  -- all that a run promises
+  pub record Promised (app : Meaning) (settings : Option Settings) (old new : Outside S H O E) (ended : Ended) : Type 0 where
+    -- with status 0 exactly the text of the run's outcome was added to the output, under the versions answered, which it may have
+    pub done : ended.status ≡ 0 → (x : Request) → IsAsked app settings old x → FinishesUnder x ended.versions (sink.taken old.out) (sink.taken new.out)
+    -- without live commands that is the outcome of one worker, however many there are
+    pub alone : ended.status ≡ 0 → (x : Request) → IsAsked app settings old x → FinishesAlone x ended.versions (sink.taken old.out) (sink.taken new.out)
+    pub rest : RanUnder app settings old new ended
+
+  -- what a run of mos under these words promises: they choose the application, too
+  abbrev pub MosRun : List (List ℕ) → Outside S H O E → Outside S H O E → Ended → Type 0
+  MosRun words = Promised (app_in (words_settings words)) (words_settings words)

@@ -14,9 +14,11 @@ use Rattle.mos_run.specs.declared.refusal.RunError.{RunError}
 use Rattle.mos_run.specs.declared.refusal.RunError.TheVariants.{Usage, ReadFault, WriteFault, NoMemory}
 use Rattle.capture_replay.specs.declared.refusal.ReplayError.{ReplayError}
 use Rattle.app_api.specs.App.{Meaning}
+use Rattle.capture_replay.specs.declared.output.Output.TheVariants.{Report}
 use Rattle.capture_replay.specs.Records.{packets_with}
 use Rattle.capture_replay.specs.Outcome.{Outcome, is_forward, made_for, outcome_over}
 use Rattle.capture_replay.specs.Runs.{Finishes, StopsAs}
+use Rattle.capture_replay.specs.Typed.{ReportIsTyped}
 use Rattle.mos_run.specs.Refusal.{status_of}
 use Rattle.mos_run.specs.Request.{AreAllowed, Asked, Refused, Wanted, given_under, requested}
 use Rattle.mos_run.specs.Run.{RunsUnder, ReadsCapture, Makes, NamesNone, forwards}
@@ -34,6 +36,7 @@ module _ (w : Wanted) (bytes : List ℕ) where
   pub record ReplayFinishes (versions : List ℕ) (old new : Option (List ℕ)) : Type 0 where
     pub allowed : AreAllowed w bytes versions
     pub finishes : Finishes (outcome_with versions) versions old new
+    pub typed : w.output ≡ Report → ReportIsTyped w.app w.commands (packets_with w.app w.commands versions) bytes
 
   -- it stops so under versions that it may have, with a front of its text
   pub record ReplayStops (e : ReplayError) (old new : Option (List ℕ)) : Type 0 where

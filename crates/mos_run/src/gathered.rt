@@ -2,8 +2,8 @@
 
 ghost use Rattle.std.specs.Prelude.{◌≡◌, ◌≤◌, map, Some, IfSome, string_bytes};
 ghost use Rattle.words.specs.Own.{own_settings};
-ghost use Rattle.mos_run.specs.Request.{Request, request_for, request_of, requested};
-ghost use Rattle.mos_run.specs.Run.{FinishesAlone, FinishesUnder, MosRun, RanUnder};
+ghost use Rattle.mos_run.specs.Request.{Request, request_for, request_of};
+ghost use Rattle.mos_run.specs.Run.{FinishesUnder, MosRun, Promised, outside};
 
 use crate::ended::{Ended, handed_on, refuse};
 use crate::refusal::RunError;
@@ -47,14 +47,8 @@ fn gather_chosen<
 ) -> GatheredRun<O>
     requires workers { (1 ≤ settings.now.workers) × (settings.now.workers ≤ 16) }
     requires few { IfSome settings.now.make (λ n. n ≤ 100000) }
-    ensures done { result.ended.status ≡ 0
-        → (t : Request) → requested (A.meaning app) (Some settings.now) (H.content shelf.old) (S.left capture.old) ≡ Some t
-        → FinishesUnder t result.ended.versions (O.taken out) (O.taken result.out) }
-    ensures alone { result.ended.status ≡ 0
-        → (t : Request) → requested (A.meaning app) (Some settings.now) (H.content shelf.old) (S.left capture.old) ≡ Some t
-        → FinishesAlone t result.ended.versions (O.taken out) (O.taken result.out) }
-    ensures ran { RanUnder S.Source H.Shelf O.Sink E.Sink (A.meaning app) (Some settings.now)
-        capture.old capture.new shelf.old shelf.new out result.out err.old err.new result.ended }
+    ensures ran { Promised S.Source H.Shelf O.Sink E.Sink (A.meaning app) (Some settings.now)
+        (outside capture.old shelf.old out err.old) (outside capture.new shelf.new result.out err.new) result.ended }
 {
     what_one_worker_has_is_allowed();
     without_live_commands_all_versions_are_known();
@@ -101,12 +95,9 @@ pub fn run_gathered<
     ensures done { result.ended.status ≡ 0
         → (t : Request) → request_of (map string_bytes words.now) (H.content shelf.old) (S.left capture.old) ≡ Some t
         → FinishesUnder t result.ended.versions (O.taken out) (O.taken result.out) }
-    // Without live commands that is the outcome of one worker, however many there are.
-    ensures alone { result.ended.status ≡ 0
-        → (t : Request) → request_of (map string_bytes words.now) (H.content shelf.old) (S.left capture.old) ≡ Some t
-        → FinishesAlone t result.ended.versions (O.taken out) (O.taken result.out) }
+    // And all else that `run_mos` promises.
     ensures ran { MosRun S.Source H.Shelf O.Sink E.Sink (map string_bytes words.now)
-        capture.old capture.new shelf.old shelf.new out result.out err.old err.new result.ended }
+        (outside capture.old shelf.old out err.old) (outside capture.new shelf.new result.out err.new) result.ended }
 {
     let machine = Machine {
         rt,
@@ -152,12 +143,9 @@ pub fn run_application<
     ensures done { result.ended.status ≡ 0 → (t : Request)
         → request_for (A.meaning app) (map string_bytes words.now) (H.content shelf.old) (S.left capture.old) ≡ Some t
         → FinishesUnder t result.ended.versions (O.taken out) (O.taken result.out) }
-    // Without live commands that is the outcome of one worker, however many there are.
-    ensures alone { result.ended.status ≡ 0 → (t : Request)
-        → request_for (A.meaning app) (map string_bytes words.now) (H.content shelf.old) (S.left capture.old) ≡ Some t
-        → FinishesAlone t result.ended.versions (O.taken out) (O.taken result.out) }
-    ensures ran { RanUnder S.Source H.Shelf O.Sink E.Sink (A.meaning app) (own_settings (map string_bytes words.now))
-        capture.old capture.new shelf.old shelf.new out result.out err.old err.new result.ended }
+    // And all else that `run_mos` promises.
+    ensures ran { Promised S.Source H.Shelf O.Sink E.Sink (A.meaning app) (own_settings (map string_bytes words.now))
+        (outside capture.old shelf.old out err.old) (outside capture.new shelf.new result.out err.new) result.ended }
 {
     what_one_worker_has_is_allowed();
     match read_own_words(machine.alloc, words) {

@@ -6,7 +6,7 @@
 //! want of memory. `run_gathered` has the same over an output that is called once for many lines.
 //! Begin with `specs/Request.antt` and `specs/Run.antt`, then `run_mos` in `src/run.rt` and `src/gathered.rt`. `src/script.rt`
 //! fetches the script, `src/explained.rt` tells why a file was refused, `src/refusal.rt` and `src/telling.rt` are refusals with
-//! their statuses and lines, `src/ended.rt` is how a run ended.
+//! their statuses and lines, `src/ended.rt` is how a run ended. `src/reports.rt` has the law that a report reads back.
 //! Tests: `run_tests`, `whole_runs`.
 #![tactic(auto)]
 
@@ -14,6 +14,7 @@ mod ended;
 mod explained;
 mod gathered;
 mod refusal;
+pub mod reports;
 mod run;
 mod script;
 mod telling;

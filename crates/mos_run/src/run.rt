@@ -4,7 +4,7 @@ ghost use Rattle.std.specs.Prelude.{◌≡◌, ◌≤◌, map, Some, IfSome, str
 ghost use Rattle.capture_replay.specs.Outcome.{made_for};
 ghost use Rattle.capture_replay.specs.Runs.{IsJob, RunsFor};
 ghost use Rattle.mos_run.specs.Request.{Request, request_of, requested};
-ghost use Rattle.mos_run.specs.Run.{FinishesAlone, FinishesUnder, MosRun, RanUnder, RunsUnder};
+ghost use Rattle.mos_run.specs.Run.{FinishesUnder, MosRun, Promised, RunsUnder, outside};
 ghost use Rattle.mos_run.specs.Runs.{Replays, RunsOverFile, RunsUnderSettings, wanted_by};
 
 use crate::ended::{Ended, refuse};
@@ -142,14 +142,8 @@ pub(crate) fn run_chosen<
 ) -> Ended
     requires workers { (1 ≤ settings.now.workers) × (settings.now.workers ≤ 16) }
     requires few { IfSome settings.now.make (λ n. n ≤ 100000) }
-    ensures done { result.status ≡ 0
-        → (t : Request) → requested (A.meaning app) (Some settings.now) (H.content shelf.old) (S.left capture.old) ≡ Some t
-        → FinishesUnder t result.versions (O.taken out.old) (O.taken out.new) }
-    ensures alone { result.status ≡ 0
-        → (t : Request) → requested (A.meaning app) (Some settings.now) (H.content shelf.old) (S.left capture.old) ≡ Some t
-        → FinishesAlone t result.versions (O.taken out.old) (O.taken out.new) }
-    ensures ran { RanUnder S.Source H.Shelf O.Sink E.Sink (A.meaning app) (Some settings.now)
-        capture.old capture.new shelf.old shelf.new out.old out.new err.old err.new result }
+    ensures ran { Promised S.Source H.Shelf O.Sink E.Sink (A.meaning app) (Some settings.now)
+        (outside capture.old shelf.old out.old err.old) (outside capture.new shelf.new out.new err.new) result }
 {
     what_one_worker_has_is_allowed();
     without_live_commands_all_versions_are_known();
@@ -206,12 +200,9 @@ pub fn run_mos<
     ensures done { result.status ≡ 0
         → (t : Request) → request_of (map string_bytes words.now) (H.content shelf.old) (S.left capture.old) ≡ Some t
         → FinishesUnder t result.versions (O.taken out.old) (O.taken out.new) }
-    // Without live commands that is the outcome of one worker, however many there are.
-    ensures alone { result.status ≡ 0
-        → (t : Request) → request_of (map string_bytes words.now) (H.content shelf.old) (S.left capture.old) ≡ Some t
-        → FinishesAlone t result.versions (O.taken out.old) (O.taken out.new) }
+    // And all else that it promises.
     ensures ran { MosRun S.Source H.Shelf O.Sink E.Sink (map string_bytes words.now)
-        capture.old capture.new shelf.old shelf.new out.old out.new err.old err.new result }
+        (outside capture.old shelf.old out.old err.old) (outside capture.new shelf.new out.new err.new) result }
 {
     let machine = Machine {
         rt,

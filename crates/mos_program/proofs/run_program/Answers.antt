@@ -1,7 +1,7 @@
 use Rattle.std.proofs.Common.{map, Some, subst, ◌≡◌}
 use Rattle.std.specs.Prelude.{string_bytes}
 use Rattle.mos_run.specs.Request.{Request, request_of}
-use Rattle.mos_run.specs.Run.{FinishesAlone, FinishesUnder}
+use Rattle.mos_run.specs.Run.{FinishesUnder}
 use Rattle.mos_program.proofs.run_program.Goals as goal
 
 pub returns-in-Ok-clause-done : goal.returns-in-Ok-clause-done
@@ -10,10 +10,3 @@ returns-in-Ok-clause-done g c =
     (λ zero. subst (λ l. (t : Request) → request_of (map string_bytes l) (g.H.Shelf.content c.args.shelf.now) (g.S.Source.left c.args.capture.now) ≡ Some t
     → FinishesUnder t c.run_gathered.result.ended.versions (g.O.Sink.taken c.args.out) (g.O.Sink.taken c.run_gathered.result.out))
     c.as_slice.ensures.value (c.run_gathered.ensures.done zero))
-
-pub returns-in-Ok-clause-alone : goal.returns-in-Ok-clause-alone
-returns-in-Ok-clause-alone g c =
-    rw (c.in-Ok.is, c.finished.ensures.ended, c.finished.ensures.out)
-    (λ zero. subst (λ l. (t : Request) → request_of (map string_bytes l) (g.H.Shelf.content c.args.shelf.now) (g.S.Source.left c.args.capture.now) ≡ Some t
-    → FinishesAlone t c.run_gathered.result.ended.versions (g.O.Sink.taken c.args.out) (g.O.Sink.taken c.run_gathered.result.out))
-    c.as_slice.ensures.value (c.run_gathered.ensures.alone zero))
