@@ -1,6 +1,6 @@
 //! Bytes that are held in an array.
 
-ghost use Rattle.std.specs.Prelude.{◌≡◌, ◌+◌, ◌≤◌, List, ℕ, [], ◌++◌, length, take, drop};
+ghost use Rattle.std.specs.Prelude.{◌≡◌, ◌+◌, ◌-◌, ◌≤◌, List, ℕ, [], ◌++◌, length, take, drop};
 
 use crate::put_behind;
 use std::marker::Model;
@@ -62,7 +62,7 @@ impl<const ROOM: usize> HeldBytes<ROOM> {
     /// Holds these too, behind the others. There must be room for them.
     #[inline]
     pub fn put(&mut self, bytes: &[u8])
-        requires { length self.old + length bytes.now ≤ ROOM }
+        requires { length bytes.now ≤ ROOM - length self.old }
         ensures bytes { self.new ≡ self.old ++ bytes.now }
         ensures len { length self.new ≡ length self.old + length bytes.now }
     {
