@@ -1,5 +1,5 @@
 -- In a stage that holds a word, and in a head.
-use Rattle.std.proofs.Common.{◌≡◌, ℕ, ◌<◌, ◌≤◌, List, ◌++◌, length, arith, refl, rules, sym, ap, subst, ◌∙◌, ⊎_elim, append_assoc}
+use Rattle.std.proofs.Common.{◌≡◌, ℕ, ◌≤◌, List, ◌++◌, length, arith, refl, sym, ap, subst, ◌∙◌, ⊎_elim, append_assoc}
 use Rattle.std.proofs.lemmas.Grind.{common_steps}
 use Rattle.pcapng_source.specs.Blocks.{blocks_from}
 use Rattle.pcapng_source.specs.Given.{prepended}
@@ -15,13 +15,13 @@ put-requires c =
     let few = c.requires.few in (
       omega arith,
       ⊎_elim
-      (λ is. subst (λ s. length c.args.bytes.now ≤ wanted_at s r) is few)
-      (⊎_elim
-      (λ is. subst (λ s. length c.args.bytes.now ≤ wanted_at s r) is few)
-      (⊎_elim
-      (λ is. subst (λ s. length c.args.bytes.now ≤ wanted_at s r) is few)
-      (λ is. subst (λ s. length c.args.bytes.now ≤ wanted_at s r) is few)))
-      c.in-Start.is,
+          (λ is. subst (λ s. length c.args.bytes.now ≤ wanted_at s r) is few)
+          (⊎_elim
+          (λ is. subst (λ s. length c.args.bytes.now ≤ wanted_at s r) is few)
+          (⊎_elim
+          (λ is. subst (λ s. length c.args.bytes.now ≤ wanted_at s r) is few)
+          (λ is. subst (λ s. length c.args.bytes.now ≤ wanted_at s r) is few)))
+          c.in-Start.is,
     )
 
 -- the bytes stand behind those of the head that were held
